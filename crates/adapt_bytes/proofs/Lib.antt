@@ -1,0 +1,6 @@
+pub mod Cuts
+pub mod Numerals
+pub mod Parts
+pub mod Plain
+pub mod Spellings
+pub mod Written

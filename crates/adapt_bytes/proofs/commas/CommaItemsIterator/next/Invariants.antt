@@ -1,0 +1,9 @@
+use Rattle.std.proofs.Common.{◌≡◌, length}
+use Rattle.adapt_bytes.specs.Text.{items_left, parts_left}
+use Rattle.adapt_bytes.proofs.commas.CommaItemsIterator.next.Given as goal
+
+abbrev pub invariant-loop-part : goal.invariant-loop-part
+invariant-loop-part l = items_left l.self ≡ items_left l.fn.self
+
+abbrev pub decreases-loop-part : goal.decreases-loop-part
+decreases-loop-part l = length (parts_left l.self.parts)

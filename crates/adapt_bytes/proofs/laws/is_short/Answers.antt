@@ -1,0 +1,5 @@
+use Rattle.adapt_bytes.proofs.Written.{length-numeral-le}
+use Rattle.adapt_bytes.proofs.laws.is_short.Goals as goal
+
+pub returns : goal.returns
+returns c = length-numeral-le

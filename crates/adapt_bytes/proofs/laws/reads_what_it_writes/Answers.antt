@@ -1,0 +1,5 @@
+use Rattle.adapt_bytes.proofs.Written.{Writes-numeral}
+use Rattle.adapt_bytes.proofs.laws.reads_what_it_writes.Goals as goal
+
+pub returns : goal.returns
+returns c = Writes-numeral

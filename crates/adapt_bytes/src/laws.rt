@@ -1,0 +1,25 @@
+//! Laws of numerals: each is the contract of a function that does nothing.
+ghost use Rattle.std.specs.Prelude.{◌≡◌, ℕ, ◌<◌, ◌≤◌, ◌^◌, List, length};
+ghost use Rattle.adapt_bytes.specs.Numeral.{Writes, numeral, HasNoLeadingZero, IsLowerCase};
+
+/// A text spells one number at most.
+pub fn spells_one_number()
+    ensures { (base m n : ℕ) (text : List ℕ) → Writes base text m → Writes base text n → m ≡ n }
+{}
+
+/// A numeral that was written is read again.
+pub fn reads_what_it_writes()
+    ensures { (base n : ℕ) → 2 ≤ base → base ≤ 16 → Writes base (numeral base n) n }
+{}
+
+/// The numeral that is written is the only spelling of its number in lower case and without a leading zero.
+pub fn writes_the_only_short_spelling()
+    ensures short { (base n : ℕ) → 2 ≤ base → base ≤ 16 → HasNoLeadingZero (numeral base n) × IsLowerCase (numeral base n) }
+    ensures only { (base n : ℕ) (text : List ℕ) → 2 ≤ base → base ≤ 16 → Writes base text n → HasNoLeadingZero text → IsLowerCase text
+        → text ≡ numeral base n }
+{}
+
+/// How long a numeral is at most.
+pub fn is_short()
+    ensures { (base n k : ℕ) → 2 ≤ base → 0 < k → n < base ^ k → length (numeral base n) ≤ k }
+{}

@@ -1,0 +1,13 @@
+//! Digits, comma lists and tokens: the small grammars that HTTP and ICAP share (RFC 9110, section 5.6).
+#![tactic(auto)]
+
+mod commas;
+mod digits;
+pub mod laws;
+#[cfg(test)]
+mod tests;
+mod text;
+
+pub use commas::{CommaItems, CommaParts, comma_items, comma_parts};
+pub use digits::{Small, put_decimal, put_hex, read_decimal, read_hex};
+pub use text::{is_token, same_ascii, trim};
