@@ -1,0 +1,2 @@
+mod Soundness
+mod SumLemmas

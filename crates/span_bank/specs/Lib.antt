@@ -1,0 +1,4 @@
+pub mod Replay
+pub mod Stakes
+pub mod State
+pub mod Sums
