@@ -1,0 +1,12 @@
+pub mod Planned
+pub mod Sound
+pub mod Decide
+pub mod Answered
+pub mod Suffices
+pub mod Short
+pub mod Few
+pub mod Taken
+pub mod Same
+pub mod Kept
+pub mod Tabled
+pub mod Chosen
