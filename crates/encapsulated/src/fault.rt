@@ -1,0 +1,22 @@
+//! Why a list is refused.
+use thiserror::Error;
+
+/// Why a list is refused. Of those that stand, the first in this order is answered.
+#[derive(Clone, Copy, Debug, PartialEq, Eq, Error)]
+pub enum EncFault {
+    /// An item isn't a name, `=` and an offset of at most `2^64 - 1`, or there is no item.
+    #[error("an item of the list isn't a name, = and an offset")]
+    Syntax = 1,
+    /// An item has a name that no part has.
+    #[error("the list names an unknown part")]
+    Name = 2,
+    /// No list that the message may have begins with these parts.
+    #[error("the list's parts don't belong to this message, or not in this order")]
+    Order = 3,
+    /// The message may have these parts, and the body part behind them is missing.
+    #[error("the list has no body part")]
+    NoBodyPart = 4,
+    /// The first offset isn't 0, or one is smaller than the one before.
+    #[error("the list's offsets don't begin at 0, or they fall")]
+    Offset = 5,
+}

@@ -1,0 +1,30 @@
+//! The Encapsulated list: which heads and which body a message carries, and at which offsets (RFC 3507, section 4.4.1).
+//!
+//! [`read`] takes the value of an Encapsulated field and answers a [`Layout`], or the first
+//! [`EncFault`] that stands; it takes no memory. [`write`] makes the text of a layout.
+//! Offsets are bytes from the start of the encapsulated message.
+//!
+//! Both know nothing of fields: what a missing or a second Encapsulated field means is for the caller to
+//! say. An empty value is [`EncFault::Syntax`].
+#![tactic(auto)]
+
+mod fault;
+mod items;
+pub mod laws;
+mod message;
+mod offsets;
+mod parts;
+mod reader;
+mod seen;
+mod writer;
+
+pub use fault::EncFault;
+pub use message::{Direction, Method};
+pub use offsets::Layout;
+pub use parts::{BodyPart, Part};
+pub use reader::read;
+pub use std::alloc::AllocError as NoMemory;
+pub use writer::write;
+
+#[cfg(test)]
+mod tests;

@@ -1,0 +1,31 @@
+//! Where each part of an encapsulated message begins.
+ghost use Rattle.std.specs.Prelude.{◌≡◌, ◌↔◌, IsTrue};
+ghost use Rattle.encapsulated.specs.Layouts.{Rises, offsets, parts_of};
+
+use crate::parts::BodyPart;
+
+/// Where each part of an encapsulated message begins, in bytes from the message's start.
+#[derive(Clone, Copy, Debug, PartialEq, Eq)]
+pub struct Layout {
+    /// The head of an HTTP request, where there is one.
+    pub req_hdr: Option<u64>,
+    /// The head of an HTTP response, where there is one.
+    pub res_hdr: Option<u64>,
+    /// Which body follows.
+    pub body: BodyPart,
+    /// Where the body begins; of a null-body, where it would.
+    pub offset: u64,
+}
+
+impl Layout {
+    /// Whether the first offset is 0, and none is smaller than the one before.
+    pub(crate) fn rises(&self) -> bool
+        ensures { IsTrue result ↔ Rises (offsets (parts_of self.now)) }
+    {
+        match (self.req_hdr, self.res_hdr) {
+            (Some(first), Some(second)) => first == 0 && second <= self.offset,
+            (Some(first), None) | (None, Some(first)) => first == 0,
+            (None, None) => self.offset == 0,
+        }
+    }
+}

@@ -1,0 +1,116 @@
+//! Lists are read in two passes: the items first, then the parts that they name.
+ghost use Rattle.std.specs.Prelude.{◌≡◌, ◌↔◌, IfOk, IfErr};
+ghost use Rattle.encapsulated.specs.Grammar.{AreParts};
+ghost use Rattle.encapsulated.specs.Rows.{allowed};
+ghost use Rattle.encapsulated.specs.Layouts.{IsLayout, names};
+ghost use Rattle.encapsulated.specs.Faults.{Stands};
+ghost use Rattle.encapsulated.specs.Order.{seen_parts, Unread, any_front};
+
+use crate::fault::EncFault;
+use crate::items::{are_items, read_part};
+use crate::message::{Direction, Method};
+use crate::offsets::Layout;
+use crate::parts::BodyPart;
+use crate::seen::{Form, Seen, and_part};
+use adapt_bytes::comma_parts;
+
+/// Reads the value of an Encapsulated field of this kind of message (RFC 3507, section 4.4.1).
+///
+/// Names are compared without the case of their letters, spaces and tabs may stand round each item,
+/// and offsets may have leading zeros. An OPTIONS request, of which the RFC has no row, may have
+/// null-body alone. The fault is the first that stands, in the order of [`EncFault`].
+pub fn read(method: Method, direction: Direction, list: &[u8]) -> Result<Layout, EncFault>
+    // A layout is answered exactly where the list is that layout.
+    ensures ok { (layout : Layout) → (result ≡ Ok layout) ↔ IsLayout method direction list.now layout }
+
+    // A fault is answered exactly where it stands.
+    ensures err { (fault : EncFault) → (result ≡ Err fault) ↔ Stands fault method direction list.now }
+{
+    find_layout(method, direction, list)
+}
+
+fn find_layout(method: Method, direction: Direction, list: &[u8]) -> Result<Layout, EncFault>
+    ensures ok { IfOk result (IsLayout method direction list.now) }
+    ensures err { IfErr result (λ fault. Stands fault method direction list.now) }
+{
+    let seen = read_parts(list)?;
+    if !may_begin(method, direction, seen) {
+        return Err(EncFault::Order);
+    }
+    let Some(layout) = seen.whole() else {
+        return Err(EncFault::NoBodyPart);
+    };
+    if layout.rises() {
+        Ok(layout)
+    } else {
+        Err(EncFault::Offset)
+    }
+}
+
+/// The parts that a list names, where they are in the order that all lists have.
+fn read_parts(list: &[u8]) -> Result<Seen, EncFault>
+    ensures ok { IfOk result (λ seen. AreParts list.now (seen_parts seen)) }
+    ensures err { IfErr result (λ fault. Unread fault list.now) }
+{
+    if !are_items(list) {
+        return Err(EncFault::Syntax);
+    }
+    let mut seen = Some(Seen::NONE);
+    for item in comma_parts(list) {
+        let Some((part, offset)) = read_part(item) else {
+            return Err(EncFault::Name);
+        };
+        // Parts out of order are no fault yet, since a later name may be unknown.
+        seen = and_part(seen, part, offset);
+    }
+    seen.ok_or(EncFault::Order)
+}
+
+/// `[req-hdr] req-body`
+const REQUEST: Form = Form {
+    req_hdr: true,
+    res_hdr: false,
+    body: BodyPart::ReqBody,
+};
+
+/// `[res-hdr] res-body`
+const RESPONSE: Form = Form {
+    req_hdr: false,
+    res_hdr: true,
+    body: BodyPart::ResBody,
+};
+
+/// `[req-hdr] [res-hdr] res-body`
+const EXCHANGE: Form = Form {
+    req_hdr: true,
+    res_hdr: true,
+    body: BodyPart::ResBody,
+};
+
+/// `opt-body`
+const OPTIONS: Form = Form {
+    req_hdr: false,
+    res_hdr: false,
+    body: BodyPart::OptBody,
+};
+
+/// `null-body`
+const NOTHING: Form = Form {
+    req_hdr: false,
+    res_hdr: false,
+    body: BodyPart::NullBody,
+};
+
+/// Whether a list that this message may have begins with these parts.
+fn may_begin(method: Method, direction: Direction, seen: Seen) -> bool
+    ensures { result ≡ any_front (allowed method direction) (names (seen_parts seen)) }
+{
+    match (method, direction) {
+        (Method::Reqmod, Direction::Request) => seen.begins(REQUEST),
+        (Method::Reqmod, Direction::Response) => seen.begins(REQUEST) || seen.begins(RESPONSE),
+        (Method::Respmod, Direction::Request) => seen.begins(EXCHANGE),
+        (Method::Respmod, Direction::Response) => seen.begins(RESPONSE),
+        (Method::Options, Direction::Request) => seen.begins(NOTHING),
+        (Method::Options, Direction::Response) => seen.begins(OPTIONS),
+    }
+}

@@ -1,0 +1,345 @@
+use crate::{BodyPart, Direction, EncFault, Layout, Method, read, write};
+use std::test::Fail;
+
+const KINDS: [(Method, Direction); 6] = [
+    (Method::Reqmod, Direction::Request),
+    (Method::Reqmod, Direction::Response),
+    (Method::Respmod, Direction::Request),
+    (Method::Respmod, Direction::Response),
+    (Method::Options, Direction::Request),
+    (Method::Options, Direction::Response),
+];
+
+fn layout(req_hdr: Option<u64>, res_hdr: Option<u64>, body: BodyPart, offset: u64) -> Layout {
+    Layout {
+        req_hdr,
+        res_hdr,
+        body,
+        offset,
+    }
+}
+
+/// The lists of the examples of RFC 3507, sections 4.8.3, 4.9.3 and 4.10.3.
+#[test]
+fn examples_of_the_rfc(rt: HostRuntime) {
+    let cases: [(Method, Direction, &[u8], Layout); 9] = [
+        (
+            Method::Reqmod,
+            Direction::Request,
+            b"req-hdr=0, null-body=170",
+            layout(Some(0), None, BodyPart::NullBody, 170),
+        ),
+        (
+            Method::Reqmod,
+            Direction::Response,
+            b"req-hdr=0, null-body=231",
+            layout(Some(0), None, BodyPart::NullBody, 231),
+        ),
+        (
+            Method::Reqmod,
+            Direction::Request,
+            b"req-hdr=0, req-body=147",
+            layout(Some(0), None, BodyPart::ReqBody, 147),
+        ),
+        (
+            Method::Reqmod,
+            Direction::Response,
+            b"req-hdr=0, req-body=244",
+            layout(Some(0), None, BodyPart::ReqBody, 244),
+        ),
+        (
+            Method::Reqmod,
+            Direction::Request,
+            b"req-hdr=0, null-body=119",
+            layout(Some(0), None, BodyPart::NullBody, 119),
+        ),
+        (
+            Method::Reqmod,
+            Direction::Response,
+            b"res-hdr=0, res-body=213",
+            layout(None, Some(0), BodyPart::ResBody, 213),
+        ),
+        (
+            Method::Respmod,
+            Direction::Request,
+            b"req-hdr=0, res-hdr=137, res-body=296",
+            layout(Some(0), Some(137), BodyPart::ResBody, 296),
+        ),
+        (
+            Method::Respmod,
+            Direction::Response,
+            b"res-hdr=0, res-body=222",
+            layout(None, Some(0), BodyPart::ResBody, 222),
+        ),
+        (
+            Method::Options,
+            Direction::Response,
+            b"null-body=0",
+            layout(None, None, BodyPart::NullBody, 0),
+        ),
+    ];
+    for (method, direction, text, want) in cases {
+        assert_eq!(rt; read(method, direction, text), Ok(want), "{text:?}");
+    }
+}
+
+/// For each list the kinds of message that may have it, in the order of `KINDS`.
+#[test]
+fn each_row_takes_its_own_lists(rt: HostRuntime) {
+    let cases: [(&[u8], [bool; 6]); 17] = [
+        (b"null-body=0", [true, true, true, true, true, true]),
+        (b"req-body=0", [true, true, false, false, false, false]),
+        (b"res-body=0", [false, true, true, true, false, false]),
+        (b"opt-body=0", [false, false, false, false, false, true]),
+        (
+            b"req-hdr=0, null-body=9",
+            [true, true, true, false, false, false],
+        ),
+        (
+            b"req-hdr=0, req-body=9",
+            [true, true, false, false, false, false],
+        ),
+        (
+            b"req-hdr=0, res-body=9",
+            [false, false, true, false, false, false],
+        ),
+        (b"req-hdr=0, opt-body=9", [false; 6]),
+        (
+            b"res-hdr=0, null-body=9",
+            [false, true, true, true, false, false],
+        ),
+        (b"res-hdr=0, req-body=9", [false; 6]),
+        (
+            b"res-hdr=0, res-body=9",
+            [false, true, true, true, false, false],
+        ),
+        (b"res-hdr=0, opt-body=9", [false; 6]),
+        (
+            b"req-hdr=0, res-hdr=4, null-body=9",
+            [false, false, true, false, false, false],
+        ),
+        (b"req-hdr=0, res-hdr=4, req-body=9", [false; 6]),
+        (
+            b"req-hdr=0, res-hdr=4, res-body=9",
+            [false, false, true, false, false, false],
+        ),
+        (b"req-hdr=0, res-hdr=4, opt-body=9", [false; 6]),
+        (b"res-hdr=0, req-hdr=4, res-body=9", [false; 6]),
+    ];
+    for (text, takes) in cases {
+        for ((method, direction), want) in KINDS.into_iter().zip(takes) {
+            let got = read(method, direction, text);
+            assert_eq!(rt; got.is_ok(), want, "{text:?} in {method:?} {direction:?}");
+            if !want {
+                assert_eq!(rt;
+                    got,
+                    Err(EncFault::Order),
+                    "{text:?} in {method:?} {direction:?}"
+                );
+            }
+        }
+    }
+}
+
+/// Other spellings of one list: letters in either case, blanks round an item or none, leading zeros.
+#[test]
+fn spellings_of_one_list(rt: HostRuntime) {
+    let cases: [&[u8]; 8] = [
+        b"req-hdr=0, res-hdr=137, res-body=296",
+        b"req-hdr=0,res-hdr=137,res-body=296",
+        b"Req-Hdr=0, Res-Hdr=137, Res-Body=296",
+        b"REQ-HDR=0, RES-HDR=137, RES-BODY=296",
+        b"  req-hdr=0 ,  res-hdr=137 ,  res-body=296  ",
+        b"\treq-hdr=0,\tres-hdr=137\t,\tres-body=296\t",
+        b" \t req-hdr=0,res-hdr=137, \tres-body=296",
+        b"req-hdr=00, res-hdr=0137, res-body=0000000000000000000000000296",
+    ];
+    let want = layout(Some(0), Some(137), BodyPart::ResBody, 296);
+    for text in cases {
+        assert_eq!(rt;
+            read(Method::Respmod, Direction::Request, text),
+            Ok(want),
+            "{text:?}"
+        );
+    }
+}
+
+#[test]
+fn largest_offset(rt: HostRuntime) {
+    let cases: [(&[u8], Result<Layout, EncFault>); 5] = [
+        (
+            b"req-hdr=0, req-body=18446744073709551615",
+            Ok(layout(Some(0), None, BodyPart::ReqBody, 0xffff_ffff_ffff_ffff)),
+        ),
+        (
+            b"req-hdr=0, req-body=00018446744073709551615",
+            Ok(layout(Some(0), None, BodyPart::ReqBody, 0xffff_ffff_ffff_ffff)),
+        ),
+        (
+            b"req-hdr=0, req-body=18446744073709551616",
+            Err(EncFault::Syntax),
+        ),
+        (
+            b"req-hdr=18446744073709551616, req-body=0",
+            Err(EncFault::Syntax),
+        ),
+        (
+            b"req-hdr=0, req-body=99999999999999999999999999",
+            Err(EncFault::Syntax),
+        ),
+    ];
+    for (text, want) in cases {
+        assert_eq!(rt;
+            read(Method::Reqmod, Direction::Request, text),
+            want,
+            "{text:?}"
+        );
+    }
+}
+
+/// In a RESPMOD request; a later break of the grammar goes before an earlier fault of a larger number.
+#[test]
+fn first_fault_in_order(rt: HostRuntime) {
+    let cases: [(&[u8], EncFault); 38] = [
+        (b"", EncFault::Syntax),
+        (b" ", EncFault::Syntax),
+        (b",", EncFault::Syntax),
+        (b"req-hdr", EncFault::Syntax),
+        (b"req-hdr=", EncFault::Syntax),
+        (b"=0", EncFault::Syntax),
+        (b"req-hdr =0, res-body=9", EncFault::Syntax),
+        (b"req-hdr= 0, res-body=9", EncFault::Syntax),
+        (b"req-hdr=0; res-body=9", EncFault::Syntax),
+        (b"req-hdr=0 res-body=9", EncFault::Syntax),
+        (b"req-hdr=0,, res-body=9", EncFault::Syntax),
+        (b"req-hdr=0, , res-body=9", EncFault::Syntax),
+        (b"req-hdr=0, res-body=9,", EncFault::Syntax),
+        (b", req-hdr=0, res-body=9", EncFault::Syntax),
+        (b"req-hdr=0, res-body=-9", EncFault::Syntax),
+        (b"req-hdr=0, res-body=+9", EncFault::Syntax),
+        (b"req-hdr=0, res-body=0x9", EncFault::Syntax),
+        (b"req-hdr=0, res-body=9.", EncFault::Syntax),
+        (b"req-hdr=0, res-body==9", EncFault::Syntax),
+        (b"req hdr=0, res-body=9", EncFault::Syntax),
+        (b"req-hdr=0\n, res-body=9", EncFault::Syntax),
+        (b"foo=0, ", EncFault::Syntax),
+        (b"res-body=9, req-hdr=0, foo", EncFault::Syntax),
+        (b"foo=0", EncFault::Name),
+        (b"req-hdr=0, foo=4, res-body=9", EncFault::Name),
+        (b"null-body=0, foo=0", EncFault::Name),
+        (b"res-body=9, req-hdr=0, foo=1", EncFault::Name),
+        (b"req_hdr=0, res-body=9", EncFault::Name),
+        (b"res-body=0, res-hdr=5", EncFault::Order),
+        (b"res-hdr=0, req-hdr=5, res-body=9", EncFault::Order),
+        (b"req-hdr=0, req-hdr=0, res-body=9", EncFault::Order),
+        (b"req-hdr=5, req-body=1", EncFault::Order),
+        (b"null-body=0, null-body=0", EncFault::Order),
+        (b"req-hdr=0", EncFault::NoBodyPart),
+        (b"req-hdr=9, res-hdr=5", EncFault::NoBodyPart),
+        (b"req-hdr=1, res-body=9", EncFault::Offset),
+        (b"req-hdr=0, res-hdr=9, res-body=8", EncFault::Offset),
+        (b"null-body=1", EncFault::Offset),
+    ];
+    for (text, fault) in cases {
+        assert_eq!(rt;
+            read(Method::Respmod, Direction::Request, text),
+            Err(fault),
+            "{text:?}"
+        );
+    }
+}
+
+#[test]
+fn equal_offsets_are_taken(rt: HostRuntime) {
+    let want = layout(Some(0), Some(0), BodyPart::ResBody, 0);
+    let text = b"req-hdr=0, res-hdr=0, res-body=0";
+    assert_eq!(rt; read(Method::Respmod, Direction::Request, text), Ok(want));
+}
+
+const EXCHANGE: Layout = Layout {
+    req_hdr: Some(0),
+    res_hdr: Some(137),
+    body: BodyPart::ResBody,
+    offset: 296,
+};
+
+const REQUEST: Layout = Layout {
+    req_hdr: Some(0),
+    res_hdr: None,
+    body: BodyPart::ReqBody,
+    offset: 147,
+};
+
+const RESPONSE: Layout = Layout {
+    req_hdr: None,
+    res_hdr: Some(0),
+    body: BodyPart::NullBody,
+    offset: 0xffff_ffff_ffff_ffff,
+};
+
+const OPTIONS: Layout = Layout {
+    req_hdr: None,
+    res_hdr: None,
+    body: BodyPart::OptBody,
+    offset: 0,
+};
+
+#[test]
+fn writes_each_kind_of_layout(rt: HostRuntime) -> Result<(), Fail> {
+    let exchange = write(rt.alloc(), &EXCHANGE)?;
+    assert_eq!(rt;
+        exchange.as_slice(),
+        b"req-hdr=0, res-hdr=137, res-body=296".as_slice()
+    );
+    let request = write(rt.alloc(), &REQUEST)?;
+    assert_eq!(rt; request.as_slice(), b"req-hdr=0, req-body=147".as_slice());
+    let response = write(rt.alloc(), &RESPONSE)?;
+    assert_eq!(rt;
+        response.as_slice(),
+        b"res-hdr=0, null-body=18446744073709551615".as_slice()
+    );
+    let options = write(rt.alloc(), &OPTIONS)?;
+    assert_eq!(rt; options.as_slice(), b"opt-body=0".as_slice());
+    Ok(())
+}
+
+#[test]
+fn a_list_is_read_and_written_back(rt: HostRuntime) -> Result<(), Fail> {
+    let text = b"req-hdr=0, res-hdr=137, res-body=296";
+    match read(Method::Respmod, Direction::Request, text) {
+        Ok(layout) => {
+            let written = write(rt.alloc(), &layout)?;
+            assert_eq!(rt; written.as_slice(), text.as_slice());
+        }
+        Err(fault) => assert!(rt; false, "{fault}"),
+    }
+    Ok(())
+}
+
+#[test]
+fn faults_have_numbers_and_texts(rt: HostRuntime) -> Result<(), Fail> {
+    let cases = [
+        (
+            EncFault::Syntax,
+            1,
+            "an item of the list isn't a name, = and an offset",
+        ),
+        (EncFault::Name, 2, "the list names an unknown part"),
+        (
+            EncFault::Order,
+            3,
+            "the list's parts don't belong to this message, or not in this order",
+        ),
+        (EncFault::NoBodyPart, 4, "the list has no body part"),
+        (
+            EncFault::Offset,
+            5,
+            "the list's offsets don't begin at 0, or they fall",
+        ),
+    ];
+    for (fault, number, text) in cases {
+        assert_eq!(rt; fault as u8, number);
+        assert_eq!(rt; format!(in rt.alloc(); "{fault}")?.as_str(), text);
+    }
+    Ok(())
+}
