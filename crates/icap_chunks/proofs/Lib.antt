@@ -1,0 +1,12 @@
+pub mod Endings
+pub mod Faults
+pub mod Feeding
+pub mod Parts
+pub mod Readings
+pub mod Runs
+pub mod Standing
+pub mod Table
+pub mod Stands
+pub mod Walks
+pub mod Words
+pub mod Written

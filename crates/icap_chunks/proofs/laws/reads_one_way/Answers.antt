@@ -1,0 +1,5 @@
+use Rattle.icap_chunks.proofs.Written.{one_reading}
+use Rattle.icap_chunks.proofs.laws.reads_one_way.Goals as goal
+
+pub returns : goal.returns
+returns c = one_reading

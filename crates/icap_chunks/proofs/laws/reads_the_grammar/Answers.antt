@@ -1,0 +1,5 @@
+use Rattle.icap_chunks.proofs.Endings.{reads_chunked}
+use Rattle.icap_chunks.proofs.laws.reads_the_grammar.Goals as goal
+
+pub returns : goal.returns
+returns c = reads_chunked

@@ -1,0 +1,5 @@
+use Rattle.icap_chunks.proofs.Written.{chunk_written, last_written}
+use Rattle.icap_chunks.proofs.laws.reads_what_it_writes.Goals as goal
+
+pub returns : goal.returns
+returns c = record { chunk = chunk_written; last = last_written }

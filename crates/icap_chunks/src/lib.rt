@@ -1,0 +1,18 @@
+//! Chunked bodies with ICAP's `ieof`, read in any pieces (RFC 9112, section 7.1; RFC 3507, section 4.5).
+#![tactic(auto)]
+
+mod extension;
+mod fault;
+pub mod laws;
+mod pieces;
+mod places;
+mod reader;
+#[cfg(test)]
+mod tests;
+mod writers;
+
+pub use fault::ChunkFault;
+pub use pieces::{Outcome, Reading, read_in_pieces};
+pub use reader::{ChunkReader, Fed};
+pub use std::alloc::AllocError as NoMemory;
+pub use writers::{put_chunk_head, put_chunk_tail, put_last};

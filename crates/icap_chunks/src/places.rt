@@ -1,0 +1,202 @@
+//! Where in a chunked body a byte stands, and where the next one does.
+ghost use Rattle.std.specs.Prelude.{◌≡◌, ◌<◌, ◌+◌, ◌*◌};
+ghost use Rattle.std.specs.Option.{SomeIff};
+ghost use Rattle.icap_chunks.specs.Grammar.{is_blank};
+ghost use Rattle.icap_chunks.specs.Machine.{in_digits, in_pad, in_extension, in_data, in_data_end, in_data_feed, in_trailer_start, in_trailer, in_trailer_feed, in_last_feed};
+
+use crate::extension::Item;
+use crate::fault::ChunkFault;
+
+/// Where in a chunked body the next byte stands.
+#[derive(Clone, Copy, Debug, PartialEq, Eq)]
+pub enum Place {
+    /// In the digits of a size line of so many bytes so far.
+    Digits(u16, u64),
+    Pad(u16, u64),
+    Extension(u16, u64, Item, bool),
+    /// Behind the CR of a size line.
+    LineEnd(u64, bool),
+    /// In a run of the body, with so many of its bytes behind the next one.
+    Data(u64),
+    DataEnd,
+    DataFeed,
+    /// At the start of a trailer line, behind so many bytes of trailers.
+    TrailerStart(u16, bool),
+    Trailer(u16, bool),
+    TrailerFeed(u16, bool),
+    LastFeed(u16, bool),
+    Ended(bool),
+    Faulted(ChunkFault),
+}
+
+/// The greatest size and the greatest sum of sizes, plus one.
+pub(crate) const PAST: u64 = 4611686018427387904;
+
+/// The greatest number of bytes in a size line.
+const LINE: u16 = 256;
+
+/// The greatest number of bytes behind the last size line.
+const TRAILERS: u16 = 8192;
+
+pub(crate) fn blank(byte: u8) -> bool
+    ensures { result ≡ is_blank byte }
+{
+    byte == b' ' || byte == b'\t'
+}
+
+/// The size with one more digit, where that is no more than the greatest.
+pub(crate) fn size_with(size: u64, digit: u64) -> Option<u64>
+    requires { digit < 16 }
+    ensures { SomeIff result (size * 16 + digit < 4611686018427387904) (size * 16 + digit) }
+{
+    if size < PAST / 16 {
+        Some(size * 16 + digit)
+    } else {
+        None
+    }
+}
+
+#[tactic(auto, unfolding(crate::specs::Machine::in_digits))]
+pub(crate) fn in_digits(count: u16, size: u64, byte: u8) -> Place
+    ensures { result ≡ in_digits count size byte }
+{
+    if byte == b'\r' {
+        return if count == 0 {
+            Place::Faulted(ChunkFault::Size)
+        } else {
+            Place::LineEnd(size, false)
+        };
+    }
+    if byte == b'\n' || count >= LINE {
+        return Place::Faulted(ChunkFault::Line);
+    }
+    if let Some(digit) = (byte as char).to_digit(16) {
+        return match size_with(size, u64::from(digit)) {
+            Some(size) => Place::Digits(count + 1, size),
+            None => Place::Faulted(ChunkFault::TooBig),
+        };
+    }
+    if count == 0 {
+        Place::Faulted(ChunkFault::Size)
+    } else if blank(byte) {
+        Place::Pad(count + 1, size)
+    } else if byte == b';' {
+        Place::Extension(count + 1, size, Item::Blank, false)
+    } else {
+        Place::Faulted(ChunkFault::Size)
+    }
+}
+
+#[tactic(auto, unfolding(crate::specs::Machine::in_pad))]
+pub(crate) fn in_pad(count: u16, size: u64, byte: u8) -> Place
+    ensures { result ≡ in_pad count size byte }
+{
+    if byte == b'\r' {
+        Place::LineEnd(size, false)
+    } else if byte == b'\n' || count >= LINE {
+        Place::Faulted(ChunkFault::Line)
+    } else if blank(byte) {
+        Place::Pad(count + 1, size)
+    } else if byte == b';' {
+        Place::Extension(count + 1, size, Item::Blank, false)
+    } else {
+        Place::Faulted(ChunkFault::Size)
+    }
+}
+
+#[tactic(auto, unfolding(crate::specs::Machine::in_extension))]
+pub(crate) fn in_extension(count: u16, size: u64, item: Item, found: bool, byte: u8) -> Place
+    ensures { result ≡ in_extension count size item found byte }
+{
+    let found_here = found || item.is_word();
+    if byte == b'\r' {
+        Place::LineEnd(size, found_here)
+    } else if byte == b'\n' || count >= LINE {
+        Place::Faulted(ChunkFault::Line)
+    } else if byte == b';' {
+        Place::Extension(count + 1, size, Item::Blank, found_here)
+    } else {
+        Place::Extension(count + 1, size, item.with(byte), found)
+    }
+}
+
+#[tactic(auto, unfolding(crate::specs::Machine::in_data))]
+pub(crate) fn in_data(more: u64) -> Place
+    ensures { result ≡ in_data more }
+{
+    if more > 0 {
+        Place::Data(more - 1)
+    } else {
+        Place::DataEnd
+    }
+}
+
+#[tactic(auto, unfolding(crate::specs::Machine::in_data_end))]
+pub(crate) fn in_data_end(byte: u8) -> Place
+    ensures { result ≡ in_data_end byte }
+{
+    if byte == b'\r' {
+        Place::DataFeed
+    } else {
+        Place::Faulted(ChunkFault::Break)
+    }
+}
+
+#[tactic(auto, unfolding(crate::specs::Machine::in_data_feed))]
+pub(crate) fn in_data_feed(byte: u8) -> Place
+    ensures { result ≡ in_data_feed byte }
+{
+    if byte == b'\n' {
+        Place::Digits(0, 0)
+    } else {
+        Place::Faulted(ChunkFault::Break)
+    }
+}
+
+#[tactic(auto, unfolding(crate::specs::Machine::in_trailer_start))]
+pub(crate) fn in_trailer_start(count: u16, ieof: bool, byte: u8) -> Place
+    ensures { result ≡ in_trailer_start count ieof byte }
+{
+    if byte == b'\n' || count >= TRAILERS {
+        Place::Faulted(ChunkFault::Trailers)
+    } else if byte == b'\r' {
+        Place::LastFeed(count + 1, ieof)
+    } else {
+        Place::Trailer(count + 1, ieof)
+    }
+}
+
+#[tactic(auto, unfolding(crate::specs::Machine::in_trailer))]
+pub(crate) fn in_trailer(count: u16, ieof: bool, byte: u8) -> Place
+    ensures { result ≡ in_trailer count ieof byte }
+{
+    if byte == b'\n' || count >= TRAILERS {
+        Place::Faulted(ChunkFault::Trailers)
+    } else if byte == b'\r' {
+        Place::TrailerFeed(count + 1, ieof)
+    } else {
+        Place::Trailer(count + 1, ieof)
+    }
+}
+
+#[tactic(auto, unfolding(crate::specs::Machine::in_trailer_feed))]
+pub(crate) fn in_trailer_feed(count: u16, ieof: bool, byte: u8) -> Place
+    ensures { result ≡ in_trailer_feed count ieof byte }
+{
+    if byte == b'\n' && count < TRAILERS {
+        Place::TrailerStart(count + 1, ieof)
+    } else {
+        Place::Faulted(ChunkFault::Trailers)
+    }
+}
+
+#[tactic(auto, unfolding(crate::specs::Machine::in_last_feed))]
+pub(crate) fn in_last_feed(count: u16, ieof: bool, byte: u8) -> Place
+    ensures { result ≡ in_last_feed count ieof byte }
+{
+    if byte == b'\n' && count < TRAILERS {
+        Place::Ended(ieof)
+    } else {
+        Place::Faulted(ChunkFault::Trailers)
+    }
+}

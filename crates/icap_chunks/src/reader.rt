@@ -1,0 +1,232 @@
+//! The reader: numbers alone, fed in any pieces. A run of body bytes is a range of the piece and is never walked.
+ghost use Rattle.std.specs.Prelude.{◌≡◌, ℕ, ◌+◌, ◌<◌, ◌≤◌, ◌++◌, true, false, List, IfOk, IfErr, IfSome, IsOkAnd, Err, OnOk, is_some, [], length, take, slice_range, Some, None, min};
+ghost use Rattle.icap_chunks.specs.declared.places.Place.TheVariants.{Data};
+ghost use Rattle.icap_chunks.specs.Machine.{start, step, run, body_of, end_of, fault_of, end_at, is_in_data, pauses_at, data_behind, in_line_end, HasRead};
+ghost use Rattle.icap_chunks.specs.Faults.{Breaks};
+
+use crate::fault::ChunkFault;
+use crate::places::{
+    PAST, Place, in_data, in_data_end, in_data_feed, in_digits, in_extension, in_last_feed, in_pad,
+    in_trailer, in_trailer_feed, in_trailer_start,
+};
+
+/// What one call of `feed` has found in its piece.
+#[derive(Clone, Copy, Debug, PartialEq, Eq)]
+pub struct Fed {
+    /// How many bytes of the piece were read.
+    pub used: usize,
+    /// The range of the piece that is body: from the first offset up to the second. Without body bytes both are `used`.
+    pub part: (usize, usize),
+    /// Set once the body has ended: whether with `ieof`.
+    pub ended: Option<bool>,
+}
+
+/// A reader of one chunked body, fed in any pieces. It keeps numbers alone and takes no memory.
+#[derive(Clone, Copy, Debug, PartialEq, Eq)]
+pub struct ChunkReader {
+    sum: u64,
+    place: Place,
+}
+
+impl ChunkReader {
+    /// A reader before the first byte of a body.
+    pub fn new() -> ChunkReader
+        ensures { result ≡ start }
+    {
+        ChunkReader {
+            sum: 0,
+            place: Place::Digits(0, 0),
+        }
+    }
+
+    /// Reads on in the piece: up to the end of one run of body bytes, of the body or of the piece.
+    ///
+    /// After the end it uses nothing and says again how the body ended. Where a byte breaks the grammar the answer is its
+    /// fault, once the body bytes before it are handed out; every later call answers the same fault.
+    pub fn feed(&mut self, piece: &[u8]) -> Result<Fed, ChunkFault>
+        ensures within { IfOk result (λ fed. (fed.part.0 ≤ fed.part.1) × (fed.part.1 ≤ fed.used) × (fed.used ≤ length piece.now)) }
+
+        // What was read before, the bytes used behind it, and the body with the part.
+        ensures read { IfOk result (λ fed. (text body : List ℕ) → HasRead text body self.old
+            → HasRead (text ++ take fed.used piece.now) (body ++ slice_range piece.now fed.part.0 fed.part.1) self.new) }
+        ensures ended { IfOk result (λ fed. fed.ended ≡ end_of self.new) }
+        ensures no_fault { OnOk result (fault_of self.new ≡ None) }
+
+        // It stops at the end of the body, or behind the whole of a run, and else behind the whole piece.
+        ensures stops { IfOk result (λ fed. fed.used < length piece.now → fed.ended ≡ None
+            → (fed.part.0 < fed.part.1) × (fed.used ≡ fed.part.1) × (is_in_data self.new ≡ false)) }
+
+        // The body bytes are the last ones that it used; without any the part is empty, and stands there too.
+        ensures part_end { IfOk result (λ fed. fed.part.1 ≡ fed.used) }
+
+        // The piece has a byte that breaks the grammar, with no byte of the body before it, or an earlier one had.
+        ensures fault { IfErr result (λ fault. (text body : List ℕ) → HasRead text body self.old → Breaks (text ++ piece.now) body fault) }
+        ensures stays { IfErr result (λ fault. fault_of self.new ≡ Some fault) }
+        ensures faulted { IfSome (fault_of self.old) (λ fault. result ≡ Err fault) }
+        ensures over { IfSome (end_of self.old) (λ ieof. (self.new ≡ self.old) × IsOkAnd result (λ fed. (fed.used ≡ 0) × (fed.ended ≡ Some ieof))) }
+    {
+        self.read_piece(piece)
+    }
+
+    /// Whether the body has ended.
+    #[tactic(auto, unfolding(crate::specs::Machine::end_at))]
+    pub fn has_ended(&self) -> bool
+        ensures { result ≡ is_some (end_of self.now) }
+    {
+        matches!(self.place, Place::Ended(_))
+    }
+
+    fn read_piece(&mut self, piece: &[u8]) -> Result<Fed, ChunkFault>
+        ensures within { IfOk result (λ fed. (fed.part.0 ≤ fed.part.1) × (fed.part.1 ≤ fed.used) × (fed.used ≤ length piece.now)) }
+
+        // The reader has read the bytes used, and no others, and the part is what they have of the body.
+        ensures read { IfOk result (λ fed. self.new ≡ run self.old (take fed.used piece.now)) }
+        ensures part { IfOk result (λ fed. slice_range piece.now fed.part.0 fed.part.1 ≡ body_of self.old (take fed.used piece.now)) }
+        ensures ended { IfOk result (λ fed. fed.ended ≡ end_of self.new) }
+        ensures no_fault { OnOk result (fault_of self.new ≡ None) }
+
+        // Nothing behind the end is used.
+        ensures end_first { IfOk result (λ fed. (k : ℕ) → k < fed.used → end_of (run self.old (take k piece.now)) ≡ None) }
+
+        // It stops at the end of the body, or behind the whole of a run.
+        ensures stops { IfOk result (λ fed. fed.used < length piece.now → fed.ended ≡ None
+            → (fed.part.0 < fed.part.1) × (fed.used ≡ fed.part.1) × (is_in_data self.new ≡ false)) }
+        ensures part_end { IfOk result (λ fed. fed.part.1 ≡ fed.used) }
+
+        // The piece has a byte that breaks the grammar, with no byte of the body before it, or an earlier one had.
+        ensures fault { IfErr result (λ fault. fault_of self.new ≡ Some fault) }
+        ensures fault_read { IfErr result (λ fault. self.new ≡ run self.old piece.now) }
+        ensures fault_part { IfErr result (λ fault. body_of self.old piece.now ≡ []) }
+    {
+        let framing = self.read_framing(piece);
+        let rest = piece.len() - framing;
+        match self.place {
+            Place::Faulted(fault) => Err(fault),
+            Place::Data(more) => {
+                let run = self.read_data(more, rest);
+                Ok(Fed {
+                    used: framing + run,
+                    part: (framing, framing + run),
+                    ended: None,
+                })
+            }
+            Place::Ended(ieof) => Ok(Fed {
+                used: framing,
+                part: (framing, framing),
+                ended: Some(ieof),
+            }),
+            _ => Ok(Fed {
+                used: framing,
+                part: (framing, framing),
+                ended: None,
+            }),
+        }
+    }
+
+    /// Whether no framing is read here.
+    #[tactic(auto, unfolding(crate::specs::Machine::pauses_at))]
+    fn pauses(&self) -> bool
+        ensures { result ≡ pauses_at self.now.place }
+    {
+        matches!(
+            self.place,
+            Place::Data(_) | Place::Ended(_) | Place::Faulted(_)
+        )
+    }
+
+    /// Reads the framing at the front of the piece, and says how many bytes it has.
+    fn read_framing(&mut self, piece: &[u8]) -> usize
+        ensures within { result ≤ length piece.now }
+        ensures read { self.new ≡ run self.old (take result piece.now) }
+        ensures framing { (k : ℕ) → k < result → pauses_at (run self.old (take k piece.now)).place ≡ false }
+        ensures stops { result < length piece.now → pauses_at self.new.place ≡ true }
+    {
+        let mut used = 0;
+        for byte in piece {
+            if self.pauses() {
+                return used;
+            }
+            *self = self.step(*byte);
+            used += 1;
+        }
+        used
+    }
+
+    /// Reads bytes of the body: as many as are there and belong to it.
+    fn read_data(&mut self, more: u64, room: usize) -> usize
+        requires { self.old.place ≡ Data more }
+        ensures count { result ≡ min (more + 1) room }
+        ensures read { self.new ≡ data_behind self.old.sum more result }
+    {
+        if room == 0 {
+            return 0;
+        }
+        let behind = more.min((room - 1) as u64);
+        self.place = if behind < more {
+            Place::Data(more - behind - 1)
+        } else {
+            Place::DataEnd
+        };
+        behind as usize + 1
+    }
+
+    /// The reader with one more byte.
+    #[tactic(auto, unfolding(crate::specs::Machine::step))]
+    fn step(self, byte: u8) -> ChunkReader
+        ensures { result ≡ step self byte }
+    {
+        let sum = self.sum;
+        let place = match self.place {
+            Place::Digits(count, size) => in_digits(count, size, byte),
+            Place::Pad(count, size) => in_pad(count, size, byte),
+            Place::Extension(count, size, item, found) => {
+                in_extension(count, size, item, found, byte)
+            }
+            Place::LineEnd(size, ieof) => return in_line_end(sum, size, ieof, byte),
+            Place::Data(more) => in_data(more),
+            Place::DataEnd => in_data_end(byte),
+            Place::DataFeed => in_data_feed(byte),
+            Place::TrailerStart(count, ieof) => in_trailer_start(count, ieof, byte),
+            Place::Trailer(count, ieof) => in_trailer(count, ieof, byte),
+            Place::TrailerFeed(count, ieof) => in_trailer_feed(count, ieof, byte),
+            Place::LastFeed(count, ieof) => in_last_feed(count, ieof, byte),
+            Place::Ended(ieof) => Place::Ended(ieof),
+            Place::Faulted(fault) => Place::Faulted(fault),
+        };
+        ChunkReader { sum, place }
+    }
+}
+
+impl Default for ChunkReader {
+    fn default() -> ChunkReader {
+        ChunkReader::new()
+    }
+}
+
+/// The reader behind the size line whose CR it has read.
+#[tactic(auto, unfolding(crate::specs::Machine::in_line_end))]
+fn in_line_end(sum: u64, size: u64, ieof: bool, byte: u8) -> ChunkReader
+    ensures { result ≡ in_line_end sum size ieof byte }
+{
+    if byte != b'\n' {
+        return ChunkReader {
+            sum,
+            place: Place::Faulted(ChunkFault::Line),
+        };
+    }
+    if sum >= PAST || size >= PAST - sum {
+        return ChunkReader {
+            sum,
+            place: Place::Faulted(ChunkFault::TooBig),
+        };
+    }
+    let place = if size == 0 {
+        Place::TrailerStart(0, ieof)
+    } else {
+        Place::Data(size - 1)
+    };
+    ChunkReader {
+        sum: sum + size,
+        place,
+    }
+}
