@@ -1,0 +1,286 @@
+//! Worked scripts, with the values that a reader of the table gets by hand.
+
+use crate::{Script, Tape, check, fits, fits_next, held_is_needed, witness};
+use Event::{Ad, Continue, End, Fail, In, Mod, NoMod, Stop, Svc, Usr};
+use Kind::{Plain, Preview, Whole};
+use Tape::{Adapted, Original};
+use std::process::Abort;
+use trace_core::{Cause, Event, Kind, Plan, Point, State};
+
+/// A response's transaction, after some events.
+#[derive(Clone, Copy)]
+struct Transaction<'a> {
+    kind: Kind,
+    allow: bool,
+    len: Option<u64>,
+    events: &'a [Event],
+}
+
+/// One of unknown length, with no `Allow: 204`.
+fn unsized_body(kind: Kind, events: &[Event]) -> Transaction<'_> {
+    Transaction {
+        kind,
+        allow: false,
+        len: None,
+        events,
+    }
+}
+
+/// One of a known length.
+fn sized_body(kind: Kind, allow: bool, len: u64, events: &[Event]) -> Transaction<'_> {
+    Transaction {
+        kind,
+        allow,
+        len: Some(len),
+        events,
+    }
+}
+
+fn begin(rt: &impl Abort, transaction: Transaction<'_>) -> State {
+    let plan = Plan::new(
+        transaction.kind,
+        transaction.allow,
+        transaction.len,
+        Point::Respmod,
+    );
+    let mut state = State::begin(plan.expect(rt, "a plan within its bounds"));
+    for event in transaction.events {
+        assert!(rt; state.step(*event).is_ok());
+    }
+    state
+}
+
+fn script_of(events: &[Event]) -> Script {
+    let mut script = Script::new();
+    for event in events {
+        if !script.is_full() {
+            script.push(*event);
+        }
+    }
+    script
+}
+
+/// Whether these events are the script that is given for a place, and the checker takes it.
+fn is_given(state: &State, tape: Tape, place: u64, events: &[Event]) -> bool {
+    match witness(state, tape, place) {
+        Some(script) => script.as_slice() == events && check(state.trace(), &script, tape, place),
+        None => false,
+    }
+}
+
+#[test]
+fn scripts_by_position(rt: HostRuntime) {
+    held_is_needed();
+    let preview = unsized_body(Preview(4), &[In(6), Svc(4)]);
+    let cases: [(&str, Transaction<'_>, Tape, u64, &[Event]); 12] = [
+        ("in a preview", preview, Original, 5, &[Stop, NoMod, Usr(6)]),
+        (
+            "known length, preview not full",
+            sized_body(Preview(4), false, 3, &[In(2)]),
+            Original,
+            1,
+            &[In(1), End, Svc(3), Stop, NoMod, Usr(2)],
+        ),
+        (
+            "preview of no bytes",
+            unsized_body(Preview(0), &[In(2)]),
+            Original,
+            1,
+            &[Stop, NoMod, Usr(2)],
+        ),
+        (
+            "preview awaits its response",
+            unsized_body(Preview(4), &[In(6), Svc(4), Stop]),
+            Original,
+            0,
+            &[NoMod, Usr(1)],
+        ),
+        (
+            "after 100",
+            unsized_body(Preview(4), &[In(6), Svc(4), Stop, Continue]),
+            Original,
+            5,
+            &[Svc(2)],
+        ),
+        (
+            "after 100, 204 allowed",
+            sized_body(Preview(4), true, 6, &[In(6), Svc(4), Stop, Continue]),
+            Original,
+            3,
+            &[NoMod, Usr(4)],
+        ),
+        (
+            "whole",
+            unsized_body(Whole, &[In(8), Svc(3)]),
+            Original,
+            3,
+            &[Svc(1)],
+        ),
+        (
+            "whole, 204 allowed",
+            sized_body(Whole, true, 8, &[In(8), Svc(3)]),
+            Original,
+            0,
+            &[NoMod, Usr(1)],
+        ),
+        (
+            "200, and the rest still goes to the service",
+            unsized_body(Whole, &[In(8), Svc(3), Mod(true)]),
+            Original,
+            5,
+            &[Svc(3)],
+        ),
+        (
+            "after 204",
+            sized_body(Whole, true, 8, &[In(8), End, Svc(3), NoMod, Usr(2)]),
+            Original,
+            7,
+            &[Usr(6)],
+        ),
+        (
+            "not adapted",
+            unsized_body(Plain, &[In(3), Usr(1)]),
+            Original,
+            2,
+            &[Usr(2)],
+        ),
+        (
+            "adapted body",
+            unsized_body(Whole, &[In(8), Mod(true), Ad(4), Usr(1)]),
+            Adapted,
+            3,
+            &[Usr(3)],
+        ),
+    ];
+    for (name, transaction, tape, place, events) in cases {
+        assert!(rt;
+            is_given(&begin(&rt, transaction), tape, place, events),
+            "{name}"
+        );
+    }
+}
+
+#[test]
+fn no_script_for_what_was_let_go(rt: HostRuntime) {
+    let cases: [(&str, Transaction<'_>, Tape, u64); 6] = [
+        (
+            "sent, then 100",
+            unsized_body(Preview(4), &[In(6), Svc(4), Stop, Continue]),
+            Original,
+            3,
+        ),
+        (
+            "not come yet",
+            unsized_body(Preview(4), &[In(6), Svc(4), Stop, Continue]),
+            Original,
+            6,
+        ),
+        (
+            "200 to a preview",
+            unsized_body(Preview(4), &[In(6), Svc(4), Stop, Mod(true)]),
+            Original,
+            5,
+        ),
+        (
+            "delivered",
+            unsized_body(Whole, &[In(8), Mod(true), Ad(4), Usr(1)]),
+            Adapted,
+            0,
+        ),
+        ("no adapted body", unsized_body(Whole, &[In(8)]), Adapted, 0),
+        (
+            "failed",
+            unsized_body(Plain, &[In(3), Fail(Cause::Source)]),
+            Original,
+            0,
+        ),
+    ];
+    for (name, transaction, tape, place) in cases {
+        assert!(rt;
+            witness(&begin(&rt, transaction), tape, place).is_none(),
+            "{name}"
+        );
+    }
+}
+
+#[test]
+fn checker_by_script(rt: HostRuntime) {
+    let state = begin(&rt, unsized_body(Preview(4), &[In(6), Svc(4)]));
+    let cases: [(&str, &[Event], u64, bool); 7] = [
+        (
+            "its last event sends the place",
+            &[Stop, NoMod, Usr(6)],
+            5,
+            true,
+        ),
+        (
+            "an earlier place of the last event",
+            &[Stop, NoMod, Usr(6)],
+            0,
+            true,
+        ),
+        ("it stops one byte short", &[Stop, NoMod, Usr(5)], 5, false),
+        (
+            "another event than the last sends it",
+            &[Stop, NoMod, Usr(5), Usr(1)],
+            4,
+            false,
+        ),
+        ("it can't begin so", &[NoMod, Usr(6)], 5, false),
+        ("it sends nothing", &[], 5, false),
+        (
+            "a place that it receives",
+            &[Stop, Continue, In(1), Svc(3)],
+            6,
+            true,
+        ),
+    ];
+    for (name, events, place, want) in cases {
+        let is_taken = check(state.trace(), &script_of(events), Original, place);
+        assert_eq!(rt; is_taken, want, "{name}");
+    }
+}
+
+#[test]
+fn room_by_script(rt: HostRuntime) {
+    let state = begin(&rt, sized_body(Preview(4), false, 3, &[In(2)]));
+    let six = [In(1), End, Svc(3), Stop, NoMod, Usr(2)];
+    let cases: [(&str, &[Event], u64, bool); 5] = [
+        ("all of a body of 3", &six, 3, true),
+        ("one byte too few", &six, 2, false),
+        ("nothing happens", &[], 0, true),
+        (
+            "what is let go needs no room",
+            &[Fail(Cause::Stopping)],
+            0,
+            true,
+        ),
+        ("it can't begin so", &[NoMod], 100, false),
+    ];
+    for (name, events, claim, want) in cases {
+        assert_eq!(rt;
+            fits(state.trace(), &script_of(events), claim),
+            want,
+            "{name}"
+        );
+    }
+}
+
+#[test]
+fn room_by_event(rt: HostRuntime) {
+    let state = begin(&rt, unsized_body(Whole, &[In(8)]));
+    let cases = [
+        (In(1), 9, true),
+        (In(1), 8, false),
+        (Svc(3), 5, true),
+        (Svc(3), 4, false),
+        (Usr(1), 9, false),
+    ];
+    for (event, claim, want) in cases {
+        assert_eq!(rt;
+            fits_next(&state, event, claim),
+            want,
+            "{event:?} within {claim}"
+        );
+    }
+}
