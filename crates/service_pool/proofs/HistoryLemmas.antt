@@ -1,0 +1,88 @@
+-- What holds of every history of allowed steps.
+use Rattle.std.proofs.Common.{◌≡◌, ℕ, ◌+◌, ◌<◌, List, [], ◌∷◌, ◌++◌, count_by, cond, refl, ◌∙◌, subst, arith}
+use Rattle.std.proofs.lemmas.List.Sums.{sum_by-cons}
+use Rattle.std.proofs.lemmas.Grind.{common_steps}
+use Rattle.service_pool.specs.declared.step.Numbers.{Numbers}
+use Rattle.service_pool.specs.declared.step.PoolStep.{PoolStep}
+use Rattle.service_pool.specs.declared.step.PoolStep.TheVariants.{Take, Put, GiveUp, Limit}
+use Rattle.service_pool.specs.History.{is_take, is_return, is_limit}
+use Rattle.service_pool.specs.Replay.{after, open_count, replay}
+use Rattle.service_pool.specs.State.{IsWithin, IsAllowed, AreAllowed}
+use Rattle.service_pool.proofs.StepLemmas.{replay-append}
+
+-- a step that is allowed keeps at most the maximum open, or none idle
+within-after : (n : Numbers) (step : PoolStep) → IsWithin n → IsAllowed n step → IsWithin (after n step)
+within-after n Take w may = grind (arith, common_steps)
+within-after n Put w may = grind (arith, common_steps)
+within-after n GiveUp w may = grind (arith, common_steps)
+within-after n (Limit most) w may = grind (arith, common_steps)
+
+pub within-replay : (n : Numbers) (steps : List PoolStep) → IsWithin n → AreAllowed n steps → IsWithin (replay n steps)
+within-replay n [] w may = w
+within-replay n (step ∷ steps) w may = within-replay (after n step) steps (within-after n step w may.0) may.1
+
+-- the step behind others is allowed where it comes
+may-behind : (n : Numbers) (earlier later : List PoolStep) (step : PoolStep) → AreAllowed n (earlier ++ step ∷ later) → IsAllowed (replay n earlier) step
+may-behind n [] later step may = may.0
+may-behind n (s ∷ earlier) later step may = may-behind (after n s) earlier later step may.1
+
+-- a step that opens a connection is a take that finds none idle
+opens-take : (n : Numbers) (step : PoolStep) → IsAllowed n step → open_count n < open_count (after n step) → (step ≡ Take) × (n.idle ≡ 0)
+opens-take n Take may more = (refl, grind (arith, common_steps))
+opens-take n Put may more = absurd (grind (arith, common_steps))
+opens-take n GiveUp may more = absurd (grind (arith, common_steps))
+opens-take n (Limit most) may more = absurd (grind (arith, common_steps))
+
+opens-below : (n : Numbers) (step : PoolStep) → IsAllowed n step → open_count n < open_count (after n step) → open_count n < n.maximum
+opens-below n Take may more = grind (arith, common_steps)
+opens-below n Put may more = absurd (grind (arith, common_steps))
+opens-below n GiveUp may more = absurd (grind (arith, common_steps))
+opens-below n (Limit most) may more = absurd (grind (arith, common_steps))
+
+-- the same in a history
+opens-after : (n : Numbers) (earlier : List PoolStep) (step : PoolStep) → open_count (replay n earlier) < open_count (replay n (earlier ++ step ∷ []))
+    → open_count (replay n earlier) < open_count (after (replay n earlier) step)
+opens-after n earlier step more = let P : Numbers → Type 0 = λ m. open_count (replay n earlier) < open_count m in subst P (replay-append n earlier (step ∷ [])) more
+
+pub opened-by_take : (n : Numbers) (earlier later : List PoolStep) (step : PoolStep) → AreAllowed n (earlier ++ step ∷ later)
+    → open_count (replay n earlier) < open_count (replay n (earlier ++ step ∷ [])) → (step ≡ Take) × ((replay n earlier).idle ≡ 0)
+opened-by_take n earlier later step may more = opens-take (replay n earlier) step (may-behind n earlier later step may) (opens-after n earlier step more)
+
+pub opened-below : (n : Numbers) (earlier later : List PoolStep) (step : PoolStep) → AreAllowed n (earlier ++ step ∷ later)
+    → open_count (replay n earlier) < open_count (replay n (earlier ++ step ∷ [])) → open_count (replay n earlier) < (replay n earlier).maximum
+opened-below n earlier later step may more = opens-below (replay n earlier) step (may-behind n earlier later step may) (opens-after n earlier step more)
+
+-- a take adds one to the leased number, and a return takes one off
+leased-after : (n : Numbers) (step : PoolStep) → IsAllowed n step → (after n step).leased + cond (is_return step) 1 0 ≡ n.leased + cond (is_take step) 1 0
+leased-after n Take may = grind (arith, common_steps)
+leased-after n Put may = grind (arith, common_steps)
+leased-after n GiveUp may = grind (arith, common_steps)
+leased-after n (Limit most) may = grind (arith, common_steps)
+
+pub leased-replay : (n : Numbers) (steps : List PoolStep) → AreAllowed n steps → (replay n steps).leased + count_by is_return steps ≡ n.leased + count_by is_take steps
+leased-replay n [] may = refl
+leased-replay n (step ∷ steps) may =
+    let rest = leased-replay (after n step) steps may.1 in
+    let returns = sum_by-cons (λ (s : PoolStep). cond (is_return s) 1 0) step steps in
+    let takes = sum_by-cons (λ (s : PoolStep). cond (is_take s) 1 0) step steps in
+    let here = leased-after n step may.0 in
+    omega arith
+
+-- steps that set no maximum keep it
+maximum-after : (n : Numbers) (step : PoolStep) → ◌≡◌ {A = ℕ} (cond (is_limit step) 1 0) 0 → (after n step).maximum ≡ n.maximum
+maximum-after n Take none = grind (arith, common_steps)
+maximum-after n Put none = grind (arith, common_steps)
+maximum-after n GiveUp none = refl
+maximum-after n (Limit most) none = absurd (omega arith)
+
+maximum-replay : (n : Numbers) (steps : List PoolStep) → count_by is_limit steps ≡ 0 → (replay n steps).maximum ≡ n.maximum
+maximum-replay n [] none = refl
+maximum-replay n (step ∷ steps) none =
+    let limits = sum_by-cons (λ (s : PoolStep). cond (is_limit s) 1 0) step steps in
+    let rest : count_by is_limit steps ≡ 0 = omega arith in
+    let here : ◌≡◌ {A = ℕ} (cond (is_limit step) 1 0) 0 = omega arith in
+    maximum-replay (after n step) steps rest ∙ maximum-after n step here
+
+pub maximum-last : (n : Numbers) (earlier later : List PoolStep) (most : ℕ) → count_by is_limit later ≡ 0 → (replay n (earlier ++ Limit most ∷ later)).maximum ≡ most
+maximum-last n [] later most none = maximum-replay (after n (Limit most)) later none
+maximum-last n (step ∷ earlier) later most none = maximum-last (after n step) earlier later most none

@@ -1,0 +1,5 @@
+pub mod History
+pub mod Leasing
+pub mod Pooled
+pub mod Replay
+pub mod State

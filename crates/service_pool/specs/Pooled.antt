@@ -1,0 +1,35 @@
+-- What a pool shows, what it keeps, and what a take does.
+use Rattle.std.specs.Prelude.{◌≡◌, ℕ, ◌≤◌, ◌<◌, List, [], ◌∷◌, ◌++◌, length}
+use Rattle.service_pool.specs.declared.state.Found.{Found}
+use Rattle.service_pool.specs.declared.state.Found.TheVariants.{Idle, Fresh, Busy}
+use Rattle.service_pool.specs.declared.step.PoolStep.TheVariants.{Take}
+use Rattle.service_pool.specs.State.{Journaled, stepped, IsSound}
+
+-- the idle connections, the one put last at the end, and the numbers with their journal
+pub record Pooled (C : Type 0) : Type 0 where
+  pub idle : List C
+  pub journal : Journaled
+
+-- what every pool keeps: a sound journal, by whose numbers as many connections are idle as are there
+pub record IsKept {C : Type 0} (pool : Pooled C) : Type 0 where
+  pub journal : IsSound pool.journal
+  pub idle : length pool.idle ≡ pool.journal.numbers.idle
+
+-- none is idle, and the leased aren't below the maximum
+abbrev pub IsBusy : {C : Type 0} → Pooled C → Type 0
+IsBusy pool = (pool.idle ≡ []) × (pool.journal.numbers.maximum ≤ pool.journal.numbers.leased)
+
+-- a take gives the idle connection that was put last; where none is idle and fewer than the maximum are
+-- leased, the right to open one; and else nothing, and then it is no step
+abbrev pub Takes : {C : Type 0} → Pooled C → Pooled C → Found C → Type 0
+Takes old new (Idle c) = (old.idle ≡ new.idle ++ c ∷ []) × (new.journal ≡ stepped old.journal Take)
+Takes old new Fresh =
+    (old.idle ≡ []) × (old.journal.numbers.leased < old.journal.numbers.maximum)
+    × (new.idle ≡ []) × (new.journal ≡ stepped old.journal Take)
+Takes old new Busy = new ≡ old
+
+-- how many connections a take leases
+abbrev pub lease_count : {C : Type 0} → Found C → ℕ
+lease_count (Idle c) = 1
+lease_count Fresh = 1
+lease_count Busy = 0

@@ -1,0 +1,19 @@
+//! A bounded connection pool: idle connections, leases, and a log that replays to the counts.
+#![tactic(auto)]
+
+mod journal;
+pub mod laws;
+mod lease;
+mod locked;
+mod pool;
+mod state;
+mod step;
+#[cfg(test)]
+mod tests;
+
+pub use crate::lease::{Lease, Taken};
+pub use crate::locked::Locked;
+pub use crate::pool::Pool;
+pub use crate::state::{Found, PoolState};
+pub use crate::step::{AuditFault, LEDGER_PARTS, MAX_CONNECTIONS, Numbers, PoolStep};
+pub use std::alloc::AllocError as NoMemory;

@@ -1,0 +1,168 @@
+//! What lies under a pool's lock: its state, and the book of its leases.
+ghost use Rattle.std.specs.Prelude.{◌≡◌, ◌↔◌, ◌+◌, ◌≤◌, ◌<◌, [], ◌∷◌, ◌++◌, IsErr, IfOk, IfErr, OnOk, OnErr, IfSome, IfNone, vec_len};
+ghost use Rattle.service_pool.specs.Leasing.{Leases};
+ghost use Rattle.service_pool.specs.Pooled.{IsBusy, IsKept};
+ghost use Rattle.service_pool.specs.Replay.{open_count};
+ghost use Rattle.service_pool.specs.State.{stepped};
+
+use crate::NoMemory;
+use crate::lease::{Lease, Taken, give_back, lend};
+use crate::state::{Found, PoolState};
+use crate::step::{AuditFault, LEDGER_PARTS, MAX_CONNECTIONS, PoolStep};
+use std::alloc::Global;
+use std::marker::Model;
+use std::sync::ledger::{Blank, Book, Ledger, Share};
+
+/// The locked part of a pool, which its lock keeps as each method leaves it.
+///
+/// The total of its leases is the leased number: each lease has one part of the ledger and counts
+/// one in it, and the other parts lie here. Contracts see it as its state.
+#[derive(Drop)]
+pub struct Locked<C, L: Ledger> {
+    state: PoolState<C>,
+    leased: Book<L>,
+    rest: Share<L>,
+}
+
+impl<C, L: Ledger> Model for Locked<C, L> {
+    ghost use Rattle.std.specs.Prelude.{◌≡◌, ◌+◌};
+    ghost use Rattle.service_pool.specs.declared.step.TheConstants.{LEDGER_PARTS};
+    ghost use Rattle.service_pool.specs.Pooled.{Pooled, IsKept};
+
+    ghost Value = { Pooled C };
+
+    ghost view = { λ l. l.state };
+
+    // The ledger's total is the leased number; each lease has a part, and the others lie here.
+    ghost invariant = { λ l. IsKept l.state
+        × (l.leased.total ≡ l.state.journal.numbers.leased)
+        × (l.rest.parts + l.state.journal.numbers.leased ≡ L.parts)
+        × (l.rest.amount ≡ 0) × (L.parts ≡ LEDGER_PARTS) };
+}
+
+impl<C, L: Ledger> Locked<C, L> {
+    /// The locked part round a state with no lease. The blank has `LEDGER_PARTS` parts.
+    pub fn new(state: PoolState<C>, blank: Blank) -> Locked<C, L>
+        requires blank { (blank.name ≡ L.name) × (blank.parts ≡ L.parts)
+            × (blank.parts ≡ LEDGER_PARTS) }
+        requires none { state.journal.numbers.leased ≡ 0 }
+        ensures { result ≡ state }
+    {
+        // Shows what the state keeps.
+        let _numbers = state.numbers();
+        let (leased, rest) = blank.open::<L>();
+        Locked {
+            state,
+            leased,
+            rest,
+        }
+    }
+
+    /// Takes the idle connection that was put last, or the right to open one, with a lease, as the
+    /// step `Take`.
+    pub fn take(&mut self) -> Taken<C, L>
+        ensures take { Leases self.old self.new result }
+
+        // It is refused exactly where none is idle and the leased aren't below the maximum.
+        ensures busy { (result ≡ Taken.Busy) ↔ IsBusy self.old }
+        ensures kept { IsKept self.new }
+    {
+        let Locked {
+            state,
+            leased,
+            rest,
+        } = self;
+        match state.take() {
+            Found::Idle(connection) => Taken::Idle(connection, lend(leased, rest)),
+            Found::Fresh => Taken::Fresh(lend(leased, rest)),
+            Found::Busy => Taken::Busy,
+        }
+    }
+
+    /// Puts a leased connection back and ends its lease, as the step `Put`. Where more than the
+    /// maximum are open, itself among them, it is handed back to be closed.
+    pub fn put(&mut self, connection: C, lease: Lease<L>) -> Option<C>
+        ensures stays { IfNone result
+            ((open_count self.old.journal.numbers ≤ self.old.journal.numbers.maximum)
+            × (self.new.idle ≡ self.old.idle ++ connection ∷ [])) }
+        ensures back { IfSome result (λ c. (c ≡ connection)
+            × (self.old.journal.numbers.maximum < open_count self.old.journal.numbers)
+            × (self.new.idle ≡ self.old.idle)) }
+        ensures step { self.new.journal ≡ stepped self.old.journal PoolStep.Put }
+        ensures leased { 1 ≤ self.old.journal.numbers.leased }
+        ensures kept { IsKept self.new }
+    {
+        let Locked {
+            state,
+            leased,
+            rest,
+        } = self;
+        give_back(leased, rest, lease);
+        state.put(connection)
+    }
+
+    /// Releases a leased connection, which the caller closes, and ends its lease, as the step
+    /// `GiveUp`.
+    pub fn give_up(&mut self, lease: Lease<L>)
+        ensures idle { self.new.idle ≡ self.old.idle }
+        ensures step { self.new.journal ≡ stepped self.old.journal PoolStep.GiveUp }
+        ensures leased { 1 ≤ self.old.journal.numbers.leased }
+        ensures kept { IsKept self.new }
+    {
+        let Locked {
+            state,
+            leased,
+            rest,
+        } = self;
+        give_back(leased, rest, lease);
+        state.give_up();
+    }
+
+    /// Sets how many connections may be open, as the step `Limit`, and hands back the idle ones to
+    /// be closed: the oldest first, until at most that many are open or none is idle. `Err` where
+    /// there is no memory for their list.
+    pub fn set_max(&mut self, alloc: Global, maximum: u64) -> Result<Vec<C>, NoMemory>
+        requires { maximum ≤ MAX_CONNECTIONS }
+        ensures oldest { IfOk result (λ closed. closed.items ++ self.new.idle ≡ self.old.idle) }
+        ensures step { OnOk result
+            (self.new.journal ≡ stepped self.old.journal (PoolStep.Limit maximum)) }
+        ensures err { OnErr result (self.new ≡ self.old) }
+        ensures kept { IsKept self.new }
+    {
+        self.state.set_max(alloc, maximum)
+    }
+
+    /// The number of all leases, which is the leased number; idle connections are closed. With
+    /// fewer leases than are out it is `Missing`, and everything is handed back as it was.
+    pub fn audit(
+        self,
+        leases: Vec<Lease<L>>,
+    ) -> Result<u64, (Locked<C, L>, Vec<Lease<L>>, AuditFault)>
+    where
+        C: Drop,
+        ensures count { IfOk result (λ n. (n ≡ vec_len leases)
+            × (n ≡ self.journal.numbers.leased)) }
+
+        // A lease is missing exactly where there are fewer than are out.
+        ensures missing { IsErr result ↔ (vec_len leases < self.journal.numbers.leased) }
+        ensures back { IfErr result (λ e. (e.0 ≡ self) × (e.1.items ≡ leases.items)) }
+        ensures kept { IsKept self }
+    {
+        let numbers = self.state.numbers();
+        if (leases.len() as u64) < numbers.leased {
+            return Err((self, leases, AuditFault::Missing));
+        }
+        let Locked {
+            state: _,
+            mut leased,
+            mut rest,
+        } = self;
+        let mut leases = leases;
+        while let Some(lease) = leases.pop() {
+            lease.join(&mut rest);
+        }
+        leases.destroy_empty();
+        leased.audit(&mut rest);
+        Ok(numbers.leased)
+    }
+}

@@ -1,0 +1,189 @@
+//! A pool as one thread sees it: its idle connections, and its numbers with their journal. Nothing
+//! here knows a lock.
+ghost use Rattle.std.specs.Prelude.{◌≡◌, ◌↔◌, ◌+◌, ◌≤◌, ◌<◌, [], ◌∷◌, ◌++◌, take, drop, IfOk, OnOk, OnErr, IfSome, IfNone, slice_get, vec_len, vec_capacity};
+ghost use Rattle.std.specs.VecDeque.{deque_len, deque_capacity};
+ghost use Rattle.service_pool.specs.Pooled.{Takes, IsBusy, IsKept, lease_count};
+ghost use Rattle.service_pool.specs.Replay.{open_count, replay};
+ghost use Rattle.service_pool.specs.State.{opening, stepped};
+
+use crate::NoMemory;
+use crate::journal::Journal;
+use crate::step::{MAX_CONNECTIONS, Numbers, PoolStep};
+use std::alloc::Global;
+use std::collections::VecDeque;
+use std::marker::Model;
+
+/// The idle connections of a pool, and its numbers with their journal.
+///
+/// Each call that isn't refused is one step, which is appended to the journal: its steps replay
+/// from its base to the numbers now. A full journal first takes the present numbers as its base. A
+/// call that is refused is no step, and changes nothing.
+#[derive(Drop)]
+pub struct PoolState<C> {
+    // The oldest in front.
+    idle: VecDeque<C>,
+    journal: Journal,
+}
+
+impl<C> Model for PoolState<C> {
+    ghost use Rattle.std.specs.Prelude.{◌≤◌};
+    ghost use Rattle.std.specs.VecDeque.{deque_capacity};
+    ghost use Rattle.service_pool.specs.declared.step.TheConstants.{MAX_CONNECTIONS};
+    ghost use Rattle.service_pool.specs.Pooled.{Pooled, IsKept};
+
+    ghost Value = { Pooled C };
+
+    ghost view = { λ s. record { idle = s.idle.items; journal = s.journal } };
+
+    ghost invariant = { λ s. IsKept (record { idle = s.idle.items; journal = s.journal })
+        × (MAX_CONNECTIONS ≤ deque_capacity s.idle) };
+}
+
+/// What a `take` finds.
+#[derive(Debug, Drop, PartialEq, Eq)]
+pub enum Found<C> {
+    /// The idle connection that was put last.
+    Idle(C),
+    /// None is idle, and one may be opened.
+    Fresh,
+    /// None is idle, and none may be opened.
+    Busy,
+}
+
+impl<C> PoolState<C> {
+    /// A pool with no connection, of which at most `maximum` may be open, with room for
+    /// `MAX_CONNECTIONS` idle connections and a journal of so many steps. `Err` where there is no
+    /// memory for that room.
+    pub fn new(alloc: Global, maximum: u64, journal: usize) -> Result<PoolState<C>, NoMemory>
+        requires maximum { maximum ≤ MAX_CONNECTIONS }
+        requires journal { 1 ≤ journal }
+        ensures idle { IfOk result (λ s. s.idle ≡ []) }
+        ensures journal { IfOk result (λ s. s.journal ≡ opening maximum journal) }
+    {
+        let journal = Journal::new(alloc, maximum, journal)?;
+        // Shows that the journal is sound.
+        let _numbers = journal.numbers();
+        let idle = VecDeque::with_capacity(alloc, MAX_CONNECTIONS as usize)?;
+        Ok(PoolState { idle, journal })
+    }
+
+    /// The numbers now, which the journal's steps replay to from its base.
+    pub fn numbers(&self) -> Numbers
+        ensures numbers { result ≡ self.now.journal.numbers }
+        ensures replayed { replay self.now.journal.base self.now.journal.steps ≡ result }
+        ensures kept { IsKept self.now }
+    {
+        self.journal.numbers()
+    }
+
+    /// The journal's base, a checkpoint: the numbers before the oldest step that it keeps.
+    pub fn base(&self) -> Numbers
+        ensures { result ≡ self.now.journal.base }
+    {
+        self.journal.base()
+    }
+
+    /// The step at a place of the journal, 0 being the oldest that it keeps; `None` behind the
+    /// last.
+    pub fn journal_at(&self, place: usize) -> Option<PoolStep>
+        ensures { result ≡ slice_get self.now.journal.steps place }
+    {
+        self.journal.step_at(place)
+    }
+
+    /// Takes the idle connection that was put last, or the right to open one, as the step `Take`.
+    pub fn take(&mut self) -> Found<C>
+        ensures take { Takes self.old self.new result }
+
+        // It is refused exactly where none is idle and the leased aren't below the maximum.
+        ensures busy { (result ≡ Found.Busy) ↔ IsBusy self.old }
+        ensures leased { self.new.journal.numbers.leased
+            ≡ self.old.journal.numbers.leased + lease_count result }
+        ensures kept { IsKept self.new }
+    {
+        let numbers = self.journal.numbers();
+        match self.idle.pop_back() {
+            Some(connection) => {
+                self.journal.apply(PoolStep::Take);
+                Found::Idle(connection)
+            }
+            None if numbers.leased < numbers.maximum => {
+                self.journal.apply(PoolStep::Take);
+                Found::Fresh
+            }
+            None => Found::Busy,
+        }
+    }
+
+    /// Puts a leased connection back, as the step `Put`. It is kept as an idle one where at most
+    /// the maximum are open, itself among them. Otherwise it is handed back to be closed.
+    pub fn put(&mut self, connection: C) -> Option<C>
+        requires { 1 ≤ self.old.journal.numbers.leased }
+        ensures stays { IfNone result
+            ((open_count self.old.journal.numbers ≤ self.old.journal.numbers.maximum)
+            × (self.new.idle ≡ self.old.idle ++ connection ∷ [])) }
+        ensures back { IfSome result (λ c. (c ≡ connection)
+            × (self.old.journal.numbers.maximum < open_count self.old.journal.numbers)
+            × (self.new.idle ≡ self.old.idle)) }
+        ensures step { self.new.journal ≡ stepped self.old.journal PoolStep.Put }
+        ensures leased { self.new.journal.numbers.leased + 1 ≡ self.old.journal.numbers.leased }
+        ensures kept { IsKept self.new }
+    {
+        let numbers = self.journal.numbers();
+        self.journal.apply(PoolStep::Put);
+        if numbers.idle + numbers.leased <= numbers.maximum {
+            self.idle.push_back_reserved(connection);
+            None
+        } else {
+            Some(connection)
+        }
+    }
+
+    /// Releases a leased connection, which the caller closes, as the step `GiveUp`.
+    pub fn give_up(&mut self)
+        requires { 1 ≤ self.old.journal.numbers.leased }
+        ensures idle { self.new.idle ≡ self.old.idle }
+        ensures step { self.new.journal ≡ stepped self.old.journal PoolStep.GiveUp }
+        ensures leased { self.new.journal.numbers.leased + 1 ≡ self.old.journal.numbers.leased }
+        ensures kept { IsKept self.new }
+    {
+        self.journal.apply(PoolStep::GiveUp);
+    }
+
+    /// Sets how many connections may be open, as the step `Limit`, and hands back the idle ones to
+    /// be closed: the oldest first, until at most that many are open or none is idle. `Err` where
+    /// there is no memory for their list.
+    pub fn set_max(&mut self, alloc: Global, maximum: u64) -> Result<Vec<C>, NoMemory>
+        requires { maximum ≤ MAX_CONNECTIONS }
+        ensures oldest { IfOk result (λ closed. closed.items ++ self.new.idle ≡ self.old.idle) }
+        ensures step { OnOk result
+            (self.new.journal ≡ stepped self.old.journal (PoolStep.Limit maximum)) }
+        ensures err { OnErr result (self.new ≡ self.old) }
+        ensures leased { self.new.journal.numbers.leased ≡ self.old.journal.numbers.leased }
+        ensures kept { IsKept self.new }
+    {
+        let numbers = self.journal.numbers();
+        let keep = maximum.saturating_sub(numbers.leased);
+        let surplus = numbers.idle.saturating_sub(keep) as usize;
+        let mut closed = Vec::with_capacity(alloc, surplus)?;
+        move_oldest(&mut self.idle, &mut closed, surplus);
+        self.journal.apply(PoolStep::Limit(maximum));
+        Ok(closed)
+    }
+}
+
+// Moves the first items of a queue to the end of a list, which has room for them.
+fn move_oldest<C>(from: &mut VecDeque<C>, to: &mut Vec<C>, count: usize)
+    requires enough { count ≤ deque_len from.old }
+    requires room { vec_len to.old + count ≤ vec_capacity to.old }
+    ensures moved { to.new.items ≡ to.old.items ++ take count from.old.items }
+    ensures left { from.new.items ≡ drop count from.old.items }
+    ensures capacity { deque_capacity from.new ≡ deque_capacity from.old }
+{
+    for _moved in 0..count {
+        let Some(oldest) = from.pop_front() else {
+            unreachable!()
+        };
+        to.push_reserved(oldest);
+    }
+}

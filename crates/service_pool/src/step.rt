@@ -1,0 +1,83 @@
+//! The numbers of a pool, the steps that change them, and why an audit is refused.
+ghost use Rattle.std.specs.Prelude.{◌≡◌};
+ghost use Rattle.service_pool.specs.Replay.{after};
+ghost use Rattle.service_pool.specs.State.{IsAllowed, IsBounded};
+
+/// The most connections that a pool may have open: the greatest Max-Connections of a service
+/// (RFC 3507, section 4.10.2) that is used. A service that allows more is used with this many.
+pub const MAX_CONNECTIONS: u64 = 1024;
+
+/// How many parts the ledger of a pool's leases has: one for each lease that may be out, and one
+/// that stays under the lock.
+pub const LEDGER_PARTS: u64 = MAX_CONNECTIONS + 1;
+
+/// The numbers of a pool. A connection is open while it is idle or leased.
+#[derive(Clone, Copy, PartialEq, Eq, Debug)]
+pub struct Numbers {
+    /// Connections that wait in the pool.
+    pub idle: u64,
+    /// Connections that are leased.
+    pub leased: u64,
+    /// How many may be open. Where it was lowered more may still be; then none is idle.
+    pub maximum: u64,
+}
+
+/// A step of a pool.
+#[derive(Clone, Copy, PartialEq, Eq, Debug)]
+pub enum PoolStep {
+    /// An idle connection is leased; where none is idle one is opened, and leased.
+    Take,
+    /// A leased connection becomes idle, or is closed where more than the maximum are open.
+    Put,
+    /// A leased connection is closed.
+    GiveUp,
+    /// The maximum is set, and idle connections above it are closed.
+    Limit(u64),
+}
+
+/// Why an audit was refused.
+#[derive(Clone, Copy, PartialEq, Eq, Debug)]
+pub enum AuditFault {
+    /// Fewer leases were handed in than are out.
+    Missing = 1,
+}
+
+impl Numbers {
+    // The numbers after a step that they allow.
+    pub(crate) fn after(self, step: PoolStep) -> Numbers
+        requires bounded { IsBounded self }
+        requires allowed { IsAllowed self step }
+        ensures { result ≡ after self step }
+    {
+        let Numbers {
+            idle,
+            leased,
+            maximum,
+        } = self;
+        match step {
+            PoolStep::Take if idle == 0 => Numbers {
+                leased: leased + 1,
+                ..self
+            },
+            PoolStep::Take => Numbers {
+                idle: idle - 1,
+                leased: leased + 1,
+                ..self
+            },
+            PoolStep::Put if idle + leased <= maximum => Numbers {
+                idle: idle + 1,
+                leased: leased - 1,
+                ..self
+            },
+            PoolStep::Put | PoolStep::GiveUp => Numbers {
+                leased: leased - 1,
+                ..self
+            },
+            PoolStep::Limit(maximum) => Numbers {
+                idle: idle.min(maximum.saturating_sub(leased)),
+                maximum,
+                ..self
+            },
+        }
+    }
+}

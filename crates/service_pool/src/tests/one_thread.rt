@@ -1,0 +1,154 @@
+//! What a pool answers through its lock.
+ghost use Rattle.std.specs.Prelude.{◌≡◌};
+
+use super::helpers::{audited, put_one, take_and_give_up, take_one};
+use crate::{AuditFault, Found, LEDGER_PARTS, NoMemory, Pool};
+use std::alloc::Global;
+use std::marker::Brand;
+use std::process::Abort;
+use std::sync::Wait;
+use std::sync::ledger::{Blank, Ledger};
+use std::test::*;
+
+// What a pool answered.
+#[derive(Debug, Drop, PartialEq, Eq)]
+struct Answers {
+    taken: Vec<Found<u32>>,
+    closed: Vec<u32>,
+    back: Vec<Option<u32>>,
+    count: Option<u64>,
+}
+
+// Two connections are open as the maximum falls to one.
+fn lower_the_maximum<L: Ledger, R: Wait>(
+    rt: &R,
+    alloc: Global,
+    blank: Blank,
+) -> Result<Answers, NoMemory>
+    requires { (blank.name ≡ L.name) × (blank.parts ≡ L.parts) × (blank.parts ≡ LEDGER_PARTS) }
+{
+    let pool: Pool<u32, L> = Pool::new(alloc, blank, 2, 16)?;
+    let mut taken = Vec::with_capacity(alloc, 4)?;
+    let mut back = Vec::with_capacity(alloc, 2)?;
+    let mut leases = Vec::with_capacity(alloc, 4)?;
+    taken.push_reserved(take_one(rt, &pool, &mut leases));
+    taken.push_reserved(take_one(rt, &pool, &mut leases));
+    taken.push_reserved(take_one(rt, &pool, &mut leases));
+    let closed = pool.set_max(rt, alloc, 1);
+    back.push_reserved(put_one(rt, &pool, &mut leases, 11));
+    back.push_reserved(put_one(rt, &pool, &mut leases, 22));
+    taken.push_reserved(take_one(rt, &pool, &mut leases));
+    let count = audited(rt, pool, leases);
+    Ok(Answers {
+        taken,
+        closed: closed?,
+        back,
+        count,
+    })
+}
+
+#[test]
+fn lowered_maximum_closes_what_comes_back(rt: HostRuntime) -> Result<(), Fail> {
+    let blank = Blank::new(LEDGER_PARTS);
+    let seen = lower_the_maximum::<Brand, HostRuntime>(&rt, rt.alloc(), blank)?;
+    let taken = [Found::Fresh, Found::Fresh, Found::Busy, Found::Idle(22)];
+    assert_eq!(rt; seen.taken.as_slice(), taken.as_slice());
+    assert_eq!(rt; seen.closed.len(), 0);
+    assert_eq!(rt; seen.back.as_slice(), [Some(11), None].as_slice());
+    assert_eq!(rt; seen.count, Some(1));
+    Ok(())
+}
+
+// Three connections are put back, one is taken, and at last only it may be open.
+fn hand_out_and_close<L: Ledger, R: Wait>(
+    rt: &R,
+    alloc: Global,
+    blank: Blank,
+) -> Result<Answers, NoMemory>
+    requires { (blank.name ≡ L.name) × (blank.parts ≡ L.parts) × (blank.parts ≡ LEDGER_PARTS) }
+{
+    let pool: Pool<u32, L> = Pool::new(alloc, blank, 3, 16)?;
+    let mut taken = Vec::with_capacity(alloc, 4)?;
+    let mut back = Vec::with_capacity(alloc, 3)?;
+    let mut leases = Vec::with_capacity(alloc, 4)?;
+    taken.push_reserved(take_one(rt, &pool, &mut leases));
+    taken.push_reserved(take_one(rt, &pool, &mut leases));
+    taken.push_reserved(take_one(rt, &pool, &mut leases));
+    back.push_reserved(put_one(rt, &pool, &mut leases, 11));
+    back.push_reserved(put_one(rt, &pool, &mut leases, 22));
+    back.push_reserved(put_one(rt, &pool, &mut leases, 33));
+    taken.push_reserved(take_one(rt, &pool, &mut leases));
+    let closed = pool.set_max(rt, alloc, 1);
+    let count = audited(rt, pool, leases);
+    Ok(Answers {
+        taken,
+        closed: closed?,
+        back,
+        count,
+    })
+}
+
+#[test]
+fn newest_is_handed_out_and_oldest_is_closed(rt: HostRuntime) -> Result<(), Fail> {
+    let blank = Blank::new(LEDGER_PARTS);
+    let seen = hand_out_and_close::<Brand, HostRuntime>(&rt, rt.alloc(), blank)?;
+    let taken = [Found::Fresh, Found::Fresh, Found::Fresh, Found::Idle(33)];
+    assert_eq!(rt; seen.taken.as_slice(), taken.as_slice());
+    assert_eq!(rt; seen.back.as_slice(), [None, None, None].as_slice());
+    assert_eq!(rt; seen.closed.as_slice(), [11, 22].as_slice());
+    assert_eq!(rt; seen.count, Some(1));
+    Ok(())
+}
+
+// What came back from an audit without one lease of two, and what one with all leases gave.
+#[derive(Debug, Drop, PartialEq, Eq)]
+struct HandedBack {
+    leases_back: usize,
+    put_back: Option<u32>,
+    taken: Found<u32>,
+    count: Option<u64>,
+}
+
+fn audit_without_one<L: Ledger, R: Wait + Abort>(
+    rt: &R,
+    alloc: Global,
+    blank: Blank,
+) -> Result<HandedBack, NoMemory>
+    requires { (blank.name ≡ L.name) × (blank.parts ≡ L.parts) × (blank.parts ≡ LEDGER_PARTS) }
+{
+    let pool: Pool<u32, L> = Pool::new(alloc, blank, 2, 16)?;
+    let mut leases = Vec::with_capacity(alloc, 2)?;
+    let _first = take_one(rt, &pool, &mut leases);
+    let _second = take_one(rt, &pool, &mut leases);
+    let missing = leases.pop();
+    match pool.audit(leases) {
+        Ok(_) => panic!(rt; "an audit passed without a lease"),
+        Err((pool, leases, AuditFault::Missing)) => {
+            let leases_back = leases.len();
+            let put_back = match missing {
+                Some(lease) => pool.put(rt, 5, lease),
+                None => None,
+            };
+            Ok(HandedBack {
+                leases_back,
+                put_back,
+                taken: take_and_give_up(rt, &pool),
+                count: audited(rt, pool, leases),
+            })
+        }
+    }
+}
+
+#[test]
+fn audit_with_a_missing_lease_hands_all_back(rt: HostRuntime) -> Result<(), Fail> {
+    let blank = Blank::new(LEDGER_PARTS);
+    let seen = audit_without_one::<Brand, HostRuntime>(&rt, rt.alloc(), blank)?;
+    let wanted = HandedBack {
+        leases_back: 1,
+        put_back: None,
+        taken: Found::Idle(5),
+        count: Some(1),
+    };
+    assert_eq!(rt; seen, wanted);
+    Ok(())
+}
