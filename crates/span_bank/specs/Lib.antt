@@ -1,4 +1,4 @@
+pub mod History
 pub mod Replay
 pub mod Stakes
 pub mod State
-pub mod Sums

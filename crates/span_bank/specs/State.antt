@@ -1,5 +1,6 @@
 -- What a budget's state shows, which steps it takes, and what it is after them.
-use Rattle.std.specs.Prelude.{◌≡◌, ℕ, ◌+◌, ◌^◌, ◌≤◌, ◌<◌, List, [], ◌∷◌, ◌++◌, length, ◌==◌, if◌then◌else◌}
+use Rattle.std.specs.Prelude.{◌≡◌, ℕ, ◌+◌, ◌≤◌, ◌<◌, List, [], ◌∷◌, ◌++◌, length, ◌==◌, if◌then◌else◌}
+use Rattle.span_bank.specs.declared.step.TheConstants.{MAX_CAPACITY, MAX_ROWS}
 use Rattle.span_bank.specs.declared.step.Numbers.{Numbers}
 use Rattle.span_bank.specs.declared.step.BankStep.{BankStep}
 use Rattle.span_bank.specs.declared.step.BankStep.TheVariants.{Open, Grow, Shrink, Reclaim, Close}
@@ -16,12 +17,12 @@ pub record Journaled : Type 0 where
   pub room : ℕ
 
 -- the sums allow the step: what is taken off is there, and what is held stays within what is reserved
-abbrev pub SumsAllow : Numbers → BankStep → Type 0
-SumsAllow b (Open claim) = 1 ≤ claim
-SumsAllow b (Grow n) = (1 ≤ n) × (b.held + n ≤ b.claimed)
-SumsAllow b (Shrink n) = (1 ≤ n) × (n ≤ b.held)
-SumsAllow b (Reclaim old new) = (new ≤ old) × (b.held + old ≤ b.claimed + new)
-SumsAllow b (Close claim) = (1 ≤ b.rows) × (b.held + claim ≤ b.claimed)
+abbrev pub IsAllowed : Numbers → BankStep → Type 0
+IsAllowed b (Open claim) = 1 ≤ claim
+IsAllowed b (Grow n) = (1 ≤ n) × (b.held + n ≤ b.claimed)
+IsAllowed b (Shrink n) = (1 ≤ n) × (n ≤ b.held)
+IsAllowed b (Reclaim old new) = (new ≤ old) × (b.held + old ≤ b.claimed + new)
+IsAllowed b (Close claim) = (1 ≤ b.rows) × (b.held + claim ≤ b.claimed)
 
 -- an Open fits into the capacity and the rows; every other step does
 abbrev pub Fits : Journaled → BankStep → Type 0
@@ -59,20 +60,31 @@ stepped v (Shrink n) = appended v (Shrink n)
 stepped v (Reclaim old new) = if old == new then v else appended v (Reclaim old new)
 stepped v (Close claim) = appended v (Close claim)
 
+-- the state after all steps of a list
+abbrev pub run : Journaled → List BankStep → Journaled
+run v [] = v
+run v (s ∷ ss) = run (stepped v s) ss
+
 -- the sums allow each step of a list where it stands
 abbrev pub AreAllowed : Numbers → List BankStep → Type 0
 AreAllowed b [] = Unit {0}
-AreAllowed b (s ∷ ss) = SumsAllow b s × AreAllowed (after b s) ss
+AreAllowed b (s ∷ ss) = IsAllowed b s × AreAllowed (after b s) ss
 
--- what every state keeps: the journal's replay from its base is the state, and the totals are in order
+-- what the totals keep: held is at most claimed, claimed at most the capacity, and no number is above its greatest
+pub record IsBounded (b : Numbers) : Type 0 where
+  pub held : b.held ≤ b.claimed
+  pub claimed : b.claimed ≤ b.capacity
+  pub capacity : b.capacity ≤ MAX_CAPACITY
+  pub rows : b.rows ≤ MAX_ROWS
+
+-- what every state keeps: its journal's replay from its base is the totals, which are in their bounds, and the
+-- open rows are at most the most
 pub record IsSound (v : Journaled) : Type 0 where
   pub replayed : replay v.base v.steps ≡ v.numbers
   pub allowed : AreAllowed v.base v.steps
-  pub held : v.numbers.held ≤ v.numbers.claimed
-  pub claimed : v.numbers.claimed ≤ v.numbers.capacity
-  pub capacity : v.numbers.capacity ≤ 2 ^ 40
+  pub bounded : IsBounded v.numbers
   pub rows : v.numbers.rows ≤ v.most_rows
-  pub most_rows : v.most_rows ≤ 4096
+  pub most_rows : v.most_rows ≤ MAX_ROWS
   pub steps : length v.steps ≤ v.room
   pub room : 0 < v.room
 

@@ -2,11 +2,12 @@
 ghost use Rattle.std.specs.Prelude.{◌≡◌, ◌+◌, ◌-◌, ◌≤◌, ◌<◌, ◌^◌, IfOk, IfErr, IfSome, vec_len};
 ghost use Rattle.span_bank.specs.Stakes.{held_sum, claim_sum, CountsIn, lent, given_back};
 
+use crate::NoMemory;
 use crate::locked::Locked;
 use crate::stake::Stake;
 use crate::state::BankState;
-use crate::step::{Audit, AuditFault, Numbers, OpenFault};
-use std::alloc::{AllocError, Global};
+use crate::step::{Audit, AuditFault, MAX_CAPACITY, MAX_ROWS, Numbers, OpenFault};
+use std::alloc::Global;
 use std::sync::ledger::{Blank, Ledger};
 use std::sync::{Mutex, Wait};
 
@@ -17,7 +18,7 @@ pub type Book = Numbers;
 ///
 /// `H` and `F` name its ledgers, one for the bytes held and one for the rest of the claims. A
 /// ledger is picked once for each bank, so no stake of another bank fits the types of its calls.
-/// A call returns once it has got the lock, and then it is done with it before it returns.
+/// Each call takes the lock, makes one step, and lets go.
 #[derive(Drop)]
 pub struct Bank<H: Ledger, F: Ledger> {
     locked: Mutex<Locked<H, F>>,
@@ -34,12 +35,12 @@ impl<H: Ledger, F: Ledger> Bank<H, F> {
         capacity: u64,
         rows: u64,
         journal: usize,
-    ) -> Result<Bank<H, F>, AllocError>
+    ) -> Result<Bank<H, F>, NoMemory>
         requires held { (held.name ≡ H.name) × (held.parts ≡ H.parts) × (held.parts ≡ rows + 1) }
         requires free { (free.name ≡ F.name) × (free.parts ≡ F.parts) × (free.parts ≡ rows + 1) }
-        requires capacity { (1 ≤ capacity) × (capacity ≤ 2 ^ 40) }
-        requires rows { (1 ≤ rows) × (rows ≤ 4096) }
-        requires journal { (1 ≤ journal) × (journal ≤ 65536) }
+        requires capacity { (1 ≤ capacity) × (capacity ≤ MAX_CAPACITY) }
+        requires rows { (1 ≤ rows) × (rows ≤ MAX_ROWS) }
+        requires journal { 1 ≤ journal }
     {
         let state = BankState::new(alloc, capacity, rows, journal)?;
         Ok(Bank {

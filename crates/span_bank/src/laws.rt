@@ -1,10 +1,10 @@
-//! What holds of every list of steps.
-ghost use Rattle.std.specs.Prelude.{◌≡◌, List, ◌++◌};
+//! What holds of every list of steps of a budget, and so of every history.
+ghost use Rattle.std.specs.Prelude.{◌≡◌, List, [], ◌++◌, filter};
 ghost use Rattle.span_bank.specs.declared.step.Numbers.{Numbers};
 ghost use Rattle.span_bank.specs.declared.step.BankStep.{BankStep};
 ghost use Rattle.span_bank.specs.Replay.{replay};
-ghost use Rattle.span_bank.specs.State.{Journaled, AreAllowed, IsSound};
-ghost use Rattle.span_bank.specs.Sums.{AddsUp, run};
+ghost use Rattle.span_bank.specs.State.{Journaled, AreAllowed, IsSound, run};
+ghost use Rattle.span_bank.specs.History.{AddsUp, is_step, HasLast};
 
 /// A log that is cut in two replays as it did whole: its second part from the totals after its first.
 pub fn parts_replay_as_the_whole()
@@ -21,8 +21,10 @@ pub fn totals_are_sums()
         → AddsUp state.base state.steps state.numbers }
 {}
 
-/// However often a full journal was rebased, the totals are the replay of all steps ever taken.
+/// However often a full journal was rebased, it has the last of all steps ever taken, its base is
+/// what the earlier ones replay to, and the totals are what all of them replay to.
 pub fn rebasing_forgets_nothing()
-    ensures { (state : Journaled) (steps : List BankStep)
-        → (run state steps).numbers ≡ replay state.numbers steps }
+    ensures { (start : Journaled) (steps : List BankStep)
+        → start.base ≡ start.numbers → start.steps ≡ []
+        → HasLast start.numbers (filter is_step steps) (run start steps) }
 {}

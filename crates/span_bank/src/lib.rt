@@ -14,5 +14,5 @@ pub use crate::bank::{Bank, Book};
 pub use crate::locked::Locked;
 pub use crate::stake::Stake;
 pub use crate::state::BankState;
-pub use crate::step::{Audit, AuditFault, BankStep, Numbers, OpenFault};
+pub use crate::step::{Audit, AuditFault, BankStep, MAX_CAPACITY, MAX_ROWS, Numbers, OpenFault};
 pub use std::alloc::AllocError as NoMemory;

@@ -1,7 +1,7 @@
 //! What lies under the budget's lock: the totals with their journal, and the books of both ledgers.
-ghost use Rattle.std.specs.Prelude.{◌≡◌, ◌+◌, ◌-◌, ◌≤◌, ◌<◌, ◌↔◌, IsOk, IfOk, IfErr, OnOk, OnErr, vec_len};
+ghost use Rattle.std.specs.Prelude.{◌≡◌, ◌+◌, ◌-◌, ◌≤◌, ◌<◌, ◌↔◌, IsOk, IsErr, IfOk, IfErr, OnOk, OnErr, vec_len};
 ghost use Rattle.span_bank.specs.declared.step.BankStep.TheVariants.{Open, Grow, Shrink, Reclaim, Close};
-ghost use Rattle.span_bank.specs.State.{SumsAllow, Fits, Refuses, stepped, IsSound};
+ghost use Rattle.span_bank.specs.State.{IsAllowed, Fits, Refuses, stepped, IsSound};
 ghost use Rattle.span_bank.specs.Stakes.{held_sum, claim_sum, CountsIn};
 
 use crate::stake::Stake;
@@ -43,7 +43,7 @@ impl<H: Ledger, F: Ledger> Model for Locked<H, F> {
 
 // Takes a step that is no Open, so that none is refused.
 fn take(state: &mut BankState, step: BankStep)
-    requires sums { SumsAllow state.old.numbers step }
+    requires sums { IsAllowed state.old.numbers step }
     requires fits { Fits state.old step }
     ensures taken { state.new ≡ stepped state.old step }
     ensures sound { IsSound state.new }
@@ -242,8 +242,8 @@ impl<H: Ledger, F: Ledger> Locked<H, F> {
         ensures book { IfOk result (λ a. (a.rows ≡ self.numbers.rows)
             × (a.held ≡ self.numbers.held) × (a.claimed ≡ self.numbers.claimed)) }
 
-        // Missing comes only where fewer stakes came than rows are open, and all is as before.
-        ensures missing { IfErr result (λ e. vec_len stakes < self.numbers.rows) }
+        // A stake is missing exactly where fewer came than rows are open, and all is as before.
+        ensures missing { IsErr result ↔ (vec_len stakes < self.numbers.rows) }
         ensures back { IfErr result (λ e. (e.0 ≡ self) × (e.1.items ≡ stakes.items)) }
         ensures fewer { IfErr result (λ e. vec_len stakes + 1 < H.parts) }
     {

@@ -1,10 +1,10 @@
 //! The totals of a budget with the log that replays to them. Everything that changes the totals stands here, and nothing here knows a lock.
 ghost use Rattle.std.specs.Prelude.{◌≡◌, ◌≤◌, ◌<◌, ◌^◌, ◌↔◌, [], length, IsOk, IfOk, IfErr, OnOk, OnErr, slice_get};
-ghost use Rattle.span_bank.specs.Replay.{after};
-ghost use Rattle.span_bank.specs.State.{SumsAllow, Fits, Refuses, rebased, pushed, stepped, opening, IsSound};
+ghost use Rattle.span_bank.specs.State.{IsAllowed, Fits, Refuses, rebased, pushed, stepped, opening, IsSound};
 
-use crate::step::{BankStep, Numbers, OpenFault};
-use std::alloc::{AllocError, Global};
+use crate::NoMemory;
+use crate::step::{BankStep, MAX_CAPACITY, MAX_ROWS, Numbers, OpenFault};
+use std::alloc::Global;
 use std::marker::Model;
 
 /// The totals now, and the journal: the last steps, and the base, a checkpoint that they replay from.
@@ -28,39 +28,6 @@ impl Model for BankState {
     ghost invariant = { λ s. IsSound (record { numbers = s.numbers; most_rows = s.most_rows; base = s.base; steps = s.journal.items; room = s.room }) × (s.room ≤ vec_capacity s.journal) };
 }
 
-// The totals after a step that they allow.
-fn numbers_after(now: Numbers, step: BankStep) -> Numbers
-    requires sums { SumsAllow now step }
-    requires small { (now.held < 2 ^ 62) × (now.claimed < 2 ^ 62) × (now.rows < 2 ^ 62) }
-    requires after { (after now step).claimed < 2 ^ 62 }
-    ensures { result ≡ after now step }
-{
-    match step {
-        BankStep::Open(claim) => Numbers {
-            rows: now.rows + 1,
-            claimed: now.claimed + claim,
-            ..now
-        },
-        BankStep::Grow(n) => Numbers {
-            held: now.held + n,
-            ..now
-        },
-        BankStep::Shrink(n) => Numbers {
-            held: now.held - n,
-            ..now
-        },
-        BankStep::Reclaim(old, new) => Numbers {
-            claimed: now.claimed - (old - new),
-            ..now
-        },
-        BankStep::Close(claim) => Numbers {
-            rows: now.rows - 1,
-            claimed: now.claimed - claim,
-            ..now
-        },
-    }
-}
-
 impl BankState {
     /// A budget of `capacity` bytes with no open reservation, and room for a journal of so many steps.
     /// At most `rows` reservations can be open. `Err` where there is no memory for the journal.
@@ -69,10 +36,10 @@ impl BankState {
         capacity: u64,
         rows: u64,
         journal: usize,
-    ) -> Result<BankState, AllocError>
-        requires capacity { (1 ≤ capacity) × (capacity ≤ 2 ^ 40) }
-        requires rows { (1 ≤ rows) × (rows ≤ 4096) }
-        requires journal { (1 ≤ journal) × (journal ≤ 65536) }
+    ) -> Result<BankState, NoMemory>
+        requires capacity { (1 ≤ capacity) × (capacity ≤ MAX_CAPACITY) }
+        requires rows { (1 ≤ rows) × (rows ≤ MAX_ROWS) }
+        requires journal { 1 ≤ journal }
         ensures { IfOk result (λ s. s ≡ opening capacity rows journal) }
     {
         let numbers = Numbers {
@@ -101,21 +68,20 @@ impl BankState {
         ensures sound { IsSound self.new }
     {
         if self.journal.len() == self.room {
-            let numbers = self.numbers;
-            self.base = numbers;
+            self.base = self.numbers;
             self.journal.clear();
         }
     }
 
     // Takes a step that fits, where the journal has room.
     fn push(&mut self, step: BankStep)
-        requires sums { SumsAllow self.old.numbers step }
+        requires sums { IsAllowed self.old.numbers step }
         requires fits { Fits self.old step }
         requires room { length self.old.steps < self.old.room }
         ensures done { self.new ≡ pushed self.old step }
         ensures sound { IsSound self.new }
     {
-        self.numbers = numbers_after(self.numbers, step);
+        self.numbers = self.numbers.after(step);
         self.journal.push_reserved(step);
     }
 
@@ -123,7 +89,7 @@ impl BankState {
     /// A `Reclaim` to the present size is no step, and changes nothing. The sums have to allow the step.
     /// `Full` is answered where an `Open` would pass the capacity, and else `NoRow` where each slot is taken.
     pub fn apply(&mut self, step: BankStep) -> Result<(), OpenFault>
-        requires { SumsAllow self.old.numbers step }
+        requires { IsAllowed self.old.numbers step }
         ensures ok { IsOk result ↔ Fits self.old step }
         ensures taken { OnOk result (self.new ≡ stepped self.old step) }
         ensures sound { IsSound self.new }

@@ -1,4 +1,15 @@
 //! The totals of a budget, the steps that change them, and why a call is refused.
+ghost use Rattle.std.specs.Prelude.{◌≡◌, ◌≤◌};
+ghost use Rattle.span_bank.specs.Replay.{after};
+ghost use Rattle.span_bank.specs.State.{IsAllowed, IsBounded};
+
+use thiserror::Error;
+
+/// The greatest capacity of a budget, in bytes.
+pub const MAX_CAPACITY: u64 = 1 << 40;
+
+/// The most reservations that a budget can have open.
+pub const MAX_ROWS: u64 = 4096;
 
 /// The totals of a budget: reservation slots in use, and the rest in bytes.
 #[derive(Clone, Copy, PartialEq, Eq, Debug)]
@@ -29,11 +40,13 @@ pub enum BankStep {
 }
 
 /// Why a reservation was refused. Where both reasons stand, it is the first.
-#[derive(Clone, Copy, PartialEq, Eq, Debug)]
+#[derive(Clone, Copy, PartialEq, Eq, Debug, Error)]
 pub enum OpenFault {
     /// The reservations would pass the capacity; this many bytes are reserved already.
+    #[error("{claimed} bytes are reserved already")]
     Full { claimed: u64 },
     /// Each reservation slot is taken.
+    #[error("no reservation slot is free")]
     NoRow,
 }
 
@@ -46,8 +59,44 @@ pub struct Audit {
 }
 
 /// Why an audit was refused.
-#[derive(Clone, Copy, PartialEq, Eq, Debug)]
+#[derive(Clone, Copy, PartialEq, Eq, Debug, Error)]
 pub enum AuditFault {
     /// Fewer reservations were handed in than are open.
+    #[error("a reservation is missing")]
     Missing = 1,
+}
+
+impl Numbers {
+    // The totals after a step that they allow.
+    pub(crate) fn after(self, step: BankStep) -> Numbers
+        requires allowed { IsAllowed self step }
+        requires bounded { IsBounded self }
+        requires fits { (after self step).claimed ≤ MAX_CAPACITY }
+        ensures { result ≡ after self step }
+    {
+        match step {
+            BankStep::Open(claim) => Numbers {
+                rows: self.rows + 1,
+                claimed: self.claimed + claim,
+                ..self
+            },
+            BankStep::Grow(n) => Numbers {
+                held: self.held + n,
+                ..self
+            },
+            BankStep::Shrink(n) => Numbers {
+                held: self.held - n,
+                ..self
+            },
+            BankStep::Reclaim(old, new) => Numbers {
+                claimed: self.claimed - (old - new),
+                ..self
+            },
+            BankStep::Close(claim) => Numbers {
+                rows: self.rows - 1,
+                claimed: self.claimed - claim,
+                ..self
+            },
+        }
+    }
 }

@@ -1,7 +1,9 @@
 ghost use Rattle.std.specs.Prelude.{◌≡◌, ◌+◌};
 
-use crate::{Audit, AuditFault, Bank, BankState, BankStep, Book, Numbers, OpenFault, Stake};
-use std::alloc::{AllocError, Global};
+use crate::{
+    Audit, AuditFault, Bank, BankState, BankStep, Book, NoMemory, Numbers, OpenFault, Stake,
+};
+use std::alloc::Global;
 use std::marker::Brand;
 use std::sync::Wait;
 use std::sync::ledger::{Blank, Ledger};
@@ -44,6 +46,17 @@ fn reclaim_to_the_present_size_is_no_step(rt: HostRuntime) -> Result<(), Fail> {
     Ok(())
 }
 
+#[test]
+fn faults_say_what_happened(rt: HostRuntime) -> Result<(), Fail> {
+    let full = format!(in rt.alloc(); "{}", OpenFault::Full { claimed: 60 })?;
+    assert_eq!(rt; full.as_str(), "60 bytes are reserved already");
+    let no_row = format!(in rt.alloc(); "{}", OpenFault::NoRow)?;
+    assert_eq!(rt; no_row.as_str(), "no reservation slot is free");
+    let missing = format!(in rt.alloc(); "{}", AuditFault::Missing)?;
+    assert_eq!(rt; missing.as_str(), "a reservation is missing");
+    Ok(())
+}
+
 // Ends a reservation, if one was made.
 fn end<H: Ledger, F: Ledger>(
     rt: &impl Wait,
@@ -63,13 +76,13 @@ fn end<H: Ledger, F: Ledger>(
     }
 }
 
-// What five calls answer; the first reservation ends before the last one is made.
+// What four calls of `open` answer; the first reservation ends before the last one is made.
 fn fill<H: Ledger, F: Ledger, R: Wait>(
     rt: &R,
     alloc: Global,
     held: Blank,
     free: Blank,
-) -> Result<[Option<OpenFault>; 4], AllocError>
+) -> Result<[Option<OpenFault>; 4], NoMemory>
     requires held { (held.name ≡ H.name) × (held.parts ≡ H.parts) × (held.parts ≡ 5) }
     requires free { (free.name ≡ F.name) × (free.parts ≡ F.parts) × (free.parts ≡ 5) }
 {
@@ -101,7 +114,7 @@ fn crowd<H: Ledger, F: Ledger, R: Wait>(
     alloc: Global,
     held: Blank,
     free: Blank,
-) -> Result<[Option<OpenFault>; 3], AllocError>
+) -> Result<[Option<OpenFault>; 3], NoMemory>
     requires held { (held.name ≡ H.name) × (held.parts ≡ H.parts) × (held.parts ≡ 3) }
     requires free { (free.name ≡ F.name) × (free.parts ≡ F.parts) × (free.parts ≡ 3) }
 {
@@ -134,7 +147,7 @@ fn books<H: Ledger, F: Ledger, R: Wait>(
     alloc: Global,
     held: Blank,
     free: Blank,
-) -> Result<Option<[Book; 3]>, AllocError>
+) -> Result<Option<[Book; 3]>, NoMemory>
     requires held { (held.name ≡ H.name) × (held.parts ≡ H.parts) × (held.parts ≡ 5) }
     requires free { (free.name ≡ F.name) × (free.parts ≡ F.parts) × (free.parts ≡ 5) }
 {
@@ -238,7 +251,7 @@ fn miss<H: Ledger, F: Ledger, R: Wait>(
     alloc: Global,
     held: Blank,
     free: Blank,
-) -> Result<(Option<AuditFault>, usize, Option<Audit>), AllocError>
+) -> Result<(Option<AuditFault>, usize, Option<Audit>), NoMemory>
     requires held { (held.name ≡ H.name) × (held.parts ≡ H.parts) × (held.parts ≡ 5) }
     requires free { (free.name ≡ F.name) × (free.parts ≡ F.parts) × (free.parts ≡ 5) }
 {
@@ -307,7 +320,7 @@ fn share<H: Ledger + Send + Sync, F: Ledger + Send + Sync, R: Threads + Wait + S
     alloc: Global,
     held: Blank,
     free: Blank,
-) -> Result<(Option<AuditFault>, usize, Option<Audit>), AllocError>
+) -> Result<(Option<AuditFault>, usize, Option<Audit>), NoMemory>
     requires held { (held.name ≡ H.name) × (held.parts ≡ H.parts) × (held.parts ≡ 5) }
     requires free { (free.name ≡ F.name) × (free.parts ≡ F.parts) × (free.parts ≡ 5) }
 {

@@ -1,9 +1,10 @@
--- What a list of steps comes to: sums over its steps, whatever their order, and the state after all of them.
-use Rattle.std.specs.Prelude.{◌≡◌, ℕ, ◌+◌, ◌-◌, List, [], ◌∷◌, sum_by}
+-- What is said of all steps that a budget ever took: sums over them, whatever their order, and what the journal has of them.
+use Rattle.std.specs.Prelude.{◌≡◌, ℕ, ◌+◌, ◌-◌, Bool, true, false, ◌==◌, if◌then◌else◌, List, ◌++◌, sum_by}
 use Rattle.span_bank.specs.declared.step.Numbers.{Numbers}
 use Rattle.span_bank.specs.declared.step.BankStep.{BankStep}
 use Rattle.span_bank.specs.declared.step.BankStep.TheVariants.{Open, Grow, Shrink, Reclaim, Close}
-use Rattle.span_bank.specs.State.{Journaled, stepped}
+use Rattle.span_bank.specs.Replay.{replay}
+use Rattle.span_bank.specs.State.{Journaled}
 
 -- rows that a step opens
 abbrev pub opened : BankStep → ℕ
@@ -60,7 +61,18 @@ pub record AddsUp (b : Numbers) (steps : List BankStep) (n : Numbers) : Type 0 w
   pub claimed : n.claimed + sum_by released steps ≡ b.claimed + sum_by reserved steps
   pub capacity : n.capacity ≡ b.capacity
 
--- the state after all steps of a list, its journal rebased as often as it was full
-abbrev pub run : Journaled → List BankStep → Journaled
-run v [] = v
-run v (s ∷ ss) = run (stepped v s) ss
+-- a Reclaim to the present claim is no step
+abbrev pub is_step : BankStep → Bool
+is_step (Open claim) = true
+is_step (Grow n) = true
+is_step (Shrink n) = true
+is_step (Reclaim old new) = if old == new then false else true
+is_step (Close claim) = true
+
+-- of all these steps the journal has the last ones; its base is what the earlier ones replay to, and the
+-- totals are what all of them do
+pub record HasLast (start : Numbers) (past : List BankStep) (v : Journaled) : Type 0 where
+  pub earlier : List BankStep
+  pub joined : past ≡ earlier ++ v.steps
+  pub base : v.base ≡ replay start earlier
+  pub numbers : v.numbers ≡ replay start past
