@@ -68,138 +68,108 @@ fn is_given(state: &State, tape: Tape, place: u64, events: &[Event]) -> bool {
     }
 }
 
+/// A transaction, a place of one of its bodies, and the script that is wanted for it.
+type Case<'a> = (&'a str, Transaction<'a>, Tape, u64, &'a [Event]);
+
+/// The first case whose script is another one, or is refused.
+fn first_wrong<'a>(rt: &impl Abort, cases: &[Case<'a>]) -> Option<&'a str> {
+    for (name, transaction, tape, place, events) in cases {
+        if !is_given(&begin(rt, *transaction), *tape, *place, events) {
+            return Some(name);
+        }
+    }
+    None
+}
+
 #[test]
-fn scripts_by_position(rt: HostRuntime) {
+fn scripts_in_a_preview(rt: HostRuntime) {
     held_is_needed();
-    let preview = unsized_body(Preview(4), &[In(6), Svc(4)]);
-    let cases: [(&str, Transaction<'_>, Tape, u64, &[Event]); 12] = [
-        ("in a preview", preview, Original, 5, &[Stop, NoMod, Usr(6)]),
+    let open = unsized_body(Preview(4), &[In(6), Svc(4)]);
+    let short = sized_body(Preview(4), false, 3, &[In(2)]);
+    let six = [In(1), End, Svc(3), Stop, NoMod, Usr(2)];
+    let empty = unsized_body(Preview(0), &[In(2)]);
+    let waiting = unsized_body(Preview(4), &[In(6), Svc(4), Stop]);
+    let cases: [Case<'_>; 4] = [
+        ("full", open, Original, 5, &[Stop, NoMod, Usr(6)]),
+        ("of a longer body", short, Original, 1, &six),
+        ("of no bytes", empty, Original, 1, &[Stop, NoMod, Usr(2)]),
         (
-            "known length, preview not full",
-            sized_body(Preview(4), false, 3, &[In(2)]),
-            Original,
-            1,
-            &[In(1), End, Svc(3), Stop, NoMod, Usr(2)],
-        ),
-        (
-            "preview of no bytes",
-            unsized_body(Preview(0), &[In(2)]),
-            Original,
-            1,
-            &[Stop, NoMod, Usr(2)],
-        ),
-        (
-            "preview awaits its response",
-            unsized_body(Preview(4), &[In(6), Svc(4), Stop]),
+            "awaits its response",
+            waiting,
             Original,
             0,
             &[NoMod, Usr(1)],
         ),
-        (
-            "after 100",
-            unsized_body(Preview(4), &[In(6), Svc(4), Stop, Continue]),
-            Original,
-            5,
-            &[Svc(2)],
-        ),
+    ];
+    assert_eq!(rt; first_wrong(&rt, &cases), None);
+}
+
+#[test]
+fn scripts_before_a_final_response(rt: HostRuntime) {
+    let resumed = unsized_body(Preview(4), &[In(6), Svc(4), Stop, Continue]);
+    let allowed = sized_body(Preview(4), true, 6, &[In(6), Svc(4), Stop, Continue]);
+    let whole = unsized_body(Whole, &[In(8), Svc(3)]);
+    let whole_allowed = sized_body(Whole, true, 8, &[In(8), Svc(3)]);
+    let cases: [Case<'_>; 4] = [
+        ("after 100", resumed, Original, 5, &[Svc(2)]),
         (
             "after 100, 204 allowed",
-            sized_body(Preview(4), true, 6, &[In(6), Svc(4), Stop, Continue]),
+            allowed,
             Original,
             3,
             &[NoMod, Usr(4)],
         ),
-        (
-            "whole",
-            unsized_body(Whole, &[In(8), Svc(3)]),
-            Original,
-            3,
-            &[Svc(1)],
-        ),
+        ("whole", whole, Original, 3, &[Svc(1)]),
         (
             "whole, 204 allowed",
-            sized_body(Whole, true, 8, &[In(8), Svc(3)]),
+            whole_allowed,
             Original,
             0,
             &[NoMod, Usr(1)],
         ),
+    ];
+    assert_eq!(rt; first_wrong(&rt, &cases), None);
+}
+
+#[test]
+fn scripts_once_a_message_is_chosen(rt: HostRuntime) {
+    let modified = unsized_body(Whole, &[In(8), Svc(3), Mod(true)]);
+    let unmodified = sized_body(Whole, true, 8, &[In(8), End, Svc(3), NoMod, Usr(2)]);
+    let plain = unsized_body(Plain, &[In(3), Usr(1)]);
+    let adapted = unsized_body(Whole, &[In(8), Mod(true), Ad(4), Usr(1)]);
+    let cases: [Case<'_>; 4] = [
         (
             "200, and the rest still goes to the service",
-            unsized_body(Whole, &[In(8), Svc(3), Mod(true)]),
+            modified,
             Original,
             5,
             &[Svc(3)],
         ),
-        (
-            "after 204",
-            sized_body(Whole, true, 8, &[In(8), End, Svc(3), NoMod, Usr(2)]),
-            Original,
-            7,
-            &[Usr(6)],
-        ),
-        (
-            "not adapted",
-            unsized_body(Plain, &[In(3), Usr(1)]),
-            Original,
-            2,
-            &[Usr(2)],
-        ),
-        (
-            "adapted body",
-            unsized_body(Whole, &[In(8), Mod(true), Ad(4), Usr(1)]),
-            Adapted,
-            3,
-            &[Usr(3)],
-        ),
+        ("after 204", unmodified, Original, 7, &[Usr(6)]),
+        ("not adapted", plain, Original, 2, &[Usr(2)]),
+        ("adapted body", adapted, Adapted, 3, &[Usr(3)]),
     ];
-    for (name, transaction, tape, place, events) in cases {
-        assert!(rt;
-            is_given(&begin(&rt, transaction), tape, place, events),
-            "{name}"
-        );
-    }
+    assert_eq!(rt; first_wrong(&rt, &cases), None);
 }
 
 #[test]
 fn no_script_for_what_was_let_go(rt: HostRuntime) {
-    let cases: [(&str, Transaction<'_>, Tape, u64); 6] = [
-        (
-            "sent, then 100",
-            unsized_body(Preview(4), &[In(6), Svc(4), Stop, Continue]),
-            Original,
-            3,
-        ),
-        (
-            "not come yet",
-            unsized_body(Preview(4), &[In(6), Svc(4), Stop, Continue]),
-            Original,
-            6,
-        ),
-        (
-            "200 to a preview",
-            unsized_body(Preview(4), &[In(6), Svc(4), Stop, Mod(true)]),
-            Original,
-            5,
-        ),
-        (
-            "delivered",
-            unsized_body(Whole, &[In(8), Mod(true), Ad(4), Usr(1)]),
-            Adapted,
-            0,
-        ),
-        ("no adapted body", unsized_body(Whole, &[In(8)]), Adapted, 0),
-        (
-            "failed",
-            unsized_body(Plain, &[In(3), Fail(Cause::Source)]),
-            Original,
-            0,
-        ),
+    let resumed = unsized_body(Preview(4), &[In(6), Svc(4), Stop, Continue]);
+    let modified = unsized_body(Preview(4), &[In(6), Svc(4), Stop, Mod(true)]);
+    let adapted = unsized_body(Whole, &[In(8), Mod(true), Ad(4), Usr(1)]);
+    let whole = unsized_body(Whole, &[In(8)]);
+    let failed = unsized_body(Plain, &[In(3), Fail(Cause::Source)]);
+    let cases = [
+        ("sent, then 100", resumed, Original, 3),
+        ("not come yet", resumed, Original, 6),
+        ("200 to a preview", modified, Original, 5),
+        ("delivered", adapted, Adapted, 0),
+        ("no adapted body", whole, Adapted, 0),
+        ("failed", failed, Original, 0),
     ];
     for (name, transaction, tape, place) in cases {
-        assert!(rt;
-            witness(&begin(&rt, transaction), tape, place).is_none(),
-            "{name}"
-        );
+        let script = witness(&begin(&rt, transaction), tape, place);
+        assert!(rt; script.is_none(), "{name}");
     }
 }
 
