@@ -21,13 +21,13 @@ use Rattle.encapsulated.proofs.RowLemmas.{whole_body}
 use Rattle.encapsulated.proofs.ZipLemmas.{AllZip-unique}
 
 -- the part of this name
-part_of_name : List ℕ → Part
+pub part_of_name : List ℕ → Part
 part_of_name name =
     cond (bytes_eq name (codes "req-hdr")) ReqHdr (cond (bytes_eq name (codes "res-hdr")) ResHdr
     (cond (bytes_eq name (codes "req-body")) (Body ReqBody) (cond (bytes_eq name (codes "res-body")) (Body ResBody)
     (cond (bytes_eq name (codes "opt-body")) (Body OptBody) (Body NullBody)))))
 
-named_so : (part : Part) → part_of_name (map to_ascii_lowercase (name_of part)) ≡ part
+pub named_so : (part : Part) → part_of_name (map to_ascii_lowercase (name_of part)) ≡ part
 unfolding part_of_name
 named_so ReqHdr = refl
 named_so ResHdr = refl

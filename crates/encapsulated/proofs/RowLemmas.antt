@@ -120,9 +120,13 @@ ascends-front : (parts more : List Part) → ascends (parts ++ more) ≡ true �
 ascends-front [] more e = refl
 ascends-front (p ∷ parts) more e = rises_from-front p parts more e
 
+-- the first parts of an allowed list are in order
+pub front_ascends : (m : Method) (d : Direction) (parts : List Part) → IsFront (allowed m d) parts → ascends parts ≡ true
+front_ascends m d parts h = ascends-front parts h.0 (each_list ascends (allowed m d) (parts ++ h.0) h.1.0 h.1.1 h.1.2 (allowed-ascends m d))
+
 -- parts out of order begin no allowed list
 pub no_front : (m : Method) (d : Direction) (parts : List Part) → ¬ (IsTrue (ascends parts)) → ¬ (IsFront (allowed m d) parts)
-no_front m d parts out h = out (ascends-front parts h.0 (each_list ascends (allowed m d) (parts ++ h.0) h.1.0 h.1.1 h.1.2 (allowed-ascends m d)))
+no_front m d parts out h = out (front_ascends m d parts h)
 
 nothing_higher : (body : BodyPart) (more : List Part) → rises_from (Body body) more ≡ true → more ≡ []
 nothing_higher body [] e = refl

@@ -1,5 +1,5 @@
 -- What the laws say of lists.
-use Rattle.std.specs.Prelude.{◌≡◌, ℕ, ◌^◌, ◌<◌, ◌≤◌, List, IfSome, IfNone}
+use Rattle.std.specs.Prelude.{◌≡◌, ℕ, ◌^◌, ◌<◌, ◌≤◌, ◌⊎◌, List, IfSome, IfNone}
 use Rattle.encapsulated.specs.declared.fault.EncFault.{EncFault}
 use Rattle.encapsulated.specs.declared.message.Method.{Method}
 use Rattle.encapsulated.specs.declared.message.Direction.{Direction}
@@ -7,8 +7,9 @@ use Rattle.encapsulated.specs.declared.offsets.Layout.{Layout}
 use Rattle.encapsulated.specs.Layouts.{IsLayout}
 use Rattle.encapsulated.specs.Faults.{Stands}
 
--- of all layouts and faults, at most one fits the text
+-- of all layouts and faults, just one fits the text
 pub record HasOneAnswer (method : Method) (direction : Direction) (text : List ℕ) : Type 0 where
+  pub some : ((layout : Layout) × IsLayout method direction text layout) ⊎ ((fault : EncFault) × Stands fault method direction text)
   pub one_layout : (layout other : Layout) → IsLayout method direction text layout → IsLayout method direction text other → layout ≡ other
   pub one_fault : (fault other : EncFault) → Stands fault method direction text → Stands other method direction text → fault ≡ other
   pub not_both : (layout : Layout) (fault : EncFault) → IsLayout method direction text layout → ¬ (Stands fault method direction text)

@@ -18,7 +18,7 @@ pub fn reads_one_way()
         → IsLayout method direction text layout → IsLayout other opposite text same → layout ≡ same }
 {}
 
-/// A text is one layout of a message at most, or one fault stands at most, and never both.
+/// A text is one layout of a message, or one fault stands; never both.
 pub fn has_one_answer()
     ensures { (method : Method) (direction : Direction) (text : List ℕ) → HasOneAnswer method direction text }
 {}

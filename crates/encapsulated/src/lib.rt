@@ -2,7 +2,7 @@
 //!
 //! [`read`] takes the value of an Encapsulated field and answers a [`Layout`], or the first
 //! [`EncFault`] that stands; it takes no memory. [`write`] makes the text of a layout.
-//! Offsets are bytes from the start of the encapsulated message.
+//! Offsets are bytes from the first one behind the ICAP head.
 //!
 //! Both know nothing of fields: what a missing or a second Encapsulated field means is for the caller to
 //! say. An empty value is [`EncFault::Syntax`].

@@ -14,6 +14,8 @@ pub enum Method {
 /// Whether the message is a request to a service or its response.
 #[derive(Clone, Copy, Debug, PartialEq, Eq)]
 pub enum Direction {
+    /// From the ICAP client to the service.
     Request,
+    /// From the service back.
     Response,
 }

@@ -4,7 +4,9 @@ ghost use Rattle.encapsulated.specs.Layouts.{Rises, offsets, parts_of};
 
 use crate::parts::BodyPart;
 
-/// Where each part of an encapsulated message begins, in bytes from the message's start.
+/// Where each part of an encapsulated message begins, in bytes behind the ICAP head (RFC 3507, section 4.4.1).
+///
+/// A head is as long as the next offset minus its own; how long a body is its chunks say.
 #[derive(Clone, Copy, Debug, PartialEq, Eq)]
 pub struct Layout {
     /// The head of an HTTP request, where there is one.
@@ -13,7 +15,7 @@ pub struct Layout {
     pub res_hdr: Option<u64>,
     /// Which body follows.
     pub body: BodyPart,
-    /// Where the body begins; of a null-body, where it would.
+    /// Where the body begins; of a null-body, where the last head ends.
     pub offset: u64,
 }
 

@@ -18,13 +18,14 @@ pub enum BodyPart {
     NullBody,
 }
 
-/// A part that a list names.
+/// A part that a list names (RFC 3507, section 4.4.1).
 #[derive(Clone, Copy, Debug, PartialEq, Eq)]
 pub enum Part {
     /// `req-hdr`: the head of an HTTP request.
     ReqHdr,
     /// `res-hdr`: the head of an HTTP response.
     ResHdr,
+    /// The body, or that there is none.
     Body(BodyPart),
 }
 

@@ -29,6 +29,7 @@ pub fn read(method: Method, direction: Direction, list: &[u8]) -> Result<Layout,
     find_layout(method, direction, list)
 }
 
+/// The layout, or the first fault that stands.
 fn find_layout(method: Method, direction: Direction, list: &[u8]) -> Result<Layout, EncFault>
     ensures ok { IfOk result (IsLayout method direction list.now) }
     ensures err { IfErr result (λ fault. Stands fault method direction list.now) }
