@@ -1,4 +1,4 @@
--- Why an event is refused: each reason, where it stands, and the first of them.
+-- Why an event is refused: the table of faults, and the first that stands.
 use Rattle.std.specs.Prelude.{ℕ, ◌+◌, ◌^◌, ◌==◌, nat_lt, nat_le, Bool, false, not, ◌&&◌, ◌||◌, List, [], ◌∷◌, Option, Some, None, find, codes}
 use Rattle.trace_core.specs.declared.history.Event.{Event}
 use Rattle.trace_core.specs.declared.history.Event.TheVariants.{In, End, Svc, Stop, Continue, NoMod, Mod, Ad, AdEnd, Usr, Done}
@@ -7,23 +7,28 @@ use Rattle.trace_core.specs.declared.history.StepFault.TheVariants.{Closed, Coun
 use Rattle.trace_core.specs.History.{Seen, is_plain, is_whole, is_preview}
 use Rattle.trace_core.specs.Legal.{open_preview}
 
+-- a number that is there passes the test
 abbrev pub is_some_and : Option ℕ → (ℕ → Bool) → Bool
 is_some_and None test = false
 is_some_and (Some n) test = test n
 
--- no count to be added to the sum
+-- not at least 1, or not to be added to the sum within 2^62 - 1
 abbrev pub is_no_count : ℕ → ℕ → Bool
 is_no_count sum n = n == 0 || nat_le (2 ^ 62) (sum + n)
 
+-- the next hop gets the original
 abbrev pub chooses_original : Seen → Bool
 chooses_original x = is_plain x.plan.kind || x.no_mod
 
+-- a final response stands
 abbrev pub is_final : Seen → Bool
 is_final x = x.no_mod || x.modified
 
+-- nothing more goes to the service: after 204, after a 200 to a preview, once the adapted message is over, after the last Stop
 abbrev pub is_sending_over : Seen → Bool
 is_sending_over x = x.no_mod || x.mod_in_preview || x.adapted_over || x.last_stop
 
+-- a count of 0, or a sum of its kind above 2^62 - 1
 abbrev pub count_fault : Seen → Event → Bool
 count_fault x (In n) = is_no_count x.received n
 count_fault x (Svc n) = is_no_count x.sent n
@@ -31,6 +36,7 @@ count_fault x (Ad n) = is_no_count x.adapted_received n
 count_fault x (Usr n) = is_no_count (x.original_delivered + x.adapted_delivered) n
 count_fault x _ = false
 
+-- after the end of that body
 abbrev pub ended_fault : Seen → Event → Bool
 ended_fault x (In n) = x.ended
 ended_fault x End = x.ended
@@ -38,10 +44,12 @@ ended_fault x (Ad n) = x.adapted_over
 ended_fault x AdEnd = x.adapted_over
 ended_fault x _ = false
 
+-- past the known length
 abbrev pub past_length_fault : Seen → Event → Bool
 past_length_fault x (In n) = is_some_and x.plan.len (λ len. nat_lt len (x.received + n))
 past_length_fault x _ = false
 
+-- past what came
 abbrev pub no_such_place_fault : Seen → Event → Bool
 no_such_place_fault x (Svc n) = nat_lt x.received (x.sent + n)
 no_such_place_fault x (Usr n) =
@@ -49,10 +57,12 @@ no_such_place_fault x (Usr n) =
     || (x.modified && nat_lt x.adapted_received (x.adapted_delivered + n))
 no_such_place_fault x _ = false
 
+-- past the preview's size, before its first Stop
 abbrev pub past_preview_fault : Seen → Event → Bool
-past_preview_fault x (Svc n) = is_some_and (open_preview x) (λ p. nat_lt p (x.sent + n))
+past_preview_fault x (Svc n) = is_some_and (open_preview x) (λ size. nat_lt size (x.sent + n))
 past_preview_fault x _ = false
 
+-- under Plain, or where sending is over
 abbrev pub stopped_fault : Seen → Event → Bool
 stopped_fault x (Svc n) = is_plain x.plan.kind || is_sending_over x
 stopped_fault x Stop = is_plain x.plan.kind || is_sending_over x
@@ -62,6 +72,7 @@ stopped_fault x _ = false
 abbrev pub is_waiting : Seen → Bool
 is_waiting x = is_preview x.plan.kind && x.stopped && not x.ieof && not x.continued
 
+-- the source's body has ended, and all of it went to the service
 abbrev pub is_all_sent : Seen → Bool
 is_all_sent x = x.ended && (x.sent == x.received)
 
@@ -69,35 +80,41 @@ is_all_sent x = x.ended && (x.sent == x.received)
 abbrev pub is_early : Seen → Bool
 is_early x = is_preview x.plan.kind && not x.stopped
 
+-- before the reply to a preview, before all is sent that a Stop ends, or a reply before the preview's first Stop
 abbrev pub too_soon_fault : Seen → Event → Bool
 too_soon_fault x (Svc n) = is_waiting x
 too_soon_fault x Stop =
-    is_waiting x || not (is_all_sent x || is_some_and (open_preview x) (λ p. x.sent == p))
+    is_waiting x || not (is_all_sent x || is_some_and (open_preview x) (λ size. x.sent == size))
 too_soon_fault x Continue = is_early x
 too_soon_fault x NoMod = is_early x
 too_soon_fault x (Mod body) = is_early x
 too_soon_fault x _ = false
 
+-- 100 where there is no preview; 204 and 200 under Plain
 abbrev pub not_preview_fault : Seen → Event → Bool
 not_preview_fault x Continue = not (is_preview x.plan.kind)
 not_preview_fault x NoMod = is_plain x.plan.kind
 not_preview_fault x (Mod body) = is_plain x.plan.kind
 not_preview_fault x _ = false
 
+-- 100 after ieof
 abbrev pub ieof_fault : Seen → Event → Bool
 ieof_fault x Continue = x.ieof
 ieof_fault x _ = false
 
+-- 204 without leave: not allowed, and under Whole or after 100
 abbrev pub not_204_fault : Seen → Event → Bool
 not_204_fault x NoMod = not x.plan.allow && (is_whole x.plan.kind || x.continued)
 not_204_fault x _ = false
 
+-- a second 100, or a reply after the final one
 abbrev pub replied_fault : Seen → Event → Bool
 replied_fault x Continue = x.continued || is_final x
 replied_fault x NoMod = is_final x
 replied_fault x (Mod body) = is_final x
 replied_fault x _ = false
 
+-- adapted bytes without 200; output with no message chosen
 abbrev pub no_reply_fault : Seen → Event → Bool
 no_reply_fault x (Ad n) = not x.modified
 no_reply_fault x AdEnd = not x.modified
@@ -105,6 +122,7 @@ no_reply_fault x (Usr n) = not (is_plain x.plan.kind || is_final x)
 no_reply_fault x Done = not (is_plain x.plan.kind || is_final x)
 no_reply_fault x _ = false
 
+-- the end before a known length; Done before the chosen message has ended and is all out
 abbrev pub not_whole_fault : Seen → Event → Bool
 not_whole_fault x End = is_some_and x.plan.len (λ len. not (x.received == len))
 not_whole_fault x Done =
@@ -112,6 +130,7 @@ not_whole_fault x Done =
     || (x.modified && not (x.adapted_over && (x.adapted_delivered == x.adapted_received)))
 not_whole_fault x _ = false
 
+-- the fault stands at this event
 abbrev pub fault_stands : Seen → Event → StepFault → Bool
 fault_stands x event Closed = x.closed
 fault_stands x event Count = count_fault x event
@@ -128,6 +147,7 @@ fault_stands x event Replied = replied_fault x event
 fault_stands x event NoReply = no_reply_fault x event
 fault_stands x event NotWhole = not_whole_fault x event
 
+-- in the order of their numbers
 abbrev pub all_faults : List StepFault
 all_faults =
     Closed ∷ Count ∷ Ended ∷ PastLength ∷ NoSuchPlace ∷ PastPreview ∷ Stopped

@@ -7,7 +7,7 @@ use Rattle.trace_core.specs.History.{Seen, seen, is_plain, is_preview}
 use Rattle.trace_core.specs.Legal.{IsLegal, IsUnanswered, ChoosesOriginal, ChoosesAdapted}
 use Rattle.trace_core.specs.Faults.{chooses_original, is_sending_over}
 
--- the first original place that is held; the places from it to the last that came are held
+-- the first original place that is held: those from it on are, as far as they came
 abbrev pub original_from : Seen → ℕ
 original_from x =
     if x.closed then x.received
@@ -23,9 +23,11 @@ adapted_from x =
     else if x.modified then x.adapted_delivered
     else 0
 
+-- the range of original places that are held
 abbrev pub held_original : Seen → ℕ × ℕ
 held_original x = (original_from x, x.received)
 
+-- the range of adapted places that are held
 abbrev pub held_adapted : Seen → ℕ × ℕ
 held_adapted x = (adapted_from x, x.adapted_received)
 
@@ -65,6 +67,7 @@ pub record IsWithin (x : Seen) : Type 0 where
   pub received : x.received < 2 ^ 62
   pub adapted_received : x.adapted_received < 2 ^ 62
 
+-- the place is in the range
 abbrev pub IsIn : ℕ × ℕ → ℕ → Type 0
 IsIn interval place = (interval.0 ≤ place) × (place < interval.1)
 
@@ -87,6 +90,7 @@ IsSufficientOriginal plan events kept =
     → SendsOriginal (seen plan (more ++ events)) event place
     → kept place ⊎ IsIn ((seen plan events).received, (seen plan (more ++ events)).received) place
 
+-- the same of the adapted body
 abbrev pub IsSufficientAdapted : Plan → List Event → (ℕ → Type 0) → Type 0
 IsSufficientAdapted plan events kept =
     (more : List Event) (event : Event) (place : ℕ)
@@ -95,7 +99,6 @@ IsSufficientAdapted plan events kept =
     → kept place ⊎ IsIn ((seen plan events).adapted_received, (seen plan (more ++ events)).adapted_received) place
 
 -- needed: a received place that an event of some continuation sends
-
 pub record IsNeededOriginal (plan : Plan) (events : List Event) (place : ℕ) : Type 0 where
   pub received : place < (seen plan events).received
   pub more : List Event
@@ -103,6 +106,7 @@ pub record IsNeededOriginal (plan : Plan) (events : List Event) (place : ℕ) : 
   pub legal : IsLegal plan (event ∷ more ++ events)
   pub sends : SendsOriginal (seen plan (more ++ events)) event place
 
+-- the same of the adapted body
 pub record IsNeededAdapted (plan : Plan) (events : List Event) (place : ℕ) : Type 0 where
   pub received : place < (seen plan events).adapted_received
   pub more : List Event

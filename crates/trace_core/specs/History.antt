@@ -8,40 +8,49 @@ use Rattle.trace_core.specs.declared.history.Event.{Event}
 pub use Rattle.trace_core.specs.declared.history.Seen.{Seen}
 use Rattle.trace_core.specs.declared.history.Event.TheVariants.{In, End, Svc, Stop, Continue, NoMod, Mod, Ad, AdEnd, Usr, Done, Fail}
 
+-- not offered to a service
 abbrev pub is_plain : Kind → Bool
 is_plain Plain = true
 is_plain _ = false
 
+-- offered from the front to the end
 abbrev pub is_whole : Kind → Bool
 is_whole Whole = true
 is_whole _ = false
 
+-- offered by a preview
 abbrev pub is_preview : Kind → Bool
-is_preview (Preview p) = true
+is_preview (Preview size) = true
 is_preview _ = false
 
--- One event.
+-- One event: what it is, and its body bytes.
 
+-- the source's body ends
 abbrev pub is_end : Event → Bool
 is_end End = true
 is_end _ = false
 
+-- a last chunk to the service is fixed
 abbrev pub is_stop : Event → Bool
 is_stop Stop = true
 is_stop _ = false
 
+-- 100
 abbrev pub is_continue : Event → Bool
 is_continue Continue = true
 is_continue _ = false
 
+-- 204
 abbrev pub is_no_mod : Event → Bool
 is_no_mod NoMod = true
 is_no_mod _ = false
 
+-- 200
 abbrev pub is_mod : Event → Bool
 is_mod (Mod body) = true
 is_mod _ = false
 
+-- 200 with a body
 abbrev pub is_mod_with_body : Event → Bool
 is_mod_with_body (Mod body) = body
 is_mod_with_body _ = false
@@ -52,23 +61,28 @@ is_adapted_end AdEnd = true
 is_adapted_end (Mod body) = not body
 is_adapted_end _ = false
 
+-- Done or Fail
 abbrev pub is_close : Event → Bool
 is_close Done = true
 is_close (Fail cause) = true
 is_close _ = false
 
+-- what comes from the source
 abbrev pub in_bytes : Event → ℕ
 in_bytes (In n) = n
 in_bytes _ = 0
 
+-- what goes to the service
 abbrev pub svc_bytes : Event → ℕ
 svc_bytes (Svc n) = n
 svc_bytes _ = 0
 
+-- what comes of the adapted body
 abbrev pub ad_bytes : Event → ℕ
 ad_bytes (Ad n) = n
 ad_bytes _ = 0
 
+-- what goes to the next hop
 abbrev pub usr_bytes : Event → ℕ
 usr_bytes (Usr n) = n
 usr_bytes _ = 0
@@ -80,6 +94,7 @@ abbrev pub somewhere : (Event → List Event → Bool) → List Event → Bool
 somewhere test [] = false
 somewhere test (event ∷ before) = test event before || somewhere test before
 
+-- some event passes the test
 abbrev pub stands : (Event → Bool) → List Event → Bool
 stands test events = somewhere (λ event before. test event) events
 
@@ -88,14 +103,17 @@ abbrev pub total : (Event → List Event → ℕ) → List Event → ℕ
 total count [] = 0
 total count (event ∷ before) = count event before + total count before
 
--- Counts.
+-- Counts of body bytes.
 
+-- what came from the source
 abbrev pub received_of : List Event → ℕ
 received_of events = total (λ event before. in_bytes event) events
 
+-- what went to the service
 abbrev pub sent_of : List Event → ℕ
 sent_of events = total (λ event before. svc_bytes event) events
 
+-- what came of the adapted body
 abbrev pub adapted_received_of : List Event → ℕ
 adapted_received_of events = total (λ event before. ad_bytes event) events
 
@@ -116,10 +134,11 @@ abbrev pub stops_with_ieof : Plan → List Event → Bool
 stops_with_ieof plan before =
     is_preview plan.kind && not (stands is_stop before) && stands is_end before && (sent_of before == received_of before)
 
+-- a preview's first Stop stands with ieof (RFC 3507, section 4.5)
 abbrev pub ieof_of : Plan → List Event → Bool
 ieof_of plan events = somewhere (λ event before. is_stop event && stops_with_ieof plan before) events
 
--- the last Stop: that of Whole, a preview's first one with ieof, or a preview's Stop after Continue
+-- the last Stop stands: that of Whole, a preview's first one with ieof, or a preview's Stop after Continue
 abbrev pub last_stop_of : Plan → List Event → Bool
 last_stop_of plan events = somewhere (λ event before.
     is_stop event && (is_whole plan.kind || stops_with_ieof plan before || (is_preview plan.kind && stands is_continue before))) events

@@ -94,6 +94,7 @@ pub enum Cause {
 }
 
 /// What may happen to a transaction. A count is of body bytes, framing taken off.
+/// The default, `End`, only fills the unused room of an `ArrayVec`.
 #[derive(Clone, Copy, Debug, Default, PartialEq, Eq)]
 pub enum Event {
     /// So many body bytes came from the source (RFC 9112, section 6).
@@ -107,7 +108,7 @@ pub enum Event {
     Stop,
     /// The service answered 100: it wants the rest (RFC 3507, section 4.5).
     Continue,
-    /// The service answered 204: the original is to be used (RFC 3507, section 4.6).
+    /// The service answered 204: the original is to be used (RFC 3507, sections 4.5 and 4.6).
     NoMod,
     /// The service answered 200 with heads, and with a body (`true`) or with null-body.
     Mod(bool),

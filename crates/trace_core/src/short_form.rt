@@ -1,4 +1,4 @@
-//! The short form of a history.
+//! The trace of a transaction: its history, with the counts of each kind summed between two marks.
 
 ghost use Rattle.std.specs.Prelude.{◌≡◌, ◌+◌, ◌<◌, ◌≤◌, ◌^◌, [], ◌∷◌, ℕ, length, reverse};
 ghost use Rattle.std.specs.List.{AllByRecursion};
@@ -9,14 +9,16 @@ use crate::history::{Event, Plan};
 use arrayvec::ArrayVec;
 use std::marker::Model;
 
-/// The most entries that the short form of a legal history has.
+/// The most entries of a trace: seven marks, and four sums before each and behind the last.
 pub const MAX_ENTRIES: usize = 39;
 
-/// A plan and the short form of what has happened, in order.
+/// A plan and the short form of a legal history: between two marks (events without a count, and
+/// Mod) the counts of one kind are one sum, and these stand in the order In, Svc, Ad, Usr.
+/// To a contract it is the plan and the list of its entries, the newest first.
 #[derive(Drop)]
 pub struct Trace {
     plan: Plan,
-    entries: ArrayVec<Event, 39>,
+    entries: ArrayVec<Event, MAX_ENTRIES>,
 }
 
 impl Model for Trace {
@@ -32,7 +34,7 @@ impl Model for Trace {
     ghost invariant = { λ t. IsTrace (record { plan = t.plan; events = reverse t.entries.items }) };
 }
 
-/// Where a count stands between two marks; 0 for a mark.
+/// Where a count stands between two marks, 1 to 4; 0 for a mark.
 fn kind_order(event: Event) -> u8
     ensures { result ≡ kind_order event }
 {
@@ -55,7 +57,7 @@ fn bytes_of(event: Event) -> u64
     }
 }
 
-/// A count with `more` bytes added.
+/// A count with so many more bytes.
 fn joined(event: Event, more: u64) -> Event
     requires { bytes_of event + more < 2 ^ 64 }
     ensures { result ≡ joined event more }
@@ -69,8 +71,9 @@ fn joined(event: Event, more: u64) -> Event
     }
 }
 
-/// Adds an event to a short form.
-fn put(entries: &mut ArrayVec<Event, 39>, event: Event)
+/// Adds an event to a short form: to the sum of its kind behind the last mark, or in its order.
+/// It goes past at most four sums.
+fn put(entries: &mut ArrayVec<Event, MAX_ENTRIES>, event: Event)
     requires room { length (with_event event (reverse entries.old.items)) ≤ 39 }
     requires small { AllByRecursion (λ e. bytes_of e < 2 ^ 62) (reverse entries.old.items) }
     requires small_event { bytes_of event < 2 ^ 62 }

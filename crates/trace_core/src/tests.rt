@@ -323,3 +323,17 @@ fn names_of_faults(rt: HostRuntime) {
         assert_eq!(rt; text.as_str(), want);
     }
 }
+
+/// With any allocation refused, all answers come or none.
+#[test]
+fn answers_come_whole_or_not_at_all(rt: HostRuntime) {
+    let rows = [
+        (In(8), held(0, 8)),
+        (Svc(9), Fault(NoSuchPlace)),
+        (Svc(3), held(3, 8)),
+        (Mod(true), both(3, 8, 0, 0)),
+        (Ad(2), both(3, 8, 0, 2)),
+        (AdEnd, both(8, 8, 0, 2)),
+    ];
+    assert!(rt; answers_are(rt.alloc(), Kind::Whole, false, None, &rows).unwrap_or(true));
+}
