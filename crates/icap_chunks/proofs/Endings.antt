@@ -4,33 +4,19 @@ use Rattle.std.specs.Prelude.{◌↔◌}
 use Rattle.std.proofs.lemmas.List.{append-nil, take-append-drop, take-append-le}
 use Rattle.std.proofs.Math.Seq.{take-length}
 use Rattle.icap_chunks.specs.declared.places.Place.{Place}
-use Rattle.icap_chunks.specs.declared.places.Place.TheVariants.{Digits, Pad, Extension, LineEnd, Data, DataEnd, DataFeed, TrailerStart, Trailer, TrailerFeed, LastFeed, Ended, Faulted}
+use Rattle.icap_chunks.specs.declared.places.Place.TheVariants.{LastFeed, Ended}
 use Rattle.icap_chunks.specs.declared.reader.ChunkReader.{ChunkReader}
 use Rattle.icap_chunks.specs.Grammar.{IsChunked}
 use Rattle.icap_chunks.specs.Machine.{start, step, run, body_of, end_at, end_of, EndsAt}
 use Rattle.icap_chunks.proofs.Runs.{run-append, at_place}
 use Rattle.icap_chunks.proofs.Walks.{at, open_walk, whole_walk, all_but_last, all_but_last-is}
 use Rattle.icap_chunks.proofs.Standing.{HasEnded}
-use Rattle.icap_chunks.proofs.Stands.{Goes, text_goes}
+use Rattle.icap_chunks.proofs.Standing.{Stands}
+use Rattle.icap_chunks.proofs.Stands.{text_stands}
 
 pub ended_at : (p : Place) (ieof : Bool) → end_at p ≡ Some ieof → p ≡ Ended ieof
 unfolding end_at
-ended_at (Ended x) ieof e = ap Ended (same e)
-  where
-    same : {x y : Bool} → Some x ≡ Some y → x ≡ y
-    same e = cc
-ended_at (Faulted a) ieof e = cc
-ended_at (Data a) ieof e = cc
-ended_at (Digits a b) ieof e = cc
-ended_at (Pad a b) ieof e = cc
-ended_at (Extension a b c d) ieof e = cc
-ended_at (LineEnd a b) ieof e = cc
-ended_at DataEnd ieof e = cc
-ended_at DataFeed ieof e = cc
-ended_at (TrailerStart a b) ieof e = cc
-ended_at (Trailer a b) ieof e = cc
-ended_at (TrailerFeed a b) ieof e = cc
-ended_at (LastFeed a b) ieof e = cc
+ended_at p ieof e = grind (arith)
 
 pub run_ended : (sum : ℕ) (ieof : Bool) (bytes : List ℕ) → run (at sum (Ended ieof)) bytes ≡ at sum (Ended ieof)
 unfolding step
@@ -84,7 +70,7 @@ chunked_ends text body ieof w =
 pub ends_chunked : (text : List ℕ) (ieof : Bool) → EndsAt text ieof → IsChunked text (body_of start text) ieof
 ends_chunked text ieof e =
     let place = ended_at (run start text).place ieof e.ended in
-    let g : HasEnded text (body_of start text) ieof = let P : Place → Type 0 = λ p. Goes text (body_of start text) (run start text).sum p in subst P place (text_goes text) in
+    let g : HasEnded text (body_of start text) ieof = let P : Place → Type 0 = λ p. Stands text (body_of start text) (run start text).sum p in subst P place (text_stands text) in
     no_rest text (body_of start text) ieof e g.whole g.rest g.is g.text_is
   where
     no_rest : (text body : List ℕ) (ieof : Bool) → EndsAt text ieof → (whole rest : List ℕ) → IsChunked whole body ieof → text ≡ whole ++ rest → IsChunked text body ieof

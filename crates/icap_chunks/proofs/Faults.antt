@@ -17,7 +17,7 @@ use Rattle.icap_chunks.proofs.Runs.{run_data, body_of_data, behind_more, behind_
 use Rattle.icap_chunks.proofs.Walks.{Walk, at, stay, on, to, of, finding, chunks_walk, digits_walk, first_blank, blanks_walk, digits_extension, pad_extension, extends, extension_walk, line_walk, last_end, size_end, data_end, trailers_walk, first_trailer, trailer_bytes, trailer_end, final_end, chunks_fit}
 use Rattle.icap_chunks.proofs.Endings.{option_cases, some_none}
 use Rattle.icap_chunks.proofs.Parts.{part_place, place_part}
-use Rattle.icap_chunks.proofs.Stands.{Goes, step_goes, start_goes}
+use Rattle.icap_chunks.proofs.Stands.{step_stands, start_stands}
 
 -- ---- a text that stands somewhere leads there
 
@@ -114,57 +114,42 @@ trailer_part sum count ieof (b ∷ part) some all short =
     to (on (first_trailer sum ieof count b (omega arith) all.0) (trailer_bytes sum ieof (count + 1) part all.1 (omega arith))) (ap (λ k. at sum (Trailer k ieof)) same)
 
 -- a text that stands in a place that isn't the end leads there
-pub stands_walk : (text body : List ℕ) (sum : ℕ) (p : Place) → end_at p ≡ None → Stands text body sum p → Walk start text body (at sum p)
-unfolding end_at
-stands_walk text body sum (Digits count size) e s = digits_stand text body sum count size s
-stands_walk text body sum (Pad count size) e s = pad_stand text body sum count size s
-stands_walk text body sum (Extension count size item found) e s = extension_stand text body sum count size item found s
-stands_walk text body sum (LineEnd size ieof) e s = line_end_stand text body sum size ieof s
-stands_walk text body sum (Data more) e s =
+pub stands_walk : (text body : List ℕ) (sum : ℕ) (p : Place) → end_at p ≡ None → faulted_at p ≡ None → Stands text body sum p → Walk start text body (at sum p)
+unfolding end_at faulted_at
+stands_walk text body sum (Digits count size) e f s = digits_stand text body sum count size s
+stands_walk text body sum (Pad count size) e f s = pad_stand text body sum count size s
+stands_walk text body sum (Extension count size item found) e f s = extension_stand text body sum count size item found s
+stands_walk text body sum (LineEnd size ieof) e f s = line_end_stand text body sum size ieof s
+stands_walk text body sum (Data more) e f s =
     let left : (s.size - 1) - length s.bytes ≡ more = omega (arith, s.left_is) in
     chunk_part text body sum (more + 1) [] s (Data more) (Data more)
     (behind_more sum (s.size - 1) (length s.bytes) (omega (arith, s.left_is)) ∙ ap (λ k. at sum (Data k)) left) (stay _)
-stands_walk text body sum DataEnd e s = chunk_part text body sum 0 [] s DataEnd DataEnd (behind_all sum (s.size - 1) (length s.bytes) (omega (arith, s.left_is, s.some))) (stay _)
-stands_walk text body sum DataFeed e s = chunk_part text body sum 0 (13 ∷ []) s DataEnd DataFeed (behind_all sum (s.size - 1) (length s.bytes) (omega (arith, s.left_is, s.some))) (data_end sum)
-stands_walk text body sum (TrailerStart count ieof) e s =
+stands_walk text body sum DataEnd e f s = chunk_part text body sum 0 [] s DataEnd DataEnd (behind_all sum (s.size - 1) (length s.bytes) (omega (arith, s.left_is, s.some))) (stay _)
+stands_walk text body sum DataFeed e f s = chunk_part text body sum 0 (13 ∷ []) s DataEnd DataFeed (behind_all sum (s.size - 1) (length s.bytes) (omega (arith, s.left_is, s.some))) (data_end sum)
+stands_walk text body sum (TrailerStart count ieof) e f s =
     let same : length s.trailers ≡ count = omega (arith, s.count_is) in
     trailers_part text body sum count ieof [] s (TrailerStart count ieof) (to (stay _) (ap (λ k. at (length body) (TrailerStart k ieof)) same))
-stands_walk text body sum (Trailer count ieof) e s =
+stands_walk text body sum (Trailer count ieof) e f s =
     trailers_part text body sum count ieof s.0 s.1 (Trailer count ieof)
     (to (trailer_part (length body) (length s.1.trailers) ieof s.0 s.2 s.3 (omega (arith, s.1.count_is, s.1.short))) (ap (λ k. at (length body) (Trailer k ieof)) (sym s.1.count_is)))
-stands_walk text body sum (TrailerFeed count ieof) e s =
+stands_walk text body sum (TrailerFeed count ieof) e f s =
     let len = length-append s.0 (13 ∷ []) in
     let same : length s.1.trailers + length s.0 + 1 ≡ count = omega (arith, s.1.count_is) in
     trailers_part text body sum count ieof (s.0 ++ 13 ∷ []) s.1 (TrailerFeed count ieof)
     (to (on (trailer_part (length body) (length s.1.trailers) ieof s.0 s.2 s.3 (omega (arith, s.1.count_is, s.1.short)))
     (trailer_end (length body) ieof (length s.1.trailers + length s.0) (omega (arith, s.1.short)))) (ap (λ k. at (length body) (TrailerFeed k ieof)) same))
-stands_walk text body sum (LastFeed count ieof) e s =
+stands_walk text body sum (LastFeed count ieof) e f s =
     let same : length s.trailers + 1 ≡ count = omega (arith, s.count_is) in
     trailers_part text body sum count ieof (13 ∷ []) s (LastFeed count ieof)
     (to (final_end (length body) ieof (length s.trailers) (omega (arith, s.count_is, s.short))) (ap (λ k. at (length body) (LastFeed k ieof)) same))
-stands_walk text body sum (Ended ieof) e s = absurd (some_none e)
-stands_walk text body sum (Faulted fault) e s = absurd s
+stands_walk text body sum (Ended ieof) e f s = absurd (some_none e)
+stands_walk text body sum (Faulted fault) e f s = absurd (some_none f)
 
 -- ---- faults
 
 pub fault_is : (p : Place) (fault : ChunkFault) → faulted_at p ≡ Some fault → p ≡ Faulted fault
 unfolding faulted_at
-fault_is (Faulted x) fault e = ap Faulted (same e)
-  where
-    same : {x y : ChunkFault} → Some x ≡ Some y → x ≡ y
-    same e = cc
-fault_is (Ended a) fault e = cc
-fault_is (Data a) fault e = cc
-fault_is (Digits a b) fault e = cc
-fault_is (Pad a b) fault e = cc
-fault_is (Extension a b c d) fault e = cc
-fault_is (LineEnd a b) fault e = cc
-fault_is DataEnd fault e = cc
-fault_is DataFeed fault e = cc
-fault_is (TrailerStart a b) fault e = cc
-fault_is (Trailer a b) fault e = cc
-fault_is (TrailerFeed a b) fault e = cc
-fault_is (LastFeed a b) fault e = cc
+fault_is p fault e = grind (arith)
 
 pub none_some : {A : Type 0} {x : A} → None ≡ Some x → ⊥
 none_some e = cc
@@ -182,66 +167,7 @@ data_place false n fault e = none_some e
 -- a byte of the body, and one behind the end, breaks nothing
 no_body_breaks : (sum : ℕ) (p : Place) (b : ℕ) (fault : ChunkFault) → fault_of (step (at sum p) b) ≡ Some fault → faulted_at p ≡ None → (is_data p ≡ false) × (end_at p ≡ None)
 unfolding step Rattle.icap_chunks.specs.Machine.in_data is_data end_at faulted_at
-no_body_breaks sum (Data more) b fault e none = absurd (data_place _ _ fault e)
-no_body_breaks sum (Ended a) b fault e none = absurd (none_some e)
-no_body_breaks sum (Faulted a) b fault e none = absurd (some_none none)
-no_body_breaks sum (Digits a c) b fault e none = (refl, refl)
-no_body_breaks sum (Pad a c) b fault e none = (refl, refl)
-no_body_breaks sum (Extension a c d f) b fault e none = (refl, refl)
-no_body_breaks sum (LineEnd a c) b fault e none = (refl, refl)
-no_body_breaks sum DataEnd b fault e none = (refl, refl)
-no_body_breaks sum DataFeed b fault e none = (refl, refl)
-no_body_breaks sum (TrailerStart a c) b fault e none = (refl, refl)
-no_body_breaks sum (Trailer a c) b fault e none = (refl, refl)
-no_body_breaks sum (TrailerFeed a c) b fault e none = (refl, refl)
-no_body_breaks sum (LastFeed a c) b fault e none = (refl, refl)
-
-pub stands_open : (text body : List ℕ) (sum : ℕ) (p : Place) → Stands text body sum p → faulted_at p ≡ None
-unfolding faulted_at
-stands_open text body sum (Faulted fault) s = absurd s
-stands_open text body sum (Ended a) s = refl
-stands_open text body sum (Data more) s = refl
-stands_open text body sum (Digits a c) s = refl
-stands_open text body sum (Pad a c) s = refl
-stands_open text body sum (Extension a c d f) s = refl
-stands_open text body sum (LineEnd a c) s = refl
-stands_open text body sum DataEnd s = refl
-stands_open text body sum DataFeed s = refl
-stands_open text body sum (TrailerStart a c) s = refl
-stands_open text body sum (Trailer a c) s = refl
-stands_open text body sum (TrailerFeed a c) s = refl
-stands_open text body sum (LastFeed a c) s = refl
-
-stands_goes : (text body : List ℕ) (sum : ℕ) (p : Place) → Stands text body sum p → Goes text body sum p
-stands_goes text body sum (Faulted fault) s = tt
-stands_goes text body sum (Ended a) s = s
-stands_goes text body sum (Data more) s = s
-stands_goes text body sum (Digits a c) s = s
-stands_goes text body sum (Pad a c) s = s
-stands_goes text body sum (Extension a c d f) s = s
-stands_goes text body sum (LineEnd a c) s = s
-stands_goes text body sum DataEnd s = s
-stands_goes text body sum DataFeed s = s
-stands_goes text body sum (TrailerStart a c) s = s
-stands_goes text body sum (Trailer a c) s = s
-stands_goes text body sum (TrailerFeed a c) s = s
-stands_goes text body sum (LastFeed a c) s = s
-
-pub goes_stands : (text body : List ℕ) (sum : ℕ) (p : Place) → Goes text body sum p → faulted_at p ≡ None → Stands text body sum p
-unfolding faulted_at
-goes_stands text body sum (Faulted fault) s none = absurd (some_none none)
-goes_stands text body sum (Ended a) s none = s
-goes_stands text body sum (Data more) s none = s
-goes_stands text body sum (Digits a c) s none = s
-goes_stands text body sum (Pad a c) s none = s
-goes_stands text body sum (Extension a c d f) s none = s
-goes_stands text body sum (LineEnd a c) s none = s
-goes_stands text body sum DataEnd s none = s
-goes_stands text body sum DataFeed s none = s
-goes_stands text body sum (TrailerStart a c) s none = s
-goes_stands text body sum (Trailer a c) s none = s
-goes_stands text body sum (TrailerFeed a c) s none = s
-goes_stands text body sum (LastFeed a c) s none = s
+no_body_breaks sum p b fault e none = grind (arith)
 
 -- what breaks the grammar is answered
 pub breaks_fault : (text body : List ℕ) (fault : ChunkFault) → Breaks text body fault → (fault_of (run start text) ≡ Some fault) × (body_of start text ≡ body)
@@ -249,8 +175,8 @@ breaks_fault text body fault x =
     let p = part_place x.good body x.part x.ends in
     let r = at p.sum p.place in
     let breaks : fault_of (step r x.byte) ≡ Some fault = p.same x.byte ∙ x.breaks in
-    let here = no_body_breaks p.sum p.place x.byte fault breaks (stands_open x.good body p.sum p.place p.stands) in
-    let w = stands_walk x.good body p.sum p.place here.1 p.stands in
+    let here = no_body_breaks p.sum p.place x.byte fault breaks p.sound in
+    let w = stands_walk x.good body p.sum p.place here.1 p.sound p.stands in
     let stays = fault_stays (step r x.byte) fault x.rest breaks in
     let none : body_of r (x.byte ∷ x.rest) ≡ [] = rw here.0 stays.1 in
     let last : Walk r (x.byte ∷ x.rest) [] (step r x.byte) = record { reads = stays.0; finds = none } in
@@ -258,21 +184,21 @@ breaks_fault text body fault x =
     (ap fault_of all.reads ∙ breaks, all.finds)
 
 -- and what is answered breaks it
-fault_from : (front body : List ℕ) (r : ChunkReader) (text : List ℕ) (fault : ChunkFault) → Stands front body r.sum r.place → fault_of (run r text) ≡ Some fault
+fault_from : (front body : List ℕ) (r : ChunkReader) (text : List ℕ) (fault : ChunkFault) → Stands front body r.sum r.place → fault_of r ≡ None → fault_of (run r text) ≡ Some fault
     → Breaks (front ++ text) (body ++ body_of r text) fault
-fault_from front body r [] fault s e = absurd (none_some (sym (stands_open front body r.sum r.place s) ∙ e))
-fault_from front body r (b ∷ text) fault s e = option_cases (fault_of (step r b)) _ now
+fault_from front body r [] fault s sound e = absurd (none_some (sym sound ∙ e))
+fault_from front body r (b ∷ text) fault s sound e = option_cases (fault_of (step r b)) _ now
     (λ none. finish (fault_from (front ++ b ∷ []) (body ++ (if is_data r.place then b ∷ [] else [])) (step r b) text fault
-    (goes_stands _ _ (step r b).sum (step r b).place (step_goes front body b r.sum r.place (stands_goes front body r.sum r.place s)) none) e))
+    (step_stands front body b r.sum r.place s) none e))
   where
     now : (x : ChunkFault) → fault_of (step r b) ≡ Some x → Breaks (front ++ b ∷ text) (body ++ body_of r (b ∷ text)) fault
     now x here =
         let stays = fault_stays (step r b) x text here in
         let is : Some x ≡ Some fault = sym here ∙ ap fault_of (sym stays.0) ∙ e in
-        let quiet = no_body_breaks r.sum r.place b x here (stands_open front body r.sum r.place s) in
+        let quiet = no_body_breaks r.sum r.place b x here sound in
         let none : body_of r (b ∷ text) ≡ [] = rw quiet.0 stays.1 in
         let P : List ℕ → Type 0 = λ y. Breaks (front ++ b ∷ text) y fault in
-        let p = place_part front body r.sum r.place s quiet.1 in
+        let p = place_part front body r.sum r.place s quiet.1 sound in
         subst P (sym (ap (λ y. body ++ y) none ∙ append-nil body))
         (record { good = front; byte = b; rest = text; part = p.part; ends = p.ends; breaks = sym (p.same b) ∙ here ∙ is; text_is = refl })
 
@@ -283,12 +209,16 @@ fault_from front body r (b ∷ text) fault s e = option_cases (fault_of (step r 
         let Q : List ℕ → Type 0 = λ y. Breaks (front ++ b ∷ text) y fault in
         subst Q (append_assoc body d (body_of (step r b) text)) (subst P (append_assoc front (b ∷ []) text) x)
 
+start_sound : fault_of start ≡ None
+unfolding faulted_at
+start_sound = refl
+
 -- A reader answers a fault just where the grammar is broken so.
 abbrev pub AnswersFaults : Type 0
 AnswersFaults = (text body : List ℕ) (fault : ChunkFault) → ((fault_of (run start text) ≡ Some fault) × (body_of start text ≡ body)) ↔ Breaks text body fault
 
 pub answers_faults : AnswersFaults
 answers_faults text body fault = (
-  λ e. let P : List ℕ → Type 0 = λ x. Breaks text x fault in subst P e.1 (fault_from [] [] start text fault start_goes e.0),
+  λ e. let P : List ℕ → Type 0 = λ x. Breaks text x fault in subst P e.1 (fault_from [] [] start text fault start_stands start_sound e.0),
   breaks_fault text body fault,
 )

@@ -1,6 +1,7 @@
 pub mod Endings
 pub mod Faults
 pub mod Feeding
+pub mod LineSteps
 pub mod Parts
 pub mod Readings
 pub mod Runs

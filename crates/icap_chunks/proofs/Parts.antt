@@ -7,7 +7,7 @@ use Rattle.icap_chunks.specs.declared.extension.Item.TheVariants.{Blank}
 use Rattle.icap_chunks.specs.declared.places.Place.{Place}
 use Rattle.icap_chunks.specs.declared.places.Place.TheVariants.{Digits, Pad, Extension, LineEnd, Data, DataEnd, DataFeed, TrailerStart, Trailer, TrailerFeed, LastFeed, Ended, Faulted}
 use Rattle.icap_chunks.specs.Grammar.{is_line_byte, AllPass, print_line, has_ieof}
-use Rattle.icap_chunks.specs.Machine.{fault_of, step, end_at}
+use Rattle.icap_chunks.specs.Machine.{fault_of, step, end_at, faulted_at}
 use Rattle.icap_chunks.specs.Faults.{Part, in_line, behind_line, in_data, behind_data, behind_data_cr, in_trailers, behind_trailers_cr, fault_at, Behind, InLine, InChunk, InTrailers, EndsIn}
 use Rattle.icap_chunks.proofs.Standing.{Front, InDigits, InPad, InExtension, Stands, extension_behind}
 use Rattle.icap_chunks.proofs.Standing.{InChunk as ChunkStands, InTrailers as TrailersStand}
@@ -27,7 +27,8 @@ pub record AtPlace (text body : List ℕ) (part : Part) : Type 0 where
   pub sum : ℕ
   pub place : Place
   pub stands : Stands text body sum place
-  pub open_ : end_at place ≡ None
+  pub quiet : end_at place ≡ None
+  pub sound : faulted_at place ≡ None
   pub same : SameFaults body sum place part
 
 behind_of : {text body part tail : List ℕ} {sum : ℕ} → Front text body part sum → part ≡ tail → Behind text body tail
@@ -148,40 +149,41 @@ trailers_part {text} {body} {part} {tail} {sum} {count} line bytes is s = record
   short = s.short;
 }
 
-pub place_part : (text body : List ℕ) (sum : ℕ) (place : Place) → Stands text body sum place → end_at place ≡ None → InPart text body sum place
-unfolding end_at
-place_part text body sum (Digits count size) s none = digits_part text body sum count size s
-place_part text body sum (Pad count size) s none = pad_part text body sum count size s
-place_part text body sum (Extension count size item found) s none = extension_part text body sum count size item found s
-place_part text body sum (LineEnd size ieof) s none = record {
+pub place_part : (text body : List ℕ) (sum : ℕ) (place : Place) → Stands text body sum place → end_at place ≡ None → faulted_at place ≡ None → InPart text body sum place
+unfolding end_at faulted_at
+place_part text body sum (Digits count size) s quiet sound = digits_part text body sum count size s
+place_part text body sum (Pad count size) s quiet sound = pad_part text body sum count size s
+place_part text body sum (Extension count size item found) s quiet sound = extension_part text body sum count size item found s
+place_part text body sum (LineEnd size ieof) s quiet sound = record {
   part = behind_line size;
   ends = record { line = s.l; behind = behind_of s.front refl; is = s.is };
   same = summed body sum (LineEnd size ieof) (behind_line size) s.front.sum_is (λ b. line_end_table (length body) size b ieof);
 }
-place_part text body sum (Data more) s none = record { part = in_data; ends = (more + 1, omega arith, chunk_part s); same = λ b. data_table sum (length body) more b }
-place_part text body sum DataEnd s none = record { part = behind_data; ends = chunk_part s; same = λ b. data_end_table sum (length body) b }
-place_part text body sum DataFeed s none = record { part = behind_data_cr; ends = chunk_part s; same = λ b. data_feed_table sum (length body) b }
-place_part text body sum (TrailerStart count ieof) s none =
+place_part text body sum (Data more) s quiet sound = record { part = in_data; ends = (more + 1, omega arith, chunk_part s); same = λ b. data_table sum (length body) more b }
+place_part text body sum DataEnd s quiet sound = record { part = behind_data; ends = chunk_part s; same = λ b. data_end_table sum (length body) b }
+place_part text body sum DataFeed s quiet sound = record { part = behind_data_cr; ends = chunk_part s; same = λ b. data_feed_table sum (length body) b }
+place_part text body sum (TrailerStart count ieof) s quiet sound =
     record { part = in_trailers count; ends = trailers_part [] tt refl s; same = λ b. trailer_start_table sum (length body) count b ieof }
-place_part text body sum (Trailer count ieof) s none =
+place_part text body sum (Trailer count ieof) s quiet sound =
     record { part = in_trailers count; ends = trailers_part s.0 s.3 (sym (append-nil s.0)) s.1; same = λ b. trailer_table sum (length body) count b ieof }
-place_part text body sum (TrailerFeed count ieof) s none =
+place_part text body sum (TrailerFeed count ieof) s quiet sound =
     record { part = behind_trailers_cr count; ends = trailers_part s.0 s.3 refl s.1; same = λ b. trailer_feed_table sum (length body) count b ieof }
-place_part text body sum (LastFeed count ieof) s none =
+place_part text body sum (LastFeed count ieof) s quiet sound =
     record { part = behind_trailers_cr count; ends = trailers_part [] tt refl s; same = λ b. last_feed_table sum (length body) count b ieof }
-place_part text body sum (Ended ieof) s none = absurd cc
-place_part text body sum (Faulted fault) s none = absurd s
+place_part text body sum (Ended ieof) s quiet sound = absurd cc
+place_part text body sum (Faulted fault) s quiet sound = absurd cc
 
 -- ---- from a part
 
 line_place : (text body digits pad : List ℕ) (extension : Option (List ℕ)) → InLine text body digits pad extension → AtPlace text body (in_line digits pad extension)
-unfolding end_at
+unfolding end_at faulted_at
 line_place text body digits [] None s =
     let nil : digits ++ ([] ++ []) ≡ digits = append-nil digits in record {
       sum = length body;
       place = Digits (length digits) (digits_value 16 digits);
       stands = record { digits = digits; front = front_of s.behind nil; all = s.all; count_is = refl; size_is = refl; short = omega (arith, s.short, ap length nil); fits = s.fits };
-      open_ = refl;
+      quiet = refl;
+      sound = refl;
       same = λ b. digits_table (length body) (length digits) (digits_value 16 digits) b digits (ap length (sym nil)) refl;
     }
 line_place text body [] (p ∷ pad) None s = absurd (elim s.begun [ inl some ↦ omega (arith, some) | inr none ↦ let e : p ∷ pad ≡ [] = none.0 in cc ])
@@ -202,7 +204,8 @@ line_place text body (d ∷ digits) (p ∷ pad) None s =
         short = omega (arith, s.short, count);
         fits = s.fits;
       };
-      open_ = refl;
+      quiet = refl;
+      sound = refl;
       same = λ b. pad_table (length body) (length (d ∷ digits) + length (p ∷ pad)) (digits_value 16 (d ∷ digits)) b d p digits pad count;
     }
 line_place text body [] pad (Some extension) s = absurd (elim s.begun [ inl some ↦ omega (arith, some) | inr none ↦ let e : Some extension ≡ None = none.1 in cc ])
@@ -225,7 +228,8 @@ line_place text body (d ∷ digits) pad (Some extension) s =
         short = omega (arith, s.short, count);
         fits = s.fits;
       };
-      open_ = refl;
+      quiet = refl;
+      sound = refl;
       same = λ b. extension_table (length body) (length (d ∷ digits) + (length pad + suc (length extension))) (digits_value 16 (d ∷ digits)) b d digits pad extension kept.0 kept.1 count;
     }
 
@@ -258,12 +262,13 @@ trailers_place {text} {body} {tail} {count} s line is = record {
 }
 
 in_trailers_place : (text body : List ℕ) (count : ℕ) (s : InTrailers text body count []) (line : List ℕ) → s.line ≡ line → AtPlace text body (in_trailers count)
-unfolding end_at
+unfolding end_at faulted_at
 in_trailers_place text body count s [] is = record {
   sum = length body;
   place = TrailerStart count (has_ieof s.last.extension);
   stands = trailers_place s [] is;
-  open_ = refl;
+  quiet = refl;
+  sound = refl;
   same = λ b. trailer_start_table (length body) (length body) count b (has_ieof s.last.extension);
 }
 in_trailers_place text body count s (c ∷ line) is = record {
@@ -275,7 +280,8 @@ in_trailers_place text body count s (c ∷ line) is = record {
     lit_pos c line,
     (let Q : List ℕ → Type 0 = λ p. AllPass is_line_byte p in subst Q is s.bytes),
   );
-  open_ = refl;
+  quiet = refl;
+  sound = refl;
   same = λ b. trailer_table (length body) (length body) count b (has_ieof s.last.extension);
 }
   where
@@ -283,19 +289,21 @@ in_trailers_place text body count s (c ∷ line) is = record {
     lit_pos c line = omega arith
 
 behind_trailers_place : (text body : List ℕ) (count : ℕ) (s : InTrailers text body count (13 ∷ [])) (line : List ℕ) → s.line ≡ line → AtPlace text body (behind_trailers_cr count)
-unfolding end_at
+unfolding end_at faulted_at
 behind_trailers_place text body count s [] is = record {
   sum = length body;
   place = LastFeed count (has_ieof s.last.extension);
   stands = trailers_place s [] is;
-  open_ = refl;
+  quiet = refl;
+  sound = refl;
   same = λ b. last_feed_table (length body) (length body) count b (has_ieof s.last.extension);
 }
 behind_trailers_place text body count s (c ∷ line) is = record {
   sum = length body;
   place = TrailerFeed count (has_ieof s.last.extension);
   stands = (c ∷ line, trailers_place s (c ∷ line) is, lit_pos c line, (let Q : List ℕ → Type 0 = λ p. AllPass is_line_byte p in subst Q is s.bytes));
-  open_ = refl;
+  quiet = refl;
+  sound = refl;
   same = λ b. trailer_feed_table (length body) (length body) count b (has_ieof s.last.extension);
 }
   where
@@ -303,13 +311,14 @@ behind_trailers_place text body count s (c ∷ line) is = record {
     lit_pos c line = omega arith
 
 pub part_place : (text body : List ℕ) (part : Part) → EndsIn text body part → AtPlace text body part
-unfolding end_at
+unfolding end_at faulted_at
 part_place text body (in_line digits pad extension) s = line_place text body digits pad extension s
 part_place text body (behind_line size) s = record {
   sum = length body;
   place = LineEnd size (has_ieof s.line.extension);
   stands = record { l = s.line; front = front_of s.behind refl; is = s.is; ieof_is = refl };
-  open_ = refl;
+  quiet = refl;
+  sound = refl;
   same = λ b. line_end_table (length body) size b (has_ieof s.line.extension);
 }
 part_place text body in_data s =
@@ -319,12 +328,27 @@ part_place text body in_data s =
       sum = length s.2.done + s.2.size;
       place = Data more;
       stands = (let P : ℕ → Type 0 = λ n. ChunkStands text body (length s.2.done + s.2.size) n [] in subst P left (chunk_place s.2));
-      open_ = refl;
+      quiet = refl;
+      sound = refl;
       same = λ b. data_table (length s.2.done + s.2.size) (length body) more b;
     }
 part_place text body behind_data s =
-    record { sum = length s.done + s.size; place = DataEnd; stands = chunk_place s; open_ = refl; same = λ b. data_end_table (length s.done + s.size) (length body) b }
+    record {
+      sum = length s.done + s.size;
+      place = DataEnd;
+      stands = chunk_place s;
+      quiet = refl;
+      sound = refl;
+      same = λ b. data_end_table (length s.done + s.size) (length body) b;
+    }
 part_place text body behind_data_cr s =
-    record { sum = length s.done + s.size; place = DataFeed; stands = chunk_place s; open_ = refl; same = λ b. data_feed_table (length s.done + s.size) (length body) b }
+    record {
+      sum = length s.done + s.size;
+      place = DataFeed;
+      stands = chunk_place s;
+      quiet = refl;
+      sound = refl;
+      same = λ b. data_feed_table (length s.done + s.size) (length body) b;
+    }
 part_place text body (in_trailers count) s = in_trailers_place text body count s s.line refl
 part_place text body (behind_trailers_cr count) s = behind_trailers_place text body count s s.line refl

@@ -13,10 +13,10 @@ use Rattle.icap_chunks.specs.Machine.{start, run, body_of, end_of, fault_of, Has
 use Rattle.icap_chunks.specs.Faults.{Part, EndsIn, Breaks}
 use Rattle.icap_chunks.specs.Reading.{IsReading}
 use Rattle.icap_chunks.proofs.Endings.{chunked_ends, end_stays, ended_at, some_none, reads_chunked}
-use Rattle.icap_chunks.proofs.Faults.{breaks_fault, fault_is, stands_open, stands_walk, goes_stands}
+use Rattle.icap_chunks.proofs.Faults.{answers_faults, breaks_fault, fault_is, stands_walk}
 use Rattle.icap_chunks.proofs.Parts.{part_place, place_part}
 use Rattle.icap_chunks.proofs.Runs.{run-append}
-use Rattle.icap_chunks.proofs.Stands.{text_goes}
+use Rattle.icap_chunks.proofs.Stands.{text_stands}
 use Rattle.icap_chunks.proofs.Written.{one_reading}
 
 -- ---- what a reader says
@@ -30,8 +30,8 @@ record Open (text body : List ℕ) : Type 0 where
 more_open : (text body : List ℕ) (part : Part) → EndsIn text body part → Open text body
 more_open text body part ends =
     let p = part_place text body part ends in
-    let w = stands_walk text body p.sum p.place p.open_ p.stands in
-    record { no_end = ap end_of w.reads ∙ p.open_; no_fault = ap fault_of w.reads ∙ stands_open text body p.sum p.place p.stands; found = w.finds }
+    let w = stands_walk text body p.sum p.place p.quiet p.sound p.stands in
+    record { no_end = ap end_of w.reads ∙ p.quiet; no_fault = ap fault_of w.reads ∙ p.sound; found = w.finds }
 
 -- a reader stays at the end
 ended_run : (text body : List ℕ) (ieof : Bool) (used : ℕ) → IsChunked (take used text) body ieof → end_of (run start text) ≡ Some ieof
@@ -90,10 +90,8 @@ one_outcome text a b More (Faulted g) x y = absurd (some_none (sym (breaks_fault
 -- a reader that has read a text, and is at no end and no fault, has read the front of a body
 pub reads_more : (text body : List ℕ) (r : ChunkReader) → HasRead text body r → end_of r ≡ None → fault_of r ≡ None → IsReading text body More
 reads_more text body r h no_end no_fault =
-    let goes = text_goes text in
-    let none = ap fault_of h.read ∙ no_fault in
-    let stands = goes_stands text (body_of start text) (run start text).sum (run start text).place goes none in
-    let p = place_part text (body_of start text) (run start text).sum (run start text).place stands (ap end_of h.read ∙ no_end) in
+    let stands = text_stands text in
+    let p = place_part text (body_of start text) (run start text).sum (run start text).place stands (ap end_of h.read ∙ no_end) (ap fault_of h.read ∙ no_fault) in
     let P : List ℕ → Type 0 = λ b. (part : Part) × EndsIn text b part in
     subst P h.found (p.part, p.ends)
 
@@ -113,3 +111,6 @@ breaks_longer text more body fault b = record {
   breaks = b.breaks;
   text_is = ap (λ t. t ++ more) b.text_is ∙ append_assoc b.good _ more;
 }
+
+pub reads_fault : (text body : List ℕ) (r : ChunkReader) (fault : ChunkFault) → HasRead text body r → fault_of r ≡ Some fault → Breaks text body fault
+reads_fault text body r fault h e = (answers_faults text body fault).0 (ap fault_of h.read ∙ e, h.found)

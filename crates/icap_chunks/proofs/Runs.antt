@@ -5,7 +5,7 @@ use Rattle.std.proofs.lemmas.Bool.{cases_lt}
 use Rattle.std.proofs.Math.Seq.{take-suc, take-add}
 use Rattle.std.proofs.lemmas.List.{take_more, take-append-drop}
 use Rattle.icap_chunks.specs.declared.places.Place.{Place}
-use Rattle.icap_chunks.specs.declared.places.Place.TheVariants.{Digits, Pad, Extension, LineEnd, Data, DataEnd, DataFeed, TrailerStart, Trailer, TrailerFeed, LastFeed, Ended, Faulted}
+use Rattle.icap_chunks.specs.declared.places.Place.TheVariants.{Data, DataEnd, Ended, Faulted}
 use Rattle.icap_chunks.specs.declared.reader.ChunkReader.{ChunkReader}
 use Rattle.icap_chunks.specs.declared.fault.ChunkFault.{ChunkFault}
 use Rattle.icap_chunks.specs.Machine.{step, run, body_of, is_data, pauses_at, end_at, end_of, faulted_at, fault_of, in_data, data_behind}
@@ -23,35 +23,11 @@ run_more r xs k l = ap (run r) (take_more xs k 0 l) ∙ run-append r (take k xs)
 
 pub no_data : (p : Place) → pauses_at p ≡ false → is_data p ≡ false
 unfolding pauses_at is_data
-no_data (Data left) h = cc
-no_data (Digits a b) h = refl
-no_data (Pad a b) h = refl
-no_data (Extension a b c d) h = refl
-no_data (LineEnd a b) h = refl
-no_data DataEnd h = refl
-no_data DataFeed h = refl
-no_data (TrailerStart a b) h = refl
-no_data (Trailer a b) h = refl
-no_data (TrailerFeed a b) h = refl
-no_data (LastFeed a b) h = refl
-no_data (Ended a) h = refl
-no_data (Faulted a) h = refl
+no_data p h = grind (arith)
 
 pub no_end : (p : Place) → pauses_at p ≡ false → end_at p ≡ None
 unfolding pauses_at end_at
-no_end (Data left) h = refl
-no_end (Digits a b) h = refl
-no_end (Pad a b) h = refl
-no_end (Extension a b c d) h = refl
-no_end (LineEnd a b) h = refl
-no_end DataEnd h = refl
-no_end DataFeed h = refl
-no_end (TrailerStart a b) h = refl
-no_end (Trailer a b) h = refl
-no_end (TrailerFeed a b) h = refl
-no_end (LastFeed a b) h = refl
-no_end (Ended a) h = cc
-no_end (Faulted a) h = refl
+no_end p h = grind (arith)
 
 -- framing has no byte of the body
 pub framing_body : (r : ChunkReader) (xs : List ℕ) (n : ℕ) → n ≤ length xs
@@ -145,51 +121,15 @@ no_data_behind sum more n l = ap (λ r. is_data r.place) (behind_all sum more n 
 -- where framing stops, it is at a byte of the body, at the end or at a fault
 pub pauses_cases : (p : Place) → pauses_at p ≡ true → ((more : ℕ) × (p ≡ Data more)) ⊎ (((ieof : Bool) × (p ≡ Ended ieof)) ⊎ ((fault : ChunkFault) × (p ≡ Faulted fault)))
 unfolding pauses_at
-pauses_cases (Data more) h = inl (more, refl)
-pauses_cases (Ended ieof) h = inr (inl (ieof, refl))
-pauses_cases (Faulted fault) h = inr (inr (fault, refl))
-pauses_cases (Digits a b) h = cc
-pauses_cases (Pad a b) h = cc
-pauses_cases (Extension a b c d) h = cc
-pauses_cases (LineEnd a b) h = cc
-pauses_cases DataEnd h = cc
-pauses_cases DataFeed h = cc
-pauses_cases (TrailerStart a b) h = cc
-pauses_cases (Trailer a b) h = cc
-pauses_cases (TrailerFeed a b) h = cc
-pauses_cases (LastFeed a b) h = cc
+pauses_cases p h = grind (arith)
 
 pub no_fault_here : (p : Place) → ((fault : ChunkFault) → p ≡ Faulted fault → ⊥) → faulted_at p ≡ None
 unfolding faulted_at
-no_fault_here (Faulted fault) h = absurd (h fault refl)
-no_fault_here (Data more) h = refl
-no_fault_here (Ended ieof) h = refl
-no_fault_here (Digits a b) h = refl
-no_fault_here (Pad a b) h = refl
-no_fault_here (Extension a b c d) h = refl
-no_fault_here (LineEnd a b) h = refl
-no_fault_here DataEnd h = refl
-no_fault_here DataFeed h = refl
-no_fault_here (TrailerStart a b) h = refl
-no_fault_here (Trailer a b) h = refl
-no_fault_here (TrailerFeed a b) h = refl
-no_fault_here (LastFeed a b) h = refl
+no_fault_here p h = grind (arith)
 
 pub no_end_here : (p : Place) → ((ieof : Bool) → p ≡ Ended ieof → ⊥) → end_at p ≡ None
 unfolding end_at
-no_end_here (Ended ieof) h = absurd (h ieof refl)
-no_end_here (Faulted fault) h = refl
-no_end_here (Data more) h = refl
-no_end_here (Digits a b) h = refl
-no_end_here (Pad a b) h = refl
-no_end_here (Extension a b c d) h = refl
-no_end_here (LineEnd a b) h = refl
-no_end_here DataEnd h = refl
-no_end_here DataFeed h = refl
-no_end_here (TrailerStart a b) h = refl
-no_end_here (Trailer a b) h = refl
-no_end_here (TrailerFeed a b) h = refl
-no_end_here (LastFeed a b) h = refl
+no_end_here p h = grind (arith)
 
 pub at_place : (r : ChunkReader) (p : Place) → r.place ≡ p → r ≡ record { sum = r.sum; place = p }
 at_place r p at = ap (λ q. record { sum = r.sum; place = q }) at

@@ -93,6 +93,7 @@ pub record HasEnded (text body : List ℕ) (ieof : Bool) : Type 0 where
   pub is : IsChunked whole body ieof
   pub text_is : text ≡ whole ++ rest
 
+-- the text stands at the place, unless that is a fault
 abbrev pub Stands : List ℕ → List ℕ → ℕ → Place → Type 0
 Stands text body sum (Digits count size) = InDigits text body sum count size
 Stands text body sum (Pad count size) = InPad text body sum count size
@@ -106,4 +107,4 @@ Stands text body sum (Trailer count ieof) = (part : List ℕ) × InTrailers text
 Stands text body sum (TrailerFeed count ieof) = (part : List ℕ) × InTrailers text body sum count ieof (part ++ 13 ∷ []) × (0 < length part) × AllPass is_line_byte part
 Stands text body sum (LastFeed count ieof) = InTrailers text body sum count ieof (13 ∷ [])
 Stands text body sum (Ended ieof) = HasEnded text body ieof
-Stands text body sum (Faulted fault) = ⊥
+Stands text body sum (Faulted fault) = Unit {0}

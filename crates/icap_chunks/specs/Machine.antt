@@ -1,5 +1,5 @@
 -- What one byte makes of a reader, and what a list of bytes does.
-use Rattle.std.specs.Prelude.{◌≡◌, ℕ, ◌+◌, ◌-◌, ◌*◌, ◌<◌, Bool, true, false, ◌||◌, ◌&&◌, List, [], ◌∷◌, ◌++◌, length, take, Option, Some, None, if◌then◌else◌, ◌==◌, nat_lt, nat_le}
+use Rattle.std.specs.Prelude.{◌≡◌, ℕ, ◌+◌, ◌-◌, ◌*◌, ◌^◌, ◌<◌, Bool, true, false, ◌||◌, ◌&&◌, List, [], ◌∷◌, ◌++◌, length, take, Option, Some, None, if◌then◌else◌, ◌==◌, nat_lt, nat_le}
 use Rattle.std.specs.Char.{digit_value, to_ascii_lowercase}
 use Rattle.icap_chunks.specs.Grammar.{is_blank}
 use Rattle.icap_chunks.specs.declared.fault.ChunkFault.{ChunkFault}
@@ -29,7 +29,7 @@ unfoldable pub in_digits : ℕ → ℕ → ℕ → Place
 in_digits count size b =
     if b == 13 then (if count == 0 then Faulted Size else LineEnd size false)
     else (if (b == 10) || nat_le 256 count then Faulted Line
-    else (if nat_lt (digit_value b) 16 then (if nat_lt (size * 16 + digit_value b) 4611686018427387904 then Digits (count + 1) (size * 16 + digit_value b) else Faulted TooBig)
+    else (if nat_lt (digit_value b) 16 then (if nat_lt (size * 16 + digit_value b) (2 ^ 62) then Digits (count + 1) (size * 16 + digit_value b) else Faulted TooBig)
     else (if count == 0 then Faulted Size
     else (if is_blank b then Pad (count + 1) size
     else (if b == 59 then Extension (count + 1) size Blank false else Faulted Size)))))
@@ -53,7 +53,7 @@ in_extension count size item found b =
 -- behind the CR of a size line
 unfoldable pub in_line_end : ℕ → ℕ → Bool → ℕ → ChunkReader
 in_line_end sum size ieof b =
-    if b == 10 then (if nat_lt (sum + size) 4611686018427387904
+    if b == 10 then (if nat_lt (sum + size) (2 ^ 62)
     then record { sum = sum + size; place = if size == 0 then TrailerStart 0 ieof else Data (size - 1) }
     else record { sum = sum; place = Faulted TooBig })
     else record { sum = sum; place = Faulted Line }

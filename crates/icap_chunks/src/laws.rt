@@ -1,8 +1,10 @@
 //! Laws of chunked bodies: each is the contract of a function that does nothing.
-ghost use Rattle.std.specs.Prelude.{◌≡◌, ℕ, ◌+◌, ◌<◌, ◌^◌, ◌++◌, ◌↔◌, Bool, List, length, Some};
+ghost use Rattle.std.specs.Prelude.{◌≡◌, ℕ, ◌+◌, ◌<◌, ◌^◌, ◌++◌, ◌↔◌, Bool, List, length, Some, None};
 ghost use Rattle.icap_chunks.specs.declared.fault.ChunkFault.{ChunkFault as Fault};
 ghost use Rattle.icap_chunks.specs.declared.pieces.Outcome.{Outcome};
-ghost use Rattle.icap_chunks.specs.Machine.{start, run, body_of, fault_of, EndsAt};
+ghost use Rattle.icap_chunks.specs.declared.pieces.Outcome.TheVariants.{More};
+ghost use Rattle.icap_chunks.specs.declared.reader.ChunkReader.{ChunkReader as Reader};
+ghost use Rattle.icap_chunks.specs.Machine.{start, run, body_of, end_of, fault_of, EndsAt, HasRead};
 ghost use Rattle.icap_chunks.specs.Grammar.{IsChunked, Chunks, chunk_head, last_chunk, crlf};
 ghost use Rattle.icap_chunks.specs.Faults.{Breaks};
 ghost use Rattle.icap_chunks.specs.Reading.{IsReading};
@@ -15,6 +17,14 @@ pub fn reads_the_grammar()
 /// A reader answers a fault exactly where the grammar is broken so, at the first byte that breaks it.
 pub fn answers_the_faults()
     ensures { (text body : List ℕ) (fault : Fault) → ((fault_of (run start text) ≡ Some fault) × (body_of start text ≡ body)) ↔ Breaks text body fault }
+{}
+
+/// A reader stands for the text that it has read: at its end for a whole body, at a fault for a text that breaks the grammar
+/// so, and else for the front of a body.
+pub fn stands_for_its_text()
+    ensures ended { (text body : List ℕ) (reader : Reader) (ieof : Bool) → HasRead text body reader → end_of reader ≡ Some ieof → IsChunked text body ieof }
+    ensures broken { (text body : List ℕ) (reader : Reader) (fault : Fault) → HasRead text body reader → fault_of reader ≡ Some fault → Breaks text body fault }
+    ensures more { (text body : List ℕ) (reader : Reader) → HasRead text body reader → end_of reader ≡ None → fault_of reader ≡ None → IsReading text body More }
 {}
 
 /// What is written is read again: a chunk with its bytes, and then the end.

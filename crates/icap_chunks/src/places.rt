@@ -1,5 +1,5 @@
 //! Where in a chunked body a byte stands, and where the next one does.
-ghost use Rattle.std.specs.Prelude.{◌≡◌, ◌<◌, ◌+◌, ◌*◌};
+ghost use Rattle.std.specs.Prelude.{◌≡◌, ◌<◌, ◌+◌, ◌*◌, ◌^◌};
 ghost use Rattle.std.specs.Option.{SomeIff};
 ghost use Rattle.icap_chunks.specs.Grammar.{is_blank};
 ghost use Rattle.icap_chunks.specs.Machine.{in_digits, in_pad, in_extension, in_data, in_data_end, in_data_feed, in_trailer_start, in_trailer, in_trailer_feed, in_last_feed};
@@ -10,32 +10,41 @@ use crate::fault::ChunkFault;
 /// Where in a chunked body the next byte stands.
 #[derive(Clone, Copy, Debug, PartialEq, Eq)]
 pub enum Place {
-    /// In the digits of a size line of so many bytes so far.
+    /// In the digits of a size line, or at its start: so many bytes of the line, and the size so far.
     Digits(u16, u64),
+    /// In the blanks behind the digits.
     Pad(u16, u64),
+    /// In the extension: the present item, and whether an earlier one is `ieof`.
     Extension(u16, u64, Item, bool),
-    /// Behind the CR of a size line.
+    /// Behind the CR of a size line: its size, and whether it has `ieof`.
     LineEnd(u64, bool),
     /// In a run of the body, with so many of its bytes behind the next one.
     Data(u64),
+    /// Behind the data of a chunk.
     DataEnd,
+    /// Behind the CR that follows the data.
     DataFeed,
-    /// At the start of a trailer line, behind so many bytes of trailers.
+    /// At the start of a trailer line: so many bytes of trailers, and whether the body ends with `ieof`.
     TrailerStart(u16, bool),
+    /// In a trailer line.
     Trailer(u16, bool),
+    /// Behind the CR of a trailer line.
     TrailerFeed(u16, bool),
+    /// Behind the CR of the empty line.
     LastFeed(u16, bool),
+    /// Behind the body: whether it ended with `ieof`.
     Ended(bool),
+    /// At a byte that breaks the grammar, or behind it.
     Faulted(ChunkFault),
 }
 
-/// The greatest size and the greatest sum of sizes, plus one.
-pub(crate) const PAST: u64 = 4611686018427387904;
+/// A size and the sum of the sizes stay below this. A limit of ours.
+pub(crate) const PAST: u64 = 1 << 62;
 
-/// The greatest number of bytes in a size line.
+/// How many bytes a size line may have without its CR LF. A limit of ours.
 const LINE: u16 = 256;
 
-/// The greatest number of bytes behind the last size line.
+/// How many bytes may stand behind the last size line, the last CR LF included. A limit of ours.
 const TRAILERS: u16 = 8192;
 
 pub(crate) fn blank(byte: u8) -> bool
@@ -47,7 +56,7 @@ pub(crate) fn blank(byte: u8) -> bool
 /// The size with one more digit, where that is no more than the greatest.
 pub(crate) fn size_with(size: u64, digit: u64) -> Option<u64>
     requires { digit < 16 }
-    ensures { SomeIff result (size * 16 + digit < 4611686018427387904) (size * 16 + digit) }
+    ensures { SomeIff result (size * 16 + digit < 2 ^ 62) (size * 16 + digit) }
 {
     if size < PAST / 16 {
         Some(size * 16 + digit)

@@ -197,12 +197,6 @@ impl ChunkReader {
     }
 }
 
-impl Default for ChunkReader {
-    fn default() -> ChunkReader {
-        ChunkReader::new()
-    }
-}
-
 /// The reader behind the size line whose CR it has read.
 #[tactic(auto, unfolding(crate::specs::Machine::in_line_end))]
 fn in_line_end(sum: u64, size: u64, ieof: bool, byte: u8) -> ChunkReader

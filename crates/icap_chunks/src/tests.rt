@@ -5,6 +5,7 @@ use crate::{
 };
 use adapt_bytes::Small;
 use std::alloc::Global;
+use std::process::Abort;
 use std::test::Fail;
 
 const LARGEST: u64 = (1 << 62) - 1;
@@ -67,69 +68,115 @@ fn around(
     Ok(text)
 }
 
+/// Whether a text is read so, in pieces of each size and cut in two at each byte.
+fn is_read_at_every_cut(
+    rt: &impl Abort,
+    alloc: Global,
+    text: &[u8],
+    body: &[u8],
+    outcome: Outcome,
+) -> Result<(), Fail> {
+    for size in 1..=text.len().max(1) {
+        let reading = read_in_pieces(alloc, text, size)?;
+        assert_eq!(rt; reading.body.as_slice(), body, "in pieces of {size}");
+        assert_eq!(rt; reading.outcome, outcome, "in pieces of {size}");
+    }
+    for cut in 0..=text.len() {
+        let reading = read_cut(alloc, text, cut)?;
+        assert_eq!(rt; reading.body.as_slice(), body, "cut at {cut}");
+        assert_eq!(rt; reading.outcome, outcome, "cut at {cut}");
+    }
+    Ok(())
+}
+
 #[test]
-fn cut_at_every_byte(rt: HostRuntime) -> Result<(), Fail> {
-    let cases: [(&[u8], &[u8], Outcome); 36] = [
+fn worked_examples(rt: HostRuntime) -> Result<(), Fail> {
+    let too_big = Outcome::Faulted(ChunkFault::TooBig);
+    let not_ended = Outcome::Faulted(ChunkFault::Break);
+    let cases: [(&[u8], &[u8], Outcome); 7] = [
         (b"", b"", Outcome::More),
         (b"3fffffffffffffff\r\n", b"", Outcome::More),
-        (
-            b"4000000000000000\r\n",
-            b"",
-            Outcome::Faulted(ChunkFault::TooBig),
-        ),
+        (b"4000000000000000\r\n", b"", too_big),
         (b"4\r\nabcd\r\n0; ieof\r\n\r\nXY", b"abcd", ended(true, 20)),
-        (b"2\r\nabX", b"ab", Outcome::Faulted(ChunkFault::Break)),
-        // ieof, in any of its spellings, and in none
-        (b"0\r\n\r\n", b"", ended(false, 5)),
-        (b"0; ieof\r\n\r\n", b"", ended(true, 11)),
-        (b"0;IEOF\r\n\r\n", b"", ended(true, 10)),
-        (b"000 \t;\tiEoF \t;x\r\n\r\n", b"", ended(true, 19)),
-        (b"0;foo=1;ieof\r\n\r\n", b"", ended(true, 16)),
-        (b"0;a=\"x;ieof;y\"\r\n\r\n", b"", ended(true, 18)),
-        (b"0;ieofx\r\n\r\n", b"", ended(false, 11)),
-        (b"0;xieof\r\n\r\n", b"", ended(false, 11)),
-        (b"0;ie of\r\n\r\n", b"", ended(false, 11)),
-        (b"0;ieof=1\r\n\r\n", b"", ended(false, 12)),
-        (b"0;\r\n\r\n", b"", ended(false, 6)),
-        (b"1;ieof\r\na\r\n0\r\n\r\n", b"a", ended(false, 16)),
-        // sizes and sums
-        (b"0aB;x\r\n", b"", Outcome::More),
+        (b"2\r\nabX", b"ab", not_ended),
+        (b"2\r\nab\r\n1\r\nc\r\n0\r\n\r\n", b"abc", ended(false, 18)),
+        (b"0\r\na: b\r\nc: d\r\n\r\nrest", b"", ended(false, 17)),
+    ];
+    for (text, body, outcome) in cases {
+        is_read_at_every_cut(&rt, rt.alloc(), text, body, outcome)?;
+    }
+    Ok(())
+}
+
+#[test]
+fn spellings_of_ieof(rt: HostRuntime) -> Result<(), Fail> {
+    let cases: [(&[u8], Outcome); 12] = [
+        (b"0\r\n\r\n", ended(false, 5)),
+        (b"0; ieof\r\n\r\n", ended(true, 11)),
+        (b"0;IEOF\r\n\r\n", ended(true, 10)),
+        (b"000 \t;\tiEoF \t;x\r\n\r\n", ended(true, 19)),
+        (b"0;foo=1;ieof\r\n\r\n", ended(true, 16)),
+        (b"0;a=\"x;ieof;y\"\r\n\r\n", ended(true, 18)),
+        (b"0;ieofx\r\n\r\n", ended(false, 11)),
+        (b"0;xieof\r\n\r\n", ended(false, 11)),
+        (b"0;ie of\r\n\r\n", ended(false, 11)),
+        (b"0;ieof=1\r\n\r\n", ended(false, 12)),
+        (b"0;\r\n\r\n", ended(false, 6)),
+        (b"0 ieof\r\n\r\n", Outcome::Faulted(ChunkFault::Size)),
+    ];
+    for (text, outcome) in cases {
+        is_read_at_every_cut(&rt, rt.alloc(), text, b"", outcome)?;
+    }
+    // Behind another chunk than the last it says nothing.
+    is_read_at_every_cut(
+        &rt,
+        rt.alloc(),
+        b"1;ieof\r\na\r\n0\r\n\r\n",
+        b"a",
+        ended(false, 16),
+    )
+}
+
+#[test]
+fn limits_of_sizes_and_sums(rt: HostRuntime) -> Result<(), Fail> {
+    let too_big = Outcome::Faulted(ChunkFault::TooBig);
+    let cases: [(&[u8], &[u8], Outcome); 9] = [
         (b"3ffffffffffffffe\r\n", b"", Outcome::More),
+        (b"3fffffffffffffff\r\n", b"", Outcome::More),
+        (b"4000000000000000", b"", too_big),
+        (b"00003FFFFFFFFFFFFFFF\r\n", b"", Outcome::More),
+        (b"00004000000000000000", b"", too_big),
         (b"1\r\na\r\n3ffffffffffffffd\r\n", b"a", Outcome::More),
         (b"1\r\na\r\n3ffffffffffffffe\r\n", b"a", Outcome::More),
         (b"1\r\na\r\n3fffffffffffffff\r", b"a", Outcome::More),
-        (
-            b"1\r\na\r\n3fffffffffffffff\r\n",
-            b"a",
-            Outcome::Faulted(ChunkFault::TooBig),
-        ),
-        (b"2\r\nab\r\n1\r\nc\r\n0\r\n\r\n", b"abc", ended(false, 18)),
-        // size lines
-        (b"\n", b"", Outcome::Faulted(ChunkFault::Line)),
-        (b"1\n", b"", Outcome::Faulted(ChunkFault::Line)),
-        (b"1\rX", b"", Outcome::Faulted(ChunkFault::Line)),
-        (b"\r\n", b"", Outcome::Faulted(ChunkFault::Size)),
-        (b" 1\r\n", b"", Outcome::Faulted(ChunkFault::Size)),
-        (b"1 x\r\n", b"", Outcome::Faulted(ChunkFault::Size)),
-        (b"1g\r\n", b"", Outcome::Faulted(ChunkFault::Size)),
-        // data and trailers
-        (b"2\r\nab\rX", b"ab", Outcome::Faulted(ChunkFault::Break)),
-        (b"0\r\na: b\r\nc: d\r\n\r\nrest", b"", ended(false, 17)),
-        (b"0\r\n\n", b"", Outcome::Faulted(ChunkFault::Trailers)),
-        (b"0\r\na\n", b"", Outcome::Faulted(ChunkFault::Trailers)),
-        (b"0\r\na\rb", b"", Outcome::Faulted(ChunkFault::Trailers)),
+        (b"1\r\na\r\n3fffffffffffffff\r\n", b"a", too_big),
     ];
     for (text, body, outcome) in cases {
-        for size in 1..=text.len().max(1) {
-            let reading = read_in_pieces(rt.alloc(), text, size)?;
-            assert_eq!(rt; reading.body.as_slice(), body, "in pieces of {size}");
-            assert_eq!(rt; reading.outcome, outcome, "in pieces of {size}");
-        }
-        for cut in 0..=text.len() {
-            let reading = read_cut(rt.alloc(), text, cut)?;
-            assert_eq!(rt; reading.body.as_slice(), body, "cut at {cut}");
-            assert_eq!(rt; reading.outcome, outcome, "cut at {cut}");
-        }
+        is_read_at_every_cut(&rt, rt.alloc(), text, body, outcome)?;
+    }
+    Ok(())
+}
+
+#[test]
+fn bytes_out_of_place(rt: HostRuntime) -> Result<(), Fail> {
+    let cases: [(&[u8], &[u8], ChunkFault); 14] = [
+        (b"\n", b"", ChunkFault::Line),
+        (b"1\n", b"", ChunkFault::Line),
+        (b"1;x\n", b"", ChunkFault::Line),
+        (b"1\rX", b"", ChunkFault::Line),
+        (b"\r\n", b"", ChunkFault::Size),
+        (b" 1\r\n", b"", ChunkFault::Size),
+        (b";x\r\n", b"", ChunkFault::Size),
+        (b"1 x\r\n", b"", ChunkFault::Size),
+        (b"1g\r\n", b"", ChunkFault::Size),
+        (b"2\r\nab\n", b"ab", ChunkFault::Break),
+        (b"2\r\nab\rX", b"ab", ChunkFault::Break),
+        (b"0\r\n\n", b"", ChunkFault::Trailers),
+        (b"0\r\na\n", b"", ChunkFault::Trailers),
+        (b"0\r\na\rb", b"", ChunkFault::Trailers),
+    ];
+    for (text, body, fault) in cases {
+        is_read_at_every_cut(&rt, rt.alloc(), text, body, Outcome::Faulted(fault))?;
     }
     Ok(())
 }
