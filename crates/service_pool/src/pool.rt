@@ -20,7 +20,7 @@ pub struct Pool<C, L: Ledger> {
     locked: Mutex<Locked<C, L>>,
 }
 
-impl<C: Drop, L: Ledger> Pool<C, L> {
+impl<C, L: Ledger> Pool<C, L> {
     /// A pool with no connection, of which at most `maximum` may be open, with room for
     /// `MAX_CONNECTIONS` idle connections and a journal of so many steps. The blank has
     /// `LEDGER_PARTS` parts. `Err` where there is no memory for that room.
@@ -65,6 +65,7 @@ impl<C: Drop, L: Ledger> Pool<C, L> {
     /// memory for their list; nothing has changed then.
     pub fn set_max(&self, rt: &impl Wait, alloc: Global, maximum: u64) -> Result<Vec<C>, NoMemory>
         requires { maximum ≤ MAX_CONNECTIONS }
+        ensures { IfOk result (λ closed. vec_len closed ≤ MAX_CONNECTIONS) }
     {
         self.locked.lock(rt).set_max(alloc, maximum)
     }
@@ -75,6 +76,8 @@ impl<C: Drop, L: Ledger> Pool<C, L> {
         self,
         leases: Vec<Lease<L>>,
     ) -> Result<u64, (Pool<C, L>, Vec<Lease<L>>, AuditFault)>
+    where
+        C: Drop,
         ensures count { IfOk result (λ n. n ≡ vec_len leases) }
         ensures back { IfErr result (λ e. e.1.items ≡ leases.items) }
         ensures fewer { IfErr result (λ _. vec_len leases < MAX_CONNECTIONS) }

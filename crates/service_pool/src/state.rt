@@ -156,6 +156,7 @@ impl<C> PoolState<C> {
     pub fn set_max(&mut self, alloc: Global, maximum: u64) -> Result<Vec<C>, NoMemory>
         requires { maximum ≤ MAX_CONNECTIONS }
         ensures oldest { IfOk result (λ closed. closed.items ++ self.new.idle ≡ self.old.idle) }
+        ensures few { IfOk result (λ closed. vec_len closed ≤ MAX_CONNECTIONS) }
         ensures step { OnOk result
             (self.new.journal ≡ stepped self.old.journal (PoolStep.Limit maximum)) }
         ensures err { OnErr result (self.new ≡ self.old) }
