@@ -1,0 +1,12 @@
+pub mod Back
+pub mod FieldFaults
+pub mod Follows
+pub mod Held
+pub mod Lacking
+pub mod LookUps
+pub mod OneReading
+pub mod Readings
+pub mod Refusals
+pub mod Sections
+pub mod Statuses
+pub mod Words

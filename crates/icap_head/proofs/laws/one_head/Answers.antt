@@ -1,0 +1,8 @@
+use Rattle.icap_head.proofs.OneReading.{request_unique, response_unique}
+use Rattle.icap_head.proofs.laws.one_head.Goals as goal
+
+pub returns-clause-requests : goal.returns-clause-requests
+returns-clause-requests c = request_unique
+
+pub returns-clause-responses : goal.returns-clause-responses
+returns-clause-responses c = response_unique

@@ -1,0 +1,15 @@
+use Rattle.std.proofs.Common.{ℕ, take}
+use Rattle.icap_head.specs.Heads.{Response, HasResponse, response_parts}
+use Rattle.icap_head.proofs.FieldFaults.{ok_map}
+use Rattle.icap_head.proofs.Held.{response_held}
+use Rattle.icap_head.proofs.OneReading.{response_found, response_fault}
+use Rattle.icap_head.proofs.responses.read_response.Goals as goal
+
+pub returns-clause-found : goal.returns-clause-found
+returns-clause-found c = response_found (λ f. (value : Response) × (size : ℕ) × HasResponse c.args.text.now value size) c.args.text.now _ c.find_response.ensures.ok c.find_response.ensures.err
+
+pub returns-clause-fault : goal.returns-clause-fault
+returns-clause-fault c = response_fault c.args.text.now _ c.find_response.ensures.ok c.find_response.ensures.err
+
+pub returns-clause-writable : goal.returns-clause-writable
+returns-clause-writable c = ok_map c.find_response.result (λ head h. response_held (take head.length c.args.text.now) (response_parts head.value) h.head) c.find_response.ensures.ok

@@ -1,0 +1,45 @@
+-- The field lines of a head and the empty line behind them (RFC 9112, section 5), as `httparse` reads them.
+use Rattle.std.specs.Prelude.{◌≡◌, ℕ, ◌≤◌, ◌⊎◌, List, length, map, nat_lt, if◌then◌else◌, ◌==◌}
+use Rattle.std.specs.List.{count_by}
+use Rattle.httparse.specs.Grammar.{LineEnd, Field as Line, ReadsSection, HasNoSection, NeverHasSection, MayBecomeSection}
+use Rattle.httparse.specs.Spans.{name_and_value, SectionExceeds}
+use Rattle.icap_head.specs.Fields.{FieldList}
+use Rattle.icap_head.specs.declared.reading.HeadFault.{HeadFault}
+use Rattle.icap_head.specs.declared.reading.HeadFault.TheVariants.{More, Field, TooLong, TooMany}
+
+-- the text is field lines with these names and values, an empty line, and then rest
+abbrev pub ReadsFields : List ℕ → FieldList → List ℕ → Type 0
+ReadsFields text fields rest =
+    (lines : List Line) × (last : LineEnd) × ReadsSection text lines last rest × (map name_and_value lines ≡ fields)
+
+-- at most 100 fields and an empty line stand at the front
+abbrev pub HasFields : List ℕ → Type 0
+HasFields text = (fields : FieldList) × (rest : List ℕ) × ReadsFields text fields rest × (length fields ≤ 100)
+
+-- more than 100 whole field lines stand at the front
+abbrev pub HasTooMany : List ℕ → Type 0
+HasTooMany text = SectionExceeds 100 text
+
+-- no front is field lines and an empty line, and some bytes can follow that make it so
+abbrev pub IsOpen : List ℕ → Type 0
+IsOpen text = HasNoSection text × MayBecomeSection text
+
+-- what is said of a head without its end in a text of so many bytes: More, and TooLong once the limit is reached
+abbrev pub unended : ℕ → HeadFault
+unended len = if nat_lt len 16384 then More else TooLong
+
+-- why the fields are refused, in a text of so many bytes
+abbrev pub FieldsStand : HeadFault → ℕ → List ℕ → Type 0
+FieldsStand fault len text =
+    ((fault ≡ Field) × NeverHasSection text × ¬ (HasTooMany text))
+    ⊎ ((fault ≡ TooMany) × HasTooMany text)
+    ⊎ ((fault ≡ unended len) × IsOpen text × ¬ (HasTooMany text))
+
+-- why lines are refused that have at most 101 ends; the last fault is that of lines without an empty one
+abbrev pub LinesStand : HeadFault → HeadFault → List ℕ → Type 0
+LinesStand fault last text =
+    ((fault ≡ Field) × NeverHasSection text) ⊎ ((fault ≡ TooMany) × HasTooMany text) ⊎ ((fault ≡ last) × IsOpen text)
+
+-- how many lines end in the text
+abbrev pub line_count : List ℕ → ℕ
+line_count text = count_by (λ b. b == 10) text

@@ -1,0 +1,80 @@
+-- Heads of ICAP messages (RFC 3507, section 4.3): a start line, field lines and an empty line.
+use Rattle.std.specs.Prelude.{◌≡◌, ℕ, ◌≤◌, ◌⊎◌, List, [], length, take, codes}
+use Rattle.icap_head.specs.Fields.{FieldList, field_list}
+use Rattle.icap_head.specs.FieldLines.{ReadsFields, FieldsStand, unended}
+use Rattle.icap_head.specs.Methods.{method_name}
+use Rattle.icap_head.specs.StartLines.{IsFirstLine, HasNoLine, IsRequestLine, IsStatusLine, LineStands, MayBeRequestLine}
+use Rattle.icap_head.specs.declared.reading.HeadFault.{HeadFault}
+use Rattle.icap_head.specs.declared.requests.IcapRequest.{IcapRequest}
+use Rattle.icap_head.specs.declared.responses.IcapResponse.{IcapResponse}
+
+-- the text is a start line that passes, field lines and an empty line, and then rest
+pub record ReadsHead (IsStart : List ℕ → Type 0) (text : List ℕ) (fields : FieldList) (rest : List ℕ) : Type 0 where
+  pub line : List ℕ
+  pub behind : List ℕ
+  pub first : IsFirstLine text line behind
+  pub start : IsStart line
+  pub section : ReadsFields behind fields rest
+
+-- the first bytes of the text, so many as size says, are such a head of at most 100 fields, and it ends within the limit
+pub record HasHead (IsStart : List ℕ → Type 0) (text : List ℕ) (fields : FieldList) (size : ℕ) : Type 0 where
+  pub inside : size ≤ length text
+  pub within : size ≤ 16384
+  pub few : length fields ≤ 100
+  pub head : ReadsHead IsStart (take size text) fields []
+
+-- why no head is read, of a start line of that form: the first 16,384 bytes have no whole line, or a line that is refused,
+-- or fields that are
+abbrev pub Stands : (List ℕ → List ℕ → Type 0) → HeadFault → List ℕ → Type 0
+Stands Form fault text =
+    ((fault ≡ unended (length text)) × HasNoLine (take 16384 text))
+    ⊎ ((line : List ℕ) × (behind : List ℕ) × IsFirstLine (take 16384 text) line behind
+    × (LineStands Form fault line ⊎ (Form (codes "ICAP/1.0") line × FieldsStand fault (length text) behind)))
+
+-- the first line may be that of a request, by its method and its version
+abbrev pub NeedsUri : List ℕ → Type 0
+NeedsUri text = (line : List ℕ) × (behind : List ℕ) × IsFirstLine (take 16384 text) line behind × MayBeRequestLine line
+
+-- a request's parts
+pub record Request : Type 0 where
+  pub method : List ℕ
+  pub uri : List ℕ
+  pub fields : FieldList
+
+-- a response's parts
+pub record Response : Type 0 where
+  pub status : ℕ
+  pub phrase : List ℕ
+  pub fields : FieldList
+
+-- the start line of this request
+abbrev pub StartsRequest : Request → List ℕ → Type 0
+StartsRequest value line = IsRequestLine line value.method value.uri (codes "ICAP/1.0")
+
+-- the start line of this response
+abbrev pub StartsResponse : Response → List ℕ → Type 0
+StartsResponse value line = IsStatusLine line value.status value.phrase (codes "ICAP/1.0")
+
+-- the text is the head of this request
+abbrev pub IsRequestHead : List ℕ → Request → Type 0
+IsRequestHead text value = ReadsHead (StartsRequest value) text value.fields []
+
+-- the text is the head of this response
+abbrev pub IsResponseHead : List ℕ → Response → Type 0
+IsResponseHead text value = ReadsHead (StartsResponse value) text value.fields []
+
+-- the text begins with the head of this request, of so many bytes
+abbrev pub HasRequest : List ℕ → Request → ℕ → Type 0
+HasRequest text value size = HasHead (StartsRequest value) text value.fields size
+
+-- the text begins with the head of this response, of so many bytes
+abbrev pub HasResponse : List ℕ → Response → ℕ → Type 0
+HasResponse text value size = HasHead (StartsResponse value) text value.fields size
+
+-- what a contract sees of a request
+abbrev pub request_parts : IcapRequest → Request
+request_parts r = record { method = method_name r.method; uri = r.uri.items; fields = field_list r.fields }
+
+-- what a contract sees of a response
+abbrev pub response_parts : IcapResponse → Response
+response_parts r = record { status = r.status; phrase = r.phrase.items; fields = field_list r.fields }

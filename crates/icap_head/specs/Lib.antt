@@ -1,0 +1,7 @@
+pub mod FieldLines
+pub mod Fields
+pub mod Heads
+pub mod Methods
+pub mod OtherName
+pub mod StartLines
+pub mod Written

@@ -1,0 +1,64 @@
+//! What holds of all heads: each law is the contract of a function that does nothing.
+ghost use Rattle.std.specs.Prelude.{◌≡◌, ◌≢◌, ℕ, ◌<◌, ◌≤◌, ◌↔◌, ◌++◌, List, take};
+ghost use Rattle.http_header.specs.HeaderMap.{get_all};
+ghost use Rattle.http_header.specs.Token.{lowercase};
+ghost use Rattle.icap_head.specs.declared.reading.HeadFault.{HeadFault};
+ghost use Rattle.icap_head.specs.Fields.{FieldList, as_header_map, values_of};
+ghost use Rattle.icap_head.specs.Heads.{Request, Response, HasRequest, HasResponse, IsRequestHead, IsResponseHead, Stands};
+ghost use Rattle.icap_head.specs.StartLines.{RequestForm, StatusForm};
+ghost use Rattle.icap_head.specs.Written.{IsRequest, IsResponse};
+
+/// A text has one head at its front, of one length, at most.
+pub fn one_head()
+    ensures requests { (text : List ℕ) (value other : Request) (size length : ℕ)
+        → HasRequest text value size → HasRequest text other length → (value ≡ other) × (size ≡ length) }
+    ensures responses { (text : List ℕ) (value other : Response) (size length : ℕ)
+        → HasResponse text value size → HasResponse text other length → (value ≡ other) × (size ≡ length) }
+{}
+
+/// Where a fault stands, there is no head and no other fault.
+pub fn one_fault()
+    ensures requests { (text : List ℕ) (fault other : HeadFault)
+        → Stands RequestForm fault text → Stands RequestForm other text → fault ≡ other }
+    ensures responses { (text : List ℕ) (fault other : HeadFault)
+        → Stands StatusForm fault text → Stands StatusForm other text → fault ≡ other }
+    ensures no_request { (text : List ℕ) (fault : HeadFault) (value : Request) (size : ℕ)
+        → Stands RequestForm fault text → ¬ (HasRequest text value size) }
+    ensures no_response { (text : List ℕ) (fault : HeadFault) (value : Response) (size : ℕ)
+        → Stands StatusForm fault text → ¬ (HasResponse text value size) }
+{}
+
+/// A head stays the same whatever follows.
+pub fn heads_stay()
+    ensures requests { (text more : List ℕ) (value : Request) (size : ℕ)
+        → HasRequest text value size → HasRequest (text ++ more) value size }
+    ensures responses { (text more : List ℕ) (value : Response) (size : ℕ)
+        → HasResponse text value size → HasResponse (text ++ more) value size }
+{}
+
+/// A fault but `More` stays the same whatever follows.
+pub fn faults_stay()
+    ensures requests { (text more : List ℕ) (fault : HeadFault) → fault ≢ HeadFault.More
+        → Stands RequestForm fault text → Stands RequestForm fault (text ++ more) }
+    ensures responses { (text more : List ℕ) (fault : HeadFault) → fault ≢ HeadFault.More
+        → Stands StatusForm fault text → Stands StatusForm fault (text ++ more) }
+{}
+
+/// A head that was cut anywhere before its last byte is `More`.
+pub fn beginnings_are_more()
+    ensures requests { (text : List ℕ) (value : Request) (size cut : ℕ)
+        → HasRequest text value size → cut < size → Stands RequestForm HeadFault.More (take cut text) }
+    ensures responses { (text : List ℕ) (value : Response) (size cut : ℕ)
+        → HasResponse text value size → cut < size → Stands StatusForm HeadFault.More (take cut text) }
+{}
+
+/// The values that can be written are those that some head holds.
+pub fn writes_what_heads_hold()
+    ensures requests { (value : Request) → IsRequest value ↔ ((text : List ℕ) × IsRequestHead text value) }
+    ensures responses { (value : Response) → IsResponse value ↔ ((text : List ℕ) × IsResponseHead text value) }
+{}
+
+/// A look-up by name finds what a header map of the fields has under that name.
+pub fn looks_up_as_a_header_map()
+    ensures { (name : List ℕ) (fields : FieldList) → get_all (as_header_map fields) (lowercase name) ≡ values_of name fields }
+{}

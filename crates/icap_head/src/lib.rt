@@ -1,0 +1,25 @@
+//! ICAP heads, read and written (RFC 3507, section 4.3).
+//!
+//! A head is a start line, field lines and an empty line. The start line has a grammar of its own,
+//! field lines are those that `httparse` takes (RFC 9112, sections 2 and 5), and URIs are read by
+//! `http_uri`. A head ends within 16,384 bytes and has at most 100 fields.
+#![tactic(auto)]
+
+mod field_lines;
+mod field_list;
+pub mod laws;
+mod methods;
+mod reading;
+mod requests;
+mod responses;
+mod start_lines;
+
+pub use field_list::{Field, Fields, Values};
+pub use methods::{Method, OtherMethod};
+pub use reading::{Head, HeadFault, MAX_FIELDS, MAX_HEAD};
+pub use requests::{IcapRequest, read_request, write_request};
+pub use responses::{IcapResponse, read_response, write_response};
+pub use std::alloc::AllocError as NoMemory;
+
+#[cfg(test)]
+mod tests;

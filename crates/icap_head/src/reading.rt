@@ -1,0 +1,68 @@
+//! What reading a head answers.
+ghost use Rattle.std.specs.Prelude.{◌≡◌, ◌≤◌, ◌<◌, length, take};
+ghost use Rattle.icap_head.specs.declared.reading.HeadFault.{HeadFault};
+ghost use Rattle.icap_head.specs.declared.reading.HeadFault.TheVariants as Faults;
+ghost use Rattle.icap_head.specs.FieldLines.{unended};
+
+use std::alloc::AllocError;
+
+/// The bytes within which a head has to end, its empty line included.
+pub const MAX_HEAD: usize = 16_384;
+
+/// The fields that a head may have.
+pub const MAX_FIELDS: usize = 100;
+
+/// A head that was read, and the bytes that it has, its empty line included.
+#[derive(Debug, Drop)]
+pub struct Head<T> {
+    pub value: T,
+    pub length: usize,
+}
+
+/// Why no head was read. Only the first 16,384 bytes are judged, and once the answer isn't
+/// `More` (or `NoMemory`) it is the same whatever follows.
+#[derive(Clone, Copy, Debug, PartialEq, Eq)]
+pub enum HeadFault {
+    /// The head isn't whole yet, and nothing in it is wrong so far.
+    More = 1,
+    /// The start line isn't of its form (RFC 3507, section 4.3).
+    StartLine = 2,
+    /// The start line is of its form, for another version than `ICAP/1.0`.
+    Version = 3,
+    /// No continuation makes a head, by one of the first 101 field lines.
+    Field = 4,
+    /// The head doesn't end within the first 16,384 bytes.
+    TooLong = 5,
+    /// The head has more than 100 fields: known at the end of the 101st field line.
+    TooMany = 6,
+    /// Memory ran out.
+    NoMemory = 7,
+}
+
+impl From<AllocError> for HeadFault {
+    ghost from_gives = { λ _ fault. fault ≡ Faults.NoMemory };
+
+    fn from(_error: AllocError) -> HeadFault {
+        HeadFault::NoMemory
+    }
+}
+
+/// The bytes that are judged: a head has to end within them.
+pub(crate) fn judged(text: &[u8]) -> &[u8]
+    ensures front { result.now ≡ take 16384 text.now }
+    ensures len { length result.now ≤ length text.now }
+    ensures limit { length result.now ≤ 16384 }
+{
+    &text[..text.len().min(MAX_HEAD)]
+}
+
+/// What is said of a head without its end, in a text of so many bytes.
+pub(crate) fn unended(len: usize) -> HeadFault
+    ensures { result ≡ unended len }
+{
+    if len < MAX_HEAD {
+        HeadFault::More
+    } else {
+        HeadFault::TooLong
+    }
+}

@@ -1,0 +1,77 @@
+//! Heads of ICAP requests (RFC 3507, section 4.3.2).
+ghost use Rattle.std.specs.Prelude.{◌≡◌, ℕ, ◌⊎◌, List, take, IfOk, IfErr, IsOkAnd};
+ghost use Rattle.icap_head.specs.StartLines.{RequestForm};
+ghost use Rattle.icap_head.specs.Heads.{Request, HasRequest, IsRequestHead, Stands, NeedsUri, request_parts};
+ghost use Rattle.icap_head.specs.Written.{IsRequest, request_text};
+
+use crate::field_lines::{put_fields, read_fields};
+use crate::reading::{judged, unended};
+use crate::start_lines::{first_line, read_request_line};
+use crate::{Fields, Head, HeadFault, Method, NoMemory};
+use std::alloc::Global;
+
+/// The head of a request.
+#[derive(Debug, Drop)]
+pub struct IcapRequest {
+    pub method: Method,
+    /// The URI as it came.
+    pub uri: Vec<u8>,
+    pub fields: Fields,
+}
+
+/// Reads the head of a request at the front of the text.
+pub fn read_request(alloc: Global, text: &[u8]) -> Result<Head<IcapRequest>, HeadFault>
+    ensures ok { IfOk result (λ head. HasRequest text.now (request_parts head.value) head.length) }
+    ensures writable { IfOk result (λ head. IsRequest (request_parts head.value)) }
+
+    // A head is read wherever one is, unless memory runs out.
+    ensures found { (value : Request) (size : ℕ) → HasRequest text.now value size
+        → (result ≡ Err HeadFault.NoMemory)
+        ⊎ IsOkAnd result (λ head. (request_parts head.value ≡ value) × (head.length ≡ size)) }
+
+    // A fault is answered where it stands, and only there; memory is wanted only to judge a URI, or to keep a head.
+    ensures err { IfErr result (λ fault. ((fault ≡ HeadFault.NoMemory) × NeedsUri text.now) ⊎ Stands RequestForm fault text.now) }
+    ensures fault { (fault : HeadFault) → Stands RequestForm fault text.now
+        → (result ≡ Err HeadFault.NoMemory) ⊎ (result ≡ Err fault) }
+{
+    find_request(alloc, text)
+}
+
+fn find_request(alloc: Global, text: &[u8]) -> Result<Head<IcapRequest>, HeadFault>
+    ensures ok { IfOk result (λ head. HasRequest text.now (request_parts head.value) head.length) }
+    ensures err { IfErr result (λ fault. ((fault ≡ HeadFault.NoMemory) × NeedsUri text.now) ⊎ Stands RequestForm fault text.now) }
+{
+    let seen = judged(text);
+    let Some((line, start)) = first_line(seen) else {
+        return Err(unended(text.len()));
+    };
+    let (method, uri) = read_request_line(alloc, line)?;
+    let (fields, length) = read_fields(alloc, seen, start, text.len())?;
+    let method = Method::of_name(alloc, method)?;
+    let uri = uri.to_vec(alloc)?;
+    Ok(Head {
+        value: IcapRequest {
+            method,
+            uri,
+            fields,
+        },
+        length,
+    })
+}
+
+/// The text of a head that holds this request.
+pub fn write_request(alloc: Global, request: &IcapRequest) -> Result<Vec<u8>, NoMemory>
+    requires { IsRequest (request_parts request.now) }
+    ensures text { IfOk result (λ text. text.items ≡ request_text (request_parts request.now)) }
+
+    // It is read again as the same request.
+    ensures again { IfOk result (λ text. IsRequestHead text.items (request_parts request.now)) }
+{
+    let mut out = Vec::new(alloc);
+    out.extend_from_slice(request.method.name())?;
+    out.push(b' ')?;
+    out.extend_from_slice(&request.uri)?;
+    out.extend_from_slice(b" ICAP/1.0\r\n")?;
+    put_fields(&mut out, &request.fields)?;
+    Ok(out)
+}

@@ -1,0 +1,97 @@
+//! Heads of ICAP responses (RFC 3507, section 4.3.3).
+ghost use Rattle.std.specs.Prelude.{◌≡◌, ℕ, ◌⊎◌, ◌<◌, ◌++◌, ◌+◌, List, take, IfOk, IfErr, IsOkAnd, OnOk};
+ghost use Rattle.icap_head.specs.StartLines.{StatusForm};
+ghost use Rattle.icap_head.specs.Heads.{Response, HasResponse, IsResponseHead, Stands, response_parts};
+ghost use Rattle.icap_head.specs.Written.{IsResponse, response_text, three_digits};
+
+use crate::field_lines::{put_fields, read_fields};
+use crate::reading::{judged, unended};
+use crate::start_lines::{first_line, read_status_line};
+use crate::{Fields, Head, HeadFault, NoMemory};
+use std::alloc::Global;
+
+/// The head of a response.
+#[derive(Debug, Drop)]
+pub struct IcapResponse {
+    /// Three digits: 0 to 999.
+    pub status: u16,
+    /// The reason phrase, which may be empty.
+    pub phrase: Vec<u8>,
+    pub fields: Fields,
+}
+
+/// Reads the head of a response at the front of the text.
+pub fn read_response(alloc: Global, text: &[u8]) -> Result<Head<IcapResponse>, HeadFault>
+    ensures ok { IfOk result (λ head. HasResponse text.now (response_parts head.value) head.length) }
+    ensures writable { IfOk result (λ head. IsResponse (response_parts head.value)) }
+
+    // A head is read wherever one is, unless memory runs out.
+    ensures found { (value : Response) (size : ℕ) → HasResponse text.now value size
+        → (result ≡ Err HeadFault.NoMemory)
+        ⊎ IsOkAnd result (λ head. (response_parts head.value ≡ value) × (head.length ≡ size)) }
+
+    // A fault is answered where it stands, and only there; memory is wanted only to keep a head.
+    ensures err { IfErr result (λ fault. ((fault ≡ HeadFault.NoMemory) × ((value : Response) × (size : ℕ) × HasResponse text.now value size))
+        ⊎ Stands StatusForm fault text.now) }
+    ensures fault { (fault : HeadFault) → Stands StatusForm fault text.now → result ≡ Err fault }
+{
+    find_response(alloc, text)
+}
+
+fn find_response(alloc: Global, text: &[u8]) -> Result<Head<IcapResponse>, HeadFault>
+    ensures ok { IfOk result (λ head. HasResponse text.now (response_parts head.value) head.length) }
+    ensures err { IfErr result (λ fault. ((fault ≡ HeadFault.NoMemory) × ((value : Response) × (size : ℕ) × HasResponse text.now value size))
+        ⊎ Stands StatusForm fault text.now) }
+{
+    let seen = judged(text);
+    let Some((line, start)) = first_line(seen) else {
+        return Err(unended(text.len()));
+    };
+    let (status, phrase) = read_status_line(line)?;
+    let (fields, length) = read_fields(alloc, seen, start, text.len())?;
+    let phrase = phrase.to_vec(alloc)?;
+    Ok(Head {
+        value: IcapResponse {
+            status,
+            phrase,
+            fields,
+        },
+        length,
+    })
+}
+
+/// The text of a head that holds this response.
+pub fn write_response(alloc: Global, response: &IcapResponse) -> Result<Vec<u8>, NoMemory>
+    requires { IsResponse (response_parts response.now) }
+    ensures text { IfOk result (λ text. text.items ≡ response_text (response_parts response.now)) }
+
+    // It is read again as the same response.
+    ensures again { IfOk result (λ text. IsResponseHead text.items (response_parts response.now)) }
+{
+    let mut out = Vec::new(alloc);
+    out.extend_from_slice(b"ICAP/1.0 ")?;
+    put_status(&mut out, response.status)?;
+    out.push(b' ')?;
+    out.extend_from_slice(&response.phrase)?;
+    out.extend_from_slice(b"\r\n")?;
+    put_fields(&mut out, &response.fields)?;
+    Ok(out)
+}
+
+/// Adds the three digits of a status.
+fn put_status(out: &mut Vec<u8>, status: u16) -> Result<(), NoMemory>
+    requires { status < 1000 }
+    ensures { OnOk result (out.new.items ≡ out.old.items ++ three_digits status) }
+{
+    out.push(digit(status / 100))?;
+    out.push(digit(status / 10 % 10))?;
+    out.push(digit(status % 10))?;
+    Ok(())
+}
+
+fn digit(value: u16) -> u8
+    requires { value < 10 }
+    ensures { result ≡ 48 + value }
+{
+    b'0' + value as u8
+}

@@ -1,0 +1,85 @@
+//! Which fault is answered, the earliest in the order of numbers that stands.
+use crate::{HeadFault, read_request, read_response};
+
+#[test]
+fn faults_of_requests(rt: HostRuntime) {
+    let cases: [(&[u8], HeadFault); 28] = [
+        (b"", HeadFault::More),
+        (b"REQMOD", HeadFault::More),
+        (b"\0 nothing is judged before the LF", HeadFault::More),
+        (b"REQMOD icap://h/x ICAP/1.0\r\n", HeadFault::More),
+        (
+            b"REQMOD icap://h/x ICAP/1.0\r\nHost: h\r\n",
+            HeadFault::More,
+        ),
+        (b"REQMOD http://h/x ICAP/1.0\r\n\r\n", HeadFault::StartLine),
+        (b"REQMOD icap:///x ICAP/1.0\r\n\r\n", HeadFault::StartLine),
+        (b"REQMOD icap:/x ICAP/1.0\r\n\r\n", HeadFault::StartLine),
+        (b"REQMOD /x ICAP/1.0\r\n\r\n", HeadFault::StartLine),
+        (
+            b"REQMOD icap://h/x#f ICAP/1.0\r\n\r\n",
+            HeadFault::StartLine,
+        ),
+        (b"REQMOD  icap://h/x ICAP/1.0\r\n\r\n", HeadFault::StartLine),
+        (b"REQMOD icap://h/x  ICAP/1.0\r\n\r\n", HeadFault::StartLine),
+        (b"REQMOD icap://h/x ICAP/1.0 \r\n\r\n", HeadFault::StartLine),
+        (b" REQMOD icap://h/x ICAP/1.0\r\n\r\n", HeadFault::StartLine),
+        (b"REQMOD icap://h/x\r\n\r\n", HeadFault::StartLine),
+        (b"RE(MOD icap://h/x ICAP/1.0\r\n\r\n", HeadFault::StartLine),
+        (
+            b"\r\nREQMOD icap://h/x ICAP/1.0\r\n\r\n",
+            HeadFault::StartLine,
+        ),
+        (
+            b"\nREQMOD icap://h/x ICAP/1.0\r\n\r\n",
+            HeadFault::StartLine,
+        ),
+        (b"REQMOD icap://h/x HTTP/1.1\r\n\r\n", HeadFault::StartLine),
+        (b"REQMOD icap://h/x ICAP/1.10\r\n\r\n", HeadFault::StartLine),
+        (b"REQMOD http://h/x ICAP/1.1\r\n\r\n", HeadFault::StartLine),
+        (b"OPTIONS icap://h/x ICAP/1.1\r\n", HeadFault::Version),
+        (b"OPTIONS icap://h/x ICAP/2.0\r\n\r\n", HeadFault::Version),
+        (
+            b"OPTIONS icap://h/x ICAP/1.1\r\nHost : h\r\n",
+            HeadFault::Version,
+        ),
+        (b"REQMOD icap://h/x ICAP/1.0\r\nHost : h", HeadFault::Field),
+        (
+            b"REQMOD icap://h/x ICAP/1.0\r\n folded\r\n",
+            HeadFault::Field,
+        ),
+        (b"REQMOD icap://h/x ICAP/1.0\r\n: h\r\n", HeadFault::Field),
+        (
+            b"REQMOD icap://h/x ICAP/1.0\r\na: b\0\r\n",
+            HeadFault::Field,
+        ),
+    ];
+    for (text, fault) in cases {
+        assert!(rt; matches!(read_request(rt.alloc(), text), Err(found) if found == fault));
+    }
+}
+
+#[test]
+fn faults_of_responses(rt: HostRuntime) {
+    let cases: [(&[u8], HeadFault); 16] = [
+        (b"", HeadFault::More),
+        (b"ICAP/1.0 204\r\n", HeadFault::More),
+        (b"ICAP/1.0 204 \r\n", HeadFault::More),
+        (b"ICAP/1.0 20\r\n\r\n", HeadFault::StartLine),
+        (b"ICAP/1.0 2040\r\n\r\n", HeadFault::StartLine),
+        (b"ICAP/1.0 2x4 OK\r\n\r\n", HeadFault::StartLine),
+        (b"ICAP/1.0  204 OK\r\n\r\n", HeadFault::StartLine),
+        (b"ICAP/1.0\r\n\r\n", HeadFault::StartLine),
+        (b"ICAP/1.0 204\tOK\r\n\r\n", HeadFault::StartLine),
+        (b"icap/1.0 204 OK\r\n\r\n", HeadFault::StartLine),
+        (b"HTTP/1.1 204 OK\r\n\r\n", HeadFault::StartLine),
+        (b"\r\nICAP/1.0 204 OK\r\n\r\n", HeadFault::StartLine),
+        (b"ICAP/1.1 20 OK\r\n\r\n", HeadFault::StartLine),
+        (b"ICAP/1.1 204 OK\r\n", HeadFault::Version),
+        (b"ICAP/0.9 204\r\n", HeadFault::Version),
+        (b"ICAP/1.0 204 OK\r\nISTag\r\n", HeadFault::Field),
+    ];
+    for (text, fault) in cases {
+        assert!(rt; matches!(read_response(rt.alloc(), text), Err(found) if found == fault));
+    }
+}
