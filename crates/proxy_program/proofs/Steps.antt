@@ -1,0 +1,50 @@
+-- The answers of a state are those of the definitions.
+use Rattle.std.proofs.Common.{◌≡◌, List, [], ◌∷◌, ◌++◌, Option, Some, None, refl, ap, ◌∙◌}
+use Rattle.trace_core.specs.declared.history.Plan.{Plan}
+use Rattle.trace_core.specs.declared.history.Event.{Event}
+use Rattle.trace_core.specs.declared.history.StepFault.{StepFault}
+use Rattle.trace_core.specs.declared.history.Answer.TheVariants.{Held}
+use Rattle.trace_core.specs.History.{seen}
+use Rattle.trace_core.specs.Legal.{IsLegal, MayFollow}
+use Rattle.trace_core.specs.Faults.{first_fault}
+use Rattle.trace_core.specs.Held.{held_original}
+use Rattle.trace_core.specs.Run.{shown_adapted}
+use Rattle.trace_core.specs.Norm.{norm}
+use Rattle.trace_core.specs.View.{after, answer_to, after_answer, answer_by as shown_answer, after_found}
+use Rattle.trace_core.proofs.Answered.{no_fault}
+use Rattle.trace_core.proofs.Short.{norm-shows}
+use Rattle.proxy_program.specs.declared.script.Line.{Line}
+use Rattle.proxy_program.specs.declared.script.Line.TheVariants.{Step, Need}
+use Rattle.proxy_program.specs.Answers.{answer_text, script_text, needed_script, answer_by, answer_of, accepted_by, output_after, output_from}
+
+-- an event that may follow: its short form shows the same
+pub taken_shows : (plan : Plan) (events : List Event) (event : Event) → IsLegal plan events → MayFollow plan events event
+    → seen plan (norm (event ∷ events)) ≡ after (seen plan events) event
+taken_shows plan events event legal may = (norm-shows plan (event ∷ events) (may, legal)).same
+
+pub taken_answer : (plan : Plan) (events : List Event) (event : Event) → IsLegal plan events → MayFollow plan events event
+    → answer_to (seen plan events) event ≡ Held (held_original (after (seen plan events) event)) (shown_adapted (after (seen plan events) event))
+taken_answer plan events event legal may = ap (shown_answer (seen plan events) event) (no_fault plan events event legal may)
+
+pub taken_after : (plan : Plan) (events : List Event) (event : Event) → IsLegal plan events → MayFollow plan events event
+    → after_answer (seen plan events) event ≡ after (seen plan events) event
+taken_after plan events event legal may = ap (after_found (seen plan events) event) (no_fault plan events event legal may)
+
+-- what is printed, by the events and by what they show
+
+answer_same : (plan : Plan) (before : List Event) (event : Event) (r : Option StepFault) → shown_answer (seen plan before) event r ≡ answer_by plan before event r
+answer_same plan before event None = refl
+answer_same plan before event (Some fault) = refl
+
+rest_same : (plan : Plan) (before : List Event) (event : Event) (lines : List Line) → ((events : List Event) → output_from (seen plan events) lines ≡ output_after plan events lines)
+    → (r : Option StepFault) → output_from (after_found (seen plan before) event r) lines ≡ output_after plan (accepted_by before event r) lines
+rest_same plan before event lines rest None = rest (event ∷ before)
+rest_same plan before event lines rest (Some fault) = rest before
+
+pub output_same : (plan : Plan) (before : List Event) (lines : List Line) → output_from (seen plan before) lines ≡ output_after plan before lines
+output_same plan before [] = refl
+output_same plan before (Step event ∷ lines) =
+    let r = first_fault (seen plan before) event in
+    ap (λ a. answer_text a ++ output_from (after_answer (seen plan before) event) lines) (answer_same plan before event r)
+    ∙ ap (λ t. answer_text (answer_of plan before event) ++ t) (rest_same plan before event lines (λ events. output_same plan events lines) r)
+output_same plan before (Need tape place ∷ lines) = ap (λ t. script_text (needed_script tape (seen plan before) place) ++ t) (output_same plan before lines)

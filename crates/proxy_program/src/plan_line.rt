@@ -1,0 +1,70 @@
+//! The plan of a script: its first line.
+
+ghost use Rattle.std.specs.Prelude.{◌≡◌, IfSome, IfNone};
+ghost use Rattle.trace_core.specs.declared.history.Plan.{Plan as AnyPlan};
+ghost use Rattle.proxy_program.specs.Reading.{up_to_space, from_space, kind_of, length_of, parts_of};
+ghost use Rattle.proxy_program.specs.Script.{SaysPlan};
+
+use crate::reading::{behind, number};
+use trace_core::{Kind, Plan, Point};
+
+/// The text up to its first space, and from there on.
+fn split_at_space(text: &[u8]) -> (&[u8], &[u8])
+    ensures front { result.0.now ≡ up_to_space text.now }
+    ensures back { result.1.now ≡ from_space text.now }
+{
+    match text.iter().position(|byte| *byte == b' ') {
+        Some(end) => text.split_at(end),
+        None => text.split_at(text.len()),
+    }
+}
+
+/// The kind at the front, and what stands behind it. The request line of a kind without a size
+/// has no number.
+#[tactic(auto, unfolding(crate::specs::Reading::kind_of))]
+fn read_kind(text: &[u8]) -> Option<(Kind, &[u8])>
+    ensures none { IfNone result (kind_of text.now ≡ None) }
+    ensures some { IfSome result (λ found. kind_of text.now ≡ Some (found.0, found.1.now)) }
+{
+    if let Some(rest) = behind(text, b"plain") {
+        return Some((Kind::Plain, rest));
+    }
+    if let Some(rest) = behind(text, b"whole") {
+        return Some((Kind::Whole, rest));
+    }
+    let (digits, rest) = split_at_space(behind(text, b"preview ")?);
+    Some((Kind::Preview(number(digits)?), rest))
+}
+
+/// The length of the body: not known where nothing is written.
+#[tactic(auto, unfolding(crate::specs::Reading::length_of))]
+fn read_length(text: &[u8]) -> Option<Option<u64>>
+    ensures { result ≡ length_of text.now }
+{
+    if text.is_empty() {
+        return Some(None);
+    }
+    let digits = behind(text, b" len ")?;
+    Some(Some(number(digits)?))
+}
+
+/// The parts of a plan's line.
+#[tactic(auto, unfolding(crate::specs::Reading::parts_of))]
+fn read_parts(line: &[u8]) -> Option<(Kind, bool, Option<u64>)>
+    ensures { result ≡ parts_of line.now }
+{
+    let (kind, options) = read_kind(behind(line, b"plan ")?)?;
+    match behind(options, b" allow") {
+        Some(rest) => Some((kind, true, read_length(rest)?)),
+        None => Some((kind, false, read_length(options)?)),
+    }
+}
+
+/// The plan that a line says.
+pub fn read_plan(line: &[u8]) -> Option<Plan>
+    ensures found { IfSome result (SaysPlan line.now) }
+    ensures none { IfNone result ((plan : AnyPlan) → SaysPlan line.now plan → ⊥) }
+{
+    let (kind, allow, len) = read_parts(line)?;
+    Plan::new(kind, allow, len, Point::Respmod)
+}
