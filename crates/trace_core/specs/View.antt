@@ -54,6 +54,7 @@ after_found x event (Some fault) = x
 abbrev pub answer_to : Seen → Event → Answer
 answer_to x event = answer_by x event (first_fault x event)
 
+-- what is seen after it
 abbrev pub after_answer : Seen → Event → Seen
 after_answer x event = after_found x event (first_fault x event)
 

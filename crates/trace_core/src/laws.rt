@@ -8,7 +8,7 @@ ghost use Rattle.trace_core.specs.declared.history.Event.TheVariants.{In};
 ghost use Rattle.trace_core.specs.History.{seen};
 ghost use Rattle.trace_core.specs.Legal.{IsLegal, MayFollow, ChoosesOriginal, ChoosesAdapted};
 ghost use Rattle.trace_core.specs.Faults.{first_fault, all_faults, fault_number};
-ghost use Rattle.trace_core.specs.Held.{held_original, held_adapted, original_from, keeps_original, IsHeldByRows, IsWithin, IsIn, IsSufficientOriginal, IsSufficientAdapted, IsNeededOriginal, IsNeededAdapted};
+ghost use Rattle.trace_core.specs.Held.{held_original, held_adapted, original_from, adapted_from, keeps_original, IsHeldByRows, IsWithin, IsIn, IsSufficientOriginal, IsSufficientAdapted, IsNeededOriginal, IsNeededAdapted};
 
 /// The table of faults is complete: some fault stands exactly where an event may not follow a
 /// legal history. The faults are looked at in the order of their numbers, 1 to 14.
@@ -28,13 +28,18 @@ pub fn held_is_sufficient()
         → IsSufficientAdapted plan events (IsIn (held_adapted (seen plan events))) }
 {}
 
-/// What is held, by the rows of a table; it is within what came. Original bytes that come are kept
-/// or dropped as [`State::keeps_original`](crate::State::keeps_original) says.
+/// What is held, by the rows of a table; it is within what came, and what was once let go is never
+/// held again. Original bytes that come are kept or dropped as
+/// [`State::keeps_original`](crate::State::keeps_original) says.
 pub fn held_is_as_tabled()
     ensures rows { (plan : Plan) (events : List Event) → IsLegal plan events
         → IsHeldByRows (seen plan events) }
     ensures within { (plan : Plan) (events : List Event) → IsLegal plan events
         → IsWithin (seen plan events) }
+    ensures rises { (plan : Plan) (events : List Event) (event : Event) → IsLegal plan (event ∷ events)
+        → original_from (seen plan events) ≤ original_from (seen plan (event ∷ events)) }
+    ensures adapted_rises { (plan : Plan) (events : List Event) (event : Event) → IsLegal plan (event ∷ events)
+        → adapted_from (seen plan events) ≤ adapted_from (seen plan (event ∷ events)) }
     ensures kept { (plan : Plan) (events : List Event) (n : ℕ) → IsLegal plan (In n ∷ events)
         → keeps_original (seen plan events) ≡ true
         → original_from (seen plan (In n ∷ events)) ≡ original_from (seen plan events) }
