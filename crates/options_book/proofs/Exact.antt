@@ -1,0 +1,55 @@
+-- A response is a record or has one fault.
+use Rattle.std.proofs.Common.{◌≡◌, ◌⊎◌, ℕ, Result, Ok, Err, IfOk, IfErr, inl, inr, refl, ap}
+use Rattle.icap_head.specs.Heads.{Response}
+use Rattle.trace_core.specs.declared.history.Point.{Point}
+use Rattle.options_book.specs.Said.{Says, Said, Stands}
+use Rattle.options_book.specs.declared.faults.OptFault.{OptFault}
+use Rattle.options_book.specs.declared.faults.OptFault.TheVariants as Faults
+
+pub not_both : (fault : OptFault) (point : Point) (r : Response) (moment : ℕ) (said : Said) → Says point moment r said → Stands fault point r → ⊥
+not_both Faults.Status point r moment said says stands = stands says.success
+not_both Faults.NoMethods point r moment said says stands = stands.1 says.method
+not_both Faults.NoTag point r moment said says stands = stands.2 said.tag says.tag
+not_both Faults.Number point r moment said says stands = stands.3 said.preview said.connections said.ttl says.numbers
+not_both Faults.Encapsulated point r moment said says stands = stands.4 says.encapsulated
+not_both Faults.NoMemory point r moment said says stands = stands
+
+pub one_fault : (f g : OptFault) (point : Point) (r : Response) → Stands f point r → Stands g point r → f ≡ g
+one_fault Faults.Status Faults.Status point r a b = refl
+one_fault Faults.Status Faults.NoMethods point r a b = absurd (a b.0)
+one_fault Faults.Status Faults.NoTag point r a b = absurd (a b.0)
+one_fault Faults.Status Faults.Number point r a b = absurd (a b.0)
+one_fault Faults.Status Faults.Encapsulated point r a b = absurd (a b.0)
+one_fault Faults.NoMethods Faults.Status point r a b = absurd (b a.0)
+one_fault Faults.NoMethods Faults.NoMethods point r a b = refl
+one_fault Faults.NoMethods Faults.NoTag point r a b = absurd (a.1 b.1)
+one_fault Faults.NoMethods Faults.Number point r a b = absurd (a.1 b.1)
+one_fault Faults.NoMethods Faults.Encapsulated point r a b = absurd (a.1 b.1)
+one_fault Faults.NoTag Faults.Status point r a b = absurd (b a.0)
+one_fault Faults.NoTag Faults.NoMethods point r a b = absurd (b.1 a.1)
+one_fault Faults.NoTag Faults.NoTag point r a b = refl
+one_fault Faults.NoTag Faults.Number point r a b = absurd (a.2 b.2.0 b.2.1)
+one_fault Faults.NoTag Faults.Encapsulated point r a b = absurd (a.2 b.2.0 b.2.1)
+one_fault Faults.Number Faults.Status point r a b = absurd (b a.0)
+one_fault Faults.Number Faults.NoMethods point r a b = absurd (b.1 a.1)
+one_fault Faults.Number Faults.NoTag point r a b = absurd (b.2 a.2.0 a.2.1)
+one_fault Faults.Number Faults.Number point r a b = refl
+one_fault Faults.Number Faults.Encapsulated point r a b = absurd (a.3 b.3.0 b.3.1 b.3.2 b.3.3)
+one_fault Faults.Encapsulated Faults.Status point r a b = absurd (b a.0)
+one_fault Faults.Encapsulated Faults.NoMethods point r a b = absurd (b.1 a.1)
+one_fault Faults.Encapsulated Faults.NoTag point r a b = absurd (b.2 a.2.0 a.2.1)
+one_fault Faults.Encapsulated Faults.Number point r a b = absurd (b.3 a.3.0 a.3.1 a.3.2 a.3.3)
+one_fault Faults.Encapsulated Faults.Encapsulated point r a b = refl
+one_fault Faults.NoMemory g point r a b = absurd a
+one_fault f Faults.NoMemory point r a b = absurd b
+
+-- where a fault stands, it is what is answered
+pub only_fault : (point : Point) (r : Response) (moment : ℕ) (result : Result Said OptFault)
+    → IfOk result (Says point moment r)
+    → IfErr result (λ fault. Stands fault point r ⊎ ((fault ≡ Faults.NoMemory) × ((said : Said) × Says point moment r said)))
+    → (fault : OptFault) → Stands fault point r → result ≡ Err fault
+only_fault point r moment (Ok said) says only fault stands = absurd (not_both fault point r moment said says stands)
+only_fault point r moment (Err found) says only fault stands = elim only [
+  | inl other ↦ ap (λ (f : OptFault). Err f) (one_fault found fault point r other stands)
+  | inr none ↦ absurd (not_both fault point r moment none.1.0 none.1.1 stands)
+]

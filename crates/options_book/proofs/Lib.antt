@@ -1,0 +1,3 @@
+pub mod LastCuts
+pub mod Oks
+pub mod Exact

@@ -1,0 +1,12 @@
+use Rattle.std.proofs.Common.{◌≡◌}
+use Rattle.std.specs.List.{list_any}
+use Rattle.adapt_bytes.specs.Text.{items_left}
+use Rattle.options_book.specs.Transfer.{same, has}
+use Rattle.options_book.proofs.transfer.has.Given as goal
+
+abbrev pub invariant-loop-found : goal.invariant-loop-found
+invariant-loop-found l = record {
+  can : (goal.iterator-loop-found).can_next l.found-iterator;
+  ends : (goal.iterator-loop-found).is_finite l.found-iterator;
+  rest : has l.fn.list l.item ≡ list_any (λ found. same found l.item) (items_left l.found-iterator);
+}

@@ -1,0 +1,13 @@
+-- The numbers that the fields of one name say.
+use Rattle.std.specs.Prelude.{◌≡◌, ℕ, ◌<◌, ◌^◌, List, [], ◌∷◌, Option, None, IsSomeAnd}
+use Rattle.std.specs.List.{AllByRecursion}
+use Rattle.adapt_bytes.specs.Numeral.{Writes}
+
+-- each of the values is a decimal of this number
+abbrev pub AllSpell : ℕ → List (List ℕ) → Type 0
+AllSpell number values = AllByRecursion (λ text. Writes 10 text number) values
+
+-- the fields of one name say this number, of at most 2^62 - 1 and all the same; no number where there is no such field
+abbrev pub SaysNumber : List (List ℕ) → Option ℕ → Type 0
+SaysNumber [] number = number ≡ None
+SaysNumber (text ∷ values) number = IsSomeAnd number (λ n. (n < 2 ^ 62) × AllSpell n (text ∷ values))

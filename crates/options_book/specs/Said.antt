@@ -1,0 +1,117 @@
+-- What an OPTIONS response says of a service (RFC 3507, section 4.10.2), by its fields.
+use Rattle.std.specs.Prelude.{◌≡◌, ◌≢◌, ℕ, ◌-◌, ◌<◌, ◌≤◌, Bool, true, ◌&&◌, nat_le, ◌==◌, ◌⊎◌, List, [], ◌∷◌, length, take, drop, slice_index, codes, Option, Some, if◌then◌else◌, bytes_eq, IfSome, min, option_map}
+use Rattle.std.specs.List.{list_any}
+use Rattle.adapt_bytes.specs.Text.{comma_items}
+use Rattle.icap_head.specs.Fields.{FieldList, values_of, first_of}
+use Rattle.icap_head.specs.Heads.{Response}
+use Rattle.encapsulated.specs.Layouts.{IsLayout}
+use Rattle.encapsulated.specs.declared.Layout.{Layout}
+use Rattle.encapsulated.specs.declared.Method.TheVariants as Methods
+use Rattle.encapsulated.specs.declared.Direction.TheVariants as Directions
+use Rattle.trace_core.specs.declared.history.Point.{Point}
+use Rattle.trace_core.specs.declared.history.Point.TheVariants.{Reqmod, Respmod}
+use Rattle.options_book.specs.Numbers.{SaysNumber}
+use Rattle.options_book.specs.Transfer.{Lists}
+use Rattle.options_book.specs.declared.faults.OptFault.{OptFault}
+use Rattle.options_book.specs.declared.faults.OptFault.TheVariants as Faults
+
+-- the method of a point
+abbrev pub method_name : Point → List ℕ
+method_name Reqmod = codes "REQMOD"
+method_name Respmod = codes "RESPMOD"
+
+-- a comma-separated list has the item, in its exact case
+abbrev pub lists_item : List ℕ → List ℕ → Bool
+lists_item list item = list_any (λ found. bytes_eq found item) (comma_items list)
+
+-- the Methods fields name the method of the point
+abbrev pub serves : Point → FieldList → Bool
+serves point fields = list_any (λ value. lists_item value (method_name point)) (values_of (codes "Methods") fields)
+
+-- begins and ends with a quote, each of its own
+abbrev pub is_quoted : List ℕ → Bool
+is_quoted text = nat_le 2 (length text) && (slice_index text 0 == 34) && (slice_index text (length text - 1) == 34)
+
+-- the text without its quotes, which come off only as a pair
+abbrev pub unquoted : List ℕ → List ℕ
+unquoted text = if is_quoted text then take (length text - 2) (drop 1 text) else text
+
+-- the first ISTag field has this tag, without its quotes: of 1 to 256 bytes
+pub record HasTag (fields : FieldList) (tag : List ℕ) : Type 0 where
+  pub value : List ℕ
+  pub first : first_of (codes "ISTag") fields ≡ Some value
+  pub tag_is : tag ≡ unquoted value
+  pub some : 1 ≤ length tag
+  pub fits : length tag ≤ 256
+
+-- the three numbers, in this order: the preview's size, the most connections, and the seconds that the response stays fresh
+pub record SaysNumbers (fields : FieldList) (preview connections ttl : Option ℕ) : Type 0 where
+  pub preview_is : SaysNumber (values_of (codes "Preview") fields) preview
+  pub connections_is : SaysNumber (values_of (codes "Max-Connections") fields) connections
+  pub ttl_is : SaysNumber (values_of (codes "Options-TTL") fields) ttl
+  pub not_none : connections ≢ Some 0
+
+-- an OPTIONS response may have this Encapsulated list
+abbrev pub IsOptionsList : List ℕ → Type 0
+IsOptionsList text = (layout : Layout) × IsLayout Methods.Options Directions.Response text layout
+
+-- there is no Encapsulated field, or one whose list an OPTIONS response may have
+abbrev pub IsEncapsulated : FieldList → Type 0
+IsEncapsulated fields =
+    (values_of (codes "Encapsulated") fields ≡ [])
+    ⊎ ((text : List ℕ) × (values_of (codes "Encapsulated") fields ≡ text ∷ []) × IsOptionsList text)
+
+-- the values of the Transfer fields
+abbrev pub transfer_lists : FieldList → Lists
+transfer_lists fields = record {
+  complete = values_of (codes "Transfer-Complete") fields;
+  preview = values_of (codes "Transfer-Preview") fields;
+  ignore = values_of (codes "Transfer-Ignore") fields;
+}
+
+-- what is kept of a response: its tag, its numbers, its lists, and the moment of its reading, in seconds
+pub record Said : Type 0 where
+  pub tag : List ℕ
+  pub preview : Option ℕ
+  pub connections : Option ℕ
+  pub ttl : Option ℕ
+  pub lists : Lists
+  pub read_at : ℕ
+
+-- the response says this of a point's service, read at this moment
+pub record Says (point : Point) (moment : ℕ) (response : Response) (said : Said) : Type 0 where
+  pub success : response.status ≡ 200
+  pub method : serves point response.fields ≡ true
+  pub tag : HasTag response.fields said.tag
+  pub numbers : SaysNumbers response.fields said.preview said.connections said.ttl
+  pub encapsulated : IsEncapsulated response.fields
+  pub lists : said.lists ≡ transfer_lists response.fields
+  pub read_at : said.read_at ≡ moment
+
+-- where each fault stands: no earlier one does
+abbrev pub Stands : OptFault → Point → Response → Type 0
+Stands Faults.Status point response = response.status ≢ 200
+Stands Faults.NoMethods point response =
+    (response.status ≡ 200) × (serves point response.fields ≢ true)
+Stands Faults.NoTag point response =
+    (response.status ≡ 200) × (serves point response.fields ≡ true)
+    × ((tag : List ℕ) → ¬ (HasTag response.fields tag))
+Stands Faults.Number point response =
+    (response.status ≡ 200) × (serves point response.fields ≡ true)
+    × ((tag : List ℕ) × HasTag response.fields tag)
+    × ((preview connections ttl : Option ℕ) → ¬ (SaysNumbers response.fields preview connections ttl))
+Stands Faults.Encapsulated point response =
+    (response.status ≡ 200) × (serves point response.fields ≡ true)
+    × ((tag : List ℕ) × HasTag response.fields tag)
+    × ((preview : Option ℕ) × (connections : Option ℕ) × (ttl : Option ℕ) × SaysNumbers response.fields preview connections ttl)
+    × ¬ (IsEncapsulated response.fields)
+Stands Faults.NoMemory point response = ⊥
+
+-- the record serves at this moment: fewer seconds than its time to live have passed, and no later answer had another tag
+pub record IsFresh (said : Said) (moment : ℕ) (last : Option (List ℕ)) : Type 0 where
+  pub in_time : IfSome said.ttl (λ ttl. moment - said.read_at < ttl)
+  pub same_tag : IfSome last (λ tag. unquoted tag ≡ said.tag)
+
+-- how many connections may be open: Max-Connections, and at most 1,024
+abbrev pub most_connections : Said → Option ℕ
+most_connections said = option_map (min 1024) said.connections

@@ -1,0 +1,52 @@
+-- The Transfer lists of an OPTIONS response (RFC 3507, section 4.10.2).
+use Rattle.std.specs.Prelude.{ℕ, Bool, List, map, codes, Option, Some, None, if◌then◌else◌, unwrap_or}
+use Rattle.std.specs.List.{list_any}
+use Rattle.std.specs.Str.{bytes_eq}
+use Rattle.std.specs.Char.{to_ascii_lowercase}
+use Rattle.std.specs.Global.{Vec}
+use Rattle.adapt_bytes.specs.Text.{comma_items}
+use Rattle.options_book.specs.declared.transfer.Treat.{Treat}
+use Rattle.options_book.specs.declared.transfer.Treat.TheVariants.{Complete, Preview, Ignore}
+use Rattle.options_book.specs.declared.transfer.TransferLists.{TransferLists}
+
+-- the same but for the case of ASCII letters
+abbrev pub same : List ℕ → List ℕ → Bool
+same a b = bytes_eq (map to_ascii_lowercase a) (map to_ascii_lowercase b)
+
+-- a comma-separated list has the item
+abbrev pub has : List ℕ → List ℕ → Bool
+has list item = list_any (λ found. same found item) (comma_items list)
+
+-- one of the lists has it
+abbrev pub names : List (List ℕ) → List ℕ → Bool
+names lists item = list_any (λ list. has list item) lists
+
+-- the values of the three fields
+pub record Lists : Type 0 where
+  pub complete : List (List ℕ)
+  pub preview : List (List ℕ)
+  pub ignore : List (List ℕ)
+
+abbrev pub bytes_of : Vec ℕ → List ℕ
+bytes_of v = v.items
+
+-- the values that a record keeps
+abbrev pub lists_of : TransferLists → Lists
+lists_of t = record {
+  complete = map bytes_of t.complete.items;
+  preview = map bytes_of t.preview.items;
+  ignore = map bytes_of t.ignore.items;
+}
+
+-- what the lists say of an item: Complete wins, then Preview, then Ignore
+abbrev pub listed : Lists → List ℕ → Option Treat
+listed lists item =
+    if names lists.complete item then Some Complete
+    else if names lists.preview item then Some Preview
+    else if names lists.ignore item then Some Ignore
+    else None
+
+-- an extension that is listed goes by its list; any other one, and a path with none, by the list of `*`; else Complete
+abbrev pub treat_of : Lists → Option (List ℕ) → Treat
+treat_of lists None = unwrap_or (listed lists (codes "*")) Complete
+treat_of lists (Some item) = unwrap_or (listed lists item) (unwrap_or (listed lists (codes "*")) Complete)

@@ -1,0 +1,19 @@
+//! What a service's OPTIONS response allows, and how long it stays fresh (RFC 3507, section 4.10).
+#![tactic(auto)]
+
+mod faults;
+mod judged;
+mod numbers;
+mod path;
+mod reading;
+mod record;
+#[cfg(test)]
+mod tests;
+mod transfer;
+mod words;
+
+pub use faults::OptFault;
+pub use path::extension;
+pub use reading::read_record;
+pub use record::Record;
+pub use transfer::Treat;

@@ -1,0 +1,61 @@
+//! The numbers of an OPTIONS response: each at most `2^62 - 1`, and the same wherever it is said.
+
+ghost use Rattle.std.specs.Prelude.{◌≡◌, ◌↔◌, ◌<◌, ◌^◌, ℕ, Option, IsTrue, IfOk, OnErr, MatchOption};
+ghost use Rattle.adapt_bytes.specs.Numeral.{Writes};
+ghost use Rattle.icap_head.specs.Fields.{field_list, values_of, values_left};
+ghost use Rattle.options_book.specs.Numbers.{AllSpell, SaysNumber};
+
+use crate::OptFault;
+use adapt_bytes::read_decimal;
+use icap_head::{Fields, Values};
+
+/// The greatest number that is taken, `2^62 - 1`.
+const MAX_NUMBER: u64 = 0x3fff_ffff_ffff_ffff;
+
+/// The number of the fields of this name; none where there is no such field.
+pub(crate) fn number(fields: &Fields, name: &[u8]) -> Result<Option<u64>, OptFault>
+    ensures ok { IfOk result (SaysNumber (values_of name.now (field_list fields.now))) }
+    ensures err { OnErr result ((number : Option ℕ) → SaysNumber (values_of name.now (field_list fields.now)) number → ⊥) }
+    ensures fault { OnErr result (result ≡ Err OptFault.Number) }
+{
+    let mut values = fields.values(name);
+    let Some(first) = values.next() else {
+        return Ok(None);
+    };
+    match read_number(first) {
+        Some(number) if all_spell(values, number) => Ok(Some(number)),
+        _ => Err(OptFault::Number),
+    }
+}
+
+/// The number that a text spells, where it is a decimal up to `2^62 - 1`.
+fn read_number(text: &[u8]) -> Option<u64>
+    ensures { MatchOption result ((n : ℕ) → n < 2 ^ 62 → Writes 10 text.now n → ⊥) (λ n. (n < 2 ^ 62) × Writes 10 text.now n) }
+{
+    match read_decimal(text) {
+        Some(number) if number <= MAX_NUMBER => Some(number),
+        _ => None,
+    }
+}
+
+/// Whether all further values spell the number too.
+fn all_spell(values: Values<'_>, number: u64) -> bool
+    ensures { IsTrue result ↔ AllSpell number (values_left values.entry) }
+{
+    for text in values {
+        if !spells(text, number) {
+            return false;
+        }
+    }
+    true
+}
+
+/// Whether the text spells the number, with any leading zeros.
+fn spells(text: &[u8], number: u64) -> bool
+    ensures { IsTrue result ↔ Writes 10 text.now number }
+{
+    match read_decimal(text) {
+        Some(found) => found == number,
+        None => false,
+    }
+}

@@ -1,0 +1,48 @@
+//! Reading an OPTIONS response (RFC 3507, section 4.10.2).
+
+ghost use Rattle.std.specs.Prelude.{◌≡◌, ◌⊎◌, IfOk, IfErr};
+ghost use Rattle.icap_head.specs.Heads.{response_parts};
+ghost use Rattle.options_book.specs.Said.{Says, Said, Stands};
+
+use crate::judged::judge;
+use crate::{OptFault, Record};
+use icap_head::IcapResponse;
+use std::alloc::Global;
+use trace_core::Point;
+
+/// The record of an OPTIONS response that a point's service gave, read at the moment `now`, in seconds.
+pub fn read_record(
+    alloc: Global,
+    response: &IcapResponse,
+    point: Point,
+    now: u64,
+) -> Result<Record, OptFault>
+    ensures ok { IfOk result (Says point now (response_parts response.now)) }
+
+    // A fault is answered exactly where it stands; memory is wanted last, for what the response says.
+    ensures fault { (fault : OptFault) → Stands fault point (response_parts response.now) → result ≡ Err fault }
+    ensures only { IfErr result (λ fault. Stands fault point (response_parts response.now)
+        ⊎ ((fault ≡ OptFault.NoMemory) × ((said : Said) × Says point now (response_parts response.now) said))) }
+{
+    find_record(alloc, response, point, now)
+}
+
+fn find_record(
+    alloc: Global,
+    response: &IcapResponse,
+    point: Point,
+    now: u64,
+) -> Result<Record, OptFault>
+    ensures ok { IfOk result (Says point now (response_parts response.now)) }
+    ensures only { IfErr result (λ fault. Stands fault point (response_parts response.now)
+        ⊎ ((fault ≡ OptFault.NoMemory) × ((said : Said) × Says point now (response_parts response.now) said))) }
+{
+    let judged = match judge(response, point) {
+        Ok(judged) => judged,
+        Err(fault) => return Err(fault),
+    };
+    match judged.kept(alloc, &response.fields, now) {
+        Ok(record) => Ok(record),
+        Err(_) => Err(OptFault::NoMemory),
+    }
+}

@@ -1,0 +1,95 @@
+//! What is kept of an OPTIONS response.
+
+use crate::Treat;
+use crate::transfer::TransferLists;
+use crate::words::unquoted;
+use std::marker::Model;
+
+/// The most connections that are ever open to one service.
+const MOST_CONNECTIONS: u64 = 1024;
+
+/// What a service's OPTIONS response says, and when it was read (RFC 3507, section 4.10.2).
+#[derive(Debug, Drop)]
+pub struct Record {
+    pub(crate) tag: Vec<u8>,
+    pub(crate) preview: Option<u64>,
+    pub(crate) connections: Option<u64>,
+    pub(crate) ttl: Option<u64>,
+    pub(crate) lists: TransferLists,
+    pub(crate) read_at: u64,
+}
+
+impl Model for Record {
+    ghost use Rattle.options_book.specs.Said.{Said};
+
+    ghost Value = { Said };
+
+    ghost use Rattle.options_book.specs.Kept.{said_of};
+
+    ghost view = { λ r. said_of r.tag.items r.preview r.connections r.ttl r.lists r.read_at };
+
+    ghost use Rattle.std.specs.Prelude.{IfSome, ◌<◌, ◌^◌};
+
+    ghost invariant = { λ r. IfSome r.preview (λ n. n < 2 ^ 62) };
+}
+
+impl Record {
+    ghost use Rattle.std.specs.Prelude.{◌≡◌, ◌<◌, ◌-◌, ◌^◌, ◌↔◌, IfSome, IsTrue, option_copied};
+    ghost use Rattle.options_book.specs.Said.{IsFresh, most_connections, unquoted};
+    ghost use Rattle.options_book.specs.Transfer.{treat_of};
+
+    /// Whether the record serves at the moment `now`, in seconds: fewer seconds than Options-TTL says have passed since
+    /// it was read, and the last answer of the service, where it had an ISTag, had the record's. Without Options-TTL time
+    /// never makes it stale; a moment before the reading counts as the reading.
+    pub fn is_fresh(&self, now: u64, last_tag: Option<&[u8]>) -> bool
+        ensures { IsTrue result ↔ IsFresh self.now now (option_copied last_tag.entry) }
+    {
+        self.is_in_time(now) && self.has_tag(last_tag)
+    }
+
+    /// Whether fewer seconds have passed than the time to live.
+    fn is_in_time(&self, now: u64) -> bool
+        ensures { IsTrue result ↔ IfSome self.now.ttl (λ ttl. now - self.now.read_at < ttl) }
+    {
+        match self.ttl {
+            Some(ttl) => now.saturating_sub(self.read_at) < ttl,
+            None => true,
+        }
+    }
+
+    /// Whether a later answer's tag, where there is one, is the record's.
+    fn has_tag(&self, last_tag: Option<&[u8]>) -> bool
+        ensures { IsTrue result ↔ IfSome (option_copied last_tag.entry) (λ tag. unquoted tag ≡ self.now.tag) }
+    {
+        match last_tag {
+            Some(tag) => unquoted(tag) == self.tag.as_slice(),
+            None => true,
+        }
+    }
+
+    /// How the service wants a message whose path has this extension, or none: by the Transfer list that names it, Complete
+    /// before Preview before Ignore; else by the list that has `*`; else whole.
+    pub fn treat(&self, extension: Option<&[u8]>) -> Treat
+        ensures { result ≡ treat_of self.now.lists (option_copied extension.entry) }
+    {
+        self.lists.treat(extension)
+    }
+
+    /// How many bytes of a preview the service wants, where it says so.
+    pub fn preview(&self) -> Option<u64>
+        ensures size { result ≡ self.now.preview }
+        ensures bound { IfSome result (λ n. n < 2 ^ 62) }
+    {
+        self.preview
+    }
+
+    /// How many connections may be open at once: Max-Connections, and at most 1,024; none where the service doesn't say.
+    pub fn max(&self) -> Option<u64>
+        ensures { result ≡ most_connections self.now }
+    {
+        match self.connections {
+            Some(connections) => Some(connections.min(MOST_CONNECTIONS)),
+            None => None,
+        }
+    }
+}

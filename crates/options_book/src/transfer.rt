@@ -1,0 +1,90 @@
+//! The Transfer lists: which messages a service wants whole, with a preview, or not at all (RFC 3507, section 4.10.2).
+
+ghost use Rattle.std.specs.Prelude.{◌≡◌, map, option_copied};
+ghost use Rattle.options_book.specs.Transfer.{bytes_of, same, has, names, listed, treat_of, lists_of};
+
+use adapt_bytes::{comma_items, same_ascii};
+
+/// How a service wants a message.
+#[derive(Clone, Copy, Debug, PartialEq, Eq)]
+pub enum Treat {
+    /// Whole, with no preview.
+    Complete,
+    /// With a preview first.
+    Preview,
+    /// Not at all.
+    Ignore,
+}
+
+/// The values of a service's Transfer fields, in the order in which they came.
+#[derive(Debug, Drop)]
+pub struct TransferLists {
+    /// Of Transfer-Complete.
+    pub(crate) complete: Vec<Vec<u8>>,
+    /// Of Transfer-Preview.
+    pub(crate) preview: Vec<Vec<u8>>,
+    /// Of Transfer-Ignore.
+    pub(crate) ignore: Vec<Vec<u8>>,
+}
+
+impl TransferLists {
+    /// What the lists say of an item, an extension or `*`; Complete wins, then Preview, then Ignore.
+    fn listed(&self, item: &[u8]) -> Option<Treat>
+        ensures { result ≡ listed (lists_of self.now) item.now }
+    {
+        if names(&self.complete, item) {
+            Some(Treat::Complete)
+        } else if names(&self.preview, item) {
+            Some(Treat::Preview)
+        } else if names(&self.ignore, item) {
+            Some(Treat::Ignore)
+        } else {
+            None
+        }
+    }
+
+    /// How the service wants a message whose path has this extension, or none.
+    pub(crate) fn treat(&self, extension: Option<&[u8]>) -> Treat
+        ensures { result ≡ treat_of (lists_of self.now) (option_copied extension.entry) }
+    {
+        let named = match extension {
+            Some(item) => self.listed(item),
+            None => None,
+        };
+        match named {
+            Some(treat) => treat,
+            None => self.listed(b"*").unwrap_or(Treat::Complete),
+        }
+    }
+}
+
+/// Whether one of the lists has the item, ASCII case ignored.
+fn names(lists: &[Vec<u8>], item: &[u8]) -> bool
+    ensures { result ≡ names (map bytes_of lists.now) item.now }
+{
+    for list in lists {
+        if has(list, item) {
+            return true;
+        }
+    }
+    false
+}
+
+/// Whether a comma-separated list has the item, ASCII case ignored.
+fn has(list: &[u8], item: &[u8]) -> bool
+    ensures { result ≡ has list.now item.now }
+{
+    for found in comma_items(list) {
+        if same(found, item) {
+            return true;
+        }
+    }
+    false
+}
+
+/// Whether the texts are the same but for the case of ASCII letters.
+fn same(a: &[u8], b: &[u8]) -> bool
+    ensures { result ≡ same a.now b.now }
+{
+    same_ascii(a, b)
+}

@@ -1,0 +1,71 @@
+//! Looking into the values of fields: tags without their quotes, methods, copies.
+
+ghost use Rattle.std.specs.Prelude.{◌≡◌, map, IfOk};
+ghost use Rattle.icap_head.specs.Fields.{field_list, values_of};
+ghost use Rattle.options_book.specs.Transfer.{bytes_of};
+ghost use Rattle.options_book.specs.Said.{unquoted, lists_item, serves, method_name};
+
+use adapt_bytes::comma_items;
+use icap_head::{Fields, NoMemory};
+use std::alloc::Global;
+use trace_core::Point;
+
+/// A tag without its quotes, which come off only as a pair.
+pub(crate) fn unquoted(text: &[u8]) -> &[u8]
+    ensures { result.now ≡ unquoted text.now }
+{
+    match text {
+        [b'"', inner @ .., b'"'] => inner,
+        _ => text,
+    }
+}
+
+/// Whether the Methods fields name the method of the point.
+pub(crate) fn serves(fields: &Fields, point: Point) -> bool
+    ensures { result ≡ serves point (field_list fields.now) }
+{
+    let method = method_name(point);
+    for value in fields.values(b"Methods") {
+        if lists_item(value, method) {
+            return true;
+        }
+    }
+    false
+}
+
+/// The method of a point.
+fn method_name(point: Point) -> &'static [u8]
+    ensures { result.now ≡ method_name point }
+{
+    match point {
+        Point::Reqmod => b"REQMOD",
+        Point::Respmod => b"RESPMOD",
+    }
+}
+
+/// Whether a comma-separated list has the item, in its exact case.
+fn lists_item(list: &[u8], item: &[u8]) -> bool
+    ensures { result ≡ lists_item list.now item.now }
+{
+    for found in comma_items(list) {
+        if found == item {
+            return true;
+        }
+    }
+    false
+}
+
+/// Copies of the values of all fields of this name.
+pub(crate) fn copy_values(
+    alloc: Global,
+    fields: &Fields,
+    name: &[u8],
+) -> Result<Vec<Vec<u8>>, NoMemory>
+    ensures { IfOk result (λ copies. map bytes_of copies.items ≡ values_of name.now (field_list fields.now)) }
+{
+    let mut copies = Vec::new(alloc);
+    for value in fields.values(name) {
+        copies.push(value.to_vec(alloc)?)?;
+    }
+    Ok(copies)
+}
