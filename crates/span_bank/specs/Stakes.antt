@@ -9,9 +9,11 @@ pub record Shown : Type 0 where
   pub held : ℕ
   pub claim : ℕ
 
+-- the bytes that the reservations of a list hold
 abbrev pub held_sum : List Shown → ℕ
 held_sum stakes = sum_by (λ s. s.held) stakes
 
+-- the bytes that they reserve
 abbrev pub claim_sum : List Shown → ℕ
 claim_sum stakes = sum_by (λ s. s.claim) stakes
 

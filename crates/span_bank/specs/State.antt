@@ -49,6 +49,7 @@ rebased v = if length v.steps == v.room then record v { base = v.numbers; steps 
 abbrev pub pushed : Journaled → BankStep → Journaled
 pushed v s = record v { numbers = after v.numbers s; steps = v.steps ++ s ∷ [] }
 
+-- the step is taken, where the journal may be full
 abbrev pub appended : Journaled → BankStep → Journaled
 appended v s = pushed (rebased v) s
 

@@ -1,5 +1,6 @@
-//! The budget, shared by threads: one lock, and calls that take it, call one method of what lies under it, and let go.
-ghost use Rattle.std.specs.Prelude.{◌≡◌, ◌+◌, ◌-◌, ◌≤◌, ◌<◌, ◌^◌, IfOk, IfErr, IfSome, vec_len};
+//! The budget, shared by threads. Each call takes the one lock, calls one method of what lies
+//! under it, and lets go.
+ghost use Rattle.std.specs.Prelude.{◌≡◌, ◌+◌, ◌-◌, ◌≤◌, ◌<◌, IfOk, IfErr, IfSome, vec_len};
 ghost use Rattle.span_bank.specs.Stakes.{held_sum, claim_sum, CountsIn, lent, given_back};
 
 use crate::NoMemory;

@@ -43,7 +43,7 @@ impl<H: Ledger, F: Ledger> Model for Locked<H, F> {
 
 // Takes a step that is no Open, so that none is refused.
 fn take(state: &mut BankState, step: BankStep)
-    requires sums { IsAllowed state.old.numbers step }
+    requires allowed { IsAllowed state.old.numbers step }
     requires fits { Fits state.old step }
     ensures taken { state.new ≡ stepped state.old step }
     ensures sound { IsSound state.new }

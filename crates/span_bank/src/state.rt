@@ -1,5 +1,6 @@
-//! The totals of a budget with the log that replays to them. Everything that changes the totals stands here, and nothing here knows a lock.
-ghost use Rattle.std.specs.Prelude.{◌≡◌, ◌≤◌, ◌<◌, ◌^◌, ◌↔◌, [], length, IsOk, IfOk, IfErr, OnOk, OnErr, slice_get};
+//! The totals of a budget with the log that replays to them. Everything that changes the totals
+//! stands here, and nothing here knows a lock.
+ghost use Rattle.std.specs.Prelude.{◌≡◌, ◌≤◌, ◌<◌, ◌↔◌, [], length, IsOk, IfOk, IfErr, OnOk, OnErr, slice_get};
 ghost use Rattle.span_bank.specs.State.{IsAllowed, Fits, Refuses, rebased, pushed, stepped, opening, IsSound};
 
 use crate::NoMemory;
@@ -23,14 +24,28 @@ impl Model for BankState {
 
     ghost Value = { Journaled };
 
-    ghost view = { λ s. record { numbers = s.numbers; most_rows = s.most_rows; base = s.base; steps = s.journal.items; room = s.room } };
+    ghost view = { λ s. record {
+      numbers = s.numbers;
+      most_rows = s.most_rows;
+      base = s.base;
+      steps = s.journal.items;
+      room = s.room;
+    } };
 
-    ghost invariant = { λ s. IsSound (record { numbers = s.numbers; most_rows = s.most_rows; base = s.base; steps = s.journal.items; room = s.room }) × (s.room ≤ vec_capacity s.journal) };
+    // the room was made at the start, so that no step takes memory
+    ghost invariant = { λ s. (s.room ≤ vec_capacity s.journal) × IsSound (record {
+      numbers = s.numbers;
+      most_rows = s.most_rows;
+      base = s.base;
+      steps = s.journal.items;
+      room = s.room;
+    }) };
 }
 
 impl BankState {
-    /// A budget of `capacity` bytes with no open reservation, and room for a journal of so many steps.
-    /// At most `rows` reservations can be open. `Err` where there is no memory for the journal.
+    /// A budget of `capacity` bytes with no open reservation, and room for a journal of so many
+    /// steps. At most `rows` reservations can be open. `Err` where there is no memory for the
+    /// journal.
     pub fn new(
         alloc: Global,
         capacity: u64,
@@ -75,7 +90,7 @@ impl BankState {
 
     // Takes a step that fits, where the journal has room.
     fn push(&mut self, step: BankStep)
-        requires sums { IsAllowed self.old.numbers step }
+        requires allowed { IsAllowed self.old.numbers step }
         requires fits { Fits self.old step }
         requires room { length self.old.steps < self.old.room }
         ensures done { self.new ≡ pushed self.old step }
@@ -85,9 +100,10 @@ impl BankState {
         self.journal.push_reserved(step);
     }
 
-    /// Takes one step and appends it to the journal; a full journal first takes the totals from before it as its base.
-    /// A `Reclaim` to the present size is no step, and changes nothing. The sums have to allow the step.
-    /// `Full` is answered where an `Open` would pass the capacity, and else `NoRow` where each slot is taken.
+    /// Takes one step, which the sums have to allow, and appends it to the journal. A full journal
+    /// first takes the totals from before the step as its base. A `Reclaim` to the present size is
+    /// no step, and changes nothing. `Full` is answered where an `Open` would pass the capacity,
+    /// and else `NoRow` where each slot is taken.
     pub fn apply(&mut self, step: BankStep) -> Result<(), OpenFault>
         requires { IsAllowed self.old.numbers step }
         ensures ok { IsOk result ↔ Fits self.old step }
