@@ -1,5 +1,5 @@
 -- A text has one reading: what a reader says of it.
-use Rattle.std.proofs.Common.{◌≡◌, ℕ, ◌<◌, ◌≤◌, Bool, List, [], ◌++◌, length, take, drop, Some, None, refl, sym, ap, ◌∙◌, subst, arith, take-take, length-take-le, append_assoc, inl, inr}
+use Rattle.std.proofs.Common.{◌≡◌, ℕ, ◌<◌, ◌≤◌, Bool, List, [], ◌++◌, length, take, drop, Some, None, refl, sym, ap, ◌∙◌, subst, arith, take-take, length-take-le, append_assoc, take_all, inl, inr}
 use Rattle.std.proofs.lemmas.List.{take-append-drop}
 use Rattle.std.proofs.lemmas.Bool.{cases_lt}
 use Rattle.icap_chunks.specs.declared.fault.ChunkFault.{ChunkFault}
@@ -11,7 +11,9 @@ use Rattle.icap_chunks.specs.declared.reader.ChunkReader.{ChunkReader}
 use Rattle.icap_chunks.specs.Grammar.{IsChunked}
 use Rattle.icap_chunks.specs.Machine.{start, run, body_of, end_of, fault_of, HasRead}
 use Rattle.icap_chunks.specs.Faults.{Part, EndsIn, Breaks}
+use Rattle.icap_chunks.specs.Collected.{HasReadTo}
 use Rattle.icap_chunks.specs.Reading.{IsReading}
+use Rattle.icap_chunks.specs.declared.pieces.Collector.{Collector}
 use Rattle.icap_chunks.proofs.Endings.{chunked_ends, end_stays, ended_at, some_none, reads_chunked}
 use Rattle.icap_chunks.proofs.Faults.{answers_faults, breaks_fault, fault_is, stands_walk}
 use Rattle.icap_chunks.proofs.Parts.{part_place, place_part}
@@ -114,3 +116,16 @@ breaks_longer text more body fault b = record {
 
 pub reads_fault : (text body : List ℕ) (r : ChunkReader) (fault : ChunkFault) → HasRead text body r → fault_of r ≡ Some fault → Breaks text body fault
 reads_fault text body r fault h e = (answers_faults text body fault).0 (ap fault_of h.read ∙ e, h.found)
+
+-- a reading whose parts have other names
+pub reading_as : (text a b : List ℕ) (p q : Outcome) → IsReading text a p → b ≡ a → q ≡ p → IsReading text b q
+reading_as text a b p q h body outcome =
+    let P : List ℕ → Type 0 = λ x. IsReading text x p in
+    let Q : Outcome → Type 0 = λ o. IsReading text b o in
+    subst Q (sym outcome) (subst P (sym body) h)
+
+-- a collector that has read the whole text
+pub collected : (text : List ℕ) (collector : Collector) → HasReadTo text collector → length text ≤ collector.at → IsReading text collector.body.items More
+collected text collector h all =
+    let P : List ℕ → Type 0 = λ t. HasRead t collector.body.items collector.reader in
+    reads_more text collector.body.items collector.reader (subst P (take_all collector.at text all) h.read) h.no_end h.sound

@@ -1,5 +1,5 @@
 -- What a reader makes of a list of bytes, part by part.
-use Rattle.std.proofs.Common.{◌≡◌, ℕ, zero, suc, ◌+◌, ◌-◌, ◌<◌, ◌≤◌, Bool, true, false, List, [], ◌∷◌, ◌++◌, length, get_or, take, drop, slice_range, min, None, refl, sym, ap, ◌∙◌, arith, nat_lt, nat_le, append_assoc, inl, inr, ◌⊎◌, length-take, length-drop, if◌then◌else◌}
+use Rattle.std.proofs.Common.{◌≡◌, ℕ, zero, suc, ◌+◌, ◌-◌, ◌<◌, ◌≤◌, Bool, true, false, List, [], ◌∷◌, ◌++◌, length, get_or, take, drop, slice_range, min, None, refl, sym, ap, subst, ◌∙◌, arith, nat_lt, nat_le, append_assoc, inl, inr, ◌⊎◌, length-take, length-drop, if◌then◌else◌}
 use Rattle.std.proofs.lemmas.Bool.Decides.{nat_tests}
 use Rattle.std.proofs.lemmas.Bool.{cases_lt}
 use Rattle.std.proofs.Math.Seq.{take-suc, take-add}
@@ -59,7 +59,9 @@ same_behind sum more n pos = elim (cases_lt more (suc n)) [
   | inl over ↦ behind_all sum (more - 1) n (omega arith) ∙ sym (behind_all sum more (suc n) over)
   | inr below ↦
       let same : (more - 1) - n ≡ more - suc n = omega arith in
-      behind_more sum (more - 1) n (omega arith) ∙ ap (λ k. record { sum = sum; place = Data k }) same ∙ sym (behind_more sum more (suc n) below)
+      let P : ℕ → Type 0 = λ k. data_behind sum (more - 1) n ≡ record { sum = sum; place = Data k } in
+      let first : data_behind sum (more - 1) n ≡ record { sum = sum; place = Data (more - suc n) } = subst P same (behind_more sum (more - 1) n (omega arith)) in
+      first ∙ sym (behind_more sum more (suc n) below)
 ]
 
 in_data_more : (more : ℕ) → 0 < more → in_data more ≡ Data (more - 1)

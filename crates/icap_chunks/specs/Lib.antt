@@ -1,3 +1,4 @@
+pub mod Collected
 pub mod Faults
 pub mod Grammar
 pub mod Machine

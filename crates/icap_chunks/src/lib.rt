@@ -12,7 +12,7 @@ mod tests;
 mod writers;
 
 pub use fault::ChunkFault;
-pub use pieces::{Outcome, Reading, read_in_pieces};
+pub use pieces::{Outcome, Reading, read_cut, read_in_pieces};
 pub use reader::{ChunkReader, Fed};
 pub use std::alloc::AllocError as NoMemory;
 pub use writers::{put_chunk_head, put_chunk_tail, put_last};

@@ -1,5 +1,6 @@
-//! A whole text, read in pieces.
-ghost use Rattle.std.specs.Prelude.{◌<◌, ◌≤◌, ◌+◌, IfOk, length};
+//! A whole text, however it is cut into pieces.
+ghost use Rattle.std.specs.Prelude.{◌≡◌, ℕ, ◌<◌, ◌≤◌, List, IfOk, IfSome, Ok, None, length};
+ghost use Rattle.icap_chunks.specs.Collected.{HasReadTo};
 ghost use Rattle.icap_chunks.specs.Reading.{IsReading};
 
 use crate::fault::ChunkFault;
@@ -38,36 +39,97 @@ pub fn read_in_pieces(alloc: Global, text: &[u8], piece_size: usize) -> Result<R
     requires { 0 < piece_size }
     ensures { IfOk result (λ reading. IsReading text.now reading.body.items reading.outcome) }
 {
-    let mut reader = ChunkReader::new();
-    let mut body = Vec::new(alloc);
-    let mut at = 0;
-    while at < text.len() {
-        let end = piece_end(at, piece_size, text.len());
-        let piece = &text[at..end];
-        match reader.feed(piece) {
-            Ok(fed) => {
-                body.extend_from_slice(&piece[fed.part.0..fed.part.1])?;
-                at += fed.used;
-                if let Some(ieof) = fed.ended {
-                    let outcome = Outcome::Ended { ieof, used: at };
-                    return Ok(Reading { body, outcome });
-                }
-            }
-            Err(fault) => {
-                let outcome = Outcome::Faulted(fault);
-                return Ok(Reading { body, outcome });
-            }
+    let mut collector = Collector::new(alloc);
+    while collector.at < text.len() {
+        let end = piece_end(collector.at, piece_size, text.len());
+        if let Some(outcome) = collector.read_to(text, end)? {
+            return Ok(collector.reading(outcome));
         }
     }
-    let outcome = Outcome::More;
-    Ok(Reading { body, outcome })
+    Ok(collector.reading(Outcome::More))
 }
 
+/// Reads a text that comes in pieces of these sizes, and what is behind them as a last piece: any way to cut it.
+///
+/// The answer doesn't depend on the sizes. `NoMemory` where there is none for the body.
+pub fn read_cut(alloc: Global, text: &[u8], sizes: &[usize]) -> Result<Reading, NoMemory>
+    ensures { IfOk result (λ reading. IsReading text.now reading.body.items reading.outcome) }
+{
+    let mut collector = Collector::new(alloc);
+    for size in sizes {
+        let end = piece_end(collector.at, *size, text.len());
+        if let Some(outcome) = collector.read_to(text, end)? {
+            return Ok(collector.reading(outcome));
+        }
+    }
+    match collector.read_to(text, text.len())? {
+        Some(outcome) => Ok(collector.reading(outcome)),
+        None => Ok(collector.reading(Outcome::More)),
+    }
+}
+
+/// A reader with the body that it has found, up to an offset of a text.
+#[derive(Debug, Drop)]
+pub(crate) struct Collector {
+    reader: ChunkReader,
+    body: Vec<u8>,
+    at: usize,
+}
+
+impl Collector {
+    #[tactic(auto, unfolding(crate::specs::Machine::end_at, crate::specs::Machine::faulted_at))]
+    fn new(alloc: Global) -> Collector
+        ensures read { (text : List ℕ) → HasReadTo text result }
+        ensures at { result.at ≡ 0 }
+    {
+        Collector {
+            reader: ChunkReader::new(),
+            body: Vec::new(alloc),
+            at: 0,
+        }
+    }
+
+    /// Reads the piece of the text up to `end`. Says how the reading went once the body has ended or a byte breaks the grammar.
+    fn read_to(&mut self, text: &[u8], end: usize) -> Result<Option<Outcome>, NoMemory>
+        requires low { self.old.at ≤ end }
+        requires high { end ≤ length text.now }
+        requires read { HasReadTo text.now self.old }
+        ensures more { result ≡ Ok None → HasReadTo text.now self.new × (self.new.at ≡ end) }
+        ensures found { IfOk result (λ found. IfSome found (λ outcome. IsReading text.now self.new.body.items outcome)) }
+    {
+        while self.at < end {
+            let rest = &text[self.at..end];
+            match self.reader.feed(rest) {
+                Ok(fed) => {
+                    let part = &rest[fed.part.0..fed.part.1];
+                    self.body.extend_from_slice(part)?;
+                    self.at += fed.used;
+                    if let Some(ieof) = fed.ended {
+                        let used = self.at;
+                        return Ok(Some(Outcome::Ended { ieof, used }));
+                    }
+                }
+                Err(fault) => return Ok(Some(Outcome::Faulted(fault))),
+            }
+        }
+        Ok(None)
+    }
+
+    fn reading(self, outcome: Outcome) -> Reading
+        ensures body { result.body.items ≡ self.body.items }
+        ensures outcome { result.outcome ≡ outcome }
+    {
+        let Collector { body, .. } = self;
+        Reading { body, outcome }
+    }
+}
+
+/// Where a piece ends that begins at an offset of a text.
 fn piece_end(at: usize, size: usize, len: usize) -> usize
-    requires more { at < len }
-    requires some { 0 < size }
-    ensures low { at < result }
+    requires { at ≤ len }
+    ensures low { at ≤ result }
     ensures high { result ≤ len }
+    ensures more { 0 < size → at < len → at < result }
 {
     if size < len - at { at + size } else { len }
 }

@@ -1,6 +1,6 @@
 //! Whole texts with what they are: worked examples, each limit minus one, at it and one past, in pieces of every size.
 use crate::{
-    ChunkFault, ChunkReader, NoMemory, Outcome, Reading, put_chunk_head, put_chunk_tail, put_last,
+    ChunkFault, ChunkReader, NoMemory, Outcome, put_chunk_head, put_chunk_tail, put_last, read_cut,
     read_in_pieces,
 };
 use adapt_bytes::Small;
@@ -12,44 +12,6 @@ const LARGEST: u64 = (1 << 62) - 1;
 
 fn ended(ieof: bool, used: usize) -> Outcome {
     Outcome::Ended { ieof, used }
-}
-
-/// What a reader says of a text that comes in two pieces.
-fn read_two(alloc: Global, first: &[u8], second: &[u8]) -> Result<Reading, NoMemory> {
-    let mut reader = ChunkReader::new();
-    let mut body = Vec::new(alloc);
-    let mut used: usize = 0;
-    for piece in [first, second] {
-        let mut rest = piece;
-        for _ in 0..=piece.len() {
-            match reader.feed(rest) {
-                Ok(fed) => {
-                    body.extend_from_slice(&rest[fed.part.0..fed.part.1])?;
-                    used = used.saturating_add(fed.used);
-                    rest = &rest[fed.used..];
-                    if let Some(ieof) = fed.ended {
-                        let outcome = ended(ieof, used);
-                        return Ok(Reading { body, outcome });
-                    }
-                }
-                Err(fault) => {
-                    let outcome = Outcome::Faulted(fault);
-                    return Ok(Reading { body, outcome });
-                }
-            }
-            if rest.is_empty() {
-                break;
-            }
-        }
-    }
-    let outcome = Outcome::More;
-    Ok(Reading { body, outcome })
-}
-
-/// What a reader says of a text that is cut in two.
-fn read_cut(alloc: Global, text: &[u8], cut: usize) -> Result<Reading, NoMemory> {
-    let cut = cut.min(text.len());
-    read_two(alloc, &text[..cut], &text[cut..])
 }
 
 /// A text of a front, so many bytes, and an end.
@@ -82,10 +44,13 @@ fn is_read_at_every_cut(
         assert_eq!(rt; reading.outcome, outcome, "in pieces of {size}");
     }
     for cut in 0..=text.len() {
-        let reading = read_cut(alloc, text, cut)?;
+        let reading = read_cut(alloc, text, &[cut])?;
         assert_eq!(rt; reading.body.as_slice(), body, "cut at {cut}");
         assert_eq!(rt; reading.outcome, outcome, "cut at {cut}");
     }
+    let reading = read_cut(alloc, text, &[0, 1, 0, 2, 3, usize::MAX, 1])?;
+    assert_eq!(rt; reading.body.as_slice(), body);
+    assert_eq!(rt; reading.outcome, outcome);
     Ok(())
 }
 
@@ -216,7 +181,7 @@ fn limits_of_a_line_and_of_trailers(rt: HostRuntime) -> Result<(), Fail> {
             if cut > 300 && text.len().saturating_sub(cut) > 20 && cut % 1000 != 0 {
                 continue;
             }
-            let reading = read_cut(rt.alloc(), &text, cut)?;
+            let reading = read_cut(rt.alloc(), &text, &[cut])?;
             assert_eq!(rt; reading.outcome, outcome, "cut at {cut}");
         }
     }

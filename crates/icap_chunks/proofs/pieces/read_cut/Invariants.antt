@@ -1,0 +1,5 @@
+use Rattle.icap_chunks.specs.Collected.{HasReadTo}
+use Rattle.icap_chunks.proofs.pieces.read_cut.Given as goal
+
+abbrev pub invariant-loop-size : goal.invariant-loop-size
+invariant-loop-size l = HasReadTo l.text l.collector
