@@ -202,6 +202,9 @@ says-parts_of text kind allow len e = by_front (behind (codes "plan ") text) ref
 pub says_no_parts : (text : List ℕ) → parts_of text ≡ None → (kind : Kind) (allow : Bool) (len : Option ℕ) → SaysParts text kind allow len → ⊥
 says_no_parts text e kind allow len h = let f = parts_of-says text kind allow len h in absurd (cc)
 
+not_some : IsSome {T = Plan} None → ⊥
+not_some e = absurd (cc)
+
 -- a plan that is made of the parts that were read, where they are in range
 module _ (text : List ℕ) (kind : Kind) (allow : Bool) (len : Option ℕ) (read : parts_of text ≡ Some (kind, allow, len)) where
   pub plan_found : (r : Option Plan) → IfSome r (λ plan. (plan.kind ≡ kind) × (plan.allow ≡ allow) × (plan.len ≡ len) × (plan.point ≡ Respmod))
@@ -230,5 +233,4 @@ module _ (text : List ℕ) (kind : Kind) (allow : Bool) (len : Option ℕ) (read
       let l : plan.len ≡ len = ap (λ (p : Kind × Bool × Option ℕ). p.2) triple in
       let fits : IsPlanned plan.kind plan.len = h.in_range in
       let in_range : IsPlanned kind len = rw (← k, ← l) fits in
-      let some = range.1 in_range in
-      absurd (cc)
+      not_some (range.1 in_range)

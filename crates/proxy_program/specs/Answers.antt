@@ -1,5 +1,5 @@
 -- What is printed for a script.
-use Rattle.std.specs.Prelude.{◌≡◌, ℕ, nat_le, nat_lt, ◌&&◌, List, [], ◌∷◌, ◌++◌, Option, Some, None, if◌then◌else◌, codes}
+use Rattle.std.specs.Prelude.{◌≡◌, ℕ, List, [], ◌∷◌, ◌++◌, Option, Some, None, if◌then◌else◌, codes}
 use Rattle.adapt_bytes.specs.Numeral.{numeral}
 use Rattle.trace_core.specs.declared.history.Plan.{Plan}
 use Rattle.trace_core.specs.declared.history.Event.{Event}
@@ -14,7 +14,7 @@ use Rattle.trace_core.specs.Run.{shown_adapted}
 use Rattle.trace_core.specs.Norm.{History}
 use Rattle.trace_core.specs.View.{answer_to, after_answer}
 use Rattle.need_witness.specs.declared.tape.Tape.{Tape}
-use Rattle.need_witness.specs.Script.{held_on}
+use Rattle.need_witness.specs.Needs.{is_held}
 use Rattle.need_witness.specs.Table.{script_of}
 use Rattle.proxy_program.specs.declared.script.Line.{Line}
 use Rattle.proxy_program.specs.declared.script.Line.TheVariants.{Step, Need}
@@ -67,8 +67,7 @@ accepted_with plan before event = accepted_by before event (first_fault (seen pl
 
 -- the script of the table for a place that is held, and none for any other
 abbrev pub needed_script : Tape → Seen → ℕ → Option (List Event)
-needed_script tape x place =
-    if nat_le (held_on tape x).0 place && nat_lt place (held_on tape x).1 then Some (script_of tape x place) else None
+needed_script tape x place = if is_held tape x place then Some (script_of tape x place) else None
 
 -- what is printed for lines behind these events
 abbrev pub output_after : Plan → List Event → List Line → List ℕ

@@ -22,7 +22,7 @@ pub fn write_number(out: &mut Vec<u8>, n: u64) -> Result<(), NoMemory>
 }
 
 /// Adds a range of offsets, as `4..6`.
-pub fn write_range(out: &mut Vec<u8>, range: (u64, u64)) -> Result<(), NoMemory>
+fn write_range(out: &mut Vec<u8>, range: (u64, u64)) -> Result<(), NoMemory>
     ensures { OnOk result (out.new.items ≡ out.old.items ++ range_text range) }
 {
     write_number(out, range.0)?;
@@ -86,7 +86,7 @@ fn event_number(event: Event) -> Option<u64>
 }
 
 /// Adds an event, as a script has it.
-pub fn write_event(out: &mut Vec<u8>, event: Event) -> Result<(), NoMemory>
+fn write_event(out: &mut Vec<u8>, event: Event) -> Result<(), NoMemory>
     ensures { OnOk result (out.new.items ≡ out.old.items ++ event_text event) }
 {
     out.extend_from_slice(event_word(event))?;

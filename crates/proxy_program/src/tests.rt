@@ -4,7 +4,7 @@ mod scripts;
 
 use crate::error::MAX_INPUT;
 use crate::run::run;
-use scripts::SCRIPTS;
+use scripts::{OTHER_FORMS, SCRIPTS};
 use std::alloc::{AllocError, Global};
 use std::io::{self, ErrorKind, Read, Write};
 
@@ -129,53 +129,7 @@ fn arguments_are_judged_before_anything_is_read(rt: HostRuntime) {
 
 #[test]
 fn lines_of_another_form_are_numbered(rt: HostRuntime) {
-    let cases = [
-        ("", 1),
-        ("\n", 1),
-        ("\n\n", 1),
-        ("plan\n", 1),
-        ("plan \n", 1),
-        ("plan  plain\n", 1),
-        (" plan plain\n", 1),
-        ("plan plain \n", 1),
-        ("plan plain\r\n", 1),
-        ("plan plain\n\n", 2),
-        ("plan plainx\n", 1),
-        ("plan preview\n", 1),
-        ("plan preview \n", 1),
-        ("plan preview x\n", 1),
-        ("plan preview 4 len\n", 1),
-        ("plan preview 4 len 9 allow\n", 1),
-        ("plan whole allow allow\n", 1),
-        ("plan whole  allow\n", 1),
-        ("plan preview 4611686018427387904\n", 1),
-        ("plan whole len 4611686018427387904\n", 1),
-        ("in 1\n", 1),
-        ("plan whole\nplan whole\n", 2),
-        ("plan whole\nin\n", 2),
-        ("plan whole\nin \n", 2),
-        ("plan whole\nin  1\n", 2),
-        ("plan whole\nin 1 \n", 2),
-        ("plan whole\nin -1\n", 2),
-        ("plan whole\nin 1a\n", 2),
-        ("plan whole\nin 18446744073709551616\n", 2),
-        ("plan whole\nend\r\n", 2),
-        ("plan whole\nend \n", 2),
-        ("plan whole\nEnd\n", 2),
-        ("plan whole\n200  null\n", 2),
-        ("plan whole\n206\n", 2),
-        ("plan whole\nfail 0\n", 2),
-        ("plan whole\nfail 7\n", 2),
-        ("plan whole\nfail\n", 2),
-        ("plan whole\nneed 3\n", 2),
-        ("plan whole\nneed original\n", 2),
-        ("plan whole\nneed both 3\n", 2),
-        ("plan whole\nin 1\nin 2\nx\nin 3\ny\n", 4),
-        ("plan whole\nin 1\n\nin 2", 3),
-        ("plan whole\nin 1\nin", 3),
-        ("plan whole\nin 1\0\n", 2),
-    ];
-    for (script, line) in cases {
+    for (script, line) in OTHER_FORMS {
         let ended = run_on(rt.alloc(), &["trace"], script.as_bytes()).expect(&rt, "memory");
         let text = format!(in rt.alloc(); "adaptproxy: line {line}\n").expect(&rt, "memory");
         assert!(rt; ends(&ended, 2, b"", text.as_bytes()), "{script:?}");
