@@ -18,10 +18,10 @@ use Rattle.icap_head.specs.Written.{IsFieldPair, IsRequest, IsResponse}
 
 -- ---- trimmed values
 
-skip_yes : (b : ℕ) (xs : List ℕ) → is_ows b ≡ true → skip_ows (b ∷ xs) ≡ skip_ows xs
+pub skip_yes : (b : ℕ) (xs : List ℕ) → is_ows b ≡ true → skip_ows (b ∷ xs) ≡ skip_ows xs
 skip_yes b xs is = rw is refl
 
-skip_off : (b : ℕ) (xs : List ℕ) → is_ows b ≡ false → skip_ows (b ∷ xs) ≡ b ∷ xs
+pub skip_off : (b : ℕ) (xs : List ℕ) → is_ows b ≡ false → skip_ows (b ∷ xs) ≡ b ∷ xs
 skip_off b xs is = rw is refl
 
 skip_twice : (xs : List ℕ) → skip_ows (skip_ows xs) ≡ skip_ows xs
@@ -53,7 +53,7 @@ front_trimmed (b ∷ xs) ys e = elim (cases_Bool (is_ows b)) [
   | inr is ↦ skip_off b xs is
 ]
 
-trimmed_front : (raw : List ℕ) → skip_ows (trim_ows raw) ≡ trim_ows raw
+pub trimmed_front : (raw : List ℕ) → skip_ows (trim_ows raw) ≡ trim_ows raw
 unfolding trim_ows
 trimmed_front raw =
     let w = skip_ows raw in
@@ -62,7 +62,7 @@ trimmed_front raw =
     let whole : w ≡ v ++ reverse cut.0 = sym (reverse-reverse w) ∙ ap reverse cut.1 ∙ reverse-append cut.0 (skip_ows (reverse w)) in
     front_trimmed v (reverse cut.0) (ap skip_ows (sym whole) ∙ skip_twice raw ∙ whole)
 
-trimmed_back : (raw : List ℕ) → skip_ows (reverse (trim_ows raw)) ≡ reverse (trim_ows raw)
+pub trimmed_back : (raw : List ℕ) → skip_ows (reverse (trim_ows raw)) ≡ reverse (trim_ows raw)
 unfolding trim_ows
 trimmed_back raw =
     let u = skip_ows (reverse (skip_ows raw)) in

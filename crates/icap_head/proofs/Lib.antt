@@ -9,4 +9,5 @@ pub mod Readings
 pub mod Refusals
 pub mod Sections
 pub mod Statuses
+pub mod Trimmed
 pub mod Words

@@ -1,12 +1,15 @@
 //! Field lines, read by `httparse` and written (RFC 9112, section 5).
-ghost use Rattle.std.specs.Prelude.{◌≡◌, ℕ, ◌+◌, ◌-◌, ◌<◌, ◌≤◌, ◌⊎◌, ◌++◌, List, length, map, take, drop, All, IfOk, IfErr, IfSome, IfNone, OnOk, slice_index};
+ghost use Rattle.std.specs.Prelude.{◌≡◌, ℕ, ◌+◌, ◌-◌, ◌<◌, ◌≤◌, ◌⊎◌, ◌++◌, List, length, map, take, drop, All, IfOk, IfErr, IfSome, IfNone, OnOk, slice_index, IsTrue, ◌↔◌};
+ghost use Rattle.std.specs.List.{AllByRecursion};
+ghost use Rattle.httparse.specs.Grammar.{is_value_byte, AllPass};
 ghost use Rattle.httparse.specs.Spans.{IsHeaderWithin, header_bytes};
 ghost use Rattle.icap_head.specs.FieldLines.{ReadsFields, HasFields, FieldsStand, LinesStand, line_count};
 ghost use Rattle.icap_head.specs.Fields.{field_parts, field_list};
-ghost use Rattle.icap_head.specs.Written.{fields_text, field_text};
+ghost use Rattle.icap_head.specs.Written.{fields_text, field_text, IsFieldPair};
 
 use crate::reading::{HeadFault, MAX_FIELDS, unended};
 use crate::{Field, Fields, NoMemory};
+use adapt_bytes::{is_token, trim};
 use httparse::spans::{EMPTY_HEADER_SPAN, HeaderSpan, parse_headers_from};
 use httparse::{Error, Status};
 use std::alloc::Global;
@@ -94,6 +97,44 @@ fn field_of(alloc: Global, lines: &[u8], header: HeaderSpan) -> Result<Field, No
         name: header.name.of(lines).to_vec(alloc)?,
         value: header.value.of(lines).to_vec(alloc)?,
     })
+}
+
+/// Whether field lines can hold these fields.
+pub(crate) fn are_writable(fields: &[Field]) -> bool
+    ensures { IsTrue result ↔ AllByRecursion IsFieldPair (map field_parts fields.now) }
+{
+    for field in fields {
+        if !is_writable(field) {
+            return false;
+        }
+    }
+    true
+}
+
+/// Whether a field line can hold this field: a token, and a trimmed value with no control byte but tabs.
+fn is_writable(field: &Field) -> bool
+    ensures { IsTrue result ↔ IsFieldPair (field_parts field.now) }
+{
+    if !is_token(&field.name) {
+        return false;
+    }
+    if !are_value_bytes(&field.value) {
+        return false;
+    }
+    trim(&field.value) == field.value.as_slice()
+}
+
+fn are_value_bytes(value: &[u8]) -> bool
+    ensures { IsTrue result ↔ AllPass is_value_byte value.now }
+{
+    value.iter().all(|byte| is_value_byte(*byte))
+}
+
+/// Whether a value may have this byte.
+fn is_value_byte(byte: u8) -> bool
+    ensures { result ≡ is_value_byte byte }
+{
+    byte == b'\t' || (byte >= b' ' && byte != 0x7f)
 }
 
 /// Adds the field lines and the empty line behind them.

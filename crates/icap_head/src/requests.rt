@@ -1,13 +1,14 @@
 //! Heads of ICAP requests (RFC 3507, section 4.3.2).
-ghost use Rattle.std.specs.Prelude.{◌≡◌, ℕ, ◌⊎◌, List, take, IfOk, IfErr, IsOkAnd};
+ghost use Rattle.std.specs.Prelude.{◌≡◌, ℕ, ◌⊎◌, List, take, IfOk, IfErr, IsOkAnd, IsTrue, ◌↔◌};
 ghost use Rattle.icap_head.specs.StartLines.{RequestForm};
 ghost use Rattle.icap_head.specs.Heads.{Request, HasRequest, IsRequestHead, Stands, NeedsUri, request_parts};
 ghost use Rattle.icap_head.specs.Written.{IsRequest, request_text};
 
-use crate::field_lines::{put_fields, read_fields};
+use crate::field_lines::{are_writable, put_fields, read_fields};
 use crate::reading::{judged, unended};
-use crate::start_lines::{first_line, read_request_line};
+use crate::start_lines::{first_line, is_icap_uri, read_request_line};
 use crate::{Fields, Head, HeadFault, Method, NoMemory};
+use adapt_bytes::is_token;
 use std::alloc::Global;
 
 /// The head of a request.
@@ -17,6 +18,27 @@ pub struct IcapRequest {
     /// The URI as it came.
     pub uri: Vec<u8>,
     pub fields: Fields,
+}
+
+impl IcapRequest {
+    /// Whether some head holds this request, so that it can be written.
+    pub fn is_writable(&self, alloc: Global) -> Result<bool, NoMemory>
+        ensures { IfOk result (λ is. IsTrue is ↔ IsRequest (request_parts self.now)) }
+    {
+        if !is_token(self.method.name()) {
+            return Ok(false);
+        }
+        if self.uri.contains(&b' ') {
+            return Ok(false);
+        }
+        if self.uri.contains(&b'\n') {
+            return Ok(false);
+        }
+        if !are_writable(self.fields.as_slice()) {
+            return Ok(false);
+        }
+        is_icap_uri(alloc, &self.uri)
+    }
 }
 
 /// Reads the head of a request at the front of the text.

@@ -1,10 +1,10 @@
 //! Heads of ICAP responses (RFC 3507, section 4.3.3).
-ghost use Rattle.std.specs.Prelude.{◌≡◌, ℕ, ◌⊎◌, ◌<◌, ◌++◌, ◌+◌, List, take, IfOk, IfErr, IsOkAnd, OnOk};
+ghost use Rattle.std.specs.Prelude.{◌≡◌, ℕ, ◌⊎◌, ◌<◌, ◌++◌, ◌+◌, List, take, IfOk, IfErr, IsOkAnd, OnOk, IsTrue, ◌↔◌};
 ghost use Rattle.icap_head.specs.StartLines.{StatusForm};
 ghost use Rattle.icap_head.specs.Heads.{Response, HasResponse, IsResponseHead, Stands, response_parts};
 ghost use Rattle.icap_head.specs.Written.{IsResponse, response_text, three_digits};
 
-use crate::field_lines::{put_fields, read_fields};
+use crate::field_lines::{are_writable, put_fields, read_fields};
 use crate::reading::{judged, unended};
 use crate::start_lines::{first_line, read_status_line};
 use crate::{Fields, Head, HeadFault, NoMemory};
@@ -18,6 +18,21 @@ pub struct IcapResponse {
     /// The reason phrase, which may be empty.
     pub phrase: Vec<u8>,
     pub fields: Fields,
+}
+
+impl IcapResponse {
+    /// Whether some head holds this response, so that it can be written.
+    pub fn is_writable(&self) -> bool
+        ensures { IsTrue result ↔ IsResponse (response_parts self.now) }
+    {
+        if self.status > 999 {
+            return false;
+        }
+        if self.phrase.contains(&b'\n') {
+            return false;
+        }
+        are_writable(self.fields.as_slice())
+    }
 }
 
 /// Reads the head of a response at the front of the text.

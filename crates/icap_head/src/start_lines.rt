@@ -59,7 +59,7 @@ pub(crate) fn read_request_line(alloc: Global, line: &[u8]) -> Result<(&[u8], &[
     if !is_icap_uri(alloc, uri)? {
         return Err(HeadFault::StartLine);
     }
-    if version == b"ICAP/1.0".as_slice() {
+    if is_supported(version) {
         Ok((method, uri))
     } else {
         Err(HeadFault::Version)
@@ -78,8 +78,15 @@ fn is_version(text: &[u8]) -> bool
     }
 }
 
+/// Whether the version is the one that is read here.
+fn is_supported(version: &[u8]) -> bool
+    ensures { IsTrue result ↔ (version.now ≡ codes "ICAP/1.0") }
+{
+    version == b"ICAP/1.0".as_slice()
+}
+
 /// Whether the text is an ICAP URI.
-fn is_icap_uri(alloc: Global, text: &[u8]) -> Result<bool, NoMemory>
+pub(crate) fn is_icap_uri(alloc: Global, text: &[u8]) -> Result<bool, NoMemory>
     ensures { IfOk result (λ is. IsTrue is ↔ IsIcapUri text.now) }
 {
     if text.contains(&b'#') {
@@ -116,7 +123,7 @@ pub(crate) fn read_status_line(line: &[u8]) -> Result<(u16, &[u8]), HeadFault>
     let Some((status, phrase)) = read_status(rest) else {
         return Err(HeadFault::StartLine);
     };
-    if version == b"ICAP/1.0".as_slice() {
+    if is_supported(version) {
         Ok((status, phrase))
     } else {
         Err(HeadFault::Version)

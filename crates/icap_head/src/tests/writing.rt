@@ -1,5 +1,9 @@
-//! The texts that are written: CRLF, one space behind each colon, three digits.
-use crate::{read_request, read_response, write_request, write_response};
+//! The texts that are written, and which values can be: CRLF, one space behind each colon, three digits.
+use crate::{
+    Field, Fields, IcapRequest, IcapResponse, Method, NoMemory, read_request, read_response,
+    write_request, write_response,
+};
+use std::alloc::Global;
 use std::test::Fail;
 
 #[test]
@@ -45,6 +49,101 @@ fn responses_are_written(rt: HostRuntime) -> Result<(), Fail> {
         let head = read_response(rt.alloc(), text)?;
         let written = write_response(rt.alloc(), &head.value)?;
         assert_eq!(rt; written.as_slice(), wanted);
+    }
+    Ok(())
+}
+
+/// One field.
+fn field(alloc: Global, name: &[u8], value: &[u8]) -> Result<Fields, NoMemory> {
+    let mut list = Vec::new(alloc);
+    list.push(Field {
+        name: name.to_vec(alloc)?,
+        value: value.to_vec(alloc)?,
+    })?;
+    Ok(Fields::new(list))
+}
+
+#[test]
+fn requests_that_heads_hold_are_writable(rt: HostRuntime) -> Result<(), Fail> {
+    let cases: [(&[u8], &[u8], Option<&[u8]>); 8] = [
+        (
+            b"RESPMOD",
+            b"icap://h:1344/x",
+            Some(b"RESPMOD icap://h:1344/x ICAP/1.0\r\nHost: h\r\n\r\n"),
+        ),
+        (
+            b"M",
+            b"ICAP://h",
+            Some(b"M ICAP://h ICAP/1.0\r\nHost: h\r\n\r\n"),
+        ),
+        (b"", b"icap://h/x", None),
+        (b"NO TOKEN", b"icap://h/x", None),
+        (b"REQMOD", b"http://h/x", None),
+        (b"REQMOD", b"icap://h/x#f", None),
+        (b"REQMOD", b"icap://h/ x", None),
+        (b"REQMOD", b"icap://h/x\n", None),
+    ];
+    for (method, uri, wanted) in cases {
+        let request = IcapRequest {
+            method: Method::of_name(rt.alloc(), method)?,
+            uri: uri.to_vec(rt.alloc())?,
+            fields: field(rt.alloc(), b"Host", b"h")?,
+        };
+        if request.is_writable(rt.alloc())? {
+            let written = write_request(rt.alloc(), &request)?;
+            assert!(rt; wanted == Some(written.as_slice()));
+        } else {
+            assert!(rt; wanted == None);
+        }
+    }
+    Ok(())
+}
+
+#[test]
+fn responses_that_heads_hold_are_writable(rt: HostRuntime) -> Result<(), Fail> {
+    let cases: [(u16, &[u8], &[u8], &[u8], Option<&[u8]>); 11] = [
+        (
+            204,
+            b"",
+            b"ISTag",
+            b"\"x y\"",
+            Some(b"ICAP/1.0 204 \r\nISTag: \"x y\"\r\n\r\n"),
+        ),
+        (
+            5,
+            b"in CR\r",
+            b"a",
+            b"",
+            Some(b"ICAP/1.0 005 in CR\r\r\na: \r\n\r\n"),
+        ),
+        (
+            999,
+            b"x",
+            b"a",
+            b"b\tc",
+            Some(b"ICAP/1.0 999 x\r\na: b\tc\r\n\r\n"),
+        ),
+        (1000, b"x", b"a", b"b", None),
+        (200, b"two\nlines", b"a", b"b", None),
+        (200, b"OK", b"", b"b", None),
+        (200, b"OK", b"a:", b"b", None),
+        (200, b"OK", b"a", b" b", None),
+        (200, b"OK", b"a", b"b\t", None),
+        (200, b"OK", b"a", b"b\r\nc: d", None),
+        (200, b"OK", b"a", b"\x7f", None),
+    ];
+    for (status, phrase, name, value, wanted) in cases {
+        let response = IcapResponse {
+            status,
+            phrase: phrase.to_vec(rt.alloc())?,
+            fields: field(rt.alloc(), name, value)?,
+        };
+        if response.is_writable() {
+            let written = write_response(rt.alloc(), &response)?;
+            assert!(rt; wanted == Some(written.as_slice()));
+        } else {
+            assert!(rt; wanted == None);
+        }
     }
     Ok(())
 }

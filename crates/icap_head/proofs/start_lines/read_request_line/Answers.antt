@@ -54,25 +54,25 @@ returns-then-not-branch-clause-err c = inr (no_form c.args.line.now (λ m u v h.
     let uri : IsIcapUri c.in-Some-cut_at_space.uri.now = subst IsIcapUri (sym words.1) h.uri_is in
     false_true (sym c.if-not-branch.true ∙ c.in_ok-is_icap_uri.ensures.1 uri)))
 
-pub returns-then-eq-clause-ok : goal.returns-then-eq-clause-ok
-returns-then-eq-clause-ok c =
+pub returns-then-is_supported-clause-ok : goal.returns-then-is_supported-clause-ok
+returns-then-is_supported-clause-ok c =
     let some = c.in-Some.ensures.some in
     let next = c.in-Some-cut_at_space.ensures.some in
     let token : IsToken c.in-Some.method.now = search rules in
     let version : IsVersion c.in-Some-cut_at_space.version.now = search rules in
     let uri : IsIcapUri c.in-Some-cut_at_space.uri.now = c.in_ok-is_icap_uri.ensures.0 (search rules) in
-    let same : c.in-Some-cut_at_space.version.now ≡ codes "ICAP/1.0" = search rules in
+    let same : c.in-Some-cut_at_space.version.now ≡ codes "ICAP/1.0" = c.if-is_supported.ensures.0 refl in
     subst (IsRequestLine c.args.line.now c.in-Some.method.now c.in-Some-cut_at_space.uri.now) same
     (line_from c.args.line.now c.in-Some.method.now c.in-Some.rest.now c.in-Some-cut_at_space.uri.now c.in-Some-cut_at_space.version.now some.0 next.0 next.1 token uri version)
 
-pub returns-else-eq-clause-err : goal.returns-else-eq-clause-err
-returns-else-eq-clause-err c =
+pub returns-else-is_supported-clause-err : goal.returns-else-is_supported-clause-err
+returns-else-is_supported-clause-err c =
     let some = c.in-Some.ensures.some in
     let next = c.in-Some-cut_at_space.ensures.some in
     let token : IsToken c.in-Some.method.now = search rules in
     let version : IsVersion c.in-Some-cut_at_space.version.now = search rules in
     let uri : IsIcapUri c.in-Some-cut_at_space.uri.now = c.in_ok-is_icap_uri.ensures.0 (search rules) in
-    let other : c.in-Some-cut_at_space.version.now ≢ codes "ICAP/1.0" = search rules in
+    let other : c.in-Some-cut_at_space.version.now ≢ codes "ICAP/1.0" = λ same. false_true (c.if-is_supported.ensures.1 same) in
     inr (inr (
       refl,
       (
