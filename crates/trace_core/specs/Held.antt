@@ -42,7 +42,7 @@ pub record IsHeldByRows (x : Seen) : Type 0 where
   -- Plain, or after 204
   pub original : x.closed ≡ false → ChoosesOriginal x
       → (held_original x ≡ (x.original_delivered, x.received)) × (held_adapted x ≡ (0, 0))
-  -- no final response, and a 204 may still come, or the preview may still be asked for
+  -- no final response, and a 204 may still come: it is allowed, or it answers the preview
   pub all : x.closed ≡ false → is_plain x.plan.kind ≡ false → IsUnanswered x
       → (x.plan.allow ≡ true) ⊎ ((is_preview x.plan.kind ≡ true) × (x.continued ≡ false))
       → (held_original x ≡ (0, x.received)) × (held_adapted x ≡ (0, 0))

@@ -43,7 +43,7 @@ is_over PreviewedWhole = true
 is_over Over = true
 is_over _ = false
 
--- past the response to a preview, if there was one
+-- 100 came, or the last chunk of a whole body is fixed
 abbrev pub is_resumed : Request → Bool
 is_resumed Resumed = true
 is_resumed Over = true
@@ -103,7 +103,7 @@ seen_of a = record {
 
 -- a plain transaction is never answered by 200, nothing is delivered before a message is chosen,
 -- and the counts are in range
-pub record FitsPlan (a : Inside) : Type 0 where
+pub record IsInRange (a : Inside) : Type 0 where
   pub plain : (is_plain a.plan.kind ≡ true) → (is_modified (phases_of a.mode).response ≡ false)
   pub received_small : a.received < 2 ^ 62
   pub adapted_small : a.adapted_received < 2 ^ 62

@@ -76,21 +76,21 @@ impl Plan {
     }
 }
 
-/// Why a transaction failed, with its number.
+/// Why a transaction failed.
 #[derive(Clone, Copy, Debug, PartialEq, Eq)]
 pub enum Cause {
     /// The source of the message broke off or broke its grammar.
-    Source = 1,
+    Source,
     /// The service broke off, broke its grammar or answered what may not come there.
-    Service = 2,
+    Service,
     /// The next hop broke off.
-    NextHop = 3,
+    NextHop,
     /// No memory was found.
-    Memory = 4,
+    Memory,
     /// No byte moved for too long.
-    Deadline = 5,
+    Deadline,
     /// The proxy is stopping.
-    Stopping = 6,
+    Stopping,
 }
 
 /// What may happen to a transaction. A count is of body bytes, framing taken off.
@@ -110,7 +110,7 @@ pub enum Event {
     Continue,
     /// The service answered 204: the original is to be used (RFC 3507, sections 4.5 and 4.6).
     NoMod,
-    /// The service answered 200 with heads, and with a body (`true`) or with null-body.
+    /// The service answered 200 with heads, and with a body (`true`) or with null-body (`false`).
     Mod(bool),
     /// So many bytes of the adapted body came from the service.
     Ad(u64),

@@ -1,17 +1,17 @@
 //! Where a transaction stands: one mode and at most six numbers, two of them in its plan.
-//! Everything that changes the state stands here, and nothing here knows a wire.
+//! Every move of the mode and of the numbers stands here, and nothing here knows a wire.
 
-ghost use Rattle.std.specs.Prelude.{◌≡◌, [], None, Some, OnOk, OnErr, IfErr};
+ghost use Rattle.std.specs.Prelude.{◌≡◌, [], None, Some, OnOk, OnErr, IfErr, if◌then◌else◌};
 ghost use Rattle.trace_core.specs.History.{seen};
 ghost use Rattle.trace_core.specs.View.{after, answer_to, after_answer};
-ghost use Rattle.trace_core.specs.Faults.{first_fault};
+ghost use Rattle.trace_core.specs.Faults.{first_fault, is_early, is_all_sent};
 
 mod faults;
 mod held;
 mod marks;
 mod phase;
 
-use crate::history::{Answer, Event, Kind, Plan, StepFault};
+use crate::history::{Answer, Event, Plan, StepFault};
 use phase::{Mode, Phases, Request, Response, Source};
 use std::marker::Model;
 
@@ -35,11 +35,11 @@ impl Model for Progress {
 
     ghost Value = { Seen };
 
-    ghost use Rattle.trace_core.specs.Modes.{seen_of, FitsPlan};
+    ghost use Rattle.trace_core.specs.Modes.{seen_of, IsInRange};
 
     ghost view = { seen_of };
 
-    ghost invariant = { FitsPlan };
+    ghost invariant = { IsInRange };
 }
 
 impl Progress {
@@ -86,6 +86,19 @@ impl Progress {
         }
     }
 
+    /// The request once its last chunk, or that of the preview, is fixed.
+    fn request_after_stop(&self) -> Request
+        ensures { result ≡ (if is_early self.now then (if is_all_sent self.now then Request.PreviewedWhole else Request.Previewed) else Request.Over) }
+    {
+        if !self.is_early() {
+            Request::Over
+        } else if self.is_all_sent() {
+            Request::PreviewedWhole
+        } else {
+            Request::Previewed
+        }
+    }
+
     /// Takes an event at which no fault stands.
     fn take(&mut self, event: Event)
         requires { first_fault self.old event ≡ None }
@@ -101,19 +114,10 @@ impl Progress {
                 source: Source::Ended,
                 ..phases
             }),
-            Event::Stop => {
-                let request = match self.plan.kind {
-                    Kind::Preview(_) if !phases.request.has_stopped() => {
-                        if self.is_all_sent() {
-                            Request::PreviewedWhole
-                        } else {
-                            Request::Previewed
-                        }
-                    }
-                    _ => Request::Over,
-                };
-                self.mode = Mode::Open(Phases { request, ..phases });
-            }
+            Event::Stop => self.mode = Mode::Open(Phases {
+                request: self.request_after_stop(),
+                ..phases
+            }),
             Event::Continue => self.mode = Mode::Open(Phases {
                 request: Request::Resumed,
                 ..phases

@@ -72,7 +72,7 @@ fn joined(event: Event, more: u64) -> Event
 }
 
 /// Adds an event to a short form: to the sum of its kind behind the last mark, or in its order.
-/// It goes past at most four sums.
+/// It goes past at most three sums.
 fn put(entries: &mut ArrayVec<Event, MAX_ENTRIES>, event: Event)
     requires room { length (with_event event (reverse entries.old.items)) ≤ 39 }
     requires small { AllByRecursion (λ e. bytes_of e < 2 ^ 62) (reverse entries.old.items) }

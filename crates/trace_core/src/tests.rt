@@ -324,7 +324,7 @@ fn names_of_faults(rt: HostRuntime) {
     }
 }
 
-/// With any allocation refused, all answers come or none.
+/// All answers come, or none: `make refuse-allocations` runs this with each allocation refused.
 #[test]
 fn answers_come_whole_or_not_at_all(rt: HostRuntime) {
     let rows = [

@@ -8,7 +8,7 @@ use crate::short_form::Trace;
 use std::marker::Model;
 
 /// The state of one transaction: where it stands, and the short form of how it came there.
-/// To a contract it is its history, the newest event first.
+/// To a contract it is the plan and the short form of its history, the newest event first, the newest event first.
 #[derive(Drop)]
 pub struct State {
     progress: Progress,

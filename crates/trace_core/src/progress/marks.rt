@@ -67,7 +67,7 @@ impl Progress {
         self.is_preview() && !self.mode.phases().request.has_stopped()
     }
 
-    /// Whether the response to a preview is awaited that wasn't the whole body.
+    /// Whether a preview is out that wasn't the whole body, with no 100 behind it.
     pub fn is_waiting(&self) -> bool
         ensures { result ≡ is_waiting self.now }
     {

@@ -15,8 +15,11 @@ pub enum Mode {
 /// How far each flow has come.
 #[derive(Clone, Copy)]
 pub struct Phases {
+    /// From the source.
     pub source: Source,
+    /// To the service.
     pub request: Request,
+    /// From the service.
     pub response: Response,
 }
 
@@ -34,7 +37,7 @@ pub enum Source {
 pub enum Request {
     /// The body, or its preview, is on its way.
     Begun,
-    /// The preview is out, and its response is awaited.
+    /// The preview is out, and wasn't the whole body; no 100 came.
     Previewed,
     /// The preview is out, and was the whole body: its last chunk says `ieof`.
     PreviewedWhole,
@@ -60,6 +63,7 @@ pub enum Response {
 }
 
 impl Mode {
+    /// How far each flow has come, also once it is closed.
     pub fn phases(self) -> Phases
         ensures { result ≡ phases_of self }
     {
@@ -68,6 +72,7 @@ impl Mode {
         }
     }
 
+    /// Whether Done or Fail stands.
     pub fn is_closed(self) -> bool
         ensures { result ≡ is_closed self }
     {
@@ -97,7 +102,7 @@ impl Request {
         matches!(self, Request::PreviewedWhole | Request::Over)
     }
 
-    /// Whether it is past the response to a preview, if there is one.
+    /// Whether 100 came, or the last chunk of a whole body is fixed.
     pub fn is_resumed(self) -> bool
         ensures { result ≡ is_resumed self }
     {
