@@ -1,5 +1,5 @@
 -- The answers of a state are those of the definitions.
-use Rattle.std.proofs.Common.{sym, ℕ, Bool, true, false, cond, IfSome, IsSome, ◌↔◌, subst, ◌≡◌, List, [], ◌∷◌, ◌++◌, Option, Some, None, refl, ap, ◌∙◌}
+use Rattle.std.proofs.Common.{map, sym, ℕ, Bool, true, false, cond, IfSome, IsSome, ◌↔◌, subst, ◌≡◌, List, [], ◌∷◌, ◌++◌, Option, Some, None, refl, ap, ◌∙◌}
 use Rattle.trace_core.specs.declared.history.Plan.{Plan}
 use Rattle.trace_core.specs.declared.history.Event.{Event}
 use Rattle.trace_core.specs.declared.history.StepFault.{StepFault}
@@ -8,10 +8,12 @@ use Rattle.trace_core.specs.History.{seen}
 use Rattle.trace_core.specs.Legal.{IsLegal, MayFollow}
 use Rattle.trace_core.specs.Faults.{first_fault}
 use Rattle.trace_core.specs.Held.{held_original}
-use Rattle.trace_core.specs.Run.{shown_adapted, IsAnswer}
+use Rattle.trace_core.specs.Run.{shown_adapted, IsAnswer, AreAnswers}
 use Rattle.trace_core.specs.Norm.{norm}
-use Rattle.trace_core.specs.View.{after, answer_to, after_answer, answer_by as shown_answer, after_found}
-use Rattle.trace_core.proofs.Answered.{no_fault, may_follow, refused}
+use Rattle.trace_core.specs.View.{answers_from, after, answer_to, after_answer, answer_by as shown_answer, after_found}
+use Rattle.trace_core.specs.declared.history.Answer.{Answer}
+use Rattle.trace_core.specs.declared.history.Seen.{Seen}
+use Rattle.trace_core.proofs.Answered.{are_answers, no_fault, may_follow, refused}
 use Rattle.trace_core.proofs.Short.{norm-shows}
 use Rattle.need_witness.specs.declared.tape.Tape.{Tape}
 use Rattle.need_witness.specs.Script.{IsScript}
@@ -21,7 +23,7 @@ use Rattle.need_witness.proofs.Scripted.{is_script}
 use Rattle.need_witness.proofs.Needed.{held_needed, needed_held, held_passes, passes_held}
 use Rattle.proxy_program.specs.declared.script.Line.{Line}
 use Rattle.proxy_program.specs.declared.script.Line.TheVariants.{Step, Need}
-use Rattle.proxy_program.specs.Answers.{answer_text, script_text, needed_script, answer_by, answer_of, accepted_by, accepted_with, output_after, output_from}
+use Rattle.proxy_program.specs.Answers.{answers_text, output_of, answer_text, script_text, needed_script, answer_by, answer_of, accepted_by, accepted_with, output_after, output_from}
 
 -- an event that may follow: its short form shows the same
 pub taken_shows : (plan : Plan) (events : List Event) (event : Event) → IsLegal plan events → MayFollow plan events event
@@ -94,3 +96,16 @@ module _ (plan : Plan) (before : List Event) (tape : Tape) (place : ℕ) (legal 
 
   pub need_iff : IsSome (needed_script tape (seen plan before) place) ↔ IsNeeded tape plan before place
   need_iff = (need_needed, needed_need)
+
+-- the answers to events alone, printed
+
+printed : (x : Seen) (events : List Event) → output_from x (map Step events) ≡ answers_text (answers_from x events)
+printed x [] = refl
+printed x (event ∷ events) = ap (λ t. answer_text (answer_to x event) ++ t) (printed (after_answer x event) events)
+
+pub run_printed : (plan : Plan) (events : List Event) → (answers : List Answer) × AreAnswers plan [] events answers × (output_of plan (map Step events) ≡ answers_text answers)
+run_printed plan events = (
+  answers_from (seen plan []) events,
+  are_answers plan [] events tt,
+  sym (output_same plan [] (map Step events)) ∙ printed (seen plan []) events,
+)

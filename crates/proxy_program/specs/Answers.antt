@@ -37,6 +37,11 @@ abbrev pub answer_text : Answer → List ℕ
 answer_text (Held original adapted) = codes "held " ++ range_text original ++ adapted_text adapted ++ codes "\n"
 answer_text (Fault fault) = codes "fault " ++ numeral 10 (fault_number fault) ++ codes " " ++ fault_name fault ++ codes "\n"
 
+-- answers, one behind another
+abbrev pub answers_text : List Answer → List ℕ
+answers_text [] = []
+answers_text (answer ∷ answers) = answer_text answer ++ answers_text answers
+
 -- each event behind a space
 abbrev pub events_text : List Event → List ℕ
 events_text [] = []

@@ -12,7 +12,7 @@ use need_witness::Script as Witness;
 use std::alloc::AllocError as NoMemory;
 use trace_core::{Answer, Event};
 
-/// Adds a decimal without leading zeros.
+/// Adds a decimal without leading zeros. `NoMemory` where the text can't grow.
 pub fn write_number(out: &mut Vec<u8>, n: u64) -> Result<(), NoMemory>
     ensures { OnOk result (out.new.items ≡ out.old.items ++ numeral 10 n) }
 {
@@ -30,7 +30,8 @@ fn write_range(out: &mut Vec<u8>, range: (u64, u64)) -> Result<(), NoMemory>
     write_number(out, range.1)
 }
 
-/// Adds the answer to an event.
+/// Adds the answer to an event: `held A..B`, with ` adapted C..D` once a 200 with a body stands, or
+/// `fault N Name`, and LF. `NoMemory` where the text can't grow.
 pub fn write_answer(out: &mut Vec<u8>, answer: Answer) -> Result<(), NoMemory>
     ensures { OnOk result (out.new.items ≡ out.old.items ++ answer_text answer) }
 {
@@ -110,7 +111,8 @@ fn write_events(out: &mut Vec<u8>, events: &[Event]) -> Result<(), NoMemory>
     Ok(())
 }
 
-/// Adds the answer to a question for a script.
+/// Adds the answer to a question: `script` and the events, each behind a space, or `none`, and LF.
+/// `NoMemory` where the text can't grow.
 pub fn write_witness(out: &mut Vec<u8>, witness: Option<Witness>) -> Result<(), NoMemory>
     ensures { OnOk result (out.new.items
         ≡ out.old.items ++ script_text (option_map (λ w. w.items) witness)) }

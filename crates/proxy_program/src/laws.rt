@@ -1,12 +1,13 @@
 //! Laws of scripts and their answers: each is the contract of a function that does nothing.
 
-ghost use Rattle.std.specs.Prelude.{◌≡◌, ℕ, ◌<◌, ◌^◌, ◌↔◌, Bool, Option, List, IfSome, IsSome};
+ghost use Rattle.std.specs.Prelude.{◌≡◌, ℕ, ◌<◌, ◌^◌, ◌↔◌, Bool, Option, List, [], map, IfSome, IsSome};
 ghost use Rattle.trace_core.specs.declared.history.Plan.{Plan};
 ghost use Rattle.trace_core.specs.declared.history.Event.{Event};
+ghost use Rattle.trace_core.specs.declared.history.Answer.{Answer};
 ghost use Rattle.trace_core.specs.declared.history.Kind.{Kind};
 ghost use Rattle.trace_core.specs.History.{seen};
 ghost use Rattle.trace_core.specs.Legal.{IsLegal};
-ghost use Rattle.trace_core.specs.Run.{IsAnswer};
+ghost use Rattle.trace_core.specs.Run.{IsAnswer, AreAnswers};
 ghost use Rattle.need_witness.specs.declared.tape.Tape.{Tape};
 ghost use Rattle.need_witness.specs.Script.{IsScript};
 ghost use Rattle.need_witness.specs.Needs.{IsNeeded};
@@ -16,7 +17,7 @@ ghost use Rattle.proxy_program.specs.Lines.{lines_of};
 ghost use Rattle.proxy_program.specs.Reading.{decimal_of, parts_of, line_of};
 ghost use Rattle.proxy_program.specs.Words.{event_number, event_text, IsNumber, SaysLine};
 ghost use Rattle.proxy_program.specs.Script.{SaysParts, SaysAll, IsFirstBad};
-ghost use Rattle.proxy_program.specs.Answers.{answer_of, accepted_with, needed_script, IsOutput};
+ghost use Rattle.proxy_program.specs.Answers.{answers_text, answer_of, accepted_with, needed_script, output_of, IsOutput};
 ghost use Rattle.proxy_program.specs.Chunks.{IsChunksOutput};
 
 /// A text is one script at most, and no line of a script is of another form; the number of the
@@ -63,4 +64,12 @@ pub fn answers_are_those_of_the_machine()
         → IfSome (needed_script tape (seen plan before) place) (IsScript tape place plan before) }
     ensures needed { (plan : Plan) (before : List Event) (tape : Tape) (place : ℕ) → IsLegal plan before
         → (IsSome (needed_script tape (seen plan before) place) ↔ IsNeeded tape plan before place) }
+{}
+
+/// For a script of events alone, what is printed is the answers that the machine gives to the whole
+/// list of events.
+pub fn prints_the_answers_of_a_run()
+    ensures { (plan : Plan) (events : List Event)
+        → (answers : List Answer) × AreAnswers plan [] events answers
+        × (output_of plan (map Step events) ≡ answers_text answers) }
 {}

@@ -19,8 +19,7 @@ fn split_at_space(text: &[u8]) -> (&[u8], &[u8])
     }
 }
 
-/// The kind at the front, and what stands behind it. The request line of a kind without a size
-/// has no number.
+/// The kind at the front, and what stands behind it.
 #[tactic(auto, unfolding(crate::specs::Reading::kind_of))]
 fn read_kind(text: &[u8]) -> Option<(Kind, &[u8])>
     ensures none { IfNone result (kind_of text.now ≡ None) }
@@ -60,7 +59,11 @@ fn read_parts(line: &[u8]) -> Option<(Kind, bool, Option<u64>)>
     }
 }
 
-/// The plan that a line says.
+/// The plan that a line says: `plan plain`, `plan whole` or `plan preview P`, then ` allow` where the
+/// request carries `Allow: 204` (RFC 3507, section 4.6), then ` len N` where the body's length is
+/// known. `None` for a line of another form, and where P or N is above `2^62 - 1`.
+///
+/// A script doesn't say the vectoring point, which changes no answer: the plan is a response's.
 pub fn read_plan(line: &[u8]) -> Option<Plan>
     ensures found { IfSome result (SaysPlan line.now) }
     ensures none { IfNone result ((plan : AnyPlan) → SaysPlan line.now plan → ⊥) }

@@ -10,7 +10,8 @@ use adapt_bytes::read_decimal;
 use need_witness::Tape;
 use trace_core::{Cause, Event};
 
-/// The number that the digits write.
+/// The number that decimal digits write, with any leading zeros. `None` for other bytes, for none,
+/// and for a number above `2^64 - 1`.
 #[tactic(auto, unfolding(crate::specs::Reading::decimal_of))]
 pub fn number(digits: &[u8]) -> Option<u64>
     ensures { result ≡ decimal_of digits.now }
@@ -18,7 +19,7 @@ pub fn number(digits: &[u8]) -> Option<u64>
     read_decimal(digits)
 }
 
-/// What stands behind this front.
+/// What stands behind this front; `None` where the text doesn't begin with it.
 pub fn behind<'a>(text: &'a [u8], front: &[u8]) -> Option<&'a [u8]>
     ensures { option_copied result ≡ behind front.now text.now }
 {
@@ -103,7 +104,7 @@ fn read_numbered(line: &[u8]) -> Option<Line>
     None
 }
 
-/// A line behind the plan.
+/// What a line behind the plan says. `None` for a line of another form.
 #[tactic(auto, unfolding(crate::specs::Reading::line_of))]
 pub fn read_line(line: &[u8]) -> Option<Line>
     ensures { result ≡ line_of line.now }

@@ -18,7 +18,7 @@ use trace_core::{Event, Plan};
 pub enum Line {
     /// An event that may happen next.
     Step(Event),
-    /// Asks for the script that shows why a place of a tape is held.
+    /// Asks for a continuation that still sends the byte at this offset of a body.
     Need(Tape, u64),
 }
 
@@ -29,7 +29,12 @@ pub struct Script {
     pub lines: Vec<Line>,
 }
 
-/// Reads a script. Its length is judged first, then its lines, before any memory is taken.
+/// Reads a script: the plan on its first line, and an event or a question on each line behind it.
+/// Each line ends with LF, which the last may lack.
+///
+/// `InputTooLong` for more than [`MAX_INPUT`] bytes; else `Line` with the number of the first line of
+/// another form, which is 1 for an empty text. Both are judged before memory is taken: `NoMemory`
+/// only for a good script.
 pub fn read_script(alloc: Global, text: &[u8]) -> Result<Script, Error>
     ensures read { MatchResult result (IsScript text.now) (IsRefused text.now) }
     ensures short { OnOk result (length text.now ≤ 1048576) }
