@@ -1,0 +1,14 @@
+pub mod Standing
+pub mod Following
+pub mod Continuing
+pub mod Claiming
+pub mod Accounted
+pub mod Placed
+pub mod Showing
+pub mod Pooled
+pub mod Keeping
+pub mod Stepped
+pub mod Booked
+pub mod Leasing
+pub mod Running
+pub mod Sounding

@@ -1,0 +1,62 @@
+//! What holds of every legal history of the world. Each law is the contract of a function that does nothing.
+
+ghost use Rattle.std.specs.Prelude.{◌≡◌, ◌≤◌, ℕ, List, ◌∷◌, Option, Some, ◌↔◌};
+ghost use Rattle.trace_core.specs.Held.{IsIn};
+ghost use Rattle.need_witness.specs.declared.tape.Tape.{Tape};
+ghost use Rattle.need_witness.specs.Script.{held_on};
+ghost use Rattle.need_witness.specs.Fits.{places_held};
+ghost use Rattle.need_witness.specs.Table.{script_of};
+ghost use Rattle.world_core.specs.declared.event.WorldEvent.{WorldEvent};
+ghost use Rattle.world_core.specs.WorldHistory.{Setting, Opened, Numbers, open_at, claimed, pool_of, leased_out};
+ghost use Rattle.world_core.specs.WorldTable.{IsLegalWorld, shown};
+ghost use Rattle.world_core.specs.WorldNeeds.{IsNeededInWorld, IsNeededAt, IsBook};
+ghost use Rattle.world_core.specs.WorldSound.{IsHeldAt, IsWitness, OpenedBelow, held_in};
+ghost use Rattle.world_core.specs.WorldRun.{accepted};
+
+/// The reservations of the open transactions sum to at most the capacity.
+pub fn claims_fit_the_capacity()
+    ensures { (w : Setting) (events : List WorldEvent) → IsLegalWorld w events → claimed events ≤ w.capacity }
+{}
+
+/// Each open transaction holds at most the bytes that it has reserved, original and adapted together.
+pub fn transactions_fit_their_claims()
+    ensures { (w : Setting) (events : List WorldEvent) (t : ℕ) (o : Opened) → IsLegalWorld w events
+        → open_at t events ≡ Some o → places_held (shown o) ≤ o.claim }
+{}
+
+/// A connection was never opened but where fewer than the maximum were open; and a pool counts as
+/// leased just the leases that are out.
+pub fn connections_stay_below_the_maximum()
+    ensures opened { (w : Setting) (events : List WorldEvent) → IsLegalWorld w events → OpenedBelow w events }
+    ensures leased { (w : Setting) (events : List WorldEvent) (s : ℕ) (p : Numbers) → IsLegalWorld w events
+        → pool_of w.maxima s events ≡ Some p → p.leased ≡ leased_out s events }
+{}
+
+/// Each held byte has a witness: events of its transaction that end with one that sends it, none of
+/// which the whole world refuses, for want of a connection or of room least of all.
+pub fn held_bytes_have_witnesses()
+    ensures { (w : Setting) (events : List WorldEvent) (tape : Tape) (t place : ℕ) (o : Opened) → IsLegalWorld w events
+        → open_at t events ≡ Some o → IsIn (held_on tape (shown o)) place
+        → IsWitness w events tape t place o (script_of tape (shown o) place) }
+{}
+
+/// The bytes that some continuation of the world still sends are those that the transactions hold,
+/// and those that a continuation of the transaction by itself still sends: the other transactions
+/// neither take a byte's chance away nor add one.
+pub fn needed_bytes_are_held()
+    ensures held { (w : Setting) (events : List WorldEvent) (tape : Tape) (t place : ℕ) → IsLegalWorld w events
+        → (IsNeededInWorld w events tape t place ↔ IsHeldAt tape (open_at t events) place) }
+    ensures alone { (w : Setting) (events : List WorldEvent) (tape : Tape) (t place : ℕ) → IsLegalWorld w events
+        → (IsNeededInWorld w events tape t place ↔ IsNeededAt tape (open_at t events) place) }
+{}
+
+/// The sum of the bytes held is the number of bytes that continuations still send, over all open
+/// transactions.
+pub fn book_is_the_sum_of_needed_bytes()
+    ensures { (w : Setting) (events : List WorldEvent) → IsLegalWorld w events → IsBook w events (held_in events) }
+{}
+
+/// Whatever events are offered, those that are accepted make a legal history.
+pub fn accepted_events_are_legal()
+    ensures { (w : Setting) (before events : List WorldEvent) → IsLegalWorld w before → IsLegalWorld w (accepted w before events) }
+{}
