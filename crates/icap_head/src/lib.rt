@@ -2,7 +2,8 @@
 //!
 //! A head is a start line, field lines and an empty line. The start line has a grammar of its own,
 //! field lines are those that `httparse` takes (RFC 9112, sections 2 and 5), and URIs are read by
-//! `http_uri`. A head ends within 16,384 bytes and has at most 100 fields.
+//! `http_uri`. A head that is read ends within 16,384 bytes and has at most 100 fields; writing has
+//! no such limit.
 #![tactic(auto)]
 
 mod field_lines;

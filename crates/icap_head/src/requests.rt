@@ -11,7 +11,7 @@ use crate::{Fields, Head, HeadFault, Method, NoMemory};
 use adapt_bytes::is_token;
 use std::alloc::Global;
 
-/// The head of a request.
+/// The head of a request (RFC 3507, section 4.3.2).
 #[derive(Debug, Drop)]
 pub struct IcapRequest {
     pub method: Method,
@@ -21,7 +21,8 @@ pub struct IcapRequest {
 }
 
 impl IcapRequest {
-    /// Whether some head holds this request, so that it can be written.
+    /// Whether some head holds this request, so that it can be written: its method is a token, its URI
+    /// an ICAP URI without a space or an LF, and its fields are such that a line can hold.
     pub fn is_writable(&self, alloc: Global) -> Result<bool, NoMemory>
         ensures { IfOk result (λ is. IsTrue is ↔ IsRequest (request_parts self.now)) }
     {
@@ -41,7 +42,12 @@ impl IcapRequest {
     }
 }
 
-/// Reads the head of a request at the front of the text.
+/// Reads the head of a request at the front of the text: `METHOD URI ICAP/1.0`, field lines and an
+/// empty line (RFC 3507, section 4.3.2; RFC 9112, sections 2 and 5). A line ends at its LF, and one CR
+/// before that is dropped. The URI has scheme `icap` in any case, an authority, and no fragment.
+///
+/// The errors are those of `HeadFault`, the first that stands. A URI is judged by a copy, so
+/// `NoMemory` can come wherever the first line has a method, a word and a version.
 pub fn read_request(alloc: Global, text: &[u8]) -> Result<Head<IcapRequest>, HeadFault>
     ensures ok { IfOk result (λ head. HasRequest text.now (request_parts head.value) head.length) }
     ensures writable { IfOk result (λ head. IsRequest (request_parts head.value)) }
@@ -81,7 +87,8 @@ fn find_request(alloc: Global, text: &[u8]) -> Result<Head<IcapRequest>, HeadFau
     })
 }
 
-/// The text of a head that holds this request.
+/// The text of a head that holds this request: CRLF behind each line, and one space behind each
+/// field's colon, also before an empty value. What is asked is what `is_writable` tests.
 pub fn write_request(alloc: Global, request: &IcapRequest) -> Result<Vec<u8>, NoMemory>
     requires { IsRequest (request_parts request.now) }
     ensures text { IfOk result (λ text. text.items ≡ request_text (request_parts request.now)) }

@@ -10,7 +10,7 @@ use crate::start_lines::{first_line, read_status_line};
 use crate::{Fields, Head, HeadFault, NoMemory};
 use std::alloc::Global;
 
-/// The head of a response.
+/// The head of a response (RFC 3507, section 4.3.3).
 #[derive(Debug, Drop)]
 pub struct IcapResponse {
     /// Three digits: 0 to 999.
@@ -21,7 +21,8 @@ pub struct IcapResponse {
 }
 
 impl IcapResponse {
-    /// Whether some head holds this response, so that it can be written.
+    /// Whether some head holds this response, so that it can be written: its status is below 1,000, its
+    /// phrase has no LF, and its fields are such that a line can hold.
     pub fn is_writable(&self) -> bool
         ensures { IsTrue result ↔ IsResponse (response_parts self.now) }
     {
@@ -35,7 +36,11 @@ impl IcapResponse {
     }
 }
 
-/// Reads the head of a response at the front of the text.
+/// Reads the head of a response at the front of the text: `ICAP/1.0`, a space, three digits, and nothing
+/// or a space and a phrase; field lines and an empty line (RFC 3507, section 4.3.3; RFC 9112, sections 2,
+/// 4 and 5). A line ends at its LF, and one CR before that is dropped; a phrase has any other bytes.
+///
+/// The errors are those of `HeadFault`, the first that stands; `NoMemory` only where a head is there.
 pub fn read_response(alloc: Global, text: &[u8]) -> Result<Head<IcapResponse>, HeadFault>
     ensures ok { IfOk result (λ head. HasResponse text.now (response_parts head.value) head.length) }
     ensures writable { IfOk result (λ head. IsResponse (response_parts head.value)) }
@@ -75,7 +80,9 @@ fn find_response(alloc: Global, text: &[u8]) -> Result<Head<IcapResponse>, HeadF
     })
 }
 
-/// The text of a head that holds this response.
+/// The text of a head that holds this response: CRLF behind each line, a status of three digits with a
+/// space behind it, also before an empty phrase, and one space behind each field's colon. What is asked
+/// is what `is_writable` tests.
 pub fn write_response(alloc: Global, response: &IcapResponse) -> Result<Vec<u8>, NoMemory>
     requires { IsResponse (response_parts response.now) }
     ensures text { IfOk result (λ text. text.items ≡ response_text (response_parts response.now)) }

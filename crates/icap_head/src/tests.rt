@@ -2,4 +2,5 @@
 mod faults;
 mod heads;
 mod limits;
+mod memory;
 mod writing;

@@ -3,7 +3,7 @@ use crate::{HeadFault, read_request, read_response};
 
 #[test]
 fn faults_of_requests(rt: HostRuntime) {
-    let cases: [(&[u8], HeadFault); 28] = [
+    let cases: [(&[u8], HeadFault); 30] = [
         (b"", HeadFault::More),
         (b"REQMOD", HeadFault::More),
         (b"\0 nothing is judged before the LF", HeadFault::More),
@@ -16,6 +16,8 @@ fn faults_of_requests(rt: HostRuntime) {
         (b"REQMOD icap:///x ICAP/1.0\r\n\r\n", HeadFault::StartLine),
         (b"REQMOD icap:/x ICAP/1.0\r\n\r\n", HeadFault::StartLine),
         (b"REQMOD /x ICAP/1.0\r\n\r\n", HeadFault::StartLine),
+        (b"REQMOD * ICAP/1.0\r\n\r\n", HeadFault::StartLine),
+        (b"REQMOD icap:x ICAP/1.0\r\n\r\n", HeadFault::StartLine),
         (
             b"REQMOD icap://h/x#f ICAP/1.0\r\n\r\n",
             HeadFault::StartLine,
