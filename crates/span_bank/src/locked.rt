@@ -82,6 +82,7 @@ impl<H: Ledger, F: Ledger> Locked<H, F> {
         ensures ok { IsOk result ↔ Fits self.old (Open claim) }
         ensures stake { IfOk result (λ s. s ≡ record { held = 0; claim = claim }) }
         ensures step { OnOk result (self.new ≡ stepped self.old (Open claim)) }
+        ensures sound { IsSound self.new }
 
         // The fault is the first that stands, and a refused reservation changes nothing.
         ensures fault { IfErr result (Refuses self.old (Open claim)) }
@@ -105,6 +106,7 @@ impl<H: Ledger, F: Ledger> Locked<H, F> {
         requires room { stake.old.held + n ≤ stake.old.claim }
         ensures stake { stake.new ≡ record stake.old { held = stake.old.held + n } }
         ensures step { self.new ≡ stepped self.old (Grow n) }
+        ensures sound { IsSound self.new }
     {
         let Locked {
             state,
@@ -132,6 +134,7 @@ impl<H: Ledger, F: Ledger> Locked<H, F> {
         requires held { n ≤ stake.old.held }
         ensures stake { stake.new ≡ record stake.old { held = stake.old.held - n } }
         ensures step { self.new ≡ stepped self.old (Shrink n) }
+        ensures sound { IsSound self.new }
     {
         let Locked {
             state,
@@ -158,6 +161,7 @@ impl<H: Ledger, F: Ledger> Locked<H, F> {
         requires lower { claim ≤ stake.old.claim }
         ensures stake { stake.new ≡ record stake.old { claim = claim } }
         ensures step { self.new ≡ stepped self.old (Reclaim stake.old.claim claim) }
+        ensures sound { IsSound self.new }
     {
         let Locked {
             state,
@@ -172,6 +176,9 @@ impl<H: Ledger, F: Ledger> Locked<H, F> {
             held_share: _,
             free_share,
         } = stake;
+        if claim == *old {
+            return;
+        }
         free_book.sub(free_share, *old - claim);
         take(state, BankStep::Reclaim(*old, claim));
         *old = claim;
@@ -180,7 +187,8 @@ impl<H: Ledger, F: Ledger> Locked<H, F> {
     /// Ends a reservation that holds nothing, as the step `Close`.
     pub fn close(&mut self, stake: Stake<H, F>)
         requires { stake.held ≡ 0 }
-        ensures { self.new ≡ stepped self.old (Close stake.claim) }
+        ensures step { self.new ≡ stepped self.old (Close stake.claim) }
+        ensures sound { IsSound self.new }
     {
         let Locked {
             state,
