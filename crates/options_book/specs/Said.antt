@@ -28,7 +28,7 @@ lists_item list item = list_any (λ found. bytes_eq found item) (comma_items lis
 abbrev pub serves : Point → FieldList → Bool
 serves point fields = list_any (λ value. lists_item value (method_name point)) (values_of (codes "Methods") fields)
 
--- begins and ends with a quote, each of its own
+-- begins and ends with a quote, each of its own (RFC 3507, section 4.7)
 abbrev pub is_quoted : List ℕ → Bool
 is_quoted text = nat_le 2 (length text) && (slice_index text 0 == 34) && (slice_index text (length text - 1) == 34)
 
@@ -36,7 +36,7 @@ is_quoted text = nat_le 2 (length text) && (slice_index text 0 == 34) && (slice_
 abbrev pub unquoted : List ℕ → List ℕ
 unquoted text = if is_quoted text then take (length text - 2) (drop 1 text) else text
 
--- the first ISTag field has this tag, without its quotes: of 1 to 256 bytes
+-- the first ISTag field has this tag, without its quotes: of 1 to 256 bytes (RFC 3507, section 4.7)
 pub record HasTag (fields : FieldList) (tag : List ℕ) : Type 0 where
   pub value : List ℕ
   pub first : first_of (codes "ISTag") fields ≡ Some value
@@ -55,7 +55,7 @@ pub record SaysNumbers (fields : FieldList) (preview connections ttl : Option �
 abbrev pub IsOptionsList : List ℕ → Type 0
 IsOptionsList text = (layout : Layout) × IsLayout Methods.Options Directions.Response text layout
 
--- there is no Encapsulated field, or one whose list an OPTIONS response may have
+-- there is no Encapsulated field, or one whose list an OPTIONS response may have (RFC 3507, section 4.4.1)
 abbrev pub IsEncapsulated : FieldList → Type 0
 IsEncapsulated fields =
     (values_of (codes "Encapsulated") fields ≡ [])

@@ -27,6 +27,7 @@ pub record Lists : Type 0 where
   pub preview : List (List ℕ)
   pub ignore : List (List ℕ)
 
+-- what a vector has
 abbrev pub bytes_of : Vec ℕ → List ℕ
 bytes_of v = v.items
 

@@ -11,6 +11,8 @@ use std::alloc::Global;
 use trace_core::Point;
 
 /// The record of an OPTIONS response that a point's service gave, read at the moment `now`, in seconds.
+///
+/// The fault is the first that stands, in the order of [`OptFault`]; `NoMemory` comes only where the response is a record.
 pub fn read_record(
     alloc: Global,
     response: &IcapResponse,

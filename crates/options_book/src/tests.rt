@@ -91,9 +91,83 @@ fn each_fault_where_it_stands(rt: HostRuntime) {
 }
 
 #[test]
+fn fields_cut_and_misspelled(rt: HostRuntime) {
+    let no_methods = Some(OptFault::NoMethods);
+    let no_tag = Some(OptFault::NoTag);
+    let bad_list = Some(OptFault::Encapsulated);
+    let cases: [(&[u8], Option<OptFault>); 15] = [
+        (b"Methods: RESPMO\nISTag: a", no_methods),
+        (b"Methods:\nISTag: a", no_methods),
+        (b"Method: RESPMOD\nISTag: a", no_methods),
+        (b"Methods: RESPMODX\nISTag: a", no_methods),
+        (b"Methods: RESPMOD\nISTag:", no_tag),
+        (b"Methods: RESPMOD\nIS-Tag: a", no_tag),
+        (b"Methods: RESPMOD\nISTag:\nISTag: a", no_tag),
+        (b"Methods: RESPMOD\nISTag: a\nISTag:", None),
+        (b"Methods: RESPMOD\nISTag: \"adapt", None),
+        (b"Methods: RESPMOD\nISTag: a\nEncapsulated:", bad_list),
+        (
+            b"Methods: RESPMOD\nISTag: a\nEncapsulated: null-body",
+            bad_list,
+        ),
+        (
+            b"Methods: RESPMOD\nISTag: a\nEncapsulated: null-body=",
+            bad_list,
+        ),
+        (
+            b"Methods: RESPMOD\nISTag: a\nEncapsulated: nul-body=0",
+            bad_list,
+        ),
+        (
+            b"Methods: RESPMOD\nISTag: a\nEncapsulated: null-body=1",
+            bad_list,
+        ),
+        (
+            b"Methods: RESPMOD\nISTag: a\nPreview: x\nEncapsulated: foo",
+            Some(OptFault::Number),
+        ),
+    ];
+    for (lines, want) in cases {
+        let answer = answer(rt.alloc(), 200, lines).expect(&rt, "memory");
+        let found = read_record(rt.alloc(), &answer, Point::Respmod, 1000);
+        assert_eq!(rt; fault(found), want);
+    }
+}
+
+#[test]
+fn faults_have_numbers_and_texts(rt: HostRuntime) {
+    let cases = [
+        (OptFault::Status, "1 the status isn't 200"),
+        (
+            OptFault::NoMethods,
+            "2 Methods is missing, or lacks the method",
+        ),
+        (OptFault::NoTag, "3 ISTag is missing, empty or too long"),
+        (
+            OptFault::Number,
+            "4 Preview, Max-Connections or Options-TTL is no good number",
+        ),
+        (OptFault::Encapsulated, "5 bad Encapsulated list"),
+        (OptFault::NoMemory, "6 out of memory"),
+    ];
+    for (fault, want) in cases {
+        let text = format!(in rt.alloc(); "{} {fault}", fault as u8).expect(&rt, "memory");
+        assert_eq!(rt; text.as_str(), want);
+    }
+}
+
+#[test]
 fn numbers_are_decimals_and_agree(rt: HostRuntime) {
     let bad = Some(OptFault::Number);
-    let cases: [(&[u8], Option<OptFault>); 12] = [
+    let cases: [(&[u8], Option<OptFault>); 20] = [
+        (b"Max-Connections:", bad),
+        (b"Max-Connections: 2x", bad),
+        (b"Max-Connections: 4611686018427387904", bad),
+        (b"Options-TTL:", bad),
+        (b"Options-TTL: 4611686018427387904", bad),
+        (b"Options-TTL: 60\nOptions-TTL: 61", bad),
+        (b"Preview: 4\nPreview: 5", bad),
+        (b"Max-Connection: 0", None),
         (b"Max-Connections: 0", bad),
         (b"Max-Connections: 2", None),
         (b"Max-Connections: 2\nMax-Connections: 02", None),
@@ -115,7 +189,8 @@ fn numbers_are_decimals_and_agree(rt: HostRuntime) {
 #[test]
 fn a_tag_has_up_to_256_bytes_without_its_quotes(rt: HostRuntime) -> Result<(), Fail> {
     let long = [b't'; 257];
-    let cases: [(&[u8], &[u8], &[u8], Option<OptFault>); 3] = [
+    let cases: [(&[u8], &[u8], &[u8], Option<OptFault>); 4] = [
+        (b"\"", &long, b"\"", Some(OptFault::NoTag)),
         (b"", &long[..256], b"", None),
         (b"", &long, b"", Some(OptFault::NoTag)),
         (b"\"", &long[..256], b"\"", None),
@@ -180,6 +255,41 @@ fn treatments_by_extension(rt: HostRuntime) {
     ];
     for (path, want) in cases {
         assert_eq!(rt; record.treat(extension(path)), want);
+    }
+}
+
+#[test]
+fn complete_before_preview_before_ignore(rt: HostRuntime) {
+    let cases: [(&[u8], Option<&[u8]>, Treat); 5] = [
+        (
+            b"Transfer-Ignore: *\nTransfer-Preview: *",
+            Some(b"x"),
+            Treat::Preview,
+        ),
+        (
+            b"Transfer-Ignore: *\nTransfer-Preview: *",
+            None,
+            Treat::Preview,
+        ),
+        (
+            b"Transfer-Ignore: *\nTransfer-Preview: *\nTransfer-Complete: *",
+            None,
+            Treat::Complete,
+        ),
+        (
+            b"Transfer-Ignore: a\nTransfer-Preview: a",
+            Some(b"a"),
+            Treat::Preview,
+        ),
+        (
+            b"Transfer-Ignore: a\nTransfer-Preview: *",
+            Some(b"a"),
+            Treat::Ignore,
+        ),
+    ];
+    for (lines, extension, want) in cases {
+        let record = read(rt.alloc(), lines).expect(&rt, "a record");
+        assert_eq!(rt; record.treat(extension), want);
     }
 }
 
