@@ -23,13 +23,15 @@ offered kind allow len window = streamed kind window
 abbrev pub claim_of : Plan → ℕ → ℕ
 claim_of plan window = offered plan.kind plan.allow plan.len window
 
--- the original places that are held, the adapted ones, and all
+-- the original places that are held
 abbrev pub original_places : Seen → ℕ
 original_places x = x.received - original_from x
 
+-- the adapted ones
 abbrev pub adapted_places : Seen → ℕ
 adapted_places x = x.adapted_received - adapted_from x
 
+-- all of them
 abbrev pub held_places : Seen → ℕ
 held_places x = original_places x + adapted_places x
 
@@ -41,6 +43,7 @@ at_most x held old window =
     else if x.modified || (x.continued && not x.plan.allow) then min old (max held window + window)
     else old
 
+-- the reservation of a transaction that reserved `old`, by what is seen
 abbrev pub claim_after : Seen → ℕ → ℕ → ℕ
 claim_after x old window = at_most x (original_places x) old window
 
@@ -48,6 +51,7 @@ claim_after x old window = at_most x (original_places x) old window
 abbrev pub is_reply : Event → Bool
 is_reply event = is_continue event || is_no_mod event || is_mod event
 
+-- a claim may fall at this event
 abbrev pub RepliesAt : Event → Type 0
 RepliesAt event = is_reply event ≡ true
 

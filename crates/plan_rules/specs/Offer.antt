@@ -1,4 +1,4 @@
--- Whether and how a message is offered to a service.
+-- Whether and how a message is offered to a service (RFC 3507, sections 4.5, 4.6 and 4.10.2).
 use Rattle.std.specs.Prelude.{◌≡◌, ℕ, Bool, false, nat_le, ◌==◌, Option, Some, None, min, if◌then◌else◌}
 use Rattle.trace_core.specs.declared.history.Plan.{Plan}
 use Rattle.trace_core.specs.declared.history.Point.{Point}

@@ -18,8 +18,8 @@ fn streamed(kind: Kind, window: u64) -> u64
     }
 }
 
-/// What a transaction of this plan reserves, in bytes: a window where nothing is offered; the body and a window where it may
-/// come back by a 204; else the preview, or a window where that is more, and a window for the adapted body.
+/// What a transaction of this plan reserves, in bytes: a window where nothing is offered; the body and a window where its
+/// length is known and it may come back by a 204; else the preview, or a window where that is more, and a window for the adapted body.
 pub fn claim(plan: &Plan, limits: &Limits) -> u64
     ensures { result ≡ claim_of plan.now limits.now.window }
 {
@@ -34,7 +34,7 @@ pub fn claim(plan: &Plan, limits: &Limits) -> u64
     }
 }
 
-/// The least that a transaction of this plan may reserve, in bytes: its whole preview, or its whole body where that is shorter.
+/// The least that a transaction of this plan may reserve, in bytes: its whole preview, or its whole body where that is shorter; 0 for a plan without a preview.
 pub fn least_claim(plan: &Plan) -> u64
     ensures { result ≡ least_claim plan.now }
 {
@@ -60,7 +60,7 @@ fn at_most(seen: &Seen, held: u64, old: u64, window: u64) -> u64
     }
 }
 
-/// What a transaction that reserved `old` bytes reserves now: less, once a response has settled what it may still need.
+/// What a transaction that reserved `old` bytes reserves now: no more, and less once a response has settled what it may still need.
 pub fn claim_after(state: &State, old: u64, limits: &Limits) -> u64
     ensures { result ≡ claim_after (seen state.now.plan state.now.events) old limits.now.window }
 {

@@ -35,7 +35,7 @@ fn allows(kind: Kind, len: Option<u64>, limits: &Limits) -> bool
 ///
 /// The service's record says whether the message is offered whole, with a preview or not at all. A preview has the service's
 /// size and at most `preview_limit` bytes; a message with an empty body is offered whole. `Allow: 204` goes with what is
-/// offered and has a known length of at most `allow_limit`.
+/// offered and has a known length of at most `allow_limit`. A known length is at most `2^62 - 1`.
 pub fn plan(
     service: &Record,
     limits: &Limits,
