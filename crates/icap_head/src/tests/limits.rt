@@ -115,3 +115,30 @@ fn a_line_without_end_is_too_long(rt: HostRuntime) -> Result<(), Fail> {
     assert!(rt; matches!(read, Err(HeadFault::TooLong)));
     Ok(())
 }
+
+#[test]
+fn a_fault_within_the_limit_goes_before_too_long(rt: HostRuntime) -> Result<(), Fail> {
+    let cases: [(&[u8], HeadFault); 5] = [
+        (b"ICAP/1.0 2 OK\r\n", HeadFault::StartLine),
+        (b"ICAP/1.1 200 OK\r\n", HeadFault::Version),
+        (b"ICAP/1.0 200 OK\r\nno field\r\n", HeadFault::Field),
+        (b"ICAP/1.0 200 OK\r\na: b\r\n", HeadFault::TooLong),
+        (b"ICAP/1.0 200 OK", HeadFault::TooLong),
+    ];
+    for (front, fault) in cases {
+        let mut text = front.to_vec(rt.alloc())?;
+        for _ in 0..MAX_HEAD {
+            text.push(b'x')?;
+        }
+        text.extend_from_slice(b": y\r\n\r\n")?;
+        let read = read_response(rt.alloc(), &text);
+        assert!(rt; matches!(read, Err(found) if found == fault));
+    }
+    let mut text = with_fields(rt.alloc(), 101)?;
+    for _ in 0..MAX_HEAD {
+        text.push(b'x')?;
+    }
+    let read = read_response(rt.alloc(), &text);
+    assert!(rt; matches!(read, Err(HeadFault::TooMany)));
+    Ok(())
+}
