@@ -7,7 +7,7 @@ use Rattle.service_pool.specs.declared.step.PoolStep.{PoolStep}
 use Rattle.service_pool.specs.declared.step.PoolStep.TheVariants.{Take, Put, GiveUp, Limit}
 use Rattle.service_pool.specs.History.{is_take, is_return, is_limit}
 use Rattle.service_pool.specs.Replay.{after, open_count, replay}
-use Rattle.service_pool.specs.State.{IsWithin, IsAllowed, AreAllowed}
+use Rattle.service_pool.specs.State.{IsWithin, IsAllowed, AreAllowed, Journaled, IsSound}
 use Rattle.service_pool.proofs.StepLemmas.{replay-append}
 
 -- a step that is allowed keeps at most the maximum open, or none idle
@@ -52,6 +52,15 @@ pub opened-below : (n : Numbers) (earlier later : List PoolStep) (step : PoolSte
     → open_count (replay n earlier) < open_count (replay n (earlier ++ step ∷ [])) → open_count (replay n earlier) < (replay n earlier).maximum
 opened-below n earlier later step may more = opens-below (replay n earlier) step (may-behind n earlier later step may) (opens-after n earlier step more)
 
+-- the same of a sound journal's steps
+pub opened-sound : (j : Journaled) (earlier later : List PoolStep) (step : PoolStep) → IsSound j → j.steps ≡ earlier ++ step ∷ later
+    → open_count (replay j.base earlier) < open_count (replay j.base (earlier ++ step ∷ []))
+    → (step ≡ Take) × ((replay j.base earlier).idle ≡ 0) × (open_count (replay j.base earlier) < (replay j.base earlier).maximum)
+opened-sound j earlier later step sound cut more =
+    let may = subst (AreAllowed j.base) cut sound.allowed in
+    let by_take = opened-by_take j.base earlier later step may more in
+    (by_take.0, by_take.1, opened-below j.base earlier later step may more)
+
 -- a take adds one to the leased number, and a return takes one off
 leased-after : (n : Numbers) (step : PoolStep) → IsAllowed n step → (after n step).leased + cond (is_return step) 1 0 ≡ n.leased + cond (is_take step) 1 0
 leased-after n Take may = grind (arith, common_steps)
@@ -67,6 +76,12 @@ leased-replay n (step ∷ steps) may =
     let takes = sum_by-cons (λ (s : PoolStep). cond (is_take s) 1 0) step steps in
     let here = leased-after n step may.0 in
     omega arith
+
+-- the same of a sound journal's numbers
+pub leased-sound : (j : Journaled) → IsSound j → j.numbers.leased + count_by is_return j.steps ≡ j.base.leased + count_by is_take j.steps
+leased-sound j sound =
+    let P : Numbers → Type 0 = λ n. n.leased + count_by is_return j.steps ≡ j.base.leased + count_by is_take j.steps in
+    subst P sound.replayed (leased-replay j.base j.steps sound.allowed)
 
 -- steps that set no maximum keep it
 maximum-after : (n : Numbers) (step : PoolStep) → ◌≡◌ {A = ℕ} (cond (is_limit step) 1 0) 0 → (after n step).maximum ≡ n.maximum

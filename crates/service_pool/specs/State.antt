@@ -59,10 +59,11 @@ abbrev pub run : Journaled → List PoolStep → Journaled
 run j [] = j
 run j (step ∷ steps) = run (stepped j step) steps
 
--- what every journal keeps: its steps replay from its base to the numbers now, which are in their bounds,
--- and it has room for at least one step
+-- what every journal keeps: its steps replay from its base to the numbers now, each was allowed where it
+-- stands, the numbers are in their bounds, and it has room for at least one step
 pub record IsSound (j : Journaled) : Type 0 where
   pub replayed : replay j.base j.steps ≡ j.numbers
+  pub allowed : AreAllowed j.base j.steps
   pub bounded : IsBounded j.numbers
   pub steps : length j.steps ≤ j.room
   pub room : 0 < j.room

@@ -4,12 +4,13 @@ ghost use Rattle.service_pool.specs.declared.step.Numbers.{Numbers};
 ghost use Rattle.service_pool.specs.declared.step.PoolStep.{PoolStep};
 ghost use Rattle.service_pool.specs.History.{is_take, is_return, is_limit, HasLast};
 ghost use Rattle.service_pool.specs.Replay.{open_count, replay};
-ghost use Rattle.service_pool.specs.State.{IsWithin, AreAllowed, Journaled, run};
+ghost use Rattle.service_pool.specs.State.{IsWithin, AreAllowed, Journaled, IsSound, run};
 
 /// At every moment at most the maximum are open, or none is idle.
 pub fn at_most_the_maximum_or_none_idle()
-    ensures { (base : Numbers) (steps : List PoolStep)
+    ensures lists { (base : Numbers) (steps : List PoolStep)
         → IsWithin base → AreAllowed base steps → IsWithin (replay base steps) }
+    ensures states { (j : Journaled) → IsSound j → IsWithin j.numbers }
 {}
 
 /// A connection is opened only by a take that finds none idle, and only where fewer than the
@@ -23,13 +24,21 @@ pub fn opened_only_below_the_maximum()
         → AreAllowed base (earlier ++ step ∷ later)
         → open_count (replay base earlier) < open_count (replay base (earlier ++ step ∷ []))
         → open_count (replay base earlier) < (replay base earlier).maximum }
+    ensures states { (j : Journaled) (earlier later : List PoolStep) (step : PoolStep)
+        → IsSound j → j.steps ≡ earlier ++ step ∷ later
+        → open_count (replay j.base earlier) < open_count (replay j.base (earlier ++ step ∷ []))
+        → (step ≡ PoolStep.Take) × ((replay j.base earlier).idle ≡ 0)
+        × (open_count (replay j.base earlier) < (replay j.base earlier).maximum) }
 {}
 
 /// The leased number is that of the takes less that of the connections put back or given up.
 pub fn leased_is_taken_less_returned()
-    ensures { (base : Numbers) (steps : List PoolStep) → AreAllowed base steps
+    ensures lists { (base : Numbers) (steps : List PoolStep) → AreAllowed base steps
         → (replay base steps).leased + count_by is_return steps
         ≡ base.leased + count_by is_take steps }
+    ensures states { (j : Journaled) → IsSound j
+        → j.numbers.leased + count_by is_return j.steps
+        ≡ j.base.leased + count_by is_take j.steps }
 {}
 
 /// The maximum is the one that was set last.

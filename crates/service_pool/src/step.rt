@@ -3,6 +3,8 @@ ghost use Rattle.std.specs.Prelude.{◌≡◌};
 ghost use Rattle.service_pool.specs.Replay.{after};
 ghost use Rattle.service_pool.specs.State.{IsAllowed, IsBounded};
 
+use thiserror::Error;
+
 /// The most connections that a pool may have open: the greatest Max-Connections of a service
 /// (RFC 3507, section 4.10.2) that is used. A service that allows more is used with this many.
 pub const MAX_CONNECTIONS: u64 = 1024;
@@ -36,9 +38,10 @@ pub enum PoolStep {
 }
 
 /// Why an audit was refused.
-#[derive(Clone, Copy, PartialEq, Eq, Debug)]
+#[derive(Clone, Copy, PartialEq, Eq, Debug, Error)]
 pub enum AuditFault {
     /// Fewer leases were handed in than are out.
+    #[error("a lease is missing")]
     Missing = 1,
 }
 

@@ -59,6 +59,50 @@ fn lowered_maximum_closes_what_comes_back(rt: HostRuntime) -> Result<(), Fail> {
     Ok(())
 }
 
+// One connection may be open, then three, and at last none. With the answers, how many a raised
+// maximum closes.
+fn raise_and_lower<L: Ledger, R: Wait>(
+    rt: &R,
+    alloc: Global,
+    blank: Blank,
+) -> Result<(usize, Answers), NoMemory>
+    requires { (blank.name ≡ L.name) × (blank.parts ≡ L.parts) × (blank.parts ≡ LEDGER_PARTS) }
+{
+    let pool: Pool<u32, L> = Pool::new(alloc, blank, 1, 16)?;
+    let mut taken = Vec::with_capacity(alloc, 4)?;
+    let mut back = Vec::with_capacity(alloc, 2)?;
+    let mut leases = Vec::with_capacity(alloc, 4)?;
+    taken.push_reserved(take_one(rt, &pool, &mut leases));
+    taken.push_reserved(take_one(rt, &pool, &mut leases));
+    let raised = pool.set_max(rt, alloc, 3);
+    taken.push_reserved(take_one(rt, &pool, &mut leases));
+    back.push_reserved(put_one(rt, &pool, &mut leases, 11));
+    back.push_reserved(put_one(rt, &pool, &mut leases, 22));
+    let closed = pool.set_max(rt, alloc, 0);
+    taken.push_reserved(take_one(rt, &pool, &mut leases));
+    let count = audited(rt, pool, leases);
+    let answers = Answers {
+        taken,
+        closed: closed?,
+        back,
+        count,
+    };
+    Ok((raised?.len(), answers))
+}
+
+#[test]
+fn maximum_may_be_raised_and_lowered_to_none(rt: HostRuntime) -> Result<(), Fail> {
+    let blank = Blank::new(LEDGER_PARTS);
+    let (raised, seen) = raise_and_lower::<Brand, HostRuntime>(&rt, rt.alloc(), blank)?;
+    assert_eq!(rt; raised, 0);
+    let taken = [Found::Fresh, Found::Busy, Found::Fresh, Found::Busy];
+    assert_eq!(rt; seen.taken.as_slice(), taken.as_slice());
+    assert_eq!(rt; seen.back.as_slice(), [None, None].as_slice());
+    assert_eq!(rt; seen.closed.as_slice(), [11, 22].as_slice());
+    assert_eq!(rt; seen.count, Some(0));
+    Ok(())
+}
+
 // Three connections are put back, one is taken, and at last only it may be open.
 fn hand_out_and_close<L: Ledger, R: Wait>(
     rt: &R,
@@ -150,5 +194,12 @@ fn audit_with_a_missing_lease_hands_all_back(rt: HostRuntime) -> Result<(), Fail
         count: Some(1),
     };
     assert_eq!(rt; seen, wanted);
+    Ok(())
+}
+
+#[test]
+fn missing_lease_has_its_text(rt: HostRuntime) -> Result<(), Fail> {
+    let text = format!(in rt.alloc(); "{}", AuditFault::Missing)?;
+    assert_eq!(rt; text.as_str(), "a lease is missing");
     Ok(())
 }

@@ -1,5 +1,8 @@
-use Rattle.service_pool.proofs.HistoryLemmas.{leased-replay}
+use Rattle.service_pool.proofs.HistoryLemmas.{leased-replay, leased-sound}
 use Rattle.service_pool.proofs.laws.leased_is_taken_less_returned.Goals as goal
 
-pub returns : goal.returns
-returns c = leased-replay
+pub returns-clause-lists : goal.returns-clause-lists
+returns-clause-lists c = leased-replay
+
+pub returns-clause-states : goal.returns-clause-states
+returns-clause-states c = leased-sound

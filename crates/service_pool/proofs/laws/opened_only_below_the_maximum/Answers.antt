@@ -1,4 +1,4 @@
-use Rattle.service_pool.proofs.HistoryLemmas.{opened-by_take, opened-below}
+use Rattle.service_pool.proofs.HistoryLemmas.{opened-by_take, opened-below, opened-sound}
 use Rattle.service_pool.proofs.laws.opened_only_below_the_maximum.Goals as goal
 
 pub returns-clause-by_a_take : goal.returns-clause-by_a_take
@@ -6,3 +6,6 @@ returns-clause-by_a_take c = opened-by_take
 
 pub returns-clause-below : goal.returns-clause-below
 returns-clause-below c = opened-below
+
+pub returns-clause-states : goal.returns-clause-states
+returns-clause-states c = opened-sound
