@@ -10,9 +10,11 @@ use Rattle.encapsulated.specs.declared.parts.Part.TheVariants.{ReqHdr, ResHdr, B
 use Rattle.encapsulated.specs.Grammar.{name_of, AreParts}
 use Rattle.encapsulated.specs.Rows.{allowed}
 
+-- the parts without their offsets
 abbrev pub names : List (Part × ℕ) → List Part
 names parts = map (λ part. part.0) parts
 
+-- the offsets without their parts
 abbrev pub offsets : List (Part × ℕ) → List ℕ
 offsets parts = map (λ part. part.1) parts
 
@@ -26,6 +28,7 @@ abbrev pub Rises : List ℕ → Type 0
 Rises [] = Unit {0}
 Rises (first ∷ offsets) = (first ≡ 0) × NoneFalls first offsets
 
+-- a part that may be missing
 abbrev pub if_there : Part → Option ℕ → List (Part × ℕ)
 if_there part None = []
 if_there part (Some offset) = (part, offset) ∷ []

@@ -18,6 +18,7 @@ rank ReqHdr = 0
 rank ResHdr = 1
 rank (Body body) = 2
 
+-- the ranks rise, behind this part
 abbrev pub rises_from : Part → List Part → Bool
 rises_from last [] = true
 rises_from last (part ∷ parts) = nat_lt (rank last) (rank part) && rises_from part parts
@@ -27,6 +28,7 @@ abbrev pub ascends : List Part → Bool
 ascends [] = true
 ascends (part ∷ parts) = rises_from part parts
 
+-- a body that was seen, as a part
 abbrev pub body_part : Option (BodyPart × ℕ) → List (Part × ℕ)
 body_part None = []
 body_part (Some body) = (Body body.0, body.1) ∷ []
@@ -48,7 +50,7 @@ Unread Order text = (parts : List (Part × ℕ)) × AreParts text parts × ¬ (I
 Unread NoBodyPart text = ⊥
 Unread Offset text = ⊥
 
--- whether two parts are the same
+-- a number for each part
 abbrev pub part_number : Part → ℕ
 part_number ReqHdr = 0
 part_number ResHdr = 1
@@ -57,6 +59,7 @@ part_number (Body ResBody) = 3
 part_number (Body OptBody) = 4
 part_number (Body NullBody) = 5
 
+-- whether a list begins with these parts
 abbrev pub is_front : List Part → List Part → Bool
 is_front [] list = true
 is_front (part ∷ parts) [] = false
@@ -66,6 +69,7 @@ is_front (part ∷ parts) (first ∷ list) = (part_number part == part_number fi
 abbrev pub any_front : List (List Part) → List Part → Bool
 any_front lists parts = list_any (λ list. is_front parts list) lists
 
+-- whether the part is a body
 abbrev pub is_body : Part → Bool
 is_body ReqHdr = false
 is_body ResHdr = false
@@ -75,6 +79,7 @@ is_body (Body body) = true
 abbrev pub has_body : List Part → Bool
 has_body parts = list_any is_body parts
 
+-- a head that a form may have
 abbrev pub head_if : Bool → Part → List Part
 head_if true part = part ∷ []
 head_if false part = []
