@@ -31,11 +31,11 @@ abbrev pub skip_blanks : List ℕ → List ℕ
 skip_blanks [] = []
 skip_blanks (b ∷ text) = if is_blank b then skip_blanks text else b ∷ text
 
--- the text without the blanks at both ends
+-- the text without the blanks at both ends (OWS, RFC 9110, section 5.6.3)
 unfoldable pub trim : List ℕ → List ℕ
 trim text = reverse (skip_blanks (reverse (skip_blanks text)))
 
--- the parts between commas, trimmed; an empty one counts, so there is one at least
+-- the parts between commas (RFC 9110, section 5.6.1), trimmed; an empty one counts, so there is one at least
 unfoldable pub comma_parts : List ℕ → List (List ℕ)
 comma_parts text = map trim (slice_split (λ b. b == 44) text)
 
@@ -48,8 +48,10 @@ abbrev pub left_of : Option (Bor (List ℕ)) → List (List ℕ)
 left_of None = []
 left_of (Some rest) = comma_parts rest.now
 
+-- the parts that are still to come
 abbrev pub parts_left : CommaParts → List (List ℕ)
 parts_left parts = left_of parts.rest
 
+-- the items that are still to come
 abbrev pub items_left : CommaItems → List (List ℕ)
 items_left items = filter (λ part. nat_lt 0 (length part)) (parts_left items.parts)

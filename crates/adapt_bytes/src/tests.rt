@@ -1,4 +1,4 @@
-//! Values from outside: the ends of each range, and the texts of RFC 9110's examples of lists.
+//! Values from outside: the ends of each range, and lists like those of RFC 9110, section 5.6.1.
 use crate::{
     Small, comma_items, comma_parts, is_token, put_decimal, put_hex, read_decimal, read_hex,
     same_ascii, trim,
