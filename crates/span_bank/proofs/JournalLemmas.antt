@@ -7,8 +7,8 @@ use Rattle.span_bank.specs.declared.step.Numbers.{Numbers}
 use Rattle.span_bank.specs.declared.step.BankStep.{BankStep}
 use Rattle.span_bank.specs.declared.step.BankStep.TheVariants.{Open, Grow, Shrink, Reclaim, Close}
 use Rattle.span_bank.specs.Replay.{after}
-use Rattle.span_bank.specs.State.{Journaled, rebased, pushed, appended, stepped, run}
-use Rattle.span_bank.specs.History.{is_step, HasLast}
+use Rattle.span_bank.specs.State.{Journaled, rebased, pushed, appended, is_step, stepped, run}
+use Rattle.span_bank.specs.History.{HasLast}
 use Rattle.span_bank.proofs.StepLemmas.{replay-append}
 
 has_last-rebased : (start : Numbers) (past : List BankStep) (v : Journaled) → HasLast start past v → HasLast start past (rebased v)

@@ -1,5 +1,5 @@
 -- What is said of all steps that a budget ever took: sums over them, whatever their order, and what the journal has of them.
-use Rattle.std.specs.Prelude.{◌≡◌, ℕ, ◌+◌, ◌-◌, Bool, true, false, ◌==◌, if◌then◌else◌, List, ◌++◌, sum_by}
+use Rattle.std.specs.Prelude.{◌≡◌, ℕ, ◌+◌, ◌-◌, List, ◌++◌, sum_by}
 use Rattle.span_bank.specs.declared.step.Numbers.{Numbers}
 use Rattle.span_bank.specs.declared.step.BankStep.{BankStep}
 use Rattle.span_bank.specs.declared.step.BankStep.TheVariants.{Open, Grow, Shrink, Reclaim, Close}
@@ -60,14 +60,6 @@ pub record AddsUp (b : Numbers) (steps : List BankStep) (n : Numbers) : Type 0 w
   pub held : n.held + sum_by shrunk steps ≡ b.held + sum_by grown steps
   pub claimed : n.claimed + sum_by released steps ≡ b.claimed + sum_by reserved steps
   pub capacity : n.capacity ≡ b.capacity
-
--- a Reclaim to the present claim is no step
-abbrev pub is_step : BankStep → Bool
-is_step (Open claim) = true
-is_step (Grow n) = true
-is_step (Shrink n) = true
-is_step (Reclaim old new) = if old == new then false else true
-is_step (Close claim) = true
 
 -- of all these steps the journal has the last ones; its base is what the earlier ones replay to, and the
 -- totals are what all of them do

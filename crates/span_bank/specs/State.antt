@@ -1,5 +1,5 @@
 -- What a budget's state shows, which steps it takes, and what it is after them.
-use Rattle.std.specs.Prelude.{◌≡◌, ℕ, ◌+◌, ◌≤◌, ◌<◌, List, [], ◌∷◌, ◌++◌, length, ◌==◌, if◌then◌else◌}
+use Rattle.std.specs.Prelude.{◌≡◌, ℕ, ◌+◌, ◌≤◌, ◌<◌, Bool, true, false, List, [], ◌∷◌, ◌++◌, length, ◌==◌, if◌then◌else◌}
 use Rattle.span_bank.specs.declared.step.TheConstants.{MAX_CAPACITY, MAX_ROWS}
 use Rattle.span_bank.specs.declared.step.Numbers.{Numbers}
 use Rattle.span_bank.specs.declared.step.BankStep.{BankStep}
@@ -53,13 +53,17 @@ pushed v s = record v { numbers = after v.numbers s; steps = v.steps ++ s ∷ []
 abbrev pub appended : Journaled → BankStep → Journaled
 appended v s = pushed (rebased v) s
 
--- the state after a step; a Reclaim to the present claim is none
+-- a Reclaim to the present claim is no step
+abbrev pub is_step : BankStep → Bool
+is_step (Open claim) = true
+is_step (Grow n) = true
+is_step (Shrink n) = true
+is_step (Reclaim old new) = if old == new then false else true
+is_step (Close claim) = true
+
+-- the state after a step; what is no step leaves it as it is
 abbrev pub stepped : Journaled → BankStep → Journaled
-stepped v (Open claim) = appended v (Open claim)
-stepped v (Grow n) = appended v (Grow n)
-stepped v (Shrink n) = appended v (Shrink n)
-stepped v (Reclaim old new) = if old == new then v else appended v (Reclaim old new)
-stepped v (Close claim) = appended v (Close claim)
+stepped v s = if is_step s then appended v s else v
 
 -- the state after all steps of a list
 abbrev pub run : Journaled → List BankStep → Journaled

@@ -1,4 +1,4 @@
-//! The budget, shared by threads. Each call takes the one lock, calls one method of what lies
+//! The budget, shared by threads. A call with `rt` takes the lock, calls one method of what lies
 //! under it, and lets go.
 ghost use Rattle.std.specs.Prelude.{◌≡◌, ◌+◌, ◌-◌, ◌≤◌, ◌<◌, IfOk, IfErr, IfSome, vec_len};
 ghost use Rattle.span_bank.specs.Stakes.{held_sum, claim_sum, CountsIn, lent, given_back};
@@ -19,7 +19,7 @@ pub type Book = Numbers;
 ///
 /// `H` and `F` name its ledgers, one for the bytes held and one for the rest of the claims. A
 /// ledger is picked once for each bank, so no stake of another bank fits the types of its calls.
-/// Each call takes the lock, makes one step, and lets go.
+/// A call with `rt` takes the lock, calls one method of what lies under it, and lets go.
 #[derive(Drop)]
 pub struct Bank<H: Ledger, F: Ledger> {
     locked: Mutex<Locked<H, F>>,

@@ -42,7 +42,7 @@ impl<H: Ledger, F: Ledger> Model for Locked<H, F> {
 }
 
 // Takes a step that is no Open, so that none is refused.
-fn take(state: &mut BankState, step: BankStep)
+fn apply_fitting(state: &mut BankState, step: BankStep)
     requires allowed { IsAllowed state.old.numbers step }
     requires fits { Fits state.old step }
     ensures taken { state.new ≡ stepped state.old step }
@@ -63,7 +63,7 @@ impl<H: Ledger, F: Ledger> Locked<H, F> {
         requires none { (state.numbers.rows ≡ 0) × (state.numbers.held ≡ 0) × (state.numbers.claimed ≡ 0) }
         ensures { result ≡ state }
     {
-        // shows that the state is sound
+        // Shows that the state is sound
         let _numbers = state.numbers();
         let (held_book, held_rest) = held.open::<H>();
         let (free_book, free_rest) = free.open::<F>();
@@ -121,9 +121,9 @@ impl<H: Ledger, F: Ledger> Locked<H, F> {
             held_share,
             free_share,
         } = stake;
-        // the ledgers come first: they show that the sums allow the step
+        // The ledgers come first: they show that the sums allow the step
         free_book.sub(free_share, n);
-        take(state, BankStep::Grow(n));
+        apply_fitting(state, BankStep::Grow(n));
         held_book.add(held_share, n);
         *held += n;
     }
@@ -150,7 +150,7 @@ impl<H: Ledger, F: Ledger> Locked<H, F> {
             free_share,
         } = stake;
         held_book.sub(held_share, n);
-        take(state, BankStep::Shrink(n));
+        apply_fitting(state, BankStep::Shrink(n));
         free_book.add(free_share, n);
         *held -= n;
     }
@@ -180,7 +180,7 @@ impl<H: Ledger, F: Ledger> Locked<H, F> {
             return;
         }
         free_book.sub(free_share, *old - claim);
-        take(state, BankStep::Reclaim(*old, claim));
+        apply_fitting(state, BankStep::Reclaim(*old, claim));
         *old = claim;
     }
 
@@ -206,7 +206,7 @@ impl<H: Ledger, F: Ledger> Locked<H, F> {
         free_book.sub(&mut free_share, claim);
         held_share.give(held_rest, 1, 0);
         free_share.give(free_rest, 1, 0);
-        take(state, BankStep::Close(claim));
+        apply_fitting(state, BankStep::Close(claim));
     }
 
     /// The totals now. The journal's replay is these, and they are in order.

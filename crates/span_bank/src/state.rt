@@ -151,10 +151,10 @@ impl BankState {
         self.base
     }
 
-    /// A step of the journal, 0 being the oldest; `None` behind the last one.
-    pub fn journal_at(&self, at: usize) -> Option<BankStep>
-        ensures { result ≡ slice_get self.now.steps at }
+    /// The journal's step at an index, 0 being the oldest; `None` behind the last one.
+    pub fn journal_at(&self, index: usize) -> Option<BankStep>
+        ensures { result ≡ slice_get self.now.steps index }
     {
-        self.journal.get(at).copied()
+        self.journal.get(index).copied()
     }
 }

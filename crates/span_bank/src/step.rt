@@ -53,8 +53,11 @@ pub enum OpenFault {
 /// The sums over all open reservations: their number, and the bytes that they hold and reserve.
 #[derive(Clone, Copy, PartialEq, Eq, Debug)]
 pub struct Audit {
+    /// Open reservations.
     pub rows: u64,
+    /// Bytes held, by all reservations.
     pub held: u64,
+    /// Bytes reserved, by all reservations.
     pub claimed: u64,
 }
 

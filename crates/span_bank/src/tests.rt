@@ -1,3 +1,4 @@
+//! The worked examples, the texts of the faults, and threads that share a budget.
 ghost use Rattle.std.specs.Prelude.{◌≡◌, ◌+◌};
 
 use crate::{
@@ -27,6 +28,7 @@ fn full_journal_takes_the_totals_as_its_base(rt: HostRuntime) -> Result<(), Fail
         capacity: 100,
     };
     assert_eq!(rt; state.base(), base);
+    assert_eq!(rt; state.numbers(), Numbers { held: 3, ..base });
     assert_eq!(rt; state.journal_at(0), Some(BankStep::Grow(2)));
     assert_eq!(rt; state.journal_at(1), None);
     Ok(())
@@ -76,13 +78,40 @@ fn end<H: Ledger, F: Ledger>(
     }
 }
 
-// What four calls of `open` answer; the first reservation ends before the last one is made.
+// The totals of a new bank.
+fn begin<H: Ledger, F: Ledger, R: Wait>(
+    rt: &R,
+    alloc: Global,
+    held: Blank,
+    free: Blank,
+) -> Result<Book, NoMemory>
+    requires held { (held.name ≡ H.name) × (held.parts ≡ H.parts) × (held.parts ≡ 5) }
+    requires free { (free.name ≡ F.name) × (free.parts ≡ F.parts) × (free.parts ≡ 5) }
+{
+    let bank: Bank<H, F> = Bank::new(alloc, held, free, 64, 4, 16)?;
+    Ok(bank.book(rt, None))
+}
+
+#[test]
+fn new_bank_has_nothing_reserved(rt: HostRuntime) -> Result<(), Fail> {
+    let seen = begin::<Brand, Brand, HostRuntime>(&rt, rt.alloc(), Blank::new(5), Blank::new(5))?;
+    let none = Book {
+        rows: 0,
+        held: 0,
+        claimed: 0,
+        capacity: 64,
+    };
+    assert_eq!(rt; seen, none);
+    Ok(())
+}
+
+// What five calls of `open` answer; the first reservation ends before the last two calls.
 fn fill<H: Ledger, F: Ledger, R: Wait>(
     rt: &R,
     alloc: Global,
     held: Blank,
     free: Blank,
-) -> Result<[Option<OpenFault>; 4], NoMemory>
+) -> Result<[Option<OpenFault>; 5], NoMemory>
     requires held { (held.name ≡ H.name) × (held.parts ≡ H.parts) × (held.parts ≡ 5) }
     requires free { (free.name ≡ F.name) × (free.parts ≡ F.parts) × (free.parts ≡ 5) }
 {
@@ -91,12 +120,14 @@ fn fill<H: Ledger, F: Ledger, R: Wait>(
     let second = bank.open(rt, 40);
     let third = bank.open(rt, 1);
     let first = end(rt, &bank, first);
-    let fourth = bank.open(rt, 60);
+    let fourth = bank.open(rt, 61);
+    let fifth = bank.open(rt, 60);
     Ok([
         first,
         end(rt, &bank, second),
         end(rt, &bank, third),
         end(rt, &bank, fourth),
+        end(rt, &bank, fifth),
     ])
 }
 
@@ -104,7 +135,8 @@ fn fill<H: Ledger, F: Ledger, R: Wait>(
 fn full_until_a_reservation_ends(rt: HostRuntime) -> Result<(), Fail> {
     let answers = fill::<Brand, Brand, HostRuntime>(&rt, rt.alloc(), Blank::new(5), Blank::new(5))?;
     let full = Some(OpenFault::Full { claimed: 100 });
-    assert_eq!(rt; answers, [None, None, full, None]);
+    let one_too_many = Some(OpenFault::Full { claimed: 40 });
+    assert_eq!(rt; answers, [None, None, full, one_too_many, None]);
     Ok(())
 }
 
@@ -141,13 +173,14 @@ fn no_row_though_the_bytes_fit(rt: HostRuntime) -> Result<(), Fail> {
     Ok(())
 }
 
-// The totals without a stake and beside one, and those after its reclaim to what it holds.
+// The totals without a stake and beside one, and those after its reclaim to what it holds, with
+// its size then.
 fn books<H: Ledger, F: Ledger, R: Wait>(
     rt: &R,
     alloc: Global,
     held: Blank,
     free: Blank,
-) -> Result<Option<[Book; 3]>, NoMemory>
+) -> Result<Option<([Book; 3], u64)>, NoMemory>
     requires held { (held.name ≡ H.name) × (held.parts ≡ H.parts) × (held.parts ≡ 5) }
     requires free { (free.name ≡ F.name) × (free.parts ≡ F.parts) × (free.parts ≡ 5) }
 {
@@ -161,12 +194,13 @@ fn books<H: Ledger, F: Ledger, R: Wait>(
             let alone = bank.book(rt, None);
             let own = Some(&mut last);
             let beside = bank.book(rt, own);
-            // the stake is as it was, so its size may fall to the 7 bytes that it holds
+            // The stake is as it was, so its size may fall to the 7 bytes that it holds
             bank.reclaim(rt, &mut last, 7);
             let after = bank.book(rt, None);
+            let claim = last.claim();
             bank.shrink(rt, &mut last, 7);
             bank.close(rt, last);
-            Some([alone, beside, after])
+            Some(([alone, beside, after], claim))
         }
         Err(_) => None,
     };
@@ -187,7 +221,7 @@ fn book_after_a_grow_with_and_without_a_stake(rt: HostRuntime) -> Result<(), Fai
         claimed: 47,
         ..grown
     };
-    assert_eq!(rt; seen, Some([grown, grown, reclaimed]));
+    assert_eq!(rt; seen, Some(([grown, grown, reclaimed], 7)));
     Ok(())
 }
 
