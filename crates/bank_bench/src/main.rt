@@ -3,7 +3,7 @@
 
 ghost use Rattle.std.specs.Prelude.{◌≡◌, ◌+◌, ◌≤◌};
 
-use anyhow::{Context, Result};
+use anyhow::{Context, Result, bail};
 use span_bank::{Audit, Bank, OpenFault, Stake};
 use std::alloc::Global;
 use std::marker::Brand;
@@ -18,6 +18,13 @@ const CLAIM: u64 = 4096;
 
 /// How many rounds there are where the command line has no number.
 const ROUNDS: u32 = 1000;
+
+/// What the four threads leave: a reservation each, of which all is held.
+const LEFT: Audit = Audit {
+    rows: 4,
+    held: 4 * CLAIM,
+    claimed: 4 * CLAIM,
+};
 
 /// A reservation, or why there is none.
 type Opened<H, F> = std::result::Result<Stake<H, F>, OpenFault>;
@@ -123,6 +130,7 @@ fn nanos_each(took: Duration, count: u64) -> u128 {
 }
 
 /// Both measurements on one budget, and the audit behind them. The figures go to standard error.
+/// An audit of other sums than the threads leave is an error: one of them was refused room.
 fn run<H: Ledger + Send + Sync, F: Ledger + Send + Sync, R: Threads + Wait + Clock + Eprint + Sync>(
     rt: &R,
     alloc: Global,
@@ -150,6 +158,14 @@ fn run<H: Ledger + Send + Sync, F: Ledger + Send + Sync, R: Threads + Wait + Clo
     keep(rt, shared, &mut stakes, third);
     keep(rt, shared, &mut stakes, fourth);
     let audit = audit(rt, bank, stakes)?;
+    if audit != LEFT {
+        let Audit {
+            rows,
+            held,
+            claimed,
+        } = audit;
+        bail!("the threads left rows {rows} held {held} claimed {claimed}");
+    }
     let step = nanos_each(took?, u64::from(rounds) * 16);
     eprintln!(rt;
         "four threads, {rounds} rounds of open, grow, shrink and close each: {step} ns a step"
