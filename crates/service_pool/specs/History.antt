@@ -9,23 +9,18 @@ use Rattle.service_pool.specs.State.{Journaled}
 -- the step leases a connection
 abbrev pub is_take : PoolStep → Bool
 is_take Take = true
-is_take Put = false
-is_take GiveUp = false
-is_take (Limit most) = false
+is_take _ = false
 
 -- the step ends a lease
 abbrev pub is_return : PoolStep → Bool
-is_return Take = false
 is_return Put = true
 is_return GiveUp = true
-is_return (Limit most) = false
+is_return _ = false
 
 -- the step sets the maximum
 abbrev pub is_limit : PoolStep → Bool
-is_limit Take = false
-is_limit Put = false
-is_limit GiveUp = false
 is_limit (Limit most) = true
+is_limit _ = false
 
 -- of all these steps the journal has the last ones; its base is what the earlier ones replay to, and its
 -- numbers are what all of them do

@@ -68,11 +68,11 @@ impl Journal {
         self.base
     }
 
-    /// The step at this place, 0 being the oldest that is kept.
-    pub fn step_at(&self, place: usize) -> Option<PoolStep>
-        ensures { result ≡ slice_get self.now.steps place }
+    /// The step at an index, 0 being the oldest that is kept.
+    pub fn step_at(&self, index: usize) -> Option<PoolStep>
+        ensures { result ≡ slice_get self.now.steps index }
     {
-        self.steps.get(place).copied()
+        self.steps.get(index).copied()
     }
 
     /// Takes a step that the numbers allow.

@@ -1,7 +1,7 @@
 //! What lies under a pool's lock: its state, and the book of its leases.
 ghost use Rattle.std.specs.Prelude.{◌≡◌, ◌↔◌, ◌+◌, ◌≤◌, ◌<◌, [], ◌∷◌, ◌++◌, IsErr, IfOk, IfErr, OnOk, OnErr, IfSome, IfNone, vec_len};
-ghost use Rattle.service_pool.specs.Leasing.{Leases};
-ghost use Rattle.service_pool.specs.Pooled.{IsBusy, IsKept};
+ghost use Rattle.service_pool.specs.Leasing.{found};
+ghost use Rattle.service_pool.specs.Pooled.{Takes, IsBusy, IsKept};
 ghost use Rattle.service_pool.specs.Replay.{open_count};
 ghost use Rattle.service_pool.specs.State.{stepped};
 
@@ -61,7 +61,7 @@ impl<C, L: Ledger> Locked<C, L> {
     /// Takes the idle connection that was put last, or the right to open one, with a lease, as the
     /// step `Take`.
     pub fn take(&mut self) -> Taken<C, L>
-        ensures take { Leases self.old self.new result }
+        ensures take { Takes self.old self.new (found result) }
 
         // It is refused exactly where none is idle and the leased aren't below the maximum.
         ensures busy { (result ≡ Taken.Busy) ↔ IsBusy self.old }

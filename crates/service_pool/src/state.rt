@@ -83,12 +83,12 @@ impl<C> PoolState<C> {
         self.journal.base()
     }
 
-    /// The step at a place of the journal, 0 being the oldest that it keeps; `None` behind the
+    /// The step at an index of the journal, 0 being the oldest that it keeps; `None` behind the
     /// last.
-    pub fn journal_at(&self, place: usize) -> Option<PoolStep>
-        ensures { result ≡ slice_get self.now.journal.steps place }
+    pub fn journal_at(&self, index: usize) -> Option<PoolStep>
+        ensures { result ≡ slice_get self.now.journal.steps index }
     {
-        self.journal.step_at(place)
+        self.journal.step_at(index)
     }
 
     /// Takes the idle connection that was put last, or the right to open one, as the step `Take`.

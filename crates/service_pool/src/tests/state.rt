@@ -37,8 +37,8 @@ fn each_call_is_one_step(rt: HostRuntime) -> Result<(), Fail> {
         Some(PoolStep::GiveUp),
         None,
     ];
-    for place in 0..8 {
-        assert_eq!(rt; state.journal_at(place), steps[place], "at {place}");
+    for index in 0..8 {
+        assert_eq!(rt; state.journal_at(index), steps[index], "at {index}");
     }
     Ok(())
 }
