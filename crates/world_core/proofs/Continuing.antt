@@ -53,9 +53,6 @@ fault_free lease o event l m n h =
     no_faults (first_fault (shown o) event) _ (no_fault o.plan o.part event l m)
     (row_passes (needs_lease (shown o) event && is_none lease) (nat_lt o.claim held) NoLease OverClaim n (not_over held o.claim h))
 
-one_more : Opened → Event → Opened
-one_more o event = record { plan = o.plan; part = event ∷ o.part; claim = o.claim }
-
 open_more : (t : ℕ) (event : Event) (before : List WorldEvent) (o : Opened) → open_at t before ≡ Some o
     → open_at t (Of t event ∷ before) ≡ Some (record { plan = o.plan; part = event ∷ o.part; claim = o.claim })
 open_more t event before o e =

@@ -37,10 +37,6 @@ abbrev pub found_of : ℕ → Option ℕ → ℕ
 found_of s None = 0
 found_of s (Some u) = cond (u == s) 1 0
 
-no_such : (b : Bool) (s : ℕ) (o : Option ℕ) → cond b (Some s) o ≡ None → (b ≡ false) × (o ≡ None)
-no_such true s o h = absurd cc
-no_such false s o h = (refl, h)
-
 is_not : (b : Bool) → not b ≡ true → b ≡ false
 is_not true h = absurd cc
 is_not false h = refl
@@ -232,9 +228,6 @@ there maxima s (Open t plan claim ∷ before) = there maxima s before
 there maxima s (Of t event ∷ before) = there maxima s before
 there maxima s (Reclaim t claim ∷ before) = there maxima s before
 there maxima s (Close t ∷ before) = there maxima s before
-
-IsThere : List ℕ → Option ℕ → Type 0
-IsThere maxima o = IfSome o (λ s. is_some (slice_get maxima s) ≡ true)
 
 not_none : (o : Option Numbers) → is_none o ≡ false → is_some o ≡ true
 not_none None h = absurd cc

@@ -11,10 +11,6 @@ use Rattle.world_core.specs.WorldTable.{IsLegalWorld, OpensBelow, is_full}
 use Rattle.world_core.proofs.Standing.{row_3}
 use Rattle.world_core.specs.Pools.{pool_changed}
 
-is_one : (b : Bool) (x y z : Option Numbers) → b ≡ true → z ≡ x → z ≡ cond b x y
-is_one true x y z e h = h
-is_one false x y z e h = absurd cc
-
 is_other : (b : Bool) (x y z : Option Numbers) → b ≡ false → z ≡ y → z ≡ cond b x y
 is_other false x y z e h = h
 is_other true x y z e h = absurd cc
@@ -34,11 +30,6 @@ pool_set s f [] d h = absurd (omega arith)
 pool_set zero f (p ∷ ps) d h = refl
 pool_set (suc s) f (p ∷ ps) d h = ap (λ (qs : List Numbers). p ∷ qs) (pool_set s f ps d (omega arith))
 
-pub pool_there : (s : ℕ) (ps : List Numbers) (d : Numbers) → s < length ps → slice_get ps s ≡ Some (slice_index_or ps s d)
-pool_there s [] d h = absurd (omega arith)
-pool_there zero (p ∷ ps) d h = refl
-pool_there (suc s) (p ∷ ps) d h = pool_there s ps d (omega arith)
-
 pub pool_within : (s : ℕ) (ps : List Numbers) (P : Numbers → Type 0) → IsSomeAnd (slice_get ps s) P → s < length ps
 pool_within s [] P h = absurd h
 pool_within zero (p ∷ ps) P h = omega arith
@@ -49,29 +40,12 @@ leased_found s [] d h = absurd h
 leased_found zero (p ∷ ps) d h = h
 leased_found (suc s) (p ∷ ps) d h = leased_found s ps d h
 
-pub pool_missing : (s : ℕ) (ps : List Numbers) → length ps ≤ s → slice_get ps s ≡ None
-pool_missing s [] h = refl
-pool_missing zero (p ∷ ps) h = absurd (omega arith)
-pool_missing (suc s) (p ∷ ps) h = pool_missing s ps (omega arith)
-
 pub pool_at : (s u : ℕ) (f : Numbers → Numbers) (ps : List Numbers) → slice_get (pool_changed s f ps) u ≡ cond (s == u) (option_map f (slice_get ps u)) (slice_get ps u)
 pool_at s u f [] = cond_both (s == u) None None (λ (o : Option Numbers). None ≡ o) (λ yes. refl) (λ no. refl)
 pool_at zero zero f (p ∷ ps) = refl
 pool_at zero (suc u) f (p ∷ ps) = is_other (0 == suc u) (option_map f (slice_get ps u)) (slice_get ps u) (slice_get ps u) (grind (arith, nat_tests)) refl
 pool_at (suc s) zero f (p ∷ ps) = is_other (suc s == 0) (Some (f p)) (Some p) (Some p) (grind (arith, nat_tests)) refl
 pool_at (suc s) (suc u) f (p ∷ ps) = pool_at s u f ps ∙ by_test (s == u) (suc s == suc u) (option_map f (slice_get ps u)) (slice_get ps u) (same_test s u)
-
-pub some_within : (s : ℕ) (ps : List Numbers) (b : Bool) → (b ≡ true → s < length ps) → (b ≡ false → length ps ≤ s) → b ≡ is_some (slice_get ps s)
-some_within s [] true y n = absurd (let h = y refl in omega arith)
-some_within s [] false y n = refl
-some_within zero (p ∷ ps) true y n = refl
-some_within zero (p ∷ ps) false y n = absurd (let h = n refl in omega arith)
-some_within (suc s) (p ∷ ps) b y n = some_within s ps b (λ e. let h = y e in omega arith) (λ e. let h = n e in omega arith)
-
-pub pool_unchanged : (s : ℕ) (f : Numbers → Numbers) (ps : List Numbers) → length ps ≤ s → pool_changed s f ps ≡ ps
-pool_unchanged s f [] h = refl
-pool_unchanged zero f (p ∷ ps) h = absurd (omega arith)
-pool_unchanged (suc s) f (p ∷ ps) h = ap (λ (qs : List Numbers). p ∷ qs) (pool_unchanged s f ps (omega arith))
 
 pub opens_below : (w : Setting) (before : List WorldEvent) (t s : ℕ) (p : Numbers) → IsLegalWorld w (Lease t s ∷ before) → pool_of w.maxima s before ≡ Some p → OpensBelow p
 opens_below w before t s p l e =

@@ -13,6 +13,7 @@ use Rattle.world_core.specs.declared.event.WorldFault.TheVariants.{NoLease, Over
 use Rattle.plan_rules.specs.Claims.{least_claim}
 use Rattle.world_core.specs.WorldTable.{first_of, step_faults, needs_lease}
 
+-- what the history of the account shows
 abbrev pub seen_in : Account → Seen
 seen_in a = seen a.state.plan a.state.events
 
@@ -23,17 +24,21 @@ bound_fault x event leased claim = first_of (
     ∷ (nat_lt claim (places_held (after x event)), OverClaim)
     ∷ [])
 
+-- the first fault of an event: its own, or one by the lease and the claim
 abbrev pub event_fault : Account → Bool → Event → Option WorldFault
 event_fault a leased event = step_faults (first_fault (seen_in a) event) (bound_fault (seen_in a) event leased a.claim)
 
+-- one more event, in the short form of the history
 abbrev pub after_event : Account → Event → Account
 after_event a event = record { state = record { plan = a.state.plan; events = norm (event ∷ a.state.events) }; claim = a.claim }
 
+-- a claim is refused below what is held, above the old one, and below what a preview needs before its last chunk
 abbrev pub claim_fault : Account → ℕ → Option WorldFault
 claim_fault a claim = first_of (
     (nat_lt claim (places_held (seen_in a)) || nat_lt a.claim claim || (is_early (seen_in a) && nat_lt claim (least_claim a.state.plan)), OverClaim)
     ∷ [])
 
+-- the same history with this claim
 abbrev pub after_claim : Account → ℕ → Account
 after_claim a claim = record { state = a.state; claim = claim }
 

@@ -17,6 +17,7 @@ use Rattle.plan_rules.specs.Claims.{least_claim}
 use Rattle.world_core.specs.WorldTable.{first_of, uses_lease, is_full}
 use Rattle.world_core.specs.Account.{seen_in, event_fault, after_event, claim_fault, after_claim}
 
+-- the capacity, the transactions that were ever opened, the leases that are out, and each service's pool
 pub record Kept : Type 0 where
   pub capacity : ℕ
   pub transactions : List Transaction
@@ -28,21 +29,26 @@ abbrev pub account_at : ℕ → List Transaction → Option Account
 account_at t [] = None
 account_at t (x ∷ xs) = if x.number == t then x.account else account_at t xs
 
+-- its number
 abbrev pub number_of : Transaction → ℕ
 number_of x = x.number
 
+-- some transaction has this number
 abbrev pub has_number : ℕ → List Transaction → Bool
 has_number t [] = false
 has_number t (x ∷ xs) = (x.number == t) || has_number t xs
 
+-- the service of the first lease with this number
 abbrev pub lease_at : ℕ → List Leased → Option ℕ
 lease_at t [] = None
 lease_at t (x ∷ xs) = if x.number == t then Some x.service else lease_at t xs
 
+-- what an open transaction has reserved
 abbrev pub claim_by : Option Account → ℕ
 claim_by None = 0
 claim_by (Some a) = a.claim
 
+-- the same of a transaction of the list
 abbrev pub account_claim : Transaction → ℕ
 account_claim x = claim_by x.account
 
@@ -57,42 +63,49 @@ abbrev pub changed_with : ℕ → (Transaction → Transaction) → List Transac
 changed_with t f [] = []
 changed_with t f (x ∷ xs) = if x.number == t then f x ∷ xs else x ∷ changed_with t f xs
 
-abbrev pub with_account : Option Account → Transaction → Transaction
-with_account a x = record { number = x.number; account = a }
-
+-- one more event of an open transaction
 abbrev pub account_stepped : Option Account → Event → Option Account
 account_stepped None event = None
 account_stepped (Some a) event = Some (after_event a event)
 
+-- the first fault of an event, by the transaction where it is open
 abbrev pub step_fault : Option Account → Bool → Event → Option WorldFault
 step_fault None leased event = Some UnknownTx
 step_fault (Some a) leased event = event_fault a leased event
 
+-- the same of a transaction of the list
 abbrev pub stepped : Event → Transaction → Transaction
 stepped event x = record { number = x.number; account = account_stepped x.account event }
 
+-- another claim of an open transaction
 abbrev pub account_reclaimed : Option Account → ℕ → Option Account
 account_reclaimed None claim = None
 account_reclaimed (Some a) claim = Some (after_claim a claim)
 
+-- the same of a transaction of the list
 abbrev pub reclaimed : ℕ → Transaction → Transaction
 reclaimed claim x = record { number = x.number; account = account_reclaimed x.account claim }
 
+-- the fault of another claim, by the transaction where it is open
 abbrev pub lower_fault : Option Account → ℕ → Option WorldFault
 lower_fault None claim = Some UnknownTx
 lower_fault (Some a) claim = claim_fault a claim
 
+-- the transaction is over; its number stays
 abbrev pub ended : Transaction → Transaction
 ended x = record { number = x.number; account = None }
 
+-- only what is done or has failed may end
 abbrev pub end_fault : Option Account → Option WorldFault
 end_fault None = Some UnknownTx
 end_fault (Some a) = first_of ((not (seen_in a).closed, NotClosed) ∷ [])
 
+-- the service may still be needed by the transaction
 abbrev pub lease_in_use : Option Account → Bool
 lease_in_use None = false
 lease_in_use (Some a) = uses_lease (seen_in a)
 
+-- the pools once a lease of this service, if there is one, has come back
 abbrev pub pool_after_back : Option ℕ → Bool → List Numbers → List Numbers
 pool_after_back None kept pools = pools
 pool_after_back (Some s) kept pools = pool_changed s (put_back kept) pools
@@ -118,6 +131,7 @@ kept_fault k (Reclaim t claim) = lower_fault (account_at t k.transactions) claim
 kept_fault k (Close t) = end_fault (account_at t k.transactions)
 kept_fault k (Limit s n) = first_of ((is_none (slice_get k.pools s), UnknownService) ∷ [])
 
+-- a transaction before its first event
 abbrev pub new_account : Plan → ℕ → Account
 new_account plan claim = record { state = record { plan = plan; events = [] }; claim = claim }
 
@@ -149,9 +163,11 @@ Takes old event result new =
     (λ _. (kept_fault old event ≡ None) × (new ≡ kept_after old event))
     (λ fault. FaultIs event (kept_fault old event) fault × (new ≡ old))
 
+-- how many places an open transaction holds
 abbrev pub places_by : Option Account → ℕ
 places_by None = 0
 places_by (Some a) = places_held (seen_in a)
 
+-- the same of a transaction of the list
 abbrev pub account_places : Transaction → ℕ
 account_places x = places_by x.account

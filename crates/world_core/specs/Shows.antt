@@ -14,6 +14,7 @@ abbrev pub account_of : Option Opened → Option Account
 account_of None = None
 account_of (Some o) = Some (record { state = record { plan = o.plan; events = norm o.part }; claim = o.claim })
 
+-- what is kept is what these events, none of which is refused, leave: by look-ups of each number and each service
 pub record Shows (k : Kept) (w : Setting) (events : List WorldEvent) : Type 0 where
   pub capacity : k.capacity ≡ w.capacity
   pub numbers : map number_of k.transactions ≡ opened events

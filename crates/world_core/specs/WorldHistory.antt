@@ -10,16 +10,22 @@ pub record Setting : Type 0 where
   pub capacity : ℕ
   pub maxima : List ℕ
 
+-- the two of them
+abbrev pub setting : ℕ → List ℕ → Setting
+setting capacity maxima = record { capacity = capacity; maxima = maxima }
+
 -- an open transaction: its plan, its part of the history, the newest event first, and its claim
 pub record Opened : Type 0 where
   pub plan : Plan
   pub part : List Event
   pub claim : ℕ
 
+-- one more event of its part
 abbrev pub with_event : Event → Option Opened → Option Opened
 with_event event None = None
 with_event event (Some o) = Some (record { plan = o.plan; part = event ∷ o.part; claim = o.claim })
 
+-- another claim
 abbrev pub with_claim : ℕ → Option Opened → Option Opened
 with_claim claim None = None
 with_claim claim (Some o) = Some (record { plan = o.plan; part = o.part; claim = claim })
@@ -83,6 +89,7 @@ leases_out (Limit s n ∷ before) = leases_out before
 abbrev pub leased_out : ℕ → List WorldEvent → ℕ
 leased_out s events = count_by (λ lease. lease.1 == s) (leases_out events)
 
+-- what an open transaction has reserved
 abbrev pub claim_in : Option Opened → ℕ
 claim_in None = 0
 claim_in (Some o) = o.claim
@@ -113,9 +120,11 @@ put_back kept p = if kept && nat_le (p.idle + p.leased) p.maximum
 abbrev pub limited : ℕ → Numbers → Numbers
 limited n p = record { idle = min p.idle (n - p.leased); leased = p.leased; maximum = n }
 
+-- no connection yet
 abbrev pub empty_pool : ℕ → Numbers
 empty_pool n = record { idle = 0; leased = 0; maximum = n }
 
+-- the lease is of this service
 abbrev pub is_service : ℕ → Option ℕ → Bool
 is_service s None = false
 is_service s (Some u) = u == s

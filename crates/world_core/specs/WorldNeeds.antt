@@ -39,6 +39,7 @@ abbrev pub MayFollowWorld : Setting → List WorldEvent → List WorldEvent → 
 MayFollowWorld w before [] = IsLegalWorld w before
 MayFollowWorld w before (event ∷ script) = MayFollowWorld w (event ∷ before) script
 
+-- events of a transaction, as events of the world
 abbrev pub of_world : ℕ → List Event → List WorldEvent
 of_world t script = map (λ event. Of t event) script
 

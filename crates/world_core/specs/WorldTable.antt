@@ -62,10 +62,12 @@ uses_lease x = not (is_plain x.plan.kind) && not x.closed && not x.no_mod && not
 abbrev pub shown : Opened → Seen
 shown o = seen o.plan o.part
 
+-- a fault of the transaction's own message goes before the others
 abbrev pub step_faults : Option StepFault → Option WorldFault → Option WorldFault
 step_faults None rest = rest
 step_faults (Some fault) rest = Some (Step fault)
 
+-- an event of a transaction: it is open, its message allows the event, its lease is there, and its claim has room
 abbrev pub of_fault : Option Opened → Option ℕ → Event → Option WorldFault
 of_fault None lease event = Some UnknownTx
 of_fault (Some o) lease event = step_faults (first_fault (shown o) event) (first_of (
@@ -73,16 +75,19 @@ of_fault (Some o) lease event = step_faults (first_fault (shown o) event) (first
     ∷ (nat_lt o.claim (places_held (seen o.plan (event ∷ o.part))), OverClaim)
     ∷ []))
 
+-- an open transaction may still need the service
 abbrev pub in_use : Option Opened → Bool
 in_use None = false
 in_use (Some o) = uses_lease (shown o)
 
+-- another claim: not below what is held, not above the old one, and not below what a preview needs before its last chunk
 abbrev pub reclaim_fault : Option Opened → ℕ → Option WorldFault
 reclaim_fault None claim = Some UnknownTx
 reclaim_fault (Some o) claim = first_of (
     (nat_lt claim (places_held (shown o)) || nat_lt o.claim claim || (is_early (shown o) && nat_lt claim (least_claim o.plan)), OverClaim)
     ∷ [])
 
+-- the end of a transaction: it is done or has failed
 abbrev pub close_fault : Option Opened → Option WorldFault
 close_fault None = Some UnknownTx
 close_fault (Some o) = first_of ((not (shown o).closed, NotClosed) ∷ [])

@@ -1,4 +1,4 @@
-//! An open transaction with its claim.
+//! An open transaction with its reservation.
 
 ghost use Rattle.std.specs.Prelude.{◌≡◌, ◌<◌, ◌^◌, [], None, not, nat_lt};
 ghost use Rattle.trace_core.specs.Faults.{is_early, first_fault};
@@ -13,7 +13,7 @@ use need_witness::fits_next;
 use plan_rules::least_claim;
 use trace_core::{Event, Kind, Plan, Seen, State};
 
-/// An open transaction, and the most places that it may hold.
+/// An open transaction, and the number of body bytes that it has reserved.
 #[derive(Drop)]
 pub struct Account {
     state: State,
@@ -43,20 +43,21 @@ impl Account {
         }
     }
 
+    /// How many bytes are reserved.
     pub fn claim(&self) -> u64
         ensures { result ≡ self.now.claim }
     {
         self.claim
     }
 
-    /// How many places are held.
+    /// How many bytes are held, original and adapted together.
     pub fn places(&self) -> u64
         requires { places_held (seen_in self.now) < 2 ^ 64 }
         ensures { result ≡ places_held (seen_in self.now) }
     {
-        let original = self.state.held_original();
-        let adapted = self.state.held_adapted();
-        original.1.saturating_sub(original.0) + adapted.1.saturating_sub(adapted.0)
+        let (from, to) = self.state.held_original();
+        let (first, last) = self.state.held_adapted();
+        (to - from) + (last - first)
     }
 
     /// Whether the service may still be needed.
@@ -68,13 +69,14 @@ impl Account {
         is_adapted && !seen.closed && !seen.no_mod && !seen.adapted_over
     }
 
+    /// Whether the message is done or has failed.
     pub fn is_closed(&self) -> bool
         ensures { result ≡ (seen_in self.now).closed }
     {
         self.state.seen().closed
     }
 
-    /// Whether an event that may come next leaves at most the claim held.
+    /// Whether an event that may come next leaves at most as many bytes held as are reserved.
     fn fits_event(&self, event: Event) -> bool
         requires { first_fault (seen_in self.now) event ≡ None }
         ensures { result ≡ not (nat_lt self.now.claim (places_held (after (seen_in self.now) event))) }
@@ -84,14 +86,13 @@ impl Account {
         fits_next(&self.state, event, self.claim)
     }
 
-    /// Whether no more places are held than this claim.
+    /// Whether at most so many bytes are held.
     fn fits_claim(&self, claim: u64) -> bool
         ensures { result ≡ not (nat_lt claim (places_held (seen_in self.now))) }
     {
-        let original = self.state.held_original();
-        let adapted = self.state.held_adapted();
-        let original = original.1 - original.0;
-        original <= claim && adapted.1 - adapted.0 <= claim - original
+        let (from, to) = self.state.held_original();
+        let (first, last) = self.state.held_adapted();
+        to - from <= claim && last - first <= claim - (to - from)
     }
 
     /// Why an event is refused, if it is.
@@ -123,7 +124,7 @@ impl Account {
         }
     }
 
-    /// Sets another claim, if nothing refuses it.
+    /// Lowers the reservation, if nothing refuses it.
     pub fn reclaim(&mut self, claim: u64) -> Result<(), WorldFault>
         ensures { Changes self.old (after_claim self.old claim) (claim_fault self.old claim) result self.new }
     {

@@ -6,47 +6,55 @@ use trace_core::{Event, Plan, StepFault};
 pub use std::alloc::AllocError as NoMemory;
 
 /// An event of the world. Transactions go by numbers that the caller chooses, services by their
-/// places among the maxima of [`World::new`](crate::World::new), from 0.
+/// places among the maxima of [`World::new`](crate::World::new), from 0. For each event its faults
+/// are looked for in the order in which they are named here; where none stands, it is taken.
 #[derive(Clone, Copy, Debug, PartialEq, Eq)]
 pub enum WorldEvent {
     /// `Lease(transaction, service)`: the transaction leases a connection of the service, an idle
-    /// one first.
+    /// one first. `UnknownService`; `HasLease`; `PoolFull`; `NoMemory`.
     Lease(u64, usize),
     /// `Open(transaction, plan, claim)`: the transaction begins with this plan, and reserves so
-    /// many bytes.
+    /// many bytes. `Twice`; `OverClaim` where that is less than its preview needs; `NoRoom`;
+    /// `NoMemory`.
     Open(u64, Plan, u64),
-    /// `Of(transaction, event)`: something happens to the transaction's message.
+    /// `Of(transaction, event)`: something happens to the transaction's message. `UnknownTx`;
+    /// `Step`; `NoLease`; `OverClaim` where more bytes than are reserved would be held.
     Of(u64, Event),
-    /// `Back(transaction, kept)`: the transaction gives its connection back, to be kept idle or to
-    /// be closed.
+    /// `Back(transaction, kept)`: the transaction gives its connection back, to be kept idle (where
+    /// at most the maximum are open) or to be closed. `NoLease`; `LeaseInUse`.
     Back(u64, bool),
     /// `Reclaim(transaction, claim)`: the transaction lowers its reservation to so many bytes.
+    /// `UnknownTx`; `OverClaim` where more bytes are held, where less was reserved before, or, in a
+    /// preview before its last chunk, where the preview needs more.
     Reclaim(u64, u64),
     /// `Close(transaction)`: the transaction is over, and its reservation is free again.
+    /// `UnknownTx`; `NotClosed`.
     Close(u64),
-    /// `Limit(service, maximum)`: so many connections of the service may be open from now on.
+    /// `Limit(service, maximum)`: so many connections of the service may be open from now on; idle
+    /// ones are closed until at most that many are open, or none is idle. `UnknownService`.
     Limit(usize, u64),
 }
 
-/// Why an event of the world is refused. Where several reasons stand, the first one of the event's
-/// row in docs/CONCURRENCY.md is given, and `NoMemory` only where no other stands.
+/// Why an event of the world is refused.
 #[derive(Clone, Copy, Debug, PartialEq, Eq)]
 pub enum WorldFault {
     /// The transaction's own message doesn't allow the event.
     Step(StepFault),
-    /// No such transaction is open.
+    /// No transaction with the number is open.
     UnknownTx,
     /// A transaction with the number was opened before.
     Twice,
-    /// The transaction has no connection, and the event needs one.
+    /// The transaction has no connection; of its events, all need one that bytes or responses of
+    /// the service come with, and bytes of the source before the final response.
     NoLease,
     /// The transaction has a connection already.
     HasLease,
-    /// The service may still be needed by the transaction.
+    /// The transaction is open, offered to the service, neither done nor failed, and the service
+    /// hasn't answered it with a 204 or a whole adapted message.
     LeaseInUse,
-    /// The reservations would pass the capacity.
+    /// The reservations would sum to more than the capacity.
     NoRoom,
-    /// More bytes would be held than are reserved, or less reserved than a preview needs, or more
+    /// More bytes would be held than are reserved, or fewer reserved than a preview needs, or more
     /// than before.
     OverClaim,
     /// No connection is idle, and no fewer than the maximum are open.

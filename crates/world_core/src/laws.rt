@@ -1,6 +1,6 @@
 //! What holds of every legal history of the world. Each law is the contract of a function that does nothing.
 
-ghost use Rattle.std.specs.Prelude.{◌≡◌, ◌≤◌, ℕ, List, ◌∷◌, Option, Some, ◌↔◌};
+ghost use Rattle.std.specs.Prelude.{◌≡◌, ◌≤◌, ℕ, List, Some, ◌↔◌};
 ghost use Rattle.trace_core.specs.Held.{IsIn};
 ghost use Rattle.need_witness.specs.declared.tape.Tape.{Tape};
 ghost use Rattle.need_witness.specs.Script.{held_on};
@@ -32,17 +32,18 @@ pub fn connections_stay_below_the_maximum()
         → pool_of w.maxima s events ≡ Some p → p.leased ≡ leased_out s events }
 {}
 
-/// Each held byte has a witness: events of its transaction that end with one that sends it, none of
-/// which the whole world refuses, for want of a connection or of room least of all.
+/// Each held byte has a witness: events of its transaction, the last of which sends it, that the whole
+/// world takes one after another. So its connection is there where an event needs one, and its
+/// reservation has room for what the events bring.
 pub fn held_bytes_have_witnesses()
     ensures { (w : Setting) (events : List WorldEvent) (tape : Tape) (t place : ℕ) (o : Opened) → IsLegalWorld w events
         → open_at t events ≡ Some o → IsIn (held_on tape (shown o)) place
         → IsWitness w events tape t place o (script_of tape (shown o) place) }
 {}
 
-/// The bytes that some continuation of the world still sends are those that the transactions hold,
-/// and those that a continuation of the transaction by itself still sends: the other transactions
-/// neither take a byte's chance away nor add one.
+/// The bytes that some continuation of the world still sends are those that the transactions hold. They
+/// are also those that a continuation of the transaction by itself still sends: what other transactions
+/// do makes no byte of it needed, and none needless.
 pub fn needed_bytes_are_held()
     ensures held { (w : Setting) (events : List WorldEvent) (tape : Tape) (t place : ℕ) → IsLegalWorld w events
         → (IsNeededInWorld w events tape t place ↔ IsHeldAt tape (open_at t events) place) }

@@ -27,6 +27,7 @@ impl Model for Pool {
 }
 
 impl Pool {
+    /// No connection yet, and at most so many from now on.
     pub fn new(maximum: u64) -> Pool
         ensures { result ≡ empty_pool maximum }
     {

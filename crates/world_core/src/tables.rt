@@ -46,6 +46,7 @@ impl Tables {
         self.capacity
     }
 
+    /// Something happens to a transaction's message.
     fn of(&mut self, number: u64, event: Event) -> Result<(), WorldFault>
         ensures { Takes (kept_of self.old) (WorldEvent.Of number event) result (kept_of self.new) }
     {
@@ -53,18 +54,21 @@ impl Tables {
         step_at(&mut self.transactions, number, event, leased)
     }
 
+    /// Lowers a reservation.
     fn reclaim(&mut self, number: u64, claim: u64) -> Result<(), WorldFault>
         ensures { Takes (kept_of self.old) (WorldEvent.Reclaim number claim) result (kept_of self.new) }
     {
         reclaim_at(&mut self.transactions, number, claim)
     }
 
+    /// Ends a transaction.
     fn close(&mut self, number: u64) -> Result<(), WorldFault>
         ensures { Takes (kept_of self.old) (WorldEvent.Close number) result (kept_of self.new) }
     {
         end_at(&mut self.transactions, number)
     }
 
+    /// Sets another maximum of a service.
     fn limit(&mut self, service: usize, maximum: u64) -> Result<(), WorldFault>
         ensures { Takes (kept_of self.old) (WorldEvent.Limit service maximum) result (kept_of self.new) }
     {
@@ -75,6 +79,7 @@ impl Tables {
         Ok(())
     }
 
+    /// Leases a connection.
     fn lease(&mut self, number: u64, service: usize) -> Result<(), WorldFault>
         ensures { Takes (kept_of self.old) (WorldEvent.Lease number service) result (kept_of self.new) }
     {
@@ -94,6 +99,7 @@ impl Tables {
         Ok(())
     }
 
+    /// Begins a transaction.
     fn open(&mut self, number: u64, plan: Plan, claim: u64) -> Result<(), WorldFault>
         requires { sum_by account_claim self.old.transactions.items ≤ self.old.capacity }
         ensures { Takes (kept_of self.old) (WorldEvent.Open number plan claim) result (kept_of self.new) }
@@ -117,6 +123,7 @@ impl Tables {
         Ok(())
     }
 
+    /// Takes a connection back.
     fn back(&mut self, number: u64, kept: bool) -> Result<(), WorldFault>
         requires { IsReal (kept_of self.old) }
         ensures { Takes (kept_of self.old) (WorldEvent.Back number kept) result (kept_of self.new) }

@@ -1,7 +1,7 @@
 //! The transactions of a world, by number.
 
-ghost use Rattle.std.specs.Prelude.{◌≡◌, ◌≢◌, ◌<◌, ◌≤◌, ◌+◌, ◌^◌, ◌++◌, ◌∷◌, [], ℕ, not, ◌==◌, IsTrue, ◌↔◌, length, filter, sum_by, MatchOption, slice_index_or};
-ghost use Rattle.world_core.specs.Kept.{account_at, has_number, lease_at, account_claim, account_places, IsFirstAt, changed_with, stepped, step_fault, reclaimed, lower_fault, ended, end_fault, lease_in_use};
+ghost use Rattle.std.specs.Prelude.{◌≡◌, ◌≢◌, ◌<◌, ◌^◌, ℕ, length, sum_by, MatchOption, slice_index_or};
+ghost use Rattle.world_core.specs.Kept.{account_at, has_number, account_claim, account_places, IsFirstAt, changed_with, stepped, step_fault, reclaimed, lower_fault, ended, end_fault, lease_in_use};
 ghost use Rattle.world_core.specs.Account.{Changes};
 
 use crate::account::Account;
@@ -40,7 +40,7 @@ pub fn has_number(transactions: &[Transaction], number: u64) -> bool
     false
 }
 
-/// The sum of the claims.
+/// The sum of the reservations, in bytes.
 pub fn claimed(transactions: &[Transaction]) -> u64
     requires { sum_by account_claim transactions.now < 2 ^ 64 }
     ensures { result ≡ sum_by account_claim transactions.now }
@@ -52,6 +52,7 @@ pub fn claimed(transactions: &[Transaction]) -> u64
     total
 }
 
+/// How many bytes are reserved, of an open transaction.
 fn claim_of(transaction: &Transaction) -> u64
     ensures { result ≡ account_claim transaction.now }
 {
@@ -118,7 +119,7 @@ pub fn step_at(
     transactions[place].step(event, leased)
 }
 
-/// Sets another claim of the transaction with the number.
+/// Lowers the reservation of the transaction with the number.
 pub fn reclaim_at(
     transactions: &mut [Transaction],
     number: u64,
@@ -154,7 +155,7 @@ pub fn uses_lease(transactions: &[Transaction], number: u64) -> bool
     transactions[place].uses_lease()
 }
 
-/// The sum of the places held.
+/// The sum of the bytes held.
 pub fn held(transactions: &[Transaction]) -> u64
     requires { sum_by account_places transactions.now < 2 ^ 64 }
     ensures { result ≡ sum_by account_places transactions.now }
@@ -166,6 +167,7 @@ pub fn held(transactions: &[Transaction]) -> u64
     total
 }
 
+/// How many bytes are held, by an open transaction.
 fn places_of(transaction: &Transaction) -> u64
     requires { account_places transaction.now < 2 ^ 64 }
     ensures { result ≡ account_places transaction.now }

@@ -2,7 +2,7 @@
 
 ghost use Rattle.std.specs.Prelude.{◌≡◌, ℕ, length, List, [], ◌∷◌, OnOk, OnErr, IfOk, IfErr};
 ghost use Rattle.world_core.specs.declared.event.WorldEvent.{WorldEvent};
-ghost use Rattle.world_core.specs.WorldHistory.{Setting};
+ghost use Rattle.world_core.specs.WorldHistory.{Setting, setting};
 ghost use Rattle.world_core.specs.WorldTable.{world_fault};
 ghost use Rattle.world_core.specs.WorldRun.{accepted, answers_to};
 ghost use Rattle.world_core.specs.WorldNeeds.{IsBook};
@@ -38,7 +38,7 @@ impl World {
     ///
     /// [`NoMemory`] where there was no memory for the pools.
     pub fn new(alloc: Global, capacity: u64, maxima: &[u64]) -> Result<World, NoMemory>
-        ensures { IfOk result (λ world. Shows world (record { capacity = capacity; maxima = maxima.now }) []) }
+        ensures { IfOk result (λ world. Shows world (setting capacity maxima.now) []) }
     {
         let tables = Tables::new(alloc, capacity, maxima)?;
         Ok(World { tables })
@@ -47,10 +47,12 @@ impl World {
     /// Takes an event; or answers its first fault, and changes nothing. Only `Lease` and `Open` take
     /// memory, so no other event is answered [`WorldFault::NoMemory`].
     pub fn step(&mut self, event: &WorldEvent) -> Result<(), WorldFault>
-        ensures taken { OnOk result ((w : Setting) (before : List WorldEvent) → Shows self.old w before → Shows self.new w (event.now ∷ before)) }
+        ensures taken { OnOk result ((w : Setting) (before : List WorldEvent)
+            → Shows self.old w before → Shows self.new w (event.now ∷ before)) }
 
         // A refusal is the first fault that stands, or want of memory where none stands.
-        ensures fault { IfErr result (λ fault. (w : Setting) (before : List WorldEvent) → Shows self.old w before → FaultIs event.now (world_fault w before event.now) fault) }
+        ensures fault { IfErr result (λ fault. (w : Setting) (before : List WorldEvent)
+            → Shows self.old w before → FaultIs event.now (world_fault w before event.now) fault) }
         ensures unchanged { OnErr result (self.new ≡ self.old) }
     {
         self.tables.step(event)
@@ -79,12 +81,17 @@ impl World {
         maxima: &[u64],
         events: &[WorldEvent],
     ) -> Result<(World, Vec<Option<WorldFault>>), NoMemory>
-        ensures answers { IfOk result (λ run. run.1.items ≡ answers_to (record { capacity = capacity; maxima = maxima.now }) [] events.now) }
+        ensures answers { IfOk result (λ run.
+            run.1.items ≡ answers_to (setting capacity maxima.now) [] events.now) }
         ensures one_each { IfOk result (λ run. length run.1.items ≡ length events.now) }
-        ensures shows { IfOk result (λ run. Shows run.0 (record { capacity = capacity; maxima = maxima.now }) (accepted (record { capacity = capacity; maxima = maxima.now }) [] events.now)) }
+        ensures shows { IfOk result (λ run.
+            Shows run.0 (setting capacity maxima.now) (accepted (setting capacity maxima.now) [] events.now)) }
 
-        // So claims, places, scripts, book, leases and connections are as they should be.
-        ensures sound { IfOk result (λ run. IsSound (record { capacity = capacity; maxima = maxima.now }) (accepted (record { capacity = capacity; maxima = maxima.now }) [] events.now)) }
+        // So the reservations fit the capacity, each transaction its reservation; what is held is what
+        // continuations still send, each byte with a witness; the book is the sum, leases are counted,
+        // and no connection was opened past a maximum.
+        ensures sound { IfOk result (λ run.
+            IsSound (setting capacity maxima.now) (accepted (setting capacity maxima.now) [] events.now)) }
     {
         let mut world = World::new(alloc, capacity, maxima)?;
         let mut answers = Vec::new(alloc);
