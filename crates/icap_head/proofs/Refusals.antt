@@ -16,7 +16,7 @@ abbrev pub ResponseRefused : HeadFault → List ℕ → Type 0
 ResponseRefused fault text = ((fault ≡ NoMemory) × ((value : Response) × (size : ℕ) × HasResponse text value size)) ⊎ Stands StatusForm fault text
 
 pub may_be : (line method uri version : List ℕ) → IsRequestLine line method uri version → MayBeRequestLine line
-may_be line method uri version h = record { method = method; word = uri; version = version; line_is = h.line_is; method_is = h.method_is; version_is = h.version_is }
+may_be line method uri version h = record { method = method; word = uri; version = version; line_is = h.line_is; method_is = h.method_is; one_word = h.one_word; version_is = h.version_is }
 
 pub needs_uri : (text seen line behind method uri : List ℕ) → seen ≡ take 16384 text → IsFirstLine seen line behind → IsRequestLine line method uri (codes "ICAP/1.0") → NeedsUri text
 needs_uri text seen line behind method uri e first h = (line, behind, subst (λ t. IsFirstLine t line behind) e first, may_be line method uri (codes "ICAP/1.0") h)

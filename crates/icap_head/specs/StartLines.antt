@@ -55,6 +55,7 @@ pub record MayBeRequestLine (line : List ℕ) : Type 0 where
   pub version : List ℕ
   pub line_is : line ≡ method ++ 32 ∷ word ++ 32 ∷ version
   pub method_is : IsToken method
+  pub one_word : Lacks 32 word
   pub version_is : IsVersion version
 
 -- each of the three is a digit

@@ -1,5 +1,5 @@
 //! Methods of ICAP requests (RFC 3507, section 4.3.2).
-ghost use Rattle.std.specs.Prelude.{◌≡◌, ◌≢◌, IfOk};
+ghost use Rattle.std.specs.Prelude.{◌≡◌, ◌≢◌, IfOk, OnErr, codes};
 ghost use Rattle.icap_head.specs.OtherName.{IsOtherName};
 
 use std::alloc::{AllocError, Global};
@@ -27,9 +27,10 @@ pub enum Method {
 impl Method {
     ghost use Rattle.icap_head.specs.Methods.{method_name};
 
-    /// The method of this name.
+    /// The method of this name. Only a name that is none of the three takes memory.
     pub fn of_name(alloc: Global, name: &[u8]) -> Result<Method, AllocError>
-        ensures { IfOk result (λ method. method_name method ≡ name.now) }
+        ensures ok { IfOk result (λ method. method_name method ≡ name.now) }
+        ensures named { OnErr result ((name.now ≢ codes "REQMOD") × (name.now ≢ codes "RESPMOD") × (name.now ≢ codes "OPTIONS")) }
     {
         if name == b"REQMOD".as_slice() {
             Ok(Method::Reqmod)

@@ -3,7 +3,7 @@ use crate::{HeadFault, read_request, read_response};
 
 #[test]
 fn faults_of_requests(rt: HostRuntime) {
-    let cases: [(&[u8], HeadFault); 30] = [
+    let cases: [(&[u8], HeadFault); 31] = [
         (b"", HeadFault::More),
         (b"REQMOD", HeadFault::More),
         (b"\0 nothing is judged before the LF", HeadFault::More),
@@ -40,6 +40,7 @@ fn faults_of_requests(rt: HostRuntime) {
         (b"REQMOD icap://h/x ICAP/1.10\r\n\r\n", HeadFault::StartLine),
         (b"REQMOD http://h/x ICAP/1.1\r\n\r\n", HeadFault::StartLine),
         (b"OPTIONS icap://h/x ICAP/1.1\r\n", HeadFault::Version),
+        (b"OPTIONS icap://h/x ICAP/1.1\r\n\r\n", HeadFault::Version),
         (b"OPTIONS icap://h/x ICAP/2.0\r\n\r\n", HeadFault::Version),
         (
             b"OPTIONS icap://h/x ICAP/1.1\r\nHost : h\r\n",
@@ -83,5 +84,21 @@ fn faults_of_responses(rt: HostRuntime) {
     ];
     for (text, fault) in cases {
         assert!(rt; matches!(read_response(rt.alloc(), text), Err(found) if found == fault));
+    }
+}
+
+#[test]
+fn faults_have_numbers(rt: HostRuntime) {
+    let cases = [
+        (HeadFault::More, 1),
+        (HeadFault::StartLine, 2),
+        (HeadFault::Version, 3),
+        (HeadFault::Field, 4),
+        (HeadFault::TooLong, 5),
+        (HeadFault::TooMany, 6),
+        (HeadFault::NoMemory, 7),
+    ];
+    for (fault, number) in cases {
+        assert_eq!(rt; fault as u8, number);
     }
 }

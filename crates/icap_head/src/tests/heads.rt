@@ -191,6 +191,10 @@ fn status_lines(rt: HostRuntime) -> Result<(), Fail> {
         assert_eq!(rt; head.value.status, status);
         assert_eq!(rt; head.value.phrase.as_slice(), phrase);
         assert_eq!(rt; head.length, length);
+        for cut in 0..length.min(text.len()) {
+            let found = read_response(rt.alloc(), &text[..cut]);
+            assert!(rt; matches!(found, Err(HeadFault::More)), "at {cut}");
+        }
     }
     Ok(())
 }
@@ -224,6 +228,10 @@ fn request_lines(rt: HostRuntime) -> Result<(), Fail> {
         assert_eq!(rt; head.value.uri.as_slice(), uri);
         assert_eq!(rt; head.length, length);
         assert!(rt; matches!(&head.value.method, Method::Reqmod));
+        for cut in 0..length.min(text.len()) {
+            let found = read_request(rt.alloc(), &text[..cut]);
+            assert!(rt; matches!(found, Err(HeadFault::More)), "at {cut}");
+        }
     }
     Ok(())
 }

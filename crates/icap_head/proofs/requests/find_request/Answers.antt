@@ -36,7 +36,7 @@ returns-in_err-uri-clause-err c =
 pub returns-clause-ok : goal.returns-clause-ok
 returns-clause-ok c =
     let found = c.in_ok-fields.ensures.found in
-    let method : method_name c.in_ok-method-2.method ≡ c.in_ok-method.method.now = c.in_ok-method-2.ensures in
+    let method : method_name c.in_ok-method-2.method ≡ c.in_ok-method.method.now = c.in_ok-method-2.ensures.ok in
     let uri : c.in_ok-uri.uri.items ≡ c.in_ok-method.uri.now = search rules in
     let line : IsRequestLine c.in-Some.line.now (method_name c.in_ok-method-2.method) c.in_ok-uri.uri.items (codes "ICAP/1.0") = rw (method, uri) c.in_ok-method.ensures.ok in
     has_request (record { method = method_name c.in_ok-method-2.method; uri = c.in_ok-uri.uri.items; fields = field_list c.in_ok-fields.fields }) c.args.text.now c.judged-seen.result.now

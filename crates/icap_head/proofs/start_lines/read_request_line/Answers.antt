@@ -44,7 +44,7 @@ returns-in_err-is_icap_uri-clause-err c =
     let token : IsToken method = search rules in
     let version : IsVersion last = search rules in
     let p = err_from_is_err_and c.from_residual.result c.from_residual.ensures.1 in
-    rw (p.1, p.2) (inl (refl, record { method = method; word = word; version = last; line_is = words_joined c.args.line.now method c.in-Some.rest.now word last some.0 next.0; method_is = token; version_is = version }))
+    rw (p.1, p.2) (inl (refl, record { method = method; word = word; version = last; line_is = words_joined c.args.line.now method c.in-Some.rest.now word last some.0 next.0; method_is = token; one_word = next.1; version_is = version }))
 
 pub returns-then-not-branch-clause-err : goal.returns-then-not-branch-clause-err
 returns-then-not-branch-clause-err c = inr (no_form c.args.line.now (λ m u v h.
