@@ -8,7 +8,9 @@ ghost use Rattle.need_witness.specs.Fits.{places_held};
 ghost use Rattle.need_witness.specs.Table.{script_of};
 ghost use Rattle.world_core.specs.declared.event.WorldEvent.{WorldEvent};
 ghost use Rattle.world_core.specs.WorldHistory.{Setting, Opened, Numbers, open_at, claimed, pool_of, leased_out};
-ghost use Rattle.world_core.specs.WorldTable.{IsLegalWorld, shown};
+ghost use Rattle.world_core.specs.WorldTable.{IsLegalWorld, world_fault, shown};
+ghost use Rattle.world_core.specs.Kept.{Kept};
+ghost use Rattle.world_core.specs.Shows.{Shows};
 ghost use Rattle.world_core.specs.WorldNeeds.{IsNeededInWorld, IsNeededAt, IsBook};
 ghost use Rattle.world_core.specs.WorldSound.{IsHeldAt, IsWitness, OpenedBelow, held_in};
 ghost use Rattle.world_core.specs.WorldRun.{accepted};
@@ -24,20 +26,20 @@ pub fn transactions_fit_their_claims()
         → open_at t events ≡ Some o → places_held (shown o) ≤ o.claim }
 {}
 
-/// A connection was never opened but where fewer than the maximum were open; and a pool counts as
-/// leased just the leases that are out.
+/// Wherever a lease opened a connection, fewer than the maximum were open; and what a pool counts as
+/// leased is the number of leases that are out.
 pub fn connections_stay_below_the_maximum()
     ensures opened { (w : Setting) (events : List WorldEvent) → IsLegalWorld w events → OpenedBelow w events }
-    ensures leased { (w : Setting) (events : List WorldEvent) (s : ℕ) (p : Numbers) → IsLegalWorld w events
-        → pool_of w.maxima s events ≡ Some p → p.leased ≡ leased_out s events }
+    ensures leased { (w : Setting) (events : List WorldEvent) (s : ℕ) (p : Numbers)
+        → IsLegalWorld w events → pool_of w.maxima s events ≡ Some p → p.leased ≡ leased_out s events }
 {}
 
 /// Each held byte has a witness: events of its transaction, the last of which sends it, that the whole
 /// world takes one after another. So its connection is there where an event needs one, and its
 /// reservation has room for what the events bring.
 pub fn held_bytes_have_witnesses()
-    ensures { (w : Setting) (events : List WorldEvent) (tape : Tape) (t place : ℕ) (o : Opened) → IsLegalWorld w events
-        → open_at t events ≡ Some o → IsIn (held_on tape (shown o)) place
+    ensures { (w : Setting) (events : List WorldEvent) (tape : Tape) (t place : ℕ) (o : Opened)
+        → IsLegalWorld w events → open_at t events ≡ Some o → IsIn (held_on tape (shown o)) place
         → IsWitness w events tape t place o (script_of tape (shown o) place) }
 {}
 
@@ -59,5 +61,14 @@ pub fn book_is_the_sum_of_needed_bytes()
 
 /// Whatever events are offered, those that are accepted make a legal history.
 pub fn accepted_events_are_legal()
-    ensures { (w : Setting) (before events : List WorldEvent) → IsLegalWorld w before → IsLegalWorld w (accepted w before events) }
+    ensures { (w : Setting) (before events : List WorldEvent)
+        → IsLegalWorld w before → IsLegalWorld w (accepted w before events) }
+{}
+
+/// What a world keeps decides how it goes on: after all histories that leave the same, an event is
+/// taken, or refused with the same fault.
+pub fn what_is_kept_decides()
+    ensures { (kept : Kept) (w v : Setting) (events others : List WorldEvent) (event : WorldEvent)
+        → Shows kept w events → Shows kept v others
+        → world_fault w events event ≡ world_fault v others event }
 {}

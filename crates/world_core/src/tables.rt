@@ -29,7 +29,8 @@ pub struct Tables {
 impl Tables {
     /// Before the first event.
     pub fn new(alloc: Global, capacity: u64, maxima: &[u64]) -> Result<Tables, NoMemory>
-        ensures { IfOk result (λ tables. kept_of tables ≡ record { capacity = capacity; transactions = []; leases = []; pools = map empty_pool maxima.now }) }
+        ensures { IfOk result (λ tables. kept_of tables
+            ≡ record { capacity = capacity; transactions = []; leases = []; pools = map empty_pool maxima.now }) }
     {
         let pools = pools_of(alloc, maxima)?;
         Ok(Tables {

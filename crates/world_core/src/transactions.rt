@@ -1,7 +1,8 @@
 //! The transactions of a world, by number.
 
 ghost use Rattle.std.specs.Prelude.{◌≡◌, ◌≢◌, ◌<◌, ◌^◌, ℕ, length, sum_by, MatchOption, slice_index_or};
-ghost use Rattle.world_core.specs.Kept.{account_at, has_number, account_claim, account_places, IsFirstAt, changed_with, stepped, step_fault, reclaimed, lower_fault, ended, end_fault, lease_in_use};
+ghost use Rattle.world_core.specs.Kept.{account_at, has_number, account_claim, account_places, IsFirstAt, changed_with};
+ghost use Rattle.world_core.specs.Kept.{stepped, step_fault, reclaimed, lower_fault, ended, end_fault, lease_in_use};
 ghost use Rattle.world_core.specs.Account.{Changes};
 
 use crate::account::Account;
@@ -17,7 +18,8 @@ pub struct Transaction {
 
 /// Where the first transaction with the number stands.
 pub fn find(transactions: &[Transaction], number: u64) -> Option<usize>
-    ensures { MatchOption result ((k : ℕ) (d : _) → k < length transactions.now → (slice_index_or transactions.now k d).number ≢ number)
+    ensures { MatchOption result
+        ((k : ℕ) (d : _) → k < length transactions.now → (slice_index_or transactions.now k d).number ≢ number)
         (IsFirstAt number transactions.now) }
 {
     for place in 0..transactions.len() {
