@@ -4,13 +4,13 @@ ghost use Rattle.std.specs.Prelude.{◌≡◌, ◌++◌, ◌+◌, ◌≤◌, OnO
 ghost use Rattle.std.specs.Option.{option_map};
 ghost use Rattle.adapt_bytes.specs.Numeral.{numeral};
 ghost use Rattle.trace_core.specs.declared.history.Event.{Event as AnyEvent};
-ghost use Rattle.proxy_program.specs.Words.{event_word, event_number, printed_number, event_text};
+ghost use Rattle.proxy_program.specs.Words.{event_word, cause_number, event_number, printed_number, event_text};
 ghost use Rattle.proxy_program.specs.Answers.{range_text, adapted_text, answer_text, events_text, script_text};
 
 use adapt_bytes::{Small, put_decimal};
 use need_witness::Script as Witness;
 use std::alloc::AllocError as NoMemory;
-use trace_core::{Answer, Event};
+use trace_core::{Answer, Cause, Event};
 
 /// Adds a decimal without leading zeros. `NoMemory` where the text can't grow.
 pub fn write_number(out: &mut Vec<u8>, n: u64) -> Result<(), NoMemory>
@@ -75,13 +75,27 @@ fn event_word(event: Event) -> &'static [u8]
     }
 }
 
+/// The number of a cause, as scripts have it.
+fn cause_number(cause: Cause) -> u64
+    ensures { result ≡ cause_number cause }
+{
+    match cause {
+        Cause::Source => 1,
+        Cause::Service => 2,
+        Cause::NextHop => 3,
+        Cause::Memory => 4,
+        Cause::Deadline => 5,
+        Cause::Stopping => 6,
+    }
+}
+
 /// The number behind the word of an event.
 fn event_number(event: Event) -> Option<u64>
     ensures { result ≡ event_number event }
 {
     match event {
         Event::In(n) | Event::Svc(n) | Event::Ad(n) | Event::Usr(n) => Some(n),
-        Event::Fail(cause) => Some(cause as u64),
+        Event::Fail(cause) => Some(cause_number(cause)),
         _ => None,
     }
 }
