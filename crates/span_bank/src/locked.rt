@@ -4,7 +4,7 @@ ghost use Rattle.span_bank.specs.declared.step.BankStep.TheVariants.{Open, Grow,
 ghost use Rattle.span_bank.specs.State.{IsAllowed, Fits, Refuses, stepped, IsSound};
 ghost use Rattle.span_bank.specs.Stakes.{held_sum, claim_sum, CountsIn};
 
-use crate::stake::Stake;
+use crate::stake::{Stake, lend};
 use crate::state::BankState;
 use crate::step::{Audit, AuditFault, BankStep, Numbers, OpenFault};
 use std::marker::Model;
@@ -63,7 +63,7 @@ impl<H: Ledger, F: Ledger> Locked<H, F> {
         requires none { (state.numbers.rows ≡ 0) × (state.numbers.held ≡ 0) × (state.numbers.claimed ≡ 0) }
         ensures { result ≡ state }
     {
-        // Shows that the state is sound
+        // Shows that the state is sound.
         let _numbers = state.numbers();
         let (held_book, held_rest) = held.open::<H>();
         let (free_book, free_rest) = free.open::<F>();
@@ -89,15 +89,12 @@ impl<H: Ledger, F: Ledger> Locked<H, F> {
         ensures kept { OnErr result (self.new ≡ self.old) }
     {
         self.state.apply(BankStep::Open(claim))?;
-        let held_share = self.held_rest.split_off(1, 0);
-        let mut free_share = self.free_rest.split_off(1, 0);
-        self.free_book.add(&mut free_share, claim);
-        Ok(Stake {
-            held: 0,
+        Ok(lend(
+            &mut self.free_book,
+            &mut self.held_rest,
+            &mut self.free_rest,
             claim,
-            held_share,
-            free_share,
-        })
+        ))
     }
 
     /// Holds `n` bytes more, as the step `Grow`.
@@ -108,24 +105,9 @@ impl<H: Ledger, F: Ledger> Locked<H, F> {
         ensures step { self.new ≡ stepped self.old (Grow n) }
         ensures sound { IsSound self.new }
     {
-        let Locked {
-            state,
-            held_book,
-            free_book,
-            held_rest: _,
-            free_rest: _,
-        } = self;
-        let Stake {
-            held,
-            claim: _,
-            held_share,
-            free_share,
-        } = stake;
-        // The ledgers come first: they show that the sums allow the step
-        free_book.sub(free_share, n);
-        apply_fitting(state, BankStep::Grow(n));
-        held_book.add(held_share, n);
-        *held += n;
+        // The ledgers come first: they show that the sums allow the step.
+        stake.charge(&mut self.held_book, &mut self.free_book, n);
+        apply_fitting(&mut self.state, BankStep::Grow(n));
     }
 
     /// Holds `n` bytes fewer, as the step `Shrink`.
@@ -136,23 +118,8 @@ impl<H: Ledger, F: Ledger> Locked<H, F> {
         ensures step { self.new ≡ stepped self.old (Shrink n) }
         ensures sound { IsSound self.new }
     {
-        let Locked {
-            state,
-            held_book,
-            free_book,
-            held_rest: _,
-            free_rest: _,
-        } = self;
-        let Stake {
-            held,
-            claim: _,
-            held_share,
-            free_share,
-        } = stake;
-        held_book.sub(held_share, n);
-        apply_fitting(state, BankStep::Shrink(n));
-        free_book.add(free_share, n);
-        *held -= n;
+        stake.release(&mut self.held_book, &mut self.free_book, n);
+        apply_fitting(&mut self.state, BankStep::Shrink(n));
     }
 
     /// Lowers the reservation to `claim` bytes, as the step `Reclaim`.
@@ -163,25 +130,14 @@ impl<H: Ledger, F: Ledger> Locked<H, F> {
         ensures step { self.new ≡ stepped self.old (Reclaim stake.old.claim claim) }
         ensures sound { IsSound self.new }
     {
-        let Locked {
-            state,
-            held_book: _,
-            free_book,
-            held_rest: _,
-            free_rest: _,
-        } = self;
-        let Stake {
-            held: _,
-            claim: old,
-            held_share: _,
-            free_share,
-        } = stake;
-        if claim == *old {
+        let old = stake.claim();
+        // Shows that the state is sound, also where the claim stays.
+        let _numbers = self.state.numbers();
+        if claim == old {
             return;
         }
-        free_book.sub(free_share, *old - claim);
-        apply_fitting(state, BankStep::Reclaim(*old, claim));
-        *old = claim;
+        stake.lower(&mut self.free_book, claim);
+        apply_fitting(&mut self.state, BankStep::Reclaim(old, claim));
     }
 
     /// Ends a reservation that holds nothing, as the step `Close`.
@@ -190,23 +146,13 @@ impl<H: Ledger, F: Ledger> Locked<H, F> {
         ensures step { self.new ≡ stepped self.old (Close stake.claim) }
         ensures sound { IsSound self.new }
     {
-        let Locked {
-            state,
-            held_book: _,
-            free_book,
-            held_rest,
-            free_rest,
-        } = self;
-        let Stake {
-            held: _,
-            claim,
-            mut held_share,
-            mut free_share,
-        } = stake;
-        free_book.sub(&mut free_share, claim);
-        held_share.give(held_rest, 1, 0);
-        free_share.give(free_rest, 1, 0);
-        apply_fitting(state, BankStep::Close(claim));
+        let claim = stake.claim();
+        stake.give_back(
+            &mut self.free_book,
+            &mut self.held_rest,
+            &mut self.free_rest,
+        );
+        apply_fitting(&mut self.state, BankStep::Close(claim));
     }
 
     /// The totals now. The journal's replay is these, and they are in order.
@@ -226,15 +172,11 @@ impl<H: Ledger, F: Ledger> Locked<H, F> {
         ensures counted { CountsIn result own.old }
         ensures order { (result.held ≤ result.claimed) × (result.claimed ≤ result.capacity) }
     {
-        let Stake {
-            held: _,
-            claim: _,
-            held_share,
-            free_share,
-        } = own;
-        self.held_book.audit(held_share);
-        self.free_book.audit(free_share);
-        held_share.give(&mut self.held_rest, 0, 0);
+        own.count(
+            &mut self.held_book,
+            &mut self.free_book,
+            &mut self.held_rest,
+        );
         self.state.numbers()
     }
 
@@ -268,14 +210,7 @@ impl<H: Ledger, F: Ledger> Locked<H, F> {
         } = self;
         let mut stakes = stakes;
         while let Some(stake) = stakes.pop() {
-            let Stake {
-                held: _,
-                claim: _,
-                held_share,
-                free_share,
-            } = stake;
-            held_rest.merge(held_share);
-            free_rest.merge(free_share);
+            stake.join(&mut held_rest, &mut free_rest);
         }
         stakes.destroy_empty();
         let mut none = held_rest.empty();

@@ -234,19 +234,9 @@ fn keep<H: Ledger, F: Ledger>(
         if stakes.len() < stakes.capacity() {
             stakes.push_reserved(stake);
         } else {
-            lose(stake);
+            stake.lose();
         }
     }
-}
-
-// A user can't do this: its fields are private.
-fn lose<H: Ledger, F: Ledger>(stake: Stake<H, F>) {
-    let Stake {
-        held: _,
-        claim: _,
-        held_share: _,
-        free_share: _,
-    } = stake;
 }
 
 // An audit without the last reservation, and one with it. Loses what doesn't get so far.
@@ -258,7 +248,7 @@ fn audit_twice<H: Ledger, F: Ledger>(
     match bank.audit(stakes) {
         Ok(_) => {
             if let Ok(stake) = last {
-                lose(stake);
+                stake.lose();
             }
             (None, 0, None)
         }
@@ -269,7 +259,7 @@ fn audit_twice<H: Ledger, F: Ledger>(
                 Ok(audit) => (Some(fault), came_back, Some(audit)),
                 Err((_, mut stakes, _)) => {
                     while let Some(stake) = stakes.pop() {
-                        lose(stake);
+                        stake.lose();
                     }
                     stakes.destroy_empty();
                     (Some(fault), came_back, None)
