@@ -44,8 +44,8 @@ pub enum WorldFault {
     UnknownTx,
     /// A transaction with the number was opened before.
     Twice,
-    /// The transaction has no connection; of its events, all need one that bytes or responses of
-    /// the service come with, and bytes of the source before the final response.
+    /// The transaction has no connection, and the event needs one: bytes to or from the service, a
+    /// last chunk, a response, and, before the final response, bytes from the source.
     NoLease,
     /// The transaction has a connection already.
     HasLease,
