@@ -10,5 +10,7 @@ pub mod Keeping
 pub mod Stepped
 pub mod Booked
 pub mod Leasing
+pub mod Bounding
 pub mod Running
 pub mod Sounding
+pub mod Deciding

@@ -1,11 +1,16 @@
 -- Every legal world history is sound.
-use Rattle.std.proofs.Common.{◌≡◌, ℕ, List, [], ◌∷◌, ◌++◌, Option, Some, None, refl, subst}
+use Rattle.std.proofs.Common.{◌≡◌, ℕ, List, [], ◌∷◌, ◌++◌, Option, Some, None, refl, sym, subst}
 use Rattle.std.specs.Prelude.{◌↔◌}
 use Rattle.trace_core.specs.Held.{IsIn}
 use Rattle.need_witness.specs.declared.tape.Tape.{Tape}
 use Rattle.need_witness.specs.Script.{held_on}
 use Rattle.need_witness.specs.Table.{script_of}
-use Rattle.need_witness.proofs.Scripted.{is_script}
+use Rattle.need_witness.specs.Replay.{Leads}
+use Rattle.need_witness.proofs.Scripted.{is_script, leads, leads-script}
+use Rattle.trace_core.specs.declared.history.Seen.{Seen}
+use Rattle.trace_core.specs.Norm.{norm}
+use Rattle.trace_core.proofs.Sound.{sound}
+use Rattle.world_core.proofs.Showing.{same_seen}
 use Rattle.world_core.specs.declared.event.WorldEvent.{WorldEvent}
 use Rattle.world_core.specs.declared.event.WorldEvent.TheVariants.{Lease}
 use Rattle.world_core.specs.WorldHistory.{Setting, Opened, open_at, lease_of}
@@ -13,11 +18,12 @@ use Rattle.world_core.specs.WorldTable.{IsLegalWorld, shown}
 use Rattle.world_core.specs.WorldNeeds.{IsNeededInWorld, IsNeededAt}
 use Rattle.world_core.specs.WorldSound.{IsHeldAt, IsWitness, OpenedBelow, IsSound}
 use Rattle.world_core.proofs.Standing.{sane_at}
-use Rattle.world_core.proofs.Following.{sane-follows, follows-fits}
+use Rattle.world_core.proofs.Following.{Follows, sane-follows, follows-fits}
 use Rattle.world_core.proofs.Continuing.{script_follows, needed_is, held_needed_world, part_held}
 use Rattle.world_core.proofs.Claiming.{within_capacity}
 use Rattle.world_core.proofs.Pooled.{opens_below}
 use Rattle.world_core.proofs.Leasing.{leased_at}
+use Rattle.world_core.proofs.Bounding.{bounded_at}
 use Rattle.world_core.proofs.Booked.{is_book_of}
 
 pub witness_of : (w : Setting) (before : List WorldEvent) (tape : Tape) (t place : ℕ) (o : Opened) → IsLegalWorld w before → open_at t before ≡ Some o → IsIn (held_on tape (shown o)) place
@@ -26,10 +32,13 @@ witness_of w before tape t place o l e h =
     let s = sane_at w t before o l e in
     let script = script_of tape (shown o) place in
     let f = sane-follows tape place (lease_of t before) o s h in
+    let same = sym (same_seen (lease_of t before) o s) in
     record {
       sends = is_script tape place o.plan o.part s.legal h;
       follows = script_follows w t before o script l e f;
       fits = follows-fits (lease_of t before) o.claim o.plan o.part script f;
+      accepted = leads-script tape place o.plan (norm o.part) script (subst (λ (x : Seen). Leads tape place x script) same (leads tape (shown o) place (sound o.plan o.part s.legal) h));
+      fits_trace = follows-fits (lease_of t before) o.claim o.plan (norm o.part) script (subst (λ (x : Seen). Follows (lease_of t before) o.claim x script) same f);
     }
 
 needed_now : (w : Setting) (before : List WorldEvent) (tape : Tape) (t place : ℕ) (now : Option Opened) → IsLegalWorld w before → open_at t before ≡ now
@@ -62,4 +71,5 @@ is_sound w events l = record {
   book = is_book_of w events l;
   leased = λ s p e. leased_at w events s p l e;
   opened_below = opened_below w events l;
+  idle_below = λ s p e. bounded_at w events s p l e;
 }

@@ -39,7 +39,7 @@ abbrev pub is_full : Option Numbers → Bool
 is_full None = false
 is_full (Some p) = (p.idle == 0) && nat_le p.maximum (p.idle + p.leased)
 
--- the event can't be without a service connection
+-- the event can't be without a service connection (RFC 3507, sections 4.5 and 4.6)
 abbrev pub needs_lease : Seen → Event → Bool
 needs_lease x (In n) = not (is_plain x.plan.kind) && not (is_final x)
 needs_lease x (Svc n) = not (is_plain x.plan.kind)

@@ -24,11 +24,11 @@ pub struct Account {
 fn needs_lease(seen: &Seen, event: Event) -> bool
     ensures { result ≡ needs_lease seen.now event }
 {
-    let is_adapted = !matches!(seen.plan.kind, Kind::Plain);
+    let is_offered = !matches!(seen.plan.kind, Kind::Plain);
     match event {
-        Event::In(_) => is_adapted && !(seen.no_mod || seen.modified),
+        Event::In(_) => is_offered && !(seen.no_mod || seen.modified),
         Event::End | Event::Usr(_) | Event::Done | Event::Fail(_) => false,
-        _ => is_adapted,
+        _ => is_offered,
     }
 }
 
@@ -65,8 +65,8 @@ impl Account {
         ensures { result ≡ uses_lease (seen_in self.now) }
     {
         let seen = self.state.seen();
-        let is_adapted = !matches!(seen.plan.kind, Kind::Plain);
-        is_adapted && !seen.closed && !seen.no_mod && !seen.adapted_over
+        let is_offered = !matches!(seen.plan.kind, Kind::Plain);
+        is_offered && !seen.closed && !seen.no_mod && !seen.adapted_over
     }
 
     /// Whether the message is done or has failed.

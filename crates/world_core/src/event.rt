@@ -30,7 +30,8 @@ pub enum WorldEvent {
     /// `Close(transaction)`: the transaction is over, and its reservation is free again.
     /// `UnknownTx`; `NotClosed`.
     Close(u64),
-    /// `Limit(service, maximum)`: so many connections of the service may be open from now on; idle
+    /// `Limit(service, maximum)`: so many connections of the service may be open from now on, as its
+    /// Max-Connections says (RFC 3507, section 4.10.2); idle
     /// ones are closed until at most that many are open, or none is idle. `UnknownService`.
     Limit(usize, u64),
 }
@@ -44,8 +45,9 @@ pub enum WorldFault {
     UnknownTx,
     /// A transaction with the number was opened before.
     Twice,
-    /// The transaction has no connection, and the event needs one: bytes to or from the service, a
-    /// last chunk, a response, and, before the final response, bytes from the source.
+    /// The transaction has no connection, and gives one back, or its message is offered and the event
+    /// needs one: bytes to or from the service, a last chunk, a response, the adapted body's end, and,
+    /// before the final response, bytes from the source (RFC 3507, sections 4.5 and 4.6).
     NoLease,
     /// The transaction has a connection already.
     HasLease,

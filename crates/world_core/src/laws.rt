@@ -1,6 +1,6 @@
 //! What holds of every legal history of the world. Each law is the contract of a function that does nothing.
 
-ghost use Rattle.std.specs.Prelude.{◌≡◌, ◌≤◌, ℕ, List, Some, ◌↔◌};
+ghost use Rattle.std.specs.Prelude.{◌≡◌, ◌≤◌, ℕ, List, Some, ◌↔◌, ◌++◌};
 ghost use Rattle.trace_core.specs.Held.{IsIn};
 ghost use Rattle.need_witness.specs.declared.tape.Tape.{Tape};
 ghost use Rattle.need_witness.specs.Script.{held_on};
@@ -12,7 +12,7 @@ ghost use Rattle.world_core.specs.WorldTable.{IsLegalWorld, world_fault, shown};
 ghost use Rattle.world_core.specs.Kept.{Kept};
 ghost use Rattle.world_core.specs.Shows.{Shows};
 ghost use Rattle.world_core.specs.WorldNeeds.{IsNeededInWorld, IsNeededAt, IsBook};
-ghost use Rattle.world_core.specs.WorldSound.{IsHeldAt, IsWitness, OpenedBelow, held_in};
+ghost use Rattle.world_core.specs.WorldSound.{IsHeldAt, IsWitness, OpenedBelow, IsBounded, held_in};
 ghost use Rattle.world_core.specs.WorldRun.{accepted};
 
 /// The reservations of the open transactions sum to at most the capacity.
@@ -26,12 +26,15 @@ pub fn transactions_fit_their_claims()
         → open_at t events ≡ Some o → places_held (shown o) ≤ o.claim }
 {}
 
-/// Wherever a lease opened a connection, fewer than the maximum were open; and what a pool counts as
-/// leased is the number of leases that are out.
-pub fn connections_stay_below_the_maximum()
+/// Wherever a lease opened a connection, fewer than the maximum were open; what a pool counts as leased
+/// is the number of leases that are out; and where more are open than the maximum, as after it was
+/// lowered, none is idle.
+pub fn connections_open_below_the_maximum()
     ensures opened { (w : Setting) (events : List WorldEvent) → IsLegalWorld w events → OpenedBelow w events }
     ensures leased { (w : Setting) (events : List WorldEvent) (s : ℕ) (p : Numbers)
         → IsLegalWorld w events → pool_of w.maxima s events ≡ Some p → p.leased ≡ leased_out s events }
+    ensures idle { (w : Setting) (events : List WorldEvent) (s : ℕ) (p : Numbers)
+        → IsLegalWorld w events → pool_of w.maxima s events ≡ Some p → IsBounded p }
 {}
 
 /// Each held byte has a witness: events of its transaction, the last of which sends it, that the whole
@@ -65,10 +68,20 @@ pub fn accepted_events_are_legal()
         → IsLegalWorld w before → IsLegalWorld w (accepted w before events) }
 {}
 
-/// What a world keeps decides how it goes on: after all histories that leave the same, an event is
-/// taken, or refused with the same fault.
+/// What a world keeps decides how it goes on. After all histories that leave the same, an event is
+/// taken, or refused with the same fault; the same lists of events may follow; the same bytes are
+/// needed; and the book is one number.
 pub fn what_is_kept_decides()
-    ensures { (kept : Kept) (w v : Setting) (events others : List WorldEvent) (event : WorldEvent)
+    ensures fault { (kept : Kept) (w v : Setting) (events others : List WorldEvent) (event : WorldEvent)
         → Shows kept w events → Shows kept v others
         → world_fault w events event ≡ world_fault v others event }
+    ensures continuations { (kept : Kept) (w v : Setting) (events others more : List WorldEvent)
+        → Shows kept w events → Shows kept v others
+        → (IsLegalWorld w (more ++ events) ↔ IsLegalWorld v (more ++ others)) }
+    ensures needed { (kept : Kept) (w v : Setting) (events others : List WorldEvent) (tape : Tape) (t place : ℕ)
+        → Shows kept w events → Shows kept v others
+        → (IsNeededInWorld w events tape t place ↔ IsNeededInWorld v others tape t place) }
+    ensures book { (kept : Kept) (w v : Setting) (events others : List WorldEvent)
+        → Shows kept w events → Shows kept v others
+        → (n : ℕ) × IsBook w events n × IsBook v others n }
 {}

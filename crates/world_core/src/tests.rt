@@ -88,6 +88,7 @@ fn each_fault_of_each_event(rt: HostRuntime) {
         (Reclaim(1, 9), Some(OverClaim)),
         (Reclaim(1, 3), Some(OverClaim)),
         (Reclaim(1, 5), None),
+        (Reclaim(1, 5), None),
         (Reclaim(2, 2), Some(OverClaim)),
         (Back(2, true), Some(NoLease)),
         (Back(1, true), Some(LeaseInUse)),
@@ -150,6 +151,8 @@ fn kept_connection_is_leased_again(rt: HostRuntime) {
         (Back(1, true), Some(LeaseInUse)),
         (Of(1, AdEnd), None),
         (Back(1, true), None),
+        (Back(1, true), Some(NoLease)),
+        (Of(1, In(50)), None),
         (Limit(0, 0), None),
         (Lease(2, 0), Some(PoolFull)),
         (Limit(0, 1), None),
@@ -162,6 +165,22 @@ fn kept_connection_is_leased_again(rt: HostRuntime) {
         (Close(1), None),
     ];
     let held = held_after(rt.alloc(), 9, &[1], &rows).expect(&rt, "memory");
+    assert_eq!(rt; held, Some(0));
+}
+
+#[test]
+fn nothing_fits_a_world_of_nothing(rt: HostRuntime) {
+    let plain = plan(&rt, Plain);
+    let rows = [
+        (Lease(1, 0), Some(PoolFull)),
+        (Open(1, plain, 0), None),
+        (Of(1, In(1)), Some(OverClaim)),
+        (Reclaim(1, 0), None),
+        (Of(1, End), None),
+        (Of(1, Done), None),
+        (Close(1), None),
+    ];
+    let held = held_after(rt.alloc(), 0, &[0], &rows).expect(&rt, "memory");
     assert_eq!(rt; held, Some(0));
 }
 
