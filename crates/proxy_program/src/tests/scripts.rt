@@ -1,7 +1,7 @@
 //! Worked scripts: name, input and what is printed.
 
 /// Each script, and the answers to it.
-pub const SCRIPTS: [(&str, &str, &str); 14] = [
+pub const SCRIPTS: [(&str, &str, &str); 17] = [
     (
         "allow_keeps_all_until_204",
         "plan preview 4 allow len 9\nin 9\nend\nsvc 4\nstop\n100\nsvc 5\nstop\n204\nusr 9\ndone\n",
@@ -21,6 +21,11 @@ pub const SCRIPTS: [(&str, &str, &str); 14] = [
         "final_reply_to_preview_stops_sending",
         "plan preview 4\nin 10\nsvc 4\nstop\n200\nin 5\nsvc 1\n",
         "held 0..10\nheld 0..10\nheld 0..10\nheld 10..10 adapted 0..0\nheld 15..15 adapted 0..0\nfault 7 Stopped\n",
+    ),
+    (
+        "held_bytes_with_scripts",
+        "plan preview 4\nin 6\nsvc 4\nneed original 5\nneed original 6\nstop\nneed original 0\n100\nneed original 5\nneed original 3\nsvc 1\n200\nneed original 5\nad 2\nusr 1\nneed adapted 1\nneed adapted 0\n",
+        "held 0..6\nheld 0..6\nscript stop 204 usr 6\nnone\nheld 0..6\nscript 204 usr 1\nheld 4..6\nscript svc 2\nnone\nheld 5..6\nheld 5..6 adapted 0..0\nscript svc 1\nheld 5..6 adapted 0..2\nheld 5..6 adapted 1..2\nscript usr 1\nnone\n",
     ),
     (
         "ieof_forbids_continue",
@@ -43,6 +48,16 @@ pub const SCRIPTS: [(&str, &str, &str); 14] = [
         "held 0..4\nheld 0..4\nheld 0..4\nheld 0..4\nheld 4..4\nheld 4..4\n",
     ),
     ("plan_line_alone", "plan plain len 3\n", ""),
+    (
+        "preview_then_100_and_200",
+        "plan preview 4\nin 6\nsvc 4\nstop\n100\nsvc 2\nend\nstop\n200\nad 8\nusr 8\nadend\ndone\n",
+        "held 0..6\nheld 0..6\nheld 0..6\nheld 4..6\nheld 6..6\nheld 6..6\nheld 6..6\nheld 6..6 adapted 0..0\nheld 6..6 adapted 0..8\nheld 6..6 adapted 8..8\nheld 6..6 adapted 8..8\nheld 6..6 adapted 8..8\n",
+    ),
+    (
+        "preview_then_204",
+        "plan preview 4\nin 10\nsvc 4\nstop\n204\nusr 10\nend\ndone\n",
+        "held 0..10\nheld 0..10\nheld 0..10\nheld 0..10\nheld 10..10\nheld 10..10\nheld 10..10\n",
+    ),
     (
         "script_after_continue",
         "plan preview 4\nin 6\nsvc 4\nstop\n100\nneed original 5\nneed original 3\n",
