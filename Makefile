@@ -1,4 +1,4 @@
-# Each target is one line of the toolchain's `rt`. SCRIPT names a file of examples/, without its ending.
+# Each target but help and refuse-allocations is one line of the toolchain's `rt`. SCRIPT names a file of examples/, without its ending.
 SCRIPT ?= whole_body_without_allow
 
 .PHONY: help trace check ci must-fail fmt bench-chunks bench-bank refuse-allocations
