@@ -9,7 +9,7 @@ type Wanted<'a> = (&'a [u8], &'a [u8]);
 #[test]
 fn requests_of_the_standard(rt: HostRuntime) -> Result<(), Fail> {
     // RFC 3507, sections 4.8.3, 4.9.3 and 4.10.3, and a request as Squid writes it.
-    let cases: [(&[u8], &[u8], &[u8], Wanted<'_>, usize); 5] = [
+    let cases: [(&[u8], &[u8], &[u8], Wanted<'_>, usize); 6] = [
         (
             b"REQMOD icap://icap-server.net/server?arg=87 ICAP/1.0\r\n\
             Host: icap-server.net\r\n\
@@ -26,6 +26,15 @@ fn requests_of_the_standard(rt: HostRuntime) -> Result<(), Fail> {
             b"REQMOD",
             b"icap://icap-server.net/server?arg=87",
             (b"HOST", b"icap-server.net"),
+            2,
+        ),
+        (
+            b"REQMOD icap://icap-server.net/content-filter ICAP/1.0\r\n\
+            Host: icap-server.net\r\n\
+            Encapsulated: req-hdr=0, null-body=119\r\n\r\n",
+            b"REQMOD",
+            b"icap://icap-server.net/content-filter",
+            (b"encapsulated", b"req-hdr=0, null-body=119"),
             2,
         ),
         (
@@ -78,7 +87,7 @@ fn requests_of_the_standard(rt: HostRuntime) -> Result<(), Fail> {
 #[test]
 fn responses_of_the_standard(rt: HostRuntime) -> Result<(), Fail> {
     // RFC 3507, sections 4.8.3, 4.9.3 and 4.10.3, and responses as c-icap writes them.
-    let cases: [(&[u8], u16, &[u8], Wanted<'_>, usize); 6] = [
+    let cases: [(&[u8], u16, &[u8], Wanted<'_>, usize); 8] = [
         (
             b"ICAP/1.0 200 OK\r\n\
             Date: Mon, 10 Jan 2000  09:55:21 GMT\r\n\
@@ -101,6 +110,30 @@ fn responses_of_the_standard(rt: HostRuntime) -> Result<(), Fail> {
             200,
             b"OK",
             (b"ENCAPSULATED", b"res-hdr=0, res-body=222"),
+            5,
+        ),
+        (
+            b"ICAP/1.0 200 OK\r\n\
+            Date: Mon, 10 Jan 2000  09:55:21 GMT\r\n\
+            Server: ICAP-Server-Software/1.0\r\n\
+            Connection: close\r\n\
+            ISTag: \"W3E4R7U9-L2E4-2\"\r\n\
+            Encapsulated: req-hdr=0, req-body=244\r\n\r\n",
+            200,
+            b"OK",
+            (b"Encapsulated", b"req-hdr=0, req-body=244"),
+            5,
+        ),
+        (
+            b"ICAP/1.0 200 OK\r\n\
+            Date: Mon, 10 Jan 2000  09:55:21 GMT\r\n\
+            Server: ICAP-Server-Software/1.0\r\n\
+            Connection: close\r\n\
+            ISTag: \"W3E4R7U9-L2E4-2\"\r\n\
+            Encapsulated: res-hdr=0, res-body=213\r\n\r\n",
+            200,
+            b"OK",
+            (b"Encapsulated", b"res-hdr=0, res-body=213"),
             5,
         ),
         (
