@@ -1,15 +1,56 @@
 //! Whole heads, cut at every byte: `More` until the last one.
 use crate::{Field, HeadFault, Method, NoMemory, Values, read_request, read_response};
 use std::alloc::Global;
+use std::process::Abort;
 use std::test::Fail;
 
 /// A name and its wanted value.
 type Wanted<'a> = (&'a [u8], &'a [u8]);
 
+/// A text, and its wanted method, URI, one field and number of fields.
+type RequestCase<'a> = (&'a [u8], &'a [u8], &'a [u8], Wanted<'a>, usize);
+
+/// A text, and its wanted status code, phrase, one field and number of fields.
+type ResponseCase<'a> = (&'a [u8], u16, &'a [u8], Wanted<'a>, usize);
+
+/// Reads each text, whole and cut at every byte.
+fn read_requests(rt: &impl Abort, alloc: Global, cases: &[RequestCase<'_>]) -> Result<(), Fail> {
+    for (text, method, uri, (name, value), count) in cases {
+        let head = read_request(alloc, text)?;
+        assert_eq!(rt; head.length, text.len());
+        assert_eq!(rt; head.value.method.name(), *method);
+        assert_eq!(rt; head.value.uri.as_slice(), *uri);
+        assert_eq!(rt; head.value.fields.as_slice().len(), *count);
+        assert!(rt; head.value.fields.first(name) == Some(*value));
+        for cut in 0..text.len() {
+            let read = read_request(alloc, &text[..cut]);
+            assert!(rt; matches!(read, Err(HeadFault::More)), "at {cut}");
+        }
+    }
+    Ok(())
+}
+
+/// Reads each text, whole and cut at every byte.
+fn read_responses(rt: &impl Abort, alloc: Global, cases: &[ResponseCase<'_>]) -> Result<(), Fail> {
+    for (text, status, phrase, (name, value), count) in cases {
+        let head = read_response(alloc, text)?;
+        assert_eq!(rt; head.length, text.len());
+        assert_eq!(rt; head.value.status, *status);
+        assert_eq!(rt; head.value.phrase.as_slice(), *phrase);
+        assert_eq!(rt; head.value.fields.as_slice().len(), *count);
+        assert!(rt; head.value.fields.first(name) == Some(*value));
+        for cut in 0..text.len() {
+            let read = read_response(alloc, &text[..cut]);
+            assert!(rt; matches!(read, Err(HeadFault::More)), "at {cut}");
+        }
+    }
+    Ok(())
+}
+
+/// RFC 3507, section 4.8.3.
 #[test]
-fn requests_of_the_standard(rt: HostRuntime) -> Result<(), Fail> {
-    // RFC 3507, sections 4.8.3, 4.9.3 and 4.10.3, and a request as Squid writes it.
-    let cases: [(&[u8], &[u8], &[u8], Wanted<'_>, usize); 6] = [
+fn requests_to_adapt_a_request(rt: HostRuntime) -> Result<(), Fail> {
+    let cases: [RequestCase<'_>; 3] = [
         (
             b"REQMOD icap://icap-server.net/server?arg=87 ICAP/1.0\r\n\
             Host: icap-server.net\r\n\
@@ -37,6 +78,14 @@ fn requests_of_the_standard(rt: HostRuntime) -> Result<(), Fail> {
             (b"encapsulated", b"req-hdr=0, null-body=119"),
             2,
         ),
+    ];
+    read_requests(&rt, rt.alloc(), &cases)
+}
+
+/// RFC 3507, sections 4.9.3 and 4.10.3, and a request as Squid writes it.
+#[test]
+fn requests_of_other_kinds(rt: HostRuntime) -> Result<(), Fail> {
+    let cases: [RequestCase<'_>; 3] = [
         (
             b"RESPMOD icap://icap.example.org/satisf ICAP/1.0\r\n\
             Host: icap.example.org\r\n\
@@ -69,25 +118,13 @@ fn requests_of_the_standard(rt: HostRuntime) -> Result<(), Fail> {
             6,
         ),
     ];
-    for (text, method, uri, (name, value), count) in cases {
-        let head = read_request(rt.alloc(), text)?;
-        assert_eq!(rt; head.length, text.len());
-        assert_eq!(rt; head.value.method.name(), method);
-        assert_eq!(rt; head.value.uri.as_slice(), uri);
-        assert_eq!(rt; head.value.fields.as_slice().len(), count);
-        assert!(rt; head.value.fields.first(name) == Some(value));
-        for cut in 0..text.len() {
-            let read = read_request(rt.alloc(), &text[..cut]);
-            assert!(rt; matches!(read, Err(HeadFault::More)), "at {cut}");
-        }
-    }
-    Ok(())
+    read_requests(&rt, rt.alloc(), &cases)
 }
 
+/// RFC 3507, section 4.8.3.
 #[test]
-fn responses_of_the_standard(rt: HostRuntime) -> Result<(), Fail> {
-    // RFC 3507, sections 4.8.3, 4.9.3 and 4.10.3, and responses as c-icap writes them.
-    let cases: [(&[u8], u16, &[u8], Wanted<'_>, usize); 8] = [
+fn responses_with_a_request(rt: HostRuntime) -> Result<(), Fail> {
+    let cases: [ResponseCase<'_>; 2] = [
         (
             b"ICAP/1.0 200 OK\r\n\
             Date: Mon, 10 Jan 2000  09:55:21 GMT\r\n\
@@ -106,22 +143,30 @@ fn responses_of_the_standard(rt: HostRuntime) -> Result<(), Fail> {
             Server: ICAP-Server-Software/1.0\r\n\
             Connection: close\r\n\
             ISTag: \"W3E4R7U9-L2E4-2\"\r\n\
-            Encapsulated: res-hdr=0, res-body=222\r\n\r\n",
+            Encapsulated: req-hdr=0, req-body=244\r\n\r\n",
             200,
             b"OK",
-            (b"ENCAPSULATED", b"res-hdr=0, res-body=222"),
+            (b"Encapsulated", b"req-hdr=0, req-body=244"),
             5,
         ),
+    ];
+    read_responses(&rt, rt.alloc(), &cases)
+}
+
+/// RFC 3507, sections 4.8.3 and 4.9.3.
+#[test]
+fn responses_with_a_response(rt: HostRuntime) -> Result<(), Fail> {
+    let cases: [ResponseCase<'_>; 2] = [
         (
             b"ICAP/1.0 200 OK\r\n\
             Date: Mon, 10 Jan 2000  09:55:21 GMT\r\n\
             Server: ICAP-Server-Software/1.0\r\n\
             Connection: close\r\n\
             ISTag: \"W3E4R7U9-L2E4-2\"\r\n\
-            Encapsulated: req-hdr=0, req-body=244\r\n\r\n",
+            Encapsulated: res-hdr=0, res-body=222\r\n\r\n",
             200,
             b"OK",
-            (b"Encapsulated", b"req-hdr=0, req-body=244"),
+            (b"ENCAPSULATED", b"res-hdr=0, res-body=222"),
             5,
         ),
         (
@@ -136,6 +181,14 @@ fn responses_of_the_standard(rt: HostRuntime) -> Result<(), Fail> {
             (b"Encapsulated", b"res-hdr=0, res-body=213"),
             5,
         ),
+    ];
+    read_responses(&rt, rt.alloc(), &cases)
+}
+
+/// RFC 3507, section 4.10.3.
+#[test]
+fn responses_to_options(rt: HostRuntime) -> Result<(), Fail> {
+    let cases: [ResponseCase<'_>; 1] = [
         (
             b"ICAP/1.0 200 OK\r\n\
             Date: Mon, 10 Jan 2000  09:55:21 GMT\r\n\
@@ -155,6 +208,14 @@ fn responses_of_the_standard(rt: HostRuntime) -> Result<(), Fail> {
             (b"Transfer-Complete", b"asp, bat, exe, com"),
             12,
         ),
+    ];
+    read_responses(&rt, rt.alloc(), &cases)
+}
+
+/// As c-icap writes them, and one with an empty phrase.
+#[test]
+fn responses_of_services(rt: HostRuntime) -> Result<(), Fail> {
+    let cases: [ResponseCase<'_>; 3] = [
         (
             b"ICAP/1.0 204 Unmodified\r\n\
             Server: C-ICAP/0.5.10\r\n\
@@ -182,19 +243,7 @@ fn responses_of_the_standard(rt: HostRuntime) -> Result<(), Fail> {
             1,
         ),
     ];
-    for (text, status, phrase, (name, value), count) in cases {
-        let head = read_response(rt.alloc(), text)?;
-        assert_eq!(rt; head.length, text.len());
-        assert_eq!(rt; head.value.status, status);
-        assert_eq!(rt; head.value.phrase.as_slice(), phrase);
-        assert_eq!(rt; head.value.fields.as_slice().len(), count);
-        assert!(rt; head.value.fields.first(name) == Some(value));
-        for cut in 0..text.len() {
-            let read = read_response(rt.alloc(), &text[..cut]);
-            assert!(rt; matches!(read, Err(HeadFault::More)), "at {cut}");
-        }
-    }
-    Ok(())
+    read_responses(&rt, rt.alloc(), &cases)
 }
 
 #[test]
