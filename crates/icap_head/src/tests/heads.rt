@@ -188,9 +188,8 @@ fn responses_with_a_response(rt: HostRuntime) -> Result<(), Fail> {
 /// RFC 3507, section 4.10.3.
 #[test]
 fn responses_to_options(rt: HostRuntime) -> Result<(), Fail> {
-    let cases: [ResponseCase<'_>; 1] = [
-        (
-            b"ICAP/1.0 200 OK\r\n\
+    let cases: [ResponseCase<'_>; 1] = [(
+        b"ICAP/1.0 200 OK\r\n\
             Date: Mon, 10 Jan 2000  09:55:21 GMT\r\n\
             Methods: RESPMOD\r\n\
             Service: FOO Tech Server 1.0\r\n\
@@ -203,12 +202,11 @@ fn responses_to_options(rt: HostRuntime) -> Result<(), Fail> {
             Transfer-Complete: asp, bat, exe, com\r\n\
             Transfer-Ignore: html\r\n\
             Transfer-Preview: *\r\n\r\n",
-            200,
-            b"OK",
-            (b"Transfer-Complete", b"asp, bat, exe, com"),
-            12,
-        ),
-    ];
+        200,
+        b"OK",
+        (b"Transfer-Complete", b"asp, bat, exe, com"),
+        12,
+    )];
     read_responses(&rt, rt.alloc(), &cases)
 }
 
