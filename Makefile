@@ -1,13 +1,18 @@
-# Each target but help and refuse-allocations is one line of the toolchain's `rt`. SCRIPT names a file of examples/, without its ending.
+# SCRIPT names a file of examples/, without its ending. What the toolchain says while a program is built goes to a file
+# below crates/; a line names each crate that is proved first, and then the program's output stands alone.
 SCRIPT ?= whole_body_without_allow
 
-.PHONY: help trace check ci must-fail fmt bench-chunks bench-bank refuse-allocations
+.PHONY: help build trace check ci must-fail fmt bench-chunks bench-bank refuse-allocations
 
 help: ## lists the targets
 	@grep -E '^[a-z-]+:.*##' Makefile | sed 's/:.*## /	/'
 
+build: ## proves and builds the programs, and leaves them under bin/
+	@tools/build_program proxy_program adaptproxy chunks 1
+
 trace: ## runs examples/$(SCRIPT).trace through the proved program, and prints its answers
-	@cd crates/proxy_program && rt run -- trace < ../../examples/$(SCRIPT).trace
+	@tools/build_program proxy_program adaptproxy chunks 1
+	@bin/adaptproxy trace < examples/$(SCRIPT).trace
 
 check: ## proves every crate, over what earlier runs kept
 	rt all check
@@ -19,13 +24,16 @@ must-fail: ## tries the must-fail edits alone
 	rt must-fail
 
 fmt: ## lays out the files of the crate CRATE
-	cd crates/$(CRATE) && rt fmt
+	@test -n "$(CRATE)" || { echo "make fmt CRATE=NAME lays out crates/NAME"; exit 2; }
+	@cd crates/$(CRATE) && rt fmt
 
 bench-chunks: ## chunked bodies: seconds and MB/s for 1 GiB
-	cd crates/chunk_bench && rt run -- 1024
+	@tools/build_program chunk_bench chunk_bench 1
+	@bin/chunk_bench 1024
 
 bench-bank: ## the buffer budget: nanoseconds for a pair of calls, and four threads' rounds
-	cd crates/bank_bench && rt run -- 1000000
+	@tools/build_program bank_bench bank_bench 1
+	@bin/bank_bench 1000000
 
 refuse-allocations: ## refuses each allocation in turn, and compares how each run ends
 	tools/refuse_allocations && tools/refuse_allocations_in_tests
