@@ -1,0 +1,98 @@
+-- What one turn of each side does, as a relation between histories and whole texts.
+use Rattle.std.specs.Prelude.{◌≡◌, ℕ, ◌<◌, ◌≤◌, ◌⊎◌, Bool, true, false, List, [], ◌++◌, length, take, Option, Some, None, Result, Ok, Err}
+use Rattle.trace_core.specs.declared.history.Event.{Event}
+use Rattle.trace_core.specs.declared.history.Seen.{Seen}
+use Rattle.trace_core.specs.Turns.{after_all, MayAllFollow, AllAre, in_sum, ad_sum, is_of_source, is_of_sending, is_of_replies, is_of_hop}
+use Rattle.span_tape.specs.Tape.{Tape}
+use Rattle.wire_kit.specs.Past.{Past, IsLater}
+use Rattle.adapt_sides.specs.Tapes.{Follows}
+use Rattle.adapt_sides.specs.declared.turn.Turn.{Turn}
+use Rattle.adapt_sides.specs.declared.fault.ClientFault.{ClientFault}
+use Rattle.adapt_sides.specs.declared.fault.ClientFault.TheVariants as client
+use Rattle.adapt_sides.specs.declared.fault.RelayFault.{RelayFault}
+use Rattle.adapt_sides.specs.declared.fault.RelayFault.TheVariants as relay
+
+-- the events that a turn reports; a refused one reports none
+abbrev pub events_of : {F : Type 0} → Result Turn F → List Event
+events_of (Ok turn) = turn.events.items
+events_of (Err fault) = []
+
+-- whether it says that it waits
+abbrev pub waits_of : {F : Type 0} → Result Turn F → Bool
+waits_of (Ok turn) = turn.waiting
+waits_of (Err fault) = false
+
+-- Why a turn moved nothing, or failed: on a wire with the past p before and q after. A first failure of the connection is
+-- answered only where the wire failed in this call. `rests` says that nothing was due.
+pub record HasReason {F : Type 0} (broken : F) (p q : Past) (old_fault : Option F) (rests : Type 0) (waits : Past → ℕ) (result : Result Turn F) : Type 0 where
+  pub device : result ≡ Err broken → old_fault ≡ None → p.faults < q.faults
+  pub waiting : waits_of result ≡ true → rests ⊎ (waits p < waits q)
+
+-- a turn that waits did nothing, and one that did nothing waits
+pub record SaysWaiting {F : Type 0} (events : List Event) (delta : List ℕ) (result : Result Turn F) : Type 0 where
+  pub idle : waits_of result ≡ true → (events ≡ []) × (delta ≡ [])
+  pub waits : (turn : Turn) → result ≡ Ok turn → events ≡ [] → delta ≡ [] → turn.waiting ≡ true
+
+-- a fault stays with the side
+pub record Remembers {F : Type 0} (old new : Option F) (result : Result Turn F) : Type 0 where
+  pub again : (fault : F) → old ≡ Some fault → result ≡ Err fault
+  pub stays : (fault : F) → result ≡ Err fault → new ≡ Some fault
+
+-- A read of the source's wire, which gave these bytes: In and End.
+pub record ReadsBody (old new : Seen → List ℕ → List ℕ → Type 0) (agrees_old agrees_new : Seen → Type 0) (old_fault new_fault : Option RelayFault) (rests : Type 0) (before after : Past → Type 0) (out : List ℕ) (result : Result Turn RelayFault) : Type 0 where
+  pub delta : List ℕ
+  pub wire : (p : Past) → before p → (q : Past) × after q × IsLater p delta [] q × HasReason relay.Device p q old_fault rests (λ past. past.read_waits) result
+  pub only : AllAre is_of_source (events_of result)
+  pub count : in_sum (events_of result) ≤ length out
+  pub legal : (x : Seen) → agrees_old x → x.closed ≡ false → MayAllFollow x (events_of result) × agrees_new (after_all x (events_of result))
+  pub goes_on : (x : Seen) (body read : List ℕ) → old x body read → x.closed ≡ false
+      → new (after_all x (events_of result)) (body ++ take (in_sum (events_of result)) out) (read ++ delta)
+  pub waiting : SaysWaiting (events_of result) delta result
+  pub fault : Remembers old_fault new_fault result
+
+-- A write to the service's wire, which took these bytes: Svc and Stop.
+pub record Sends (x : Seen) (tape : Tape) (old new : Seen → List ℕ → List ℕ → Type 0) (old_fault new_fault : Option ClientFault) (rests : Type 0) (before after : Past → Type 0) (result : Result Turn ClientFault) : Type 0 where
+  pub delta : List ℕ
+  pub wire : (p : Past) → before p → (q : Past) × after q × IsLater p [] delta q × HasReason client.Device p q old_fault rests (λ past. past.write_waits) result
+  pub only : AllAre is_of_sending (events_of result)
+  pub legal : MayAllFollow x (events_of result)
+  pub goes_on : (came taken : List ℕ) → Follows tape came → old x came taken → new (after_all x (events_of result)) came (taken ++ delta)
+  pub waiting : SaysWaiting (events_of result) delta result
+  pub fault : Remembers old_fault new_fault result
+
+-- A read of the service's wire, which gave these bytes: Heard, the replies, Ad and AdEnd.
+pub record Hears (x : Seen) (old new : Seen → List ℕ → List ℕ → Type 0) (old_fault new_fault : Option ClientFault) (rests : Type 0) (before after : Past → Type 0) (out : List ℕ) (result : Result Turn ClientFault) : Type 0 where
+  pub delta : List ℕ
+  pub wire : (p : Past) → before p → (q : Past) × after q × IsLater p delta [] q × HasReason client.Device p q old_fault rests (λ past. past.read_waits) result
+  pub only : AllAre is_of_replies (events_of result)
+  pub count : ad_sum (events_of result) ≤ length out
+  pub legal : MayAllFollow x (events_of result)
+  pub goes_on : (adapted read : List ℕ) → old x adapted read
+      → new (after_all x (events_of result)) (adapted ++ take (ad_sum (events_of result)) out) (read ++ delta)
+  pub waiting : SaysWaiting (events_of result) delta result
+  pub fault : Remembers old_fault new_fault result
+
+-- what a next hop's side writes: nothing yet, one message, or the proxy's own refusal
+pub data Gift : Type 0 where
+  nothing : Gift
+  message : Gift
+  refusal : (status : ℕ) → Gift
+
+-- A write to the next hop's wire, which took these bytes: Usr and Done. Done stands only where the message is out whole.
+-- Of a message with this head; or aside, of a refusal.
+pub record Gives (x : Seen) (tape : Tape) (old new : Seen → List ℕ → List ℕ → List ℕ → Type 0) (old_aside new_aside : List ℕ → Type 0) (whole : List ℕ → List ℕ → List ℕ → Type 0) (old_fault new_fault : Option RelayFault) (rests : Type 0) (before after : Past → Type 0) (result : Result Turn RelayFault) : Type 0 where
+  pub delta : List ℕ
+  pub wire : (p : Past) → before p → (q : Past) × after q × IsLater p [] delta q × HasReason relay.Device p q old_fault rests (λ past. past.write_waits) result
+  pub only : AllAre is_of_hop (events_of result)
+  pub legal : MayAllFollow x (events_of result)
+  pub goes_on : x.closed ≡ false → (head body taken : List ℕ) → Follows tape body → old x head body taken
+      → new (after_all x (events_of result)) head body (taken ++ delta)
+  pub done : x.closed ≡ false → (after_all x (events_of result)).closed ≡ true → (head body taken : List ℕ) → Follows tape body
+      → old x head body taken → whole head body (taken ++ delta)
+  pub aside : (taken : List ℕ) → old_aside taken → new_aside (taken ++ delta)
+  pub waiting : SaysWaiting (events_of result) delta result
+  pub fault : Remembers old_fault new_fault result
+
+-- the statuses of the proxy's own refusals
+abbrev pub IsOwnStatus : ℕ → Type 0
+IsOwnStatus status = (status ≡ 400) ⊎ ((status ≡ 501) ⊎ ((status ≡ 502) ⊎ ((status ≡ 503) ⊎ (status ≡ 504))))

@@ -1,0 +1,17 @@
+//! What a transaction asks of its three sides: the message's source, the service and the next hop.
+//!
+//! Each side stands over a wire that never blocks. A turn moves what the wire gives or takes and reports what that means, as
+//! events of the history.
+#![tactic(auto)]
+
+mod fault;
+mod hop;
+mod service;
+mod source;
+mod turn;
+
+pub use fault::{ClientFault, RelayFault};
+pub use hop::Hop;
+pub use service::Service;
+pub use source::Source;
+pub use turn::Turn;

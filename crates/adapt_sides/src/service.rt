@@ -1,0 +1,112 @@
+//! The side of the service (RFC 3507).
+
+ghost use Rattle.std.specs.Prelude.{◌≡◌, ℕ, ◌⊎◌, ◌++◌, Bool, List, [], length, Option, None, true, false, option_copied};
+ghost use Rattle.trace_core.specs.declared.history.Event.{Event};
+ghost use Rattle.trace_core.specs.declared.history.Event.TheVariants.{Retry};
+ghost use Rattle.trace_core.specs.declared.history.Seen.{Seen};
+ghost use Rattle.trace_core.specs.History.{seen, in_bytes, is_retry, is_preview};
+ghost use Rattle.trace_core.specs.Legal.{Allows};
+ghost use Rattle.trace_core.specs.View.{after};
+ghost use Rattle.trace_core.specs.Turns.{is_of_sending, is_of_replies};
+ghost use Rattle.adapt_sides.specs.declared.fault.ClientFault.{ClientFault as Fault};
+ghost use Rattle.adapt_sides.specs.Tapes.{KeepsUnsent};
+ghost use Rattle.adapt_sides.specs.Turns.{Sends, Hears};
+
+use crate::fault::ClientFault;
+use crate::turn::Turn;
+use span_tape::SpanTape;
+use trace_core::State;
+use wire_kit::Wire;
+
+/// The service's side: it writes one request, and reads its replies.
+pub trait Service {
+    // the adapted message's head, once it was read
+    ghost adapted_head: { Self → Option (List ℕ) };
+
+    // the adapted message is a response: its head stands as res-hdr
+    ghost is_response: { Self → Bool };
+
+    // the fault that each turn answers
+    ghost fault: { Self → Option Fault };
+
+    // of a body of which these bytes came, these bytes of the request were taken
+    ghost has_sent: { Seen → List ℕ → List ℕ → Self → Type 0 };
+
+    // these adapted bytes came, and these bytes were read
+    ghost has_heard: { Seen → List ℕ → List ℕ → Self → Type 0 };
+
+    // nothing is due to be written
+    ghost rests_writing: { Seen → Self → Type 0 };
+
+    // with so much room nothing is to be read
+    ghost rests_reading: { Seen → ℕ → Self → Type 0 };
+
+    /// The adapted message's head, once it was read.
+    fn adapted_head(&self) -> Option<&[u8]>
+        ensures { option_copied result ≡ adapted_head self.now };
+
+    /// Whether the adapted message is a response: a service may answer a request by one (RFC 3507, section 4.8.1).
+    fn is_response(&self) -> bool
+        ensures { result ≡ is_response self.now };
+
+    /// Writes what is due of the request.
+    fn write_turn<W: Wire>(
+        &mut self,
+        state: &State,
+        tape: &SpanTape,
+        wire: &mut W,
+    ) -> Result<Turn, ClientFault>
+        requires { KeepsUnsent (seen state.now.plan state.now.events) tape.now }
+        ensures heard { (x : Seen) (adapted read : List ℕ) → has_heard x adapted read self.old → has_heard x adapted read self.new }
+        ensures head { adapted_head self.new ≡ adapted_head self.old }
+        ensures response { is_response self.new ≡ is_response self.old }
+        ensures turn { Sends (seen state.now.plan state.now.events) tape.now
+            (λ x came taken. has_sent x came taken self.old) (λ x came taken. has_sent x came taken self.new)
+            (fault self.old) (fault self.new) (rests_writing (seen state.now.plan state.now.events) self.new)
+            (W.past wire.old) (W.past wire.new) result };
+
+    /// Reads what the wire gives, adapted body bytes into the front of the buffer, as many as the sum of Ad.
+    fn read_turn<W: Wire>(
+        &mut self,
+        state: &State,
+        wire: &mut W,
+        out: &mut [u8],
+    ) -> Result<Turn, ClientFault>
+        ensures keeps { length out.new ≡ length out.old }
+        ensures sent { (x : Seen) (came taken : List ℕ) → has_sent x came taken self.old → has_sent x came taken self.new }
+        ensures rests { (x : Seen) → rests_writing x self.old → rests_writing x self.new }
+        ensures head { (seen state.now.plan state.now.events).modified ≡ true → adapted_head self.new ≡ adapted_head self.old }
+        ensures response { (seen state.now.plan state.now.events).modified ≡ true → is_response self.new ≡ is_response self.old }
+        ensures turn { Hears (seen state.now.plan state.now.events)
+            (λ x adapted read. has_heard x adapted read self.old) (λ x adapted read. has_heard x adapted read self.new)
+            (fault self.old) (fault self.new) (rests_reading (seen state.now.plan state.now.events) (length out.old) self.new)
+            (W.past wire.old) (W.past wire.new) out.new result };
+
+    /// Begins the request anew, for a fresh connection. Before a byte of a reply all of its text is still kept.
+    fn again(&mut self)
+        ensures sent { (x : Seen) (came taken adapted read : List ℕ) → x.heard ≡ false → length came ≡ x.received
+            → has_sent x came taken self.old → has_heard x adapted read self.old → has_sent (after x Retry) came [] self.new }
+        ensures heard { (x : Seen) (came taken adapted read : List ℕ) → x.heard ≡ false → length came ≡ x.received
+            → has_sent x came taken self.old → has_heard x adapted read self.old → has_heard (after x Retry) [] [] self.new }
+        ensures fault { fault self.new ≡ None };
+
+    // the other sides' events leave both; what comes from the source stands behind what came
+    ghost others_sent: { (x : Seen) (event : Event) (came bytes taken : List ℕ) (s : Self) → is_of_sending event ≡ false → is_retry event ≡ false
+        → length came ≡ x.received → length bytes ≡ in_bytes event
+        → has_sent x came taken s → has_sent (after x event) (came ++ bytes) taken s };
+
+    ghost others_heard: { (x : Seen) (event : Event) (adapted read : List ℕ) (s : Self) → is_of_replies event ≡ false → is_retry event ≡ false
+        → has_heard x adapted read s → has_heard (after x event) adapted read s };
+
+    // before the first byte of a reply nothing was read
+    ghost unheard: { (x : Seen) (adapted read : List ℕ) (s : Self) → has_heard x adapted read s → x.heard ≡ false
+        → (adapted ≡ []) × (read ≡ []) };
+
+    // where nothing is due to be written, no event of sending may follow
+    ghost rests_writing_where: { (x : Seen) (s : Self) → rests_writing x s → x.closed ≡ false
+        → (event : Event) → is_of_sending event ≡ true → Allows x event → ⊥ };
+
+    // nothing is to be read once the answer is whole, where there is no room, and in a preview before the 100
+    ghost rests_reading_where: { (x : Seen) (adapted read : List ℕ) (room : ℕ) (s : Self) → has_heard x adapted read s → rests_reading x room s
+        → ((x.no_mod ≡ true) ⊎ (x.adapted_over ≡ true)) ⊎ ((room ≡ 0) ⊎ ((is_preview x.plan.kind ≡ true) × (x.continued ≡ false))) };
+}

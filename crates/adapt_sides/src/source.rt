@@ -1,0 +1,53 @@
+//! The side that a message comes from.
+
+ghost use Rattle.std.specs.Prelude.{◌≡◌, ℕ, ◌⊎◌, List, length, Option, true, false};
+ghost use Rattle.trace_core.specs.declared.history.Event.{Event};
+ghost use Rattle.trace_core.specs.declared.history.Seen.{Seen};
+ghost use Rattle.trace_core.specs.View.{after};
+ghost use Rattle.trace_core.specs.Turns.{is_of_source};
+ghost use Rattle.adapt_sides.specs.declared.fault.RelayFault.{RelayFault as Fault};
+ghost use Rattle.adapt_sides.specs.Turns.{ReadsBody};
+
+use crate::fault::RelayFault;
+use crate::turn::Turn;
+use wire_kit::Wire;
+
+/// The message's source: its head was read, and its body comes.
+pub trait Source {
+    /// The head, as the side keeps it.
+    type Head;
+
+    // the head that was read before the transaction began
+    ghost head: { Self → Self.Head };
+
+    // the fault that each turn answers
+    ghost fault: { Self → Option Fault };
+
+    // these body bytes came, and these bytes were read since the message began on its wire
+    ghost has_read: { Seen → List ℕ → List ℕ → Self → Type 0 };
+
+    // its numbers are those of what is seen: the bytes that came, the end, and a known length
+    ghost agrees: { Seen → Self → Type 0 };
+
+    // with so much room there is nothing to read
+    ghost rests: { ℕ → Self → Type 0 };
+
+    /// Reads what the wire gives into the front of the buffer, as many body bytes as the sum of In. With an empty buffer it
+    /// asks no wire, and still answers an End that is due.
+    fn read_turn<W: Wire>(&mut self, wire: &mut W, out: &mut [u8]) -> Result<Turn, RelayFault>
+        ensures keeps { length out.new ≡ length out.old }
+        ensures head { head self.new ≡ head self.old }
+        ensures turn { ReadsBody (λ x body read. has_read x body read self.old) (λ x body read. has_read x body read self.new)
+            (λ x. agrees x self.old) (λ x. agrees x self.new) (fault self.old) (fault self.new) (rests (length out.old) self.new)
+            (W.past wire.old) (W.past wire.new) out.new result };
+
+    // the other sides' events leave it
+    ghost others: { (x : Seen) (event : Event) (body read : List ℕ) (s : Self) → is_of_source event ≡ false
+        → has_read x body read s → has_read (after x event) body read s };
+
+    ghost others_agree: { (x : Seen) (event : Event) (s : Self) → is_of_source event ≡ false → agrees x s → agrees (after x event) s };
+
+    // it rests where the body has ended, or where there is no room
+    ghost rests_where: { (x : Seen) (body read : List ℕ) (room : ℕ) (s : Self) → has_read x body read s → rests room s
+        → (x.ended ≡ true) ⊎ (room ≡ 0) };
+}
