@@ -1,0 +1,237 @@
+-- What is written is a head of the grammar.
+use Rattle.std.proofs.Common.{◌≡◌, ℕ, ◌+◌, ◌/◌, ◌%◌, ◌<◌, Bool, true, false, not, ◌||◌, ◌&&◌, List, [], ◌∷◌, ◌++◌, length, map, take, drop, Some, IsTrue, refl, sym, ap, ◌∙◌, subst, inl, inr, arith, append_assoc, length-append, rules, get_or}
+use Rattle.std.specs.Prelude.{All, codes, ◌==◌, nat_lt}
+use Rattle.std.specs.List.{flat_map, list_all, filter}
+use Rattle.std.specs.Char.{is_ascii_digit}
+use Rattle.std.proofs.lemmas.Bool.{cases_Bool}
+use Rattle.std.proofs.lemmas.List.Elements.{All-map, All-cons, All-tail, All-append, All-take, All-drop, All-filter}
+use Rattle.std.proofs.lemmas.List.{append-nil}
+use Rattle.httparse.specs.Grammar.{Field, IsField, IsToken, AllPass, is_value_byte, is_uri_byte, is_token_byte, print_field, print_request, print_response, print_version, print_end, crlf}
+use Rattle.httparse.specs.Spans.{name_and_value}
+use Rattle.httparse.proofs.GrammarLemmas.{print_request-append, cons-append}
+use Rattle.httparse.proofs.TrimLemmas.{AllPass-trim_ows}
+use Rattle.http_side.specs.Fields.{same_name}
+use Rattle.http_side.specs.Heads.{RequestParts, ResponseParts, both_lengths}
+use Rattle.http_side.specs.Targets.{authority_of, count_before, is_delimiter, is_hash, is_rooted, rooted, path_of, origin_form}
+use Rattle.http_side.specs.declared.writing.Extra.{Extra}
+use Rattle.http_side.specs.declared.writing.Beside.{Beside}
+use Rattle.http_side.specs.Forward.{field_line, field_lines, head_text, request_line, status_line, three_digits, target_form, request_fields, response_fields, added_fields, kept_fields, stays, once, is_length, hosted, host_line, when, via_value, has_host}
+use Rattle.http_side.specs.Laws.{WasReadRequest, WasReadResponse}
+use Rattle.http_side.specs.Written.{written_field, written_request, written_response, IsWritable, ReadsBackRequest, ReadsBackResponse}
+
+-- ---- texts
+
+all_fields : (fields : List (List ℕ × List ℕ)) → All IsWritable fields → All IsField (map written_field fields)
+all_fields fields h = All-map IsField written_field fields (λ k d l. let w = h k d l in record { name = w.name; raw = All-cons (λ b. IsTrue (is_value_byte b)) 32 _ refl w.value })
+
+line_printed : (f : List ℕ × List ℕ) → field_line f ≡ print_field (written_field f)
+line_printed f = simp append_assoc refl
+
+lines_printed : (fields : List (List ℕ × List ℕ)) → field_lines fields ≡ flat_map print_field (map written_field fields)
+lines_printed [] = refl
+lines_printed (f ∷ fields) = rw (lines_printed fields) (ap (λ t. t ++ flat_map print_field (map written_field fields)) (line_printed f))
+
+-- the same parts, grouped otherwise
+regroup : (m t v l s e : List ℕ) → ((m ++ 32 ∷ [] ++ t ++ (32 ∷ v)) ++ e ++ l) ++ e ≡ [] ++ (m ++ 32 ∷ (t ++ 32 ∷ (v ++ (e ++ ((l ++ e) ++ [])))))
+regroup m t v l s e = simp (append_assoc, cons-append, append-nil) refl
+
+head_printed : (method target : List ℕ) (fields : List (List ℕ × List ℕ)) → head_text (request_line method target) fields ≡ print_request (written_request method target fields) ++ []
+head_printed method target fields =
+    let h = written_request method target fields in
+    rw (lines_printed fields) (regroup method target (print_version 1) (flat_map print_field (map written_field fields)) [] (print_end crlf) ∙ sym (print_request-append h []))
+
+answer_printed : (status : ℕ) (phrase : List ℕ) (fields : List (List ℕ × List ℕ)) → head_text (status_line status phrase) fields ≡ print_response (written_response status phrase fields) ++ []
+unfolding print_response
+answer_printed status phrase fields =
+    let lines = flat_map print_field (map written_field fields) in
+    rw (lines_printed fields) (simp (append_assoc, cons-append, append-nil)
+    (ap (λ t. codes "HTTP/1.1 " ++ (three_digits status ++ (32 ∷ t))) (append_assoc (phrase ++ 13 ∷ 10 ∷ []) lines (13 ∷ 10 ∷ []))))
+
+-- ---- the fields of a head that was read
+
+abbrev IsValue : List ℕ → Type 0
+IsValue v = AllPass is_value_byte v
+
+read_fields : (fields : List Field) → All IsField fields → All IsWritable (map name_and_value fields)
+read_fields fields h = All-map IsWritable name_and_value fields (λ k d l. let w = h k d l in record { name = w.name; value = AllPass-trim_ows is_value_byte _ w.raw })
+
+pub request_writable : (r : RequestParts) → WasReadRequest r → All IsWritable r.fields
+request_writable r w = let at = w.3.there in subst (λ x. All IsWritable x.fields) at.parts_are (read_fields at.head.fields at.reads.0.fields)
+
+pub response_writable : (r : ResponseParts) → WasReadResponse r → All IsWritable r.fields
+response_writable r w = let at = w.3.there in subst (λ x. All IsWritable x.fields) at.parts_are (read_fields at.head.fields at.reads.0.fields)
+
+-- a test of each byte of a text
+tested : (test : ℕ → Bool) (xs : List ℕ) → list_all test xs ≡ true → AllPass test xs
+tested test [] e = λ k d l. absurd (omega arith)
+tested test (x ∷ xs) e = elim (cases_Bool (test x)) [
+  | inl on ↦ All-cons (λ b. IsTrue (test b)) x xs on (tested test xs (let more : list_all test xs ≡ true = rw on at e in more))
+  | inr off ↦ absurd (let f : false ≡ true = rw off at e in cc)
+]
+
+-- those that go on are among them
+all_once : (seen : Bool) (xs : List (List ℕ × List ℕ)) → All IsWritable xs → All IsWritable (once seen xs)
+all_once seen [] h = h
+all_once seen (f ∷ xs) h = elim (cases_Bool (is_length f && seen)) [
+  | inl gone ↦ rw gone (all_once seen xs (All-tail IsWritable f xs h))
+  | inr on ↦ rw on (All-cons IsWritable f (once (seen || is_length f) xs) (h 0 f (omega arith)) (all_once (seen || is_length f) xs (All-tail IsWritable f xs h)))
+]
+
+all_kept : (beside : Beside) (fields : List (List ℕ × List ℕ)) → All IsWritable fields → All IsWritable (kept_fields beside fields)
+all_kept beside fields h = all_once false (filter (stays beside fields) fields) (All-filter (stays beside fields) IsWritable fields h)
+
+host_ok : (authority : List ℕ) → IsValue authority → (f : List ℕ × List ℕ) → IsWritable f → IsWritable (host_line authority f)
+host_ok authority v f w = elim (cases_Bool (same_name f.0 (codes "host"))) [
+  | inl host ↦ rw host (record { name = w.name; value = v })
+  | inr other ↦ rw other w
+]
+
+all_hosted : (authority : List ℕ) (xs : List (List ℕ × List ℕ)) → IsValue authority → All IsWritable xs → All IsWritable (map (hosted (Some authority)) xs)
+all_hosted authority xs v h = All-map IsWritable (hosted (Some authority)) xs (λ k d l. host_ok authority v _ (h k d l))
+
+none_is : All IsWritable []
+none_is = λ k d l. absurd (omega arith)
+
+word : (name value : List ℕ) → nat_lt 0 (length name) ≡ true → list_all is_token_byte name ≡ true → IsValue value → IsWritable (name, value)
+word name value n t v = record { name = (search rules, tested is_token_byte name t); value = v }
+
+all_when : (b : Bool) (f : List ℕ × List ℕ) → IsWritable f → All IsWritable (when b f)
+all_when true f w = All-cons IsWritable f [] w none_is
+all_when false f w = none_is
+
+via_ok : (minor : ℕ) → IsValue (via_value minor)
+via_ok minor = elim (cases_Bool (minor == 0)) [
+  | inl old ↦ rw old (tested is_value_byte (codes "1.0 adaptproxy") refl)
+  | inr new ↦ rw new (tested is_value_byte (codes "1.1 adaptproxy") refl)
+]
+
+four_words : (x : Extra) (minor : ℕ) → IsWritable (codes "Content-Length", codes "0") → IsWritable (codes "Transfer-Encoding", codes "chunked")
+    → IsWritable (codes "Connection", codes "close") → IsWritable (codes "Via", via_value minor) → All IsWritable (added_fields x minor)
+four_words x minor a b c d =
+    let e = when x.empty (codes "Content-Length", codes "0") in
+    let f = when x.chunked (codes "Transfer-Encoding", codes "chunked") in
+    let g = when x.close (codes "Connection", codes "close") in
+    let h = when x.via (codes "Via", via_value minor) in
+    All-append IsWritable ((e ++ f) ++ g) h
+    (All-append IsWritable (e ++ f) g
+    (All-append IsWritable e f (all_when x.empty (codes "Content-Length", codes "0") a) (all_when x.chunked (codes "Transfer-Encoding", codes "chunked") b))
+    (all_when x.close (codes "Connection", codes "close") c))
+    (all_when x.via (codes "Via", via_value minor) d)
+
+all_added : (x : Extra) (minor : ℕ) → All IsWritable (added_fields x minor)
+unfolding is_token_byte
+all_added x minor = four_words x minor
+    (word (codes "Content-Length") (codes "0") refl refl (tested is_value_byte (codes "0") refl))
+    (word (codes "Transfer-Encoding") (codes "chunked") refl refl (tested is_value_byte (codes "chunked") refl))
+    (word (codes "Connection") (codes "close") refl refl (tested is_value_byte (codes "close") refl))
+    (word (codes "Via") (via_value minor) refl refl (via_ok minor))
+
+host_word : (authority : List ℕ) → IsValue authority → IsWritable (codes "Host", authority)
+unfolding is_token_byte
+host_word authority v = word (codes "Host") authority refl refl v
+
+pub request_all : (r : RequestParts) (authority : List ℕ) (x : Extra) → WasReadRequest r → IsValue authority → All IsWritable (request_fields authority r.fields ++ added_fields x r.minor)
+request_all r authority x w v =
+    let b : Beside = record { expect = true; length = false } in
+    All-append IsWritable (request_fields authority r.fields) (added_fields x r.minor)
+    (All-append IsWritable (when (not (has_host r.fields)) (codes "Host", authority)) (map (hosted (Some authority)) (kept_fields b r.fields))
+    (all_when (not (has_host r.fields)) (codes "Host", authority) (host_word authority v))
+    (all_hosted authority (kept_fields b r.fields) v (all_kept b r.fields (request_writable r w))))
+    (all_added x r.minor)
+
+pub response_all : (r : ResponseParts) (x : Extra) → WasReadResponse r → All IsWritable (response_fields r.fields ++ added_fields x r.minor)
+response_all r x w =
+    All-append IsWritable (response_fields r.fields) (added_fields x r.minor)
+    (all_kept (record { expect = false; length = both_lengths r.fields }) r.fields (response_writable r w)) (all_added x r.minor)
+
+-- ---- targets
+
+abbrev IsVisible : List ℕ → Type 0
+IsVisible t = AllPass is_uri_byte t
+
+pub target_visible : (r : RequestParts) → WasReadRequest r → IsVisible r.target
+target_visible r w = let at = w.3.there in subst (λ x. IsVisible x.target) at.parts_are at.reads.0.target.1
+
+visible_drop : (n : ℕ) (t : List ℕ) → IsVisible t → IsVisible (drop n t)
+visible_drop n t h = All-drop (λ b. IsTrue (is_uri_byte b)) n t h
+
+visible_take : (n : ℕ) (t : List ℕ) → IsVisible t → IsVisible (take n t)
+visible_take n t h = All-take (λ b. IsTrue (is_uri_byte b)) n t h
+
+authority_visible : (t : List ℕ) → IsVisible t → IsVisible (authority_of t)
+authority_visible t h = visible_take (count_before is_delimiter (drop 7 t)) (drop 7 t) (visible_drop 7 t h)
+
+path_visible : (t : List ℕ) → IsVisible t → IsVisible (path_of t)
+path_visible t h = elim (cases_Bool (is_rooted t)) [
+  | inl on ↦ rw on (visible_take (count_before is_hash t) t h)
+  | inr off ↦ rw off (let behind = drop (count_before is_delimiter (drop 7 t)) (drop 7 t) in
+      visible_take (count_before is_hash behind) behind (visible_drop (count_before is_delimiter (drop 7 t)) (drop 7 t) (visible_drop 7 t h)))
+]
+
+rooted_ok : (p : List ℕ) → IsVisible p → (0 < length (rooted p)) × IsVisible (rooted p)
+rooted_ok [] h = (omega arith, All-cons (λ b. IsTrue (is_uri_byte b)) 47 [] refl h)
+rooted_ok (b ∷ p) h = elim (cases_Bool (is_rooted (b ∷ p))) [
+  | inl on ↦ rw on (omega arith, h)
+  | inr off ↦ rw off (omega arith, All-cons (λ b. IsTrue (is_uri_byte b)) 47 (b ∷ p) refl h)
+]
+
+target_ok : (absolute : Bool) (authority t : List ℕ) → IsVisible authority → IsVisible t → (0 < length (target_form absolute authority t)) × IsVisible (target_form absolute authority t)
+target_ok false authority t a h = rooted_ok (path_of t) (path_visible t h)
+target_ok true authority t a h =
+    let path = rooted_ok (path_of t) (path_visible t h) in (
+      omega (arith, length-append (codes "http://") (authority ++ origin_form t), let l : length (codes "http://") ≡ 7 = refl in l),
+      All-append (λ b. IsTrue (is_uri_byte b)) (codes "http://") (authority ++ origin_form t) (tested is_uri_byte (codes "http://") refl)
+          (All-append (λ b. IsTrue (is_uri_byte b)) authority (origin_form t) a path.1),
+    )
+
+value_of_visible : (b : ℕ) → IsTrue (is_uri_byte b) → IsTrue (is_value_byte b)
+value_of_visible b h = search rules
+
+values_of_visible : (t : List ℕ) → IsVisible t → IsValue t
+values_of_visible t h = λ k d l. value_of_visible (get_or t k d) (h k d l)
+
+-- ---- the laws
+
+pub reads_back_request : ReadsBackRequest
+reads_back_request r user w u absolute extra utf8 =
+    let authority = authority_of user.target in
+    let seen = authority_visible user.target (target_visible user u) in
+    let target = target_form absolute authority r.target in
+    let fields = request_fields authority r.fields ++ added_fields extra r.minor in
+    let at = w.3.there in
+    let method : IsToken r.method = subst (λ x. IsToken x.method) at.parts_are at.reads.0.method in (
+      record {
+        method = method;
+        target = target_ok absolute authority r.target seen (target_visible r w);
+        target_text = utf8;
+        minor = omega arith;
+        fields = all_fields fields (request_all r authority extra w (values_of_visible authority seen));
+      },
+      head_printed r.method target fields,
+    )
+
+digit_is : (d : ℕ) → d < 10 → is_ascii_digit (48 + d) ≡ true
+digit_is d h = search rules
+
+three_ok : (n : ℕ) → n < 1000 → AllPass is_ascii_digit (three_digits n)
+three_ok n l =
+    let P : ℕ → Type 0 = λ b. IsTrue (is_ascii_digit b) in
+    let a = 48 + n / 100 in
+    let b = 48 + n / 10 % 10 in
+    let c = 48 + n % 10 in
+    All-cons P a (b ∷ c ∷ []) (digit_is (n / 100) (omega arith))
+    (All-cons P b (c ∷ []) (digit_is (n / 10 % 10) (omega arith))
+    (All-cons P c [] (digit_is (n % 10) (omega arith)) (λ k d l. absurd (omega arith))))
+
+pub reads_back_response : ReadsBackResponse
+reads_back_response r w small extra =
+    let fields = response_fields r.fields ++ added_fields extra r.minor in
+    let at = w.3.there in (
+      record {
+        minor = omega arith;
+        digits = (refl, three_ok r.status small);
+        reason = subst (λ x. IsValue x.phrase) at.parts_are at.reads.0.reason;
+        fields = all_fields fields (response_all r extra w);
+      },
+      answer_printed r.status r.phrase fields,
+    )

@@ -1,0 +1,48 @@
+-- Which texts begin with a request's head that is taken, and why another is refused.
+use Rattle.std.specs.Prelude.{◌≡◌, ℕ, ◌<◌, ◌≤◌, ◌⊎◌, Bool, true, false, List, length, Some, None}
+use Rattle.httparse.specs.Grammar.{RequestHead, ReadsRequest, HasNoRequest, NeverHasRequest, MayBecomeRequest}
+use Rattle.httparse.specs.Spans.{RequestOverflows, RequestExceeds}
+use Rattle.http_side.specs.declared.fault.HttpFault.{HttpFault}
+use Rattle.http_side.specs.declared.fault.HttpFault.TheVariants.{More, Bad, TooLong, TooMany, BothLengths, Lengths, Coding, Target, Connect, NoMemory}
+use Rattle.http_side.specs.Heads.{RequestParts, request_parts, IsRequestAt, judged, request_fault, is_connect}
+use Rattle.http_side.specs.Targets.{IsServedIn}
+
+-- a head is refused for this; want of memory is answered where no other fault stands, but perhaps Target
+abbrev pub Refuses : Bool → RequestParts → HttpFault → Type 0
+Refuses adapted r Bad = request_fault r ≡ Some Bad
+Refuses adapted r BothLengths = request_fault r ≡ Some BothLengths
+Refuses adapted r Lengths = request_fault r ≡ Some Lengths
+Refuses adapted r Coding = request_fault r ≡ Some Coding
+Refuses adapted r Target = (request_fault r ≡ None) × (is_connect r ≡ false) × (IsServedIn adapted r → ⊥)
+Refuses adapted r Connect = (request_fault r ≡ None) × (is_connect r ≡ true)
+Refuses adapted r NoMemory = (request_fault r ≡ None) × (is_connect r ≡ false)
+Refuses adapted r _ = ⊥
+
+-- a head is taken
+pub record IsTaken (adapted : Bool) (r : RequestParts) : Type 0 where
+  pub no_fault : request_fault r ≡ None
+  pub no_connect : is_connect r ≡ false
+  pub served : IsServedIn adapted r
+
+-- the text begins with a head that is refused so
+abbrev pub HasRefused : Bool → List ℕ → HttpFault → Type 0
+HasRefused adapted text fault =
+    (head : RequestHead) × (rest : List ℕ) × ReadsRequest text head rest × (length head.fields ≤ 100) × Refuses adapted (request_parts head) fault
+
+-- no head is there, and more bytes may make one
+abbrev pub IsUnfinished : List ℕ → Type 0
+IsUnfinished text = HasNoRequest text × MayBecomeRequest text
+
+-- a text is refused for this
+abbrev pub RefusesText : Bool → List ℕ → HttpFault → Type 0
+RefusesText adapted text More = IsUnfinished (judged text) × (length text < 16384)
+RefusesText adapted text Bad = NeverHasRequest (judged text) ⊎ HasRefused adapted (judged text) Bad
+RefusesText adapted text TooLong = IsUnfinished (judged text) × (16384 ≤ length text)
+RefusesText adapted text TooMany = RequestExceeds 100 (judged text) × RequestOverflows 100 (judged text)
+RefusesText adapted text fault = HasRefused adapted (judged text) fault
+
+-- the head and its length, as they are answered
+pub record IsRead (adapted : Bool) (text : List ℕ) (r : RequestParts) (len : ℕ) : Type 0 where
+  pub there : IsRequestAt (judged text) r len
+  pub few : length r.fields ≤ 100
+  pub taken : IsTaken adapted r

@@ -1,0 +1,38 @@
+-- Which texts begin with a response's head that is taken, and why another is refused.
+use Rattle.std.specs.Prelude.{◌≡◌, ℕ, ◌<◌, ◌≤◌, Bool, false, List, length, Some, None}
+use Rattle.httparse.specs.Grammar.{ResponseHead, ReadsResponse, HasNoResponse, NeverHasResponse, MayBecomeResponse}
+use Rattle.httparse.specs.Spans.{ResponseOverflows, ResponseExceeds}
+use Rattle.http_side.specs.declared.fault.HttpFault.{HttpFault}
+use Rattle.http_side.specs.declared.fault.HttpFault.TheVariants.{More, Bad, TooLong, TooMany, Lengths, Coding, NoMemory}
+use Rattle.http_side.specs.Heads.{ResponseParts, response_parts, IsResponseAt, judged, response_fault}
+
+-- a head is refused for this; want of memory is answered where no other fault stands
+abbrev pub RefusesAnswer : ResponseParts → HttpFault → Type 0
+RefusesAnswer r Lengths = response_fault r ≡ Some Lengths
+RefusesAnswer r Coding = response_fault r ≡ Some Coding
+RefusesAnswer r NoMemory = response_fault r ≡ None
+RefusesAnswer r _ = ⊥
+
+-- the text begins with a head that is refused so
+abbrev pub HasRefusedAnswer : List ℕ → HttpFault → Type 0
+HasRefusedAnswer text fault =
+    (head : ResponseHead) × (rest : List ℕ) × ReadsResponse text head rest × (length head.fields ≤ 100) × RefusesAnswer (response_parts head false) fault
+
+-- no head is there, and more bytes may make one
+abbrev pub IsUnfinishedResponse : List ℕ → Type 0
+IsUnfinishedResponse text = HasNoResponse text × MayBecomeResponse text
+
+-- a text is refused for this
+abbrev pub RefusesResponse : List ℕ → HttpFault → Type 0
+RefusesResponse text More = IsUnfinishedResponse (judged text) × (length text < 16384)
+RefusesResponse text Bad = NeverHasResponse (judged text)
+RefusesResponse text TooLong = IsUnfinishedResponse (judged text) × (16384 ≤ length text)
+RefusesResponse text TooMany = ResponseExceeds 100 (judged text) × ResponseOverflows 100 (judged text)
+RefusesResponse text fault = HasRefusedAnswer (judged text) fault
+
+-- the head and its length, as they are answered
+pub record IsResponseRead (to_head : Bool) (text : List ℕ) (r : ResponseParts) (len : ℕ) : Type 0 where
+  pub there : IsResponseAt (judged text) r len
+  pub few : length r.fields ≤ 100
+  pub asked : r.to_head ≡ to_head
+  pub no_fault : response_fault r ≡ None

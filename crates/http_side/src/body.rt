@@ -1,0 +1,148 @@
+//! Where an HTTP body ends (RFC 9112, section 6.3), and a reader of it that is fed in any pieces.
+
+ghost use Rattle.std.specs.Prelude.{◌≡◌, ℕ, ◌+◌, ◌-◌, ◌<◌, ◌≤◌, ◌++◌, List, [], length, take, slice_range, Some, None, Err, IfOk, IfErr, IfSome, IsOkAnd, OnOk, IsTrue, ◌↔◌, true, if◌then◌else◌, false, is_some, min};
+ghost use Rattle.icap_chunks.specs.Faults.{Breaks};
+ghost use Rattle.icap_chunks.specs.Machine.{HasRead as chunks_read, end_of, fault_of as chunk_fault};
+ghost use Rattle.http_side.specs.declared.body.Place.TheVariants.{Left, Chunks};
+ghost use Rattle.http_side.specs.Body.{IsBody, IsClosedBody, HasRead, is_over, fault_of, end_said};
+ghost use Rattle.http_side.specs.declared.body.Framing.{Framing as Way};
+ghost use Rattle.http_side.specs.declared.body.Framing.TheVariants.{Chunked};
+ghost use Rattle.http_side.specs.declared.body.BodyReader.{BodyReader as Reader};
+
+use icap_chunks::{ChunkFault, ChunkReader, Fed};
+
+/// Where a body ends.
+#[derive(Clone, Copy, Debug, PartialEq, Eq)]
+pub enum Framing {
+    None,
+    Length(u64),
+    Chunked,
+    /// With the connection; in responses alone.
+    Close,
+}
+
+/// A reader of one body, fed in any pieces.
+#[derive(Clone, Copy, Debug, PartialEq, Eq)]
+pub struct BodyReader {
+    place: Place,
+}
+
+/// What is left of a body.
+#[derive(Clone, Copy, Debug, PartialEq, Eq)]
+enum Place {
+    /// So many bytes.
+    Left(u64),
+    Chunks(ChunkReader),
+    /// All bytes up to the close.
+    Open,
+}
+
+impl BodyReader {
+    pub fn new(framing: Framing) -> BodyReader
+        ensures { HasRead framing [] [] result }
+    {
+        let place = match framing {
+            Framing::None => Place::Left(0),
+            Framing::Length(count) => Place::Left(count),
+            Framing::Chunked => Place::Chunks(ChunkReader::new()),
+            Framing::Close => Place::Open,
+        };
+        BodyReader { place }
+    }
+
+    /// Reads on in the piece, up to the end of a run of body bytes, of the body or of the piece.
+    pub fn feed(&mut self, piece: &[u8]) -> Result<Fed, ChunkFault>
+        ensures within { IfOk result (λ fed. (fed.part.0 ≤ fed.part.1) × (fed.part.1 ≤ fed.used) × (fed.used ≤ length piece.now)) }
+
+        // What was read before, the bytes used behind it, and the body with the part.
+        ensures read { IfOk result (λ fed. (framing : Way) (text body : List ℕ) → HasRead framing text body self.old
+            → HasRead framing (text ++ take fed.used piece.now) (body ++ slice_range piece.now fed.part.0 fed.part.1) self.new) }
+        ensures ended { IfOk result (λ fed. fed.ended ≡ end_said self.new) }
+
+        // It stops at the end of the body, or behind the whole of a run, and else behind the whole piece.
+        ensures stops { IfOk result (λ fed. fed.used < length piece.now → fed.ended ≡ None
+            → (fed.part.0 < fed.part.1) × (fed.used ≡ fed.part.1)) }
+        ensures over { IsTrue (is_over self.old) → (self.new ≡ self.old) × IsOkAnd result (λ fed. (fed.used ≡ 0) × (fed.ended ≡ Some false)) }
+
+        // Chunks alone can be broken, by a byte with no byte of the body before it in the piece, or by an earlier one.
+        ensures fault { IfErr result (λ fault. (framing : Way) (text body : List ℕ) → HasRead framing text body self.old
+            → (framing ≡ Chunked) × Breaks (text ++ piece.now) body fault) }
+        ensures stays { IfErr result (λ fault. fault_of self.new ≡ Some fault) }
+        ensures faulted { IfSome (fault_of self.old) (λ fault. result ≡ Err fault) }
+    {
+        match self.place {
+            Place::Left(left) => Ok(self.read_counted(left, piece.len())),
+            Place::Chunks(chunks) => self.read_chunks(chunks, piece),
+            Place::Open => Ok(Fed {
+                used: piece.len(),
+                part: (0, piece.len()),
+                ended: None,
+            }),
+        }
+    }
+
+    /// Reads bytes of a counted body: as many as are there and belong to it.
+    fn read_counted(&mut self, left: u64, room: usize) -> Fed
+        ensures count { result.used ≡ min left room }
+        ensures part { result.part ≡ (0, result.used) }
+        ensures place { self.new.place ≡ Left (left - result.used) }
+        ensures ended { result.ended ≡ end_said self.new }
+    {
+        let count = left.min(room as u64);
+        self.place = Place::Left(left - count);
+        Fed {
+            used: count as usize,
+            part: (0, count as usize),
+            ended: if count == left { Some(false) } else { None },
+        }
+    }
+
+    fn read_chunks(&mut self, mut chunks: ChunkReader, piece: &[u8]) -> Result<Fed, ChunkFault>
+        ensures within { IfOk result (λ fed. (fed.part.0 ≤ fed.part.1) × (fed.part.1 ≤ fed.used) × (fed.used ≤ length piece.now)) }
+        ensures read { IfOk result (λ fed. (text body : List ℕ) → chunks_read text body chunks
+            → HasRead Chunked (text ++ take fed.used piece.now) (body ++ slice_range piece.now fed.part.0 fed.part.1) self.new) }
+        ensures ended { IfOk result (λ fed. fed.ended ≡ end_said self.new) }
+        ensures stops { IfOk result (λ fed. fed.used < length piece.now → fed.ended ≡ None
+            → (fed.part.0 < fed.part.1) × (fed.used ≡ fed.part.1)) }
+        ensures over { IsTrue (is_some (end_of chunks)) → (self.new.place ≡ Chunks chunks) × IsOkAnd result (λ fed. (fed.used ≡ 0) × (fed.ended ≡ Some false)) }
+        ensures fault { IfErr result (λ fault. (text body : List ℕ) → chunks_read text body chunks → Breaks (text ++ piece.now) body fault) }
+        ensures stays { IfErr result (λ fault. fault_of self.new ≡ Some fault) }
+        ensures faulted { IfSome (chunk_fault chunks) (λ fault. result ≡ Err fault) }
+    {
+        let fed = chunks.feed(piece);
+        self.place = Place::Chunks(chunks);
+        let fed = fed?;
+        Ok(Fed {
+            used: fed.used,
+            part: fed.part,
+            ended: fed.ended.map(|_| false),
+        })
+    }
+
+    /// Whether the body has ended.
+    pub fn has_ended(&self) -> bool
+        ensures { result ≡ is_over self.now }
+    {
+        match self.place {
+            Place::Left(left) => left == 0,
+            Place::Chunks(chunks) => chunks.has_ended(),
+            Place::Open => false,
+        }
+    }
+
+    /// Whether the body is whole where the connection closes here.
+    pub fn at_close(&self) -> bool
+        ensures { (framing : Way) (text body : List ℕ) → HasRead framing text body self.now → (IsTrue result ↔ IsClosedBody framing text body) }
+    {
+        match self.place {
+            Place::Left(left) => left == 0,
+            Place::Chunks(chunks) => chunks.has_ended(),
+            Place::Open => true,
+        }
+    }
+}
+
+/// A reader is over exactly where what it has read is a whole body.
+pub fn ends_with_the_body()
+    ensures { (framing : Way) (text body : List ℕ) (reader : Reader) → HasRead framing text body reader → (IsTrue (is_over reader) ↔ IsBody framing text body) }
+{}

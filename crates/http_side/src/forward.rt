@@ -1,0 +1,205 @@
+//! What goes on to the next hop and to a service: the framing, the end of the user's connection, and the heads (RFC 9112,
+//! sections 6 and 9.6; RFC 9110, section 7.6).
+ghost use Rattle.std.specs.Prelude.{◌≡◌, IfOk};
+ghost use Rattle.http_side.specs.Lengths.{content_length, coding};
+ghost use Rattle.http_side.specs.Forward.{kept_length, has_no_place, is_response, has_body, has_own_body, is_to_old_user, unsized_framing, next_framing, closes, gets_zero, extra_of, forwarded, encapsulated, length_of, is_chunked};
+
+use crate::body::Framing;
+use crate::fields::Fields;
+use crate::lengths::{coding, content_length};
+use crate::request::{HttpRequest, has_both_lengths};
+use crate::response::HttpResponse;
+use crate::targets::authority_of;
+use crate::writing::{Extra, is_named_by, written_head};
+use std::alloc::{AllocError, Global};
+
+/// A head that goes on: a request to an origin, or a response to the user.
+#[derive(Clone, Copy, Debug)]
+pub enum Message<'a> {
+    Request(&'a HttpRequest),
+    Response(&'a HttpResponse),
+}
+
+/// What follows the head.
+#[derive(Clone, Copy, Debug, PartialEq, Eq)]
+pub enum Part {
+    /// The message is the original: its own framing says.
+    Own,
+    /// The message is an adapted one with a body part.
+    Body,
+    /// The message is an adapted one with null-body.
+    NullBody,
+}
+
+/// A message on its way to the next hop.
+#[derive(Clone, Copy, Debug)]
+pub struct Forward<'u, 'm> {
+    /// The user's own request: its target names the origin, and its version and Connection say what the user can take.
+    pub user: &'u HttpRequest,
+    pub message: Message<'m>,
+    pub part: Part,
+    /// Whether the body of the user's request has been read to its end.
+    pub body_read: bool,
+}
+
+impl<'a> Message<'a> {
+    /// The length that goes on: a response with Transfer-Encoding loses its own.
+    fn kept_length(&self) -> Option<u64>
+        ensures { result ≡ kept_length self.now }
+    {
+        match self {
+            Message::Request(request) => length_of(&request.fields()),
+            Message::Response(response) => {
+                if has_both_lengths(&response.fields()) {
+                    None
+                } else {
+                    length_of(&response.fields())
+                }
+            }
+        }
+    }
+
+    /// Whether no body follows, whatever the fields say.
+    fn has_no_place(&self) -> bool
+        ensures { result ≡ has_no_place self.now }
+    {
+        match self {
+            Message::Request(_) => false,
+            Message::Response(response) => response.is_bare(),
+        }
+    }
+
+    fn is_response(&self) -> bool
+        ensures { result ≡ is_response self.now }
+    {
+        matches!(self, Message::Response(_))
+    }
+
+    /// Whether the original has a body, where it has no length.
+    fn has_own_body(&self) -> bool
+        ensures { result ≡ has_own_body self.now }
+    {
+        match self {
+            Message::Request(request) => is_chunked(&request.fields()),
+            Message::Response(_) => true,
+        }
+    }
+}
+
+fn length_of(fields: &Fields<'_>) -> Option<u64>
+    ensures { result ≡ length_of fields.now }
+{
+    match content_length(fields) {
+        Ok(length) => length,
+        Err(_) => None,
+    }
+}
+
+fn is_chunked(fields: &Fields<'_>) -> bool
+    ensures { result ≡ is_chunked (coding fields.now) }
+{
+    match coding(fields) {
+        Ok(chunked) => chunked,
+        Err(_) => false,
+    }
+}
+
+impl<'u, 'm> Forward<'u, 'm> {
+    fn has_body(&self) -> bool
+        ensures { result ≡ has_body self.now.part self.now.message }
+    {
+        match self.part {
+            Part::Own => self.message.has_own_body(),
+            Part::Body => true,
+            Part::NullBody => false,
+        }
+    }
+
+    /// The framing of a message without a length.
+    fn unsized_framing(&self) -> Framing
+        ensures { result ≡ unsized_framing self.now }
+    {
+        if self.has_body() {
+            if self.message.is_response() && self.user.minor() == 0 {
+                Framing::Close
+            } else {
+                Framing::Chunked
+            }
+        } else {
+            if self.message.is_response() {
+                Framing::Length(0)
+            } else {
+                Framing::None
+            }
+        }
+    }
+
+    /// The framing towards the next hop: by the length that goes on; else a body goes chunked, and to a user of HTTP/1.0
+    /// until the close.
+    pub fn framing(&self) -> Framing
+        ensures { result ≡ next_framing self.now }
+    {
+        if self.message.has_no_place() {
+            return Framing::None;
+        }
+        match self.message.kept_length() {
+            Some(length) => Framing::Length(length),
+            None => self.unsized_framing(),
+        }
+    }
+
+    /// Whether the user's connection ends behind this answer, as far as its head can know.
+    pub fn closes(&self) -> bool
+        ensures { result ≡ closes self.now }
+    {
+        self.user.minor() == 0
+            || (is_named_by(&self.user.fields(), b"close")
+                || (!self.body_read || self.framing() == Framing::Close))
+    }
+
+    /// Whether the head gets `Content-Length: 0`.
+    fn gets_zero(&self) -> bool
+        ensures { result ≡ gets_zero self.now }
+    {
+        self.message.is_response()
+            && (!self.message.has_no_place()
+                && (self.message.kept_length().is_none() && !self.has_body()))
+    }
+
+    fn extra(&self) -> Extra
+        ensures { result ≡ extra_of self.now }
+    {
+        Extra {
+            empty: self.gets_zero(),
+            chunked: self.framing() == Framing::Chunked,
+            close: !self.message.is_response() || self.closes(),
+            via: true,
+        }
+    }
+}
+
+/// The head as the next hop gets it. A request goes in origin form and as HTTP/1.1, with the authority of the user's target
+/// as its Host; fields that end at a proxy, and those that Connection names, stay behind.
+pub fn forward_head(alloc: Global, forward: &Forward<'_, '_>) -> Result<Vec<u8>, AllocError>
+    ensures { IfOk result (λ text. text.items ≡ forwarded forward.now) }
+{
+    let authority = authority_of(forward.user.target());
+    written_head(alloc, forward.message, authority, false, forward.extra())
+}
+
+/// The head as a service gets it, within an ICAP message: a request in absolute form, and nothing added.
+pub fn encapsulated_head(
+    alloc: Global,
+    user: &HttpRequest,
+    message: Message<'_>,
+) -> Result<Vec<u8>, AllocError>
+    ensures { IfOk result (λ text. text.items ≡ encapsulated user.now message.entry) }
+{
+    let extra = Extra {
+        empty: false,
+        chunked: false,
+        close: false,
+        via: false,
+    };
+    written_head(alloc, message, authority_of(user.target()), true, extra)
+}

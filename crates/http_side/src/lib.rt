@@ -1,0 +1,31 @@
+//! HTTP/1.1 heads, the framing of bodies, and the heads that a proxy sends on (RFC 9112, sections 2 to 7; RFC 9110,
+//! section 7.6).
+//!
+//! Start lines and field lines are those that `httparse` takes, targets those of `http_uri`. A head is kept as its text
+//! and offsets; contracts see its parts as lists.
+#![tactic(auto)]
+
+mod body;
+mod fault;
+mod fields;
+mod forward;
+mod framing;
+mod head;
+mod items;
+pub mod laws;
+mod lengths;
+mod refusal;
+mod request;
+mod response;
+mod targets;
+mod writing;
+
+pub use body::{BodyReader, Framing, ends_with_the_body};
+pub use fault::HttpFault;
+pub use fields::{Fields, Values};
+pub use forward::{Forward, Message, Part, encapsulated_head, forward_head};
+pub use head::{Head, MAX_FIELDS, MAX_HEAD};
+pub use refusal::own_refusal;
+pub use request::{HttpRequest, read_request};
+pub use response::{HttpResponse, read_response};
+pub use std::alloc::AllocError as NoMemory;
