@@ -1,0 +1,6 @@
+use Rattle.std.proofs.Common.{◌≡◌, ◌+◌, drop}
+use Rattle.wire_kit.specs.Memory.{total_room}
+use Rattle.wire_kit.proofs.memory.room_for.Given as goal
+
+abbrev pub invariant-loop-answer : goal.invariant-loop-answer
+invariant-loop-answer l = l.room + total_room (drop l.answer-index l.answers) ≡ total_room l.answers

@@ -1,0 +1,72 @@
+-- What has happened on a wire: the bytes that it gave and took, and how often it answered otherwise.
+use Rattle.std.specs.Prelude.{◌≡◌, ℕ, ◌+◌, ◌≤◌, ⊤, List, [], ◌++◌, take, length, Option, Some, None, IfSome}
+use Rattle.wire_kit.specs.declared.wire.Got.{Got}
+use Rattle.wire_kit.specs.declared.wire.Got.TheVariants as got
+use Rattle.wire_kit.specs.declared.wire.Put.{Put}
+use Rattle.wire_kit.specs.declared.wire.Put.TheVariants as put
+
+-- the bytes read and taken so far, and how often the wire answered that the other side has ended, Wait and Fault
+pub record Past : Type 0 where
+  pub read : List ℕ
+  pub taken : List ℕ
+  pub ends : ℕ
+  pub read_waits : ℕ
+  pub write_waits : ℕ
+  pub faults : ℕ
+
+-- before the first call
+abbrev pub nothing_yet : Past
+nothing_yet = record { read = []; taken = []; ends = 0; read_waits = 0; write_waits = 0; faults = 0 }
+
+-- what a read gave: from 1 to as many bytes as there is room for
+abbrev pub Fits : ℕ → Got → Type 0
+Fits room (got.Bytes n) = (1 ≤ n) × (n ≤ room)
+Fits room _ = ⊤
+
+-- what a write took: from 1 to all bytes that were offered
+abbrev pub FitsPut : ℕ → Put → Type 0
+FitsPut len (put.Took n) = (1 ≤ n) × (n ≤ len)
+FitsPut len _ = ⊤
+
+-- after a read that left these bytes in its buffer
+abbrev pub after_read : Past → List ℕ → Got → Past
+after_read p buf (got.Bytes n) = record { read = p.read ++ take n buf; taken = p.taken; ends = p.ends; read_waits = p.read_waits; write_waits = p.write_waits; faults = p.faults }
+after_read p buf got.Ended = record { read = p.read; taken = p.taken; ends = p.ends + 1; read_waits = p.read_waits; write_waits = p.write_waits; faults = p.faults }
+after_read p buf got.Wait = record { read = p.read; taken = p.taken; ends = p.ends; read_waits = p.read_waits + 1; write_waits = p.write_waits; faults = p.faults }
+after_read p buf got.Fault = record { read = p.read; taken = p.taken; ends = p.ends; read_waits = p.read_waits; write_waits = p.write_waits; faults = p.faults + 1 }
+
+-- after these bytes were offered
+abbrev pub after_write : Past → List ℕ → Put → Past
+after_write p bytes (put.Took n) = record { read = p.read; taken = p.taken ++ take n bytes; ends = p.ends; read_waits = p.read_waits; write_waits = p.write_waits; faults = p.faults }
+after_write p bytes put.Wait = record { read = p.read; taken = p.taken; ends = p.ends; read_waits = p.read_waits; write_waits = p.write_waits + 1; faults = p.faults }
+after_write p bytes put.Fault = record { read = p.read; taken = p.taken; ends = p.ends; read_waits = p.read_waits; write_waits = p.write_waits; faults = p.faults + 1 }
+
+-- the part of the offered bytes that was taken
+abbrev pub part_taken : Put → List ℕ → List ℕ
+part_taken (put.Took n) bytes = take n bytes
+part_taken put.Wait bytes = []
+part_taken put.Fault bytes = []
+
+-- One write at most: after these bytes were offered, or after none were.
+abbrev pub after_offer : Past → List ℕ → Option Put → Past
+after_offer p bytes None = p
+after_offer p bytes (Some answer) = after_write p bytes answer
+
+-- what such a turn brought onto the wire
+abbrev pub delta_of : List ℕ → Option Put → List ℕ
+delta_of bytes None = []
+delta_of bytes (Some answer) = part_taken answer bytes
+
+-- a turn on a wire: it offered these bytes once, and this was the answer; or it offered nothing
+pub record Offers (before after : Past → Type 0) (bytes : List ℕ) (answer : Option Put) : Type 0 where
+  pub each : (p : Past) → before p → after (after_offer p bytes answer)
+  pub fits : IfSome answer (FitsPut (length bytes))
+
+-- the wire after a call in which it gave and took these bytes; no count falls
+pub record IsLater (p : Past) (given taken : List ℕ) (q : Past) : Type 0 where
+  pub read : q.read ≡ p.read ++ given
+  pub out : q.taken ≡ p.taken ++ taken
+  pub ends : p.ends ≤ q.ends
+  pub read_waits : p.read_waits ≤ q.read_waits
+  pub write_waits : p.write_waits ≤ q.write_waits
+  pub faults : p.faults ≤ q.faults

@@ -1,0 +1,17 @@
+//! Non-blocking byte streams as a trait, and scripted ones in memory.
+#![tactic(auto)]
+
+mod gate;
+mod memory;
+mod shared;
+mod stream;
+#[cfg(test)]
+mod tests;
+mod wire;
+
+pub use gate::{Gate, HoldGate, OpenGate};
+pub use memory::MemoryWire;
+pub use shared::{Answer, Answers, SharedWire};
+pub use std::alloc::AllocError as NoMemory;
+pub use stream::{ReadAnswer, WriteAnswer};
+pub use wire::{Got, Put, Wire};

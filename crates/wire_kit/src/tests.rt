@@ -1,0 +1,5 @@
+//! Wires in memory, and the gates.
+
+mod gate;
+mod memory;
+mod shared;

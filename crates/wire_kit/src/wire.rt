@@ -1,0 +1,54 @@
+//! A connection, as the answers of its reads and writes.
+
+ghost use Rattle.std.specs.Prelude.{◌≡◌, ℕ, ◌<◌, length};
+ghost use Rattle.wire_kit.specs.Past.{Past, Fits, FitsPut, after_read, after_write};
+
+/// What a read gives.
+#[derive(Clone, Copy, Debug, PartialEq, Eq)]
+pub enum Got {
+    /// So many bytes, at least one, at the front of the buffer.
+    Bytes(usize),
+    /// The other side has ended its bytes.
+    Ended,
+    /// Nothing now.
+    Wait,
+    /// The connection has failed.
+    Fault,
+}
+
+/// What a write does.
+#[derive(Clone, Copy, Debug, PartialEq, Eq)]
+pub enum Put {
+    /// So many of the bytes were taken, at least one, from the front.
+    Took(usize),
+    /// None now.
+    Wait,
+    /// The connection has failed.
+    Fault,
+}
+
+/// A connection that never blocks.
+///
+/// To a contract it is what may have happened on it so far. A wire that keeps its bytes has one such past. A socket's
+/// wire keeps counts alone, so each past with these counts is one: there a clause on bytes rests on the premise that the
+/// socket took and gave what it said.
+pub trait Wire {
+    ghost past: { Self → Past → Type 0 };
+
+    /// Reads into the front of the buffer, which has room for at least one byte.
+    fn try_read(&mut self, buf: &mut [u8]) -> Got
+        requires { 0 < length buf.old }
+        ensures fits { Fits (length buf.old) result }
+        ensures keeps { length buf.new ≡ length buf.old }
+        ensures past { (p : Past) → past self.old p → past self.new (after_read p buf.new result) };
+
+    /// Offers the bytes, at least one.
+    fn try_write(&mut self, bytes: &[u8]) -> Put
+        requires { 0 < length bytes.now }
+        ensures fits { FitsPut (length bytes.now) result }
+        ensures past { (p : Past) → past self.old p → past self.new (after_write p bytes.now result) };
+
+    /// The bytes read and the bytes taken so far. Neither count passes its last value: there the wire answers Wait.
+    fn counts(&self) -> (u64, u64)
+        ensures { (p : Past) → past self.now p → (result.0 ≡ length p.read) × (result.1 ≡ length p.taken) };
+}
