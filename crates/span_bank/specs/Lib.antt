@@ -1,4 +1,6 @@
+pub mod Chain
 pub mod History
+pub mod Ledgers
 pub mod Replay
 pub mod Stakes
 pub mod State

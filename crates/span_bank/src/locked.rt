@@ -1,44 +1,53 @@
-//! What lies under the budget's lock: the totals with their journal, and the books of both ledgers.
-ghost use Rattle.std.specs.Prelude.{◌≡◌, ◌+◌, ◌-◌, ◌≤◌, ◌<◌, ◌↔◌, IsOk, IsErr, IfOk, IfErr, OnOk, OnErr, vec_len};
-ghost use Rattle.span_bank.specs.declared.step.BankStep.TheVariants.{Open, Grow, Shrink, Reclaim, Close};
+//! What lies under the budget's lock: the totals with their journal, the books of the ledgers, and
+//! the store of pages.
+ghost use Rattle.std.specs.Prelude.{◌≡◌, ◌+◌, ◌-◌, ◌*◌, ◌/◌, ◌≤◌, ◌<◌, ◌^◌, ◌↔◌, ℕ, IsOk, IsErr, IfOk, IfErr, OnOk, OnErr, vec_len};
+ghost use Rattle.span_bank.specs.declared.step.BankStep.TheVariants.{Open, Grow, Shrink, Reclaim, Close, Capacity};
+ghost use Rattle.span_bank.specs.declared.step.Resized.TheVariants.{Done, TooLow, Short};
 ghost use Rattle.span_bank.specs.State.{IsAllowed, Fits, Refuses, stepped, IsSound};
-ghost use Rattle.span_bank.specs.Stakes.{held_sum, claim_sum, CountsIn};
+ghost use Rattle.span_bank.specs.Stakes.{Stored, IsResized, IsKept, held_sum, claim_sum, page_sum, most_pages, pages_of, CountsIn};
 
+use crate::ledgers::{Blanks, Books, Ledgers, Parts, begin};
+use crate::pages::Pages;
 use crate::stake::{Stake, lend};
 use crate::state::BankState;
-use crate::step::{Audit, AuditFault, BankStep, Numbers, OpenFault};
+use crate::step::{Audit, AuditFault, BankStep, MAX_CAPACITY, Numbers, OpenFault, Resized, Store};
 use std::marker::Model;
-use std::sync::ledger::{Blank, Book, Ledger, Share};
 
 /// The locked part of a bank, which its lock keeps as each method leaves it.
 ///
 /// It keeps sums alone, and no list of reservations: each stake carries its own numbers, with one
-/// part of both ledgers. Contracts see it as its totals with their journal.
+/// part of each ledger. Contracts see its totals with their journal, and the numbers of its pages.
 #[derive(Drop)]
-pub struct Locked<H: Ledger, F: Ledger> {
+pub struct Locked<B: Ledgers> {
     state: BankState,
-    held_book: Book<H>,
-    free_book: Book<F>,
-    held_rest: Share<H>,
-    free_rest: Share<F>,
+    books: Books<B>,
+    rest: Parts<B>,
+    used: u64,
+    store: Pages,
 }
 
-impl<H: Ledger, F: Ledger> Model for Locked<H, F> {
-    ghost use Rattle.std.specs.Prelude.{◌≡◌, ◌+◌};
-    ghost use Rattle.span_bank.specs.State.{Journaled, IsSound};
+impl<B: Ledgers> Model for Locked<B> {
+    ghost use Rattle.std.specs.Prelude.{◌≡◌, ◌+◌, ◌*◌, ◌/◌};
+    ghost use Rattle.span_bank.specs.State.{IsSound};
+    ghost use Rattle.span_bank.specs.Ledgers.{no_amounts};
+    ghost use Rattle.span_bank.specs.Stakes.{Stored, IsResized, IsKept, pages_of};
 
-    ghost Value = { Journaled };
+    ghost Value = { Stored };
 
-    ghost view = { λ l. l.state };
+    ghost view = { λ l. record { state = l.state; used = l.used; store = l.store } };
 
-    // the ledgers' totals are the bytes held and the rest of the claims; each open row has a part, and the others lie here
+    // the ledgers' totals are the bytes held, the rest of the claims, the bytes of pages that may still be had,
+    // and the pages in use; each open row has a part of each ledger, and the others lie here
     ghost invariant = { λ l. IsSound l.state
-        × (l.held_book.total ≡ l.state.numbers.held)
-        × (l.held_book.total + l.free_book.total ≡ l.state.numbers.claimed)
-        × (l.held_rest.parts + l.state.numbers.rows ≡ H.parts)
-        × (l.free_rest.parts + l.state.numbers.rows ≡ F.parts)
-        × (l.held_rest.amount ≡ 0) × (l.free_rest.amount ≡ 0)
-        × (l.state.most_rows + 1 ≡ H.parts) × (l.state.most_rows + 1 ≡ F.parts) };
+        × (l.books.held ≡ l.state.numbers.held)
+        × (l.books.held + l.books.free ≡ l.state.numbers.claimed)
+        × (l.books.slack + 4096 * l.used ≡ l.books.held + 16384 * l.state.numbers.rows)
+        × (l.books.pages ≡ l.used)
+        × (l.rest.parts + l.state.numbers.rows ≡ B.Held.parts)
+        × (l.rest.amounts ≡ no_amounts)
+        × (l.state.most_rows + 1 ≡ B.Held.parts) × (B.Free.parts ≡ B.Held.parts)
+        × (B.Slack.parts ≡ B.Held.parts) × (B.Pages.parts ≡ B.Held.parts)
+        × (l.store + l.used ≡ pages_of l.state.numbers.capacity l.state.most_rows) };
 }
 
 // Takes a step that is no Open, so that none is refused.
@@ -53,82 +62,93 @@ fn apply_fitting(state: &mut BankState, step: BankStep)
     }
 }
 
-impl<H: Ledger, F: Ledger> Locked<H, F> {
+impl<B: Ledgers> Locked<B> {
     /// The locked part round a state with no open reservation. Each blank has a part for each row,
-    /// and one more, which stays here.
-    pub fn new(state: BankState, held: Blank, free: Blank) -> Locked<H, F>
-        requires held { (held.name ≡ H.name) × (held.parts ≡ H.parts) }
-        requires free { (free.name ≡ F.name) × (free.parts ≡ F.parts) }
-        requires parts { (held.parts ≡ state.most_rows + 1) × (free.parts ≡ state.most_rows + 1) }
+    /// and one more, which stays here. The store has all pages that the reservations can need.
+    pub fn new(state: BankState, blanks: Blanks, store: Pages) -> Locked<B>
+        requires held { (blanks.held.name ≡ B.Held.name) × (blanks.held.parts ≡ B.Held.parts) }
+        requires free { (blanks.free.name ≡ B.Free.name) × (blanks.free.parts ≡ B.Free.parts) }
+        requires slack { (blanks.slack.name ≡ B.Slack.name) × (blanks.slack.parts ≡ B.Slack.parts) }
+        requires pages { (blanks.pages.name ≡ B.Pages.name) × (blanks.pages.parts ≡ B.Pages.parts) }
+        requires parts { (blanks.held.parts ≡ state.most_rows + 1) × (blanks.free.parts ≡ state.most_rows + 1) }
+        requires others { (blanks.slack.parts ≡ state.most_rows + 1) × (blanks.pages.parts ≡ state.most_rows + 1) }
         requires none { (state.numbers.rows ≡ 0) × (state.numbers.held ≡ 0) × (state.numbers.claimed ≡ 0) }
-        ensures { result ≡ state }
+        requires store { store ≡ pages_of state.numbers.capacity state.most_rows }
+        ensures { result ≡ record { state = state; used = 0; store = store } }
     {
         // Shows that the state is sound.
         let _numbers = state.numbers();
-        let (held_book, held_rest) = held.open::<H>();
-        let (free_book, free_rest) = free.open::<F>();
+        let (books, rest) = begin::<B>(blanks);
         Locked {
             state,
-            held_book,
-            free_book,
-            held_rest,
-            free_rest,
+            books,
+            rest,
+            used: 0,
+            store,
         }
     }
 
     /// Makes a reservation of `claim` bytes that holds none, as the step `Open`.
-    pub fn open(&mut self, claim: u64) -> Result<Stake<H, F>, OpenFault>
+    pub fn open(&mut self, claim: u64) -> Result<Stake<B>, OpenFault>
         requires { 1 ≤ claim }
-        ensures ok { IsOk result ↔ Fits self.old (Open claim) }
-        ensures stake { IfOk result (λ s. s ≡ record { held = 0; claim = claim }) }
-        ensures step { OnOk result (self.new ≡ stepped self.old (Open claim)) }
-        ensures sound { IsSound self.new }
+        ensures ok { IsOk result ↔ Fits self.old.state (Open claim) }
+        ensures stake { IfOk result (λ s. s ≡ record { held = 0; claim = claim; pages = 0 }) }
+        ensures step { OnOk result (self.new ≡ record self.old { state = stepped self.old.state (Open claim) }) }
+        ensures sound { IsSound self.new.state }
 
         // The fault is the first that stands, and a refused reservation changes nothing.
-        ensures fault { IfErr result (Refuses self.old (Open claim)) }
+        ensures fault { IfErr result (Refuses self.old.state (Open claim)) }
         ensures kept { OnErr result (self.new ≡ self.old) }
     {
         self.state.apply(BankStep::Open(claim))?;
-        Ok(lend(
-            &mut self.free_book,
-            &mut self.held_rest,
-            &mut self.free_rest,
-            claim,
-        ))
+        Ok(lend(&mut self.books, &mut self.rest, claim))
     }
 
-    /// Holds `n` bytes more, as the step `Grow`.
-    pub fn grow(&mut self, stake: &mut Stake<H, F>, n: u64)
+    /// Holds `n` bytes more, as the step `Grow`, and gives `k` pages.
+    pub fn grow(&mut self, stake: &mut Stake<B>, n: u64, k: u64) -> Pages
         requires some { 1 ≤ n }
         requires room { stake.old.held + n ≤ stake.old.claim }
-        ensures stake { stake.new ≡ record stake.old { held = stake.old.held + n } }
-        ensures step { self.new ≡ stepped self.old (Grow n) }
-        ensures sound { IsSound self.new }
+        requires pages { stake.old.pages + k ≤ most_pages (stake.old.held + n) }
+        ensures given { result ≡ k }
+        ensures stake { stake.new ≡ record stake.old { held = stake.old.held + n; pages = stake.old.pages + k } }
+        ensures step { self.new.state ≡ stepped self.old.state (Grow n) }
+        ensures used { self.new.used ≡ self.old.used + k }
+        ensures store { self.new.store + k ≡ self.old.store }
+        ensures sound { IsSound self.new.state }
     {
-        // The ledgers come first: they show that the sums allow the step.
-        stake.charge(&mut self.held_book, &mut self.free_book, n);
+        // The ledgers come first: they show that the sums allow the step, and that the store has the pages.
+        stake.charge(&mut self.books, n, k);
         apply_fitting(&mut self.state, BankStep::Grow(n));
+        self.used += k;
+        self.store.cut(k)
     }
 
-    /// Holds `n` bytes fewer, as the step `Shrink`.
-    pub fn shrink(&mut self, stake: &mut Stake<H, F>, n: u64)
+    /// Holds `n` bytes fewer, as the step `Shrink`, and takes pages back.
+    pub fn shrink(&mut self, stake: &mut Stake<B>, n: u64, pages: Pages)
         requires some { 1 ≤ n }
         requires held { n ≤ stake.old.held }
-        ensures stake { stake.new ≡ record stake.old { held = stake.old.held - n } }
-        ensures step { self.new ≡ stepped self.old (Shrink n) }
-        ensures sound { IsSound self.new }
+        requires pages { pages ≤ stake.old.pages }
+        requires left { stake.old.pages ≤ most_pages (stake.old.held - n) + pages }
+        ensures stake { stake.new ≡ record stake.old { held = stake.old.held - n; pages = stake.old.pages - pages } }
+        ensures step { self.new.state ≡ stepped self.old.state (Shrink n) }
+        ensures used { self.new.used + pages ≡ self.old.used }
+        ensures store { self.new.store ≡ self.old.store + pages }
+        ensures sound { IsSound self.new.state }
     {
-        stake.release(&mut self.held_book, &mut self.free_book, n);
+        let count = pages.count();
+        stake.release(&mut self.books, n, count);
         apply_fitting(&mut self.state, BankStep::Shrink(n));
+        self.used -= count;
+        self.store.join(pages);
     }
 
     /// Lowers the reservation to `claim` bytes, as the step `Reclaim`.
-    pub fn reclaim(&mut self, stake: &mut Stake<H, F>, claim: u64)
+    pub fn reclaim(&mut self, stake: &mut Stake<B>, claim: u64)
         requires held { stake.old.held ≤ claim }
         requires lower { claim ≤ stake.old.claim }
         ensures stake { stake.new ≡ record stake.old { claim = claim } }
-        ensures step { self.new ≡ stepped self.old (Reclaim stake.old.claim claim) }
-        ensures sound { IsSound self.new }
+        ensures step { self.new ≡ record self.old { state = stepped self.old.state (Reclaim stake.old.claim claim) } }
+        ensures sound { IsSound self.new.state }
     {
         let old = stake.claim();
         // Shows that the state is sound, also where the claim stays.
@@ -136,47 +156,89 @@ impl<H: Ledger, F: Ledger> Locked<H, F> {
         if claim == old {
             return;
         }
-        stake.lower(&mut self.free_book, claim);
+        stake.lower(&mut self.books, claim);
         apply_fitting(&mut self.state, BankStep::Reclaim(old, claim));
     }
 
-    /// Ends a reservation that holds nothing, as the step `Close`.
-    pub fn close(&mut self, stake: Stake<H, F>)
-        requires { stake.held ≡ 0 }
-        ensures step { self.new ≡ stepped self.old (Close stake.claim) }
-        ensures sound { IsSound self.new }
+    /// Ends a reservation that holds nothing, as the step `Close`, and takes all its pages back.
+    pub fn close(&mut self, stake: Stake<B>, pages: Pages)
+        requires held { stake.held ≡ 0 }
+        requires pages { pages ≡ stake.pages }
+        ensures step { self.new.state ≡ stepped self.old.state (Close stake.claim) }
+        ensures used { self.new.used + pages ≡ self.old.used }
+        ensures store { self.new.store ≡ self.old.store + pages }
+        ensures sound { IsSound self.new.state }
     {
         let claim = stake.claim();
-        stake.give_back(
-            &mut self.free_book,
-            &mut self.held_rest,
-            &mut self.free_rest,
-        );
+        let count = pages.count();
+        stake.give_back(&mut self.books, &mut self.rest);
         apply_fitting(&mut self.state, BankStep::Close(claim));
+        self.used -= count;
+        self.store.join(pages);
     }
 
     /// The totals now. The journal's replay is these, and they are in order.
     pub fn book(&self) -> Numbers
-        ensures numbers { result ≡ self.now.numbers }
-        ensures sound { IsSound self.now }
+        ensures numbers { result ≡ self.now.state.numbers }
+        ensures sound { IsSound self.now.state }
         ensures order { (result.held ≤ result.claimed) × (result.claimed ≤ result.capacity) }
     {
         self.state.numbers()
     }
 
+    /// The pages now. Those in use are at most those of the reserved bytes, and four for each row.
+    pub fn store(&self) -> Store
+        ensures used { result.used ≡ self.now.used }
+        ensures total { result.total ≡ pages_of self.now.state.numbers.capacity self.now.state.most_rows }
+        ensures bound { self.now.used ≤ self.now.state.numbers.claimed / 4096 + 4 * self.now.state.numbers.rows }
+        ensures within { result.used ≤ result.total }
+    {
+        // Shows that the state is sound.
+        let _numbers = self.state.numbers();
+        Store {
+            total: self.store.count() + self.used,
+            used: self.used,
+        }
+    }
+
+    /// Makes the budget `n` bytes large, as the step `Capacity`, where no more bytes are reserved
+    /// and `fresh` has the pages that are missing. Pages that aren't needed are in `fresh` then.
+    pub fn set_capacity(&mut self, n: u64, fresh: &mut Pages) -> Resized
+        requires size { (1 ≤ n) × (n ≤ MAX_CAPACITY) }
+        requires fresh { fresh.old ≤ 2 ^ 30 }
+        ensures done { result ≡ Done → IsResized self.old self.new n fresh.old fresh.new }
+        ensures low { (claimed : ℕ) → result ≡ TooLow claimed →
+            (claimed ≡ self.old.state.numbers.claimed) × (n < claimed) × IsKept self.old self.new fresh.old fresh.new }
+        ensures short { (more : ℕ) → result ≡ Short more →
+            (self.old.state.numbers.claimed ≤ n) × (fresh.old < more) × (more ≤ 2 ^ 30) × IsKept self.old self.new fresh.old fresh.new }
+        ensures sound { IsSound self.new.state }
+    {
+        let claimed = self.state.numbers().claimed;
+        if n < claimed {
+            return Resized::TooLow(claimed);
+        }
+        // Shows that the pages in use are at most those needed.
+        let have = self.store().total;
+        let wanted = n / 4096 + 4 * self.state.most_rows();
+        let came = fresh.count();
+        if have + came < wanted {
+            return Resized::Short(wanted - have);
+        }
+        apply_fitting(&mut self.state, BankStep::Capacity(n));
+        self.store.join(fresh.cut(came));
+        fresh.join(self.store.cut(have + came - wanted));
+        Resized::Done
+    }
+
     /// The totals now, in which a stake of the caller's is counted. Nothing changes.
-    pub fn book_beside(&mut self, own: &mut Stake<H, F>) -> Numbers
-        ensures numbers { result ≡ self.old.numbers }
+    pub fn book_beside(&mut self, own: &mut Stake<B>) -> Numbers
+        ensures numbers { result ≡ self.old.state.numbers }
         ensures same { self.new ≡ self.old }
         ensures stays { own.new ≡ own.old }
         ensures counted { CountsIn result own.old }
         ensures order { (result.held ≤ result.claimed) × (result.claimed ≤ result.capacity) }
     {
-        own.count(
-            &mut self.held_book,
-            &mut self.free_book,
-            &mut self.held_rest,
-        );
+        own.count(&mut self.books, &mut self.rest);
         self.state.numbers()
     }
 
@@ -184,18 +246,19 @@ impl<H: Ledger, F: Ledger> Locked<H, F> {
     /// `Missing` is answered where fewer stakes were handed in than are open, and hands all back.
     pub fn audit(
         self,
-        stakes: Vec<Stake<H, F>>,
-    ) -> Result<Audit, (Locked<H, F>, Vec<Stake<H, F>>, AuditFault)>
+        stakes: Vec<Stake<B>>,
+    ) -> Result<Audit, (Locked<B>, Vec<Stake<B>>, AuditFault)>
         ensures rows { IfOk result (λ a. a.rows ≡ vec_len stakes) }
         ensures held { IfOk result (λ a. a.held ≡ held_sum stakes.items) }
         ensures claimed { IfOk result (λ a. a.claimed ≡ claim_sum stakes.items) }
-        ensures book { IfOk result (λ a. (a.rows ≡ self.numbers.rows)
-            × (a.held ≡ self.numbers.held) × (a.claimed ≡ self.numbers.claimed)) }
+        ensures pages { IfOk result (λ a. a.pages ≡ page_sum stakes.items) }
+        ensures book { IfOk result (λ a. (a.rows ≡ self.state.numbers.rows)
+            × (a.held ≡ self.state.numbers.held) × (a.claimed ≡ self.state.numbers.claimed) × (a.pages ≡ self.used)) }
 
         // A stake is missing exactly where fewer came than rows are open, and all is as before.
-        ensures missing { IsErr result ↔ (vec_len stakes < self.numbers.rows) }
+        ensures missing { IsErr result ↔ (vec_len stakes < self.state.numbers.rows) }
         ensures back { IfErr result (λ e. (e.0 ≡ self) × (e.1.items ≡ stakes.items)) }
-        ensures fewer { IfErr result (λ e. vec_len stakes + 1 < H.parts) }
+        ensures fewer { IfErr result (λ e. vec_len stakes + 1 < B.Held.parts) }
     {
         let numbers = self.state.numbers();
         if (stakes.len() as u64) < numbers.rows {
@@ -203,24 +266,24 @@ impl<H: Ledger, F: Ledger> Locked<H, F> {
         }
         let Locked {
             state: _,
-            mut held_book,
-            mut free_book,
-            mut held_rest,
-            mut free_rest,
+            mut books,
+            mut rest,
+            used,
+            store: _,
         } = self;
         let mut stakes = stakes;
         while let Some(stake) = stakes.pop() {
-            stake.join(&mut held_rest, &mut free_rest);
+            stake.join(&mut rest);
         }
         stakes.destroy_empty();
-        let mut none = held_rest.empty();
-        none.give(&mut held_rest, 0, 0);
-        held_book.audit(&mut held_rest);
-        free_book.audit(&mut free_rest);
+        let mut none = rest.empty();
+        none.stand_apart(&mut rest);
+        books.count(&mut rest);
         Ok(Audit {
             rows: numbers.rows,
             held: numbers.held,
             claimed: numbers.claimed,
+            pages: used,
         })
     }
 }

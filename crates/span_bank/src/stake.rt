@@ -1,61 +1,66 @@
 //! A reservation: one transaction's part of the budget.
-ghost use Rattle.std.specs.Prelude.{◌≡◌, ◌+◌, ◌-◌, ◌≤◌, ◌<◌};
+ghost use Rattle.std.specs.Prelude.{◌≡◌, ◌+◌, ◌-◌, ◌*◌, ◌≤◌, ◌<◌, ◌^◌};
+ghost use Rattle.span_bank.specs.Ledgers.{Amounts, no_amounts, plus};
+ghost use Rattle.span_bank.specs.Stakes.{most_pages};
 
+use crate::ledgers::{Books, Change, Ledgers, NOTHING, Parts};
 use std::marker::Model;
-use std::sync::ledger::{Book, Ledger, Share};
 
-/// A reservation: the bytes that its owner holds, and the bytes that it may hold at most.
+/// A reservation: the bytes that its owner holds, the bytes that it may hold at most, and its pages.
 ///
-/// `H` and `F` name the ledgers of its bank, so a bank takes no stake of another one. A stake has
-/// one part of each ledger. It has no `Drop`: it has to go back to its bank, by `close` or `audit`.
+/// `B` names the ledgers of its bank, so a bank takes no stake of another one. A stake has one
+/// part of each ledger. It has no `Drop`: it has to go back to its bank, by `close` or `audit`.
 #[must_use]
-pub struct Stake<H: Ledger, F: Ledger> {
+pub struct Stake<B: Ledgers> {
     held: u64,
     claim: u64,
-    held_share: Share<H>,
-    free_share: Share<F>,
+    pages: u64,
+    parts: Parts<B>,
 }
 
-impl<H: Ledger, F: Ledger> Model for Stake<H, F> {
-    ghost use Rattle.std.specs.Prelude.{◌≡◌, ◌+◌};
+impl<B: Ledgers> Model for Stake<B> {
+    ghost use Rattle.std.specs.Prelude.{◌≡◌, ◌+◌, ◌*◌, ◌≤◌, ◌^◌};
     ghost use Rattle.span_bank.specs.Stakes.{Shown};
 
     ghost Value = { Shown };
 
-    ghost view = { λ s. record { held = s.held; claim = s.claim } };
+    ghost view = { λ s. record { held = s.held; claim = s.claim; pages = s.pages } };
 
-    // one part of each ledger, with the bytes held and the rest of the claim as their amounts
-    ghost invariant = { λ s. (s.held_share.parts ≡ 1) × (s.free_share.parts ≡ 1)
-        × (s.held_share.amount ≡ s.held) × (s.held + s.free_share.amount ≡ s.claim) };
+    // one part of each ledger, with the bytes held, the rest of the claim, the bytes of the pages
+    // that may still be had, and the pages as their amounts
+    ghost invariant = { λ s. (s.claim ≤ 2 ^ 40) × (s.parts.parts ≡ 1) × (s.parts.amounts.held ≡ s.held)
+        × (s.held + s.parts.amounts.free ≡ s.claim)
+        × (s.parts.amounts.slack + 4096 * s.pages ≡ s.held + 16384)
+        × (s.parts.amounts.pages ≡ s.pages) };
 }
 
 // A reservation of `claim` bytes that holds none, with a part of those that stay under the lock.
-pub(crate) fn lend<H: Ledger, F: Ledger>(
-    free_book: &mut Book<F>,
-    held_rest: &mut Share<H>,
-    free_rest: &mut Share<F>,
-    claim: u64,
-) -> Stake<H, F>
-    requires parts { (1 < held_rest.old.parts) × (1 < free_rest.old.parts) }
-    requires none { (held_rest.old.amount ≡ 0) × (free_rest.old.amount ≡ 0) }
-    ensures stake { result ≡ record { held = 0; claim = claim } }
-    ensures free { free_book.new.total ≡ free_book.old.total + claim }
-    ensures held_part { held_rest.new.parts + 1 ≡ held_rest.old.parts }
-    ensures free_part { free_rest.new.parts + 1 ≡ free_rest.old.parts }
-    ensures none { (held_rest.new.amount ≡ 0) × (free_rest.new.amount ≡ 0) }
+pub(crate) fn lend<B: Ledgers>(books: &mut Books<B>, rest: &mut Parts<B>, claim: u64) -> Stake<B>
+    requires claim { claim ≤ 2 ^ 40 }
+    requires parts { 1 < rest.old.parts }
+    ensures stake { result ≡ record { held = 0; claim = claim; pages = 0 } }
+    ensures books { books.new ≡ plus books.old (record no_amounts { free = claim; slack = 16384 }) }
+    ensures part { rest.new.parts + 1 ≡ rest.old.parts }
+    ensures rest { rest.new.amounts ≡ rest.old.amounts }
 {
-    let held_share = held_rest.split_off(1, 0);
-    let mut free_share = free_rest.split_off(1, 0);
-    free_book.add(&mut free_share, claim);
+    let mut parts = rest.lend_one();
+    books.add(
+        &mut parts,
+        Change {
+            free: claim,
+            slack: 16384,
+            ..NOTHING
+        },
+    );
     Stake {
         held: 0,
         claim,
-        held_share,
-        free_share,
+        pages: 0,
+        parts,
     }
 }
 
-impl<H: Ledger, F: Ledger> Stake<H, F> {
+impl<B: Ledgers> Stake<B> {
     /// The bytes that the reservation's owner holds.
     pub fn held(&self) -> u64
         ensures held { result ≡ self.now.held }
@@ -71,104 +76,156 @@ impl<H: Ledger, F: Ledger> Stake<H, F> {
         self.claim
     }
 
-    // Holds `n` bytes more, in both books.
-    pub(crate) fn charge(&mut self, held_book: &mut Book<H>, free_book: &mut Book<F>, n: u64)
-        requires { self.old.held + n ≤ self.old.claim }
-        ensures stake { self.new ≡ record self.old { held = self.old.held + n } }
-        ensures held { held_book.new.total ≡ held_book.old.total + n }
-        ensures free { free_book.new.total + n ≡ free_book.old.total }
+    /// The pages that its owner has.
+    pub fn pages(&self) -> u64
+        ensures pages { result ≡ self.now.pages }
+        ensures within { self.now.pages ≤ most_pages self.now.held }
     {
-        free_book.sub(&mut self.free_share, n);
-        held_book.add(&mut self.held_share, n);
-        self.held += n;
+        self.pages
     }
 
-    // Holds `n` bytes fewer, in both books.
-    pub(crate) fn release(&mut self, held_book: &mut Book<H>, free_book: &mut Book<F>, n: u64)
-        requires { n ≤ self.old.held }
-        ensures stake { self.new ≡ record self.old { held = self.old.held - n } }
-        ensures held { held_book.new.total + n ≡ held_book.old.total }
-        ensures free { free_book.new.total ≡ free_book.old.total + n }
+    // Holds `n` bytes more, with `k` pages more.
+    pub(crate) fn charge(&mut self, books: &mut Books<B>, n: u64, k: u64)
+        requires room { self.old.held + n ≤ self.old.claim }
+        requires pages { self.old.pages + k ≤ most_pages (self.old.held + n) }
+        ensures stake { self.new ≡ record self.old { held = self.old.held + n; pages = self.old.pages + k } }
+        ensures held { books.new.held ≡ books.old.held + n }
+        ensures free { books.new.free + n ≡ books.old.free }
+        ensures slack { books.new.slack + 4096 * k ≡ books.old.slack + n }
+        ensures pages { books.new.pages ≡ books.old.pages + k }
     {
-        held_book.sub(&mut self.held_share, n);
-        free_book.add(&mut self.free_share, n);
+        books.count(&mut self.parts);
+        books.add(
+            &mut self.parts,
+            Change {
+                held: n,
+                free: 0,
+                slack: n,
+                pages: k,
+            },
+        );
+        books.sub(
+            &mut self.parts,
+            Change {
+                held: 0,
+                free: n,
+                slack: 4096 * k,
+                pages: 0,
+            },
+        );
+        self.held += n;
+        self.pages += k;
+    }
+
+    // Holds `n` bytes fewer, with `k` pages fewer.
+    pub(crate) fn release(&mut self, books: &mut Books<B>, n: u64, k: u64)
+        requires held { n ≤ self.old.held }
+        requires pages { k ≤ self.old.pages }
+        requires left { self.old.pages ≤ most_pages (self.old.held - n) + k }
+        ensures stake { self.new ≡ record self.old { held = self.old.held - n; pages = self.old.pages - k } }
+        ensures held { books.new.held + n ≡ books.old.held }
+        ensures free { books.new.free ≡ books.old.free + n }
+        ensures slack { books.new.slack + n ≡ books.old.slack + 4096 * k }
+        ensures pages { books.new.pages + k ≡ books.old.pages }
+    {
+        books.count(&mut self.parts);
+        books.add(
+            &mut self.parts,
+            Change {
+                held: 0,
+                free: n,
+                slack: 4096 * k,
+                pages: 0,
+            },
+        );
+        books.sub(
+            &mut self.parts,
+            Change {
+                held: n,
+                free: 0,
+                slack: n,
+                pages: k,
+            },
+        );
         self.held -= n;
+        self.pages -= k;
     }
 
     // Lowers the claim, in the book of the rest of the claims.
-    pub(crate) fn lower(&mut self, free_book: &mut Book<F>, claim: u64)
+    pub(crate) fn lower(&mut self, books: &mut Books<B>, claim: u64)
         requires held { self.old.held ≤ claim }
         requires lower { claim ≤ self.old.claim }
         ensures stake { self.new ≡ record self.old { claim = claim } }
-        ensures free { free_book.new.total + (self.old.claim - claim) ≡ free_book.old.total }
+        ensures books { plus books.new (record no_amounts { free = self.old.claim - claim }) ≡ books.old }
     {
-        free_book.sub(&mut self.free_share, self.claim - claim);
+        books.sub(
+            &mut self.parts,
+            Change {
+                free: self.claim - claim,
+                ..NOTHING
+            },
+        );
         self.claim = claim;
     }
 
     // Ends a reservation that holds nothing; its parts go back to those that stay under the lock.
-    pub(crate) fn give_back(
-        self,
-        free_book: &mut Book<F>,
-        held_rest: &mut Share<H>,
-        free_rest: &mut Share<F>,
-    )
+    pub(crate) fn give_back(self, books: &mut Books<B>, rest: &mut Parts<B>)
         requires held { self.held ≡ 0 }
-        requires none { (held_rest.old.amount ≡ 0) × (free_rest.old.amount ≡ 0) }
-        ensures free { free_book.new.total + self.claim ≡ free_book.old.total }
-        ensures held_part { held_rest.new.parts ≡ held_rest.old.parts + 1 }
-        ensures free_part { free_rest.new.parts ≡ free_rest.old.parts + 1 }
-        ensures none { (held_rest.new.amount ≡ 0) × (free_rest.new.amount ≡ 0) }
-        ensures apart { held_rest.new.parts ≤ H.parts }
+        ensures free { books.new.free + self.claim ≡ books.old.free }
+        ensures held { books.new.held ≡ books.old.held }
+        ensures slack { books.new.slack + 16384 ≡ books.old.slack + 4096 * self.pages }
+        ensures pages { books.new.pages + self.pages ≡ books.old.pages }
+        ensures part { rest.new.parts ≡ rest.old.parts + 1 }
+        ensures rest { rest.new.amounts ≡ rest.old.amounts }
+        ensures apart { rest.new.parts ≤ B.Held.parts }
     {
         let Stake {
             held: _,
             claim,
-            held_share,
-            mut free_share,
+            pages,
+            mut parts,
         } = self;
-        free_book.sub(&mut free_share, claim);
-        held_rest.merge(held_share);
-        free_rest.merge(free_share);
+        books.sub(
+            &mut parts,
+            Change {
+                held: 0,
+                free: claim,
+                slack: 16384 - 4096 * pages,
+                pages: pages,
+            },
+        );
+        rest.merge(parts);
     }
 
-    // Changes nothing, and tells that the reservation is counted in both books.
-    pub(crate) fn count(
-        &mut self,
-        held_book: &mut Book<H>,
-        free_book: &mut Book<F>,
-        held_rest: &mut Share<H>,
-    )
+    // Changes nothing, and tells that the reservation is counted in all books.
+    pub(crate) fn count(&mut self, books: &mut Books<B>, rest: &mut Parts<B>)
         ensures stake { self.new ≡ self.old }
-        ensures held_book { held_book.new.total ≡ held_book.old.total }
-        ensures free_book { free_book.new.total ≡ free_book.old.total }
-        ensures held_rest { held_rest.new.parts ≡ held_rest.old.parts }
-        ensures amount { held_rest.new.amount ≡ held_rest.old.amount }
-        ensures held { self.old.held ≤ held_book.old.total }
-        ensures free { self.old.claim ≤ self.old.held + free_book.old.total }
-        ensures apart { held_rest.old.parts + 1 ≤ H.parts }
+        ensures books { books.new ≡ books.old }
+        ensures rest { rest.new ≡ rest.old }
+        ensures held { self.old.held ≤ books.old.held }
+        ensures free { self.old.claim ≤ self.old.held + books.old.free }
+        ensures pages { self.old.pages ≤ books.old.pages }
+        ensures apart { rest.old.parts + 1 ≤ B.Held.parts }
     {
-        held_book.audit(&mut self.held_share);
-        free_book.audit(&mut self.free_share);
-        self.held_share.give(held_rest, 0, 0);
+        books.count(&mut self.parts);
+        self.parts.stand_apart(rest);
     }
 
-    // Adds the reservation to a share of each ledger.
-    pub(crate) fn join(self, held: &mut Share<H>, free: &mut Share<F>)
-        ensures held_part { held.new.parts ≡ held.old.parts + 1 }
-        ensures free_part { free.new.parts ≡ free.old.parts + 1 }
-        ensures held { held.new.amount ≡ held.old.amount + self.held }
-        ensures free { free.new.amount + self.held ≡ free.old.amount + self.claim }
-        ensures apart { (held.new.parts ≤ H.parts) × (free.new.parts ≤ F.parts) }
+    // Adds the reservation to shares of each ledger.
+    pub(crate) fn join(self, all: &mut Parts<B>)
+        ensures part { all.new.parts ≡ all.old.parts + 1 }
+        ensures held { all.new.amounts.held ≡ all.old.amounts.held + self.held }
+        ensures free { all.new.amounts.free + self.held ≡ all.old.amounts.free + self.claim }
+        ensures pages { all.new.amounts.pages ≡ all.old.amounts.pages + self.pages }
+        ensures apart { all.new.parts ≤ B.Held.parts }
     {
         let Stake {
             held: _,
             claim: _,
-            held_share,
-            free_share,
+            pages: _,
+            parts,
         } = self;
-        held.merge(held_share);
-        free.merge(free_share);
+        all.merge(parts);
     }
 
     // Loses the reservation, as no user can.
@@ -177,8 +234,8 @@ impl<H: Ledger, F: Ledger> Stake<H, F> {
         let Stake {
             held: _,
             claim: _,
-            held_share: _,
-            free_share: _,
+            pages: _,
+            parts: _,
         } = self;
     }
 }

@@ -1,0 +1,5 @@
+use Rattle.std.specs.Prelude.{◌≡◌, ◌+◌}
+use Rattle.span_bank.proofs.pages.Pages.cut.Given as goal
+
+abbrev pub invariant-loop-i : goal.invariant-loop-i
+invariant-loop-i l = (l.cut ≡ l._i) × (l.self + l._i ≡ l.initial.self)

@@ -1,0 +1,8 @@
+//! The retained bytes of one body, from a base offset to an end offset.
+#![tactic(auto)]
+
+mod queue;
+mod tape;
+
+pub use crate::tape::SpanTape;
+pub use span_bank::Pages;

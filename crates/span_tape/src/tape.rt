@@ -1,0 +1,128 @@
+//! The body bytes that are kept, by their offsets.
+ghost use Rattle.std.specs.Prelude.{◌≡◌, ◌+◌, ◌-◌, ◌<◌, ◌≤◌, ◌^◌, [], ◌++◌, length, take, drop, min};
+ghost use Rattle.span_tape.specs.Tape.{Tape, end_of, from_place, page_count, pages_in};
+
+use crate::queue::Queue;
+use span_bank::Pages;
+use std::marker::Model;
+
+/// A retained body buffer: the bytes of one body from an offset on, as far as they were appended.
+///
+/// They lie on pages, in order: the last one may be filled in part, and of the first one a part may
+/// be done with. It takes no memory and frees none: pages come with `append`, and go by `drop_to`.
+/// An append, and a copy at either end, take as long on a long tape as on a short one.
+#[derive(Drop)]
+pub struct SpanTape {
+    base: u64,
+    start: u64,
+    len: u64,
+    pages: Queue,
+}
+
+impl Model for SpanTape {
+    ghost use Rattle.std.specs.Prelude.{◌≡◌, ◌+◌, ◌*◌, ◌<◌, ◌≤◌, ◌^◌, take, drop, length};
+    ghost use Rattle.span_tape.specs.Tape.{Tape, page_count};
+
+    ghost Value = { Tape };
+
+    ghost view = { λ t. record {
+      base = t.base;
+      start = t.start;
+      bytes = take t.len (drop t.start t.pages.text);
+    } };
+
+    ghost invariant = { λ t. (t.base + t.len < 2 ^ 62) × (t.len ≤ 2 ^ 50)
+        × (t.start < 4096) × (t.len ≡ 0 → t.start ≡ 0)
+        × (t.pages.count ≡ page_count (t.start + t.len))
+        × (length t.pages.text ≡ 4096 * t.pages.count) };
+}
+
+impl SpanTape {
+    /// A tape with nothing on it, from offset 0 on.
+    pub fn new() -> SpanTape
+        ensures { result ≡ record { base = 0; start = 0; bytes = [] } }
+    {
+        SpanTape {
+            base: 0,
+            start: 0,
+            len: 0,
+            pages: Queue::none(),
+        }
+    }
+
+    /// The offset of the first byte that is kept.
+    pub fn base(&self) -> u64
+        ensures { result ≡ self.now.base }
+    {
+        self.base
+    }
+
+    /// The offset behind the last byte.
+    pub fn end(&self) -> u64
+        ensures end { result ≡ end_of self.now }
+        ensures small { result < 2 ^ 62 }
+    {
+        self.base + self.len
+    }
+
+    /// How many pages `n` bytes more need.
+    pub fn pages_for(&self, n: u64) -> u64
+        requires { n ≤ 2 ^ 50 }
+        ensures { result + pages_in self.now ≡ page_count (self.now.start + length self.now.bytes + n) }
+    {
+        (self.start + self.len + n).div_ceil(4096) - self.pages.count()
+    }
+
+    /// Adds bytes at the end, on as many more pages as `pages_for` says.
+    #[tactic(auto, using(crate::proofs::PageLemmas::appended))]
+    pub fn append(&mut self, bytes: &[u8], pages: &mut Pages)
+        requires fits { end_of self.old + length bytes.now < 2 ^ 62 }
+        requires small { length self.old.bytes + length bytes.now ≤ 2 ^ 50 }
+        requires pages { page_count (self.old.start + length self.old.bytes + length bytes.now) ≤ pages_in self.old + pages.old }
+        ensures tape { self.new ≡ record self.old { bytes = self.old.bytes ++ bytes.now } }
+        ensures pages { pages.new + pages_in self.new ≡ pages.old + pages_in self.old }
+    {
+        self.pages.append(self.start + self.len, bytes, pages);
+        self.len += bytes.len() as u64;
+        // Shows how many bytes the pages have.
+        let _count = self.pages.count();
+    }
+
+    /// Lets go what stands before an offset, and gives every page with no byte left. Past the end
+    /// it leaves an empty tape there.
+    #[tactic(auto, using(crate::proofs::PageLemmas::dropped))]
+    pub fn drop_to(&mut self, place: u64) -> Pages
+        requires from { self.old.base ≤ place }
+        requires fits { place < 2 ^ 62 }
+        ensures tape { self.new ≡ from_place self.old place }
+        ensures pages { result + pages_in self.new ≡ pages_in self.old }
+    {
+        let gone = place - self.base;
+        self.base = place;
+        if gone < self.len {
+            let first = self.start + gone;
+            self.start = first % 4096;
+            self.len -= gone;
+            self.pages.take_first(first / 4096)
+        } else {
+            self.start = 0;
+            self.len = 0;
+            let all = self.pages.count();
+            self.pages.take_first(all)
+        }
+    }
+
+    /// Copies the bytes from an offset on, as many as there are and fit, and says how many.
+    #[tactic(auto, using(crate::proofs::PageLemmas::copied))]
+    pub fn copy_out(&self, from: u64, out: &mut [u8]) -> usize
+        requires low { self.now.base ≤ from }
+        requires high { from ≤ end_of self.now }
+        ensures count { result ≡ min (length out.old) (end_of self.now - from) }
+        ensures copied { out.new ≡ take result (drop (from - self.now.base) self.now.bytes) ++ drop result out.old }
+    {
+        let skipped = from - self.base;
+        let count = (self.len - skipped).min(out.len() as u64) as usize;
+        self.pages.copy_out(self.start + skipped, &mut out[..count]);
+        count
+    }
+}
