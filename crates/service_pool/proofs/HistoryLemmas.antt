@@ -1,10 +1,10 @@
 -- What holds of every history of allowed steps.
-use Rattle.std.proofs.Common.{◌≡◌, ℕ, ◌+◌, ◌<◌, List, [], ◌∷◌, ◌++◌, count_by, cond, refl, ◌∙◌, subst, arith}
+use Rattle.std.proofs.Common.{◌≡◌, ℕ, ◌+◌, ◌≤◌, ◌<◌, List, [], ◌∷◌, ◌++◌, count_by, cond, refl, ◌∙◌, subst, arith}
 use Rattle.std.proofs.lemmas.List.Sums.{sum_by-cons}
 use Rattle.std.proofs.lemmas.Grind.{common_steps}
 use Rattle.service_pool.specs.declared.step.Numbers.{Numbers}
 use Rattle.service_pool.specs.declared.step.PoolStep.{PoolStep}
-use Rattle.service_pool.specs.declared.step.PoolStep.TheVariants.{Take, Put, GiveUp, Limit}
+use Rattle.service_pool.specs.declared.step.PoolStep.TheVariants.{Take, Put, GiveUp, Replace, Limit}
 use Rattle.service_pool.specs.History.{is_take, is_return, is_limit}
 use Rattle.service_pool.specs.Replay.{after, open_count, replay}
 use Rattle.service_pool.specs.State.{IsWithin, IsAllowed, AreAllowed, Journaled, IsSound}
@@ -15,6 +15,7 @@ within-after : (n : Numbers) (step : PoolStep) → IsWithin n → IsAllowed n st
 within-after n Take w may = grind (arith, common_steps)
 within-after n Put w may = grind (arith, common_steps)
 within-after n GiveUp w may = grind (arith, common_steps)
+within-after n Replace w may = w
 within-after n (Limit most) w may = grind (arith, common_steps)
 
 pub within-replay : (n : Numbers) (steps : List PoolStep) → IsWithin n → AreAllowed n steps → IsWithin (replay n steps)
@@ -31,12 +32,14 @@ opens-take : (n : Numbers) (step : PoolStep) → IsAllowed n step → open_count
 opens-take n Take may more = (refl, grind (arith, common_steps))
 opens-take n Put may more = absurd (grind (arith, common_steps))
 opens-take n GiveUp may more = absurd (grind (arith, common_steps))
+opens-take n Replace may more = absurd (omega (arith, more))
 opens-take n (Limit most) may more = absurd (grind (arith, common_steps))
 
 opens-below : (n : Numbers) (step : PoolStep) → IsAllowed n step → open_count n < open_count (after n step) → open_count n < n.maximum
 opens-below n Take may more = grind (arith, common_steps)
 opens-below n Put may more = absurd (grind (arith, common_steps))
 opens-below n GiveUp may more = absurd (grind (arith, common_steps))
+opens-below n Replace may more = absurd (omega (arith, more))
 opens-below n (Limit most) may more = absurd (grind (arith, common_steps))
 
 -- the same in a history
@@ -61,11 +64,17 @@ opened-sound j earlier later step sound cut more =
     let by_take = opened-by_take j.base earlier later step may more in
     (by_take.0, by_take.1, opened-below j.base earlier later step may more)
 
+-- a connection that is replaced was leased, and at most the maximum were open
+pub replaced-within : (n : Numbers) (earlier later : List PoolStep) → AreAllowed n (earlier ++ Replace ∷ later)
+    → (1 ≤ (replay n earlier).leased) × (open_count (replay n earlier) ≤ (replay n earlier).maximum)
+replaced-within n earlier later may = may-behind n earlier later Replace may
+
 -- a take adds one to the leased number, and a return takes one off
 leased-after : (n : Numbers) (step : PoolStep) → IsAllowed n step → (after n step).leased + cond (is_return step) 1 0 ≡ n.leased + cond (is_take step) 1 0
 leased-after n Take may = grind (arith, common_steps)
 leased-after n Put may = grind (arith, common_steps)
 leased-after n GiveUp may = grind (arith, common_steps)
+leased-after n Replace may = refl
 leased-after n (Limit most) may = grind (arith, common_steps)
 
 pub leased-replay : (n : Numbers) (steps : List PoolStep) → AreAllowed n steps → (replay n steps).leased + count_by is_return steps ≡ n.leased + count_by is_take steps
@@ -88,6 +97,7 @@ maximum-after : (n : Numbers) (step : PoolStep) → ◌≡◌ {A = ℕ} (cond (i
 maximum-after n Take none = grind (arith, common_steps)
 maximum-after n Put none = grind (arith, common_steps)
 maximum-after n GiveUp none = refl
+maximum-after n Replace none = refl
 maximum-after n (Limit most) none = absurd (omega arith)
 
 maximum-replay : (n : Numbers) (steps : List PoolStep) → count_by is_limit steps ≡ 0 → (replay n steps).maximum ≡ n.maximum

@@ -3,7 +3,7 @@ use Rattle.std.proofs.Common.{◌≡◌, ◌<◌, List, [], ◌∷◌, ◌++◌,
 use Rattle.std.proofs.lemmas.Grind.{common_steps}
 use Rattle.service_pool.specs.declared.step.Numbers.{Numbers}
 use Rattle.service_pool.specs.declared.step.PoolStep.{PoolStep}
-use Rattle.service_pool.specs.declared.step.PoolStep.TheVariants.{Take, Put, GiveUp, Limit}
+use Rattle.service_pool.specs.declared.step.PoolStep.TheVariants.{Take, Put, GiveUp, Replace, Limit}
 use Rattle.service_pool.specs.Replay.{after, replay}
 use Rattle.service_pool.specs.State.{IsAllowed, AreAllowed, IsBounded, Journaled, pushed, IsSound}
 
@@ -22,6 +22,7 @@ bounded-after : (n : Numbers) (step : PoolStep) → IsBounded n → IsAllowed n 
 bounded-after n Take b allowed = grind (arith, common_steps)
 bounded-after n Put b allowed = grind (arith, common_steps)
 bounded-after n GiveUp b allowed = grind (arith, common_steps)
+bounded-after n Replace b allowed = b
 bounded-after n (Limit most) b allowed = grind (arith, common_steps)
 
 -- a sound journal stays so by a step that its numbers allow and that it has room for

@@ -1,4 +1,5 @@
 pub mod History
+pub mod Leased
 pub mod Leasing
 pub mod Pooled
 pub mod Replay

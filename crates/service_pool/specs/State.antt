@@ -3,15 +3,17 @@ use Rattle.std.specs.Prelude.{◌≡◌, ℕ, ◌≤◌, ◌<◌, List, [], ◌�
 use Rattle.service_pool.specs.declared.step.TheConstants.{MAX_CONNECTIONS}
 use Rattle.service_pool.specs.declared.step.Numbers.{Numbers}
 use Rattle.service_pool.specs.declared.step.PoolStep.{PoolStep}
-use Rattle.service_pool.specs.declared.step.PoolStep.TheVariants.{Take, Put, GiveUp, Limit}
+use Rattle.service_pool.specs.declared.step.PoolStep.TheVariants.{Take, Put, GiveUp, Replace, Limit}
 use Rattle.service_pool.specs.Replay.{open_count, after, replay}
 
 -- the numbers allow the step: one is idle or fewer than the maximum are leased, where one is taken; one is
--- leased, where one is put or given up; and no maximum is above the greatest
+-- leased, where one is put or given up, and at most the maximum are open too, where one is replaced; and no
+-- maximum is above the greatest
 abbrev pub IsAllowed : Numbers → PoolStep → Type 0
 IsAllowed n Take = n.idle ≡ 0 → n.leased < n.maximum
 IsAllowed n Put = 1 ≤ n.leased
 IsAllowed n GiveUp = 1 ≤ n.leased
+IsAllowed n Replace = (1 ≤ n.leased) × (open_count n ≤ n.maximum)
 IsAllowed n (Limit most) = most ≤ MAX_CONNECTIONS
 
 -- the numbers allow each step of a list where it stands

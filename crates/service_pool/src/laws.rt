@@ -1,5 +1,5 @@
 //! What holds of every list of steps of a pool, and so of every history.
-ghost use Rattle.std.specs.Prelude.{◌≡◌, ℕ, ◌+◌, ◌<◌, List, [], ◌∷◌, ◌++◌, count_by};
+ghost use Rattle.std.specs.Prelude.{◌≡◌, ℕ, ◌+◌, ◌≤◌, ◌<◌, List, [], ◌∷◌, ◌++◌, count_by};
 ghost use Rattle.service_pool.specs.declared.step.Numbers.{Numbers};
 ghost use Rattle.service_pool.specs.declared.step.PoolStep.{PoolStep};
 ghost use Rattle.service_pool.specs.History.{is_take, is_return, is_limit, HasLast};
@@ -13,8 +13,9 @@ pub fn at_most_the_maximum_or_none_idle()
     ensures states { (j : Journaled) → IsSound j → IsWithin j.numbers }
 {}
 
-/// A connection is opened only by a take that finds none idle, and only where fewer than the
-/// maximum are open.
+/// More connections are open only after a take that finds none idle, and only where fewer than the
+/// maximum were open. One that is opened in place of a broken one, which closes first, is opened
+/// only where at most the maximum were open.
 pub fn opened_only_below_the_maximum()
     ensures by_a_take { (base : Numbers) (earlier later : List PoolStep) (step : PoolStep)
         → AreAllowed base (earlier ++ step ∷ later)
@@ -29,6 +30,10 @@ pub fn opened_only_below_the_maximum()
         → open_count (replay j.base earlier) < open_count (replay j.base (earlier ++ step ∷ []))
         → (step ≡ PoolStep.Take) × ((replay j.base earlier).idle ≡ 0)
         × (open_count (replay j.base earlier) < (replay j.base earlier).maximum) }
+    ensures replaced { (base : Numbers) (earlier later : List PoolStep)
+        → AreAllowed base (earlier ++ PoolStep.Replace ∷ later)
+        → (1 ≤ (replay base earlier).leased)
+        × (open_count (replay base earlier) ≤ (replay base earlier).maximum) }
 {}
 
 /// The leased number is that of the takes less that of the connections put back or given up.

@@ -1,18 +1,29 @@
 //! Leases: the shares of a pool's leased number.
-ghost use Rattle.std.specs.Prelude.{◌≡◌, ◌+◌, ◌≤◌, ◌<◌};
+ghost use Rattle.std.specs.Prelude.{◌≡◌, ◌+◌, ◌≤◌, ◌<◌, true, false};
 
+use std::marker::Model;
 use std::sync::ledger::{Book, Ledger, Share};
 
 /// A lease, or connection slot: the right to have one connection of a pool open.
 ///
 /// `L` names the ledger of its pool, so a pool takes no lease of another one. A lease has one part
 /// of the ledger, and counts one in it. It has no `Drop`: it has to go back to its pool, by `put`,
-/// `give_up` or `audit`.
+/// `give_up` or `audit`. Contracts see whether its connection was idle when it was taken.
 #[must_use]
 pub struct Lease<L: Ledger> {
+    reused: bool,
     share: Share<L>,
-    ghost one_part: { share.parts ≡ 1 },
-    ghost one_lease: { share.amount ≡ 1 },
+}
+
+impl<L: Ledger> Model for Lease<L> {
+    ghost use Rattle.std.specs.Prelude.{◌≡◌};
+    ghost use Rattle.service_pool.specs.Leased.{Leased};
+
+    ghost Value = { Leased };
+
+    ghost view = { λ l. record { reused = l.reused } };
+
+    ghost invariant = { λ l. (l.share.parts ≡ 1) × (l.share.amount ≡ 1) };
 }
 
 /// What a `take` gives.
@@ -27,16 +38,17 @@ pub enum Taken<C, L: Ledger> {
 }
 
 // One lease more, with a part of those that stay under the lock.
-pub(crate) fn lend<L: Ledger>(leased: &mut Book<L>, rest: &mut Share<L>) -> Lease<L>
+pub(crate) fn lend<L: Ledger>(leased: &mut Book<L>, rest: &mut Share<L>, reused: bool) -> Lease<L>
     requires parts { 1 < rest.old.parts }
     requires none { rest.old.amount ≡ 0 }
     ensures total { leased.new.total ≡ leased.old.total + 1 }
     ensures parts { rest.new.parts + 1 ≡ rest.old.parts }
     ensures none { rest.new.amount ≡ 0 }
+    ensures lease { result ≡ record { reused = reused } }
 {
     let mut share = rest.split_off(1, 0);
     leased.add(&mut share, 1);
-    Lease { share }
+    Lease { reused, share }
 }
 
 // One lease less, whose part goes back to those that stay under the lock.
@@ -47,19 +59,44 @@ pub(crate) fn give_back<L: Ledger>(leased: &mut Book<L>, rest: &mut Share<L>, le
     ensures none { rest.new.amount ≡ 0 }
 {
     // A lease has no `Drop`, so it ends here.
-    let Lease { mut share } = lease;
+    let Lease {
+        reused: _,
+        mut share,
+    } = lease;
     leased.sub(&mut share, 1);
     rest.merge(share);
 }
 
 impl<L: Ledger> Lease<L> {
+    /// Whether the connection was idle when it was taken: true from then on until it is replaced.
+    pub fn reused(&self) -> bool
+        ensures { result ≡ self.now.reused }
+    {
+        self.reused
+    }
+
+    // Changes nothing, and shows that the lease is counted.
+    pub(crate) fn count(&mut self, leased: &mut Book<L>)
+        ensures same { (self.new ≡ self.old) × (leased.new.total ≡ leased.old.total) }
+        ensures counted { 1 ≤ leased.old.total }
+    {
+        leased.audit(&mut self.share);
+    }
+
+    // Its connection is one that was opened for it.
+    pub(crate) fn renew(&mut self)
+        ensures { self.new ≡ record { reused = false } }
+    {
+        self.reused = false;
+    }
+
     // Adds the lease to a share.
     pub(crate) fn join(self, all: &mut Share<L>)
         ensures parts { all.new.parts ≡ all.old.parts + 1 }
         ensures amount { all.new.amount ≡ all.old.amount + 1 }
         ensures apart { all.new.parts ≤ L.parts }
     {
-        let Lease { share } = self;
+        let Lease { reused: _, share } = self;
         all.merge(share);
     }
 }

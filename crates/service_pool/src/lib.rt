@@ -15,5 +15,5 @@ pub use crate::lease::{Lease, Taken};
 pub use crate::locked::Locked;
 pub use crate::pool::Pool;
 pub use crate::state::{Found, PoolState};
-pub use crate::step::{AuditFault, LEDGER_PARTS, MAX_CONNECTIONS, Numbers, PoolStep};
+pub use crate::step::{AuditFault, LEDGER_PARTS, MAX_CONNECTIONS, Numbers, Over, PoolStep};
 pub use std::alloc::AllocError as NoMemory;

@@ -1,6 +1,6 @@
 //! What lies under a pool's lock: its state, and the book of its leases.
-ghost use Rattle.std.specs.Prelude.{◌≡◌, ◌↔◌, ◌+◌, ◌≤◌, ◌<◌, [], ◌∷◌, ◌++◌, IsErr, IfOk, IfErr, OnOk, OnErr, IfSome, IfNone, vec_len};
-ghost use Rattle.service_pool.specs.Leasing.{found};
+ghost use Rattle.std.specs.Prelude.{◌≡◌, ◌↔◌, ◌+◌, ◌≤◌, ◌<◌, [], ◌∷◌, ◌++◌, false, IsErr, IfOk, IfErr, OnOk, OnErr, IfSome, IfNone, vec_len};
+ghost use Rattle.service_pool.specs.Leasing.{found, Tells};
 ghost use Rattle.service_pool.specs.Pooled.{Takes, IsBusy, IsKept};
 ghost use Rattle.service_pool.specs.Replay.{open_count};
 ghost use Rattle.service_pool.specs.State.{stepped};
@@ -8,7 +8,7 @@ ghost use Rattle.service_pool.specs.State.{stepped};
 use crate::NoMemory;
 use crate::lease::{Lease, Taken, give_back, lend};
 use crate::state::{Found, PoolState};
-use crate::step::{AuditFault, LEDGER_PARTS, MAX_CONNECTIONS, PoolStep};
+use crate::step::{AuditFault, LEDGER_PARTS, MAX_CONNECTIONS, Over, PoolStep};
 use std::alloc::Global;
 use std::marker::Model;
 use std::sync::ledger::{Blank, Book, Ledger, Share};
@@ -62,6 +62,7 @@ impl<C, L: Ledger> Locked<C, L> {
     /// step `Take`.
     pub fn take(&mut self) -> Taken<C, L>
         ensures take { Takes self.old self.new (found result) }
+        ensures tells { Tells result }
 
         // It is refused exactly where none is idle and the leased aren't below the maximum.
         ensures busy { (result ≡ Taken.Busy) ↔ IsBusy self.old }
@@ -73,8 +74,8 @@ impl<C, L: Ledger> Locked<C, L> {
             rest,
         } = self;
         match state.take() {
-            Found::Idle(connection) => Taken::Idle(connection, lend(leased, rest)),
-            Found::Fresh => Taken::Fresh(lend(leased, rest)),
+            Found::Idle(connection) => Taken::Idle(connection, lend(leased, rest, true)),
+            Found::Fresh => Taken::Fresh(lend(leased, rest, false)),
             Found::Busy => Taken::Busy,
         }
     }
@@ -116,6 +117,25 @@ impl<C, L: Ledger> Locked<C, L> {
         } = self;
         give_back(leased, rest, lease);
         state.give_up();
+    }
+
+    /// Opens a connection in place of a leased one that broke and that the caller closes, as the
+    /// step `Replace`. `Over` where more than the maximum are open; then nothing changes.
+    pub fn replace(&mut self, lease: &mut Lease<L>) -> Result<(), Over>
+        ensures over { IsErr result
+            ↔ (self.old.journal.numbers.maximum < open_count self.old.journal.numbers) }
+        ensures idle { self.new.idle ≡ self.old.idle }
+        ensures step { OnOk result
+            (self.new.journal ≡ stepped self.old.journal PoolStep.Replace) }
+        ensures fresh { OnOk result (lease.new ≡ record { reused = false }) }
+        ensures err { OnErr result ((self.new ≡ self.old) × (lease.new ≡ lease.old)) }
+        ensures leased { 1 ≤ self.old.journal.numbers.leased }
+        ensures kept { IsKept self.new }
+    {
+        lease.count(&mut self.leased);
+        self.state.replace()?;
+        lease.renew();
+        Ok(())
     }
 
     /// Sets how many connections may be open, as the step `Limit`, and hands back the idle ones to

@@ -1,12 +1,13 @@
 //! The pool that threads share: one lock, and calls that take it, call one method of what lies
 //! under it, and let go.
-ghost use Rattle.std.specs.Prelude.{◌≡◌, ◌≤◌, ◌<◌, IfOk, IfErr, IfSome, vec_len};
+ghost use Rattle.std.specs.Prelude.{◌≡◌, ◌≤◌, ◌<◌, false, OnOk, OnErr, IfOk, IfErr, IfSome, vec_len};
+ghost use Rattle.service_pool.specs.Leasing.{Tells};
 
 use crate::NoMemory;
 use crate::lease::{Lease, Taken};
 use crate::locked::Locked;
 use crate::state::PoolState;
-use crate::step::{AuditFault, LEDGER_PARTS, MAX_CONNECTIONS};
+use crate::step::{AuditFault, LEDGER_PARTS, MAX_CONNECTIONS, Over};
 use std::alloc::Global;
 use std::sync::ledger::{Blank, Ledger};
 use std::sync::{Mutex, Wait};
@@ -42,8 +43,11 @@ impl<C, L: Ledger> Pool<C, L> {
     }
 
     /// Takes the idle connection that was put last, or the right to open one where none is idle
-    /// and fewer than the maximum are leased; else `Busy`.
-    pub fn take(&self, rt: &impl Wait) -> Taken<C, L> {
+    /// and fewer than the maximum are leased; else `Busy`. The lease tells
+    /// which.
+    pub fn take(&self, rt: &impl Wait) -> Taken<C, L>
+        ensures { Tells result }
+    {
         self.locked.lock(rt).take()
     }
 
@@ -58,6 +62,15 @@ impl<C, L: Ledger> Pool<C, L> {
     /// Releases a leased connection, which the caller closes.
     pub fn give_up(&self, rt: &impl Wait, lease: Lease<L>) {
         self.locked.lock(rt).give_up(lease)
+    }
+
+    /// Lets a fresh connection be opened in place of a leased one that broke, which the caller
+    /// closes first. `Over` where more than the maximum are open; then the lease stays as it is.
+    pub fn replace(&self, rt: &impl Wait, lease: &mut Lease<L>) -> Result<(), Over>
+        ensures fresh { OnOk result (lease.new ≡ record { reused = false }) }
+        ensures err { OnErr result (lease.new ≡ lease.old) }
+    {
+        self.locked.lock(rt).replace(lease)
     }
 
     /// Sets how many connections may be open, and hands back the idle ones to be closed: the

@@ -1,6 +1,6 @@
 //! A pool as one thread sees it: its idle connections, and its numbers with their journal. Nothing
 //! here knows a lock.
-ghost use Rattle.std.specs.Prelude.{◌≡◌, ◌↔◌, ◌+◌, ◌≤◌, ◌<◌, [], ◌∷◌, ◌++◌, take, drop, IfOk, OnOk, OnErr, IfSome, IfNone, slice_get, vec_len, vec_capacity};
+ghost use Rattle.std.specs.Prelude.{◌≡◌, ◌↔◌, ◌+◌, ◌≤◌, ◌<◌, [], ◌∷◌, ◌++◌, take, drop, IsErr, IfOk, OnOk, OnErr, IfSome, IfNone, slice_get, vec_len, vec_capacity};
 ghost use Rattle.std.specs.VecDeque.{deque_len, deque_capacity};
 ghost use Rattle.service_pool.specs.Pooled.{Takes, IsBusy, IsKept, lease_count};
 ghost use Rattle.service_pool.specs.Replay.{open_count, replay};
@@ -8,7 +8,7 @@ ghost use Rattle.service_pool.specs.State.{opening, stepped};
 
 use crate::NoMemory;
 use crate::journal::Journal;
-use crate::step::{MAX_CONNECTIONS, Numbers, PoolStep};
+use crate::step::{MAX_CONNECTIONS, Numbers, Over, PoolStep};
 use std::alloc::Global;
 use std::collections::VecDeque;
 use std::marker::Model;
@@ -148,6 +148,27 @@ impl<C> PoolState<C> {
         ensures kept { IsKept self.new }
     {
         self.journal.apply(PoolStep::GiveUp);
+    }
+
+    /// Opens a connection in place of a leased one that broke, as the step `Replace`. `Over` where
+    /// more than the maximum are open; then it is no step.
+    pub fn replace(&mut self) -> Result<(), Over>
+        requires { 1 ≤ self.old.journal.numbers.leased }
+        ensures over { IsErr result
+            ↔ (self.old.journal.numbers.maximum < open_count self.old.journal.numbers) }
+        ensures idle { self.new.idle ≡ self.old.idle }
+        ensures step { OnOk result
+            (self.new.journal ≡ stepped self.old.journal PoolStep.Replace) }
+        ensures err { OnErr result (self.new ≡ self.old) }
+        ensures leased { self.new.journal.numbers.leased ≡ self.old.journal.numbers.leased }
+        ensures kept { IsKept self.new }
+    {
+        let numbers = self.journal.numbers();
+        if numbers.idle + numbers.leased > numbers.maximum {
+            return Err(Over);
+        }
+        self.journal.apply(PoolStep::Replace);
+        Ok(())
     }
 
     /// Sets how many connections may be open, as the step `Limit`, and hands back the idle ones to

@@ -1,4 +1,4 @@
-//! The numbers of a pool, the steps that change them, and why an audit is refused.
+//! The numbers of a pool, the steps that change them, and why a call is refused.
 ghost use Rattle.std.specs.Prelude.{◌≡◌};
 ghost use Rattle.service_pool.specs.Replay.{after};
 ghost use Rattle.service_pool.specs.State.{IsAllowed, IsBounded};
@@ -33,9 +33,16 @@ pub enum PoolStep {
     Put,
     /// A leased connection is closed.
     GiveUp,
+    /// A leased connection that broke is closed, and another is opened in its place.
+    Replace,
     /// The maximum is set, and idle connections above it are closed.
     Limit(u64),
 }
+
+/// A fresh connection in place of a broken one was refused: more than the maximum are open.
+#[derive(Clone, Copy, PartialEq, Eq, Debug, Error)]
+#[error("more connections are open than the maximum")]
+pub struct Over;
 
 /// Why an audit was refused.
 #[derive(Clone, Copy, PartialEq, Eq, Debug, Error)]
@@ -76,6 +83,7 @@ impl Numbers {
                 leased: leased - 1,
                 ..self
             },
+            PoolStep::Replace => self,
             PoolStep::Limit(maximum) => Numbers {
                 idle: idle.min(maximum.saturating_sub(leased)),
                 maximum,

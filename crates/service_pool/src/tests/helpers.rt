@@ -1,7 +1,7 @@
 //! Calls of a pool that keep the leases in a list.
 ghost use Rattle.std.specs.Prelude.{◌≡◌, ◌+◌, ◌≤◌, ◌<◌, vec_len, vec_capacity};
 
-use crate::{AuditFault, Found, Lease, Pool, Taken};
+use crate::{AuditFault, Found, Lease, Over, Pool, Taken};
 use std::sync::Wait;
 use std::sync::ledger::Ledger;
 
@@ -40,6 +40,25 @@ pub fn put_one<L: Ledger, R: Wait>(
 {
     let lease = leases.pop()?;
     pool.put(rt, connection, lease)
+}
+
+// Opens a connection in place of that of the last lease: whether the lease is reused then.
+pub fn replace_last<L: Ledger, R: Wait>(
+    rt: &R,
+    pool: &Pool<u32, L>,
+    leases: &mut Vec<Lease<L>>,
+) -> Option<Result<bool, Over>>
+    ensures fewer { vec_len leases.new ≤ vec_len leases.old }
+    ensures room { vec_capacity leases.new ≡ vec_capacity leases.old }
+{
+    let mut lease = leases.pop()?;
+    let answer = pool.replace(rt, &mut lease);
+    let reused = lease.reused();
+    leases.push_reserved(lease);
+    Some(match answer {
+        Ok(()) => Ok(reused),
+        Err(over) => Err(over),
+    })
 }
 
 // Gives up all leases.

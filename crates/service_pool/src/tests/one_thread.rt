@@ -1,8 +1,8 @@
 //! What a pool answers through its lock.
 ghost use Rattle.std.specs.Prelude.{◌≡◌};
 
-use super::helpers::{audited, put_one, take_and_give_up, take_one};
-use crate::{AuditFault, Found, LEDGER_PARTS, NoMemory, Pool};
+use super::helpers::{audited, put_one, replace_last, take_and_give_up, take_one};
+use crate::{AuditFault, Found, LEDGER_PARTS, NoMemory, Over, Pool};
 use std::alloc::Global;
 use std::marker::Brand;
 use std::process::Abort;
@@ -16,6 +16,7 @@ struct Answers {
     taken: Vec<Found<u32>>,
     closed: Vec<u32>,
     back: Vec<Option<u32>>,
+    replaced: Vec<Option<Result<bool, Over>>>,
     count: Option<u64>,
 }
 
@@ -30,19 +31,23 @@ fn lower_the_maximum<L: Ledger, R: Wait>(
     let pool: Pool<u32, L> = Pool::new(alloc, blank, 2, 16)?;
     let mut taken = Vec::with_capacity(alloc, 4)?;
     let mut back = Vec::with_capacity(alloc, 2)?;
+    let mut replaced = Vec::with_capacity(alloc, 2)?;
     let mut leases = Vec::with_capacity(alloc, 4)?;
     taken.push_reserved(take_one(rt, &pool, &mut leases));
     taken.push_reserved(take_one(rt, &pool, &mut leases));
     taken.push_reserved(take_one(rt, &pool, &mut leases));
     let closed = pool.set_max(rt, alloc, 1);
+    replaced.push_reserved(replace_last(rt, &pool, &mut leases));
     back.push_reserved(put_one(rt, &pool, &mut leases, 11));
     back.push_reserved(put_one(rt, &pool, &mut leases, 22));
     taken.push_reserved(take_one(rt, &pool, &mut leases));
+    replaced.push_reserved(replace_last(rt, &pool, &mut leases));
     let count = audited(rt, pool, leases);
     Ok(Answers {
         taken,
         closed: closed?,
         back,
+        replaced,
         count,
     })
 }
@@ -55,6 +60,8 @@ fn lowered_maximum_closes_what_comes_back(rt: HostRuntime) -> Result<(), Fail> {
     assert_eq!(rt; seen.taken.as_slice(), taken.as_slice());
     assert_eq!(rt; seen.closed.len(), 0);
     assert_eq!(rt; seen.back.as_slice(), [Some(11), None].as_slice());
+    let replaced = [Some(Err(Over)), Some(Ok(false))];
+    assert_eq!(rt; seen.replaced.as_slice(), replaced.as_slice());
     assert_eq!(rt; seen.count, Some(1));
     Ok(())
 }
@@ -85,6 +92,7 @@ fn raise_and_lower<L: Ledger, R: Wait>(
         taken,
         closed: closed?,
         back,
+        replaced: Vec::new(alloc),
         count,
     };
     Ok((raised?.len(), answers))
@@ -128,6 +136,7 @@ fn hand_out_and_close<L: Ledger, R: Wait>(
         taken,
         closed: closed?,
         back,
+        replaced: Vec::new(alloc),
         count,
     })
 }
@@ -198,8 +207,10 @@ fn audit_with_a_missing_lease_hands_all_back(rt: HostRuntime) -> Result<(), Fail
 }
 
 #[test]
-fn missing_lease_has_its_text(rt: HostRuntime) -> Result<(), Fail> {
+fn faults_have_their_texts(rt: HostRuntime) -> Result<(), Fail> {
     let text = format!(in rt.alloc(); "{}", AuditFault::Missing)?;
     assert_eq!(rt; text.as_str(), "a lease is missing");
+    let text = format!(in rt.alloc(); "{}", Over)?;
+    assert_eq!(rt; text.as_str(), "more connections are open than the maximum");
     Ok(())
 }

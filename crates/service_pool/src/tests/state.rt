@@ -1,10 +1,10 @@
 //! One step a call, and a journal that starts anew.
-use crate::{Found, Numbers, PoolState, PoolStep};
+use crate::{Found, Numbers, Over, PoolState, PoolStep};
 use std::test::*;
 
 #[test]
 fn each_call_is_one_step(rt: HostRuntime) -> Result<(), Fail> {
-    let mut state: PoolState<u32> = PoolState::new(rt.alloc(), 2, 8)?;
+    let mut state: PoolState<u32> = PoolState::new(rt.alloc(), 2, 9)?;
     let first = state.take();
     assert_eq!(rt; first, Found::Fresh);
     let second = state.take();
@@ -13,12 +13,16 @@ fn each_call_is_one_step(rt: HostRuntime) -> Result<(), Fail> {
     assert_eq!(rt; third, Found::Busy);
     let closed = state.set_max(rt.alloc(), 1)?;
     assert_eq!(rt; closed.len(), 0);
+    let over = state.replace();
+    assert_eq!(rt; over, Err(Over));
     let back = state.put(11);
     assert_eq!(rt; back, Some(11));
     let kept = state.put(22);
     assert_eq!(rt; kept, None);
     let again = state.take();
     assert_eq!(rt; again, Found::Idle(22));
+    let fresh = state.replace();
+    assert_eq!(rt; fresh, Ok(()));
     state.give_up();
     let none = Numbers {
         idle: 0,
@@ -34,10 +38,11 @@ fn each_call_is_one_step(rt: HostRuntime) -> Result<(), Fail> {
         Some(PoolStep::Put),
         Some(PoolStep::Put),
         Some(PoolStep::Take),
+        Some(PoolStep::Replace),
         Some(PoolStep::GiveUp),
         None,
     ];
-    for index in 0..8 {
+    for index in 0..9 {
         assert_eq!(rt; state.journal_at(index), steps[index], "at {index}");
     }
     Ok(())

@@ -1,4 +1,4 @@
-use Rattle.service_pool.proofs.HistoryLemmas.{opened-by_take, opened-below, opened-sound}
+use Rattle.service_pool.proofs.HistoryLemmas.{opened-by_take, opened-below, opened-sound, replaced-within}
 use Rattle.service_pool.proofs.laws.opened_only_below_the_maximum.Goals as goal
 
 pub returns-clause-by_a_take : goal.returns-clause-by_a_take
@@ -9,3 +9,6 @@ returns-clause-below c = opened-below
 
 pub returns-clause-states : goal.returns-clause-states
 returns-clause-states c = opened-sound
+
+pub returns-clause-replaced : goal.returns-clause-replaced
+returns-clause-replaced c = replaced-within
