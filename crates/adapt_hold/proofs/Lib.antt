@@ -1,0 +1,4 @@
+pub mod Tied
+pub mod Closes
+pub mod Bodies
+pub mod Row
