@@ -1,23 +1,30 @@
 -- What is written is a head of the grammar.
-use Rattle.std.proofs.Common.{◌≡◌, ℕ, ◌+◌, ◌/◌, ◌%◌, ◌<◌, Bool, true, false, not, ◌||◌, ◌&&◌, List, [], ◌∷◌, ◌++◌, length, map, take, drop, Some, IsTrue, refl, sym, ap, ◌∙◌, subst, inl, inr, arith, append_assoc, length-append, rules, get_or}
+use Rattle.std.proofs.Common.{◌≡◌, ◌≢◌, ℕ, ◌+◌, ◌/◌, ◌%◌, ◌<◌, Bool, true, false, not, ◌||◌, ◌&&◌, List, [], ◌∷◌, ◌++◌, length, map, take, drop, Some, IsTrue, reverse, refl, sym, ap, ap₂, ◌∙◌, subst, inl, inr, arith, append_assoc, length-append, rules, get_or}
 use Rattle.std.specs.Prelude.{All, codes, ◌==◌, nat_lt}
 use Rattle.std.specs.List.{flat_map, list_all, filter}
-use Rattle.std.specs.Char.{is_ascii_digit}
+use Rattle.std.specs.Char.{is_ascii_digit, digit_value}
+use Rattle.std.proofs.lemmas.Str.{digit_value_digit}
 use Rattle.std.proofs.lemmas.Bool.{cases_Bool}
 use Rattle.std.proofs.lemmas.List.Elements.{All-map, All-cons, All-tail, All-append, All-take, All-drop, All-filter}
 use Rattle.std.proofs.lemmas.List.{append-nil}
-use Rattle.httparse.specs.Grammar.{Field, IsField, IsToken, AllPass, is_value_byte, is_uri_byte, is_token_byte, print_field, print_request, print_response, print_version, print_end, crlf}
+use Rattle.httparse.specs.Grammar.{Field, IsField, IsToken, AllPass, skip_ows, is_value_byte, is_uri_byte, is_token_byte, print_field, print_request, print_response, print_version, print_end, crlf}
 use Rattle.httparse.specs.Spans.{name_and_value}
 use Rattle.httparse.proofs.GrammarLemmas.{print_request-append, cons-append}
 use Rattle.httparse.proofs.TrimLemmas.{AllPass-trim_ows}
 use Rattle.http_side.specs.Fields.{same_name}
-use Rattle.http_side.specs.Heads.{RequestParts, ResponseParts, both_lengths}
+use Rattle.http_side.specs.Heads.{RequestParts, ResponseParts, both_lengths, is_options}
 use Rattle.http_side.specs.Targets.{authority_of, count_before, is_delimiter, is_hash, is_rooted, rooted, path_of, origin_form}
 use Rattle.http_side.specs.declared.writing.Extra.{Extra}
 use Rattle.http_side.specs.declared.writing.Beside.{Beside}
-use Rattle.http_side.specs.Forward.{field_line, field_lines, head_text, request_line, status_line, three_digits, target_form, request_fields, response_fields, added_fields, kept_fields, stays, once, is_length, hosted, host_line, when, via_value, has_host}
-use Rattle.http_side.specs.Laws.{WasReadRequest, WasReadResponse}
-use Rattle.http_side.specs.Written.{written_field, written_request, written_response, IsWritable, ReadsBackRequest, ReadsBackResponse}
+use Rattle.http_side.specs.Forward.{field_line, field_lines, head_text, request_line, status_line, three_digits, target_form, request_fields, response_fields, added_fields, extra_of, kept_fields, stays, once, is_length, hosted, host_line, when, via_value, has_host}
+use Rattle.http_side.specs.Laws.{WasRead, WasReadRequest, WasReadResponse, passed_fields, minor_of}
+use Rattle.http_side.specs.declared.forward.Message.{Message}
+use Rattle.http_side.specs.declared.forward.Message.TheVariants.{Request, Response}
+use Rattle.std.specs.Str.Parse.{digits_value}
+use Rattle.httparse.proofs.TrimLemmas.{trim_ows_space}
+use Rattle.http_side.proofs.Trimmed.{trimmed_front, trimmed_back, visible_front, visible_back}
+use Rattle.http_side.proofs.TargetForms.{target_utf8}
+use Rattle.http_side.specs.Written.{written_field, written_request, written_response, IsWritable, IsUnbroken, HasNoBreak, ReadsBackRequest, ReadsBackResponse, WritesNoBreaks}
 
 -- ---- texts
 
@@ -49,11 +56,14 @@ answer_printed status phrase fields =
 
 -- ---- the fields of a head that was read
 
-abbrev IsValue : List ℕ → Type 0
-IsValue v = AllPass is_value_byte v
+pub record IsValue (v : List ℕ) : Type 0 where
+  pub bytes : AllPass is_value_byte v
+  pub front : skip_ows v ≡ v
+  pub back : skip_ows (reverse v) ≡ reverse v
 
 read_fields : (fields : List Field) → All IsField fields → All IsWritable (map name_and_value fields)
-read_fields fields h = All-map IsWritable name_and_value fields (λ k d l. let w = h k d l in record { name = w.name; value = AllPass-trim_ows is_value_byte _ w.raw })
+read_fields fields h = All-map IsWritable name_and_value fields (λ k d l. let w = h k d l in
+    record { name = w.name; value = AllPass-trim_ows is_value_byte _ w.raw; front = trimmed_front _; back = trimmed_back _ })
 
 pub request_writable : (r : RequestParts) → WasReadRequest r → All IsWritable r.fields
 request_writable r w = let at = w.3.there in subst (λ x. All IsWritable x.fields) at.parts_are (read_fields at.head.fields at.reads.0.fields)
@@ -82,7 +92,7 @@ all_kept beside fields h = all_once false (filter (stays beside fields) fields) 
 
 host_ok : (authority : List ℕ) → IsValue authority → (f : List ℕ × List ℕ) → IsWritable f → IsWritable (host_line authority f)
 host_ok authority v f w = elim (cases_Bool (same_name f.0 (codes "host"))) [
-  | inl host ↦ rw host (record { name = w.name; value = v })
+  | inl host ↦ rw host (record { name = w.name; value = v.bytes; front = v.front; back = v.back })
   | inr other ↦ rw other w
 ]
 
@@ -93,16 +103,19 @@ none_is : All IsWritable []
 none_is = λ k d l. absurd (omega arith)
 
 word : (name value : List ℕ) → nat_lt 0 (length name) ≡ true → list_all is_token_byte name ≡ true → IsValue value → IsWritable (name, value)
-word name value n t v = record { name = (search rules, tested is_token_byte name t); value = v }
+word name value n t v = record { name = (search rules, tested is_token_byte name t); value = v.bytes; front = v.front; back = v.back }
 
 all_when : (b : Bool) (f : List ℕ × List ℕ) → IsWritable f → All IsWritable (when b f)
 all_when true f w = All-cons IsWritable f [] w none_is
 all_when false f w = none_is
 
+value : (v : List ℕ) → list_all is_value_byte v ≡ true → skip_ows v ≡ v → skip_ows (reverse v) ≡ reverse v → IsValue v
+value v e front back = record { bytes = tested is_value_byte v e; front = front; back = back }
+
 via_ok : (minor : ℕ) → IsValue (via_value minor)
 via_ok minor = elim (cases_Bool (minor == 0)) [
-  | inl old ↦ rw old (tested is_value_byte (codes "1.0 adaptproxy") refl)
-  | inr new ↦ rw new (tested is_value_byte (codes "1.1 adaptproxy") refl)
+  | inl old ↦ rw old (value (codes "1.0 adaptproxy") refl refl refl)
+  | inr new ↦ rw new (value (codes "1.1 adaptproxy") refl refl refl)
 ]
 
 four_words : (x : Extra) (minor : ℕ) → IsWritable (codes "Content-Length", codes "0") → IsWritable (codes "Transfer-Encoding", codes "chunked")
@@ -121,9 +134,9 @@ four_words x minor a b c d =
 all_added : (x : Extra) (minor : ℕ) → All IsWritable (added_fields x minor)
 unfolding is_token_byte
 all_added x minor = four_words x minor
-    (word (codes "Content-Length") (codes "0") refl refl (tested is_value_byte (codes "0") refl))
-    (word (codes "Transfer-Encoding") (codes "chunked") refl refl (tested is_value_byte (codes "chunked") refl))
-    (word (codes "Connection") (codes "close") refl refl (tested is_value_byte (codes "close") refl))
+    (word (codes "Content-Length") (codes "0") refl refl (value (codes "0") refl refl refl))
+    (word (codes "Transfer-Encoding") (codes "chunked") refl refl (value (codes "chunked") refl refl refl))
+    (word (codes "Connection") (codes "close") refl refl (value (codes "close") refl refl refl))
     (word (codes "Via") (via_value minor) refl refl (via_ok minor))
 
 host_word : (authority : List ℕ) → IsValue authority → IsWritable (codes "Host", authority)
@@ -188,27 +201,43 @@ value_of_visible : (b : ℕ) → IsTrue (is_uri_byte b) → IsTrue (is_value_byt
 value_of_visible b h = search rules
 
 values_of_visible : (t : List ℕ) → IsVisible t → IsValue t
-values_of_visible t h = λ k d l. value_of_visible (get_or t k d) (h k d l)
+values_of_visible t h = record { bytes = λ k d l. value_of_visible (get_or t k d) (h k d l); front = visible_front t h; back = visible_back t h }
 
--- ---- the laws
+-- ---- what is read again
+
+field_back : (f : List ℕ × List ℕ) → IsWritable f → name_and_value (written_field f) ≡ f
+field_back f w = ap (λ v. (f.0, v)) (trim_ows_space f.1 w.front w.back)
+
+fields_back : (fields : List (List ℕ × List ℕ)) → All IsWritable fields → map name_and_value (map written_field fields) ≡ fields
+fields_back [] h = refl
+fields_back (f ∷ fields) h = ap₂ ◌∷◌ (field_back f (h 0 f (omega arith))) (fields_back fields (All-tail IsWritable f fields h))
 
 pub reads_back_request : ReadsBackRequest
-reads_back_request r user w u absolute extra utf8 =
+reads_back_request r user w u absolute extra =
     let authority = authority_of user.target in
-    let seen = authority_visible user.target (target_visible user u) in
+    let from_user : WasReadRequest user = (false, u.0, u.1, u.2) in
+    let seen = authority_visible user.target (target_visible user from_user) in
     let target = target_form absolute authority r.target in
     let fields = request_fields authority r.fields ++ added_fields extra r.minor in
+    let all = request_all r authority extra w (values_of_visible authority seen) in
     let at = w.3.there in
     let method : IsToken r.method = subst (λ x. IsToken x.method) at.parts_are at.reads.0.method in (
-      record {
-        method = method;
-        target = target_ok absolute authority r.target seen (target_visible r w);
-        target_text = utf8;
-        minor = omega arith;
-        fields = all_fields fields (request_all r authority extra w (values_of_visible authority seen));
-      },
-      head_printed r.method target fields,
+      written_request r.method target fields,
+      (
+        record {
+          method = method;
+          target = target_ok absolute authority r.target seen (target_visible r w);
+          target_text = target_utf8 w.0 (is_options r) (is_options user) absolute r.target user.target w.3.taken.served u.2.taken.served;
+          minor = omega arith;
+          fields = all_fields fields all;
+        },
+        head_printed r.method target fields,
+      ),
+      ap (λ x. sent r.method target x) (fields_back fields all),
     )
+  where
+    sent : List ℕ → List ℕ → List (List ℕ × List ℕ) → RequestParts
+    sent method target fields = record { method = method; target = target; minor = 1; fields = fields }
 
 digit_is : (d : ℕ) → d < 10 → is_ascii_digit (48 + d) ≡ true
 digit_is d h = search rules
@@ -223,15 +252,59 @@ three_ok n l =
     (All-cons P b (c ∷ []) (digit_is (n / 10 % 10) (omega arith))
     (All-cons P c [] (digit_is (n % 10) (omega arith)) (λ k d l. absurd (omega arith))))
 
+value_is : (d : ℕ) → d < 10 → digit_value (48 + d) ≡ d
+value_is d h = let v = digit_value_digit (48 + d) (omega arith, omega arith) in omega (arith, v)
+
+digits_back : (n : ℕ) → n < 1000 → digits_value 10 (three_digits n) ≡ n
+digits_back n h =
+    let a = value_is (n / 100) (omega arith) in
+    let b = value_is (n / 10 % 10) (omega arith) in
+    let d = value_is (n % 10) (omega arith) in
+    omega (arith, a, b, d)
+
 pub reads_back_response : ReadsBackResponse
 reads_back_response r w small extra =
     let fields = response_fields r.fields ++ added_fields extra r.minor in
+    let all = response_all r extra w in
     let at = w.3.there in (
-      record {
-        minor = omega arith;
-        digits = (refl, three_ok r.status small);
-        reason = subst (λ x. IsValue x.phrase) at.parts_are at.reads.0.reason;
-        fields = all_fields fields (response_all r extra w);
-      },
-      answer_printed r.status r.phrase fields,
+      written_response r.status r.phrase fields,
+      (
+        record {
+          minor = omega arith;
+          digits = (refl, three_ok r.status small);
+          reason = subst (λ x. AllPass is_value_byte x.phrase) at.parts_are at.reads.0.reason;
+          fields = all_fields fields all;
+        },
+        answer_printed r.status r.phrase fields,
+      ),
+      ap (λ n. sent n (map name_and_value (map written_field fields))) (digits_back r.status small) ∙ ap (sent r.status) (fields_back fields all),
     )
+  where
+    sent : ℕ → List (List ℕ × List ℕ) → ResponseParts
+    sent status fields = record { status = status; phrase = r.phrase; minor = 1; fields = fields; to_head = r.to_head }
+
+-- ---- no breaks
+
+differs : (test : ℕ → Bool) (b c : ℕ) → test c ≡ false → IsTrue (test b) → b ≢ c
+differs test b c off on = λ e. absurd (let x : true ≡ false = sym on ∙ ap test e ∙ off in cc)
+
+unbroken : (test : ℕ → Bool) (t : List ℕ) → test 13 ≡ false → test 10 ≡ false → test 0 ≡ false → AllPass test t → HasNoBreak t
+unbroken test t a b c h = λ k d l. let on = h k d l in (differs test (get_or t k d) 13 a on, differs test (get_or t k d) 10 b on, differs test (get_or t k d) 0 c on)
+
+field_unbroken : (f : List ℕ × List ℕ) → IsWritable f → IsUnbroken f
+unfolding is_token_byte
+field_unbroken f w = record { name = unbroken is_token_byte f.0 refl refl refl w.name.1; value = unbroken is_value_byte f.1 refl refl refl w.value }
+
+all_unbroken : (fields : List (List ℕ × List ℕ)) → All IsWritable fields → All IsUnbroken fields
+all_unbroken fields h = λ k d l. field_unbroken (get_or fields k d) (h k d l)
+
+pub writes_no_breaks : WritesNoBreaks
+writes_no_breaks f w u = by_message f.message w
+  where
+    by_message : (m : Message) → WasRead m → All IsUnbroken (passed_fields (authority_of f.user.now.target) m ++ added_fields (extra_of f) (minor_of m))
+    by_message (Request r) w =
+        let user = f.user.now in
+        let from_user : WasReadRequest user = (false, u.0, u.1, u.2) in
+        let seen = authority_visible user.target (target_visible user from_user) in
+        all_unbroken _ (request_all r.now (authority_of user.target) (extra_of f) w (values_of_visible (authority_of user.target) seen))
+    by_message (Response r) w = all_unbroken _ (response_all r.now (extra_of f) w)

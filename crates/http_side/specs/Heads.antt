@@ -6,7 +6,7 @@ use Rattle.httparse.specs.declared.spans.HeaderSpan.{HeaderSpan}
 use Rattle.httparse.specs.declared.spans.RequestSpans.{RequestSpans}
 use Rattle.httparse.specs.declared.spans.ResponseSpans.{ResponseSpans}
 use Rattle.http_side.specs.declared.fault.HttpFault.{HttpFault}
-use Rattle.http_side.specs.declared.fault.HttpFault.TheVariants.{Bad, BothLengths, Lengths, Coding}
+use Rattle.http_side.specs.declared.fault.HttpFault.TheVariants.{More, TooLong, Bad, BothLengths, Lengths, Coding}
 use Rattle.http_side.specs.Fields.{values_of}
 use Rattle.http_side.specs.Lengths.{content_length, coding}
 
@@ -48,6 +48,10 @@ pub record IsResponseAt (text : List ℕ) (parts : ResponseParts) (len : ℕ) : 
 -- what is judged of a text
 abbrev pub judged : List ℕ → List ℕ
 judged text = take 16384 text
+
+-- a head without an end among so many bytes: more may come, or it is too long
+abbrev pub unended : ℕ → HttpFault
+unended len = if nat_lt len 16384 then More else TooLong
 
 abbrev pub count_of : List ℕ → List (List ℕ × List ℕ) → ℕ
 count_of name fields = length (values_of name fields)

@@ -1,10 +1,10 @@
 -- Which texts begin with a request's head that is taken, and why another is refused.
-use Rattle.std.specs.Prelude.{◌≡◌, ℕ, ◌<◌, ◌≤◌, ◌⊎◌, Bool, true, false, List, length, Some, None}
-use Rattle.httparse.specs.Grammar.{RequestHead, ReadsRequest, HasNoRequest, NeverHasRequest, MayBecomeRequest}
+use Rattle.std.specs.Prelude.{◌≡◌, ◌≢◌, ℕ, ◌++◌, ◌<◌, ◌≤◌, ◌⊎◌, Bool, true, false, List, [], length, Some, None}
+use Rattle.httparse.specs.Grammar.{RequestHead, ReadsRequest, HasNoRequest, NeverHasRequest, MayBecomeRequest, EndsInTarget}
 use Rattle.httparse.specs.Spans.{RequestOverflows, RequestExceeds}
 use Rattle.http_side.specs.declared.fault.HttpFault.{HttpFault}
 use Rattle.http_side.specs.declared.fault.HttpFault.TheVariants.{More, Bad, TooLong, TooMany, BothLengths, Lengths, Coding, Target, Connect, NoMemory}
-use Rattle.http_side.specs.Heads.{RequestParts, request_parts, IsRequestAt, judged, request_fault, is_connect}
+use Rattle.http_side.specs.Heads.{RequestParts, request_parts, IsRequestAt, judged, unended, request_fault, is_connect}
 use Rattle.http_side.specs.Targets.{IsServedIn}
 
 -- a head is refused for this; want of memory is answered where no other fault stands, but perhaps Target
@@ -40,6 +40,27 @@ RefusesText adapted text Bad = NeverHasRequest (judged text) ⊎ HasRefused adap
 RefusesText adapted text TooLong = IsUnfinished (judged text) × (16384 ≤ length text)
 RefusesText adapted text TooMany = RequestExceeds 100 (judged text) × RequestOverflows 100 (judged text)
 RefusesText adapted text fault = HasRefused adapted (judged text) fault
+
+-- no head is there, and some bytes more make one of at most 100 fields
+abbrev pub AwaitsRequest : List ℕ → Type 0
+AwaitsRequest text =
+    HasNoRequest text × ((more : List ℕ) × (head : RequestHead) × ReadsRequest (text ++ more) head [] × (length head.fields ≤ 100))
+
+-- no bytes more make a head, neither within a target that has no end yet nor for the number of the fields alone
+abbrev pub IsNoRequest : List ℕ → Type 0
+IsNoRequest text = NeverHasRequest text × ¬ (EndsInTarget text) × ¬ (RequestExceeds 100 text)
+
+-- a head of more than 100 fields is there
+abbrev pub HasLongRequest : List ℕ → Type 0
+HasLongRequest text = (head : RequestHead) × (rest : List ℕ) × ReadsRequest text head rest × (100 < length head.fields)
+
+-- a text has to be refused for this: what its first 16,384 bytes begin with decides
+abbrev pub Stands : Bool → List ℕ → HttpFault → Type 0
+Stands adapted text fault =
+    ((fault ≡ unended (length text)) × AwaitsRequest (judged text))
+    ⊎ ((fault ≡ Bad) × IsNoRequest (judged text))
+    ⊎ ((fault ≡ TooMany) × HasLongRequest (judged text))
+    ⊎ ((fault ≢ NoMemory) × HasRefused adapted (judged text) fault)
 
 -- the head and its length, as they are answered
 pub record IsRead (adapted : Bool) (text : List ℕ) (r : RequestParts) (len : ℕ) : Type 0 where

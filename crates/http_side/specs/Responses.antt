@@ -1,10 +1,10 @@
 -- Which texts begin with a response's head that is taken, and why another is refused.
-use Rattle.std.specs.Prelude.{◌≡◌, ℕ, ◌<◌, ◌≤◌, Bool, false, List, length, Some, None}
+use Rattle.std.specs.Prelude.{◌≡◌, ◌≢◌, ℕ, ◌++◌, ◌<◌, ◌≤◌, ◌⊎◌, Bool, false, List, [], length, Some, None}
 use Rattle.httparse.specs.Grammar.{ResponseHead, ReadsResponse, HasNoResponse, NeverHasResponse, MayBecomeResponse}
 use Rattle.httparse.specs.Spans.{ResponseOverflows, ResponseExceeds}
 use Rattle.http_side.specs.declared.fault.HttpFault.{HttpFault}
 use Rattle.http_side.specs.declared.fault.HttpFault.TheVariants.{More, Bad, TooLong, TooMany, Lengths, Coding, NoMemory}
-use Rattle.http_side.specs.Heads.{ResponseParts, response_parts, IsResponseAt, judged, response_fault}
+use Rattle.http_side.specs.Heads.{ResponseParts, response_parts, IsResponseAt, judged, unended, response_fault}
 
 -- a head is refused for this; want of memory is answered where no other fault stands
 abbrev pub RefusesAnswer : ResponseParts → HttpFault → Type 0
@@ -29,6 +29,27 @@ RefusesResponse text Bad = NeverHasResponse (judged text)
 RefusesResponse text TooLong = IsUnfinishedResponse (judged text) × (16384 ≤ length text)
 RefusesResponse text TooMany = ResponseExceeds 100 (judged text) × ResponseOverflows 100 (judged text)
 RefusesResponse text fault = HasRefusedAnswer (judged text) fault
+
+-- no head is there, and some bytes more make one of at most 100 fields
+abbrev pub AwaitsResponse : List ℕ → Type 0
+AwaitsResponse text =
+    HasNoResponse text × ((more : List ℕ) × (head : ResponseHead) × ReadsResponse (text ++ more) head [] × (length head.fields ≤ 100))
+
+-- no bytes more make a head, and not for the number of the fields alone
+abbrev pub IsNoResponse : List ℕ → Type 0
+IsNoResponse text = NeverHasResponse text × ¬ (ResponseExceeds 100 text)
+
+-- a head of more than 100 fields is there
+abbrev pub HasLongResponse : List ℕ → Type 0
+HasLongResponse text = (head : ResponseHead) × (rest : List ℕ) × ReadsResponse text head rest × (100 < length head.fields)
+
+-- a text has to be refused for this: what its first 16,384 bytes begin with decides
+abbrev pub StandsInResponse : List ℕ → HttpFault → Type 0
+StandsInResponse text fault =
+    ((fault ≡ unended (length text)) × AwaitsResponse (judged text))
+    ⊎ ((fault ≡ Bad) × IsNoResponse (judged text))
+    ⊎ ((fault ≡ TooMany) × HasLongResponse (judged text))
+    ⊎ ((fault ≢ NoMemory) × HasRefusedAnswer (judged text) fault)
 
 -- the head and its length, as they are answered
 pub record IsResponseRead (to_head : Bool) (text : List ℕ) (r : ResponseParts) (len : ℕ) : Type 0 where

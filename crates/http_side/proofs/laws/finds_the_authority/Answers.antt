@@ -1,0 +1,5 @@
+use Rattle.http_side.proofs.TargetForms.{finds_authority}
+use Rattle.http_side.proofs.laws.finds_the_authority.Goals as goal
+
+pub returns : goal.returns
+returns c = finds_authority

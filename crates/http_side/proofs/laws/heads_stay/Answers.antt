@@ -1,0 +1,8 @@
+use Rattle.http_side.proofs.Stays.{request_stays, response_stays}
+use Rattle.http_side.proofs.laws.heads_stay.Goals as goal
+
+pub returns-clause-requests : goal.returns-clause-requests
+returns-clause-requests c = request_stays
+
+pub returns-clause-responses : goal.returns-clause-responses
+returns-clause-responses c = response_stays

@@ -1,0 +1,5 @@
+use Rattle.http_side.proofs.WrittenLemmas.{writes_no_breaks}
+use Rattle.http_side.proofs.laws.writes_no_breaks.Goals as goal
+
+pub returns : goal.returns
+returns c = writes_no_breaks

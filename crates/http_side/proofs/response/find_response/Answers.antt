@@ -1,0 +1,17 @@
+use Rattle.std.proofs.Common.{List, ℕ, subst}
+use Rattle.httparse.specs.Grammar.{HasNoResponse, MayBecomeResponse}
+use Rattle.http_side.proofs.ResponseLemmas.{refused_at}
+use Rattle.http_side.proofs.response.find_response.Goals as goal
+
+pub returns-in-Err-judge-clause-fault : goal.returns-in-Err-judge-clause-fault
+returns-in-Err-judge-clause-fault c =
+    refused_at c.args.to_head c.args.text.now c.judged-front.result.now c.parse_response.new.headers c.in-Ok-Complete.spans c.in-Err-judge.fault c.judged-front.ensures c.parse_response.auto.headers
+    (rw c.in-Ok-Complete.field-0-is at c.in-Ok-Complete.ensures.complete) c.in-Err-judge.ensures.refused
+
+pub returns-else-text-lt-MAX_HEAD-clause-fault : goal.returns-else-text-lt-MAX_HEAD-clause-fault
+returns-else-text-lt-MAX_HEAD-clause-fault c =
+    let none = rw c.in-Ok-Partial.field-0-is at c.in-Ok-Partial.ensures.partial in
+    let some = rw c.in-Ok-Partial.field-0-is at c.in-Ok-Partial.ensures.unfinished in
+    let P : List ℕ → Type 0 = λ t. HasNoResponse t in
+    let Q : List ℕ → Type 0 = λ t. MayBecomeResponse t in
+    ((subst P c.judged-front.ensures none, subst Q c.judged-front.ensures some), c.if-text-lt-MAX_HEAD.false)
