@@ -2,17 +2,19 @@
 use Rattle.std.proofs.Common.{◌≡◌, ◌⊎◌, ℕ, Result, Ok, Err, IfOk, IfErr, inl, inr, refl, ap}
 use Rattle.icap_head.specs.Heads.{Response}
 use Rattle.trace_core.specs.declared.history.Point.{Point}
-use Rattle.options_book.specs.Said.{Says, Said, Stands}
+use Rattle.options_book.specs.Options.{Says, Options, Stands}
+use Rattle.options_book.specs.Judged.{IsGood, judged_options}
+use Rattle.options_book.specs.declared.judged.Judged.{Judged}
 use Rattle.options_book.specs.declared.faults.OptFault.{OptFault}
 use Rattle.options_book.specs.declared.faults.OptFault.TheVariants as Faults
 
-pub not_both : (fault : OptFault) (point : Point) (r : Response) (moment : ℕ) (said : Said) → Says point moment r said → Stands fault point r → ⊥
-not_both Faults.Status point r moment said says stands = stands says.success
-not_both Faults.NoMethods point r moment said says stands = stands.1 says.method
-not_both Faults.NoTag point r moment said says stands = stands.2 said.tag says.tag
-not_both Faults.Number point r moment said says stands = stands.3 said.preview said.connections said.ttl says.numbers
-not_both Faults.Encapsulated point r moment said says stands = stands.4 says.encapsulated
-not_both Faults.NoMemory point r moment said says stands = stands
+pub not_both : (fault : OptFault) (point : Point) (r : Response) (moment : ℕ) (options : Options) → Says point moment r options → Stands fault point r → ⊥
+not_both Faults.Status point r moment options says stands = stands says.success
+not_both Faults.NoMethods point r moment options says stands = stands.1 says.method
+not_both Faults.NoTag point r moment options says stands = stands.2 options.tag says.tag
+not_both Faults.Number point r moment options says stands = stands.3 options.preview options.connections options.ttl says.numbers
+not_both Faults.Encapsulated point r moment options says stands = stands.4 says.encapsulated
+not_both Faults.NoMemory point r moment options says stands = stands
 
 pub one_fault : (f g : OptFault) (point : Point) (r : Response) → Stands f point r → Stands g point r → f ≡ g
 one_fault Faults.Status Faults.Status point r a b = refl
@@ -44,12 +46,31 @@ one_fault Faults.NoMemory g point r a b = absurd a
 one_fault f Faults.NoMemory point r a b = absurd b
 
 -- where a fault stands, it is what is answered
-pub only_fault : (point : Point) (r : Response) (moment : ℕ) (result : Result Said OptFault)
+pub only_fault : (point : Point) (r : Response) (moment : ℕ) (result : Result Options OptFault)
     → IfOk result (Says point moment r)
-    → IfErr result (λ fault. Stands fault point r ⊎ ((fault ≡ Faults.NoMemory) × ((said : Said) × Says point moment r said)))
+    → IfErr result (λ fault. Stands fault point r ⊎ ((fault ≡ Faults.NoMemory) × ((options : Options) × Says point moment r options)))
     → (fault : OptFault) → Stands fault point r → result ≡ Err fault
-only_fault point r moment (Ok said) says only fault stands = absurd (not_both fault point r moment said says stands)
+only_fault point r moment (Ok options) says only fault stands = absurd (not_both fault point r moment options says stands)
 only_fault point r moment (Err found) says only fault stands = elim only [
   | inl other ↦ ap (λ (f : OptFault). Err f) (one_fault found fault point r other stands)
   | inr none ↦ absurd (not_both fault point r moment none.1.0 none.1.1 stands)
 ]
+
+-- a judged response is a record, or has the fault that it was judged to have
+pub has_reading : (point : Point) (r : Response) (moment : ℕ) (result : Result Judged OptFault)
+    → IfOk result (λ judged. IsGood point r judged.tag.now judged.numbers)
+    → IfErr result (λ fault. Stands fault point r)
+    → ((options : Options) × Says point moment r options) ⊎ ((fault : OptFault) × Stands fault point r)
+has_reading point r moment (Ok judged) good none = inl (
+  judged_options judged.tag.now judged.numbers r.fields moment,
+  record {
+    success = good.success;
+    method = good.method;
+    tag = good.tag_is;
+    numbers = good.numbers_are;
+    encapsulated = good.encapsulated;
+    lists = refl;
+    read_at = refl;
+  },
+)
+has_reading point r moment (Err fault) good stands = inr (fault, stands)

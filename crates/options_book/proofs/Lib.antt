@@ -1,3 +1,4 @@
 pub mod LastCuts
 pub mod Oks
 pub mod Exact
+pub mod OneRecord

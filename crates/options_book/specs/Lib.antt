@@ -1,6 +1,5 @@
 pub mod Extension
 pub mod Transfer
 pub mod Numbers
-pub mod Said
-pub mod Kept
+pub mod Options
 pub mod Judged

@@ -8,6 +8,6 @@ abbrev pub AllSpell : ℕ → List (List ℕ) → Type 0
 AllSpell number values = AllByRecursion (λ text. Writes 10 text number) values
 
 -- the fields of one name say this number, of at most 2^62 - 1 and all the same; no number where there is no such field
-abbrev pub SaysNumber : List (List ℕ) → Option ℕ → Type 0
-SaysNumber [] number = number ≡ None
-SaysNumber (text ∷ values) number = IsSomeAnd number (λ n. (n < 2 ^ 62) × AllSpell n (text ∷ values))
+abbrev pub IsNumber : List (List ℕ) → Option ℕ → Type 0
+IsNumber [] number = number ≡ None
+IsNumber (text ∷ values) number = IsSomeAnd number (λ n. (n < 2 ^ 62) × AllSpell n (text ∷ values))

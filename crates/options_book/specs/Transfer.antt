@@ -1,5 +1,5 @@
 -- The Transfer lists of an OPTIONS response (RFC 3507, section 4.10.2).
-use Rattle.std.specs.Prelude.{ℕ, Bool, List, map, codes, Option, Some, None, if◌then◌else◌, unwrap_or}
+use Rattle.std.specs.Prelude.{ℕ, Bool, List, [], ◌∷◌, ◌++◌, map, codes, Option, Some, None, if◌then◌else◌, unwrap_or}
 use Rattle.std.specs.List.{list_any}
 use Rattle.std.specs.Str.{bytes_eq}
 use Rattle.std.specs.Char.{to_ascii_lowercase}
@@ -9,19 +9,20 @@ use Rattle.options_book.specs.declared.transfer.Treat.{Treat}
 use Rattle.options_book.specs.declared.transfer.Treat.TheVariants.{Complete, Preview, Ignore}
 use Rattle.options_book.specs.declared.transfer.TransferLists.{TransferLists}
 
--- the same but for the case of ASCII letters
-abbrev pub same : List ℕ → List ℕ → Bool
-same a b = bytes_eq (map to_ascii_lowercase a) (map to_ascii_lowercase b)
+-- the test of `SameAscii`
+abbrev pub is_same_ascii : List ℕ → List ℕ → Bool
+is_same_ascii a b = bytes_eq (map to_ascii_lowercase a) (map to_ascii_lowercase b)
 
--- a comma-separated list has the item
-abbrev pub has : List ℕ → List ℕ → Bool
-has list item = list_any (λ found. same found item) (comma_items list)
+-- the item is one of these, but for the case of ASCII letters
+abbrev pub has_item : List (List ℕ) → List ℕ → Bool
+has_item items item = list_any (λ found. is_same_ascii found item) items
 
--- one of the lists has it
-abbrev pub names : List (List ℕ) → List ℕ → Bool
-names lists item = list_any (λ list. has list item) lists
+-- the items of comma-separated lists, one list behind the other
+abbrev pub items_of : List (List ℕ) → List (List ℕ)
+items_of [] = []
+items_of (list ∷ lists) = comma_items list ++ items_of lists
 
--- the values of the three fields
+-- the items of the three fields
 pub record Lists : Type 0 where
   pub complete : List (List ℕ)
   pub preview : List (List ℕ)
@@ -31,7 +32,7 @@ pub record Lists : Type 0 where
 abbrev pub bytes_of : Vec ℕ → List ℕ
 bytes_of v = v.items
 
--- the values that a record keeps
+-- the items that a record has
 abbrev pub lists_of : TransferLists → Lists
 lists_of t = record {
   complete = map bytes_of t.complete.items;
@@ -42,9 +43,9 @@ lists_of t = record {
 -- what the lists say of an item: Complete wins, then Preview, then Ignore
 abbrev pub listed : Lists → List ℕ → Option Treat
 listed lists item =
-    if names lists.complete item then Some Complete
-    else if names lists.preview item then Some Preview
-    else if names lists.ignore item then Some Ignore
+    if has_item lists.complete item then Some Complete
+    else if has_item lists.preview item then Some Preview
+    else if has_item lists.ignore item then Some Ignore
     else None
 
 -- an extension that is listed goes by its list; any other one, and a path with none, by the list of `*`; else Complete

@@ -1,5 +1,8 @@
 //! Why an OPTIONS response is no record.
 
+ghost use Rattle.std.specs.Prelude.{◌≡◌};
+ghost use Rattle.options_book.specs.Options.{fault_number};
+
 use thiserror::Error;
 
 /// Why an OPTIONS response is no record; the first in this order that stands.
@@ -24,4 +27,13 @@ pub enum OptFault {
     /// No memory was found for the record.
     #[error("out of memory")]
     NoMemory = 6,
+}
+
+impl OptFault {
+    /// The fault's number, 1 to 6.
+    pub fn number(self) -> u64
+        ensures { result ≡ fault_number self }
+    {
+        self as u64
+    }
 }

@@ -3,12 +3,12 @@
 ghost use Rattle.std.specs.Prelude.{◌≡◌, ◌<◌, ◌^◌, ◌↔◌, ℕ, List, Option, IfOk, IfErr, OnErr, IfSome, IsTrue, MatchOption};
 ghost use Rattle.icap_head.specs.Fields.{field_list};
 ghost use Rattle.icap_head.specs.Heads.{response_parts};
-ghost use Rattle.options_book.specs.Said.{Stands, HasTag, SaysNumbers, IsOptionsList, IsEncapsulated};
-ghost use Rattle.options_book.specs.Judged.{Judges, said_by};
+ghost use Rattle.options_book.specs.Options.{Stands, HasTag, AreNumbers, IsOptionsList, IsEncapsulated};
+ghost use Rattle.options_book.specs.Judged.{IsGood, judged_options};
 
 use crate::numbers::number;
 use crate::transfer::TransferLists;
-use crate::words::{copy_values, serves, unquoted};
+use crate::words::{copy_items, serves, unquoted};
 use crate::{OptFault, Record};
 use encapsulated::{Direction, Method, read};
 use icap_head::{Fields, IcapResponse, NoMemory};
@@ -33,9 +33,9 @@ pub(crate) struct Judged<'a> {
     numbers: Numbers,
 }
 
-/// Judges the response of a point's service.
+/// IsGood the response of a point's service.
 pub(crate) fn judge(response: &IcapResponse, point: Point) -> Result<Judged<'_>, OptFault>
-    ensures ok { IfOk result (λ judged. Judges point (response_parts response.now) judged.tag.now judged.numbers) }
+    ensures ok { IfOk result (λ judged. IsGood point (response_parts response.now) judged.tag.now judged.numbers) }
     ensures err { IfErr result (λ fault. Stands fault point (response_parts response.now)) }
 {
     let fields = &response.fields;
@@ -71,8 +71,8 @@ fn read_tag(fields: &Fields) -> Option<&[u8]>
 /// The three numbers.
 fn read_numbers(fields: &Fields) -> Option<Numbers>
     ensures { MatchOption result
-        ((preview connections ttl : Option ℕ) → SaysNumbers (field_list fields.now) preview connections ttl → ⊥)
-        (λ n. SaysNumbers (field_list fields.now) n.preview n.connections n.ttl) }
+        ((preview connections ttl : Option ℕ) → AreNumbers (field_list fields.now) preview connections ttl → ⊥)
+        (λ n. AreNumbers (field_list fields.now) n.preview n.connections n.ttl) }
 {
     let Ok(preview) = number(fields, b"Preview") else {
         return None;
@@ -114,14 +114,14 @@ fn is_options_list(list: &[u8]) -> bool
 
 impl Judged<'_> {
     /// The record, with copies of the tag and the lists.
-    pub(crate) fn kept(
+    pub(crate) fn record(
         self,
         alloc: Global,
         fields: &Fields,
         read_at: u64,
     ) -> Result<Record, NoMemory>
         requires { IfSome self.numbers.preview (λ n. n < 2 ^ 62) }
-        ensures { IfOk result (λ kept. kept ≡ said_by self.entry.tag.now self.entry.numbers (field_list fields.now) read_at) }
+        ensures { IfOk result (λ made. made ≡ judged_options self.entry.tag.now self.entry.numbers (field_list fields.now) read_at) }
     {
         Ok(Record {
             tag: self.tag.to_vec(alloc)?,
@@ -129,9 +129,9 @@ impl Judged<'_> {
             connections: self.numbers.connections,
             ttl: self.numbers.ttl,
             lists: TransferLists {
-                complete: copy_values(alloc, fields, b"Transfer-Complete")?,
-                preview: copy_values(alloc, fields, b"Transfer-Preview")?,
-                ignore: copy_values(alloc, fields, b"Transfer-Ignore")?,
+                complete: copy_items(alloc, fields, b"Transfer-Complete")?,
+                preview: copy_items(alloc, fields, b"Transfer-Preview")?,
+                ignore: copy_items(alloc, fields, b"Transfer-Ignore")?,
             },
             read_at,
         })

@@ -3,6 +3,7 @@
 
 mod faults;
 mod judged;
+pub mod laws;
 mod numbers;
 mod path;
 mod reading;

@@ -3,19 +3,17 @@
 ghost use Rattle.std.specs.Prelude.{◌≡◌, ◌↔◌, ◌<◌, ◌^◌, ℕ, Option, IsTrue, IfOk, OnErr, MatchOption};
 ghost use Rattle.adapt_bytes.specs.Numeral.{Writes};
 ghost use Rattle.icap_head.specs.Fields.{field_list, values_of, values_left};
-ghost use Rattle.options_book.specs.Numbers.{AllSpell, SaysNumber};
+ghost use Rattle.options_book.specs.Numbers.{AllSpell, IsNumber};
 
 use crate::OptFault;
 use adapt_bytes::read_decimal;
 use icap_head::{Fields, Values};
-
-/// The greatest number that is taken, `2^62 - 1`.
-const MAX_NUMBER: u64 = 0x3fff_ffff_ffff_ffff;
+use trace_core::MAX_COUNT;
 
 /// The number of the fields of this name; none where there is no such field.
 pub(crate) fn number(fields: &Fields, name: &[u8]) -> Result<Option<u64>, OptFault>
-    ensures ok { IfOk result (SaysNumber (values_of name.now (field_list fields.now))) }
-    ensures err { OnErr result ((number : Option ℕ) → SaysNumber (values_of name.now (field_list fields.now)) number → ⊥) }
+    ensures ok { IfOk result (IsNumber (values_of name.now (field_list fields.now))) }
+    ensures err { OnErr result ((number : Option ℕ) → IsNumber (values_of name.now (field_list fields.now)) number → ⊥) }
     ensures fault { OnErr result (result ≡ Err OptFault.Number) }
 {
     let mut values = fields.values(name);
@@ -33,7 +31,7 @@ fn read_number(text: &[u8]) -> Option<u64>
     ensures { MatchOption result ((n : ℕ) → n < 2 ^ 62 → Writes 10 text.now n → ⊥) (λ n. (n < 2 ^ 62) × Writes 10 text.now n) }
 {
     match read_decimal(text) {
-        Some(number) if number <= MAX_NUMBER => Some(number),
+        Some(number) if number <= MAX_COUNT => Some(number),
         _ => None,
     }
 }

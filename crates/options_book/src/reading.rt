@@ -2,7 +2,7 @@
 
 ghost use Rattle.std.specs.Prelude.{◌≡◌, ◌⊎◌, IfOk, IfErr};
 ghost use Rattle.icap_head.specs.Heads.{response_parts};
-ghost use Rattle.options_book.specs.Said.{Says, Said, Stands};
+ghost use Rattle.options_book.specs.Options.{Says, Options, Stands};
 
 use crate::judged::judge;
 use crate::{OptFault, Record};
@@ -24,7 +24,7 @@ pub fn read_record(
     // A fault is answered exactly where it stands; memory is wanted last, for what the response says.
     ensures fault { (fault : OptFault) → Stands fault point (response_parts response.now) → result ≡ Err fault }
     ensures only { IfErr result (λ fault. Stands fault point (response_parts response.now)
-        ⊎ ((fault ≡ OptFault.NoMemory) × ((said : Said) × Says point now (response_parts response.now) said))) }
+        ⊎ ((fault ≡ OptFault.NoMemory) × ((options : Options) × Says point now (response_parts response.now) options))) }
 {
     find_record(alloc, response, point, now)
 }
@@ -37,13 +37,13 @@ fn find_record(
 ) -> Result<Record, OptFault>
     ensures ok { IfOk result (Says point now (response_parts response.now)) }
     ensures only { IfErr result (λ fault. Stands fault point (response_parts response.now)
-        ⊎ ((fault ≡ OptFault.NoMemory) × ((said : Said) × Says point now (response_parts response.now) said))) }
+        ⊎ ((fault ≡ OptFault.NoMemory) × ((options : Options) × Says point now (response_parts response.now) options))) }
 {
     let judged = match judge(response, point) {
         Ok(judged) => judged,
         Err(fault) => return Err(fault),
     };
-    match judged.kept(alloc, &response.fields, now) {
+    match judged.record(alloc, &response.fields, now) {
         Ok(record) => Ok(record),
         Err(_) => Err(OptFault::NoMemory),
     }

@@ -1,4 +1,4 @@
-//! What is kept of an OPTIONS response.
+//! What a record holds of an OPTIONS response.
 
 use crate::Treat;
 use crate::transfer::TransferLists;
@@ -20,13 +20,13 @@ pub struct Record {
 }
 
 impl Model for Record {
-    ghost use Rattle.options_book.specs.Said.{Said};
+    ghost use Rattle.options_book.specs.Options.{Options};
 
-    ghost Value = { Said };
+    ghost Value = { Options };
 
-    ghost use Rattle.options_book.specs.Kept.{said_of};
+    ghost use Rattle.options_book.specs.Options.{options_of};
 
-    ghost view = { λ r. said_of r.tag.items r.preview r.connections r.ttl r.lists r.read_at };
+    ghost view = { λ r. options_of r.tag.items r.preview r.connections r.ttl r.lists r.read_at };
 
     ghost use Rattle.std.specs.Prelude.{IfSome, ◌<◌, ◌^◌};
 
@@ -35,7 +35,7 @@ impl Model for Record {
 
 impl Record {
     ghost use Rattle.std.specs.Prelude.{◌≡◌, ◌<◌, ◌-◌, ◌^◌, ◌↔◌, IfSome, IsTrue, option_copied};
-    ghost use Rattle.options_book.specs.Said.{IsFresh, most_connections, unquoted};
+    ghost use Rattle.options_book.specs.Options.{IsFresh, most_connections, unquoted};
     ghost use Rattle.options_book.specs.Transfer.{treat_of};
 
     /// Whether the record serves at the moment `now`, in seconds: fewer seconds than Options-TTL says have passed since

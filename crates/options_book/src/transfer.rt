@@ -1,9 +1,9 @@
 //! The Transfer lists: which messages a service wants whole, with a preview, or not at all (RFC 3507, section 4.10.2).
 
 ghost use Rattle.std.specs.Prelude.{◌≡◌, map, option_copied};
-ghost use Rattle.options_book.specs.Transfer.{bytes_of, same, has, names, listed, treat_of, lists_of};
+ghost use Rattle.options_book.specs.Transfer.{bytes_of, is_same_ascii, has_item, listed, treat_of, lists_of};
 
-use adapt_bytes::{comma_items, same_ascii};
+use adapt_bytes::same_ascii;
 
 /// How a service wants a message.
 #[derive(Clone, Copy, Debug, PartialEq, Eq)]
@@ -16,7 +16,7 @@ pub enum Treat {
     Ignore,
 }
 
-/// The values of a service's Transfer fields, in the order in which they came.
+/// The items of a service's Transfer fields, in the order in which they came.
 #[derive(Debug, Drop)]
 pub struct TransferLists {
     /// Of Transfer-Complete.
@@ -32,11 +32,11 @@ impl TransferLists {
     fn listed(&self, item: &[u8]) -> Option<Treat>
         ensures { result ≡ listed (lists_of self.now) item.now }
     {
-        if names(&self.complete, item) {
+        if has_item(&self.complete, item) {
             Some(Treat::Complete)
-        } else if names(&self.preview, item) {
+        } else if has_item(&self.preview, item) {
             Some(Treat::Preview)
-        } else if names(&self.ignore, item) {
+        } else if has_item(&self.ignore, item) {
             Some(Treat::Ignore)
         } else {
             None
@@ -58,24 +58,12 @@ impl TransferLists {
     }
 }
 
-/// Whether one of the lists has the item, ASCII case ignored.
-fn names(lists: &[Vec<u8>], item: &[u8]) -> bool
-    ensures { result ≡ names (map bytes_of lists.now) item.now }
+/// Whether the item is one of these, ASCII case ignored.
+fn has_item(items: &[Vec<u8>], item: &[u8]) -> bool
+    ensures { result ≡ has_item (map bytes_of items.now) item.now }
 {
-    for list in lists {
-        if has(list, item) {
-            return true;
-        }
-    }
-    false
-}
-
-/// Whether a comma-separated list has the item, ASCII case ignored.
-fn has(list: &[u8], item: &[u8]) -> bool
-    ensures { result ≡ has list.now item.now }
-{
-    for found in comma_items(list) {
-        if same(found, item) {
+    for found in items {
+        if is_same_ascii(found, item) {
             return true;
         }
     }
@@ -83,8 +71,8 @@ fn has(list: &[u8], item: &[u8]) -> bool
 }
 
 /// Whether the texts are the same but for the case of ASCII letters.
-fn same(a: &[u8], b: &[u8]) -> bool
-    ensures { result ≡ same a.now b.now }
+fn is_same_ascii(a: &[u8], b: &[u8]) -> bool
+    ensures { result ≡ is_same_ascii a.now b.now }
 {
     same_ascii(a, b)
 }

@@ -1,9 +1,10 @@
 //! Looking into the values of fields: tags without their quotes, methods, copies.
 
-ghost use Rattle.std.specs.Prelude.{◌≡◌, map, IfOk};
+ghost use Rattle.std.specs.Prelude.{◌≡◌, ◌++◌, map, IfOk, OnOk};
+ghost use Rattle.adapt_bytes.specs.Text.{comma_items};
 ghost use Rattle.icap_head.specs.Fields.{field_list, values_of};
-ghost use Rattle.options_book.specs.Transfer.{bytes_of};
-ghost use Rattle.options_book.specs.Said.{unquoted, lists_item, serves, method_name};
+ghost use Rattle.options_book.specs.Transfer.{bytes_of, items_of};
+ghost use Rattle.options_book.specs.Options.{unquoted, lists_item, serves, method_name};
 
 use adapt_bytes::comma_items;
 use icap_head::{Fields, NoMemory};
@@ -55,17 +56,27 @@ fn lists_item(list: &[u8], item: &[u8]) -> bool
     false
 }
 
-/// Copies of the values of all fields of this name.
-pub(crate) fn copy_values(
+/// Copies of the items that the comma-separated lists of all fields of this name have.
+pub(crate) fn copy_items(
     alloc: Global,
     fields: &Fields,
     name: &[u8],
 ) -> Result<Vec<Vec<u8>>, NoMemory>
-    ensures { IfOk result (λ copies. map bytes_of copies.items ≡ values_of name.now (field_list fields.now)) }
+    ensures { IfOk result (λ copies. map bytes_of copies.items ≡ items_of (values_of name.now (field_list fields.now))) }
 {
     let mut copies = Vec::new(alloc);
     for value in fields.values(name) {
-        copies.push(value.to_vec(alloc)?)?;
+        push_items(alloc, &mut copies, value)?;
     }
     Ok(copies)
+}
+
+/// Copies of the items of one list, behind the others.
+fn push_items(alloc: Global, copies: &mut Vec<Vec<u8>>, list: &[u8]) -> Result<(), NoMemory>
+    ensures { OnOk result (map bytes_of copies.new.items ≡ map bytes_of copies.old.items ++ comma_items list.now) }
+{
+    for item in comma_items(list) {
+        copies.push(item.to_vec(alloc)?)?;
+    }
+    Ok(())
 }

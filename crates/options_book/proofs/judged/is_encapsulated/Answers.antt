@@ -1,6 +1,6 @@
 use Rattle.std.proofs.Common.{◌≡◌, ℕ, List, [], ◌∷◌, codes, inl, inr, sym, ◌∙◌, subst, ap}
 use Rattle.icap_head.specs.Fields.{field_list, values_of}
-use Rattle.options_book.specs.Said.{IsOptionsList}
+use Rattle.options_book.specs.Options.{IsOptionsList}
 use Rattle.options_book.proofs.judged.is_encapsulated.Goals as goal
 
 pub returns-in-Some-None : goal.returns-in-Some-None

@@ -2,7 +2,7 @@ use Rattle.std.proofs.Common.{◌≡◌}
 use Rattle.std.specs.Prelude.{bytes_eq}
 use Rattle.std.specs.List.{list_any}
 use Rattle.adapt_bytes.specs.Text.{items_left}
-use Rattle.options_book.specs.Said.{lists_item}
+use Rattle.options_book.specs.Options.{lists_item}
 use Rattle.options_book.proofs.words.lists_item.Given as goal
 
 abbrev pub invariant-loop-found : goal.invariant-loop-found

@@ -1,7 +1,7 @@
 use Rattle.std.proofs.Common.{◌≡◌}
 use Rattle.std.specs.List.{list_any}
 use Rattle.icap_head.specs.Fields.{field_list, values_left}
-use Rattle.options_book.specs.Said.{serves, lists_item}
+use Rattle.options_book.specs.Options.{serves, lists_item}
 use Rattle.options_book.proofs.words.serves.Given as goal
 
 abbrev pub invariant-loop-value : goal.invariant-loop-value

@@ -10,8 +10,9 @@ use Rattle.encapsulated.specs.declared.Method.TheVariants as Methods
 use Rattle.encapsulated.specs.declared.Direction.TheVariants as Directions
 use Rattle.trace_core.specs.declared.history.Point.{Point}
 use Rattle.trace_core.specs.declared.history.Point.TheVariants.{Reqmod, Respmod}
-use Rattle.options_book.specs.Numbers.{SaysNumber}
-use Rattle.options_book.specs.Transfer.{Lists}
+use Rattle.options_book.specs.Numbers.{IsNumber}
+use Rattle.options_book.specs.Transfer.{Lists, items_of, lists_of}
+use Rattle.options_book.specs.declared.transfer.TransferLists.{TransferLists}
 use Rattle.options_book.specs.declared.faults.OptFault.{OptFault}
 use Rattle.options_book.specs.declared.faults.OptFault.TheVariants as Faults
 
@@ -45,10 +46,10 @@ pub record HasTag (fields : FieldList) (tag : List ℕ) : Type 0 where
   pub fits : length tag ≤ 256
 
 -- the three numbers, in this order: the preview's size, the most connections, and the seconds that the response stays fresh
-pub record SaysNumbers (fields : FieldList) (preview connections ttl : Option ℕ) : Type 0 where
-  pub preview_is : SaysNumber (values_of (codes "Preview") fields) preview
-  pub connections_is : SaysNumber (values_of (codes "Max-Connections") fields) connections
-  pub ttl_is : SaysNumber (values_of (codes "Options-TTL") fields) ttl
+pub record AreNumbers (fields : FieldList) (preview connections ttl : Option ℕ) : Type 0 where
+  pub preview_is : IsNumber (values_of (codes "Preview") fields) preview
+  pub connections_is : IsNumber (values_of (codes "Max-Connections") fields) connections
+  pub ttl_is : IsNumber (values_of (codes "Options-TTL") fields) ttl
   pub not_none : connections ≢ Some 0
 
 -- an OPTIONS response may have this Encapsulated list
@@ -61,16 +62,16 @@ IsEncapsulated fields =
     (values_of (codes "Encapsulated") fields ≡ [])
     ⊎ ((text : List ℕ) × (values_of (codes "Encapsulated") fields ≡ text ∷ []) × IsOptionsList text)
 
--- the values of the Transfer fields
+-- the items of the Transfer fields
 abbrev pub transfer_lists : FieldList → Lists
 transfer_lists fields = record {
-  complete = values_of (codes "Transfer-Complete") fields;
-  preview = values_of (codes "Transfer-Preview") fields;
-  ignore = values_of (codes "Transfer-Ignore") fields;
+  complete = items_of (values_of (codes "Transfer-Complete") fields);
+  preview = items_of (values_of (codes "Transfer-Preview") fields);
+  ignore = items_of (values_of (codes "Transfer-Ignore") fields);
 }
 
--- what is kept of a response: its tag, its numbers, its lists, and the moment of its reading, in seconds
-pub record Said : Type 0 where
+-- what a record holds of a response: its tag, its numbers, its lists, and the moment of its reading, in seconds
+pub record Options : Type 0 where
   pub tag : List ℕ
   pub preview : Option ℕ
   pub connections : Option ℕ
@@ -78,15 +79,35 @@ pub record Said : Type 0 where
   pub lists : Lists
   pub read_at : ℕ
 
+-- the same from the fields of a record
+abbrev pub options_of : List ℕ → Option ℕ → Option ℕ → Option ℕ → TransferLists → ℕ → Options
+options_of tag preview connections ttl lists read_at = record {
+  tag = tag;
+  preview = preview;
+  connections = connections;
+  ttl = ttl;
+  lists = lists_of lists;
+  read_at = read_at;
+}
+
 -- the response says this of a point's service, read at this moment
-pub record Says (point : Point) (moment : ℕ) (response : Response) (said : Said) : Type 0 where
+pub record Says (point : Point) (moment : ℕ) (response : Response) (options : Options) : Type 0 where
   pub success : response.status ≡ 200
   pub method : serves point response.fields ≡ true
-  pub tag : HasTag response.fields said.tag
-  pub numbers : SaysNumbers response.fields said.preview said.connections said.ttl
+  pub tag : HasTag response.fields options.tag
+  pub numbers : AreNumbers response.fields options.preview options.connections options.ttl
   pub encapsulated : IsEncapsulated response.fields
-  pub lists : said.lists ≡ transfer_lists response.fields
-  pub read_at : said.read_at ≡ moment
+  pub lists : options.lists ≡ transfer_lists response.fields
+  pub read_at : options.read_at ≡ moment
+
+-- the faults by their numbers
+abbrev pub fault_number : OptFault → ℕ
+fault_number Faults.Status = 1
+fault_number Faults.NoMethods = 2
+fault_number Faults.NoTag = 3
+fault_number Faults.Number = 4
+fault_number Faults.Encapsulated = 5
+fault_number Faults.NoMemory = 6
 
 -- where each fault stands: no earlier one does
 abbrev pub Stands : OptFault → Point → Response → Type 0
@@ -99,19 +120,19 @@ Stands Faults.NoTag point response =
 Stands Faults.Number point response =
     (response.status ≡ 200) × (serves point response.fields ≡ true)
     × ((tag : List ℕ) × HasTag response.fields tag)
-    × ((preview connections ttl : Option ℕ) → ¬ (SaysNumbers response.fields preview connections ttl))
+    × ((preview connections ttl : Option ℕ) → ¬ (AreNumbers response.fields preview connections ttl))
 Stands Faults.Encapsulated point response =
     (response.status ≡ 200) × (serves point response.fields ≡ true)
     × ((tag : List ℕ) × HasTag response.fields tag)
-    × ((preview : Option ℕ) × (connections : Option ℕ) × (ttl : Option ℕ) × SaysNumbers response.fields preview connections ttl)
+    × ((preview : Option ℕ) × (connections : Option ℕ) × (ttl : Option ℕ) × AreNumbers response.fields preview connections ttl)
     × ¬ (IsEncapsulated response.fields)
 Stands Faults.NoMemory point response = ⊥
 
 -- the record serves at this moment: fewer seconds than its time to live have passed, and no later answer had another tag
-pub record IsFresh (said : Said) (moment : ℕ) (last : Option (List ℕ)) : Type 0 where
-  pub in_time : IfSome said.ttl (λ ttl. moment - said.read_at < ttl)
-  pub same_tag : IfSome last (λ tag. unquoted tag ≡ said.tag)
+pub record IsFresh (options : Options) (moment : ℕ) (last : Option (List ℕ)) : Type 0 where
+  pub in_time : IfSome options.ttl (λ ttl. moment - options.read_at < ttl)
+  pub same_tag : IfSome last (λ tag. unquoted tag ≡ options.tag)
 
 -- how many connections may be open: Max-Connections, and at most 1,024
-abbrev pub most_connections : Said → Option ℕ
-most_connections said = option_map (min 1024) said.connections
+abbrev pub most_connections : Options → Option ℕ
+most_connections options = option_map (min 1024) options.connections
