@@ -13,6 +13,7 @@ use Rattle.trace_core.specs.declared.history.Point.TheVariants.{Reqmod, Respmod}
 use Rattle.options_book.specs.Numbers.{IsNumber}
 use Rattle.options_book.specs.Transfer.{Lists, items_of, lists_of}
 use Rattle.options_book.specs.declared.transfer.TransferLists.{TransferLists}
+use Rattle.options_book.specs.declared.record.TheConstants.{MAX_CONNECTIONS}
 use Rattle.options_book.specs.declared.faults.OptFault.{OptFault}
 use Rattle.options_book.specs.declared.faults.OptFault.TheVariants as Faults
 
@@ -133,6 +134,6 @@ pub record IsFresh (options : Options) (moment : ℕ) (last : Option (List ℕ))
   pub in_time : IfSome options.ttl (λ ttl. moment - options.read_at < ttl)
   pub same_tag : IfSome last (λ tag. unquoted tag ≡ options.tag)
 
--- how many connections may be open: Max-Connections, and at most 1,024
+-- how many connections may be open: Max-Connections, up to the most
 abbrev pub most_connections : Options → Option ℕ
-most_connections options = option_map (min 1024) options.connections
+most_connections options = option_map (min MAX_CONNECTIONS) options.connections

@@ -6,7 +6,7 @@ use crate::words::unquoted;
 use std::marker::Model;
 
 /// The most connections that are ever open to one service.
-const MOST_CONNECTIONS: u64 = 1024;
+pub const MAX_CONNECTIONS: u64 = 1024;
 
 /// What a service's OPTIONS response says, and when it was read (RFC 3507, section 4.10.2).
 #[derive(Debug, Drop)]
@@ -88,7 +88,7 @@ impl Record {
         ensures { result ≡ most_connections self.now }
     {
         match self.connections {
-            Some(connections) => Some(connections.min(MOST_CONNECTIONS)),
+            Some(connections) => Some(connections.min(MAX_CONNECTIONS)),
             None => None,
         }
     }

@@ -1,3 +1,4 @@
+use crate::laws::{has_a_reading, reads_one_way};
 use crate::{OptFault, Record, Treat, extension, read_record};
 use adapt_bytes::trim;
 use icap_head::{Field, Fields, IcapResponse, NoMemory};
@@ -53,6 +54,15 @@ fn a_good_answer_is_a_record(rt: HostRuntime) {
     assert_eq!(rt; record.preview(), Some(4096));
     assert_eq!(rt; record.max(), Some(16));
     assert!(rt; record.is_fresh(1000, None));
+}
+
+#[test]
+fn faults_have_numbers_and_responses_a_reading(rt: HostRuntime) {
+    assert_eq!(rt; OptFault::Status.number(), 1);
+    assert_eq!(rt; OptFault::NoMemory.number(), 6);
+    let good = answer(rt.alloc(), 200, GOOD).expect(&rt, "memory");
+    reads_one_way();
+    has_a_reading(&good, Point::Respmod);
 }
 
 #[test]
