@@ -1,0 +1,10 @@
+//! Text that goes out by turns: a head, then a body as it is or in chunks, with at most one write a turn.
+#![tactic(auto)]
+
+mod draft;
+mod head;
+mod next;
+mod writer;
+
+pub use next::{Ending, MAX_CHUNK, Next};
+pub use writer::{ChunkWriter, Wrote};

@@ -1,0 +1,429 @@
+//! The text of one message: what is fixed of it and not yet out.
+
+ghost use Rattle.std.specs.Prelude.{◌≡◌, ℕ, ◌+◌, ◌-◌, ◌<◌, ◌≤◌, ◌++◌, List, [], length, drop, take, true, false, min, None, Some};
+ghost use Rattle.span_tape.specs.Tape.{Tape};
+ghost use Rattle.wire_kit.specs.Past.{Offers, delta_of, part_taken};
+ghost use Rattle.chunk_writer.specs.Writer.{Writer, IsIdle, fresh, waiting, begun, fixed, sent_on, after_data, bytes_of, end_text, is_ending, data_text, chunk_text, next_text, offered, MayGoOn};
+ghost use Rattle.chunk_writer.specs.Moves.{Moves, Passes, IsStill};
+
+use crate::draft::Draft;
+use crate::head::HeadText;
+use crate::next::{Ending, MAX_CHUNK, Next};
+use adapt_bytes::Small;
+use icap_chunks::{put_chunk_head, put_chunk_tail, put_last};
+use span_tape::SpanTape;
+use std::marker::Model;
+use wire_kit::{Put, Wire};
+
+/// A longer head goes out alone, so that a turn's text has room for the rest.
+const LONG_HEAD: usize = 3900;
+
+/// What a turn wrote.
+#[derive(Clone, Copy, Debug, PartialEq, Eq)]
+pub struct Wrote {
+    /// What the wire answered, or `None` where nothing was to be offered.
+    pub answer: Option<Put>,
+    /// So many body bytes were taken.
+    pub sent: u64,
+    /// The body's end is fixed.
+    pub ended: bool,
+}
+
+/// The text of one message. It keeps no body byte: these stay on their tape until the wire took them.
+#[derive(Drop)]
+pub struct ChunkWriter {
+    head: HeadText,
+    head_out: usize,
+    framing: Small,
+    framing_out: usize,
+    left: u64,
+}
+
+impl Model for ChunkWriter {
+    ghost use Rattle.std.specs.Prelude.{◌≤◌, length};
+    ghost use Rattle.chunk_writer.specs.Writer.{Writer, text_of};
+
+    ghost Value = { Writer };
+
+    ghost view = { λ w. record { head = text_of w.head; head_out = w.head_out; framing = w.framing.items; framing_out = w.framing_out; left = w.left } };
+
+    ghost invariant = { λ w. (w.head_out ≤ length (text_of w.head)) × (w.framing_out ≤ length w.framing.items) };
+}
+
+impl ChunkWriter {
+    /// A message with this text before its body.
+    pub fn new(head: Vec<u8>) -> ChunkWriter
+        ensures { result ≡ fresh head.items }
+    {
+        ChunkWriter {
+            head: HeadText::Owned(head),
+            head_out: 0,
+            framing: Small::new(),
+            framing_out: 0,
+            left: 0,
+        }
+    }
+
+    /// A message with this constant text before its body. It takes no memory.
+    pub fn constant(head: &'static [u8]) -> ChunkWriter
+        ensures { result ≡ fresh head.now }
+    {
+        ChunkWriter {
+            head: HeadText::Constant(head),
+            head_out: 0,
+            framing: Small::new(),
+            framing_out: 0,
+            left: 0,
+        }
+    }
+
+    /// Gives back the head's memory, once all of it is out.
+    pub fn release(&mut self)
+        ensures waiting { waiting self.new ≡ waiting self.old }
+        ensures left { self.new.left ≡ self.old.left }
+        ensures released { self.old.head_out ≡ length self.old.head → self.new.head ≡ [] }
+    {
+        if self.head_out == self.head.as_slice().len() {
+            self.head = HeadText::Constant(b"");
+            self.head_out = 0;
+        }
+    }
+
+    /// Begins the same text anew. It takes no memory.
+    pub fn again(&mut self)
+        ensures { self.new ≡ fresh self.old.head }
+    {
+        self.head_out = 0;
+        self.framing = Small::new();
+        self.framing_out = 0;
+        self.left = 0;
+    }
+
+    /// The bytes that the chunk that was begun waits for; 0 where none is begun.
+    pub fn left(&self) -> u64
+        ensures { result ≡ self.now.left }
+    {
+        self.left
+    }
+
+    /// How many body bytes may go next, of at most so many: no more than fit into a turn, and into the chunk that was begun.
+    pub fn fit(&self, chunked: bool, most: u64) -> u64
+        ensures few { result ≤ 4096 }
+        ensures most { result ≤ most }
+        ensures within { chunked ≡ true → 0 < self.now.left → result ≤ self.now.left }
+        ensures some { 0 < most → 0 < result }
+    {
+        let few = most.min(MAX_CHUNK);
+        if chunked && self.left > 0 {
+            few.min(self.left)
+        } else {
+            few
+        }
+    }
+
+    /// Whether all that is fixed is out.
+    #[tactic(auto, using(crate::proofs::Texts::none_waits, crate::proofs::Texts::length_waiting))]
+    pub fn is_out(&self) -> bool
+        ensures out { result ≡ true → waiting self.now ≡ [] }
+        ensures waits { result ≡ false → 0 < length (waiting self.now) }
+    {
+        self.head_out >= self.head.as_slice().len()
+            && self.framing_out >= self.framing.as_slice().len()
+    }
+
+    /// Counts bytes of what waits that went out, and answers how many more went out.
+    #[tactic(auto, using(crate::proofs::Texts::passed, crate::proofs::Texts::length_waiting))]
+    fn pass(&mut self, count: usize) -> usize
+        ensures rest { waiting self.new ≡ drop count (waiting self.old) }
+        ensures more { result ≡ count - length (waiting self.old) }
+        ensures head { self.new.head ≡ self.old.head }
+        ensures framing { self.new.framing ≡ self.old.framing }
+        ensures left { self.new.left ≡ self.old.left }
+    {
+        let of_head = count.min(self.head.as_slice().len() - self.head_out);
+        let of_framing = (count - of_head).min(self.framing.as_slice().len() - self.framing_out);
+        self.head_out += of_head;
+        self.framing_out += of_framing;
+        count - of_head - of_framing
+    }
+
+    /// Fixes the size line of a chunk.
+    fn begin_chunk(&mut self, n: u64)
+        requires some { 0 < n }
+        requires fits { n < 4611686018427387904 }
+        ensures { self.new ≡ begun self.old n }
+    {
+        let mut framing = Small::new();
+        put_chunk_head(n, &mut framing);
+        self.framing = framing;
+        self.framing_out = 0;
+        self.left = n;
+    }
+
+    /// Fixes the text of the body's end.
+    fn fix_end(&mut self, end: Ending)
+        ensures { self.new ≡ fixed self.old (end_text end) }
+    {
+        let mut framing = Small::new();
+        if let Ending::LastChunk(ieof) = end {
+            put_last(ieof, &mut framing);
+        }
+        self.framing = framing;
+        self.framing_out = 0;
+    }
+
+    /// Counts bytes of the chunk that went out, and fixes the chunk's end behind its last one.
+    fn count_out(&mut self, n: u64)
+        requires { n ≤ self.old.left }
+        ensures { self.new ≡ sent_on self.old n }
+    {
+        if n >= self.left {
+            let mut framing = Small::new();
+            put_chunk_tail(&mut framing);
+            self.framing = framing;
+            self.framing_out = 0;
+        }
+        self.left -= n;
+    }
+
+    /// Counts body bytes that went out.
+    fn count_data(&mut self, chunked: bool, n: u64)
+        requires { chunked ≡ true → n ≤ self.old.left }
+        ensures { self.new ≡ after_data chunked self.old n }
+    {
+        if chunked {
+            self.count_out(n);
+        }
+    }
+
+    /// Whether a chunk is begun and waits for more bytes.
+    fn is_in_chunk(&self, chunked: bool) -> bool
+        ensures open { result ≡ true → (chunked ≡ true) × (0 < self.now.left) }
+        ensures closed { result ≡ false → chunked ≡ true → self.now.left ≡ 0 }
+    {
+        chunked && self.left > 0
+    }
+
+    /// The body's end, of which so many bytes went out.
+    fn finish(&mut self, count: usize, next: &Next) -> bool
+        requires { waiting self.old ≡ [] }
+        ensures moves { (tape : Tape) (old : Writer) (d : List ℕ) → Moves tape next.now old next.now.count false d self.old
+            → Moves tape next.now old next.now.count result (d ++ take count (end_text next.now.end)) self.new }
+        ensures ended { result ≡ is_ending next.now.end }
+        ensures out { end_text next.now.end ≡ [] → waiting self.new ≡ [] }
+    {
+        if !next.end.ends() {
+            return false;
+        }
+        self.fix_end(next.end);
+        let _ = self.pass(count);
+        true
+    }
+
+    /// The body bytes and what stands behind them, of which so many bytes went out.
+    fn took_data(&mut self, count: usize, next: &Next) -> (u64, bool)
+        requires out { waiting self.old ≡ [] }
+        requires some { 0 < count }
+        requires more { 0 < next.now.count }
+        requires within { next.now.chunked ≡ true → next.now.count ≤ self.old.left }
+        ensures { (tape : Tape) (old : Writer) (d : List ℕ) → length (bytes_of tape next.now) ≡ next.now.count
+            → Moves tape next.now old 0 false d self.old
+            → Moves tape next.now old result.0 result.1 (d ++ take count (data_text self.old.left tape next.now)) self.new }
+    {
+        let sent = (count as u64).min(next.count);
+        self.count_data(next.chunked, sent);
+        if sent < next.count {
+            return (sent, false);
+        }
+        if self.is_in_chunk(next.chunked) {
+            return (sent, false);
+        }
+        let rest = self.pass(count - sent as usize);
+        if !self.is_out() {
+            return (sent, false);
+        }
+        (sent, self.finish(rest, next))
+    }
+
+    /// A chunk with what stands behind it, of which so many bytes went out.
+    fn took_chunk(&mut self, count: usize, next: &Next) -> (u64, bool)
+        requires out { waiting self.old ≡ [] }
+        requires none { self.old.left ≡ 0 }
+        requires chunked { next.now.chunked ≡ true }
+        requires more { 0 < next.now.count }
+        requires few { next.now.count ≤ 4096 }
+        ensures { (tape : Tape) (old : Writer) (d : List ℕ) → length (bytes_of tape next.now) ≡ next.now.count
+            → Moves tape next.now old 0 false d self.old
+            → Moves tape next.now old result.0 result.1 (d ++ take count (chunk_text tape next.now)) self.new }
+    {
+        self.begin_chunk(next.count);
+        let rest = self.pass(count);
+        if rest == 0 {
+            return (0, false);
+        }
+        if !self.is_out() {
+            return (0, false);
+        }
+        self.took_data(rest, next)
+    }
+
+    /// What comes next, of which so many bytes went out.
+    fn took_next(&mut self, count: usize, next: &Next) -> (u64, bool)
+        requires out { waiting self.old ≡ [] }
+        requires few { next.now.count ≤ 4096 }
+        requires within { next.now.chunked ≡ true → 0 < self.old.left → next.now.count ≤ self.old.left }
+        ensures moves { (tape : Tape) (old : Writer) (d : List ℕ) → length (bytes_of tape next.now) ≡ next.now.count
+            → Moves tape next.now old 0 false d self.old
+            → Moves tape next.now old result.0 result.1 (d ++ take count (next_text self.old.left tape next.now)) self.new }
+        ensures ended { next.now.count ≡ 0 → result.1 ≡ is_ending next.now.end }
+    {
+        if next.count == 0 {
+            return (0, self.finish(count, next));
+        }
+        if count == 0 {
+            return (0, false);
+        }
+        if next.chunked && self.left == 0 {
+            self.took_chunk(count, next)
+        } else {
+            self.took_data(count, next)
+        }
+    }
+
+    /// What waits and what comes next, of which so many bytes went out.
+    fn took(&mut self, count: usize, next: &Next) -> (u64, bool)
+        requires few { next.now.count ≤ 4096 }
+        requires within { next.now.chunked ≡ true → 0 < self.old.left → next.now.count ≤ self.old.left }
+        ensures { (tape : Tape) → length (bytes_of tape next.now) ≡ next.now.count
+            → Moves tape next.now self.old result.0 result.1 (take count (waiting self.old ++ next_text self.old.left tape next.now)) self.new }
+    {
+        let rest = self.pass(count);
+        if !self.is_out() {
+            return (0, false);
+        }
+        self.took_next(rest, next)
+    }
+
+    /// Composes what waits.
+    fn put_waiting(&self, draft: &mut Draft)
+        requires fits { length self.now.head - self.now.head_out ≤ 3900 }
+        requires empty { draft.old ≡ [] }
+        ensures text { draft.new ≡ waiting self.now }
+        ensures short { length draft.new ≤ 3964 }
+    {
+        draft.put(&self.head.as_slice()[self.head_out..]);
+        draft.put(&self.framing.as_slice()[self.framing_out..]);
+    }
+
+    /// Composes the body bytes and what stands behind them.
+    fn put_data(&self, left: u64, next: &Next, tape: &SpanTape, draft: &mut Draft)
+        requires next { MayGoOn self.now tape.now next.now }
+        requires more { 0 < next.now.count }
+        requires room { length draft.old ≤ 4028 }
+        ensures { draft.new ≡ draft.old ++ data_text left tape.now next.now }
+    {
+        draft.put_places(tape, next.from, next.count as usize);
+        if !next.chunked {
+            draft.put_ending(next.end);
+        } else if next.count == left {
+            draft.put_tail();
+            draft.put_ending(next.end);
+        }
+    }
+
+    /// Composes what comes next.
+    fn put_next(&self, next: &Next, tape: &SpanTape, draft: &mut Draft)
+        requires next { MayGoOn self.now tape.now next.now }
+        requires room { length draft.old ≤ 3964 }
+        ensures { draft.new ≡ draft.old ++ next_text self.now.left tape.now next.now }
+    {
+        if next.count == 0 {
+            draft.put_ending(next.end);
+        } else if next.chunked && self.left == 0 {
+            draft.put_size_line(next.count);
+            self.put_data(next.count, next, tape, draft);
+        } else {
+            self.put_data(self.left, next, tape, draft);
+        }
+    }
+
+    /// Offers a long head.
+    fn write_head<W: Wire>(&mut self, wire: &mut W) -> Put
+        requires { 3900 < length self.old.head - self.old.head_out }
+        ensures wire { Offers (W.past wire.old) (W.past wire.new) (drop self.old.head_out self.old.head) (Some result) }
+        ensures passes { Passes self.old (part_taken result (drop self.old.head_out self.old.head)) self.new }
+    {
+        let answer = wire.try_write(&self.head.as_slice()[self.head_out..]);
+        if let Put::Took(count) = answer {
+            self.head_out += count;
+        }
+        answer
+    }
+
+    /// Offers what waits and what comes next, in one write.
+    fn write_all<W: Wire>(&mut self, next: &Next, tape: &SpanTape, wire: &mut W) -> Wrote
+        requires fits { length self.old.head - self.old.head_out ≤ 3900 }
+        requires next { MayGoOn self.old tape.now next.now }
+        ensures wire { Offers (W.past wire.old) (W.past wire.new) (waiting self.old ++ next_text self.old.left tape.now next.now) result.answer }
+        ensures moves { Moves tape.now next.now self.old result.sent result.ended
+            (delta_of (waiting self.old ++ next_text self.old.left tape.now next.now) result.answer) self.new }
+        ensures idle { result.answer ≡ None → IsIdle self.old next.now result.sent result.ended }
+        ensures out { result.answer ≡ None → waiting self.new ≡ [] }
+        ensures still { IsStill result.answer result.sent result.ended }
+    {
+        let mut draft = Draft::new();
+        self.put_waiting(&mut draft);
+        self.put_next(next, tape, &mut draft);
+        if draft.is_empty() {
+            return Wrote {
+                answer: None,
+                sent: 0,
+                ended: self.finish(0, next),
+            };
+        }
+        match wire.try_write(draft.text()) {
+            Put::Took(count) => {
+                let (sent, ended) = self.took(count, next);
+                Wrote {
+                    answer: Some(Put::Took(count)),
+                    sent,
+                    ended,
+                }
+            }
+            Put::Wait => Wrote {
+                answer: Some(Put::Wait),
+                sent: 0,
+                ended: false,
+            },
+            Put::Fault => Wrote {
+                answer: Some(Put::Fault),
+                sent: 0,
+                ended: false,
+            },
+        }
+    }
+
+    /// Writes what is due, with one write at most: what waits, then the bytes that may come next, and behind them the
+    /// body's end. Counts what the wire took of it.
+    #[tactic(auto, using(crate::proofs::Moving::still_none))]
+    pub fn write<W: Wire>(&mut self, next: &Next, tape: &SpanTape, wire: &mut W) -> Wrote
+        requires { MayGoOn self.old tape.now next.now }
+        ensures wire { Offers (W.past wire.old) (W.past wire.new) (offered self.old tape.now next.now) result.answer }
+        ensures moves { Moves tape.now next.now self.old result.sent result.ended
+            (delta_of (offered self.old tape.now next.now) result.answer) self.new }
+
+        // Nothing is offered only where nothing waits and nothing comes next; then an end without a text is fixed.
+        ensures idle { result.answer ≡ None → IsIdle self.old next.now result.sent result.ended }
+        ensures out { result.answer ≡ None → waiting self.new ≡ [] }
+        ensures still { IsStill result.answer result.sent result.ended }
+    {
+        if self.head.as_slice().len() - self.head_out > LONG_HEAD {
+            return Wrote {
+                answer: Some(self.write_head(wire)),
+                sent: 0,
+                ended: false,
+            };
+        }
+        self.write_all(next, tape, wire)
+    }
+}
