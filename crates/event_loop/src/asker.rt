@@ -1,0 +1,89 @@
+//! A connection of the administrator.
+
+use crate::admin_lines::{MAX_ADMIN_LINE, Request, read_request};
+use std::alloc::{AllocError, Global};
+use wire_kit::{Got, Put, Wire};
+
+/// What the administrator's connection said.
+#[derive(Clone, Copy, Debug, PartialEq, Eq)]
+pub enum Heard {
+    /// A line.
+    Asked(Request),
+    /// A line that is too long: it is bad, and ends the connection.
+    TooLong,
+    /// No whole line yet.
+    Waiting,
+    /// The connection has ended or failed.
+    Over,
+}
+
+/// A connection of the administrator, which may carry many lines.
+#[derive(Drop)]
+pub struct Asker<W: Drop> {
+    wire: W,
+    text: Vec<u8>,
+    out: Vec<u8>,
+}
+
+impl<W: Wire + Drop> Asker<W> {
+    /// A connection of which nothing was read.
+    pub fn new(alloc: Global, wire: W) -> Asker<W> {
+        Asker {
+            wire,
+            text: Vec::new(alloc),
+            out: Vec::new(alloc),
+        }
+    }
+
+    /// The line that is there, if one is whole; it is taken off.
+    fn next_line(&mut self) -> Option<Heard> {
+        let text = self.text.as_slice();
+        match text.iter().position(|byte| *byte == b'\n') {
+            Some(end) if end <= MAX_ADMIN_LINE => {
+                let request = read_request(&text[..end]);
+                self.text.drain(..end + 1);
+                Some(Heard::Asked(request))
+            }
+            Some(_) => Some(Heard::TooLong),
+            None if text.len() > MAX_ADMIN_LINE => Some(Heard::TooLong),
+            None => None,
+        }
+    }
+
+    /// Reads up to the next line. `Err` where no memory was found for it.
+    pub fn hear(&mut self) -> Result<Heard, AllocError> {
+        for _ in 0..MAX_ADMIN_LINE + 2 {
+            if let Some(heard) = self.next_line() {
+                return Ok(heard);
+            }
+            let mut piece = [0u8; MAX_ADMIN_LINE];
+            match self.wire.try_read(&mut piece) {
+                Got::Bytes(count) => self.text.extend_from_slice(&piece[..count])?,
+                Got::Wait => return Ok(Heard::Waiting),
+                Got::Ended | Got::Fault => return Ok(Heard::Over),
+            }
+        }
+        Ok(Heard::TooLong)
+    }
+
+    /// Says an answer, behind those that wait. False where the connection has failed. `Err` where no memory was found.
+    pub fn say(&mut self, answer: &[u8]) -> Result<bool, AllocError> {
+        self.out.extend_from_slice(answer)?;
+        Ok(self.flush())
+    }
+
+    /// Writes what waits. False where the connection has failed.
+    pub fn flush(&mut self) -> bool {
+        if self.out.is_empty() {
+            return true;
+        }
+        match self.wire.try_write(self.out.as_slice()) {
+            Put::Took(count) => {
+                self.out.drain(..count);
+                true
+            }
+            Put::Wait => true,
+            Put::Fault => false,
+        }
+    }
+}

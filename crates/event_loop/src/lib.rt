@@ -1,0 +1,30 @@
+//! An event loop a thread: readiness by `mio`, connections handed from thread to thread, and the admin port.
+//!
+//! A loop polls its sockets, drives what each event names, and waits again. What it drives is [`Work`], of which it knows
+//! no more than that: exchanges found by a key.
+#![tactic(auto)]
+
+mod admin_lines;
+mod asker;
+mod askers;
+mod closing;
+mod inbox;
+mod listening;
+mod looping;
+mod ready_list;
+mod slots;
+#[cfg(test)]
+mod tests;
+mod threads;
+mod work;
+
+pub use admin_lines::{MAX_ADMIN_LINE, Request, read_request};
+pub use asker::{Asker, Heard};
+pub use closing::{Closing, close_turn};
+pub use inbox::{Handed, Inbox};
+pub use listening::{Accepted, Listening};
+pub use looping::{EventLoop, Ports};
+pub use ready_list::ReadyList;
+pub use slots::Slots;
+pub use threads::{Base, add_loop, run_loops};
+pub use work::{Driven, Told, Work};

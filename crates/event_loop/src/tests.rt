@@ -1,0 +1,76 @@
+use crate::{Asker, Heard, Request, read_request};
+use std::test::Fail;
+use wire_kit::{MemoryWire, ReadAnswer, WriteAnswer};
+
+#[test]
+fn lines_ask(rt: HostRuntime) {
+    let cases = [
+        (b"book".as_slice(), Request::Book),
+        (b"stop".as_slice(), Request::Stop),
+        (b"capacity 1".as_slice(), Request::Capacity(1)),
+        (b"capacity 0004096".as_slice(), Request::Capacity(4096)),
+        (
+            b"capacity 1099511627776".as_slice(),
+            Request::Capacity(1099511627776),
+        ),
+        (b"capacity 1099511627777".as_slice(), Request::Bad),
+        (b"capacity 0".as_slice(), Request::Bad),
+        (b"capacity".as_slice(), Request::Bad),
+        (b"capacity -1".as_slice(), Request::Bad),
+        (b"book ".as_slice(), Request::Bad),
+        (b"Book".as_slice(), Request::Bad),
+        (b"book\r".as_slice(), Request::Bad),
+        (b"".as_slice(), Request::Bad),
+    ];
+    for (line, want) in &cases {
+        assert_eq!(rt; read_request(*line), *want);
+    }
+}
+
+#[test]
+fn one_connection_carries_many_lines(rt: HostRuntime) -> Result<(), Fail> {
+    let alloc = rt.alloc();
+    let input = b"book\ncapacity 5\nx\nsto".to_vec(alloc)?;
+    let reads = vec![in alloc;
+        ReadAnswer::Bytes(3),
+        ReadAnswer::Bytes(99),
+        ReadAnswer::Wait,
+        ReadAnswer::Ended,
+    ]?;
+    let writes = vec![in alloc;
+        WriteAnswer::Took(1),
+        WriteAnswer::Wait,
+        WriteAnswer::Took(9),
+    ]?;
+    let mut asker = Asker::new(alloc, MemoryWire::new(alloc, input, reads, writes)?);
+    let wants = [
+        Heard::Asked(Request::Book),
+        Heard::Asked(Request::Capacity(5)),
+        Heard::Asked(Request::Bad),
+        Heard::Waiting,
+        Heard::Over,
+    ];
+    for want in wants {
+        assert_eq!(rt; asker.hear()?, want);
+    }
+    assert!(rt; asker.say(b"ok\n")?);
+    assert!(rt; asker.flush());
+    assert!(rt; asker.flush());
+    Ok(())
+}
+
+#[test]
+fn a_long_line_is_bad(rt: HostRuntime) -> Result<(), Fail> {
+    let alloc = rt.alloc();
+    let mut input = Vec::from_elem(alloc, b'x', 257)?;
+    input.push(b'\n')?;
+    let reads = vec![in alloc; ReadAnswer::Bytes(256), ReadAnswer::Bytes(99)]?;
+    let mut asker = Asker::new(
+        alloc,
+        MemoryWire::new(alloc, input, reads, Vec::new(alloc))?,
+    );
+    assert_eq!(rt; asker.hear()?, Heard::TooLong);
+    Ok(())
+}
+
+mod loops;

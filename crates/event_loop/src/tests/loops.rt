@@ -1,0 +1,193 @@
+//! Loops in threads, over loopback: they echo.
+
+use crate::{Driven, EventLoop, Inbox, Request, Told, Work, add_loop, run_loops};
+use mio::net::{TcpListener, TcpStream};
+use mio::{Registry, Token};
+use slab::Slab;
+use socket_wire::{Dial, MAX_KEY, Readiness, Side, SocketWire, token_of};
+use std::alloc::{AllocError, Global};
+use std::io::{self, Read, Write};
+use std::net::{Ipv4Addr, SocketAddr, TcpStream as Client};
+use std::sync::{Arc, Wait};
+use std::test::Fail;
+use std::thread;
+use std::time::Clock;
+use wire_kit::{Got, Wire};
+
+/// A connection that echoes, and what its poll has told of it.
+#[derive(Drop)]
+struct Conn {
+    ready: Arc<Readiness>,
+    wire: SocketWire,
+}
+
+/// Connections that echo.
+#[derive(Drop)]
+struct Echo {
+    alloc: Global,
+    all: Slab<Conn>,
+}
+
+fn take_in(echo: &mut Echo, registry: &Registry, stream: TcpStream) -> Result<usize, AllocError> {
+    let ready = Arc::new(echo.alloc, Readiness::new())?;
+    let mut wire = SocketWire::new(stream, ready.clone()?);
+    echo.all.reserve(1)?;
+    let key = echo.all.vacant_key();
+    if key > MAX_KEY
+        || wire
+            .register(registry, Token(token_of(key, Side::User)))
+            .is_err()
+    {
+        return Err(AllocError);
+    }
+    let _ = echo.all.insert_reserved(Conn { ready, wire });
+    Ok(key)
+}
+
+fn echo_once(wire: &mut SocketWire) -> Got {
+    let mut piece = [0u8; 64];
+    let got = wire.try_read(&mut piece);
+    if let Got::Bytes(count) = got {
+        let _ = wire.try_write(&piece[..count]);
+    }
+    got
+}
+
+impl Work for Echo {
+    fn admit<R: Wait + Dial + Clock>(
+        &mut self,
+        _rt: &R,
+        registry: &Registry,
+        stream: TcpStream,
+        _number: u64,
+        _now: u64,
+    ) -> Option<usize> {
+        take_in(self, registry, stream).ok()
+    }
+
+    fn note(&mut self, key: usize, _side: Side, told: Told) {
+        if let Some(conn) = self.all.get_mut(key) {
+            conn.ready.note(told.readable, told.writable, told.closed);
+        }
+    }
+
+    fn drive<R: Wait + Dial + Clock>(
+        &mut self,
+        _rt: &R,
+        _registry: &Registry,
+        key: usize,
+        _now: u64,
+    ) -> Driven {
+        for _ in 0..2 {
+            let got = match self.all.get_mut(key) {
+                Some(conn) => echo_once(&mut conn.wire),
+                None => return Driven::Over,
+            };
+            match got {
+                Got::Bytes(_) => {}
+                Got::Wait => return Driven::Waiting,
+                Got::Ended | Got::Fault => {
+                    let _ = self.all.try_remove(key);
+                    return Driven::Over;
+                }
+            }
+        }
+        Driven::CutShort
+    }
+
+    fn bound(&self) -> usize {
+        16
+    }
+
+    fn is_idle(&self) -> bool {
+        self.all.is_empty()
+    }
+
+    fn answer<R: Wait>(&mut self, _rt: &R, request: Request) -> Result<Vec<u8>, AllocError> {
+        match request {
+            Request::Book => b"a book\n".to_vec(self.alloc),
+            _ => b"ok\n".to_vec(self.alloc),
+        }
+    }
+
+    fn halt<R: Wait + Dial + Clock>(&mut self, _rt: &R, _registry: &Registry, _now: u64) {
+        self.all.clear();
+    }
+}
+
+/// What a client of a port says, and what it is answered, a line each.
+fn ask(rt: &HostRuntime, port: SocketAddr, line: &str) -> io::Result<String> {
+    let mut client = Client::connect(rt, port)?;
+    client.write_all(line.as_bytes())?;
+    let mut text = Vec::new(rt.alloc());
+    let mut piece = [0u8; 64];
+    for _ in 0..64 {
+        let count = client.read(&mut piece)?;
+        text.extend_from_slice(&piece[..count])?;
+        if count == 0 || piece[..count].ends_with(b"\n") {
+            break;
+        }
+    }
+    String::from_utf8(text).map_err(|_| io::Error::from(io::ErrorKind::InvalidData))
+}
+
+fn make(
+    rt: &HostRuntime,
+    listeners: (TcpListener, TcpListener),
+    inboxes: &mut Vec<Inbox>,
+) -> io::Result<Vec<EventLoop<Echo>>> {
+    let alloc = rt.alloc();
+    let mut loops = Vec::new(alloc);
+    let first = add_loop(rt, alloc, Some(listeners), inboxes)?;
+    let second = add_loop(rt, alloc, None, inboxes)?;
+    for base in [first, second] {
+        let echo = Echo {
+            alloc,
+            all: Slab::new(alloc),
+        };
+        match base.with(alloc, echo) {
+            Ok(one) => loops.push(one)?,
+            Err(_) => return Err(io::Error::from(io::ErrorKind::OutOfMemory)),
+        }
+    }
+    Ok(loops)
+}
+
+/// Five users, one after another, and the administrator.
+fn users(rt: &HostRuntime, port: SocketAddr, admin: SocketAddr) -> io::Result<bool> {
+    let long = "0123456789012345678901234567890123456789012345678901234567890123456789\n";
+    let mut right = true;
+    for _ in 0..3 {
+        right = right && ask(rt, port, "hello\n")?.as_str() == "hello\n";
+        right = right && ask(rt, port, long)?.as_str() == long;
+    }
+    right = right && ask(rt, admin, "book\n")?.as_str() == "a book\n";
+    right = right && ask(rt, admin, "capacity 7\n")?.as_str() == "ok\n";
+    right = right && ask(rt, admin, "capacity 0\n")?.as_str() == "bad\n";
+    let mut client = Client::connect(rt, admin)?;
+    client.write_all(b"stop\n")?;
+    Ok(right)
+}
+
+#[test]
+fn two_loops_echo_until_they_are_stopped(rt: HostRuntime) -> Result<(), Fail> {
+    let alloc = rt.alloc();
+    let local = SocketAddr::from((Ipv4Addr::LOCALHOST, 0));
+    let listeners = (
+        TcpListener::bind(&rt, local)?,
+        TcpListener::bind(&rt, local)?,
+    );
+    let port = listeners.0.local_addr()?;
+    let admin = listeners.1.local_addr()?;
+    let mut inboxes = Vec::new(alloc);
+    let mut loops = make(&rt, listeners, &mut inboxes)?;
+    let mut right = false;
+    thread::join_mut(
+        &rt,
+        &mut || run_loops(&rt, alloc, loops.as_mut_slice(), inboxes.as_slice()),
+        &mut || right = users(&rt, port, admin).unwrap_or(false),
+    );
+    assert!(rt; right);
+    assert_eq!(rt; loops.len(), 2);
+    Ok(())
+}

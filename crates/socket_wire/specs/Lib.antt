@@ -1,0 +1,2 @@
+pub mod Socket
+pub mod Token

@@ -1,0 +1,63 @@
+//! What a poll has told of a connection.
+
+use std::sync::atomic::{AtomicBool, Ordering};
+
+/// What a poll has told of a connection, shared by the loop that polls and by the wire that reads and writes.
+///
+/// A poll tells of a change once. So what it told stands here until a read or a write finds nothing more to do.
+#[derive(Drop)]
+pub struct Readiness {
+    can_read: AtomicBool,
+    can_write: AtomicBool,
+    closed: AtomicBool,
+}
+
+impl Readiness {
+    /// Of a connection that may have been ready before anyone polled: the first read and the first write are tried.
+    pub fn new() -> Readiness {
+        Readiness {
+            can_read: AtomicBool::new(true),
+            can_write: AtomicBool::new(true),
+            closed: AtomicBool::new(false),
+        }
+    }
+
+    /// Takes note of an event: there may be bytes to read, there may be room to write, the other side has ended its
+    /// bytes or the connection has failed.
+    pub fn note(&self, readable: bool, writable: bool, closed: bool) {
+        if readable || closed {
+            self.can_read.store(true, Ordering::Relaxed);
+        }
+        if writable || closed {
+            self.can_write.store(true, Ordering::Relaxed);
+        }
+        if closed {
+            self.closed.store(true, Ordering::Relaxed);
+        }
+    }
+
+    /// Whether a read may find something.
+    pub fn can_read(&self) -> bool {
+        self.can_read.load(Ordering::Relaxed)
+    }
+
+    /// Whether a write may be taken.
+    pub fn can_write(&self) -> bool {
+        self.can_write.load(Ordering::Relaxed)
+    }
+
+    /// Whether the other side has ended its bytes, or the connection has failed.
+    pub fn is_closed(&self) -> bool {
+        self.closed.load(Ordering::Relaxed)
+    }
+
+    /// Nothing more is there to read before the next event.
+    pub fn read_out(&self) {
+        self.can_read.store(false, Ordering::Relaxed);
+    }
+
+    /// Nothing more is taken before the next event.
+    pub fn filled(&self) {
+        self.can_write.store(false, Ordering::Relaxed);
+    }
+}

@@ -1,0 +1,168 @@
+//! A socket as a wire: counts, and what its poll has told of it.
+
+ghost use Rattle.std.specs.Prelude.{◌≡◌, []};
+ghost use Rattle.wire_kit.specs.Past.{Past, nothing_yet, after_read, after_write};
+ghost use Rattle.socket_wire.specs.Socket.{IsPast};
+
+use crate::ready::Readiness;
+use mio::net::TcpStream;
+use mio::{Interest, Registry, Token};
+use std::io::{self, ErrorKind, Read, Write};
+use std::net::Shutdown;
+use std::sync::Arc;
+use wire_kit::{Got, Put, Wire};
+
+/// A connection that never blocks, with its counts. A call that can give nothing before the next event answers Wait
+/// without asking the system.
+#[derive(Drop)]
+pub struct SocketWire {
+    stream: TcpStream,
+    ready: Arc<Readiness>,
+    read: u64,
+    taken: u64,
+    ends: u64,
+    read_waits: u64,
+    write_waits: u64,
+    faults: u64,
+}
+
+impl SocketWire {
+    /// A connection of which nothing was read and on which nothing was written.
+    pub fn new(stream: TcpStream, ready: Arc<Readiness>) -> SocketWire
+        ensures { IsPast result nothing_yet }
+    {
+        SocketWire {
+            stream,
+            ready,
+            read: 0,
+            taken: 0,
+            ends: 0,
+            read_waits: 0,
+            write_waits: 0,
+            faults: 0,
+        }
+    }
+
+    /// Has a poll tell of it under a token. What is there already is told too.
+    pub fn register(&mut self, registry: &Registry, token: Token) -> io::Result<()>
+        ensures { (p : Past) → IsPast self.old p → IsPast self.new p }
+    {
+        let interest = Interest::READABLE | Interest::WRITABLE;
+        registry.register(&mut self.stream, token, interest)
+    }
+
+    /// Has the poll tell of it no more.
+    pub fn deregister(&mut self, registry: &Registry) -> io::Result<()>
+        ensures { (p : Past) → IsPast self.old p → IsPast self.new p }
+    {
+        registry.deregister(&mut self.stream)
+    }
+
+    /// Has small writes go out at once. Without it a second write of a message may wait for 40 ms.
+    pub fn hurry(&self) -> io::Result<()> {
+        self.stream.set_nodelay(true)
+    }
+
+    /// Tells the other side that nothing more comes.
+    pub fn finish(&self) -> io::Result<()> {
+        self.stream.shutdown(Shutdown::Write)
+    }
+
+    /// The connection itself.
+    pub fn into_stream(self) -> TcpStream {
+        let SocketWire {
+            stream,
+            ready: _,
+            read: _,
+            taken: _,
+            ends: _,
+            read_waits: _,
+            write_waits: _,
+            faults: _,
+        } = self;
+        stream
+    }
+
+    fn wait_to_read(&mut self) -> Got
+        ensures answer { result ≡ Got.Wait }
+        ensures counted { (p : Past) → IsPast self.old p → IsPast self.new (after_read p [] Got.Wait) }
+    {
+        self.read_waits = self.read_waits.saturating_add(1);
+        Got::Wait
+    }
+
+    fn wait_to_write(&mut self) -> Put
+        ensures answer { result ≡ Put.Wait }
+        ensures counted { (p : Past) → IsPast self.old p → IsPast self.new (after_write p [] Put.Wait) }
+    {
+        self.write_waits = self.write_waits.saturating_add(1);
+        Put::Wait
+    }
+}
+
+impl Wire for SocketWire {
+    ghost past = { IsPast };
+
+    fn try_read(&mut self, buf: &mut [u8]) -> Got {
+        if !self.ready.can_read() || buf.len() as u64 > u64::MAX - self.read {
+            return self.wait_to_read();
+        }
+        match self.stream.read(buf) {
+            Ok(0) => {
+                self.ends = self.ends.saturating_add(1);
+                Got::Ended
+            }
+            Ok(n) => {
+                self.read += n as u64;
+
+                // A short read is the last one, unless an end stands behind it.
+                if n < buf.len() && !self.ready.is_closed() {
+                    self.ready.read_out();
+                }
+                Got::Bytes(n)
+            }
+            Err(error) => match error.kind() {
+                ErrorKind::WouldBlock => {
+                    self.ready.read_out();
+                    self.wait_to_read()
+                }
+                ErrorKind::Interrupted => self.wait_to_read(),
+                _ => {
+                    self.faults = self.faults.saturating_add(1);
+                    Got::Fault
+                }
+            },
+        }
+    }
+
+    fn try_write(&mut self, bytes: &[u8]) -> Put {
+        if !self.ready.can_write() || bytes.len() as u64 > u64::MAX - self.taken {
+            return self.wait_to_write();
+        }
+        match self.stream.write(bytes) {
+            Ok(0) => self.wait_to_write(),
+            Ok(n) => {
+                self.taken += n as u64;
+                if n < bytes.len() {
+                    self.ready.filled();
+                }
+                Put::Took(n)
+            }
+            Err(error) => match error.kind() {
+                ErrorKind::WouldBlock => {
+                    self.ready.filled();
+                    self.wait_to_write()
+                }
+                ErrorKind::Interrupted => self.wait_to_write(),
+                _ => {
+                    self.faults = self.faults.saturating_add(1);
+                    Put::Fault
+                }
+            },
+        }
+    }
+
+    fn counts(&self) -> (u64, u64) {
+        (self.read, self.taken)
+    }
+}
