@@ -1,0 +1,84 @@
+-- What a turn answers, by what its wire answered.
+use Rattle.std.proofs.Common.{◌≡◌, ℕ, Bool, true, false, List, [], refl, ap, sym, subst, ◌∙◌, Option, Some, None, Result, Ok, Err, inl, inr}
+use Rattle.trace_core.specs.declared.history.Seen.{Seen}
+use Rattle.trace_core.specs.declared.history.Event.{Event}
+use Rattle.trace_core.proofs.Sound.{Sound}
+use Rattle.span_tape.specs.Tape.{Tape}
+use Rattle.wire_kit.specs.Past.{Past, Offers, delta_of}
+use Rattle.wire_kit.specs.declared.wire.Put.{Put}
+use Rattle.wire_kit.specs.declared.wire.Put.TheVariants as put
+use Rattle.chunk_writer.specs.declared.next.Next.{Next}
+use Rattle.chunk_writer.specs.Writer.{Writer, IsIdle}
+use Rattle.chunk_writer.specs.Moves.{Moves, IsStill}
+use Rattle.adapt_sides.specs.declared.turn.Turn.{Turn}
+use Rattle.adapt_sides.specs.declared.fault.ClientFault.{ClientFault}
+use Rattle.adapt_sides.specs.declared.fault.ClientFault.TheVariants.{Device}
+use Rattle.icap_client.specs.Sending.{KeepsUnsent, Decides, NothingDue, turn_events}
+use Rattle.icap_client.specs.Turns.{GoesOn, WriteTurn, Fits, FitsAnswer, events_of}
+use Rattle.icap_client.proofs.Turning.{goes_on, goes_same, nothing_due}
+
+pub turned : (x : Seen) (tape : Tape) (next : Next) (v w : Writer) (before after : Past → Type 0) (result : Result Turn ClientFault) (text : List ℕ) (answer : Option Put) (k : ℕ) (e : Bool)
+    → Sound x → KeepsUnsent x tape → Decides x v next → Offers before after text answer → Moves tape next v k e (delta_of text answer) w
+    → events_of result ≡ turn_events k e → Fits x w answer result → WriteTurn x tape v w before after result
+turned x tape next v w before after result text answer k e s u c o m h f = record {
+  text = text;
+  answer = answer;
+  wire = o;
+  goes_on = subst (λ (events : List Event). GoesOn x tape v w events (delta_of text answer)) (sym h) (goes_on x tape next v w k e (delta_of text answer) s u c m);
+  fits = f;
+}
+
+pub fits_took : (x : Seen) (w : Writer) (answer : Option Put) (n : ℕ) (turn : Turn) → answer ≡ Some (put.Took n) → (turn.waiting ≡ true → true ≡ false) → FitsAnswer x w answer turn
+fits_took x w answer n turn a t = record {
+  no_fault = λ h. cc;
+  wait = λ h. cc;
+  idle = λ h. cc;
+  waiting = λ h. absurd (let no : true ≡ false = t h in cc);
+  moved = λ h i none. cc;
+  woke = λ h i. cc;
+}
+
+still_wait : (answer : Option Put) (k : ℕ) (e : Bool) → answer ≡ Some put.Wait → IsStill answer k e → (k ≡ 0) × (e ≡ false)
+still_wait None k e a s = cc
+still_wait (Some (put.Took n)) k e a s = cc
+still_wait (Some put.Wait) k e a s = s
+still_wait (Some put.Fault) k e a s = s
+
+still_fault : (answer : Option Put) (k : ℕ) (e : Bool) → answer ≡ Some put.Fault → IsStill answer k e → (k ≡ 0) × (e ≡ false)
+still_fault None k e a s = cc
+still_fault (Some (put.Took n)) k e a s = cc
+still_fault (Some put.Wait) k e a s = s
+still_fault (Some put.Fault) k e a s = s
+
+none_by : (k : ℕ) (e : Bool) → (k ≡ 0) × (e ≡ false) → [] ≡ turn_events k e
+none_by k e s = subst (λ (n : ℕ). [] ≡ turn_events n e) (sym s.0) (subst (λ (b : Bool). [] ≡ turn_events 0 b) (sym s.1) refl)
+
+pub none_at_wait : (answer : Option Put) (k : ℕ) (e : Bool) → answer ≡ Some put.Wait → IsStill answer k e → [] ≡ turn_events k e
+none_at_wait answer k e a s = none_by k e (still_wait answer k e a s)
+
+pub none_at_fault : (answer : Option Put) (k : ℕ) (e : Bool) → answer ≡ Some put.Fault → IsStill answer k e → [] ≡ turn_events k e
+none_at_fault answer k e a s = none_by k e (still_fault answer k e a s)
+
+pub fits_wait : (x : Seen) (w : Writer) (answer : Option Put) (turn : Turn) → answer ≡ Some put.Wait → turn.events.items ≡ [] → (turn.waiting ≡ false → turn.events.items ≡ [] → ⊥) → FitsAnswer x w answer turn
+fits_wait x w answer turn a n t = record {
+  no_fault = λ h. cc;
+  wait = λ h. n;
+  idle = λ h. cc;
+  waiting = λ h. (n, inl a);
+  moved = λ h i none. cc;
+  woke = λ h i. t h n;
+}
+
+pub fits_none : (x : Seen) (tape : Tape) (next : Next) (v w : Writer) (answer : Option Put) (k : ℕ) (e : Bool) (d : List ℕ) (turn : Turn) → answer ≡ None → Decides x v next → Moves tape next v k e d w → IsIdle v next k e → turn.events.items ≡ turn_events 0 e
+    → (turn.waiting ≡ true → turn.events.items ≡ []) → (turn.waiting ≡ false → turn.events.items ≡ [] → ⊥) → FitsAnswer x w answer turn
+fits_none x tape next v w answer k e d turn a c m i h t f = record {
+  no_fault = λ b. cc;
+  wait = λ b. cc;
+  idle = λ b n. nothing_due x tape next v w k e d c m i (sym h ∙ n);
+  waiting = λ b. (t b, inr a);
+  moved = λ b n none. f b n;
+  woke = λ b o. cc;
+}
+
+pub idle_events : (next : Next) (w : Writer) (k : ℕ) (e : Bool) → IsIdle w next k e → turn_events 0 e ≡ turn_events k e
+idle_events next w k e i = ap (λ (n : ℕ). turn_events n e) (sym i.none_sent)

@@ -1,0 +1,192 @@
+-- Both halves' turns, as a transaction calls them.
+use Rattle.std.proofs.Common.{◌≡◌, ℕ, ◌+◌, ◌<◌, ◌≤◌, ◌⊎◌, inl, inr, Bool, true, false, List, [], ◌++◌, length, take, refl, ap, sym, subst, ◌∙◌, append-nil, arith, Option, Some, None, IfSome, IfErr, Result, Ok, Err}
+use Rattle.std.proofs.lemmas.List.{length-take-le}
+use Rattle.trace_core.specs.declared.history.Event.{Event}
+use Rattle.trace_core.specs.declared.history.Seen.{Seen}
+use Rattle.span_tape.specs.Tape.{Tape}
+use Rattle.wire_kit.specs.Past.{Past, FitsPut, after_offer, delta_of}
+use Rattle.wire_kit.specs.declared.wire.Put.{Put}
+use Rattle.wire_kit.specs.declared.wire.Put.TheVariants as put
+use Rattle.chunk_writer.specs.Writer.{Writer}
+use Rattle.adapt_sides.specs.declared.turn.Turn.{Turn}
+use Rattle.adapt_sides.specs.declared.fault.ClientFault.{ClientFault}
+use Rattle.adapt_sides.specs.declared.fault.ClientFault.TheVariants.{Device}
+use Rattle.trace_core.specs.declared.history.Plan.{Plan}
+use Rattle.trace_core.specs.declared.history.Point.{Point}
+use Rattle.trace_core.specs.History.{seen}
+use Rattle.trace_core.specs.View.{after}
+use Rattle.icap_client.specs.Laws.{first_reader}
+use Rattle.icap_client.specs.Heard.{Reader, HasHeard}
+use Rattle.icap_client.proofs.Whole.{nothing_heard}
+use Rattle.icap_client.specs.Events.{Follows, ad_sum, is_of_replies}
+use Rattle.icap_client.specs.Sending.{HasSent, Came, KeepsUnsent, NothingDue}
+use Rattle.icap_client.specs.Reading.{Side, SideHeard, IsLaterRead, NothingToRead, HasReason, CameOf, ReadTurn}
+use Rattle.icap_client.specs.Turns.{WriteTurn, Fits, FitsAnswer, events_of, waits_of, IsLater, SaysWaiting, Remembers, Sends, Hears}
+use Rattle.adapt_sides.specs.Turns.{HasReason as HasCause}
+
+-- ---- writing
+
+came_by : (x : Seen) (tape : Tape) (came : List ℕ) → KeepsUnsent x tape → Follows tape came → Came x tape came
+came_by x tape came k f = record { count = sym f.end ∙ k.end; bytes = sym f.bytes }
+
+later_none : (p : Past) → IsLater p [] [] p
+later_none p = record { read = sym (append-nil p.read); out = sym (append-nil p.taken); ends = omega arith; read_waits = omega arith; write_waits = omega arith; faults = omega arith }
+
+later_offer : (p : Past) (bytes : List ℕ) (answer : Option Put) → IsLater p [] (delta_of bytes answer) (after_offer p bytes answer)
+later_offer p bytes None = later_none p
+later_offer p bytes (Some (put.Took n)) = record { read = sym (append-nil p.read); out = refl; ends = omega arith; read_waits = omega arith; write_waits = omega arith; faults = omega arith }
+later_offer p bytes (Some put.Wait) = record { read = sym (append-nil p.read); out = sym (append-nil p.taken); ends = omega arith; read_waits = omega arith; write_waits = omega arith; faults = omega arith }
+later_offer p bytes (Some put.Fault) = record { read = sym (append-nil p.read); out = sym (append-nil p.taken); ends = omega arith; read_waits = omega arith; write_waits = omega arith; faults = omega arith }
+
+waits_by : (x : Seen) (w : Writer) (p : Past) (bytes : List ℕ) (answer : Option Put) → (answer ≡ Some put.Wait) ⊎ (answer ≡ None) → (answer ≡ None → NothingDue x w)
+    → NothingDue x w ⊎ (p.write_waits < (after_offer p bytes answer).write_waits)
+waits_by x w p bytes answer (inl e) n =
+    let more : p.write_waits < (after_offer p bytes (Some put.Wait)).write_waits = omega arith in
+    inr (subst (λ (a : Option Put). p.write_waits < (after_offer p bytes a).write_waits) (sym e) more)
+waits_by x w p bytes answer (inr e) n = inl (n e)
+
+cause : (x : Seen) (w : Writer) (p : Past) (bytes : List ℕ) (answer : Option Put) (fault : Option ClientFault) (result : Result Turn ClientFault) → Fits x w answer result
+    → HasCause Device p (after_offer p bytes answer) fault (NothingDue x w) (λ past. past.write_waits) result
+cause x w p bytes answer fault (Ok turn) f = record {
+  device = λ e n. cc;
+  waiting = λ h. let i = f.waiting h in waits_by x w p bytes answer i.1 (λ e. f.idle e i.0);
+}
+cause x w p bytes answer fault (Err g) f = record {
+  device = λ e n.
+      let more : p.faults < (after_offer p bytes (Some put.Fault)).faults = omega arith in
+      subst (λ (a : Option Put). p.faults < (after_offer p bytes a).faults) (sym f.1) more;
+  waiting = λ h. cc;
+}
+
+none_out : (bytes : List ℕ) (answer : Option Put) → (answer ≡ Some put.Wait) ⊎ (answer ≡ None) → delta_of bytes answer ≡ []
+none_out bytes answer (inl e) = ap (λ (a : Option Put). delta_of bytes a) e
+none_out bytes answer (inr e) = ap (λ (a : Option Put). delta_of bytes a) e
+
+some_out : (bytes : List ℕ) (n : ℕ) → (1 ≤ n) × (n ≤ length bytes) → take n bytes ≡ [] → ⊥
+some_out bytes n h e = let l = length-take-le n bytes h.1 in let z : length (take n bytes) ≡ 0 = ap (λ (t : List ℕ). length t) e in absurd (omega (arith, h.0, l, z))
+
+not_idle : (x : Seen) (w : Writer) (bytes : List ℕ) (answer : Option Put) (turn : Turn) → FitsAnswer x w answer turn → IfSome answer (FitsPut (length bytes)) → turn.events.items ≡ []
+    → delta_of bytes answer ≡ [] → turn.waiting ≡ false → ⊥
+not_idle x w bytes None turn f s e d h = f.moved h e refl
+not_idle x w bytes (Some (put.Took n)) turn f s e d h = some_out bytes n s d
+not_idle x w bytes (Some put.Wait) turn f s e d h = f.woke h refl
+not_idle x w bytes (Some put.Fault) turn f s e d h = f.no_fault refl
+
+or_true : (b : Bool) → (b ≡ false → ⊥) → b ≡ true
+or_true true h = refl
+or_true false h = absurd (h refl)
+
+says : (x : Seen) (w : Writer) (bytes : List ℕ) (answer : Option Put) (result : Result Turn ClientFault) → Fits x w answer result → IfSome answer (FitsPut (length bytes))
+    → SaysWaiting (events_of result) (delta_of bytes answer) result
+says x w bytes answer (Ok turn) f s = record {
+  idle = λ h. let i = f.waiting h in (i.0, none_out bytes answer i.1);
+  waits = λ t e n d. let same : turn ≡ t = cc in subst (λ (u : Turn). u.waiting ≡ true) same (or_true turn.waiting (not_idle x w bytes answer turn f s n d));
+}
+says x w bytes answer (Err g) f s = record { idle = λ h. cc; waits = λ t e n d. cc }
+
+pub sends_by : (x : Seen) (tape : Tape) (old new : Writer) (fault kept : Option ClientFault) (P Q : Past → Type 0) (result : Result Turn ClientFault) → fault ≡ None → KeepsUnsent x tape
+    → WriteTurn x tape old new P Q result → ((g : ClientFault) → result ≡ Err g → kept ≡ Some g)
+    → Sends x tape (λ x came taken. HasSent x came taken old) (λ x came taken. HasSent x came taken new) fault kept (NothingDue x new) P Q result
+sends_by x tape old new fault kept P Q result none k t stays = record {
+  delta = delta_of t.text t.answer;
+  wire = λ p b. (after_offer p t.text t.answer, t.wire.each p b, later_offer p t.text t.answer, cause x new p t.text t.answer fault result t.fits);
+  only = t.goes_on.only;
+  legal = t.goes_on.legal;
+  goes_on = λ came taken f h. t.goes_on.sent came taken (came_by x tape came k f) h;
+  waiting = says x new t.text t.answer result t.fits t.wire.fits;
+  fault = record { again = λ g e. cc; stays = stays };
+}
+
+-- behind a fault nothing is done
+pub sends_none : (x : Seen) (tape : Tape) (w : Writer) (fault : Option ClientFault) (g : ClientFault) (P : Past → Type 0) → fault ≡ Some g
+    → Sends x tape (λ x came taken. HasSent x came taken w) (λ x came taken. HasSent x came taken w) fault fault (NothingDue x w) P P (Err g)
+sends_none x tape w fault g P e = record {
+  delta = [];
+  wire = λ p b. (p, b, later_none p, record { device = λ i n. cc; waiting = λ h. cc });
+  only = tt;
+  legal = tt;
+  goes_on = λ came taken f h. subst (λ (t : List ℕ). HasSent x came t w) (sym (append-nil taken)) h;
+  waiting = record { idle = λ h. cc; waits = λ t i n d. cc };
+  fault = record { again = λ f i. cc; stays = λ f i. cc };
+}
+
+-- ---- reading
+
+later_read : (p q : Past) (delta : List ℕ) → IsLaterRead p delta q → IsLater p delta [] q
+later_read p q delta l = record { read = l.read; out = l.taken ∙ sym (append-nil p.taken); ends = l.ends; read_waits = l.read_waits; write_waits = omega (arith, l.write_waits); faults = l.faults }
+
+read_cause : (x : Seen) (a : Bool) (room : ℕ) (new : Side) (p q : Past) (fault : Option ClientFault) (result : Result Turn ClientFault) → HasReason x a room new.reader.stage p q result
+    → HasCause Device p q fault (NothingToRead x a room new.reader.stage) (λ past. past.read_waits) result
+read_cause x a room new p q fault (Ok turn) r = record { device = λ e n. cc; waiting = λ h. r.waits turn refl h }
+read_cause x a room new p q fault (Err g) r = record { device = λ e n. r.device e; waiting = λ h. cc }
+
+read_says : (x : Seen) (old new : Side) (room : ℕ) (out delta : List ℕ) (result : Result Turn ClientFault) → CameOf x old new room out delta result → SaysWaiting (events_of result) delta result
+read_says x old new room out delta (Ok turn) c = record {
+  idle = λ h. let w = c.2 h in (w.0, w.1);
+  waits = λ t e n d.
+      let same : turn ≡ t = cc in
+      let moved : turn.waiting ≡ false → ⊥ = λ h. let some : 0 < length delta = c.3 h n in let z : length delta ≡ 0 = ap (λ (l : List ℕ). length l) d in absurd (omega (arith, some, z)) in
+      subst (λ (u : Turn). u.waiting ≡ true) same (or_true turn.waiting moved);
+}
+read_says x old new room out delta (Err g) c = record { idle = λ h. cc; waits = λ t e n d. cc }
+
+pub hears_by : (x : Seen) (a : Bool) (room : ℕ) (old new : Side) (P Q : Past → Type 0) (out : List ℕ) (result : Result Turn ClientFault) → old.fault ≡ None → room ≡ length out
+    → ReadTurn x a room old new P Q out result → ((g : ClientFault) → result ≡ Err g → new.fault ≡ Some g)
+    → Hears x (λ x adapted read. SideHeard x adapted read old) (λ x adapted read. SideHeard x adapted read new) old.fault new.fault (NothingToRead x a room new.reader.stage) P Q out result
+hears_by x a room old new P Q out (Ok turn) none long t stays = record {
+  delta = t.delta;
+  wire = λ p b. let q = t.wire p b in (q.0, q.1, later_read p q.0 t.delta q.2, read_cause x a room new p q.0 old.fault (Ok turn) q.3);
+  only = t.came.0.only;
+  count = omega (arith, t.came.1, long);
+  legal = t.came.0.legal;
+  goes_on = t.came.0.heard;
+  waiting = read_says x old new room out t.delta (Ok turn) t.came;
+  fault = record { again = λ g e. cc; stays = stays };
+}
+hears_by x a room old new P Q out (Err g) none long t stays = record {
+  delta = t.delta;
+  wire = λ p b. let q = t.wire p b in (q.0, q.1, later_read p q.0 t.delta q.2, read_cause x a room new p q.0 old.fault (Err g) q.3);
+  only = tt;
+  count = omega arith;
+  legal = tt;
+  goes_on = t.came.0.heard;
+  waiting = read_says x old new room out t.delta (Err g) t.came;
+  fault = record { again = λ f e. cc; stays = stays };
+}
+
+pub hears_none : (x : Seen) (s : Side) (rests : Type 0) (g : ClientFault) (P Q : Past → Type 0) (out : List ℕ) → s.fault ≡ Some g → ((p : Past) → P p → Q p)
+    → Hears x (λ x adapted read. SideHeard x adapted read s) (λ x adapted read. SideHeard x adapted read s) s.fault s.fault rests P Q out (Err g)
+hears_none x s rests g P Q out e w = record {
+  delta = [];
+  wire = λ p b. (p, w p b, later_none p, record { device = λ i n. cc; waiting = λ h. cc });
+  only = tt;
+  count = omega arith;
+  legal = tt;
+  goes_on = λ adapted read h.
+      subst (λ (t : List ℕ). SideHeard x t (read ++ []) s) (sym (append-nil adapted)) (subst (λ (t : List ℕ). SideHeard x adapted t s) (sym (append-nil read)) h);
+  waiting = record { idle = λ h. cc; waits = λ t i n d. cc };
+  fault = record { again = λ f i. cc; stays = λ f i. cc };
+}
+
+stays_by : (k : Option ClientFault) (result : Result Turn ClientFault) → IfErr result (λ g. k ≡ Some g) → (g : ClientFault) → result ≡ Err g → k ≡ Some g
+stays_by k (Ok t) s g e = cc
+stays_by k (Err f) s g e = let same : f ≡ g = cc in s ∙ ap Some same
+
+hears_case : (x : Seen) (a : Bool) (room : ℕ) (old new : Side) (P Q : Past → Type 0) (out : List ℕ) (result : Result Turn ClientFault) (fault : Option ClientFault) → old.fault ≡ fault → room ≡ length out
+    → (old.fault ≡ None → ReadTurn x a room old new P Q out result) → IfErr result (λ g. new.fault ≡ Some g) → IfSome fault (λ g. (result ≡ Err g) × (new ≡ old)) → IfSome fault (λ g. (p : Past) → P p → Q p)
+    → Hears x (λ x adapted read. SideHeard x adapted read old) (λ x adapted read. SideHeard x adapted read new) old.fault new.fault (NothingToRead x a room new.reader.stage) P Q out result
+hears_case x a room old new P Q out result None e long t s f u = hears_by x a room old new P Q out result e long (t e) (stays_by new.fault result s)
+hears_case x a room old new P Q out result (Some g) e long t s f u =
+    subst (λ (r : Result Turn ClientFault). Hears x (λ x adapted read. SideHeard x adapted read old) (λ x adapted read. SideHeard x adapted read new) old.fault new.fault (NothingToRead x a room new.reader.stage) P Q out r) (sym f.0)
+    (subst (λ (n : Side). Hears x (λ x adapted read. SideHeard x adapted read old) (λ x adapted read. SideHeard x adapted read n) old.fault n.fault (NothingToRead x a room n.reader.stage) P Q out (Err g)) (sym f.1)
+    (hears_none x old (NothingToRead x a room old.reader.stage) g P Q out e u))
+
+pub hears_all : (x : Seen) (a : Bool) (room : ℕ) (old new : Side) (P Q : Past → Type 0) (out : List ℕ) (result : Result Turn ClientFault) → room ≡ length out
+    → (old.fault ≡ None → ReadTurn x a room old new P Q out result) → IfErr result (λ g. new.fault ≡ Some g) → IfSome old.fault (λ g. (result ≡ Err g) × (new ≡ old)) → IfSome old.fault (λ g. (p : Past) → P p → Q p)
+    → Hears x (λ x adapted read. SideHeard x adapted read old) (λ x adapted read. SideHeard x adapted read new) old.fault new.fault (NothingToRead x a room new.reader.stage) P Q out result
+hears_all x a room old new P Q out result long t s f u = hears_case x a room old new P Q out result old.fault refl long t s f u
+
+-- ---- the laws
+
+pub side_begins : (plan : Plan) (point : Point) (s : Side) → s.reader ≡ first_reader point → s.raw ≡ [] → SideHeard (seen plan []) [] [] s
+side_begins plan point s e r = record { framed = []; text_is = sym r; heard = subst (λ (q : Reader). HasHeard (seen plan []) [] [] q) (sym e) (nothing_heard plan point); begun = inr (record { none = refl; unread = refl; marks = record { no_mod_is = refl; modified_is = refl; has_body_is = refl; over_is = refl }; continued = refl; count = refl }) }

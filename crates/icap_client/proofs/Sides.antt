@@ -1,0 +1,173 @@
+-- The reading half over its wire.
+use Rattle.std.proofs.Common.{◌≡◌, ℕ, ◌+◌, ◌<◌, ◌≤◌, ◌⊎◌, inl, inr, Bool, true, false, ◌||◌, List, [], ◌∷◌, ◌++◌, length, take, drop, refl, ap, sym, subst, ◌∙◌, append_assoc, append-nil, arith, length-append, nat_lt, if◌then◌else◌}
+use Rattle.std.proofs.lemmas.Bool.Decides.{nat_tests}
+use Rattle.std.proofs.lemmas.List.{take-append-drop}
+use Rattle.icap_head.specs.Heads.{Stands}
+use Rattle.icap_head.specs.StartLines.{StatusForm}
+use Rattle.icap_head.specs.FieldLines.{unended}
+use Rattle.icap_head.specs.declared.reading.HeadFault.{HeadFault}
+use Rattle.icap_head.specs.declared.reading.HeadFault.TheVariants.{More, TooLong}
+use Rattle.trace_core.specs.declared.history.Event.{Event}
+use Rattle.trace_core.specs.declared.history.Seen.{Seen}
+use Rattle.trace_core.specs.declared.history.Event.TheVariants.{Heard}
+use Rattle.trace_core.specs.History.{is_heard}
+use Rattle.trace_core.specs.View.{after}
+use Rattle.icap_client.specs.OthersHeard.{to_same, same_heard}
+use Rattle.icap_client.specs.Events.{May, after_all, ad_sum}
+use Rattle.icap_client.specs.Heard.{Reader, HasHeard, HeardTo, HeardInterim, KeepsLimits, Stays}
+use Rattle.icap_client.specs.Heard.Stays.{same, before}
+use Rattle.icap_client.specs.Replies.{IsInterim}
+use Rattle.trace_core.specs.declared.history.Point.{Point}
+use Rattle.icap_client.specs.Hearing.{Hears, MustWait}
+use Rattle.icap_client.specs.Reading.{Side, SideHeard, SideHears, NotBegun}
+use Rattle.icap_client.specs.declared.stage.Stage.{Stage}
+use Rattle.icap_client.specs.declared.stage.Stage.TheVariants.{Replies, Head, Body, Over}
+
+unended_by : (b : Bool) (n : ℕ) → nat_lt n 16384 ≡ b → More ≡ (if b then More else TooLong) → n < 16384
+unended_by true n e h = grind (arith, nat_tests)
+unended_by false n e h = cc
+
+unended_more : (n : ℕ) → More ≡ unended n → n < 16384
+unended_more n h = unended_by (nat_lt n 16384) n refl h
+
+-- a head that isn't whole is short
+pub more_short : (raw : List ℕ) → Stands StatusForm More raw → length raw < 16384
+more_short raw (inl h) = unended_more (length raw) h.0
+more_short raw (inr (line, behind, first, inl (inl h))) = let odd = h.0 in cc
+more_short raw (inr (line, behind, first, inl (inr h))) = let odd = h.0 in cc
+more_short raw (inr (line, behind, first, inr (form, inl h))) = let odd = h.0 in cc
+more_short raw (inr (line, behind, first, inr (form, inr (inl h)))) = let odd = h.0 in cc
+more_short raw (inr (line, behind, first, inr (form, inr (inr h)))) = unended_more (length raw) h.0
+
+-- where nothing can be framed with some room, there is room for raw bytes
+pub wait_short : (s : Stage) (raw : List ℕ) (room : ℕ) → KeepsLimits s → ¬ (s ≡ Over) → 0 < room → MustWait s raw room → length raw < 16384
+wait_short Replies raw room k o r w = more_short raw w
+wait_short (Head layout) raw room k o r w = omega (arith, k.1, w.0)
+wait_short (Body chunks) raw room k o r (inl e) = omega (arith, ap (λ (t : List ℕ). length t) e)
+wait_short (Body chunks) raw room k o r (inr h) = absurd (omega (arith, h.0))
+wait_short Over raw room k o r w = absurd (o refl)
+
+or_true : (a b : Bool) → b ≡ true → (a || b) ≡ true
+or_true true b e = refl
+or_true false b e = e
+
+-- a first byte stays read
+pub heard_on : (x : Seen) (events : List Event) → x.heard ≡ true → (after_all x events).heard ≡ true
+heard_on x [] h = h
+heard_on x (event ∷ events) h = heard_on (after x event) events (or_true (is_heard event) x.heard h)
+
+not_begun : (x : Seen) (adapted read more delta : List ℕ) → more ≡ [] → delta ≡ [] → NotBegun x adapted read → NotBegun x (adapted ++ more) (read ++ delta)
+not_begun x adapted read more delta m d n = record {
+  none = ap (λ (t : List ℕ). adapted ++ t) m ∙ (append-nil adapted ∙ n.none);
+  unread = ap (λ (t : List ℕ). read ++ t) d ∙ (append-nil read ∙ n.unread);
+  marks = n.marks;
+  continued = n.continued;
+  count = n.count;
+}
+
+begun_on : (x : Seen) (events : List Event) (adapted read out : List ℕ) → (events ≡ []) ⊎ (x.heard ≡ true) → (x.heard ≡ true) ⊎ NotBegun x adapted read
+    → ((after_all x events).heard ≡ true) ⊎ NotBegun (after_all x events) (adapted ++ take (ad_sum events) out) (read ++ [])
+begun_on x events adapted read out e (inl h) = inl (heard_on x events h)
+begun_on x events adapted read out (inr h) (inr n) = inl (heard_on x events h)
+begun_on x events adapted read out (inl none) (inr n) =
+    inr (subst (λ (es : List Event). NotBegun (after_all x es) (adapted ++ take (ad_sum es) out) (read ++ [])) (sym none) (not_begun x adapted read [] [] refl refl n))
+
+-- what a reader hears of its raw bytes
+pub framed : (x : Seen) (old new : Side) (events : List Event) (used : ℕ) (out : List ℕ) → Hears x old.reader new.reader events (take used old.raw) (take (ad_sum events) out) → new.raw ≡ drop used old.raw
+    → SideHears x old new events [] (take (ad_sum events) out)
+framed x old new events used out h r = record {
+  legal = h.legal;
+  only = h.only;
+  heard = λ adapted read s.
+      let joined : take used old.raw ++ new.raw ≡ old.raw = ap (λ (t : List ℕ). take used old.raw ++ t) r ∙ take-append-drop used old.raw in
+      record {
+        framed = s.framed ++ take used old.raw;
+        text_is = append-nil read ∙ (s.text_is ∙ (ap (λ (t : List ℕ). s.framed ++ t) (sym joined) ∙ sym (append_assoc s.framed (take used old.raw) new.raw)));
+        heard = h.heard adapted s.framed s.heard;
+        begun = begun_on x events adapted read out h.behind s.begun;
+      };
+}
+
+-- a reader that refused its bytes
+stays_heard : (x : Seen) (adapted read : List ℕ) (old new : Reader) → Stays old new → HasHeard x adapted read old → HasHeard x adapted read new
+stays_heard x adapted read old new (same e) h = subst (λ (r : Reader). HasHeard x adapted read r) (sym e) h
+stays_heard x adapted read old new (before o n p) h =
+    let m : HeardInterim x adapted read old = subst (λ (s : Stage). HeardTo s x adapted read old) o h in
+    let now : HeardInterim x adapted read new = record { marks = m.marks; none = m.none; count = m.count; interim = subst (λ (p : Point). IsInterim p x.continued read) (sym p) m.interim } in
+    subst (λ (s : Stage). HeardTo s x adapted read new) (sym n) now
+
+begun_none : (x : Seen) (adapted read : List ℕ) → (x.heard ≡ true) ⊎ NotBegun x adapted read → (x.heard ≡ true) ⊎ NotBegun x (adapted ++ []) (read ++ [])
+begun_none x adapted read (inl h) = inl h
+begun_none x adapted read (inr n) = inr (not_begun x adapted read [] [] refl refl n)
+
+begun_more : (x : Seen) (adapted read delta : List ℕ) → (x.heard ≡ true) ⊎ (delta ≡ []) → (x.heard ≡ true) ⊎ NotBegun x adapted read → (x.heard ≡ true) ⊎ NotBegun x (adapted ++ []) (read ++ delta)
+begun_more x adapted read delta (inl h) b = inl h
+begun_more x adapted read delta (inr n) (inl h) = inl h
+begun_more x adapted read delta (inr n) (inr b) = inr (not_begun x adapted read [] delta refl n b)
+
+pub refused_kept : (x : Seen) (old new : Side) → Stays old.reader new.reader → new.raw ≡ old.raw → SideHears x old new [] [] []
+refused_kept x old new k r = record {
+  legal = tt;
+  only = tt;
+  heard = λ adapted read s. record {
+    framed = s.framed;
+    text_is = append-nil read ∙ (s.text_is ∙ ap (λ (t : List ℕ). s.framed ++ t) (sym r));
+    heard = subst (λ (t : List ℕ). HasHeard x t s.framed new.reader) (sym (append-nil adapted)) (stays_heard x adapted s.framed old.reader new.reader k s.heard);
+    begun = begun_none x adapted read s.begun;
+  };
+}
+
+-- the fault is no part of what was heard
+pub other_fault : (x : Seen) (old new kept : Side) (events : List Event) (delta part : List ℕ) → kept.reader ≡ new.reader → kept.raw ≡ new.raw → SideHears x old new events delta part → SideHears x old kept events delta part
+other_fault x old new kept events delta part e r h = record {
+  legal = h.legal;
+  only = h.only;
+  heard = λ adapted read s.
+      let n = h.heard adapted read s in
+      record {
+        framed = n.framed;
+        text_is = n.text_is ∙ ap (λ (t : List ℕ). n.framed ++ t) (sym r);
+        heard = subst (λ (q : Reader). HasHeard (after_all x events) (adapted ++ part) n.framed q) (sym e) n.heard;
+        begun = n.begun;
+      };
+}
+
+-- more raw bytes
+pub filled_more : (x : Seen) (old new : Side) (delta : List ℕ) → (x.heard ≡ true) ⊎ (delta ≡ []) → new.reader ≡ old.reader → new.raw ≡ old.raw ++ delta → SideHears x old new [] delta []
+filled_more x old new delta was e r = record {
+  legal = tt;
+  only = tt;
+  heard = λ adapted read s. record {
+    framed = s.framed;
+    text_is = ap (λ (t : List ℕ). t ++ delta) s.text_is ∙ (append_assoc s.framed old.raw delta ∙ ap (λ (t : List ℕ). s.framed ++ t) (sym r));
+    heard = subst (λ (t : List ℕ). HasHeard x t s.framed new.reader) (sym (append-nil adapted)) (subst (λ (n : Reader). HasHeard x adapted s.framed n) (sym e) s.heard);
+    begun = begun_more x adapted read delta was s.begun;
+  };
+}
+
+-- the first bytes of a reply
+pub filled_first : (x : Seen) (old new : Side) (delta out : List ℕ) → May x Heard → new.reader ≡ old.reader → new.raw ≡ old.raw ++ delta → SideHears x old new (Heard ∷ []) delta (take (ad_sum (Heard ∷ [])) out)
+filled_first x old new delta out may e r =
+    let none : ad_sum (Heard ∷ []) ≡ 0 = omega arith in
+    subst (λ (n : ℕ). SideHears x old new (Heard ∷ []) delta (take n out)) (sym none) (record {
+      legal = (may.0, may.1, tt);
+      only = (refl, tt);
+      heard = λ adapted read s. record {
+        framed = s.framed;
+        text_is = ap (λ (t : List ℕ). t ++ delta) s.text_is ∙ (append_assoc s.framed old.raw delta ∙ ap (λ (t : List ℕ). s.framed ++ t) (sym r));
+        heard = subst (λ (t : List ℕ). HasHeard (after x Heard) t s.framed new.reader) (sym (append-nil adapted))
+            (subst (λ (n : Reader). HasHeard (after x Heard) adapted s.framed n) (sym e) (to_same old.reader.stage x (after x Heard) adapted s.framed old.reader (same_heard x) s.heard));
+        begun = inl refl;
+      };
+    })
+
+-- one behind the other, the first without an event
+pub side_then : (x : Seen) (a b c : Side) (events : List Event) (d e part : List ℕ) → SideHears x a b [] d [] → SideHears x b c events e part → SideHears x a c events (d ++ e) part
+side_then x a b c events d e part f g = record {
+  legal = g.legal;
+  only = g.only;
+  heard = λ adapted read s.
+      let two : SideHeard (after_all x events) ((adapted ++ []) ++ part) ((read ++ d) ++ e) c = g.heard (adapted ++ []) (read ++ d) (f.heard adapted read s) in
+      subst (λ (t : List ℕ). SideHeard (after_all x events) (t ++ part) (read ++ (d ++ e)) c) (append-nil adapted)
+      (subst (λ (t : List ℕ). SideHeard (after_all x events) ((adapted ++ []) ++ part) t c) (append_assoc read d e) two);
+}

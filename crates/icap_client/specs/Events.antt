@@ -1,0 +1,31 @@
+-- Events in a row.
+use Rattle.std.specs.Prelude.{◌≡◌, ℕ, zero, suc, Bool, true, false, List, [], ◌∷◌, ◌++◌, Option, Some, None}
+use Rattle.trace_core.specs.declared.history.Event.{Event}
+use Rattle.trace_core.specs.declared.history.Event.TheVariants.{Ad, AdEnd}
+use Rattle.trace_core.specs.declared.history.Seen.{Seen}
+use Rattle.trace_core.specs.Legal.{Allows}
+pub use Rattle.trace_core.specs.Turns.{after_all, MayAllFollow, AllAre, ad_sum, is_of_sending, is_of_replies}
+pub use Rattle.adapt_sides.specs.Tapes.{Follows}
+
+-- the event may come next
+abbrev pub May : Seen → Event → Type 0
+May x event = (x.closed ≡ false) × Allows x event
+
+-- the event may come next, and a byte of a reply was read before it
+abbrev pub MayHear : Seen → Event → Type 0
+MayHear x event = (x.heard ≡ true) × May x event
+
+-- an event, if there is one
+abbrev pub listed : Option Event → List Event
+listed None = []
+listed (Some event) = event ∷ []
+
+-- so many bytes of the adapted body, if any
+abbrev pub ad_events : ℕ → List Event
+ad_events zero = []
+ad_events (suc n) = Ad (suc n) ∷ []
+
+-- and then its end, if it has come
+abbrev pub body_events : ℕ → Bool → List Event
+body_events n false = ad_events n
+body_events n true = ad_events n ++ AdEnd ∷ []

@@ -1,0 +1,71 @@
+-- What the sending side has written, as a relation over histories.
+use Rattle.std.specs.Prelude.{◌≡◌, ℕ, ◌+◌, ◌-◌, ◌<◌, ◌≤◌, ◌⊎◌, ⊤, Bool, true, false, List, [], ◌∷◌, ◌++◌, length, take, drop, Option, Some, None, IfSome, if◌then◌else◌, nat_lt, min, ◌||◌, ◌&&◌, not, ◌==◌, IsSomeAnd}
+use Rattle.icap_chunks.specs.Grammar.{last_chunk}
+use Rattle.trace_core.specs.declared.history.Event.{Event}
+use Rattle.trace_core.specs.declared.history.Event.TheVariants.{Svc, Stop}
+use Rattle.trace_core.specs.declared.history.Seen.{Seen}
+use Rattle.trace_core.specs.History.{is_stop, is_preview, svc_bytes, in_bytes}
+use Rattle.trace_core.specs.Legal.{Allows, MaySend, open_preview}
+use Rattle.trace_core.specs.View.{after, ieof_now}
+use Rattle.span_tape.specs.Tape.{Tape, end_of}
+pub use Rattle.adapt_sides.specs.Tapes.{KeepsUnsent}
+use Rattle.chunk_writer.specs.Writer.{Writer, waiting, IsFraming, is_ending, end_text}
+use Rattle.chunk_writer.specs.declared.next.Next.{Next}
+use Rattle.icap_client.specs.RequestText.{is_null}
+use Rattle.icap_client.specs.Front.{Front}
+
+-- the text of the next zero chunk: nothing where there is no body
+abbrev pub stop_text : Seen → List ℕ
+stop_text x = if is_null x.plan.len then [] else last_chunk (ieof_now x)
+
+-- These bytes were taken on the wire, and the history shows x; `came` are the body bytes that came from the source.
+pub record HasSent (x : Seen) (came taken : List ℕ) (w : Writer) : Type 0 where
+  pub chunks : List ℕ
+  pub fixed : taken ++ waiting w ≡ w.head ++ chunks
+  pub front : Front x (take x.sent came) chunks w.left
+  pub there : x.sent + w.left ≤ x.received
+  pub in_preview : IfSome (open_preview x) (λ p. x.sent + w.left ≤ p)
+  pub framing : IsFraming w.framing
+
+-- so many came, and the tape's bytes are the end of them
+pub record Came (x : Seen) (tape : Tape) (came : List ℕ) : Type 0 where
+  pub count : length came ≡ x.received
+  pub bytes : drop tape.base came ≡ tape.bytes
+
+-- no text waits, and no event of sending may follow
+pub record NothingDue (x : Seen) (w : Writer) : Type 0 where
+  pub flushed : waiting w ≡ []
+  pub none : (n : ℕ) → x.closed ≡ false → Allows x (Svc n) → ⊥
+  pub no_stop : x.closed ≡ false → Allows x Stop → ⊥
+
+-- What a turn decides before it writes.
+
+-- a zero chunk is due once the body has gone so far: to its end, or to the end of the preview
+abbrev pub StopsAt : Seen → ℕ → Type 0
+StopsAt x place = ((x.ended ≡ true) × (place ≡ x.received)) ⊎ IsSomeAnd (open_preview x) (λ p. place ≡ p)
+
+-- and its text: nothing where there is no body; with ieof where the preview is the whole body
+abbrev pub stop_text_at : Seen → ℕ → List ℕ
+stop_text_at x place =
+    if is_null x.plan.len then []
+    else last_chunk (is_preview x.plan.kind && not x.stopped && x.ended && (place == x.received))
+
+-- what comes next: body bytes that may be sent, and the zero chunk behind them where it is due; nothing only where neither may follow
+pub record Decides (x : Seen) (w : Writer) (next : Next) : Type 0 where
+  pub chunked : next.chunked ≡ true
+  pub from : next.from ≡ x.sent
+  pub few : next.count ≤ 4096
+  pub within : 0 < w.left → next.count ≤ w.left
+  pub svc : 0 < next.count → (x.closed ≡ false) × Allows x (Svc next.count)
+  pub stop : is_ending next.end ≡ true → (x.closed ≡ false) × MaySend x × StopsAt x (x.sent + next.count)
+  pub text : is_ending next.end ≡ true → end_text next.end ≡ stop_text_at x (x.sent + next.count)
+  pub no_svc : next.count ≡ 0 → (n : ℕ) → x.closed ≡ false → Allows x (Svc n) → ⊥
+  pub no_stop : next.count ≡ 0 → is_ending next.end ≡ false → x.closed ≡ false → Allows x Stop → ⊥
+
+-- the events of a turn that sent so many bytes of the body, and fixed a zero chunk or not
+abbrev pub svc_events : ℕ → List Event
+svc_events n = if n == 0 then [] else Svc n ∷ []
+
+abbrev pub turn_events : ℕ → Bool → List Event
+turn_events n true = svc_events n ++ Stop ∷ []
+turn_events n false = svc_events n

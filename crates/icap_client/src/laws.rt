@@ -1,0 +1,84 @@
+//! What holds of all that was heard of a service and sent to it: each law is the contract of a function that does nothing.
+
+ghost use Rattle.std.specs.Prelude.{◌≡◌, ℕ, List, [], ◌++◌, length, true, false, Bool};
+ghost use Rattle.trace_core.specs.declared.history.Plan.{Plan};
+ghost use Rattle.trace_core.specs.declared.history.Point.{Point};
+ghost use Rattle.trace_core.specs.declared.history.Event.{Event};
+ghost use Rattle.trace_core.specs.declared.history.Seen.{Seen};
+ghost use Rattle.trace_core.specs.History.{seen, is_plain, in_bytes, is_retry};
+ghost use Rattle.trace_core.specs.Legal.{IsLegal};
+ghost use Rattle.trace_core.specs.View.{after};
+ghost use Rattle.icap_client.specs.Heard.{Reader, HasHeard};
+ghost use Rattle.icap_client.specs.Events.{is_of_replies, is_of_sending};
+ghost use Rattle.icap_client.specs.RequestText.{IsFrontOfRequest, IsRequestText};
+ghost use Rattle.icap_client.specs.Sending.{HasSent};
+ghost use Rattle.chunk_writer.specs.Writer.{Writer, fresh, waiting};
+ghost use Rattle.icap_client.specs.Replies.{Final, IsAnswer};
+ghost use Rattle.icap_client.specs.Reading.{Side, SideHeard};
+ghost use Rattle.icap_client.specs.Laws.{first_reader, IsWhole, WasSaid};
+ghost use Rattle.icap_client.specs.declared.stage.Stage.TheVariants as stages;
+
+/// Nothing was heard before the first byte.
+pub fn nothing_was_heard()
+    ensures { (plan : Plan) (point : Point) → HasHeard (seen plan []) [] [] (first_reader point) }
+{}
+
+/// The events of the other sides leave what was heard as it is.
+pub fn others_keep_what_was_heard()
+    ensures { (x : Seen) (event : Event) (adapted read : List ℕ) (r : Reader) → is_of_replies event ≡ false
+        → HasHeard x adapted read r → HasHeard (after x event) adapted read r }
+{}
+
+/// Where the reader is over, the bytes are a whole answer: a 100 or none, and then a 204, or a 200 with its heads and its body.
+pub fn an_answer_is_whole()
+    ensures { (x : Seen) (adapted read : List ℕ) (r : Reader) → r.stage ≡ stages.Over → HasHeard x adapted read r → IsWhole x adapted read r }
+{}
+
+/// A service's bytes have one reading as a whole answer: the same 100 or none, and the same final response with the same body.
+pub fn answers_have_one_reading()
+    ensures { (point : Point) (continued again : Bool) (final other : Final) (text : List ℕ)
+        → IsAnswer point continued final text → IsAnswer point again other text → (continued ≡ again) × (final ≡ other) }
+{}
+
+/// What the service's wire took is a front of a whole request for what came of the body.
+pub fn sent_is_a_front()
+    ensures { (plan : Plan) (events : List Event) (came taken : List ℕ) (w : Writer) → IsLegal plan events
+        → is_plain plan.kind ≡ false → length came ≡ (seen plan events).received
+        → HasSent (seen plan events) came taken w → IsFrontOfRequest (seen plan events) w.head came taken }
+{}
+
+/// Nothing is sent before the first turn.
+pub fn begins()
+    ensures { (plan : Plan) (head : List ℕ) → HasSent (seen plan []) [] []
+        (fresh head) }
+{}
+
+/// The other sides' events leave what was sent as it is. Body bytes that come stand behind those that came.
+pub fn others_keep()
+    ensures { (x : Seen) (event : Event) (came bytes taken : List ℕ) (w : Writer) → is_of_sending event ≡ false → is_retry event ≡ false
+        → length came ≡ x.received → length bytes ≡ in_bytes event
+        → HasSent x came taken w → HasSent (after x event) (came ++ bytes) taken w }
+{}
+
+/// A fresh side has sent nothing and heard nothing.
+pub fn a_side_begins()
+    ensures { (plan : Plan) (point : Point) (s : Side) → s.reader ≡ first_reader point → s.raw ≡ [] → SideHeard (seen plan []) [] [] s }
+{}
+
+/// The events of the other sides leave what was heard as it is, the raw bytes among it.
+pub fn others_heard()
+    ensures { (x : Seen) (event : Event) (adapted read : List ℕ) (s : Side) → is_of_replies event ≡ false
+        → SideHeard x adapted read s → SideHeard (after x event) adapted read s }
+{}
+
+/// Where the reader is over, its tag and its word on closing are those of the final response's ICAP head.
+pub fn the_final_head_says()
+    ensures { (x : Seen) (adapted read : List ℕ) (r : Reader) → r.stage ≡ stages.Over → HasHeard x adapted read r → WasSaid x read r }
+{}
+
+/// Where the last zero chunk was fixed and nothing waits, the service's wire took just a whole request.
+pub fn a_request_is_whole()
+    ensures { (plan : Plan) (events : List Event) (came taken : List ℕ) (w : Writer) → IsLegal plan events
+        → (seen plan events).last_stop ≡ true → waiting w ≡ [] → length came ≡ (seen plan events).received
+        → HasSent (seen plan events) came taken w → IsRequestText (seen plan events) w.head came taken }
+{}

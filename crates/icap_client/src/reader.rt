@@ -1,0 +1,488 @@
+//! Reading a service's responses: bytes in, events out, and nothing of wires (RFC 3507, sections 4.4 to 4.6).
+
+ghost use Rattle.std.specs.Prelude.{◌≡◌, ℕ, ◌<◌, ◌≤◌, ◌⊎◌, List, [], length, take, drop, OnOk, OnErr, option_copied, IfOk, IfErr, IfSome, IfNone, None, true, false, ◌≢◌, IsTrue, Some, ◌↔◌, MatchOption};
+ghost use Rattle.icap_head.specs.Heads.{Response, HasResponse, response_parts, Stands};
+ghost use Rattle.icap_head.specs.StartLines.{StatusForm};
+ghost use Rattle.icap_head.specs.declared.reading.HeadFault.TheVariants as heads;
+ghost use Rattle.trace_core.specs.History.{seen};
+ghost use Rattle.icap_client.specs.Events.{listed, May, MayHear, MayAllFollow, ad_sum, body_events};
+ghost use Rattle.icap_client.specs.Said.{tag_in, says_close};
+ghost use Rattle.icap_client.specs.Heard.{noted, Reader, in_stage, KeepsLimits, KeepsHead, Stays};
+ghost use Rattle.icap_client.specs.Laws.{first_reader};
+ghost use Rattle.icap_client.specs.Hearing.{Hears, Passes, MustWait, HasNoEmptyLine};
+ghost use Rattle.icap_client.specs.Replies.{IsEncapsulatedHead, has_body, payload_if};
+ghost use Rattle.icap_client.specs.Refused.{Refuses, RefusesReply, RefusesHead, RefusesBody, Says, LimitsOf};
+ghost use Rattle.encapsulated.specs.declared.offsets.Layout.{Layout as Parts};
+
+use crate::blank_line::{behind, front, head_end};
+use crate::body::read_body;
+use crate::lists::has_body;
+use crate::replies::{Reply, reply_of};
+use crate::said::says_close;
+use crate::stage::Stage;
+use adapt_sides::ClientFault;
+use arrayvec::ArrayVec;
+use encapsulated::Layout;
+use icap_chunks::ChunkReader;
+use icap_head::{HeadFault, IcapResponse, read_response};
+use std::alloc::{AllocError, Global};
+use std::marker::Model;
+use trace_core::{Event, Payload, Point, State};
+
+/// What was framed of the bytes that were offered: so many from the front, and what they say.
+#[derive(Clone, Copy, Debug, PartialEq, Eq)]
+pub(crate) struct Framed {
+    pub(crate) used: usize,
+    pub(crate) event: Option<Event>,
+}
+
+/// What was heard in the bytes that were offered: so many from the front were framed, and these events are what they say.
+#[derive(Drop)]
+pub struct Heard {
+    pub used: usize,
+    pub events: ArrayVec<Event, 4>,
+}
+
+/// Reads the responses to one request.
+#[derive(Drop)]
+pub struct ReplyReader {
+    alloc: Global,
+    point: Point,
+    stage: Stage,
+    layout: Option<Layout>,
+    head: Vec<u8>,
+    tag: Option<Vec<u8>>,
+    closes: bool,
+}
+
+impl Model for ReplyReader {
+    ghost use Rattle.std.specs.Prelude.{option_map};
+    ghost use Rattle.icap_client.specs.Heard.{Reader, KeepsLimits};
+
+    ghost Value = { Reader };
+
+    ghost view = { λ r. record { point = r.point; stage = r.stage; layout = r.layout; head = r.head.items; tag = option_map (λ tag. tag.items) r.tag; closes = r.closes } };
+
+    ghost invariant = { λ r. KeepsLimits r.stage };
+}
+
+impl ReplyReader {
+    /// A reader before the first byte of a response.
+    pub fn new(alloc: Global, point: Point) -> ReplyReader
+        ensures { result ≡ record { point = point; stage = Stage.Replies; layout = None; head = []; tag = None; closes = false } }
+    {
+        ReplyReader {
+            alloc,
+            point,
+            stage: Stage::Replies,
+            layout: None,
+            head: Vec::new(alloc),
+            tag: None,
+            closes: false,
+        }
+    }
+
+    /// The reader before the first byte of another connection's responses. It takes no memory.
+    pub fn again(&mut self)
+        ensures { self.new ≡ first_reader self.old.point }
+    {
+        self.stage = Stage::Replies;
+        self.layout = None;
+        self.head = Vec::new(self.alloc);
+        self.tag = None;
+        self.closes = false;
+    }
+
+    /// Where its memory comes from.
+    pub(crate) fn allocator(&self) -> Global {
+        self.alloc
+    }
+
+    /// The layout of a 200 and the adapted message's head, once both were read.
+    pub fn adapted_head(&self) -> Option<(Layout, &[u8])>
+        ensures { MatchOption result (self.now.layout ≡ None) (λ found. (self.now.layout ≡ Some found.0) × (found.1.now ≡ self.now.head)) }
+    {
+        match self.layout {
+            Some(layout) => Some((layout, self.head.as_slice())),
+            None => None,
+        }
+    }
+
+    /// Whether the final response is whole.
+    pub fn is_over(&self) -> bool
+        ensures over { IsTrue result ↔ self.now.stage ≡ Stage.Over }
+        ensures limits { KeepsLimits self.now.stage }
+    {
+        match self.stage {
+            Stage::Over => true,
+            Stage::Replies | Stage::Head(_) | Stage::Body(_) => false,
+        }
+    }
+
+    /// What the last response's ICAP head said: its tag.
+    pub fn tag(&self) -> Option<&[u8]>
+        ensures { option_copied result ≡ self.now.tag }
+    {
+        match &self.tag {
+            Some(tag) => Some(tag.as_slice()),
+            None => None,
+        }
+    }
+
+    /// What the last response's ICAP head said: that the connection closes.
+    pub fn closes(&self) -> bool
+        ensures { result ≡ self.now.closes }
+    {
+        self.closes
+    }
+
+    /// Keeps what a response says beside its message.
+    fn note(&mut self, value: &IcapResponse) -> Result<(), AllocError>
+        ensures ok { OnOk result (self.new ≡ noted self.old (tag_in (response_parts value.now).fields) (says_close (response_parts value.now).fields)) }
+        ensures err { OnErr result (self.new ≡ self.old) }
+    {
+        let tag = match value.fields.first(b"ISTag") {
+            Some(tag) => Some(tag.to_vec(self.alloc)?),
+            None => None,
+        };
+        self.closes = says_close(&value.fields);
+        self.tag = tag;
+        Ok(())
+    }
+
+    /// Goes on behind the head of this response, which is the first bytes of the raw ones, so many.
+    fn accept(
+        &mut self,
+        state: &State,
+        reply: Reply,
+        value: &IcapResponse,
+        raw: &[u8],
+        size: usize,
+    ) -> Result<Framed, ClientFault>
+        requires stage { self.old.stage ≡ Stage.Replies }
+        requires limits { LimitsOf reply }
+        requires head { HasResponse raw.now (response_parts value.now) size }
+        requires says { Says self.old.point (response_parts value.now) reply }
+        requires said { (self.old.tag ≡ tag_in (response_parts value.now).fields) × (self.old.closes ≡ says_close (response_parts value.now).fields) }
+        ensures within { IfOk result (λ framed. framed.used ≤ length raw.now) }
+        ensures silent { IfOk result (λ framed. ad_sum (listed framed.event) ≡ 0) }
+        ensures hears { IfOk result (λ framed. Hears (seen state.now.plan state.now.events) self.old self.new (listed framed.event) (take framed.used raw.now) []) }
+        ensures passes { IfOk result (λ framed. framed.event ≡ None → Passes self.old self.new framed.used raw.now) }
+        ensures refuses { IfErr result (λ fault. RefusesReply fault (seen state.now.plan state.now.events) self.old.point raw.now) }
+        ensures head { KeepsHead (seen state.now.plan state.now.events) self.old self.new }
+        ensures stays { IfErr result (λ _. Stays self.old self.new) }
+    {
+        match reply {
+            Reply::Continue => {
+                if !state.may(Event::Continue) {
+                    return Err(ClientFault::NotLegal);
+                }
+                Ok(Framed {
+                    used: size,
+                    event: Some(Event::Continue),
+                })
+            }
+            Reply::NoMod => {
+                if !state.may(Event::NoMod) {
+                    return Err(ClientFault::NotLegal);
+                }
+                self.stage = Stage::Over;
+                Ok(Framed {
+                    used: size,
+                    event: Some(Event::NoMod),
+                })
+            }
+            Reply::Mod(layout) => {
+                self.stage = Stage::Head(layout);
+                Ok(Framed {
+                    used: size,
+                    event: None,
+                })
+            }
+        }
+    }
+
+    /// Reads the ICAP head of a response, if it is there.
+    fn read_reply(&mut self, state: &State, raw: &[u8]) -> Result<Framed, ClientFault>
+        requires { self.old.stage ≡ Stage.Replies }
+        ensures within { IfOk result (λ framed. framed.used ≤ length raw.now) }
+        ensures silent { IfOk result (λ framed. ad_sum (listed framed.event) ≡ 0) }
+        ensures hears { IfOk result (λ framed. Hears (seen state.now.plan state.now.events) self.old self.new (listed framed.event) (take framed.used raw.now) []) }
+        ensures passes { IfOk result (λ framed. framed.event ≡ None → Passes self.old self.new framed.used raw.now) }
+        ensures refuses { IfErr result (λ fault. RefusesReply fault (seen state.now.plan state.now.events) self.old.point raw.now) }
+        ensures head { KeepsHead (seen state.now.plan state.now.events) self.old self.new }
+        ensures stays { IfErr result (λ _. Stays self.old self.new) }
+    {
+        match read_response(self.alloc, raw) {
+            Ok(head) => match reply_of(&head.value, self.point) {
+                Ok(reply) => {
+                    if self.note(&head.value).is_err() {
+                        return Err(ClientFault::NoMemory);
+                    }
+                    self.accept(state, reply, &head.value, raw, head.length)
+                }
+                Err(fault) => Err(fault),
+            },
+            Err(fault) => match refusal(fault) {
+                Some(fault) => Err(fault),
+                None => Ok(Framed {
+                    used: 0,
+                    event: None,
+                }),
+            },
+        }
+    }
+
+    /// Reads the adapted message's head, if it is there.
+    fn read_head(
+        &mut self,
+        state: &State,
+        layout: Layout,
+        raw: &[u8],
+    ) -> Result<Framed, ClientFault>
+        requires { self.old.stage ≡ Stage.Head layout }
+        ensures within { IfOk result (λ framed. framed.used ≤ length raw.now) }
+        ensures silent { IfOk result (λ framed. ad_sum (listed framed.event) ≡ 0) }
+        ensures hears { IfOk result (λ framed. Hears (seen state.now.plan state.now.events) self.old self.new (listed framed.event) (take framed.used raw.now) []) }
+        ensures waits { IfOk result (λ framed. framed.event ≡ None → (framed.used ≡ 0) × (self.new ≡ self.old) × (length raw.now < layout.offset) × HasNoEmptyLine raw.now) }
+        ensures refuses { IfErr result (λ fault. RefusesHead fault (seen state.now.plan state.now.events) layout raw.now) }
+        ensures head { KeepsHead (seen state.now.plan state.now.events) self.old self.new }
+        ensures stays { IfErr result (λ _. Stays self.old self.new) }
+    {
+        let size = layout.offset as usize;
+        let seen = front(raw, size);
+        match head_end(seen) {
+            Some(end) if end == size => self.take_head(state, layout, seen),
+            Some(_) => Err(ClientFault::Layout),
+            None if raw.len() >= size => Err(ClientFault::Layout),
+            None => Ok(Framed {
+                used: 0,
+                event: None,
+            }),
+        }
+    }
+
+    /// Reads the heads of a response, as far as they are there.
+    fn read_heads(&mut self, state: &State, raw: &[u8]) -> Result<Framed, ClientFault>
+        requires { self.old.stage ≡ Stage.Replies }
+        ensures within { IfOk result (λ framed. framed.used ≤ length raw.now) }
+        ensures silent { IfOk result (λ framed. ad_sum (listed framed.event) ≡ 0) }
+        ensures hears { IfOk result (λ framed. Hears (seen state.now.plan state.now.events) self.old self.new (listed framed.event) (take framed.used raw.now) []) }
+        ensures waits { IfOk result (λ framed. framed.event ≡ None → (room : ℕ) → MustWait self.new.stage (drop framed.used raw.now) room) }
+        ensures refuses { IfErr result (λ fault. Refuses fault (seen state.now.plan state.now.events) self.old.point Stage.Replies raw.now) }
+        ensures head { KeepsHead (seen state.now.plan state.now.events) self.old self.new }
+        ensures stays { IfErr result (λ _. Stays self.old self.new) }
+    {
+        let first = match self.read_reply(state, raw) {
+            Ok(framed) => framed,
+            Err(fault) => return Err(fault),
+        };
+        match first.event {
+            Some(_) => Ok(first),
+            None => match self.stage {
+                Stage::Head(layout) => {
+                    let rest = behind(raw, first.used);
+                    match self.read_head(state, layout, rest) {
+                        Ok(second) => Ok(Framed {
+                            used: first.used + second.used,
+                            event: second.event,
+                        }),
+                        Err(fault) => {
+                            self.stage = Stage::Replies;
+                            Err(fault)
+                        }
+                    }
+                }
+                _ => Ok(first),
+            },
+        }
+    }
+
+    /// Reads on in the body.
+    fn read_on(
+        &mut self,
+        state: &State,
+        chunks: ChunkReader,
+        raw: &[u8],
+        out: &mut [u8],
+    ) -> Result<Heard, ClientFault>
+        requires { self.old.stage ≡ Stage.Body chunks }
+        ensures within { IfOk result (λ heard. (heard.used ≤ length raw.now) × (ad_sum heard.events.items ≤ length out.old)) }
+        ensures hears { IfOk result (λ heard. Hears (seen state.now.plan state.now.events) self.old self.new heard.events.items (take heard.used raw.now) (take (ad_sum heard.events.items) out.new)) }
+        ensures waits { IfOk result (λ heard. heard.events.items ≡ [] → MustWait self.new.stage (drop heard.used raw.now) (length out.old)) }
+        ensures refuses { IfErr result (λ fault. RefusesBody fault (seen state.now.plan state.now.events) chunks raw.now) }
+        ensures head { KeepsHead (seen state.now.plan state.now.events) self.old self.new }
+        ensures stays { IfErr result (λ _. Stays self.old self.new) }
+    {
+        let _ = &self.stage;
+        let mut next = chunks;
+        match read_body(&mut next, raw, out) {
+            Ok(copied) => {
+                if !may_all(state, copied.count, copied.ended) {
+                    return Err(ClientFault::NotLegal);
+                }
+                self.stage = if copied.ended {
+                    Stage::Over
+                } else {
+                    Stage::Body(next)
+                };
+                Ok(Heard {
+                    used: copied.used,
+                    events: body_events(copied.count, copied.ended),
+                })
+            }
+            Err(_) => Err(ClientFault::Chunk),
+        }
+    }
+
+    /// Frames what may be framed of the raw bytes, which stand behind those that were framed before. The bytes of the adapted
+    /// body go to the front of `out`, as many as the events say.
+    pub fn frame(&mut self, state: &State, raw: &[u8], out: &mut [u8]) -> Result<Heard, ClientFault>
+        ensures within { IfOk result (λ heard. (heard.used ≤ length raw.now) × (ad_sum heard.events.items ≤ length out.old)) }
+        ensures hears { IfOk result (λ heard. Hears (seen state.now.plan state.now.events) self.old self.new heard.events.items (take heard.used raw.now) (take (ad_sum heard.events.items) out.new)) }
+
+        // Without an event no further byte can be framed.
+        ensures waits { IfOk result (λ heard. heard.events.items ≡ [] → MustWait self.new.stage (drop heard.used raw.now) (length out.old)) }
+
+        // Each fault has its reason in the bytes.
+        ensures refuses { IfErr result (λ fault. Refuses fault (seen state.now.plan state.now.events) self.old.point self.old.stage raw.now) }
+        ensures head { KeepsHead (seen state.now.plan state.now.events) self.old self.new }
+        ensures stays { IfErr result (λ _. Stays self.old self.new) }
+    {
+        match self.stage {
+            Stage::Replies => match self.read_heads(state, raw) {
+                Ok(framed) => Ok(Heard {
+                    used: framed.used,
+                    events: event_list(framed.event),
+                }),
+                Err(fault) => Err(fault),
+            },
+            Stage::Head(layout) => match self.read_head(state, layout, raw) {
+                Ok(framed) => Ok(Heard {
+                    used: framed.used,
+                    events: event_list(framed.event),
+                }),
+                Err(fault) => Err(fault),
+            },
+            Stage::Body(chunks) => self.read_on(state, chunks, raw, out),
+            Stage::Over => Ok(Heard {
+                used: 0,
+                events: ArrayVec::new(),
+            }),
+        }
+    }
+
+    /// Takes the adapted message's head.
+    fn take_head(
+        &mut self,
+        state: &State,
+        layout: Layout,
+        head: &[u8],
+    ) -> Result<Framed, ClientFault>
+        requires stage { self.old.stage ≡ Stage.Head layout }
+        requires head { IsEncapsulatedHead head.now }
+        requires size { length head.now ≡ layout.offset }
+        ensures used { IfOk result (λ framed. framed.used ≡ length head.now) }
+        ensures event { IfOk result (λ framed. framed.event ≡ Some (Event.Mod (payload_if (has_body layout.body)))) }
+        ensures silent { IfOk result (λ framed. ad_sum (listed framed.event) ≡ 0) }
+        ensures hears { IfOk result (λ framed. Hears (seen state.now.plan state.now.events) self.old self.new (listed framed.event) head.now []) }
+        ensures refuses { IfErr result (λ fault. (fault ≡ ClientFault.NoMemory) ⊎ ((fault ≡ ClientFault.NotLegal) × (May (seen state.now.plan state.now.events) (Event.Mod (payload_if (has_body layout.body))) → ⊥))) }
+        ensures head { KeepsHead (seen state.now.plan state.now.events) self.old self.new }
+        ensures stays { IfErr result (λ _. Stays self.old self.new) }
+    {
+        let body = has_body(layout.body);
+        let payload = payload_of(body);
+        if !state.may(Event::Mod(payload)) {
+            return Err(ClientFault::NotLegal);
+        }
+        let Ok(head_bytes) = head.to_vec(self.alloc) else {
+            return Err(ClientFault::NoMemory);
+        };
+        self.head = head_bytes;
+        self.layout = Some(layout);
+        self.stage = if body {
+            Stage::Body(ChunkReader::new())
+        } else {
+            Stage::Over
+        };
+        Ok(Framed {
+            used: head.len(),
+            event: Some(Event::Mod(payload)),
+        })
+    }
+}
+
+/// The fault of a text that has no ICAP head at its front; none where it may still become one.
+fn refusal(fault: HeadFault) -> Option<ClientFault>
+    ensures some { IfSome result (λ found. ((fault ≡ HeadFault.NoMemory) × (found ≡ ClientFault.NoMemory))
+        ⊎ ((found ≡ ClientFault.Head) × (fault ≢ HeadFault.NoMemory) × (fault ≢ HeadFault.More))) }
+    ensures none { IfNone result (fault ≡ HeadFault.More) }
+{
+    match fault {
+        HeadFault::More => None,
+        HeadFault::NoMemory => Some(ClientFault::NoMemory),
+        HeadFault::StartLine
+        | HeadFault::Version
+        | HeadFault::Field
+        | HeadFault::TooLong
+        | HeadFault::TooMany => Some(ClientFault::Head),
+    }
+}
+
+/// The event, if there is one, as a list.
+pub(crate) fn event_list(event: Option<Event>) -> ArrayVec<Event, 4>
+    ensures { result.items ≡ listed event }
+{
+    let mut events = ArrayVec::new();
+    if let Some(event) = event {
+        let _ = events.try_push(event);
+    }
+    events
+}
+
+/// The events of so many bytes of the adapted body, and of its end.
+fn body_events(count: usize, ended: bool) -> ArrayVec<Event, 4>
+    ensures { result.items ≡ body_events count ended }
+{
+    let mut events = ArrayVec::new();
+    if count > 0 {
+        let _ = events.try_push(Event::Ad(count as u64));
+    }
+    if ended {
+        let _ = events.try_push(Event::AdEnd);
+    }
+    events
+}
+
+/// Whether these events may come now.
+fn may_all(state: &State, count: usize, ended: bool) -> bool
+    ensures may { IsTrue result → MayAllFollow (seen state.now.plan state.now.events) (body_events count ended) }
+    ensures heard { IsTrue result → (body_events count ended ≡ []) ⊎ ((seen state.now.plan state.now.events).heard ≡ true) }
+    ensures may_not { result ≡ false → ((0 < count) × (MayHear (seen state.now.plan state.now.events) (Event.Ad count) → ⊥)) ⊎ ((count ≡ 0) × (ended ≡ true) × (MayHear (seen state.now.plan state.now.events) Event.AdEnd → ⊥)) }
+{
+    if count > 0 {
+        return may_hear(state, Event::Ad(count as u64));
+    }
+    if ended {
+        return may_hear(state, Event::AdEnd);
+    }
+    true
+}
+
+/// Whether the event may come now, behind a first byte that was read before.
+fn may_hear(state: &State, event: Event) -> bool
+    ensures { IsTrue result ↔ MayHear (seen state.now.plan state.now.events) event }
+{
+    state.seen().heard && state.may(event)
+}
+
+/// What a 200 has behind its heads.
+fn payload_of(body: bool) -> Payload
+    ensures { result ≡ payload_if body }
+{
+    if body {
+        Payload::Body
+    } else {
+        Payload::NullBody
+    }
+}

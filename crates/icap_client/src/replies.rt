@@ -1,0 +1,51 @@
+//! Which response an ICAP head is.
+
+ghost use Rattle.std.specs.Prelude.{◌≡◌, IfOk, IfErr};
+ghost use Rattle.icap_head.specs.Heads.{response_parts};
+ghost use Rattle.icap_client.specs.Replies.{HasNothing, lists_of};
+ghost use Rattle.icap_client.specs.Refused.{Says, SaysNone};
+
+use crate::lists::{adapted_layout, has_nothing};
+use adapt_sides::ClientFault;
+use encapsulated::Layout;
+use icap_head::IcapResponse;
+use trace_core::Point;
+
+/// A response, as its ICAP head says it.
+#[derive(Clone, Copy, Debug, PartialEq, Eq)]
+pub(crate) enum Reply {
+    /// 100
+    Continue,
+    /// 204
+    NoMod,
+    /// 200, with this layout.
+    Mod(Layout),
+}
+
+/// The response that has this head.
+pub(crate) fn reply_of(value: &IcapResponse, point: Point) -> Result<Reply, ClientFault>
+    ensures ok { IfOk result (Says point (response_parts value.now)) }
+    ensures err { IfErr result (λ fault. SaysNone fault point (response_parts value.now)) }
+{
+    match value.status {
+        100 => bare(value, point, Reply::Continue),
+        204 => bare(value, point, Reply::NoMod),
+        200 => match adapted_layout(&value.fields, point) {
+            Some(layout) => Ok(Reply::Mod(layout)),
+            None => Err(ClientFault::Layout),
+        },
+        _ => Err(ClientFault::Status),
+    }
+}
+
+/// The response, if its head encapsulates nothing.
+fn bare(value: &IcapResponse, point: Point, reply: Reply) -> Result<Reply, ClientFault>
+    ensures ok { IfOk result (λ found. (found ≡ reply) × HasNothing point (lists_of (response_parts value.now))) }
+    ensures err { IfErr result (λ fault. (fault ≡ ClientFault.Layout) × (HasNothing point (lists_of (response_parts value.now)) → ⊥)) }
+{
+    if has_nothing(&value.fields, point) {
+        Ok(reply)
+    } else {
+        Err(ClientFault::Layout)
+    }
+}

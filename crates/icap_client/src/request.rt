@@ -1,0 +1,161 @@
+//! The text of a request before its chunks.
+
+ghost use Rattle.std.specs.Prelude.{◌≡◌, ◌+◌, ◌<◌, ◌^◌, ◌++◌, length, OnOk, IfOk};
+ghost use Rattle.adapt_bytes.specs.Numeral.{numeral};
+ghost use Rattle.icap_client.specs.RequestHead.{joined, start_pieces, host_pieces, allow_pieces, preview_pieces, body_name, list_pieces, head_pieces, request_head};
+ghost use Rattle.icap_client.specs.RequestText.{is_null};
+
+use adapt_bytes::{Small, put_decimal};
+use arrayvec::ArrayVec;
+use std::alloc::{AllocError, Global};
+use trace_core::{Kind, Plan, Point};
+
+/// The ICAP head that offers a message of this plan to the service there, with the encapsulated heads behind it: at REQMOD
+/// the request's head alone.
+pub(crate) fn request_head(
+    alloc: Global,
+    plan: &Plan,
+    host: &[u8],
+    port: u16,
+    path: &[u8],
+    req: &[u8],
+    res: &[u8],
+) -> Result<Vec<u8>, AllocError>
+    requires { length req.now + length res.now < 2 ^ 62 }
+    ensures { IfOk result (λ text. text.items ≡ request_head plan.now host.now port path.now req.now res.now) }
+{
+    let mut out = Vec::new(alloc);
+    put_start(&mut out, plan.point, host, port, path)?;
+    put_host(&mut out, host, port)?;
+    put_allow(&mut out, plan.allow)?;
+    put_preview(&mut out, plan.kind)?;
+    put_list(
+        &mut out,
+        plan.point,
+        plan.len == Some(0),
+        req.len(),
+        res.len(),
+    )?;
+    put_heads(&mut out, plan.point, req, res)?;
+    Ok(out)
+}
+
+fn put(out: &mut Vec<u8>, text: &[u8]) -> Result<(), AllocError>
+    ensures { OnOk result (out.new.items ≡ out.old.items ++ text.now) }
+{
+    out.extend_from_slice(text)
+}
+
+fn put_number(out: &mut Vec<u8>, n: u64) -> Result<(), AllocError>
+    ensures { OnOk result (out.new.items ≡ out.old.items ++ numeral 10 n) }
+{
+    let mut digits: Small = ArrayVec::new();
+    put_decimal(n, &mut digits);
+    put(out, digits.as_slice())
+}
+
+fn put_start(
+    out: &mut Vec<u8>,
+    point: Point,
+    host: &[u8],
+    port: u16,
+    path: &[u8],
+) -> Result<(), AllocError>
+    ensures { OnOk result (out.new.items ≡ joined (start_pieces point host.now port path.now) out.old.items) }
+{
+    match point {
+        Point::Reqmod => put(out, b"REQMOD")?,
+        Point::Respmod => put(out, b"RESPMOD")?,
+    }
+    put(out, b" icap://")?;
+    put(out, host)?;
+    put(out, b":")?;
+    put_number(out, u64::from(port))?;
+    put(out, path)?;
+    put(out, b" ICAP/1.0")?;
+    put(out, b"\r\n")
+}
+
+fn put_host(out: &mut Vec<u8>, host: &[u8], port: u16) -> Result<(), AllocError>
+    ensures { OnOk result (out.new.items ≡ joined (host_pieces host.now port) out.old.items) }
+{
+    put(out, b"Host: ")?;
+    put(out, host)?;
+    put(out, b":")?;
+    put_number(out, u64::from(port))?;
+    put(out, b"\r\n")
+}
+
+fn put_allow(out: &mut Vec<u8>, allow: bool) -> Result<(), AllocError>
+    ensures { OnOk result (out.new.items ≡ joined (allow_pieces allow) out.old.items) }
+{
+    if !allow {
+        return Ok(());
+    }
+    put(out, b"Allow: 204")?;
+    put(out, b"\r\n")
+}
+
+fn put_preview(out: &mut Vec<u8>, kind: Kind) -> Result<(), AllocError>
+    ensures { OnOk result (out.new.items ≡ joined (preview_pieces kind) out.old.items) }
+{
+    match kind {
+        Kind::Plain => Ok(()),
+        Kind::Whole => Ok(()),
+        Kind::Preview(size) => {
+            put(out, b"Preview: ")?;
+            put_number(out, size)?;
+            put(out, b"\r\n")
+        }
+    }
+}
+
+/// The body part's name.
+fn body_name(point: Point, null: bool) -> &'static [u8]
+    ensures { result.now ≡ body_name point null }
+{
+    match (point, null) {
+        (Point::Reqmod, true) => b"null-body=",
+        (Point::Reqmod, false) => b"req-body=",
+        (Point::Respmod, true) => b"null-body=",
+        (Point::Respmod, false) => b"res-body=",
+    }
+}
+
+fn put_list(
+    out: &mut Vec<u8>,
+    point: Point,
+    null: bool,
+    req: usize,
+    res: usize,
+) -> Result<(), AllocError>
+    requires { req + res < 2 ^ 62 }
+    ensures { OnOk result (out.new.items ≡ joined (list_pieces point null req res) out.old.items) }
+{
+    match point {
+        Point::Reqmod => {
+            put(out, b"Encapsulated: req-hdr=0, ")?;
+            put(out, body_name(Point::Reqmod, null))?;
+            put_number(out, req as u64)?;
+        }
+        Point::Respmod => {
+            put(out, b"Encapsulated: req-hdr=0, res-hdr=")?;
+            put_number(out, req as u64)?;
+            put(out, b", ")?;
+            put(out, body_name(Point::Respmod, null))?;
+            put_number(out, (req + res) as u64)?;
+        }
+    }
+    put(out, b"\r\n")?;
+    put(out, b"\r\n")
+}
+
+fn put_heads(out: &mut Vec<u8>, point: Point, req: &[u8], res: &[u8]) -> Result<(), AllocError>
+    ensures { OnOk result (out.new.items ≡ joined (head_pieces point req.now res.now) out.old.items) }
+{
+    put(out, req)?;
+    match point {
+        Point::Reqmod => Ok(()),
+        Point::Respmod => put(out, res),
+    }
+}

@@ -1,0 +1,247 @@
+//! The service's end of one transaction: both halves.
+
+ghost use Rattle.arrayvec.specs.ArrayVec.{array_vec_len};
+ghost use Rattle.std.specs.Prelude.{option_copied, ◌≡◌, ℕ, List, ◌+◌, ◌≤◌, ◌++◌, ◌∷◌, ◌↔◌, ◌^◌, IsTrue, IfSome, IfOk, IfErr, Err, true, false, Some, None, ◌⊎◌, [], length, ◌<◌, MatchOption};
+ghost use Rattle.trace_core.specs.declared.history.Seen.{Seen};
+ghost use Rattle.trace_core.specs.History.{seen};
+ghost use Rattle.wire_kit.specs.Past.{Past};
+ghost use Rattle.chunk_writer.specs.Writer.{fresh, waiting};
+ghost use Rattle.icap_client.specs.Heard.{KeepsHead};
+ghost use Rattle.icap_client.specs.Laws.{first_reader};
+ghost use Rattle.icap_client.specs.Reading.{SideHeard, ReadTurn};
+ghost use Rattle.icap_client.specs.Sending.{HasSent, KeepsUnsent, NothingDue, turn_events};
+ghost use Rattle.icap_client.specs.RequestHead.{request_head};
+ghost use Rattle.icap_client.specs.Turns.{is_whole_request, WriteTurn, Sends, Hears, RestsReading, is_flushed};
+
+use crate::decide::decide;
+use crate::request::request_head;
+use crate::side::ReplySide;
+use crate::stage::Stage;
+use adapt_sides::{ClientFault, Turn};
+use arrayvec::ArrayVec;
+use chunk_writer::{ChunkWriter, Wrote};
+use encapsulated::Layout;
+use span_tape::SpanTape;
+use std::alloc::{AllocError, Global};
+use std::marker::Model;
+use trace_core::{Event, Kind, Plan, Point, State};
+use wire_kit::{Put, Wire};
+
+/// Writes what is due, with one write at most.
+fn write_once<W: Wire>(
+    writer: &mut ChunkWriter,
+    state: &State,
+    tape: &SpanTape,
+    wire: &mut W,
+) -> Result<Turn, ClientFault>
+    requires { KeepsUnsent (seen state.now.plan state.now.events) tape.now }
+    ensures turn { WriteTurn (seen state.now.plan state.now.events) tape.now writer.old writer.new (W.past wire.old) (W.past wire.new) result }
+{
+    let _ = state.trace();
+    let next = decide(state, writer);
+    let wrote = writer.write(&next, tape, wire);
+    match wrote.answer {
+        Some(Put::Fault) => Err(ClientFault::Device),
+        Some(Put::Took(_)) => Ok(turn_of(wrote.sent, wrote.ended, true)),
+        Some(Put::Wait) => Ok(turn_of(0, false, false)),
+        None => Ok(turn_of(0, wrote.ended, false)),
+    }
+}
+
+/// The service's end of one transaction.
+#[derive(Drop)]
+pub struct ServiceSide {
+    writer: ChunkWriter,
+    replies: ReplySide,
+}
+
+impl Model for ServiceSide {
+    ghost use Rattle.icap_client.specs.Turns.{Service};
+
+    ghost Value = { Service };
+
+    ghost view = { λ s. record { writer = s.writer; replies = s.replies } };
+}
+
+impl ServiceSide {
+    /// A request whose ICAP head, with the encapsulated heads behind it, is this text.
+    pub fn of_head(alloc: Global, point: Point, head: Vec<u8>) -> ServiceSide
+        ensures writer { result.writer ≡ fresh head.items }
+        ensures reader { result.replies.reader ≡ first_reader point }
+        ensures raw { result.replies.raw ≡ [] }
+        ensures fault { result.replies.fault ≡ None }
+    {
+        ServiceSide {
+            writer: ChunkWriter::new(head),
+            replies: ReplySide::new(alloc, point),
+        }
+    }
+
+    /// A request that offers a message of this plan to the service there. `req` and `res` are the encapsulated heads; at
+    /// REQMOD `res` has no place.
+    pub fn new(
+        alloc: Global,
+        plan: &Plan,
+        host: &[u8],
+        port: u16,
+        path: &[u8],
+        req: &[u8],
+        res: &[u8],
+    ) -> Result<ServiceSide, AllocError>
+        requires { length req.now + length res.now < 2 ^ 62 }
+        ensures writer { IfOk result (λ side. side.writer ≡ fresh (request_head plan.now host.now port path.now req.now res.now)) }
+        ensures reader { IfOk result (λ side. side.replies.reader ≡ first_reader plan.now.point) }
+        ensures raw { IfOk result (λ side. side.replies.raw ≡ []) }
+        ensures fault { IfOk result (λ side. side.replies.fault ≡ None) }
+    {
+        let head = request_head(alloc, plan, host, port, path, req, res)?;
+        Ok(ServiceSide::of_head(alloc, plan.point, head))
+    }
+
+    /// Begins the request anew, for a fresh connection: its text is that of the whole request again, nothing is read, and no
+    /// fault is kept. It takes no memory.
+    pub fn again(&mut self)
+        ensures writer { self.new.writer ≡ fresh self.old.writer.head }
+        ensures reader { self.new.replies.reader ≡ first_reader self.old.replies.reader.point }
+        ensures raw { self.new.replies.raw ≡ [] }
+        ensures fault { self.new.replies.fault ≡ None }
+    {
+        self.writer.again();
+        self.replies.again();
+    }
+
+    /// Whether the request is whole: all of it is out, or all of the preview, and that was answered without a 100.
+    pub fn request_whole(&self, state: &State) -> bool
+        ensures { result ≡ is_whole_request (seen state.now.plan state.now.events) self.now.writer }
+    {
+        let seen = state.seen();
+        let preview = matches!(seen.plan.kind, Kind::Preview(_));
+        let answered = seen.no_mod || seen.modified;
+        flushed(&self.writer)
+            && (seen.last_stop || (preview && seen.stopped && !seen.continued && answered))
+    }
+
+    /// The raw bytes left over.
+    pub fn raw_left(&self) -> usize
+        ensures left { result ≡ length self.now.replies.raw }
+        ensures limit { result ≤ 16384 }
+    {
+        self.replies.raw_left()
+    }
+
+    /// The layout of a 200 and the adapted message's head, once both were read.
+    pub fn adapted_head(&self) -> Option<(Layout, &[u8])>
+        ensures { MatchOption result (self.now.replies.reader.layout ≡ None) (λ found. (self.now.replies.reader.layout ≡ Some found.0) × (found.1.now ≡ self.now.replies.reader.head)) }
+    {
+        self.replies.adapted_head()
+    }
+
+    /// Whether the final response was read to its end.
+    pub fn reply_whole(&self) -> bool
+        ensures { IsTrue result ↔ self.now.replies.reader.stage ≡ Stage.Over }
+    {
+        self.replies.reply_whole()
+    }
+
+    /// The tag that the last answer's head had.
+    pub fn tag(&self) -> Option<&[u8]>
+        ensures { option_copied result ≡ self.now.replies.reader.tag }
+    {
+        self.replies.tag()
+    }
+
+    /// Whether the last answer's head says that the connection closes.
+    pub fn closes(&self) -> bool
+        ensures { result ≡ self.now.replies.reader.closes }
+    {
+        self.replies.closes()
+    }
+
+    /// Whether all text that was fixed is out.
+    pub fn is_flushed(&self) -> bool
+        ensures { result ≡ is_flushed self.now.writer }
+    {
+        flushed(&self.writer)
+    }
+
+    /// Writes what is due, with one write at most. The caller steps the events, in their order.
+    pub fn write_turn<W: Wire>(
+        &mut self,
+        state: &State,
+        tape: &SpanTape,
+        wire: &mut W,
+    ) -> Result<Turn, ClientFault>
+        requires { KeepsUnsent (seen state.now.plan state.now.events) tape.now }
+        ensures reader { self.new.replies.reader ≡ self.old.replies.reader }
+        ensures raw { self.new.replies.raw ≡ self.old.replies.raw }
+
+        // One write at most, and what each answer of it means.
+        ensures turn { self.old.replies.fault ≡ None → WriteTurn (seen state.now.plan state.now.events) tape.now self.old.writer self.new.writer (W.past wire.old) (W.past wire.new) result }
+        ensures sends { Sends (seen state.now.plan state.now.events) tape.now
+            (λ x came taken. HasSent x came taken self.old.writer) (λ x came taken. HasSent x came taken self.new.writer)
+            self.old.replies.fault self.new.replies.fault (NothingDue (seen state.now.plan state.now.events) self.new.writer) (W.past wire.old) (W.past wire.new) result }
+    {
+        if let Some(fault) = self.replies.fault() {
+            return Err(fault);
+        }
+        match write_once(&mut self.writer, state, tape, wire) {
+            Ok(turn) => Ok(turn),
+            Err(fault) => {
+                self.replies.keep(fault);
+                Err(fault)
+            }
+        }
+    }
+
+    /// Reads what the service answers, with one read at most. The bytes of the adapted body go to the front of `out`, as many
+    /// as the events say, and the caller steps the events.
+    pub fn read_turn<W: Wire>(
+        &mut self,
+        state: &State,
+        wire: &mut W,
+        out: &mut [u8],
+    ) -> Result<Turn, ClientFault>
+        ensures writer { self.new.writer ≡ self.old.writer }
+        ensures head { KeepsHead (seen state.now.plan state.now.events) self.old.replies.reader self.new.replies.reader }
+
+        // What the wire gave, what was framed, and why bytes are refused.
+        ensures turn { self.old.replies.fault ≡ None → ReadTurn (seen state.now.plan state.now.events) (is_flushed self.old.writer) (length out.old) self.old.replies self.new.replies (W.past wire.old) (W.past wire.new) out.new result }
+        ensures hears { Hears (seen state.now.plan state.now.events)
+            (λ x adapted read. SideHeard x adapted read self.old.replies) (λ x adapted read. SideHeard x adapted read self.new.replies)
+            self.old.replies.fault self.new.replies.fault (RestsReading (seen state.now.plan state.now.events) (length out.old) self.new) (W.past wire.old) (W.past wire.new) out.new result }
+    {
+        let all_sent = flushed(&self.writer);
+        self.replies.read_turn(state, all_sent, wire, out)
+    }
+}
+
+/// Whether all text that was fixed is out.
+fn flushed(writer: &ChunkWriter) -> bool
+    ensures { result ≡ is_flushed writer.now }
+{
+    writer.is_out()
+}
+
+fn turn_of(sent: u64, ended: bool, moved: bool) -> Turn
+    ensures events { result.events.items ≡ turn_events sent ended }
+    ensures waits { result.waiting ≡ true → (result.events.items ≡ []) × (moved ≡ false) }
+    ensures goes { result.waiting ≡ false → (moved ≡ false) → result.events.items ≡ [] → ⊥ }
+{
+    let mut events = ArrayVec::new();
+    if sent > 0 {
+        push(&mut events, Event::Svc(sent));
+    }
+    if ended {
+        push(&mut events, Event::Stop);
+    }
+    let waiting = sent == 0 && !ended && !moved;
+    Turn { events, waiting }
+}
+
+fn push(events: &mut ArrayVec<Event, 4>, event: Event)
+    requires { array_vec_len events.old < 4 }
+    ensures items { events.new.items ≡ events.old.items ++ event ∷ [] }
+    ensures len { array_vec_len events.new ≡ array_vec_len events.old + 1 }
+{
+    events.push(event);
+}

@@ -1,0 +1,344 @@
+//! The reading half of the service's side: the reader over a wire.
+
+ghost use Rattle.std.specs.Prelude.{option_copied, ◌≡◌, ◌<◌, ◌≤◌, ◌↔◌, [], length, take, IsTrue, IfOk, IfErr, IfSome, OnOk, None, Some, Bool, true, false, Err, MatchOption};
+ghost use Rattle.trace_core.specs.History.{seen};
+ghost use Rattle.icap_client.specs.Events.{May, ad_sum};
+ghost use Rattle.icap_client.specs.Hearing.{MustWait};
+ghost use Rattle.icap_client.specs.Heard.{KeepsLimits, KeepsHead};
+ghost use Rattle.icap_client.specs.Laws.{first_reader};
+ghost use Rattle.icap_client.specs.Refused.{Refuses};
+ghost use Rattle.icap_client.specs.Reading.{Side, SideHears, MayRead, NothingToRead, IsFilled, ReadTurn};
+ghost use Rattle.wire_kit.specs.Past.{Past};
+
+use crate::reader::{ReplyReader, event_list};
+use crate::stage::Stage;
+use adapt_sides::{ClientFault, Turn};
+use arrayvec::ArrayVec;
+use bytes::BytesMut;
+use encapsulated::Layout;
+use std::alloc::Global;
+use std::marker::Model;
+use trace_core::{Event, Kind, Point, State};
+use wire_kit::{Got, Wire};
+
+/// The most bytes that are kept without being framed.
+const MAX_RAW: usize = 16_384;
+
+/// The most bytes of one read.
+const MAX_READ: usize = 4096;
+
+/// What a read gave.
+#[derive(Clone, Copy, Debug, PartialEq, Eq)]
+pub enum Filled {
+    /// Bytes came.
+    Bytes,
+    /// The service has ended its bytes.
+    Ended,
+    /// Nothing now.
+    Wait,
+    /// The connection failed.
+    Failed,
+    /// There was no memory for bytes.
+    NoMemory,
+}
+
+/// Reads once behind the raw bytes.
+fn fill<W: Wire>(raw: &mut BytesMut, wire: &mut W) -> Filled
+    requires { length raw.old.items < 16384 }
+    ensures filled { IsFilled (W.past wire.old) (W.past wire.new) raw.old.items raw.new.items result }
+    ensures fits { length raw.new.items ≤ 16384 }
+{
+    let most = (MAX_RAW - raw.len()).min(MAX_READ);
+    if raw.reserve(most).is_err() {
+        return Filled::NoMemory;
+    }
+    let mut buf = [0; 4096];
+    match wire.try_read(&mut buf[..most]) {
+        Got::Bytes(n) => {
+            raw.extend_reserved(&buf[..n]);
+            Filled::Bytes
+        }
+        Got::Ended => Filled::Ended,
+        Got::Wait => Filled::Wait,
+        Got::Fault => Filled::Failed,
+    }
+}
+
+/// Whether the service may answer now.
+fn may_read(state: &State, all_sent: bool) -> bool
+    ensures { IsTrue result ↔ MayRead (seen state.now.plan state.now.events) all_sent }
+{
+    let seen = state.seen();
+    match seen.plan.kind {
+        Kind::Preview(_) => seen.continued || (seen.stopped && all_sent),
+        Kind::Plain | Kind::Whole => true,
+    }
+}
+
+/// The reading half of the service's side.
+#[derive(Drop)]
+pub struct ReplySide {
+    reader: ReplyReader,
+    raw: BytesMut,
+    fault: Option<ClientFault>,
+}
+
+impl Model for ReplySide {
+    ghost use Rattle.std.specs.Prelude.{◌≤◌, length};
+    ghost use Rattle.icap_client.specs.Reading.{Side};
+
+    ghost Value = { Side };
+
+    ghost view = { λ s. record { reader = s.reader; raw = s.raw.items; fault = s.fault } };
+
+    ghost invariant = { λ s. length s.raw.items ≤ 16384 };
+}
+
+impl ReplySide {
+    ghost use Rattle.icap_client.specs.Reading.{CameOf};
+
+    /// A side before the first byte of a response.
+    pub fn new(alloc: Global, point: Point) -> ReplySide
+        ensures raw { result.raw ≡ [] }
+        ensures fault { result.fault ≡ None }
+        ensures reader { result.reader ≡ first_reader point }
+    {
+        ReplySide {
+            reader: ReplyReader::new(alloc, point),
+            raw: BytesMut::new(alloc),
+            fault: None,
+        }
+    }
+
+    /// The side before the first byte of another connection's responses: without raw bytes, and without a fault.
+    pub(crate) fn again(&mut self)
+        ensures reader { self.new.reader ≡ first_reader self.old.reader.point }
+        ensures raw { self.new.raw ≡ [] }
+        ensures fault { self.new.fault ≡ None }
+    {
+        self.reader.again();
+        self.raw = BytesMut::new(self.reader.allocator());
+        self.fault = None;
+    }
+
+    /// The raw bytes left over.
+    pub fn raw_left(&self) -> usize
+        ensures left { result ≡ length self.now.raw }
+        ensures limit { result ≤ 16384 }
+    {
+        self.raw.len()
+    }
+
+    /// The layout of a 200 and the adapted message's head, once both were read.
+    pub fn adapted_head(&self) -> Option<(Layout, &[u8])>
+        ensures { MatchOption result (self.now.reader.layout ≡ None) (λ found. (self.now.reader.layout ≡ Some found.0) × (found.1.now ≡ self.now.reader.head)) }
+    {
+        self.reader.adapted_head()
+    }
+
+    /// The tag that the last answer's head had.
+    pub fn tag(&self) -> Option<&[u8]>
+        ensures { option_copied result ≡ self.now.reader.tag }
+    {
+        self.reader.tag()
+    }
+
+    /// Whether the last answer's head says that the connection closes.
+    pub fn closes(&self) -> bool
+        ensures { result ≡ self.now.reader.closes }
+    {
+        self.reader.closes()
+    }
+
+    /// The fault that stays.
+    pub(crate) fn fault(&self) -> Option<ClientFault>
+        ensures { result ≡ self.now.fault }
+    {
+        self.fault
+    }
+
+    /// Keeps a fault of the writing half.
+    pub(crate) fn keep(&mut self, fault: ClientFault)
+        ensures { self.new ≡ record self.old { fault = Some fault } }
+    {
+        self.fault = Some(fault);
+    }
+
+    /// Whether the final response was read to its end.
+    pub fn reply_whole(&self) -> bool
+        ensures { IsTrue result ↔ self.now.reader.stage ≡ Stage.Over }
+    {
+        self.reader.is_over()
+    }
+
+    /// Frames what may be framed of the raw bytes.
+    fn frame_raw(
+        &mut self,
+        state: &State,
+        out: &mut [u8],
+    ) -> Result<ArrayVec<Event, 4>, ClientFault>
+        ensures room { IfOk result (λ events. ad_sum events.items ≤ length out.old) }
+        ensures hears { IfOk result (λ events. SideHears (seen state.now.plan state.now.events) self.old self.new events.items [] (take (ad_sum events.items) out.new)) }
+        ensures waits { IfOk result (λ events. events.items ≡ [] → MustWait self.new.reader.stage self.new.raw (length out.old)) }
+        ensures refuses { IfErr result (λ fault. Refuses fault (seen state.now.plan state.now.events) self.old.reader.point self.old.reader.stage self.old.raw) }
+        ensures fault { self.new.fault ≡ self.old.fault }
+        ensures head { KeepsHead (seen state.now.plan state.now.events) self.old.reader self.new.reader }
+        ensures kept { IfErr result (λ _. SideHears (seen state.now.plan state.now.events) self.old self.new [] [] []) }
+    {
+        match self.reader.frame(state, self.raw.as_slice(), out) {
+            Ok(heard) => {
+                self.raw.advance(heard.used);
+                Ok(heard.events)
+            }
+            Err(fault) => Err(fault),
+        }
+    }
+
+    /// Whether the wire is to be read: the final response isn't whole, there is room, and the service may answer.
+    fn is_due(&self, state: &State, all_sent: bool, room: usize) -> bool
+        ensures due { IsTrue result → (self.now.reader.stage ≡ Stage.Over → ⊥) × (0 < room) × KeepsLimits self.now.reader.stage }
+        ensures not_due { result ≡ false → NothingToRead (seen state.now.plan state.now.events) all_sent room self.now.reader.stage }
+    {
+        if self.reader.is_over() {
+            return false;
+        }
+        if room == 0 {
+            return false;
+        }
+        may_read(state, all_sent)
+    }
+
+    /// Reads the first bytes of a reply.
+    fn read_first<W: Wire>(
+        &mut self,
+        state: &State,
+        wire: &mut W,
+        out: &mut [u8],
+    ) -> Result<Turn, ClientFault>
+        requires short { length self.old.raw < 16384 }
+        requires waits { MustWait self.old.reader.stage self.old.raw (length out.old) }
+        requires may { May (seen state.now.plan state.now.events) Event.Heard }
+        ensures fault { self.new.fault ≡ self.old.fault }
+        ensures turn { (all_sent : Bool) → ReadTurn (seen state.now.plan state.now.events) all_sent (length out.old) self.old self.new (W.past wire.old) (W.past wire.new) out.new result }
+        ensures head { KeepsHead (seen state.now.plan state.now.events) self.old.reader self.new.reader }
+    {
+        match fill(&mut self.raw, wire) {
+            Filled::Bytes => {}
+            Filled::Wait => {
+                return Ok(Turn {
+                    events: ArrayVec::new(),
+                    waiting: true,
+                });
+            }
+            Filled::Ended => return Err(ClientFault::Closed),
+            Filled::Failed => return Err(ClientFault::Device),
+            Filled::NoMemory => return Err(ClientFault::NoMemory),
+        }
+        Ok(Turn {
+            events: event_list(Some(Event::Heard)),
+            waiting: false,
+        })
+    }
+
+    /// Reads the wire once, and frames what came.
+    fn read_wire<W: Wire>(
+        &mut self,
+        state: &State,
+        wire: &mut W,
+        out: &mut [u8],
+    ) -> Result<Turn, ClientFault>
+        requires short { length self.old.raw < 16384 }
+        requires waits { MustWait self.old.reader.stage self.old.raw (length out.old) }
+        requires heard { (seen state.now.plan state.now.events).heard ≡ true }
+        ensures fault { self.new.fault ≡ self.old.fault }
+        ensures turn { (all_sent : Bool) → ReadTurn (seen state.now.plan state.now.events) all_sent (length out.old) self.old self.new (W.past wire.old) (W.past wire.new) out.new result }
+        ensures head { KeepsHead (seen state.now.plan state.now.events) self.old.reader self.new.reader }
+    {
+        match fill(&mut self.raw, wire) {
+            Filled::Bytes => match self.frame_raw(state, out) {
+                Ok(events) => Ok(Turn {
+                    events,
+                    waiting: false,
+                }),
+                Err(fault) => Err(fault),
+            },
+            Filled::Wait => Ok(Turn {
+                events: ArrayVec::new(),
+                waiting: true,
+            }),
+            Filled::Ended => Err(ClientFault::Closed),
+            Filled::Failed => Err(ClientFault::Device),
+            Filled::NoMemory => Err(ClientFault::NoMemory),
+        }
+    }
+
+    /// Frames the raw bytes, and reads the wire once where nothing of them can be framed.
+    fn try_turn<W: Wire>(
+        &mut self,
+        state: &State,
+        all_sent: bool,
+        wire: &mut W,
+        out: &mut [u8],
+    ) -> Result<Turn, ClientFault>
+        ensures turn { ReadTurn (seen state.now.plan state.now.events) all_sent (length out.old) self.old self.new (W.past wire.old) (W.past wire.new) out.new result }
+        ensures fault { self.new.fault ≡ self.old.fault }
+        ensures head { KeepsHead (seen state.now.plan state.now.events) self.old.reader self.new.reader }
+    {
+        let events = match self.frame_raw(state, out) {
+            Ok(events) => events,
+            Err(fault) => return Err(fault),
+        };
+        if !events.as_slice().is_empty() {
+            return Ok(Turn {
+                events,
+                waiting: false,
+            });
+        }
+        if !self.is_due(state, all_sent, out.len()) {
+            return Ok(Turn {
+                events,
+                waiting: true,
+            });
+        }
+        if state.seen().heard {
+            return self.read_wire(state, wire, out);
+        }
+        if !state.may(Event::Heard) {
+            return Err(ClientFault::NotLegal);
+        }
+        self.read_first(state, wire, out)
+    }
+
+    /// Reads what the service answers. The raw bytes come first; the wire is read once at most, where none of them can be
+    /// framed. `all_sent` says that all text that was fixed for the service is out. The bytes of the adapted body go to the
+    /// front of `out`, as many as the events say, and the caller steps the events.
+    ///
+    /// A fault stays: every later turn answers it again.
+    pub fn read_turn<W: Wire>(
+        &mut self,
+        state: &State,
+        all_sent: bool,
+        wire: &mut W,
+        out: &mut [u8],
+    ) -> Result<Turn, ClientFault>
+        ensures turn { self.old.fault ≡ None → ReadTurn (seen state.now.plan state.now.events) all_sent (length out.old) self.old self.new (W.past wire.old) (W.past wire.new) out.new result }
+
+        // A fault is kept and answered again, and then the wire isn't touched.
+        ensures stays { IfErr result (λ fault. self.new.fault ≡ Some fault) }
+        ensures faulted { IfSome self.old.fault (λ fault. (result ≡ Err fault) × (self.new ≡ self.old)) }
+        ensures untouched { IfSome self.old.fault (λ fault. (p : Past) → W.past wire.old p → W.past wire.new p) }
+        ensures sound { OnOk result (self.new.fault ≡ None) }
+        ensures head { KeepsHead (seen state.now.plan state.now.events) self.old.reader self.new.reader }
+    {
+        if let Some(fault) = self.fault {
+            return Err(fault);
+        }
+        match self.try_turn(state, all_sent, wire, out) {
+            Ok(turn) => Ok(turn),
+            Err(fault) => {
+                self.fault = Some(fault);
+                Err(fault)
+            }
+        }
+    }
+}
