@@ -5,6 +5,9 @@ use Rattle.std.specs.Str.{str_eq_ignore_ascii_case}
 use Rattle.http_side.specs.declared.fields.Values.{Values}
 use Rattle.http_side.specs.declared.fields.Values.TheVariants.{None as NoValue, One, Many}
 
+abbrev pub FieldList : Type 0
+FieldList = List (List ℕ × List ℕ)
+
 -- two names are one, whatever their case
 abbrev pub same_name : List ℕ → List ℕ → Bool
 same_name a b = str_eq_ignore_ascii_case a b

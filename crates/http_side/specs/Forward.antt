@@ -1,9 +1,9 @@
 -- The heads that are written: which fields go on, and the text (RFC 9110, section 7.6; RFC 9112, section 3.2).
-use Rattle.std.specs.Prelude.{ℕ, ◌+◌, Bool, true, false, not, ◌||◌, ◌&&◌, List, [], ◌∷◌, ◌++◌, map, Option, Some, None, codes, if◌then◌else◌, ◌==◌, nat_lt, codes, ◌/◌, ◌%◌}
+use Rattle.std.specs.Prelude.{◌≡◌, ℕ, ◌+◌, ◌<◌, Bool, true, false, not, ◌||◌, ◌&&◌, List, [], ◌∷◌, ◌++◌, length, slice_index_or, map, Option, Some, None, codes, if◌then◌else◌, ◌==◌, nat_lt, codes, ◌/◌, ◌%◌}
 use Rattle.std.specs.List.{list_any, flat_map, filter}
 use Rattle.std.specs.Prelude.{◌/◌, ◌%◌, Result, Ok, Err}
 use Rattle.http_side.specs.declared.fault.HttpFault.{HttpFault}
-use Rattle.http_side.specs.Fields.{same_name, values_of}
+use Rattle.http_side.specs.Fields.{same_name, values_of, name_at}
 use Rattle.http_side.specs.Items.{has_item}
 use Rattle.http_side.specs.Heads.{RequestParts, ResponseParts, count_of}
 use Rattle.http_side.specs.Lengths.{content_length, coding}
@@ -37,6 +37,15 @@ framing_names = codes "host" ∷ codes "content-length" ∷ []
 -- Connection names the field
 abbrev pub is_named_by : List (List ℕ × List ℕ) → List ℕ → Bool
 is_named_by fields name = list_any (has_item name) (values_of (codes "connection") fields)
+
+-- it is marked at each place whether Connection names the field there
+abbrev pub AreNamed : List (List ℕ × List ℕ) → List Bool → Type 0
+AreNamed fields named = (i : ℕ) → i < length fields → i < length named → slice_index_or named i false ≡ is_named_by fields (name_at fields i)
+
+-- the fields whose names pass the test are marked too
+pub record Marks (test : List ℕ → Bool) (fields : List (List ℕ × List ℕ)) (old new : List Bool) : Type 0 where
+  pub size : length new ≡ length old
+  pub each : (i : ℕ) → i < length fields → i < length old → slice_index_or new i false ≡ (slice_index_or old i false || test (name_at fields i))
 
 -- a field ends here: also Expect in requests, and Content-Length in a response that has both lengths
 abbrev pub is_removed : Beside → List (List ℕ × List ℕ) → List ℕ → Bool

@@ -2,7 +2,7 @@ use Rattle.std.proofs.Common.{◌≡◌, Bool, false, List, ℕ, ◌++◌, ◌&&
 use Rattle.std.specs.Prelude.{codes, option_copied}
 use Rattle.std.specs.List.{list_any, filter}
 use Rattle.http_side.specs.Fields.{same_name, field_at, name_at}
-use Rattle.http_side.specs.Forward.{stays, is_removed, is_length, once, hosted, field_line, field_lines}
+use Rattle.http_side.specs.Forward.{stays, is_removed, is_named_by, is_length, once, hosted, field_line, field_lines}
 use Rattle.http_side.proofs.ForwardLemmas.{not_removed, length_again, goes_on, lines-more, first_length, no_length}
 use Rattle.http_side.proofs.writing.put_fields.Goals as goal
 use Rattle.http_side.proofs.writing.put_fields.Goals.{then-is_same_name+else-seen, else-is_same_name}
@@ -12,7 +12,7 @@ loop-at-preserved-then-seen c =
     let fields = c.args.fields.now in
     let beside = c.args.beside in
     let i = c.loop-at.at in
-    let stay = not_removed (sym (c.is_removed.ensures ∙ ap (is_removed beside fields) c.name-name.ensures) ∙ c.if-is_removed.false) in
+    let stay = not_removed (sym (c.is_removed.ensures fields (c.is_named_at.ensures ∙ ap (is_named_by fields) (sym c.name-name.ensures)) ∙ ap (is_removed beside fields) c.name-name.ensures) ∙ c.if-is_removed.false) in
     let named : is_length (field_at fields i) ≡ c.is_same_name.result = sym (c.is_same_name.ensures ∙ ap (λ t. same_name t (codes "content-length")) c.name-name.ensures) in
     let again = length_again beside fields i (omega arith) stay (named ∙ c.if-is_same_name.true) (sym c.loop-at.invariant.seen ∙ c.if-seen.true) in
     record {
@@ -28,7 +28,7 @@ loop-at-preserved c =
     let change = hosted (option_copied c.args.authority) in
     let old : Bool = list_any is_length (filter (stays beside fields) (take i fields)) in
     let n : Bool = is_length (field_at fields i) in
-    let stay = not_removed (sym (c.is_removed.ensures ∙ ap (is_removed beside fields) c.name-name.ensures) ∙ c.if-is_removed.false) in
+    let stay = not_removed (sym (c.is_removed.ensures fields (c.is_named_at.ensures ∙ ap (is_named_by fields) (sym c.name-name.ensures)) ∙ ap (is_removed beside fields) c.name-name.ensures) ∙ c.if-is_removed.false) in
     let named : n ≡ c.is_same_name.result = sym (c.is_same_name.ensures ∙ ap (λ t. same_name t (codes "content-length")) c.name-name.ensures) in
     let first : ((n && old) ≡ false) × ((old || n) ≡ c.if-is_same_name.seen) = elim c.if-is_same_name.branch [
       | then-is_same_name+else-seen w ↦ first_length n old c.if-is_same_name.seen (named ∙ w.if-is_same_name.true) (sym c.loop-at.invariant.seen ∙ w.if-seen.false) w.seen-is
