@@ -5,7 +5,7 @@ use Rattle.span_bank.specs.declared.step.Numbers.{Numbers}
 use Rattle.span_bank.specs.declared.step.BankStep.{BankStep}
 use Rattle.span_bank.specs.declared.step.BankStep.TheVariants.{Open, Grow, Shrink, Reclaim, Close, Capacity}
 use Rattle.span_bank.specs.Replay.{after, replay}
-use Rattle.span_bank.specs.State.{IsAllowed, AreAllowed}
+use Rattle.span_bank.specs.Journal.{IsAllowed, AreAllowed}
 use Rattle.span_bank.specs.History.{opened, closed, grown, shrunk, reserved, released, set_last, AddsUp}
 
 -- what one step adds and takes off

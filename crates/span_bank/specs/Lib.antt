@@ -1,5 +1,6 @@
 pub mod Chain
 pub mod History
+pub mod Journal
 pub mod Ledgers
 pub mod Replay
 pub mod Stakes

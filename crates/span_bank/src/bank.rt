@@ -6,7 +6,7 @@ ghost use Rattle.span_bank.specs.Stakes.{held_sum, claim_sum, page_sum, most_pag
 
 use crate::NoMemory;
 use crate::ledgers::{Blanks, Ledgers};
-use crate::locked::Locked;
+use crate::locked::{Locked, all_pages};
 use crate::pages::Pages;
 use crate::stake::Stake;
 use crate::state::BankState;
@@ -52,7 +52,7 @@ impl<B: Ledgers> Bank<B> {
         requires journal { 1 ≤ journal }
     {
         let state = BankState::new(alloc, capacity, rows, journal)?;
-        let store = Pages::make(alloc, capacity / 4096 + 4 * rows)?;
+        let store = Pages::make(alloc, all_pages(capacity, rows))?;
         Ok(Bank {
             alloc,
             locked: Mutex::new(Locked::new(state, blanks, store)),
@@ -119,6 +119,7 @@ impl<B: Ledgers> Bank<B> {
     /// The usage totals. A stake that is lent is counted in them, and stays as it is.
     pub fn book<'a>(&'a self, rt: &impl Wait, own: Option<&'a mut Stake<B>>) -> Book
         ensures order { (result.held ≤ result.claimed) × (result.claimed ≤ result.capacity) }
+        ensures most { (result.rows < B.Held.parts) × (result.capacity ≤ MAX_CAPACITY) }
         ensures counted { IfSome own.entry (λ s. CountsIn result s.now) }
         ensures stays { given_back own.exit ≡ lent own.entry }
     {

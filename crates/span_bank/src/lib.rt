@@ -3,25 +3,31 @@
 
 mod bank;
 mod chain;
+mod journal;
 pub mod laws;
 mod ledgers;
 mod locked;
 mod pages;
+mod rebasing;
 mod stake;
 mod state;
 mod step;
 #[cfg(test)]
 mod tests;
+mod window;
 
 pub use crate::bank::{Bank, Book};
 pub use crate::chain::{Chain, MAX_PAGES, PAGE, Page};
+pub use crate::journal::Journal;
 pub use crate::ledgers::{Blanks, Four, Ledgers};
 pub use crate::locked::Locked;
 pub use crate::pages::Pages;
+pub use crate::rebasing::RebasingJournal;
 pub use crate::stake::Stake;
 pub use crate::state::BankState;
 pub use crate::step::{
     Audit, AuditFault, BankStep, CapacityFault, MAX_CAPACITY, MAX_ROWS, Numbers, OpenFault,
-    Resized, Store,
+    PAGE_BYTES, Resized, SPARE_PAGES, Store,
 };
+pub use crate::window::Window;
 pub use std::alloc::AllocError as NoMemory;

@@ -3,14 +3,20 @@
 ghost use Rattle.std.specs.Prelude.{◌≡◌, ◌+◌, ◌-◌, ◌*◌, ◌/◌, ◌≤◌, ◌<◌, ◌^◌, ◌↔◌, ℕ, IsOk, IsErr, IfOk, IfErr, OnOk, OnErr, vec_len};
 ghost use Rattle.span_bank.specs.declared.step.BankStep.TheVariants.{Open, Grow, Shrink, Reclaim, Close, Capacity};
 ghost use Rattle.span_bank.specs.declared.step.Resized.TheVariants.{Done, TooLow, Short};
-ghost use Rattle.span_bank.specs.State.{IsAllowed, Fits, Refuses, stepped, IsSound};
-ghost use Rattle.span_bank.specs.Stakes.{Stored, IsResized, IsKept, held_sum, claim_sum, page_sum, most_pages, pages_of, CountsIn};
+ghost use Rattle.span_bank.specs.Journal.{slid};
+ghost use Rattle.span_bank.specs.Replay.{after};
+ghost use Rattle.span_bank.specs.State.{MaySum, Fits, Refuses, taken, IsKept};
+ghost use Rattle.span_bank.specs.Stakes.{Stored, IsResized, IsUnchanged, held_sum, claim_sum, page_sum, most_pages, pages_of, CountsIn};
 
 use crate::ledgers::{Blanks, Books, Ledgers, Parts, begin};
 use crate::pages::Pages;
 use crate::stake::{Stake, lend};
 use crate::state::BankState;
-use crate::step::{Audit, AuditFault, BankStep, MAX_CAPACITY, Numbers, OpenFault, Resized, Store};
+use crate::step::{
+    Audit, AuditFault, BankStep, MAX_CAPACITY, MAX_ROWS, Numbers, OpenFault, PAGE_BYTES, Resized,
+    SPARE_PAGES, Store,
+};
+use crate::window::Window;
 use std::marker::Model;
 
 /// The locked part of a bank, which its lock keeps as each method leaves it.
@@ -19,7 +25,7 @@ use std::marker::Model;
 /// part of each ledger. Contracts see its totals with their journal, and the numbers of its pages.
 #[derive(Drop)]
 pub struct Locked<B: Ledgers> {
-    state: BankState,
+    state: BankState<Window>,
     books: Books<B>,
     rest: Parts<B>,
     used: u64,
@@ -28,9 +34,9 @@ pub struct Locked<B: Ledgers> {
 
 impl<B: Ledgers> Model for Locked<B> {
     ghost use Rattle.std.specs.Prelude.{◌≡◌, ◌+◌, ◌*◌, ◌/◌};
-    ghost use Rattle.span_bank.specs.State.{IsSound};
+    ghost use Rattle.span_bank.specs.State.{IsKept};
     ghost use Rattle.span_bank.specs.Ledgers.{no_amounts};
-    ghost use Rattle.span_bank.specs.Stakes.{Stored, IsResized, IsKept, pages_of};
+    ghost use Rattle.span_bank.specs.Stakes.{Stored, IsResized, IsUnchanged, pages_of};
 
     ghost Value = { Stored };
 
@@ -38,24 +44,34 @@ impl<B: Ledgers> Model for Locked<B> {
 
     // the ledgers' totals are the bytes held, the rest of the claims, the bytes of pages that may still be had,
     // and the pages in use; each open row has a part of each ledger, and the others lie here
-    ghost invariant = { λ l. IsSound l.state
-        × (l.books.held ≡ l.state.numbers.held)
-        × (l.books.held + l.books.free ≡ l.state.numbers.claimed)
-        × (l.books.slack + 4096 * l.used ≡ l.books.held + 16384 * l.state.numbers.rows)
+    ghost invariant = { λ l. IsKept l.state
+        × (l.books.held ≡ l.state.journal.numbers.held)
+        × (l.books.held + l.books.free ≡ l.state.journal.numbers.claimed)
+        × (l.books.slack + 4096 * l.used ≡ l.books.held + 16384 * l.state.journal.numbers.rows)
         × (l.books.pages ≡ l.used)
-        × (l.rest.parts + l.state.numbers.rows ≡ B.Held.parts)
+        × (l.rest.parts + l.state.journal.numbers.rows ≡ B.Held.parts)
         × (l.rest.amounts ≡ no_amounts)
         × (l.state.most_rows + 1 ≡ B.Held.parts) × (B.Free.parts ≡ B.Held.parts)
         × (B.Slack.parts ≡ B.Held.parts) × (B.Pages.parts ≡ B.Held.parts)
-        × (l.store + l.used ≡ pages_of l.state.numbers.capacity l.state.most_rows) };
+        × (l.store + l.used ≡ pages_of l.state.journal.numbers.capacity l.state.most_rows) };
+}
+
+// The pages that a budget's reservations can need.
+pub(crate) fn all_pages(capacity: u64, rows: u64) -> u64
+    requires { rows ≤ MAX_ROWS }
+    ensures { result ≡ pages_of capacity rows }
+{
+    capacity / PAGE_BYTES + SPARE_PAGES * rows
 }
 
 // Takes a step that is no Open, so that none is refused.
-fn apply_fitting(state: &mut BankState, step: BankStep)
-    requires allowed { IsAllowed state.old.numbers step }
+fn apply_fitting(state: &mut BankState<Window>, step: BankStep)
+    requires allowed { MaySum state.old.journal.numbers step }
     requires fits { Fits state.old step }
-    ensures taken { state.new ≡ stepped state.old step }
-    ensures sound { IsSound state.new }
+    ensures taken { state.new ≡ taken slid state.old step }
+    ensures numbers { state.new.journal.numbers ≡ after state.old.journal.numbers step }
+    ensures rows { state.new.most_rows ≡ state.old.most_rows }
+    ensures sound { IsKept state.new }
 {
     if state.apply(step).is_err() {
         unreachable!()
@@ -65,15 +81,15 @@ fn apply_fitting(state: &mut BankState, step: BankStep)
 impl<B: Ledgers> Locked<B> {
     /// The locked part round a state with no open reservation. Each blank has a part for each row,
     /// and one more, which stays here. The store has all pages that the reservations can need.
-    pub fn new(state: BankState, blanks: Blanks, store: Pages) -> Locked<B>
+    pub fn new(state: BankState<Window>, blanks: Blanks, store: Pages) -> Locked<B>
         requires held { (blanks.held.name ≡ B.Held.name) × (blanks.held.parts ≡ B.Held.parts) }
         requires free { (blanks.free.name ≡ B.Free.name) × (blanks.free.parts ≡ B.Free.parts) }
         requires slack { (blanks.slack.name ≡ B.Slack.name) × (blanks.slack.parts ≡ B.Slack.parts) }
         requires pages { (blanks.pages.name ≡ B.Pages.name) × (blanks.pages.parts ≡ B.Pages.parts) }
         requires parts { (blanks.held.parts ≡ state.most_rows + 1) × (blanks.free.parts ≡ state.most_rows + 1) }
         requires others { (blanks.slack.parts ≡ state.most_rows + 1) × (blanks.pages.parts ≡ state.most_rows + 1) }
-        requires none { (state.numbers.rows ≡ 0) × (state.numbers.held ≡ 0) × (state.numbers.claimed ≡ 0) }
-        requires store { store ≡ pages_of state.numbers.capacity state.most_rows }
+        requires none { (state.journal.numbers.rows ≡ 0) × (state.journal.numbers.held ≡ 0) × (state.journal.numbers.claimed ≡ 0) }
+        requires store { store ≡ pages_of state.journal.numbers.capacity state.most_rows }
         ensures { result ≡ record { state = state; used = 0; store = store } }
     {
         // Shows that the state is sound.
@@ -93,8 +109,8 @@ impl<B: Ledgers> Locked<B> {
         requires { 1 ≤ claim }
         ensures ok { IsOk result ↔ Fits self.old.state (Open claim) }
         ensures stake { IfOk result (λ s. s ≡ record { held = 0; claim = claim; pages = 0 }) }
-        ensures step { OnOk result (self.new ≡ record self.old { state = stepped self.old.state (Open claim) }) }
-        ensures sound { IsSound self.new.state }
+        ensures step { OnOk result (self.new ≡ record self.old { state = taken slid self.old.state (Open claim) }) }
+        ensures sound { IsKept self.new.state }
 
         // The fault is the first that stands, and a refused reservation changes nothing.
         ensures fault { IfErr result (Refuses self.old.state (Open claim)) }
@@ -111,10 +127,10 @@ impl<B: Ledgers> Locked<B> {
         requires pages { stake.old.pages + k ≤ most_pages (stake.old.held + n) }
         ensures given { result ≡ k }
         ensures stake { stake.new ≡ record stake.old { held = stake.old.held + n; pages = stake.old.pages + k } }
-        ensures step { self.new.state ≡ stepped self.old.state (Grow n) }
+        ensures step { self.new.state ≡ taken slid self.old.state (Grow n) }
         ensures used { self.new.used ≡ self.old.used + k }
         ensures store { self.new.store + k ≡ self.old.store }
-        ensures sound { IsSound self.new.state }
+        ensures sound { IsKept self.new.state }
     {
         // The ledgers come first: they show that the sums allow the step, and that the store has the pages.
         stake.charge(&mut self.books, n, k);
@@ -130,10 +146,10 @@ impl<B: Ledgers> Locked<B> {
         requires pages { pages ≤ stake.old.pages }
         requires left { stake.old.pages ≤ most_pages (stake.old.held - n) + pages }
         ensures stake { stake.new ≡ record stake.old { held = stake.old.held - n; pages = stake.old.pages - pages } }
-        ensures step { self.new.state ≡ stepped self.old.state (Shrink n) }
+        ensures step { self.new.state ≡ taken slid self.old.state (Shrink n) }
         ensures used { self.new.used + pages ≡ self.old.used }
         ensures store { self.new.store ≡ self.old.store + pages }
-        ensures sound { IsSound self.new.state }
+        ensures sound { IsKept self.new.state }
     {
         let count = pages.count();
         stake.release(&mut self.books, n, count);
@@ -147,8 +163,8 @@ impl<B: Ledgers> Locked<B> {
         requires held { stake.old.held ≤ claim }
         requires lower { claim ≤ stake.old.claim }
         ensures stake { stake.new ≡ record stake.old { claim = claim } }
-        ensures step { self.new ≡ record self.old { state = stepped self.old.state (Reclaim stake.old.claim claim) } }
-        ensures sound { IsSound self.new.state }
+        ensures step { self.new ≡ record self.old { state = taken slid self.old.state (Reclaim stake.old.claim claim) } }
+        ensures sound { IsKept self.new.state }
     {
         let old = stake.claim();
         // Shows that the state is sound, also where the claim stays.
@@ -164,10 +180,10 @@ impl<B: Ledgers> Locked<B> {
     pub fn close(&mut self, stake: Stake<B>, pages: Pages)
         requires held { stake.held ≡ 0 }
         requires pages { pages ≡ stake.pages }
-        ensures step { self.new.state ≡ stepped self.old.state (Close stake.claim) }
+        ensures step { self.new.state ≡ taken slid self.old.state (Close stake.claim) }
         ensures used { self.new.used + pages ≡ self.old.used }
         ensures store { self.new.store ≡ self.old.store + pages }
-        ensures sound { IsSound self.new.state }
+        ensures sound { IsKept self.new.state }
     {
         let claim = stake.claim();
         let count = pages.count();
@@ -179,9 +195,10 @@ impl<B: Ledgers> Locked<B> {
 
     /// The totals now. The journal's replay is these, and they are in order.
     pub fn book(&self) -> Numbers
-        ensures numbers { result ≡ self.now.state.numbers }
-        ensures sound { IsSound self.now.state }
+        ensures numbers { result ≡ self.now.state.journal.numbers }
+        ensures sound { IsKept self.now.state }
         ensures order { (result.held ≤ result.claimed) × (result.claimed ≤ result.capacity) }
+        ensures most { (result.rows < B.Held.parts) × (result.capacity ≤ MAX_CAPACITY) }
     {
         self.state.numbers()
     }
@@ -189,8 +206,8 @@ impl<B: Ledgers> Locked<B> {
     /// The pages now. Those in use are at most those of the reserved bytes, and four for each row.
     pub fn store(&self) -> Store
         ensures used { result.used ≡ self.now.used }
-        ensures total { result.total ≡ pages_of self.now.state.numbers.capacity self.now.state.most_rows }
-        ensures bound { self.now.used ≤ self.now.state.numbers.claimed / 4096 + 4 * self.now.state.numbers.rows }
+        ensures total { result.total ≡ pages_of self.now.state.journal.numbers.capacity self.now.state.most_rows }
+        ensures bound { self.now.used ≤ self.now.state.journal.numbers.claimed / 4096 + 4 * self.now.state.journal.numbers.rows }
         ensures within { result.used ≤ result.total }
     {
         // Shows that the state is sound.
@@ -208,10 +225,10 @@ impl<B: Ledgers> Locked<B> {
         requires fresh { fresh.old ≤ 2 ^ 30 }
         ensures done { result ≡ Done → IsResized self.old self.new n fresh.old fresh.new }
         ensures low { (claimed : ℕ) → result ≡ TooLow claimed →
-            (claimed ≡ self.old.state.numbers.claimed) × (n < claimed) × IsKept self.old self.new fresh.old fresh.new }
+            (claimed ≡ self.old.state.journal.numbers.claimed) × (n < claimed) × IsUnchanged self.old self.new fresh.old fresh.new }
         ensures short { (more : ℕ) → result ≡ Short more →
-            (self.old.state.numbers.claimed ≤ n) × (fresh.old < more) × (more ≤ 2 ^ 30) × IsKept self.old self.new fresh.old fresh.new }
-        ensures sound { IsSound self.new.state }
+            (self.old.state.journal.numbers.claimed ≤ n) × (fresh.old < more) × (more ≤ 2 ^ 30) × IsUnchanged self.old self.new fresh.old fresh.new }
+        ensures sound { IsKept self.new.state }
     {
         let claimed = self.state.numbers().claimed;
         if n < claimed {
@@ -219,7 +236,7 @@ impl<B: Ledgers> Locked<B> {
         }
         // Shows that the pages in use are at most those needed.
         let have = self.store().total;
-        let wanted = n / 4096 + 4 * self.state.most_rows();
+        let wanted = all_pages(n, self.state.most_rows());
         let came = fresh.count();
         if have + came < wanted {
             return Resized::Short(wanted - have);
@@ -232,11 +249,12 @@ impl<B: Ledgers> Locked<B> {
 
     /// The totals now, in which a stake of the caller's is counted. Nothing changes.
     pub fn book_beside(&mut self, own: &mut Stake<B>) -> Numbers
-        ensures numbers { result ≡ self.old.state.numbers }
+        ensures numbers { result ≡ self.old.state.journal.numbers }
         ensures same { self.new ≡ self.old }
         ensures stays { own.new ≡ own.old }
         ensures counted { CountsIn result own.old }
         ensures order { (result.held ≤ result.claimed) × (result.claimed ≤ result.capacity) }
+        ensures most { (result.rows < B.Held.parts) × (result.capacity ≤ MAX_CAPACITY) }
     {
         own.count(&mut self.books, &mut self.rest);
         self.state.numbers()
@@ -252,11 +270,11 @@ impl<B: Ledgers> Locked<B> {
         ensures held { IfOk result (λ a. a.held ≡ held_sum stakes.items) }
         ensures claimed { IfOk result (λ a. a.claimed ≡ claim_sum stakes.items) }
         ensures pages { IfOk result (λ a. a.pages ≡ page_sum stakes.items) }
-        ensures book { IfOk result (λ a. (a.rows ≡ self.state.numbers.rows)
-            × (a.held ≡ self.state.numbers.held) × (a.claimed ≡ self.state.numbers.claimed) × (a.pages ≡ self.used)) }
+        ensures book { IfOk result (λ a. (a.rows ≡ self.state.journal.numbers.rows)
+            × (a.held ≡ self.state.journal.numbers.held) × (a.claimed ≡ self.state.journal.numbers.claimed) × (a.pages ≡ self.used)) }
 
         // A stake is missing exactly where fewer came than rows are open, and all is as before.
-        ensures missing { IsErr result ↔ (vec_len stakes < self.state.numbers.rows) }
+        ensures missing { IsErr result ↔ (vec_len stakes < self.state.journal.numbers.rows) }
         ensures back { IfErr result (λ e. (e.0 ≡ self) × (e.1.items ≡ stakes.items)) }
         ensures fewer { IfErr result (λ e. vec_len stakes + 1 < B.Held.parts) }
     {

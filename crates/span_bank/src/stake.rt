@@ -4,6 +4,7 @@ ghost use Rattle.span_bank.specs.Ledgers.{Amounts, no_amounts, plus};
 ghost use Rattle.span_bank.specs.Stakes.{most_pages};
 
 use crate::ledgers::{Books, Change, Ledgers, NOTHING, Parts};
+use crate::step::{PAGE_BYTES, SPARE_PAGES};
 use std::marker::Model;
 
 /// A reservation: the bytes that its owner holds, the bytes that it may hold at most, and its pages.
@@ -48,7 +49,7 @@ pub(crate) fn lend<B: Ledgers>(books: &mut Books<B>, rest: &mut Parts<B>, claim:
         &mut parts,
         Change {
             free: claim,
-            slack: 16384,
+            slack: SPARE_PAGES * PAGE_BYTES,
             ..NOTHING
         },
     );
@@ -109,7 +110,7 @@ impl<B: Ledgers> Stake<B> {
             Change {
                 held: 0,
                 free: n,
-                slack: 4096 * k,
+                slack: PAGE_BYTES * k,
                 pages: 0,
             },
         );
@@ -134,7 +135,7 @@ impl<B: Ledgers> Stake<B> {
             Change {
                 held: 0,
                 free: n,
-                slack: 4096 * k,
+                slack: PAGE_BYTES * k,
                 pages: 0,
             },
         );
@@ -190,7 +191,7 @@ impl<B: Ledgers> Stake<B> {
             Change {
                 held: 0,
                 free: claim,
-                slack: 16384 - 4096 * pages,
+                slack: SPARE_PAGES * PAGE_BYTES - PAGE_BYTES * pages,
                 pages: pages,
             },
         );

@@ -1,0 +1,44 @@
+//! A journal: the totals of a budget with the last steps that led to them.
+ghost use Rattle.std.specs.Prelude.{◌≡◌, ◌≤◌, IfOk, slice_get};
+ghost use Rattle.span_bank.specs.Journal.{Journaled, IsAllowed, IsBounded, opening, stepped, IsSound};
+ghost use Rattle.span_bank.specs.Replay.{after};
+
+use crate::NoMemory;
+use crate::step::{BankStep, Numbers};
+use std::alloc::Global;
+
+/// The totals now, and the last steps with their base, a checkpoint: the totals before the oldest
+/// step that is kept. The steps replay from the base to the totals now.
+///
+/// Journals differ in how a full one makes room for a step. None takes memory after `new`.
+pub trait Journal: Drop {
+    ghost seen: { Self → Journaled };
+
+    ghost makes_room: { Journaled → Journaled };
+
+    /// A journal with no step, and room for so many. `Err` where there is no memory for that room.
+    fn new(alloc: Global, numbers: Numbers, room: usize) -> Result<Self, NoMemory>
+        requires bounded { IsBounded numbers }
+        requires room { 1 ≤ room }
+        ensures { IfOk result (λ j. seen j ≡ opening numbers room) };
+
+    /// The totals now.
+    fn numbers(&self) -> Numbers
+        ensures numbers { result ≡ (seen self.now).numbers }
+        ensures sound { IsSound (seen self.now) };
+
+    /// The totals before the oldest step that is kept.
+    fn base(&self) -> Numbers
+        ensures { result ≡ (seen self.now).base };
+
+    /// The step at an index, 0 being the oldest that is kept; `None` behind the last.
+    fn step_at(&self, index: usize) -> Option<BankStep>
+        ensures { result ≡ slice_get (seen self.now).steps index };
+
+    /// Takes a step that the totals allow.
+    fn apply(&mut self, step: BankStep)
+        requires { IsAllowed (seen self.old).numbers step }
+        ensures step { seen self.new ≡ stepped makes_room (seen self.old) step }
+        ensures numbers { (seen self.new).numbers ≡ after (seen self.old).numbers step }
+        ensures sound { IsSound (seen self.new) };
+}
