@@ -2,7 +2,7 @@
 # below crates/; a line names each crate that is proved first, and then the program's output stands alone.
 SCRIPT ?= whole_body_without_allow
 
-.PHONY: help build trace check ci must-fail fmt bench-chunks bench-bank refuse-allocations
+.PHONY: help build trace check ci must-fail fmt bench-chunks bench-heads bench-bank refuse-allocations
 
 help: ## lists the targets
 	@grep -E '^[a-z-]+:.*##' Makefile | sed 's/:.*## /	/'
@@ -30,6 +30,9 @@ fmt: ## lays out the files of the crate CRATE
 bench-chunks: ## chunked bodies: seconds and MB/s for 1 GiB
 	@tools/build_program chunk_bench chunk_bench 1
 	@bin/chunk_bench 1024
+
+bench-heads: ## HTTP heads: nanoseconds to read one and to write two, beside the parser alone
+	cd crates/head_bench && rt run -- 200000
 
 bench-bank: ## the buffer budget: nanoseconds for a pair of calls, and four threads' rounds
 	@tools/build_program bank_bench bank_bench 1

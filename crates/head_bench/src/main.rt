@@ -1,0 +1,41 @@
+//! How long it takes to read a request's head, and to write the heads that an origin and a service get.
+//!
+//! The argument is how many times. The figures go to standard error, since they differ from run to run.
+#![tactic(auto)]
+
+ghost use Rattle.std.specs.Prelude.{◌<◌, IfOk};
+
+mod measured;
+
+use adapt_bytes::read_decimal;
+use measured::{parse_only, read_and_write, read_only};
+use std::rt::Runtime;
+use std::time::Instant;
+use std::{env, io};
+
+fn main(rt: HostRuntime) -> io::Result<()> {
+    let times = times(&rt)?;
+    let start = Instant::now(&rt)?;
+    let parsed = parse_only(times);
+    let parse = start.elapsed(&rt)?.as_nanos() / u128::from(times);
+    let start = Instant::now(&rt)?;
+    let taken = read_only(rt.alloc(), times);
+    let read = start.elapsed(&rt)?.as_nanos() / u128::from(times);
+    let start = Instant::now(&rt)?;
+    let written = read_and_write(rt.alloc(), times);
+    let all = start.elapsed(&rt)?.as_nanos() / u128::from(times);
+    eprintln!(rt;
+        "httparse alone {parse} ns, read {read} ns, read and both heads written {all} ns"
+    )?;
+    eprintln!(rt; "{parsed}, {taken} and {written} bytes of {times} heads")
+}
+
+/// The argument, or 200,000 where it is missing, zero or no number.
+fn times(rt: &impl Runtime) -> io::Result<u64>
+    ensures { IfOk result (λ times. 0 < times) }
+{
+    let mut args = env::args(rt)?;
+    let _program = args.next();
+    let given = args.next().and_then(|text| read_decimal(text.as_bytes()));
+    Ok(given.unwrap_or(200_000).max(1))
+}
