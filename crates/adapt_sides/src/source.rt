@@ -1,8 +1,9 @@
 //! The side that a message comes from.
 
-ghost use Rattle.std.specs.Prelude.{◌≡◌, ℕ, ◌⊎◌, List, length, Option, true, false};
+ghost use Rattle.std.specs.Prelude.{◌≡◌, ℕ, ◌⊎◌, List, [], length, Option, true, false};
 ghost use Rattle.trace_core.specs.declared.history.Event.{Event};
 ghost use Rattle.trace_core.specs.declared.history.Seen.{Seen};
+ghost use Rattle.trace_core.specs.History.{seen};
 ghost use Rattle.trace_core.specs.View.{after};
 ghost use Rattle.trace_core.specs.Turns.{is_of_source};
 ghost use Rattle.adapt_sides.specs.declared.fault.RelayFault.{RelayFault as Fault};
@@ -10,6 +11,7 @@ ghost use Rattle.adapt_sides.specs.Turns.{ReadsBody};
 
 use crate::fault::RelayFault;
 use crate::turn::Turn;
+use trace_core::Plan;
 use wire_kit::Wire;
 
 /// The message's source: its head was read, and its body comes.
@@ -31,6 +33,11 @@ pub trait Source {
 
     // with so much room there is nothing to read
     ghost rests: { ℕ → Self → Type 0 };
+
+    /// Whether a message of this plan may begin here: its head was read, nothing behind it was framed yet, and a length that the
+    /// plan knows is its own.
+    fn begins(&self, plan: &Plan) -> bool
+        ensures { result ≡ true → agrees (seen plan.now []) self.now };
 
     /// Reads what the wire gives into the front of the buffer, as many body bytes as the sum of In. With an empty buffer it
     /// asks no wire, and still answers an End that is due.

@@ -1,0 +1,32 @@
+use Rattle.std.proofs.Common.{◌≡◌, ◌≤◌, ℕ, List, [], length, arith, sym, ◌∙◌, ap, subst, true, false}
+use Rattle.trace_core.specs.declared.history.Event.{Event}
+use Rattle.trace_core.specs.declared.history.Seen.{Seen}
+use Rattle.trace_core.specs.Norm.{History}
+use Rattle.trace_core.specs.Turns.{MayAllFollow}
+use Rattle.plan_rules.specs.Room.{original_room, adapted_room}
+use Rattle.adapt_sides.specs.Turns.{ReadsBody, Sends, Hears, Gives}
+use Rattle.adapt_hold.specs.Holding.{Holding, shows}
+use Rattle.adapt_hold.specs.Steps.{MayRun, moved_all}
+use Rattle.adapt_turn.specs.Parts.{SourcePart, SendPart, HearPart, HopPart, source_cause, service_cause, hop_cause}
+use Rattle.adapt_turn.proofs.Passes as passes
+use Rattle.adapt_turn.proofs.parts.give.Goals as goal
+
+pub write_turn-requires : goal.write_turn-requires
+write_turn-requires g c = passes.keeps_undelivered_at c.args.hold.now c.state-state.result.now c.tape_of-tape.result.now c.state-state.ensures.tied c.state-state.ensures.state c.tape_of-tape.ensures.tape
+
+pub step_all-requires : goal.step_all-requires
+step_all-requires g c =
+    let b = c.in-Ok.ensures.turn in
+    let h = c.args.hold.now in
+    subst (λ (es : List Event). MayRun h es []) (sym c.as_slice.ensures.value)
+    (passes.hop_runs h c.in-Ok.turn.events.items c.requires.roomy (subst (λ (y : History). MayAllFollow (shows y) c.in-Ok.turn.events.items) c.state-state.ensures.state b.legal) b.only)
+
+pub returns-in-Ok-clause-part : goal.returns-in-Ok-clause-part
+returns-in-Ok-clause-part g c =
+    passes.hop_took c.args.hold.now c.step_all.new.hold c.state-state.result.now c.tape_of-tape.result.now c.in-Ok.turn c.as_slice.result.now _ _ _ _ _ _ _ (λ x. g.K.Hop.rests x c.write_turn.new.self) _ _ c.went_on.result
+    c.requires.roomy c.requires.running c.requires.chosen c.state-state.ensures.state c.tape_of-tape.ensures.tape c.as_slice.ensures.value c.in-Ok.ensures.turn c.step_all.ensures.stepped c.went_on.ensures
+
+pub returns-in-Err-clause-part : goal.returns-in-Err-clause-part
+returns-in-Err-clause-part g c =
+    passes.hop_failed c.args.hold.now c.close.new.hold c.state-state.result.now c.tape_of-tape.result.now c.in-Err.fault _ _ _ _ _ _ _ (λ x. g.K.Hop.rests x c.write_turn.new.self) _ _ c.hop_cause.result c.close.result
+    c.requires.roomy c.requires.running c.requires.chosen c.state-state.ensures.state c.tape_of-tape.ensures.tape c.in-Err.ensures.turn c.hop_cause.ensures c.close.ensures.passed c.close.ensures.moved

@@ -1,0 +1,101 @@
+-- What the pass of one side does to a transaction.
+use Rattle.std.specs.Prelude.{◌≡◌, ℕ, ◌<◌, ◌⊎◌, Bool, true, false, List, [], ◌∷◌, ◌++◌, take, Option, Some, None}
+use Rattle.trace_core.specs.declared.history.Event.{Event}
+use Rattle.trace_core.specs.declared.history.Event.TheVariants.{Fail, Retry}
+use Rattle.trace_core.specs.declared.history.Cause.{Cause}
+use Rattle.trace_core.specs.declared.history.Cause.TheVariants as causes
+use Rattle.trace_core.specs.declared.history.Seen.{Seen}
+use Rattle.trace_core.specs.Legal.{MayFollow}
+use Rattle.trace_core.specs.Turns.{after_all, AllAre, in_sum, ad_sum, is_of_source, is_of_sending, is_of_replies, is_of_hop}
+use Rattle.wire_kit.specs.Past.{Past, IsLater}
+use Rattle.adapt_sides.specs.declared.fault.ClientFault.{ClientFault}
+use Rattle.adapt_sides.specs.declared.fault.ClientFault.TheVariants as client
+use Rattle.adapt_sides.specs.declared.fault.RelayFault.{RelayFault}
+use Rattle.adapt_sides.specs.declared.fault.RelayFault.TheVariants as relay
+use Rattle.adapt_sides.specs.Tapes.{chosen}
+use Rattle.adapt_hold.specs.Spans.{EndsBody}
+use Rattle.adapt_hold.specs.Holding.{Holding, shows}
+use Rattle.adapt_hold.specs.Steps.{MayRun, moved_all}
+use Rattle.adapt_turn.specs.declared.parts.Passed.{Passed}
+
+-- The cause that each side's fault is: want of memory is a cause of its own, and a body of another length than its head said is
+-- the service's fault.
+
+abbrev pub source_cause : RelayFault → Cause
+source_cause relay.NoMemory = causes.Memory
+source_cause _ = causes.Source
+
+abbrev pub service_cause : ClientFault → Cause
+service_cause client.NoMemory = causes.Memory
+service_cause _ = causes.Service
+
+abbrev pub hop_cause : RelayFault → Cause
+hop_cause relay.NoMemory = causes.Memory
+hop_cause relay.Length = causes.Service
+hop_cause _ = causes.NextHop
+
+-- what is stepped: what the side reported, or the failure
+abbrev pub stepped : Option Cause → List Event → List Event
+stepped None reported = reported
+stepped (Some cause) reported = Fail cause ∷ []
+
+-- Why a pass failed or waits, on a wire with the past p before and q after. It failed by the side's fault; a first failure of the
+-- connection only where the wire failed in this call.
+pub record Explains {F : Type 0} (broken : F) (own : F → Cause) (p q : Past) (old_fault new_fault : Option F) (rests : Type 0) (waits : Past → ℕ) (passed : Passed) : Type 0 where
+  pub failed : (cause : Cause) → passed.failed ≡ Some cause
+      → (fault : F) × (new_fault ≡ Some fault) × (cause ≡ own fault) × (fault ≡ broken → old_fault ≡ None → p.faults < q.faults)
+  pub waiting : passed.waiting ≡ true → rests ⊎ (waits p < waits q)
+
+-- a pass that waits did nothing; another one moved a byte, stepped an event, or met a broken connection
+pub record Tells (delta : List ℕ) (reported : List Event) (passed : Passed) : Type 0 where
+  pub idle : passed.waiting ≡ true → (delta ≡ []) × (reported ≡ []) × (passed.failed ≡ None)
+  pub active : passed.waiting ≡ false → passed.broken ≡ false → delta ≡ [] → reported ≡ [] → passed.failed ≡ None → ⊥
+
+-- What a side reported, of what its wire gave and took, and what was stepped of it.
+pub record Part {F : Type 0} (broken : F) (own : F → Cause) (old new : Holding) (test : Event → Bool) (reported : List Event) (out given taken delta : List ℕ) (old_fault new_fault : Option F) (rests : Type 0) (waits : Past → ℕ) (before after : Past → Type 0) (passed : Passed) : Type 0 where
+  pub wire : (p : Past) → before p → (q : Past) × after q × IsLater p given taken q × Explains broken own p q old_fault new_fault rests waits passed
+  pub only : AllAre test reported
+  pub runs : MayRun old (stepped passed.failed reported) out
+  pub is : new ≡ moved_all old (stepped passed.failed reported) out
+  pub quiet : (cause : Cause) → passed.failed ≡ Some cause → reported ≡ []
+  pub tells : Tells delta reported passed
+
+-- the source's wire gave these bytes
+pub record SourcePart (old new : Holding) (read_old read_new : Seen → List ℕ → List ℕ → Type 0) (agrees_new : Seen → Type 0) (old_fault new_fault : Option RelayFault) (rests : Type 0) (before after : Past → Type 0) (passed : Passed) : Type 0 where
+  pub delta : List ℕ
+  pub out : List ℕ
+  pub reported : List Event
+  pub part : Part relay.Device source_cause old new is_of_source reported out delta [] delta old_fault new_fault rests (λ past. past.read_waits) before after passed
+  pub agrees : agrees_new (after_all (shows old.history) reported)
+  pub goes_on : (body read : List ℕ) → read_old (shows old.history) body read
+      → read_new (after_all (shows old.history) reported) (body ++ take (in_sum reported) out) (read ++ delta)
+
+-- the service's wire took these bytes
+pub record SendPart (old new : Holding) (sent_old sent_new : Seen → List ℕ → List ℕ → Type 0) (old_fault new_fault : Option ClientFault) (rests : Type 0) (before after : Past → Type 0) (passed : Passed) : Type 0 where
+  pub delta : List ℕ
+  pub reported : List Event
+  pub part : Part client.Device service_cause old new is_of_sending reported [] [] delta delta old_fault new_fault rests (λ past. past.write_waits) before after passed
+  pub goes_on : (came taken : List ℕ) → EndsBody old.original came → sent_old (shows old.history) came taken
+      → sent_new (after_all (shows old.history) reported) came (taken ++ delta)
+
+-- the service's wire gave these bytes
+pub record HearPart (old new : Holding) (heard_old heard_new : Seen → List ℕ → List ℕ → Type 0) (old_fault new_fault : Option ClientFault) (rests : Type 0) (before after : Past → Type 0) (passed : Passed) : Type 0 where
+  pub delta : List ℕ
+  pub out : List ℕ
+  pub reported : List Event
+  pub part : Part client.Device service_cause old new is_of_replies reported out delta [] delta old_fault new_fault rests (λ past. past.read_waits) before after passed
+  pub goes_on : (adapted read : List ℕ) → heard_old (shows old.history) adapted read
+      → heard_new (after_all (shows old.history) reported) (adapted ++ take (ad_sum reported) out) (read ++ delta)
+
+-- the next hop's wire took these bytes
+pub record HopPart (old new : Holding) (given_old given_new : Seen → List ℕ → List ℕ → List ℕ → Type 0) (whole : List ℕ → List ℕ → List ℕ → Type 0) (old_fault new_fault : Option RelayFault) (rests : Type 0) (before after : Past → Type 0) (passed : Passed) : Type 0 where
+  pub delta : List ℕ
+  pub reported : List Event
+  pub part : Part relay.Device hop_cause old new is_of_hop reported [] [] delta delta old_fault new_fault rests (λ past. past.write_waits) before after passed
+  pub goes_on : (original adapted head taken : List ℕ) → EndsBody old.original original → EndsBody old.adapted adapted
+      → given_old (shows old.history) head (chosen (shows old.history) original adapted) taken
+      → given_new (after_all (shows old.history) reported) head (chosen (shows old.history) original adapted) (taken ++ delta)
+  pub done : (original adapted head taken : List ℕ) → EndsBody old.original original → EndsBody old.adapted adapted
+      → (after_all (shows old.history) reported).closed ≡ true
+      → given_old (shows old.history) head (chosen (shows old.history) original adapted) taken
+      → whole head (chosen (shows old.history) original adapted) (taken ++ delta)

@@ -1,0 +1,80 @@
+-- How a transaction's history, its tapes and its wires belong together.
+use Rattle.std.specs.Prelude.{◌≡◌, ℕ, ◌<◌, ◌⊎◌, Bool, true, false, List, [], ◌++◌, Option, Some, None, if◌then◌else◌}
+use Rattle.trace_core.specs.declared.history.Seen.{Seen}
+use Rattle.trace_core.specs.declared.history.Cause.{Cause}
+use Rattle.trace_core.specs.Faults.{chooses_original}
+use Rattle.wire_kit.specs.Past.{Past, IsLater}
+use Rattle.adapt_sides.specs.Tapes.{chosen}
+use Rattle.adapt_hold.specs.Spans.{Span, EndsBody}
+use Rattle.adapt_hold.specs.Holding.{Holding, shows}
+
+-- the next hop has a message to get
+abbrev pub IsChosen : Seen → Type 0
+IsChosen x = (chooses_original x ≡ true) ⊎ (x.modified ≡ true)
+
+abbrev pub chosen_span : Holding → Span
+chosen_span h = if chooses_original (shows h.history) then h.original else h.adapted
+
+-- What the wires gave and took since the transaction's messages began on them.
+pub record Texts : Type 0 where
+  pub source_read : List ℕ
+  pub service_read : List ℕ
+  pub service_taken : List ℕ
+  -- what the next hop's wire took
+  pub next_taken : List ℕ
+  -- what the source's wire took: an answer to the user, at REQMOD
+  pub back_taken : List ℕ
+
+-- further bytes on each wire
+abbrev pub joined : Texts → Texts → Texts
+joined t d = record {
+  source_read = t.source_read ++ d.source_read;
+  service_read = t.service_read ++ d.service_read;
+  service_taken = t.service_taken ++ d.service_taken;
+  next_taken = t.next_taken ++ d.next_taken;
+  back_taken = t.back_taken ++ d.back_taken;
+}
+
+abbrev pub nothing : Texts
+nothing = record { source_read = []; service_read = []; service_taken = []; next_taken = []; back_taken = [] }
+
+-- The message goes to one of the two wires, and the other one gets a refusal or nothing; or, once the history is closed and no
+-- byte of a body went out, both get a refusal or nothing.
+abbrev pub HopsAre : (next_given : Seen → List ℕ → List ℕ → List ℕ → Type 0) → (next_aside : List ℕ → Type 0)
+    → (back_given : Seen → List ℕ → List ℕ → List ℕ → Type 0) → (back_aside : List ℕ → Type 0)
+    → Seen → List ℕ → List ℕ → List ℕ → List ℕ → Type 0
+HopsAre next_given next_aside back_given back_aside x head body next back =
+    (next_given x head body next × back_aside back)
+    ⊎ ((next_aside next × back_given x head body back)
+    ⊎ ((x.closed ≡ true) × (x.original_delivered ≡ 0) × (x.adapted_delivered ≡ 0) × next_aside next × back_aside back))
+
+-- The source's bytes spell the original, the service's the adapted body, and the tapes keep the ends of both; what the service's
+-- wire took is of a request with the original, and what the next hop's took of one message with the chosen body.
+pub record Stands (h : Holding) (read sent heard : Seen → List ℕ → List ℕ → Type 0) (hops : Seen → List ℕ → List ℕ → List ℕ → List ℕ → Type 0) (t : Texts) : Type 0 where
+  pub original : List ℕ
+  pub adapted : List ℕ
+  pub head : List ℕ
+  pub original_is : EndsBody h.original original
+  pub adapted_is : EndsBody h.adapted adapted
+  pub read_is : read (shows h.history) original t.source_read
+  pub sent_is : sent (shows h.history) original t.service_taken
+  pub heard_is : heard (shows h.history) adapted t.service_read
+  pub hops_are : hops (shows h.history) head (chosen (shows h.history) original adapted) t.next_taken t.back_taken
+
+-- A pass over the three wires: they gave and took these bytes, and what stood before them stands with them.
+pub record Goes (old_stands new_stands : Texts → Type 0) (source_old source_new service_old service_new next_old next_new : Past → Type 0) : Type 0 where
+  pub delta : Texts
+  pub stands : (t : Texts) → old_stands t → new_stands (joined t delta)
+  pub source : (p : Past) → source_old p → (q : Past) × source_new q × IsLater p delta.source_read delta.back_taken q
+  pub service : (p : Past) → service_old p → (q : Past) × service_new q × IsLater p delta.service_read delta.service_taken q
+  pub next : (p : Past) → next_old p → (q : Past) × next_new q × IsLater p [] delta.next_taken q
+
+-- nothing was due, or the wire answered Wait in this call
+abbrev pub Waited : Type 0 → (Past → ℕ) → (Past → Type 0) → (Past → Type 0) → Type 0
+Waited rests waits before after = (p : Past) → before p → (q : Past) × after q × (rests ⊎ (waits p < waits q))
+
+-- the cause is that of the side's fault; a first failure of the connection only where its wire failed in this call
+abbrev pub Blamed : {F : Type 0} → F → (F → Cause) → Cause → Option F → Option F → (Past → Type 0) → (Past → Type 0) → Type 0
+Blamed {F} broken own cause old_fault new_fault before after =
+    (p : Past) → before p → (q : Past) × after q
+    × ((fault : F) × (new_fault ≡ Some fault) × (cause ≡ own fault) × (fault ≡ broken → old_fault ≡ None → p.faults < q.faults))

@@ -1,0 +1,253 @@
+//! One pass of one side: it moves what its wire gives or takes, and steps what that means.
+
+ghost use Rattle.std.specs.Prelude.{◌≡◌, ℕ, ◌≤◌, ◌⊎◌, true, false, List, [], length, Some, None};
+ghost use Rattle.trace_core.specs.declared.history.Seen.{Seen};
+ghost use Rattle.trace_core.specs.declared.history.Event.TheVariants.{Fail, Retry};
+ghost use Rattle.trace_core.specs.Legal.{MayFollow};
+ghost use Rattle.plan_rules.specs.Room.{original_room, adapted_room};
+ghost use Rattle.adapt_hold.specs.Spans.{span_of};
+ghost use Rattle.adapt_hold.specs.Holding.{shows, moved, IsRoomy, IsTied};
+ghost use Rattle.adapt_turn.specs.Parts.{SourcePart, SendPart, HearPart, HopPart, source_cause, service_cause, hop_cause};
+ghost use Rattle.adapt_turn.specs.Stands.{IsChosen, chosen_span};
+
+use adapt_hold::{Hold, fail, step_all};
+use adapt_sides::{ClientFault, Hop, RelayFault, Service, Source};
+use span_bank::{Bank, Ledgers};
+use span_tape::SpanTape;
+use std::sync::Wait;
+use trace_core::{Cause, Event};
+use wire_kit::Wire;
+
+/// What a pass did.
+#[derive(Clone, Copy, Debug, PartialEq, Eq)]
+pub struct Passed {
+    /// Nothing moved, and nothing was stepped.
+    pub waiting: bool,
+    /// Why it closed the transaction, where it did.
+    pub failed: Option<Cause>,
+    /// The service's connection broke where the request may begin anew.
+    pub broken: bool,
+}
+
+/// The cause that a fault of the source is.
+pub(crate) fn source_cause(fault: RelayFault) -> Cause
+    ensures { result ≡ source_cause fault }
+{
+    match fault {
+        RelayFault::NoMemory => Cause::Memory,
+        _ => Cause::Source,
+    }
+}
+
+/// The cause that a fault of the service is.
+pub(crate) fn service_cause(fault: ClientFault) -> Cause
+    ensures { result ≡ service_cause fault }
+{
+    match fault {
+        ClientFault::NoMemory => Cause::Memory,
+        _ => Cause::Service,
+    }
+}
+
+/// The cause that a fault of the next hop is. A body of another length than its head said is the service's fault.
+pub(crate) fn hop_cause(fault: RelayFault) -> Cause
+    ensures { result ≡ hop_cause fault }
+{
+    match fault {
+        RelayFault::NoMemory => Cause::Memory,
+        RelayFault::Length => Cause::Service,
+        _ => Cause::NextHop,
+    }
+}
+
+/// Closes the transaction.
+fn close<B: Ledgers>(rt: &impl Wait, bank: &Bank<B>, hold: &mut Hold<B>, cause: Cause) -> Passed
+    requires running { (shows hold.old.history).closed ≡ false }
+    requires roomy { IsRoomy hold.old }
+    ensures passed { result ≡ record { waiting = false; failed = Some cause; broken = false } }
+    ensures moved { hold.new ≡ moved hold.old (Fail cause) [] }
+    ensures roomy { IsRoomy hold.new }
+{
+    fail(rt, bank, hold, cause);
+    Passed {
+        waiting: false,
+        failed: Some(cause),
+        broken: false,
+    }
+}
+
+/// A pass that closed nothing.
+fn went_on(waiting: bool) -> Passed
+    ensures { result ≡ record { waiting = waiting; failed = None; broken = false } }
+{
+    Passed {
+        waiting,
+        failed: None,
+        broken: false,
+    }
+}
+
+/// Takes what the source gives, into a buffer of the room's length.
+pub(crate) fn take_source<B: Ledgers, S: Source, W: Wire>(
+    rt: &impl Wait,
+    bank: &Bank<B>,
+    hold: &mut Hold<B>,
+    source: &mut S,
+    wire: &mut W,
+    out: &mut [u8],
+) -> Passed
+    requires running { (shows hold.old.history).closed ≡ false }
+    requires roomy { IsRoomy hold.old }
+    requires agrees { S.agrees (shows hold.old.history) source.old }
+    requires room { length out.old ≡ original_room (shows hold.old.history) hold.old.claim hold.old.limits.window }
+    ensures part { SourcePart hold.old hold.new (λ x body read. S.has_read x body read source.old) (λ x body read. S.has_read x body read source.new)
+        (λ x. S.agrees x source.new) (S.fault source.old) (S.fault source.new) (S.rests (original_room (shows hold.old.history) hold.old.claim hold.old.limits.window) source.new)
+        (W.past wire.old) (W.past wire.new) result }
+    ensures head { S.head source.new ≡ S.head source.old }
+    ensures whole { result.broken ≡ false }
+    ensures roomy { IsRoomy hold.new }
+{
+    let _state = hold.state();
+    match source.read_turn(wire, out) {
+        Ok(turn) => {
+            step_all(rt, bank, hold, turn.events.as_slice(), out);
+            went_on(turn.waiting)
+        }
+        Err(fault) => close(rt, bank, hold, source_cause(fault)),
+    }
+}
+
+/// Whether the request may begin anew on a fresh connection, where this fault broke the one.
+fn may_begin_anew<B: Ledgers>(hold: &Hold<B>, fault: ClientFault, reused: bool) -> bool
+    ensures may { result ≡ true → MayFollow hold.now.history.plan hold.now.history.events Retry }
+{
+    matches!(fault, ClientFault::Closed | ClientFault::Device)
+        && reused
+        && hold.state().may(Event::Retry)
+}
+
+/// What a fault of the service does: it closes the transaction, or the request may begin anew.
+fn service_failed<B: Ledgers>(
+    rt: &impl Wait,
+    bank: &Bank<B>,
+    hold: &mut Hold<B>,
+    fault: ClientFault,
+    reused: bool,
+) -> Passed
+    requires running { (shows hold.old.history).closed ≡ false }
+    requires roomy { IsRoomy hold.old }
+    ensures broken { result.broken ≡ true → (hold.new ≡ hold.old) × (result ≡ record { waiting = false; failed = None; broken = true }) }
+    ensures closed { result.broken ≡ false → (hold.new ≡ moved hold.old (Fail (service_cause fault)) []) × (result ≡ record { waiting = false; failed = Some (service_cause fault); broken = false }) }
+    ensures roomy { IsRoomy hold.new }
+{
+    if may_begin_anew(hold, fault, reused) {
+        Passed {
+            waiting: false,
+            failed: None,
+            broken: true,
+        }
+    } else {
+        close(rt, bank, hold, service_cause(fault))
+    }
+}
+
+/// Writes what is due to the service.
+pub(crate) fn send<B: Ledgers, V: Service, W: Wire>(
+    rt: &impl Wait,
+    bank: &Bank<B>,
+    hold: &mut Hold<B>,
+    service: &mut V,
+    wire: &mut W,
+    reused: bool,
+) -> Passed
+    requires running { (shows hold.old.history).closed ≡ false }
+    requires roomy { IsRoomy hold.old }
+    ensures part { SendPart hold.old hold.new (λ x came taken. V.has_sent x came taken service.old) (λ x came taken. V.has_sent x came taken service.new)
+        (V.fault service.old) (V.fault service.new) (V.rests_writing (shows hold.old.history) service.new)
+        (W.past wire.old) (W.past wire.new) result }
+    ensures heard { (x : Seen) (adapted read : List ℕ) → V.has_heard x adapted read service.old → V.has_heard x adapted read service.new }
+    ensures head { V.adapted_head service.new ≡ V.adapted_head service.old }
+    ensures roomy { IsRoomy hold.new }
+{
+    let state = hold.state();
+    let tape = hold.original();
+    match service.write_turn(state, tape, wire) {
+        Ok(turn) => {
+            step_all(rt, bank, hold, turn.events.as_slice(), &[]);
+            went_on(turn.waiting)
+        }
+        Err(fault) => service_failed(rt, bank, hold, fault, reused),
+    }
+}
+
+/// Takes what the service gives, into a buffer of the room's length.
+pub(crate) fn take_service<B: Ledgers, V: Service, W: Wire>(
+    rt: &impl Wait,
+    bank: &Bank<B>,
+    hold: &mut Hold<B>,
+    service: &mut V,
+    wire: &mut W,
+    out: &mut [u8],
+    reused: bool,
+) -> Passed
+    requires running { (shows hold.old.history).closed ≡ false }
+    requires roomy { IsRoomy hold.old }
+    requires room { length out.old ≡ adapted_room (shows hold.old.history) hold.old.limits.window }
+    ensures part { HearPart hold.old hold.new (λ x adapted read. V.has_heard x adapted read service.old) (λ x adapted read. V.has_heard x adapted read service.new)
+        (V.fault service.old) (V.fault service.new) (V.rests_reading (shows hold.old.history) (adapted_room (shows hold.old.history) hold.old.limits.window) service.new)
+        (W.past wire.old) (W.past wire.new) result }
+    ensures sent { (x : Seen) (came taken : List ℕ) → V.has_sent x came taken service.old → V.has_sent x came taken service.new }
+    ensures rests { (x : Seen) → V.rests_writing x service.old → V.rests_writing x service.new }
+    ensures head { (shows hold.old.history).modified ≡ true → V.adapted_head service.new ≡ V.adapted_head service.old }
+    ensures roomy { IsRoomy hold.new }
+{
+    let state = hold.state();
+    match service.read_turn(state, wire, out) {
+        Ok(turn) => {
+            step_all(rt, bank, hold, turn.events.as_slice(), out);
+            went_on(turn.waiting)
+        }
+        Err(fault) => service_failed(rt, bank, hold, fault, reused),
+    }
+}
+
+/// The tape of the chosen message.
+pub(crate) fn tape_of<B: Ledgers>(hold: &Hold<B>) -> &SpanTape
+    ensures tape { span_of result.now ≡ chosen_span hold.now }
+    ensures tied { IsTied hold.now }
+{
+    if hold.state().chooses_original() {
+        hold.original()
+    } else {
+        hold.adapted()
+    }
+}
+
+/// Gives a next hop what it takes of the chosen message.
+pub(crate) fn give<B: Ledgers, K: Hop, W: Wire>(
+    rt: &impl Wait,
+    bank: &Bank<B>,
+    hold: &mut Hold<B>,
+    hop: &mut K,
+    wire: &mut W,
+) -> Passed
+    requires running { (shows hold.old.history).closed ≡ false }
+    requires chosen { IsChosen (shows hold.old.history) }
+    requires roomy { IsRoomy hold.old }
+    ensures part { HopPart hold.old hold.new (λ x head body taken. K.has_given x head body taken hop.old) (λ x head body taken. K.has_given x head body taken hop.new)
+        (λ head body taken. K.is_whole head body taken hop.new) (K.fault hop.old) (K.fault hop.new) (K.rests (shows hold.old.history) hop.new)
+        (W.past wire.old) (W.past wire.new) result }
+    ensures gift { K.gift hop.new ≡ K.gift hop.old }
+    ensures whole { result.broken ≡ false }
+    ensures roomy { IsRoomy hold.new }
+{
+    let state = hold.state();
+    let tape = tape_of(hold);
+    match hop.write_turn(state, tape, wire) {
+        Ok(turn) => {
+            step_all(rt, bank, hold, turn.events.as_slice(), &[]);
+            went_on(turn.waiting)
+        }
+        Err(fault) => close(rt, bank, hold, hop_cause(fault)),
+    }
+}
