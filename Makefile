@@ -2,13 +2,22 @@
 # below crates/; a line names each crate that is proved first, and then the program's output stands alone.
 SCRIPT ?= whole_body_without_allow
 
-.PHONY: help build trace check ci must-fail fmt bench-chunks bench-heads bench-bank refuse-allocations
+.PHONY: help build trace check ci must-fail fmt bench-chunks bench-heads bench-bank refuse-allocations icapd bench-icapd
 
 help: ## lists the targets
 	@grep -E '^[a-z-]+:.*##' Makefile | sed 's/:.*## /	/'
 
 build: ## proves and builds the programs, and leaves them under bin/
 	@tools/build_program proxy_program adaptproxy chunks 1
+	@tools/build_program icapd_program icapd once
+
+icapd: ## answers examples/blocked.icap by the proved ICAP server
+	@tools/build_program icapd_program icapd once
+	@bin/icapd once < examples/blocked.icap
+
+bench-icapd: ## the ICAP server: requests/s of `icapd once` on 10,000 piped requests
+	@tools/build_program icapd_program icapd once
+	@tools/bench_icapd
 
 trace: ## runs examples/$(SCRIPT).trace through the proved program, and prints its answers
 	@tools/build_program proxy_program adaptproxy chunks 1

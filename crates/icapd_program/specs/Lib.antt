@@ -1,0 +1,4 @@
+pub mod Command
+pub mod Config
+pub mod Errors
+pub mod Once
