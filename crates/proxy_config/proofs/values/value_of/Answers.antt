@@ -1,0 +1,6 @@
+-- What the map of a table finds is what its members have.
+use Rattle.toml.proofs.Views.{table_get}
+use Rattle.proxy_config.proofs.values.value_of.Goals as goal
+
+pub returns : goal.returns
+returns c = table_get c.get.result c.args.key.now c.args.table.now.entries c.get.ensures.value

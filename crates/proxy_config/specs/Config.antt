@@ -1,0 +1,96 @@
+-- What a configuration says, and which fault of a document is the first.
+use Rattle.std.specs.Prelude.{◌≡◌, ◌≢◌, ℕ, ◌^◌, ◌⊎◌, List, Option, Some, None, IsSome, Bool, true, codes, ⊤, IsUtf8}
+use Rattle.toml.specs.Data.{Members, get_member}
+use Rattle.toml.specs.Parse.{parse_document}
+use Rattle.std.specs.declared.net.socket_addr.SocketAddrV4.{SocketAddrV4}
+use Rattle.proxy_config.specs.Values.{number_or, truth_or, HasAddress}
+use Rattle.proxy_config.specs.Fault.{IsFaultAt}
+use Rattle.proxy_config.specs.Services.{IsServiceOf}
+use Rattle.proxy_config.specs.declared.fault.ConfigFault.{ConfigFault}
+use Rattle.proxy_config.specs.declared.fault.ConfigFault.TheVariants.{Text, Key, NoMemory}
+use Rattle.proxy_config.specs.declared.config.Config.{Config}
+
+-- the number of a key: the default where the key is missing, none where it is no whole number of the range
+abbrev pub number_at : List ℕ → ℕ → ℕ → ℕ → Members → Option ℕ
+number_at key low high other document = number_or low high other (get_member key document)
+
+-- each number's key, range and default
+abbrev pub shards_of : Members → Option ℕ
+shards_of = number_at (codes "shards") 1 64 2
+
+abbrev pub capacity_of : Members → Option ℕ
+capacity_of = number_at (codes "capacity") 1 (2 ^ 40) 16777216
+
+abbrev pub rows_of : Members → Option ℕ
+rows_of = number_at (codes "rows") 1 4096 256
+
+abbrev pub journal_of : Members → Option ℕ
+journal_of = number_at (codes "journal") 1 65536 1024
+
+abbrev pub deadline_of : Members → Option ℕ
+deadline_of = number_at (codes "deadline") 1 3600 60
+
+abbrev pub preview_limit_of : Members → Option ℕ
+preview_limit_of = number_at (codes "preview_limit") 0 65536 1024
+
+abbrev pub allow_limit_of : Members → Option ℕ
+allow_limit_of = number_at (codes "allow_limit") 0 1048576 65536
+
+abbrev pub window_of : Members → Option ℕ
+window_of = number_at (codes "window") 1 65536 8192
+
+abbrev pub retry_of : Members → Option Bool
+retry_of document = truth_or true (get_member (codes "retry") document)
+
+-- the document says these values; its hosts aside
+pub record Says (document : Members) (config : Config) : Type 0 where
+  pub listen : HasAddress (codes "listen") document config.listen
+  pub admin : HasAddress (codes "admin") document config.admin
+  pub shards : shards_of document ≡ Some config.shards
+  pub capacity : capacity_of document ≡ Some config.capacity
+  pub rows : rows_of document ≡ Some config.rows
+  pub journal : journal_of document ≡ Some config.journal
+  pub deadline : deadline_of document ≡ Some config.deadline
+  pub preview_limit : preview_limit_of document ≡ Some config.preview_limit
+  pub allow_limit : allow_limit_of document ≡ Some config.allow_limit
+  pub window : window_of document ≡ Some config.window
+  pub retry : retry_of document ≡ Some config.retry
+  pub reqmod : IsServiceOf (codes "reqmod") document config.reqmod
+  pub respmod : IsServiceOf (codes "respmod") document config.respmod
+
+-- the first fault of keys that are judged one behind the other: this key's where it is bad, else one of the keys behind it
+abbrev pub FirstOf : List ℕ → Type 0 → Type 0 → Type 0 → ConfigFault → Type 0
+FirstOf key good bad later fault = (bad × IsFaultAt key fault) ⊎ (good × later)
+
+-- by a key that needs an address
+abbrev pub AddressFirst : List ℕ → Members → Type 0 → ConfigFault → Type 0
+AddressFirst key document later fault = FirstOf key
+    ((address : SocketAddrV4) × HasAddress key document address)
+    ((address : SocketAddrV4) → HasAddress key document address → ⊥)
+    later fault
+
+-- by a key with a value that may be bad
+abbrev pub ValueFirst : {A : Type 0} → List ℕ → Option A → Type 0 → ConfigFault → Type 0
+ValueFirst key value later fault = FirstOf key (IsSome value) (value ≡ None) later fault
+
+-- the first fault of a document; of the hosts and services, and of keys that nothing has, all others are good
+abbrev pub IsFirstFault : Members → ConfigFault → Type 0
+IsFirstFault document fault =
+    AddressFirst (codes "listen") document (
+    AddressFirst (codes "admin") document (
+    ValueFirst (codes "shards") (shards_of document) (
+    ValueFirst (codes "capacity") (capacity_of document) (
+    ValueFirst (codes "rows") (rows_of document) (
+    ValueFirst (codes "journal") (journal_of document) (
+    ValueFirst (codes "deadline") (deadline_of document) (
+    ValueFirst (codes "preview_limit") (preview_limit_of document) (
+    ValueFirst (codes "allow_limit") (allow_limit_of document) (
+    ValueFirst (codes "window") (window_of document) (
+    ValueFirst (codes "retry") (retry_of document) (
+    ⊤) fault) fault) fault) fault) fault) fault) fault) fault) fault) fault) fault
+
+-- why a text is no configuration: it is no document, or this is the first fault of its document
+abbrev pub Refuses : List ℕ → ConfigFault → Type 0
+Refuses text Text = (¬ (IsUtf8 text)) ⊎ (parse_document text ≡ None)
+Refuses text NoMemory = ⊤
+Refuses text (Key key) = (document : Members) × (parse_document text ≡ Some document) × IsFirstFault document (Key key)

@@ -1,0 +1,5 @@
+pub mod Fault
+pub mod Values
+pub mod Sizes
+pub mod Config
+pub mod Services

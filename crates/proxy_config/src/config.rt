@@ -1,0 +1,44 @@
+//! The configuration as a whole.
+
+ghost use Rattle.proxy_config.specs.Sizes.{IsInRange};
+
+use crate::hosts::Hosts;
+use crate::point::ServicePoint;
+use std::net::SocketAddrV4;
+
+/// The most bytes of a configuration, 1,048,576.
+pub const MAX_CONFIG: usize = 1_048_576;
+
+/// What `adaptproxy serve` is told.
+#[derive(Debug, Drop)]
+pub struct Config {
+    /// Where users connect.
+    pub listen: SocketAddrV4,
+    /// Where the administrator connects.
+    pub admin: SocketAddrV4,
+    /// Threads, each with an event loop: 1 to 64.
+    pub shards: u64,
+    /// The most body bytes that all transactions together may reserve: 1 to `2^40`.
+    pub capacity: u64,
+    /// The most transactions at once: 1 to 4,096.
+    pub rows: u64,
+    /// The steps that the buffer budget and each pool keep of their past: 1 to 65,536.
+    pub journal: u64,
+    /// Seconds without a moved byte after which an exchange is ended: 1 to 3,600.
+    pub deadline: u64,
+    /// The most bytes of a preview: 0 to 65,536.
+    pub preview_limit: u64,
+    /// The longest known body that a service may answer with 204 outside a preview: 0 to 1,048,576 bytes.
+    pub allow_limit: u64,
+    /// Bytes that may be read ahead: 1 to 65,536.
+    pub window: u64,
+    /// Whether a request that may be answered by 204 begins anew once, on a fresh connection, where a reused one broke.
+    pub retry: bool,
+    /// Where named hosts are.
+    pub hosts: Hosts,
+    /// The service of requests; none where they aren't adapted.
+    pub reqmod: Option<ServicePoint>,
+    /// The service of responses; none where they aren't adapted.
+    pub respmod: Option<ServicePoint>,
+    ghost in_range: { IsInRange shards capacity rows journal deadline preview_limit allow_limit window },
+}

@@ -1,0 +1,22 @@
+//! The configuration of `adaptproxy serve`: TOML text in, checked values out.
+//!
+//! Each key has one kind of value, a range, and mostly a default. The first fault in the order of [`Config`]'s keys is
+//! answered; keys that nothing here has come last, in the order of their bytes.
+#![tactic(auto)]
+
+mod config;
+mod fault;
+mod hosts;
+mod point;
+mod reading;
+mod services;
+#[cfg(test)]
+mod tests;
+mod unknown;
+mod values;
+
+pub use config::{Config, MAX_CONFIG};
+pub use fault::ConfigFault;
+pub use hosts::Hosts;
+pub use point::ServicePoint;
+pub use reading::read_config;

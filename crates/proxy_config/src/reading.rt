@@ -1,0 +1,94 @@
+//! Reading a configuration, key after key.
+
+ghost use Rattle.std.specs.Prelude.{◌≡◌, ◌≤◌, IfOk, IfErr, Some, None};
+ghost use Rattle.toml.specs.Data.{Members};
+ghost use Rattle.toml.specs.View.{table_view};
+ghost use Rattle.toml.specs.Parse.{parse_document};
+ghost use Rattle.proxy_config.specs.Config.{Says, IsFirstFault, Refuses, number_at};
+ghost use Rattle.proxy_config.specs.Fault.{IsFaultAt, Names};
+
+use crate::config::Config;
+use crate::fault::{ConfigFault, needed};
+use crate::hosts::read_hosts;
+use crate::services::read_point;
+use crate::unknown::check_keys;
+use crate::values::{address, number_or, truth_or};
+use std::alloc::Global;
+use std::str;
+use toml::Table;
+
+/// Reads a configuration (TOML). The first fault in the order of [`Config`]'s keys is answered, unknown keys last;
+/// `Text` goes before all of them. `NoMemory` where none was found for the configuration.
+pub fn read_config(alloc: Global, text: &[u8]) -> Result<Config, ConfigFault>
+    ensures ok { IfOk result (λ config. (document : Members)
+        × (parse_document text.now ≡ Some document) × Says document config) }
+    ensures err { IfErr result (Refuses text.now) }
+{
+    let Ok(text) = str::from_utf8(text) else {
+        return Err(ConfigFault::Text);
+    };
+    match toml::table_from_str(alloc, text) {
+        Ok(table) => read_table(alloc, &table),
+        Err(error) if error.is_memory() => Err(ConfigFault::NoMemory),
+        Err(_) => Err(ConfigFault::Text),
+    }
+}
+
+/// Reads a configuration out of its document.
+fn read_table(alloc: Global, table: &Table) -> Result<Config, ConfigFault>
+    ensures ok { IfOk result (Says (table_view table.now)) }
+    ensures err { IfErr result (IsFirstFault (table_view table.now)) }
+    ensures names { IfErr result Names }
+{
+    let listen = needed(alloc, "listen", address(table, "listen"))?;
+    let admin = needed(alloc, "admin", address(table, "admin"))?;
+    let shards = number(alloc, table, "shards", 1, 64, 2)?;
+    let capacity = number(alloc, table, "capacity", 1, 1 << 40, 16_777_216)?;
+    let rows = number(alloc, table, "rows", 1, 4_096, 256)?;
+    let journal = number(alloc, table, "journal", 1, 65_536, 1_024)?;
+    let deadline = number(alloc, table, "deadline", 1, 3_600, 60)?;
+    let preview_limit = number(alloc, table, "preview_limit", 0, 65_536, 1_024)?;
+    let allow_limit = number(alloc, table, "allow_limit", 0, 1_048_576, 65_536)?;
+    let window = number(alloc, table, "window", 1, 65_536, 8_192)?;
+    let retry = needed(alloc, "retry", truth_or(table, "retry", true))?;
+    let hosts = read_hosts(alloc, table)?;
+    let reqmod = read_point(alloc, table, "reqmod")?;
+    let respmod = read_point(alloc, table, "respmod")?;
+    check_keys(alloc, table)?;
+    Ok(Config {
+        listen,
+        admin,
+        shards,
+        capacity,
+        rows,
+        journal,
+        deadline,
+        preview_limit,
+        allow_limit,
+        window,
+        retry,
+        hosts,
+        reqmod,
+        respmod,
+    })
+}
+
+/// The number of a key, or the fault of the key.
+fn number(
+    alloc: Global,
+    table: &Table,
+    key: &str,
+    low: u64,
+    high: u64,
+    other: u64,
+) -> Result<u64, ConfigFault>
+    requires low { low ≤ other }
+    requires high { other ≤ high }
+    ensures low { IfOk result (λ n. low ≤ n) }
+    ensures high { IfOk result (λ n. n ≤ high) }
+    ensures ok { IfOk result (λ n. number_at key.now low high other (table_view table.now) ≡ Some n) }
+    ensures none { IfErr result (λ _. number_at key.now low high other (table_view table.now) ≡ None) }
+    ensures err { IfErr result (IsFaultAt key.now) }
+{
+    needed(alloc, key, number_or(table, key, low, high, other))
+}

@@ -1,0 +1,131 @@
+//! Reading the service of a point.
+
+ghost use Rattle.std.specs.Prelude.{◌≡◌, ◌≤◌, IfOk, IfErr, IfSome, Ok, Some, true, option_copied, codes};
+ghost use Rattle.std.specs.Net.Grammar.{IsIpv4Text};
+ghost use Rattle.toml.specs.View.{table_view};
+ghost use Rattle.proxy_config.specs.Fault.{Names};
+ghost use Rattle.proxy_config.specs.Services.{text_at, IsServicePath, SaysService, IsServiceOf};
+
+use crate::fault::{ConfigFault, at_key, needed};
+use crate::point::ServicePoint;
+use crate::values::{number_or, value_of};
+use http_uri::{Uri, UriError};
+use std::alloc::{AllocError, Global};
+use std::net::{Ipv4Addr, SocketAddrV4};
+use toml::Table;
+
+/// The port of ICAP where none is written (RFC 3507, section 4.2).
+const ICAP_PORT: u64 = 1344;
+
+/// The most bytes of a path.
+const MAX_PATH: usize = 1024;
+
+/// The text of a key.
+fn text<'a>(table: &'a Table, key: &str) -> Option<&'a str>
+    ensures { option_copied result ≡ text_at key.now (table_view table.now) }
+{
+    match value_of(table, key) {
+        Some(value) => value.as_str(),
+        None => None,
+    }
+}
+
+/// Reads the service's host: an IPv4 address.
+fn host(table: &Table) -> Option<(Ipv4Addr, &str)>
+    ensures text { IfSome result (λ found. text_at (codes "host") (table_view table.now) ≡ Some found.1.now) }
+    ensures ip { IfSome result (λ found. IsIpv4Text found.1.now found.0) }
+{
+    let text = text(table, "host")?;
+    match Ipv4Addr::parse_ascii(text.as_bytes()) {
+        Ok(ip) => Some((ip, text)),
+        Err(_) => None,
+    }
+}
+
+/// Whether a URI may have the path. `Err` where no memory was found to judge it.
+fn is_path(alloc: Global, path: &str) -> Result<bool, AllocError>
+    ensures { result ≡ Ok true → IsServicePath path.now }
+{
+    let bytes = path.as_bytes();
+    if bytes.len() > MAX_PATH || !bytes.starts_with(b"/") || bytes.contains(&b'#') {
+        return Ok(false);
+    }
+    match Uri::from_bytes(alloc, bytes) {
+        Ok(_uri) => Ok(true),
+        Err(UriError::Invalid(_)) => Ok(false),
+        Err(UriError::OutOfMemory) => Err(AllocError),
+    }
+}
+
+/// Reads the service's path. `Err` where no memory was found to judge it.
+fn path(alloc: Global, table: &Table) -> Result<Option<&str>, AllocError>
+    ensures text { IfOk result (λ path. IfSome path (λ path. text_at (codes "path") (table_view table.now) ≡ Some path.now)) }
+    ensures good { IfOk result (λ path. IfSome path (λ path. IsServicePath path.now)) }
+{
+    let Some(path) = text(table, "path") else {
+        return Ok(None);
+    };
+    if is_path(alloc, path)? {
+        Ok(Some(path))
+    } else {
+        Ok(None)
+    }
+}
+
+/// The name of a point's key.
+fn key_of(alloc: Global, point: &str, key: &str) -> Result<String, AllocError> {
+    format!(in alloc; "{point}.{key}")
+}
+
+/// What was found for a key of a point, or the fault of the key.
+fn of_point<T>(alloc: Global, point: &str, key: &str, found: Option<T>) -> Result<T, ConfigFault>
+    ensures ok { IfOk result (λ value. found ≡ Some value) }
+    ensures err { IfErr result Names }
+{
+    match found {
+        Some(value) => Ok(value),
+        None => {
+            let key = key_of(alloc, point, key)?;
+            Err(at_key(alloc, key.as_str()))
+        }
+    }
+}
+
+/// Reads the table of a point; without one no message of the point is offered to a service.
+pub(crate) fn read_point(
+    alloc: Global,
+    table: &Table,
+    point: &str,
+) -> Result<Option<ServicePoint>, ConfigFault>
+    ensures ok { IfOk result (IsServiceOf point.now (table_view table.now)) }
+    ensures err { IfErr result Names }
+{
+    let Some(value) = value_of(table, point) else {
+        return Ok(None);
+    };
+    let service = needed(alloc, point, value.as_table())?;
+    Ok(Some(read_service(alloc, service, point)?))
+}
+
+/// Reads the table of a service.
+fn read_service(alloc: Global, table: &Table, point: &str) -> Result<ServicePoint, ConfigFault>
+    ensures ok { IfOk result (SaysService (table_view table.now)) }
+    ensures err { IfErr result Names }
+{
+    let (ip, host) = of_point(alloc, point, "host", host(table))?;
+    let port = of_point(
+        alloc,
+        point,
+        "port",
+        number_or(table, "port", 1, 65535, ICAP_PORT),
+    )?;
+    let path = of_point(alloc, point, "path", path(alloc, table)?)?;
+    let connections = number_or(table, "connections", 1, 1024, 8);
+    let connections = of_point(alloc, point, "connections", connections)?;
+    Ok(ServicePoint {
+        host: String::from_str(alloc, host)?,
+        address: SocketAddrV4::new(ip, port as u16),
+        path: String::from_str(alloc, path)?,
+        connections,
+    })
+}

@@ -1,0 +1,95 @@
+//! Single values of a table: numbers in a range, addresses, truth values.
+
+ghost use Rattle.std.specs.Prelude.{◌≡◌, ◌≢◌, ◌≤◌, ℕ, IfSome, IfNone, option_map};
+ghost use Rattle.std.specs.Net.Grammar.{IsSocketV4Text};
+ghost use Rattle.std.specs.Net.Socket.{v4_port};
+ghost use Rattle.toml.specs.View.{view, table_view};
+ghost use Rattle.toml.specs.Data.{get_member};
+ghost use Rattle.std.specs.declared.net.socket_addr.SocketAddrV4.{SocketAddrV4 as AnyAddress};
+ghost use Rattle.proxy_config.specs.Values.{number_in, number_or, truth_or, IsAddress, HasAddress};
+
+use std::net::SocketAddrV4;
+use toml::{Table, Value};
+
+/// The value of a key.
+pub(crate) fn value_of<'a>(table: &'a Table, key: &str) -> Option<&'a Value>
+    ensures { option_map (λ value. view value.now) result ≡ get_member key.now (table_view table.now) }
+{
+    table.get(key)
+}
+
+/// The whole number of a value, where it lies in the range.
+fn number_in(value: &Value, low: u64, high: u64) -> Option<u64>
+    ensures number { result ≡ number_in low high (view value.now) }
+    ensures low { IfSome result (λ n. low ≤ n) }
+    ensures high { IfSome result (λ n. n ≤ high) }
+{
+    let n = value.as_integer()?;
+    match u64::try_from(n) {
+        Ok(n) if low <= n && n <= high => Some(n),
+        _ => None,
+    }
+}
+
+/// The whole number of a key, where it lies in the range; `other` where the key is missing.
+pub(crate) fn number_or(table: &Table, key: &str, low: u64, high: u64, other: u64) -> Option<u64>
+    requires low { low ≤ other }
+    requires high { other ≤ high }
+    ensures number { result ≡ number_or low high other (get_member key.now (table_view table.now)) }
+    ensures low { IfSome result (λ n. low ≤ n) }
+    ensures high { IfSome result (λ n. n ≤ high) }
+{
+    match value_of(table, key) {
+        Some(value) => number_in(value, low, high),
+        None => Some(other),
+    }
+}
+
+/// The truth value of a key; `other` where the key is missing.
+pub(crate) fn truth_or(table: &Table, key: &str, other: bool) -> Option<bool>
+    ensures { result ≡ truth_or other (get_member key.now (table_view table.now)) }
+{
+    match value_of(table, key) {
+        Some(value) => value.as_bool(),
+        None => Some(other),
+    }
+}
+
+/// The IPv4 address and port that a text says. No port is 0.
+fn address_in(text: &[u8]) -> Option<SocketAddrV4>
+    ensures found { IfSome result (λ address. IsSocketV4Text text.now address × (v4_port address ≢ 0)) }
+    ensures none { IfNone result ((address : AnyAddress) → IsSocketV4Text text.now address → v4_port address ≢ 0 → ⊥) }
+{
+    match SocketAddrV4::parse_ascii(text) {
+        Ok(address) => {
+            if address.port() != 0 {
+                Some(address)
+            } else {
+                None
+            }
+        }
+        Err(_) => None,
+    }
+}
+
+/// The IPv4 address and port that a value says as text. No port is 0.
+pub(crate) fn address_of(value: &Value) -> Option<SocketAddrV4>
+    ensures found { IfSome result (IsAddress (view value.now)) }
+    ensures none { IfNone result ((address : AnyAddress) → IsAddress (view value.now) address → ⊥) }
+{
+    match value.as_str() {
+        Some(text) => address_in(text.as_bytes()),
+        None => None,
+    }
+}
+
+/// The IPv4 address and port of a key.
+pub(crate) fn address(table: &Table, key: &str) -> Option<SocketAddrV4>
+    ensures found { IfSome result (HasAddress key.now (table_view table.now)) }
+    ensures none { IfNone result ((address : AnyAddress) → HasAddress key.now (table_view table.now) address → ⊥) }
+{
+    match value_of(table, key) {
+        Some(value) => address_of(value),
+        None => None,
+    }
+}
