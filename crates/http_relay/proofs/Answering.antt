@@ -1,0 +1,355 @@
+-- What a turn answers, by what its wire answered.
+use Rattle.std.proofs.Common.{◌≡◌, ℕ, arith, Bool, true, false, ◌||◌, List, [], ◌∷◌, ◌++◌, refl, ap, sym, subst, ◌∙◌, append-nil, Option, Some, None, Result, Ok, Err, ◌⊎◌, inl, inr, ◌==◌}
+use Rattle.std.proofs.lemmas.Bool.Decides.{nat_tests}
+use Rattle.trace_core.specs.declared.history.Seen.{Seen}
+use Rattle.trace_core.specs.declared.history.Event.{Event}
+use Rattle.trace_core.specs.declared.history.Event.TheVariants.{Usr, Done}
+use Rattle.trace_core.specs.Legal.{Allows}
+use Rattle.trace_core.specs.History.{is_plain}
+use Rattle.trace_core.specs.Faults.{chooses_original}
+use Rattle.trace_core.specs.View.{after}
+use Rattle.trace_core.proofs.Sound.{Sound}
+use Rattle.span_tape.specs.Tape.{Tape}
+use Rattle.wire_kit.specs.Past.{Past, Offers, delta_of}
+use Rattle.wire_kit.specs.declared.wire.Put.{Put}
+use Rattle.wire_kit.specs.declared.wire.Put.TheVariants as put
+use Rattle.chunk_writer.specs.declared.next.Next.{Next}
+use Rattle.chunk_writer.specs.Writer.{Writer, waiting, is_ending, IsIdle}
+use Rattle.chunk_writer.specs.Moves.{Moves, IsStill}
+use Rattle.chunk_writer.proofs.Moving.{Reaches, reaches}
+use Rattle.adapt_sides.specs.declared.turn.Turn.{Turn}
+use Rattle.http_side.specs.declared.body.Framing.{Framing}
+use Rattle.http_relay.specs.declared.hop.Stage.{Stage}
+use Rattle.http_relay.specs.declared.hop.Stage.TheVariants as at
+use Rattle.adapt_sides.specs.declared.fault.RelayFault.{RelayFault}
+use Rattle.adapt_sides.specs.declared.fault.RelayFault.TheVariants.{Device, Length}
+use Rattle.adapt_sides.specs.Tapes.{chosen_delivered, chosen_received}
+use Rattle.http_relay.specs.Giving.{Hop, LetsGo, GivesMessage, HasGiven, GivenAt, IsAside, AsideAt, IsUndelivered, Decides, NothingDue, BreaksLength, usr_events, turn_events, stage_then, is_message, is_whole, gift_of}
+use Rattle.trace_core.specs.Turns.{after_all, MayAllFollow}
+use Rattle.adapt_sides.specs.Tapes.{Follows, KeepsUndelivered}
+use Rattle.adapt_sides.specs.Turns.{events_of}
+use Rattle.http_relay.specs.Writing.{GoesOn, WriteTurn, Fits, FitsAnswer}
+use Rattle.http_relay.proofs.Chosen.{done_means}
+use Rattle.http_relay.proofs.Given.{gives_passed}
+use Rattle.http_relay.proofs.Carried.{given_on, aside_on, done_given, undelivered_done, legal_by, held_by, usr_to}
+
+all_then : (x : Seen) (n : ℕ) (b : Bool) → (n == 0) ≡ b → after_all x (turn_events n true) ≡ after (usr_to x n) Done
+all_then x n true e = rw e refl
+all_then x n false e = rw e refl
+
+with_done : (stage : Stage) (x : Seen) (f : Framing) (head body taken : List ℕ) (w : Writer) (n : ℕ) (done : Bool) → GivenAt stage (usr_to x n) f head body taken w → GivenAt stage (after_all x (turn_events n done)) f head body taken w
+with_done stage x f head body taken w n true g = subst (λ (y : Seen). GivenAt stage y f head body taken w) (sym (all_then x n (n == 0) refl)) (done_given stage (usr_to x n) f head body taken w g)
+with_done stage x f head body taken w n false g = g
+
+nothing_taken : (taken d : List ℕ) → taken ≡ [] → d ≡ [] → taken ++ d ≡ []
+nothing_taken taken d t e = ap (λ (xs : List ℕ). xs ++ d) t ∙ e
+
+-- what the turn counts
+pub record Settles (x : Seen) (next : Next) (old new : Hop) (k : ℕ) (e done : Bool) (d : List ℕ) : Type 0 where
+  framing : new.framing ≡ old.framing
+  stage : new.stage ≡ stage_then old.stage e
+  touched : new.touched ≡ false → (old.touched ≡ false) × (d ≡ []) × (k ≡ 0)
+  done_at : done ≡ true → (new.stage ≡ at.Whole) × (waiting new.writer ≡ [])
+  may : done ≡ true → (e ≡ true) ⊎ ((x.closed ≡ false) × Allows x Done × (k ≡ 0))
+
+undelivered_then : (x : Seen) (done : Bool) → IsUndelivered x → IsUndelivered (after_all x (turn_events 0 done))
+undelivered_then x true h = undelivered_done x h
+undelivered_then x false h = h
+
+-- what a side is where no byte went out
+untouched_then : (x : Seen) (k : ℕ) (done : Bool) (taken d : List ℕ) → k ≡ 0 → d ≡ [] → (taken ≡ []) × IsUndelivered x → (taken ++ d ≡ []) × IsUndelivered (after_all x (turn_events k done))
+untouched_then x k done taken d z e h = (nothing_taken taken d h.0 e, subst (λ (n : ℕ). IsUndelivered (after_all x (turn_events n done))) (sym z) (undelivered_then x done h.1))
+
+given_by : (x : Seen) (tape : Tape) (next : Next) (old new : Hop) (k : ℕ) (e done : Bool) (d head body taken : List ℕ) → Sound x → KeepsUndelivered x tape → Decides x old.writer old.framing old.stage next
+    → Moves tape next old.writer k e d new.writer → Settles x next old new k e done d → Follows tape body → HasGiven x head body taken old → HasGiven (after_all x (turn_events k done)) head body (taken ++ d) new
+given_by x tape next old new k e done d head body taken s u c m t i h =
+    record {
+      given = subst (λ (stage : Stage). GivenAt stage (after_all x (turn_events k done)) new.framing head body (taken ++ d) new.writer) (sym t.stage)
+          (subst (λ (f : Framing). GivenAt (stage_then old.stage e) (after_all x (turn_events k done)) f head body (taken ++ d) new.writer) (sym t.framing)
+          (with_done (stage_then old.stage e) x old.framing head body (taken ++ d) new.writer k done
+          (given_on old.stage x tape old.framing old.writer new.writer next head body taken k e d (held_by x tape old.framing old.writer old.stage next body s u c i) m h.given)));
+      untouched = λ n.
+          let q = t.touched n in
+          untouched_then x k done taken d q.2 q.1 (h.untouched q.0);
+    }
+
+aside_by : (x : Seen) (tape : Tape) (next : Next) (old new : Hop) (k : ℕ) (e done : Bool) (d taken : List ℕ) → Decides x old.writer old.framing old.stage next
+    → Moves tape next old.writer k e d new.writer → Settles x next old new k e done d → IsAside taken old → IsAside (taken ++ d) new
+aside_by x tape next old new k e done d taken c m t h = record {
+  text = subst (λ (stage : Stage). AsideAt stage (taken ++ d) new.writer) (sym t.stage) (aside_on old.stage x tape old.framing old.writer new.writer next taken k e d c m h.text);
+  untouched = λ n.
+      let q = t.touched n in
+      nothing_taken taken d (h.untouched q.0) q.1;
+}
+
+-- the end of a body is fixed of a message alone
+gift_then : (stage : Stage) (e : Bool) → (e ≡ true → is_message stage ≡ true) → gift_of (stage_then stage e) ≡ gift_of stage
+gift_then stage false h = refl
+gift_then at.Empty true h = let odd : false ≡ true = h refl in cc
+gift_then at.Message true h = refl
+gift_then at.Whole true h = refl
+gift_then (at.Refusal status) true h = let odd : false ≡ true = h refl in cc
+
+begun_at_end : (x : Seen) (next : Next) (old : Hop) (k : ℕ) (e : Bool) → Decides x old.writer old.framing old.stage next → Reaches next k e → e ≡ true → is_message old.stage ≡ true
+begun_at_end x next old k e c r i = (c.ends (r.all i).1).0
+
+pub goes_on : (x : Seen) (tape : Tape) (next : Next) (old new : Hop) (k : ℕ) (e done : Bool) (d : List ℕ) → Sound x → KeepsUndelivered x tape → Decides x old.writer old.framing old.stage next
+    → Moves tape next old.writer k e d new.writer → Settles x next old new k e done d → GoesOn x tape old new (turn_events k done) d
+goes_on x tape next old new k e done d s u c m t = record {
+  legal = legal_by x old.framing old.writer old.stage next k e done s c (reaches tape next old.writer new.writer k e d m) t.may;
+  given = λ head body taken i h. given_by x tape next old new k e done d head body taken s u c m t i h;
+  aside = λ taken h. aside_by x tape next old new k e done d taken c m t h;
+  sent = k;
+  done = done;
+  events_are = refl;
+  whole = t.done_at;
+  framing = t.framing;
+  gift = ap gift_of t.stage ∙ gift_then old.stage e (begun_at_end x next old k e c (reaches tape next old.writer new.writer k e d m));
+}
+
+pub goes_same : (x : Seen) (tape : Tape) (old new : Hop) → new.writer ≡ old.writer → new.framing ≡ old.framing → new.stage ≡ old.stage → new.touched ≡ old.touched → GoesOn x tape old new [] []
+goes_same x tape old new w f s t = record {
+  legal = tt;
+  given = λ head body taken i h. record {
+    given = subst (λ (xs : List ℕ). GivenAt new.stage x new.framing head body xs new.writer) (sym (append-nil taken))
+        (subst (λ (stage : Stage). GivenAt stage x new.framing head body taken new.writer) (sym s)
+        (subst (λ (f' : Framing). GivenAt old.stage x f' head body taken new.writer) (sym f)
+        (subst (λ (v : Writer). GivenAt old.stage x old.framing head body taken v) (sym w) h.given)));
+    untouched = λ n. (append-nil taken ∙ (h.untouched (sym t ∙ n)).0, (h.untouched (sym t ∙ n)).1);
+  };
+  aside = λ taken h. record {
+    text = subst (λ (xs : List ℕ). AsideAt new.stage xs new.writer) (sym (append-nil taken))
+        (subst (λ (stage : Stage). AsideAt stage taken new.writer) (sym s)
+        (subst (λ (v : Writer). AsideAt old.stage taken v) (sym w) h.text));
+    untouched = λ n. append-nil taken ∙ h.untouched (sym t ∙ n);
+  };
+  sent = 0;
+  done = false;
+  events_are = refl;
+  whole = λ h. cc;
+  framing = f;
+  gift = ap gift_of s;
+}
+
+let_go_at : (stage : Stage) (x : Seen) (f : Framing) (head body taken : List ℕ) (v w : Writer) → waiting w ≡ waiting v → w.left ≡ v.left → GivenAt stage x f head body taken v → GivenAt stage x f head body taken w
+let_go_at at.Empty x f head body taken v w e l g = (ap (λ (xs : List ℕ). taken ++ xs) e ∙ g.0, g.1)
+let_go_at at.Message x f head body taken v w e l g = subst (λ (xs : List ℕ). GivesMessage x f false head body xs w) (append-nil taken) (gives_passed x f false head body taken [] v w e l g)
+let_go_at at.Whole x f head body taken v w e l g = subst (λ (xs : List ℕ). GivesMessage x f true head body xs w) (append-nil taken) (gives_passed x f true head body taken [] v w e l g)
+let_go_at (at.Refusal status) x f head body taken v w e l g = absurd g
+
+aside_let_go_at : (stage : Stage) (taken : List ℕ) (v w : Writer) → waiting w ≡ waiting v → AsideAt stage taken v → AsideAt stage taken w
+aside_let_go_at at.Empty taken v w e a = ap (λ (xs : List ℕ). taken ++ xs) e ∙ a
+aside_let_go_at at.Message taken v w e a = absurd a
+aside_let_go_at at.Whole taken v w e a = absurd a
+aside_let_go_at (at.Refusal status) taken v w e a = ap (λ (xs : List ℕ). taken ++ xs) e ∙ a
+
+-- memory that is given back changes nothing of what was given
+let_go_given : (x : Seen) (head body taken : List ℕ) (old new : Hop) → LetsGo old new → HasGiven x head body taken old → HasGiven x head body taken new
+let_go_given x head body taken old new l h = record {
+  given = subst (λ (stage : Stage). GivenAt stage x new.framing head body taken new.writer) (sym l.stage)
+      (subst (λ (f : Framing). GivenAt old.stage x f head body taken new.writer) (sym l.framing)
+      (let_go_at old.stage x old.framing head body taken old.writer new.writer l.waiting_is l.left h.given));
+  untouched = λ n. h.untouched (sym l.touched ∙ n);
+}
+
+let_go_aside : (taken : List ℕ) (old new : Hop) → LetsGo old new → IsAside taken old → IsAside taken new
+let_go_aside taken old new l a = record {
+  text = subst (λ (stage : Stage). AsideAt stage taken new.writer) (sym l.stage) (aside_let_go_at old.stage taken old.writer new.writer l.waiting_is a.text);
+  untouched = λ n. a.untouched (sym l.touched ∙ n);
+}
+
+goes_let_go : (x : Seen) (tape : Tape) (old mid new : Hop) (events : List Event) (delta : List ℕ) → LetsGo mid new → GoesOn x tape old mid events delta → GoesOn x tape old new events delta
+goes_let_go x tape old mid new events delta l g = record {
+  legal = g.legal;
+  given = λ head body taken f h. let_go_given (after_all x events) head body (taken ++ delta) mid new l (g.given head body taken f h);
+  aside = λ taken a. let_go_aside (taken ++ delta) mid new l (g.aside taken a);
+  sent = g.sent;
+  done = g.done;
+  events_are = g.events_are;
+  whole = λ d. (l.stage ∙ (g.whole d).0, l.waiting_is ∙ (g.whole d).1);
+  framing = l.framing ∙ g.framing;
+  gift = ap gift_of l.stage ∙ g.gift;
+}
+
+due_let_go : (x : Seen) (old new : Hop) → LetsGo old new → NothingDue x old → NothingDue x new
+due_let_go x old new l d = record {
+  one = d.one;
+  flushed = l.waiting_is ∙ d.flushed;
+  none = λ m. d.none (ap is_message (sym l.stage) ∙ m);
+  no_done = λ m. d.no_done (ap (λ (stage : Stage). is_message stage || is_whole stage) (sym l.stage) ∙ m);
+}
+
+fits_let_go : (x : Seen) (old mid new : Hop) (answer : Option Put) (result : Result Turn RelayFault) → LetsGo mid new → Fits x old mid answer result → Fits x old new answer result
+fits_let_go x old mid new answer (Ok turn) l f = record {
+  no_fault = f.no_fault;
+  wait = f.wait;
+  idle = λ a n. due_let_go x mid new l (f.idle a n);
+  waiting_is = f.waiting_is;
+  moved = f.moved;
+  woke = f.woke;
+}
+fits_let_go x old mid new answer (Err fault) l f = f
+
+-- the same turn, and then memory is given back
+pub turned_let_go : (x : Seen) (tape : Tape) (old mid new : Hop) (before after' : Past → Type 0) (result : Result Turn RelayFault) → LetsGo mid new → WriteTurn x tape old mid before after' result → WriteTurn x tape old new before after' result
+turned_let_go x tape old mid new before after' result l t = record {
+  text = t.text;
+  answer = t.answer;
+  wire = t.wire;
+  goes_on = goes_let_go x tape old mid new (events_of result) (delta_of t.text t.answer) l t.goes_on;
+  fits = λ n. fits_let_go x old mid new t.answer result l (t.fits n);
+}
+
+-- the writer and the rest of the side, by their parts
+pub turned : (x : Seen) (tape : Tape) (next : Next) (old new : Hop) (v : Writer) (f : Framing) (stage : Stage) (before after' : Past → Type 0) (result : Result Turn RelayFault) (text : List ℕ) (answer : Option Put) (k : ℕ) (e done : Bool)
+    → v ≡ old.writer → f ≡ old.framing → stage ≡ old.stage → Sound x → KeepsUndelivered x tape → Decides x v f stage next → Offers before after' text answer → Moves tape next v k e (delta_of text answer) new.writer
+    → Settles x next old new k e done (delta_of text answer) → events_of result ≡ turn_events k done → (old.fault ≡ None → Fits x old new answer result) → WriteTurn x tape old new before after' result
+turned x tape next old new v f stage before after' result text answer k e done w fe se s u c o m t h fit = record {
+  text = text;
+  answer = answer;
+  wire = o;
+  goes_on = subst (λ (events : List Event). GoesOn x tape old new events (delta_of text answer)) (sym h)
+      (goes_on x tape next old new k e done (delta_of text answer) s u
+      (subst (λ (v' : Writer). Decides x v' old.framing old.stage next) w (subst (λ (f' : Framing). Decides x v f' old.stage next) fe (subst (λ (s' : Stage). Decides x v f s' next) se c)))
+      (subst (λ (v' : Writer). Moves tape next v' k e (delta_of text answer) new.writer) w m) t);
+  fits = fit;
+}
+
+-- no write is made
+pub unmoved : (x : Seen) (tape : Tape) (old new : Hop) (before : Past → Type 0) (fault : RelayFault) → new.writer ≡ old.writer → new.framing ≡ old.framing → new.stage ≡ old.stage → new.touched ≡ old.touched
+    → (old.fault ≡ None → Fits x old new None (Err fault)) → WriteTurn x tape old new before before (Err fault)
+unmoved x tape old new before fault w f s t fit = record {
+  text = [];
+  answer = None;
+  wire = record { each = λ p h. h; fits = tt };
+  goes_on = goes_same x tape old new w f s t;
+  fits = fit;
+}
+
+pub faulted : (x : Seen) (tape : Tape) (old : Hop) (before : Past → Type 0) (fault : RelayFault) → old.fault ≡ Some fault → WriteTurn x tape old old before before (Err fault)
+faulted x tape old before fault e = unmoved x tape old old before fault refl refl refl refl (λ none. cc)
+
+pub still_wait : (answer : Option Put) (k : ℕ) (e : Bool) → answer ≡ Some put.Wait → IsStill answer k e → (k ≡ 0) × (e ≡ false)
+still_wait None k e a s = cc
+still_wait (Some (put.Took n)) k e a s = cc
+still_wait (Some put.Wait) k e a s = s
+still_wait (Some put.Fault) k e a s = s
+
+pub still_fault : (answer : Option Put) (k : ℕ) (e : Bool) → answer ≡ Some put.Fault → IsStill answer k e → (k ≡ 0) × (e ≡ false)
+still_fault None k e a s = cc
+still_fault (Some (put.Took n)) k e a s = cc
+still_fault (Some put.Wait) k e a s = s
+still_fault (Some put.Fault) k e a s = s
+
+pub no_delta_wait : (answer : Option Put) (text : List ℕ) → answer ≡ Some put.Wait → delta_of text answer ≡ []
+no_delta_wait answer text a = ap (delta_of text) a
+
+pub no_delta_fault : (answer : Option Put) (text : List ℕ) → answer ≡ Some put.Fault → delta_of text answer ≡ []
+no_delta_fault answer text a = ap (delta_of text) a
+
+pub no_delta_none : (answer : Option Put) (text : List ℕ) → answer ≡ None → delta_of text answer ≡ []
+no_delta_none answer text a = ap (delta_of text) a
+
+-- where no byte was counted and no end was fixed
+pub settles_still : (x : Seen) (next : Next) (old new : Hop) (k : ℕ) (e : Bool) (d : List ℕ) → (k ≡ 0) × (e ≡ false) → d ≡ [] → new.framing ≡ old.framing → new.stage ≡ old.stage → new.touched ≡ old.touched
+    → Settles x next old new k e false d
+settles_still x next old new k e d n z f s t = record {
+  framing = f;
+  stage = s ∙ ap (stage_then old.stage) (sym n.1);
+  touched = λ u. (sym t ∙ u, z, n.0);
+  done_at = λ h. cc;
+  may = λ h. cc;
+}
+
+pub none_still : (k : ℕ) (e : Bool) → (k ≡ 0) × (e ≡ false) → [] ≡ turn_events k false
+none_still k e s = subst (λ (n : ℕ). [] ≡ turn_events n false) (sym s.0) refl
+
+pub fits_took : (x : Seen) (new : Hop) (answer : Option Put) (n : ℕ) (turn : Turn) → answer ≡ Some (put.Took n) → (turn.waiting ≡ true → true ≡ false) → FitsAnswer x new answer turn
+fits_took x new answer n turn a t = record {
+  no_fault = λ h. cc;
+  wait = λ h. cc;
+  idle = λ h. cc;
+  waiting_is = λ h. absurd (let no : true ≡ false = t h in cc);
+  moved = λ h i none. cc;
+  woke = λ h i. cc;
+}
+
+pub fits_wait : (x : Seen) (new : Hop) (answer : Option Put) (turn : Turn) → answer ≡ Some put.Wait → turn.events.items ≡ [] → (turn.waiting ≡ false → turn.events.items ≡ [] → ⊥) → FitsAnswer x new answer turn
+fits_wait x new answer turn a n t = record {
+  no_fault = λ h. cc;
+  wait = λ h. n;
+  idle = λ h. cc;
+  waiting_is = λ h. (n, inl a);
+  moved = λ h i none. cc;
+  woke = λ h i. t h n;
+}
+
+plain_or : (x : Seen) (b c : Bool) → is_plain x.plan.kind ≡ b → x.no_mod ≡ c → b || c ≡ true → Sound x → x.modified ≡ false
+plain_or x true c p m h s = grind (arith, nat_tests, s.plain p)
+plain_or x false true p m h s = s.one m
+plain_or x false false p m h s = cc
+
+-- at most one message is chosen
+chosen_once : (x : Seen) → Sound x → chooses_original x ≡ true → x.modified ≡ false
+chosen_once x s h = plain_or x (is_plain x.plan.kind) x.no_mod refl refl h s
+
+no_done : (done : Bool) → turn_events 0 done ≡ [] → done ≡ false
+no_done true e = cc
+no_done false e = refl
+
+due_by : (stage : Stage) (x : Seen) (old : Hop) (next : Next) (e : Bool) → stage ≡ old.stage → Sound x → Decides x old.writer old.framing old.stage next → next.count ≡ 0 → e ≡ is_ending next.end → e ≡ false
+    → (is_whole old.stage ≡ true → x.closed ≡ false → Allows x Done → ⊥) → is_message old.stage || is_whole old.stage ≡ true → x.closed ≡ false → Allows x Done → ⊥
+due_by at.Empty x old next e s v c z i n m b o a = let t : (is_message at.Empty || is_whole at.Empty) ≡ true = ap (λ (st : Stage). is_message st || is_whole st) s ∙ b in cc
+due_by at.Message x old next e s v c z i n m b o a =
+    let all = done_means x v a in
+    c.no_end (ap is_message (sym s)) z (sym i ∙ n) o all.0 all.1
+due_by at.Whole x old next e s v c z i n m b o a = m (ap is_whole (sym s)) o a
+due_by (at.Refusal status) x old next e s v c z i n m b o a = let t : (is_message (at.Refusal status) || is_whole (at.Refusal status)) ≡ true = ap (λ (st : Stage). is_message st || is_whole st) s ∙ b in cc
+
+pub fits_none : (x : Seen) (old new : Hop) (next : Next) (answer : Option Put) (k : ℕ) (e done : Bool) (turn : Turn) → answer ≡ None → Sound x → Decides x old.writer old.framing old.stage next → IsIdle old.writer next k e
+    → turn.events.items ≡ turn_events 0 done → (done ≡ false → e ≡ true → ⊥) → (done ≡ false → is_whole old.stage ≡ true → x.closed ≡ false → Allows x Done → ⊥)
+    → (turn.waiting ≡ true → turn.events.items ≡ []) → (turn.waiting ≡ false → turn.events.items ≡ [] → ⊥) → waiting new.writer ≡ [] → new.stage ≡ stage_then old.stage e → FitsAnswer x new answer turn
+fits_none x old new next answer k e done turn a v c i h ne nm t f out st = record {
+  no_fault = λ b. cc;
+  wait = λ b. cc;
+  idle = λ b n.
+      let no = no_done done (sym h ∙ n) in
+      let going : e ≡ false = not_true e (ne no) in
+      let same : new.stage ≡ old.stage = st ∙ ap (stage_then old.stage) going in
+      record {
+        one = chosen_once x v;
+        flushed = out;
+        none = λ m. c.no_usr (ap is_message (sym same) ∙ m) i.none;
+        no_done = λ m. due_by old.stage x old next e refl v c i.none i.end_fixed going (nm no) (ap (λ (stage : Stage). is_message stage || is_whole stage) (sym same) ∙ m);
+      };
+  waiting_is = λ b. (t b, inr a);
+  moved = λ b n none. f b n;
+  woke = λ b o. cc;
+}
+  where
+    not_true : (b : Bool) → (b ≡ true → ⊥) → b ≡ false
+    not_true true n = absurd (n refl)
+    not_true false n = refl
+
+pub idle_events : (next : Next) (w : Writer) (k : ℕ) (e done : Bool) → IsIdle w next k e → turn_events 0 done ≡ turn_events k done
+idle_events next w k e done i = ap (λ (n : ℕ). turn_events n done) (sym i.none_sent)
+
+may_by : (x : Seen) (e may : Bool) (k s : ℕ) → (may ≡ true → (x.closed ≡ false) × Allows x Done) → (s ≡ 0 → k ≡ 0) → (e ≡ true) ⊎ ((may ≡ true) × (s ≡ 0)) → (e ≡ true) ⊎ ((x.closed ≡ false) × Allows x Done × (k ≡ 0))
+may_by x e may k s a z (inl i) = inl i
+may_by x e may k s a z (inr i) = inr ((a i.0).0, (a i.0).1, z i.1)
+
+pub settles_by : (x : Seen) (next : Next) (old new : Hop) (w : Writer) (f : Framing) (stage : Stage) (touched : Bool) (fault : Option RelayFault) (k s : ℕ) (e done may : Bool) (d : List ℕ)
+    → new ≡ record { writer = w; framing = f; stage = stage_then stage e; touched = touched; fault = fault } → f ≡ old.framing → stage ≡ old.stage → (touched ≡ false → (old.touched ≡ false) × (d ≡ []) × (k ≡ 0))
+    → (done ≡ true → (stage_then stage e ≡ at.Whole) × (waiting w ≡ []) × ((e ≡ true) ⊎ ((may ≡ true) × (s ≡ 0)))) → (may ≡ true → (x.closed ≡ false) × Allows x Done) → (s ≡ 0 → k ≡ 0)
+    → Settles x next old new k e done d
+settles_by x next old new w f stage touched fault k s e done may d n fe se t g a z = record {
+  framing = ap (λ (h : Hop). h.framing) n ∙ fe;
+  stage = ap (λ (h : Hop). h.stage) n ∙ ap (λ (st : Stage). stage_then st e) se;
+  touched = λ u. t (sym (ap (λ (h : Hop). h.touched) n) ∙ u);
+  done_at = λ h. (ap (λ (hop : Hop). hop.stage) n ∙ (g h).0, ap (λ (hop : Hop). waiting hop.writer) n ∙ (g h).1);
+  may = λ h. may_by x e may k s a z (g h).2;
+}
+
+pub decides_at : (x : Seen) (old : Hop) (v : Writer) (f : Framing) (stage : Stage) (next : Next) → v ≡ old.writer → f ≡ old.framing → stage ≡ old.stage → Decides x v f stage next → Decides x old.writer old.framing old.stage next
+decides_at x old v f stage next w fe se c =
+    subst (λ (v' : Writer). Decides x v' old.framing old.stage next) w (subst (λ (f' : Framing). Decides x v f' old.stage next) fe (subst (λ (s' : Stage). Decides x v f s' next) se c))

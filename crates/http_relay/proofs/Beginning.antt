@@ -1,0 +1,93 @@
+-- From a head to the body behind it.
+use Rattle.std.proofs.Common.{◌≡◌, ℕ, ◌+◌, ◌-◌, ◌<◌, ◌≤◌, Bool, true, false, List, [], ◌++◌, length, take, drop, refl, ap, sym, subst, ◌∙◌, append_assoc, append-nil, arith, length-append, length-drop}
+use Rattle.std.proofs.lemmas.List.{take-append-drop, length-take-le, length-take}
+use Rattle.httparse.specs.Grammar.{print_request, print_response}
+use Rattle.http_side.specs.Heads.{RequestParts, ResponseParts}
+use Rattle.http_side.specs.Body.{HasRead}
+use Rattle.http_side.specs.Requests.{IsRead}
+use Rattle.http_side.specs.Responses.{IsResponseRead}
+use Rattle.trace_core.specs.declared.history.Seen.{Seen}
+use Rattle.http_relay.specs.Source.{BodyRead}
+use Rattle.http_relay.specs.Reading.{SideRead, AtHead, Begins, IsBefore, IsHeadText, IsInterim, AreInterims, framing_of}
+use Rattle.http_relay.specs.Reading.AreInterims.{nothing, further}
+use Rattle.http_relay.specs.declared.side.SourceSide.{SourceSide}
+use Rattle.http_relay.specs.declared.side.SourceHead.{SourceHead}
+use Rattle.http_relay.specs.declared.side.SourceHead.TheVariants as heads
+use Rattle.http_relay.specs.declared.side.Asks.{Asks}
+use Rattle.http_relay.specs.declared.side.Asks.TheVariants as asks
+
+request_text : (raw : List ℕ) (r : RequestParts) (n : ℕ) → n ≤ length raw → IsRead false raw r n → IsHeadText asks.Request (heads.Request r) (take n raw)
+request_text raw r n l h = (drop n raw, subst (λ (t : List ℕ). IsRead false t r (length (take n raw))) (sym (take-append-drop n raw)) (subst (λ (k : ℕ). IsRead false raw r k) (sym (length-take-le n raw l)) h))
+
+response_text : (raw : List ℕ) (r : ResponseParts) (n : ℕ) (to_head : Bool) → n ≤ length raw → IsResponseRead to_head raw r n → IsResponseRead to_head (take n raw ++ drop n raw) r (length (take n raw))
+response_text raw r n to_head l h = subst (λ (t : List ℕ). IsResponseRead to_head t r (length (take n raw))) (sym (take-append-drop n raw)) (subst (λ (k : ℕ). IsResponseRead to_head raw r k) (sym (length-take-le n raw l)) h)
+
+-- the head was taken from the front of the raw bytes
+begins : (old new : SourceSide) (n : ℕ) → new.asks ≡ old.asks → new.raw.items ≡ drop n old.raw.items → IsHeadText old.asks new.head (take n old.raw.items)
+    → new.body.framing ≡ framing_of new.head → HasRead new.body.framing [] [] new.body.reader → new.body.ended ≡ false → new.body.received ≡ 0 → (read : List ℕ) → AtHead read old → Begins read new
+begins old new n a r h way fresh going zero read s x count going_on = (
+  record {
+    before = s.before;
+    head_text = take n old.raw.items;
+    framed = [];
+    text_is =
+        let joined : take n old.raw.items ++ new.raw.items ≡ old.raw.items = ap (λ (t : List ℕ). take n old.raw.items ++ t) r ∙ take-append-drop n old.raw.items in
+        s.text_is ∙ (ap (λ (t : List ℕ). s.before ++ t) (sym joined) ∙ sym (append_assoc s.before (take n old.raw.items) new.raw.items));
+    interims = subst (λ (t : Asks). IsBefore t s.before) (sym a) s.interims;
+    head = subst (λ (t : Asks). IsHeadText t new.head (take n old.raw.items)) (sym a) h;
+    way = way;
+    body_read = record { count = count; ended = going_on ∙ sym going; reads = fresh; whole = λ w. let odd : true ≡ false = sym w ∙ going in cc };
+  },
+  λ len. record { received = count ∙ sym zero; ended = going_on ∙ sym going; len = len },
+)
+
+pub begins_request : (old new : SourceSide) (n : ℕ) (r : RequestParts) → old.asks ≡ asks.Request → new.asks ≡ old.asks → new.raw.items ≡ drop n old.raw.items → n ≤ length old.raw.items → new.head ≡ heads.Request r → IsRead false old.raw.items r n
+    → new.body.framing ≡ framing_of (heads.Request r) → HasRead new.body.framing [] [] new.body.reader → new.body.ended ≡ false → new.body.received ≡ 0 → (read : List ℕ) → AtHead read old → Begins read new
+begins_request old new n r q a d l h is way fresh going zero =
+    begins old new n a d (subst (λ (t : Asks). IsHeadText t new.head (take n old.raw.items)) (sym q) (subst (λ (t : SourceHead). IsHeadText asks.Request t (take n old.raw.items)) (sym h) (request_text old.raw.items r n l is)))
+    (way ∙ ap framing_of (sym h)) fresh going zero
+
+pub begins_response : (old new : SourceSide) (n : ℕ) (r : ResponseParts) (to_head : Bool) → old.asks ≡ asks.Response to_head → new.asks ≡ old.asks → new.raw.items ≡ drop n old.raw.items → n ≤ length old.raw.items → new.head ≡ heads.Response r → IsResponseRead to_head old.raw.items r n
+    → new.body.framing ≡ framing_of (heads.Response r) → HasRead new.body.framing [] [] new.body.reader → new.body.ended ≡ false → new.body.received ≡ 0 → (read : List ℕ) → AtHead read old → Begins read new
+begins_response old new n r to_head q a d l h is way fresh going zero =
+    begins old new n a d (subst (λ (t : Asks). IsHeadText t new.head (take n old.raw.items)) (sym q) (subst (λ (t : SourceHead). IsHeadText (asks.Response to_head) t (take n old.raw.items)) (sym h) (drop n old.raw.items, response_text old.raw.items r n to_head l is)))
+    (way ∙ ap framing_of (sym h)) fresh going zero
+
+-- an interim response was dropped
+pub drops_interim : (old new : SourceSide) (n : ℕ) (r : ResponseParts) (to_head : Bool) → old.asks ≡ asks.Response to_head → new.asks ≡ old.asks → new.head ≡ old.head → new.raw.items ≡ drop n old.raw.items → n ≤ length old.raw.items → IsResponseRead to_head old.raw.items r n → IsInterim r
+    → (read : List ℕ) → AtHead read old → AtHead read new
+drops_interim old new n r to_head q a h d l is between read s = record {
+  before = s.before ++ take n old.raw.items;
+  text_is =
+      let joined : take n old.raw.items ++ new.raw.items ≡ old.raw.items = ap (λ (t : List ℕ). take n old.raw.items ++ t) d ∙ take-append-drop n old.raw.items in
+      s.text_is ∙ (ap (λ (t : List ℕ). s.before ++ t) (sym joined) ∙ sym (append_assoc s.before (take n old.raw.items) new.raw.items));
+  interims = subst (λ (t : Asks). IsBefore t (s.before ++ take n old.raw.items)) (sym (a ∙ q))
+      (further s.before (take n old.raw.items) (drop n old.raw.items) r (subst (λ (t : Asks). IsBefore t s.before) q s.interims) (response_text old.raw.items r n to_head l is) between);
+  unread = h ∙ s.unread;
+}
+
+-- nothing was taken
+pub still_at_head : (old new : SourceSide) → new.asks ≡ old.asks → new.head ≡ old.head → new.raw.items ≡ old.raw.items → (read : List ℕ) → AtHead read old → AtHead read new
+still_at_head old new a h r read s = record {
+  before = s.before;
+  text_is = s.text_is ∙ ap (λ (t : List ℕ). s.before ++ t) (sym r);
+  interims = subst (λ (t : Asks). IsBefore t s.before) (sym a) s.interims;
+  unread = h ∙ s.unread;
+}
+
+-- before the first byte
+before_none : (a : Asks) → IsBefore a []
+before_none asks.Request = refl
+before_none (asks.Response to_head) = nothing
+
+pub fresh_at_head : (s : SourceSide) → s.head ≡ heads.Unread → AtHead s.raw.items s
+fresh_at_head s u = record { before = []; text_is = refl; interims = before_none s.asks; unread = u }
+
+short_front : (raw head rest : List ℕ) → take 16384 raw ≡ head ++ rest → length head ≤ length raw
+short_front raw head rest e = omega (arith, length-append head rest, ap (λ (t : List ℕ). length t) e, length-take 16384 raw)
+
+pub request_within : (raw : List ℕ) (r : RequestParts) (n : ℕ) → IsRead false raw r n → n ≤ length raw
+request_within raw r n h = let l = short_front raw (print_request h.there.head) (drop n (take 16384 raw)) h.there.reads.1 in omega (arith, l, h.there.len_is)
+
+pub response_within : (raw : List ℕ) (r : ResponseParts) (n : ℕ) (to_head : Bool) → IsResponseRead to_head raw r n → n ≤ length raw
+response_within raw r n to_head h = let l = short_front raw (print_response h.there.head) (drop n (take 16384 raw)) h.there.reads.1 in omega (arith, l, h.there.len_is)

@@ -1,0 +1,12 @@
+pub mod Bodies
+pub mod Telling
+pub mod Sides
+pub mod Turning
+pub mod Beginning
+pub mod Heads
+pub mod Chosen
+pub mod Given
+pub mod Carried
+pub mod Answering
+pub mod Whole
+pub mod Gives

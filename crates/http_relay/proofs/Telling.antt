@@ -1,0 +1,110 @@
+-- The events that tell what was read of a body.
+use Rattle.std.proofs.Common.{◌≡◌, ℕ, zero, suc, ◌+◌, ◌^◌, ◌<◌, ◌≤◌, ◌⊎◌, inl, inr, Bool, true, false, List, [], ◌∷◌, ◌++◌, length, take, refl, ap, sym, subst, ◌∙◌, arith, length-append, Option, Some, None as Nothing, IfSome}
+use Rattle.std.proofs.lemmas.List.{length-take-le}
+use Rattle.http_side.specs.Body.{HasRead, IsBody, IsClosedBody, is_over}
+use Rattle.http_side.specs.declared.body.Framing.{Framing}
+use Rattle.http_side.specs.declared.body.Framing.TheVariants.{None, Length, Chunked, Close}
+use Rattle.http_side.specs.declared.body.BodyReader.{BodyReader}
+use Rattle.http_side.proofs.Ends.{over_is}
+use Rattle.trace_core.specs.declared.history.Event.{Event}
+use Rattle.trace_core.specs.declared.history.Event.TheVariants.{In, End}
+use Rattle.trace_core.specs.declared.history.Plan.{Plan}
+use Rattle.trace_core.specs.declared.history.Seen.{Seen}
+use Rattle.trace_core.specs.Legal.{Allows}
+use Rattle.trace_core.specs.View.{after}
+use Rattle.http_relay.specs.Body.{ReadsOn}
+use Rattle.trace_core.specs.Turns.{after_all, MayAllFollow, AllAre, is_of_source, in_sum}
+use Rattle.http_relay.specs.Events.{in_events, body_events}
+use Rattle.http_relay.specs.Source.{known, Fits, Agrees, BodyRead, BodyReads}
+use Rattle.http_relay.specs.declared.source_body.SourceBody.{SourceBody}
+
+pub sum_is : (n : ℕ) (ended : Bool) → in_sum (body_events n ended) ≡ n
+sum_is zero false = refl
+sum_is (suc n) false = omega arith
+sum_is zero true = omega arith
+sum_is (suc n) true = omega arith
+
+only_source : (n : ℕ) (ended : Bool) → AllAre is_of_source (body_events n ended)
+only_source zero false = tt
+only_source (suc n) false = (refl, tt)
+only_source zero true = (refl, tt)
+only_source (suc n) true = (refl, (refl, tt))
+
+-- what is told of so many bytes, and then of the end
+record Told (x y : Seen) (n : ℕ) (ended : Bool) : Type 0 where
+  count : y.received ≡ n + x.received
+  end : x.ended ≡ false → y.ended ≡ ended
+  plan : y.plan ≡ x.plan
+
+told : (x : Seen) (n : ℕ) (ended : Bool) → Told x (after_all x (body_events n ended)) n ended
+told x zero false = record { count = omega arith; end = λ e. e; plan = refl }
+told x (suc n) false = record { count = refl; end = λ e. e; plan = refl }
+told x zero true = record { count = omega arith; end = λ e. refl; plan = refl }
+told x (suc n) true = record { count = omega arith; end = λ e. refl; plan = refl }
+
+-- a known length of the plan is the framing's
+at_len : (o k : Option ℕ) (P : ℕ → Type 0) → IfSome o (λ len. k ≡ Some len) → IfSome k P → IfSome o P
+at_len Nothing k P e h = tt
+at_len (Some len) k P e h = subst (λ (j : Option ℕ). IfSome j P) e h
+
+if_more : (o : Option ℕ) (P Q : ℕ → Type 0) → ((n : ℕ) → P n → Q n) → IfSome o P → IfSome o Q
+if_more Nothing P Q f h = tt
+if_more (Some n) P Q f h = f n h
+
+may_tell : (s : SourceBody) (n : ℕ) (ended : Bool) (x : Seen) → Fits s n ended → s.ended ≡ false → Agrees x s → x.closed ≡ false → MayAllFollow x (body_events n ended)
+may_tell s zero false x f e a c = tt
+may_tell s (suc n) false x f e a c =
+    let now : x.ended ≡ false = a.ended ∙ e in
+    let some : 1 ≤ suc n = omega arith in
+    let sum : x.received + suc n < 2 ^ 62 = subst (λ (r : ℕ). r + suc n < 2 ^ 62) (sym a.received) f.sum in
+    let len : IfSome x.plan.len (λ len. x.received + suc n ≤ len) =
+    subst (λ (r : ℕ). IfSome x.plan.len (λ len. r + suc n ≤ len)) (sym a.received) (at_len x.plan.len (known s.framing) (λ len. s.received + suc n ≤ len) a.len f.len) in
+    (c, (now, (some, sum), len), tt)
+may_tell s zero true x f e a c =
+    let now : x.ended ≡ false = a.ended ∙ e in
+    let at : IfSome (known s.framing) (λ len. s.received ≡ len) = if_more (known s.framing) (λ len. s.received + zero ≡ len) (λ len. s.received ≡ len) (λ n h. omega (arith, h)) (f.end refl) in
+    let len : IfSome x.plan.len (λ len. x.received ≡ len) =
+    subst (λ (r : ℕ). IfSome x.plan.len (λ len. r ≡ len)) (sym a.received) (at_len x.plan.len (known s.framing) (λ len. s.received ≡ len) a.len at) in
+    (c, (now, len), tt)
+may_tell s (suc n) true x f e a c =
+    let now : x.ended ≡ false = a.ended ∙ e in
+    let some : 1 ≤ suc n = omega arith in
+    let sum : x.received + suc n < 2 ^ 62 = subst (λ (r : ℕ). r + suc n < 2 ^ 62) (sym a.received) f.sum in
+    let len : IfSome x.plan.len (λ len. x.received + suc n ≤ len) =
+    subst (λ (r : ℕ). IfSome x.plan.len (λ len. r + suc n ≤ len)) (sym a.received) (at_len x.plan.len (known s.framing) (λ len. s.received + suc n ≤ len) a.len f.len) in
+    let at : IfSome (known s.framing) (λ len. suc n + s.received ≡ len) = if_more (known s.framing) (λ len. s.received + suc n ≡ len) (λ len. suc n + s.received ≡ len) (λ m h. omega (arith, h)) (f.end refl) in
+    let end : IfSome x.plan.len (λ len. suc n + x.received ≡ len) =
+    subst (λ (r : ℕ). IfSome x.plan.len (λ len. suc n + r ≡ len)) (sym a.received) (at_len x.plan.len (known s.framing) (λ len. suc n + s.received ≡ len) a.len at) in
+    (c, (now, (some, sum), len), (c, (now, end), tt))
+
+closed_too : (way : Framing) (text body : List ℕ) → IsBody way text body → IsClosedBody way text body
+closed_too None text body h = h
+closed_too (Length n) text body h = h
+closed_too Chunked text body h = h
+closed_too Close text body h = absurd h
+
+agrees_then : (s new : SourceBody) (n : ℕ) (ended : Bool) (x y : Seen) → Told x y n ended → s.ended ≡ false → new.framing ≡ s.framing → new.received ≡ s.received + n → new.ended ≡ ended → Agrees x s → Agrees y new
+agrees_then s new n ended x y t e way count end a = record {
+  received = omega (arith, t.count, count, a.received);
+  ended = t.end (a.ended ∙ e) ∙ sym end;
+  len = subst (λ (p : Plan). IfSome p.len (λ len. known new.framing ≡ Some len)) (sym t.plan) (subst (λ (w : Framing). IfSome x.plan.len (λ len. known w ≡ Some len)) (sym way) a.len);
+}
+
+-- so many bytes of the body were read, and its end
+pub tells : (s new : SourceBody) (raw out : List ℕ) (used n : ℕ) (ended : Bool) → s.ended ≡ false → new.framing ≡ s.framing → new.received ≡ s.received + n → new.ended ≡ ended
+    → ReadsOn s.reader raw used (take n out) new.reader → n ≤ length out → ended ≡ is_over new.reader → Fits s n ended → BodyReads s new (body_events n ended) (take used raw) (take n out)
+tells s new raw out used n ended e way count end on l over f = record {
+  only = only_source n ended;
+  legal = λ x a c. (may_tell s n ended x f e a c, agrees_then s new n ended x (after_all x (body_events n ended)) (told x n ended) e way count end a);
+  reads = λ x body text h.
+      let t = told x n ended in
+      let long : length (take n out) ≡ n = length-take-le n out l in
+      let here : HasRead s.framing (text ++ take used raw) (body ++ take n out) new.reader = on s.framing text body h.reads in
+      let there : HasRead new.framing (text ++ take used raw) (body ++ take n out) new.reader = subst (λ (w : Framing). HasRead w (text ++ take used raw) (body ++ take n out) new.reader) (sym way) here in
+      record {
+        count = omega (arith, t.count, h.count, length-append body (take n out), long);
+        ended = t.end (h.ended ∙ e) ∙ sym end;
+        reads = there;
+        whole = λ w. closed_too new.framing (text ++ take used raw) (body ++ take n out) ((over_is new.framing (text ++ take used raw) (body ++ take n out) new.reader there).0 (sym over ∙ (sym end ∙ w)));
+      };
+}

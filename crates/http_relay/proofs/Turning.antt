@@ -1,0 +1,311 @@
+-- Read turns, by what the wire gave.
+use Rattle.std.proofs.Common.{◌≡◌, ℕ, ◌+◌, ◌<◌, ◌≤◌, ◌⊎◌, inl, inr, Bool, true, false, List, [], ◌++◌, length, take, refl, ap, sym, subst, ◌∙◌, append-nil, arith, Option, Some, None, Result, Ok, Err}
+use Rattle.trace_core.specs.declared.history.Event.{Event}
+use Rattle.trace_core.specs.declared.history.Seen.{Seen}
+use Rattle.wire_kit.specs.Past.{Past}
+use Rattle.trace_core.specs.Turns.{in_sum, after_all}
+use Rattle.http_relay.specs.Source.{Agrees, BodyReads, MustWait, Refuses}
+use Rattle.wire_kit.specs.Past.{IsLater}
+use Rattle.http_relay.specs.Reasons.{IsExplained}
+use Rattle.adapt_sides.specs.Turns.{SaysWaiting, Remembers, ReadsBody, events_of, waits_of}
+use Rattle.http_relay.specs.Reading.{SideRead, SideReads, Rests, IsFilled, IsCause, ReadTurn}
+use Rattle.adapt_sides.specs.declared.fault.RelayFault.{RelayFault}
+use Rattle.adapt_sides.specs.declared.fault.RelayFault.TheVariants.{Closed, Device, NoMemory}
+use Rattle.http_relay.specs.declared.side.Filled.TheVariants as filled
+use Rattle.http_relay.specs.declared.side.SourceSide.{SourceSide}
+use Rattle.http_relay.specs.declared.source_body.SourceBody.{SourceBody}
+use Rattle.adapt_sides.specs.declared.turn.Turn.{Turn}
+use Rattle.http_relay.proofs.Sides.{SameMessage, framed_raw, filled_more, side_then}
+
+-- the same side but for its raw bytes
+pub record SameSide (old new : SourceSide) : Type 0 where
+  pub asks : new.asks ≡ old.asks
+  pub head : new.head ≡ old.head
+  pub body : new.body ≡ old.body
+
+later_none : (p : Past) → IsLater p [] [] p
+later_none p = record { read = sym (append-nil p.read); out = sym (append-nil p.taken); write_waits = omega arith; ends = omega arith; read_waits = omega arith; faults = omega arith }
+
+not_wire : (fault : RelayFault) (s : SourceBody) (raw : List ℕ) → Refuses fault s raw → (fault ≡ Closed → ⊥) × (fault ≡ Device → ⊥)
+not_wire fault s raw r = ((λ e. subst (λ (f : RelayFault). Refuses f s raw) e r), (λ e. subst (λ (f : RelayFault). Refuses f s raw) e r))
+
+-- a fault of the bytes
+reasons_refused : (p q : Past) (o : Option RelayFault) (rests : Type 0) (fault : RelayFault) (s : SourceBody) (raw : List ℕ) → Refuses fault s raw → IsExplained p q o rests (λ past. past.read_waits) (Err fault)
+reasons_refused p q o rests fault s raw r = record {
+  device = λ e n. let is : fault ≡ Device = cc in absurd ((not_wire fault s raw r).1 is);
+  closed = λ e n. let is : fault ≡ Closed = cc in absurd ((not_wire fault s raw r).0 is);
+  waiting = λ w. cc;
+}
+
+-- an answer that doesn't wait
+reasons_ok : (p q : Past) (o : Option RelayFault) (rests : Type 0) (t : Turn) → t.waiting ≡ false → IsExplained p q o rests (λ past. past.read_waits) (Ok t)
+reasons_ok p q o rests t w = record {
+  device = λ e n. cc;
+  closed = λ e n. cc;
+  waiting = λ h. let odd : true ≡ false = sym h ∙ w in cc;
+}
+
+says_spoke : (t : Turn) (delta : List ℕ) → t.waiting ≡ false → (t.events.items ≡ [] → delta ≡ [] → ⊥) → SaysWaiting {F = RelayFault} t.events.items delta (Ok t)
+says_spoke t delta w some = record {
+  idle = λ h. let odd : true ≡ false = sym h ∙ w in cc;
+  waits = λ u e none no_delta. absurd (some none no_delta);
+}
+
+says_idle : (t : Turn) → t.waiting ≡ true → t.events.items ≡ [] → SaysWaiting {F = RelayFault} t.events.items [] (Ok t)
+says_idle t w none = record {
+  idle = λ h. (none, refl);
+  waits = λ u e n d. let same : t ≡ u = cc in ap (λ (v : Turn). v.waiting) (sym same) ∙ w;
+}
+
+says_err : (fault : RelayFault) (delta : List ℕ) → SaysWaiting [] delta (Err fault)
+says_err fault delta = record { idle = λ h. cc; waits = λ u e n d. cc }
+
+zero_le : (n : ℕ) → 0 ≤ n
+zero_le n = omega arith
+
+-- raw bytes gave events
+pub turn_spoke : (room : ℕ) (old new : SourceSide) (P : Past → Type 0) (out : List ℕ) (t : Turn) → SideReads old new t.events.items [] (take (in_sum t.events.items) out) → in_sum t.events.items ≤ room
+    → t.waiting ≡ false → (t.events.items ≡ [] → ⊥) → ReadTurn room old new P P out (Ok t)
+turn_spoke room old new P out t h l w some = record {
+  delta = [];
+  wire = λ p b. (p, b, later_none p, reasons_ok p p old.fault (Rests room new) t w);
+  count = l;
+  reads = h;
+  waiting = says_spoke t [] w (λ none d. some none);
+  waits = λ i. let odd : true ≡ false = sym i ∙ w in cc;
+  cause = λ f e. cc;
+}
+
+-- nothing is to be read
+pub turn_idle : (room : ℕ) (old new : SourceSide) (P : Past → Type 0) (out : List ℕ) (t : Turn) → SideReads old new t.events.items [] (take (in_sum t.events.items) out) → in_sum t.events.items ≤ room
+    → t.waiting ≡ true → t.events.items ≡ [] → MustWait new.body new.raw.items room → Rests room new → ReadTurn room old new P P out (Ok t)
+turn_idle room old new P out t h l w none m rests = record {
+  delta = [];
+  wire = λ p b. (p, b, later_none p, record { device = λ e n. cc; closed = λ e n. cc; waiting = λ i. inl rests });
+  count = l;
+  reads = h;
+  waiting = says_idle t w none;
+  waits = λ i. m;
+  cause = λ f e. cc;
+}
+
+-- raw bytes are refused
+pub turn_refused : (room : ℕ) (old new : SourceSide) (P : Past → Type 0) (out : List ℕ) (fault : RelayFault) → new ≡ old → Refuses fault old.body old.raw.items → ReadTurn room old new P P out (Err fault)
+turn_refused room old new P out fault e r =
+    let here : Refuses fault new.body new.raw.items = subst (λ (s : SourceSide). Refuses fault s.body s.raw.items) (sym e) r in
+    record {
+      delta = [];
+      wire = λ p b. (p, b, later_none p, reasons_refused p p old.fault (Rests room new) fault old.body old.raw.items r);
+      count = zero_le room;
+      reads = filled_more old new [] (ap (λ (s : SourceSide). s.asks) e) (ap (λ (s : SourceSide). s.head) e) (ap (λ (s : SourceSide). s.body) e) (ap (λ (s : SourceSide). s.raw.items) e ∙ sym (append-nil old.raw.items));
+      waiting = says_err fault [];
+      waits = λ i. cc;
+      cause = λ f i. let is : fault ≡ f = cc in subst (λ (g : RelayFault). IsCause g new) is (inr (inr (inr here)));
+    }
+
+-- bytes came, and were framed
+pub turn_bytes : (room : ℕ) (old mid new : SourceSide) (P Q : Past → Type 0) (out : List ℕ) (t : Turn) → SameSide old mid → IsFilled P Q old.raw.items mid.raw.items filled.Bytes
+    → SideReads mid new t.events.items [] (take (in_sum t.events.items) out) → in_sum t.events.items ≤ room → t.waiting ≡ false → ReadTurn room old new P Q out (Ok t)
+turn_bytes room old mid new P Q out t m f h l w =
+    let both : SideReads old new t.events.items (f.0 ++ []) (take (in_sum t.events.items) out) = side_then old mid new t.events.items f.0 [] (take (in_sum t.events.items) out) (filled_more old mid f.0 m.asks m.head m.body f.2) h in
+    record {
+      delta = f.0;
+      wire = λ p b. (
+        record { read = p.read ++ f.0; taken = p.taken; ends = p.ends; read_waits = p.read_waits; write_waits = p.write_waits; faults = p.faults },
+        f.3 p b,
+        record { read = refl; out = sym (append-nil p.taken); write_waits = omega arith; ends = omega arith; read_waits = omega arith; faults = omega arith },
+        reasons_ok p _ old.fault (Rests room new) t w,
+      );
+      count = l;
+      reads = subst (λ (d : List ℕ). SideReads old new t.events.items d (take (in_sum t.events.items) out)) (append-nil f.0) both;
+      waiting = says_spoke t f.0 w (λ none d. let some = f.1 in absurd (omega (arith, some, ap (λ (x : List ℕ). length x) d)));
+      waits = λ i. let odd : true ≡ false = sym i ∙ w in cc;
+      cause = λ g e. cc;
+    }
+
+-- bytes came, and are refused
+pub turn_bytes_refused : (room : ℕ) (old mid new : SourceSide) (P Q : Past → Type 0) (out : List ℕ) (fault : RelayFault) → SameSide old mid → new ≡ mid → IsFilled P Q old.raw.items mid.raw.items filled.Bytes
+    → Refuses fault mid.body mid.raw.items → ReadTurn room old new P Q out (Err fault)
+turn_bytes_refused room old mid new P Q out fault m e f r =
+    let here : Refuses fault new.body new.raw.items = subst (λ (s : SourceSide). Refuses fault s.body s.raw.items) (sym e) r in
+    record {
+      delta = f.0;
+      wire = λ p b. (
+        record { read = p.read ++ f.0; taken = p.taken; ends = p.ends; read_waits = p.read_waits; write_waits = p.write_waits; faults = p.faults },
+        f.3 p b,
+        record { read = refl; out = sym (append-nil p.taken); write_waits = omega arith; ends = omega arith; read_waits = omega arith; faults = omega arith },
+        reasons_refused p _ old.fault (Rests room new) fault mid.body mid.raw.items r,
+      );
+      count = zero_le room;
+      reads = subst (λ (s : SourceSide). SideReads old s [] f.0 []) (sym e) (filled_more old mid f.0 m.asks m.head m.body f.2);
+      waiting = says_err fault f.0;
+      waits = λ i. cc;
+      cause = λ g i. let is : fault ≡ g = cc in subst (λ (h : RelayFault). IsCause h new) is (inr (inr (inr here)));
+    }
+
+-- the wire waits
+pub turn_waited : (room : ℕ) (old new : SourceSide) (P Q : Past → Type 0) (out : List ℕ) (t : Turn) → SameSide old new → old.raw.items ≡ [] → IsFilled P Q old.raw.items new.raw.items filled.Wait
+    → t.events.items ≡ [] → t.waiting ≡ true → ReadTurn room old new P Q out (Ok t)
+turn_waited room old new P Q out t m empty f none w =
+    let still : SideReads old new [] [] [] = filled_more old new [] m.asks m.head m.body (f.0 ∙ sym (append-nil old.raw.items)) in
+    record {
+      delta = [];
+      wire = λ p b. (
+        record { read = p.read; taken = p.taken; ends = p.ends; read_waits = p.read_waits + 1; write_waits = p.write_waits; faults = p.faults },
+        f.1 p b,
+        record { read = sym (append-nil p.read); out = sym (append-nil p.taken); write_waits = omega arith; ends = omega arith; read_waits = omega arith; faults = omega arith },
+        record { device = λ e n. cc; closed = λ e n. cc; waiting = λ i. inr (omega arith) },
+      );
+      count = subst (λ (es : List Event). in_sum es ≤ room) (sym none) (zero_le room);
+      reads = subst (λ (es : List Event). SideReads old new es [] (take (in_sum es) out)) (sym none) still;
+      waiting = says_idle t w none;
+      waits = λ i. inr (inl (f.0 ∙ empty));
+      cause = λ g e. cc;
+    }
+
+-- the connection was closed at the end of the body
+pub turn_end : (room : ℕ) (old new : SourceSide) (P Q : Past → Type 0) (out : List ℕ) (t : Turn) → SameMessage old new → IsFilled P Q old.raw.items new.raw.items filled.Ended
+    → BodyReads old.body new.body t.events.items [] [] → in_sum t.events.items ≡ 0 → (t.events.items ≡ [] → ⊥) → t.waiting ≡ false → ReadTurn room old new P Q out (Ok t)
+turn_end room old new P Q out t m f b zero some w =
+    let heard : SideReads old new t.events.items [] [] = framed_raw old new t.events.items 0 [] m b f.0 in
+    record {
+      delta = [];
+      wire = λ p a. (
+        record { read = p.read; taken = p.taken; ends = p.ends + 1; read_waits = p.read_waits; write_waits = p.write_waits; faults = p.faults },
+        f.1 p a,
+        record { read = sym (append-nil p.read); out = sym (append-nil p.taken); write_waits = omega arith; ends = omega arith; read_waits = omega arith; faults = omega arith },
+        reasons_ok p _ old.fault (Rests room new) t w,
+      );
+      count = omega (arith, zero);
+      reads = subst (λ (k : ℕ). SideReads old new t.events.items [] (take k out)) (sym zero) heard;
+      waiting = says_spoke t [] w (λ none d. some none);
+      waits = λ i. let odd : true ≡ false = sym i ∙ w in cc;
+      cause = λ g e. cc;
+    }
+
+-- the connection was closed within the message
+pub turn_ended : (room : ℕ) (old new : SourceSide) (P Q : Past → Type 0) (out : List ℕ) (fault : RelayFault) → SameSide old new → old.raw.items ≡ [] → IsFilled P Q old.raw.items new.raw.items filled.Ended
+    → Refuses fault old.body [] ⊎ (fault ≡ Closed) → ReadTurn room old new P Q out (Err fault)
+turn_ended room old new P Q out fault m empty f r =
+    let not_device : fault ≡ Device → ⊥ = λ e. elim r [ inl h ↦ (not_wire fault old.body [] h).1 e | inr h ↦ (let odd : Closed ≡ Device = sym h ∙ e in cc) ] in
+    let here : IsCause fault new = elim r [
+      | inl h ↦ inr (inr (inr (subst (λ (t : List ℕ). Refuses fault new.body t) (sym (f.0 ∙ empty)) (subst (λ (b : SourceBody). Refuses fault b []) (sym m.body) h))))
+      | inr h ↦ inl h
+    ] in
+    record {
+      delta = [];
+      wire = λ p a. (
+        record { read = p.read; taken = p.taken; ends = p.ends + 1; read_waits = p.read_waits; write_waits = p.write_waits; faults = p.faults },
+        f.1 p a,
+        record { read = sym (append-nil p.read); out = sym (append-nil p.taken); write_waits = omega arith; ends = omega arith; read_waits = omega arith; faults = omega arith },
+        record { device = λ e n. (let is : fault ≡ Device = cc in absurd (not_device is)); closed = λ e n. omega arith; waiting = λ i. cc },
+      );
+      count = zero_le room;
+      reads = filled_more old new [] m.asks m.head m.body (f.0 ∙ sym (append-nil old.raw.items));
+      waiting = says_err fault [];
+      waits = λ i. cc;
+      cause = λ g i. let is : fault ≡ g = cc in subst (λ (h : RelayFault). IsCause h new) is here;
+    }
+
+-- the wire failed
+pub turn_failed : (room : ℕ) (old new : SourceSide) (P Q : Past → Type 0) (out : List ℕ) → SameSide old new → IsFilled P Q old.raw.items new.raw.items filled.Failed → ReadTurn room old new P Q out (Err Device)
+turn_failed room old new P Q out m f = record {
+  delta = [];
+  wire = λ p a. (
+    record { read = p.read; taken = p.taken; ends = p.ends; read_waits = p.read_waits; write_waits = p.write_waits; faults = p.faults + 1 },
+    f.1 p a,
+    record { read = sym (append-nil p.read); out = sym (append-nil p.taken); write_waits = omega arith; ends = omega arith; read_waits = omega arith; faults = omega arith },
+    record { device = λ e n. omega arith; closed = λ e n. cc; waiting = λ i. cc },
+  );
+  count = zero_le room;
+  reads = filled_more old new [] m.asks m.head m.body (f.0 ∙ sym (append-nil old.raw.items));
+  waiting = says_err Device [];
+  waits = λ i. cc;
+  cause = λ g i. let is : Device ≡ g = cc in inr (inl (sym is));
+}
+
+-- there is no memory for bytes
+pub turn_full : (room : ℕ) (old new : SourceSide) (P Q : Past → Type 0) (out : List ℕ) → SameSide old new → IsFilled P Q old.raw.items new.raw.items filled.NoMemory → ReadTurn room old new P Q out (Err NoMemory)
+turn_full room old new P Q out m f = record {
+  delta = [];
+  wire = λ p a. (p, f.1 p a, later_none p, record { device = λ e n. cc; closed = λ e n. cc; waiting = λ i. cc });
+  count = zero_le room;
+  reads = filled_more old new [] m.asks m.head m.body (f.0 ∙ sym (append-nil old.raw.items));
+  waiting = says_err NoMemory [];
+  waits = λ i. cc;
+  cause = λ g i. let is : NoMemory ≡ g = cc in inr (inr (inl (sym is)));
+}
+
+-- raw bytes gave no event, and then the wire was read
+pub turn_behind : (room : ℕ) (old mid new : SourceSide) (P Q : Past → Type 0) (out : List ℕ) (result : Result Turn RelayFault) → mid.fault ≡ old.fault → SideReads old mid [] [] [] → ReadTurn room mid new P Q out result
+    → ReadTurn room old new P Q out result
+turn_behind room old mid new P Q out result e h t = record {
+  delta = t.delta;
+  wire = λ p b.
+      let one = t.wire p b in
+      (one.0, one.1, one.2, subst (λ (o : Option RelayFault). IsExplained p one.0 o (Rests room new) (λ past. past.read_waits) result) e one.3);
+  count = t.count;
+  reads = side_then old mid new (events_of result) [] t.delta (take (in_sum (events_of result)) out) h t.reads;
+  waiting = t.waiting;
+  waits = t.waits;
+  cause = t.cause;
+}
+
+-- the same, but for the fault that is kept
+pub turn_kept : (room : ℕ) (old mid new : SourceSide) (P Q : Past → Type 0) (out : List ℕ) (result : Result Turn RelayFault) → SameSide mid new → new.raw.items ≡ mid.raw.items → ReadTurn room old mid P Q out result
+    → ReadTurn room old new P Q out result
+turn_kept room old mid new P Q out result m r t =
+    let k : SideReads mid new [] [] [] = filled_more mid new [] m.asks m.head m.body (r ∙ sym (append-nil mid.raw.items)) in
+    let es = events_of result in
+    let part = take (in_sum (events_of result)) out in
+    record {
+      delta = t.delta;
+      wire = λ p b.
+          let one = t.wire p b in
+          let why = one.3 in
+          (one.0, one.1, one.2, record { device = why.device; closed = why.closed; waiting = λ w. subst (λ (b : SourceBody). ((b.ended ≡ true) ⊎ (room ≡ 0)) ⊎ (p.read_waits < one.0.read_waits)) (sym m.body) (why.waiting w) });
+      count = t.count;
+      reads = record {
+        only = t.reads.only;
+        legal = λ x a c. let one = t.reads.legal x a c in (one.0, subst (λ (b : SourceBody). Agrees (after_all x es) b) (sym m.body) one.1);
+        reads = λ x body read s.
+            let two : SideRead (after_all x es) ((body ++ part) ++ []) ((read ++ t.delta) ++ []) new = k.reads (after_all x es) (body ++ part) (read ++ t.delta) (t.reads.reads x body read s) in
+            subst (λ (d : List ℕ). SideRead (after_all x es) d (read ++ t.delta) new) (append-nil (body ++ part))
+            (subst (λ (d : List ℕ). SideRead (after_all x es) ((body ++ part) ++ []) d new) (append-nil (read ++ t.delta)) two);
+      };
+      waiting = t.waiting;
+      waits = λ w. subst (λ (b : SourceBody). MustWait b new.raw.items room) (sym m.body) (subst (λ (i : List ℕ). MustWait mid.body i room) (sym r) (t.waits w));
+      cause = λ f e. subst (λ (b : SourceBody). (f ≡ Closed) ⊎ ((f ≡ Device) ⊎ ((f ≡ NoMemory) ⊎ Refuses f b new.raw.items))) (sym m.body) (subst (λ (i : List ℕ). (f ≡ Closed) ⊎ ((f ≡ Device) ⊎ ((f ≡ NoMemory) ⊎ Refuses f mid.body i))) (sym r) (t.cause f e));
+    }
+
+-- so it is what a transaction asks of a source
+pub as_source : (room : ℕ) (old new : SourceSide) (P Q : Past → Type 0) (out : List ℕ) (result : Result Turn RelayFault) → length out ≡ room → Remembers old.fault new.fault result → ReadTurn room old new P Q out result
+    → ReadsBody (λ x body read. SideRead x body read old) (λ x body read. SideRead x body read new) (λ x. Agrees x old.body) (λ x. Agrees x new.body) old.fault new.fault (Rests room new) P Q out result
+as_source room old new P Q out result l k t = record {
+  delta = t.delta;
+  wire = λ p b.
+      let one = t.wire p b in
+      (one.0, one.1, one.2, record { device = one.3.device; waiting = one.3.waiting });
+  only = t.reads.only;
+  count = omega (arith, l, t.count);
+  legal = t.reads.legal;
+  goes_on = λ x body read s c. t.reads.reads x body read s;
+  waiting = t.waiting;
+  fault = k;
+}
+
+-- a fault is answered again, and nothing else is done
+pub source_again : (room : ℕ) (s : SourceSide) (P : Past → Type 0) (out : List ℕ) (fault : RelayFault) → s.fault ≡ Some fault
+    → ReadsBody (λ x body read. SideRead x body read s) (λ x body read. SideRead x body read s) (λ x. Agrees x s.body) (λ x. Agrees x s.body) s.fault s.fault (Rests room s) P P out (Err fault)
+source_again room s P out fault f =
+    let k : SideReads s s [] [] [] = filled_more s s [] refl refl refl (sym (append-nil s.raw.items)) in
+    record {
+      delta = [];
+      wire = λ p b. (p, b, later_none p, record { device = λ e n. (let odd : Some fault ≡ None = sym f ∙ n in cc); waiting = λ w. cc });
+      only = tt;
+      count = zero_le (length out);
+      legal = k.legal;
+      goes_on = λ x body read h c. k.reads x body read h;
+      waiting = says_err fault [];
+      fault = record { again = λ g e. (let is : Some fault ≡ Some g = sym f ∙ e in cc); stays = λ g e. (let is : fault ≡ g = cc in f ∙ ap (λ (h : RelayFault). Some h) is) };
+    }

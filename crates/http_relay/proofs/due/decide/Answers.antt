@@ -1,0 +1,41 @@
+use Rattle.std.proofs.Common.{◌≡◌, ℕ, ◌<◌, ◌≤◌, ◌+◌, true, false, IfSome, sym, subst, ap, ◌∙◌, arith}
+use Rattle.trace_core.specs.History.{seen}
+use Rattle.trace_core.specs.declared.history.Seen.{Seen}
+use Rattle.http_relay.specs.Message.{length_of}
+use Rattle.adapt_sides.specs.Tapes.{chosen_received, chosen_over, chosen_delivered}
+use Rattle.http_relay.specs.Giving.{BreaksLength}
+use Rattle.http_relay.proofs.Chosen.{fewer}
+use Rattle.http_relay.proofs.due.decide.Goals as goal
+
+pub returns-then-not-fits_length-clause-none : goal.returns-then-not-fits_length-clause-none
+returns-then-not-fits_length-clause-none c h =
+    (sym c.is_begun.ensures ∙ c.if-not-is_begun.false, subst (λ (y : Seen). BreaksLength y c.args.framing) c.seen-seen.ensures (c.fits_length.ensures.breaks c.if-not-fits_length.true))
+
+pub returns-clause-next : goal.returns-clause-next
+returns-clause-next c =
+    let x = seen c.args.state.now.plan c.args.state.now.events in
+    let here = c.seen-seen.ensures in
+    let begun = sym c.is_begun.ensures ∙ c.if-not-is_begun.false in
+    let fits = c.fits_length.ensures in
+    let fit = c.fit-count.ensures in
+    let end = c.ending-end.ensures in
+    let length = c.args.framing in
+    record {
+      chunked = c.is_in_chunks-chunked.ensures;
+      from = c.chosen-from.ensures.out ∙ ap chosen_delivered here;
+      few = fit.few;
+      within = fit.within;
+      usr = λ some.
+          let all = c.sendable.ensures.usr.allowed (omega (arith, some, fit.most)) in
+          (begun, all.0, fewer x c.fit-count.result c.sendable.result.usr some fit.most all.1);
+      room = λ some. subst (λ (y : Seen). IfSome (length_of length) (λ n. chosen_received y ≤ n)) here (fits.within c.if-not-fits_length.false);
+      ends = λ i.
+          let e = end.ends i in
+          (begun, ap (λ (y : Seen). y.closed) (sym here) ∙ e.0, ap chosen_over (sym here) ∙ e.1, ap (λ (y : Seen). chosen_delivered y + c.fit-count.result) (sym here) ∙ (e.2 ∙ ap chosen_received here));
+      text = end.text;
+      exact = λ i. subst (λ (y : Seen). IfSome (length_of length) (λ n. chosen_received y ≡ n)) here (fits.exact c.if-not-fits_length.false (end.ends i).1);
+      no_usr = λ m z n o a. absurd (omega (arith, z, fit.some, c.sendable.ensures.usr.bound n (o, a)));
+      no_end = λ m z i o v a.
+          end.never i (ap (λ (y : Seen). y.closed) here ∙ o) (ap chosen_over here ∙ v)
+          (ap (λ (y : Seen). chosen_delivered y + c.fit-count.result) here ∙ (ap (λ (n : ℕ). chosen_delivered x + n) z ∙ (omega arith ∙ (a ∙ ap chosen_received (sym here)))));
+    }

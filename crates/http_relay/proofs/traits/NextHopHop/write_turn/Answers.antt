@@ -1,0 +1,16 @@
+use Rattle.std.proofs.Common.{◌≡◌, subst, Option, Some, Result, Err, IfSome, IfErr}
+use Rattle.trace_core.specs.History.{seen}
+use Rattle.adapt_sides.specs.declared.turn.Turn.{Turn}
+use Rattle.adapt_sides.specs.declared.fault.RelayFault.{RelayFault}
+use Rattle.http_relay.proofs.Gives.{as_gives}
+use Rattle.http_relay.proofs.traits.NextHopHop.write_turn.Goals as goal
+
+pub returns-clause-gift : goal.returns-clause-gift
+returns-clause-gift g c = c.write_turn.ensures.turn.goes_on.gift
+
+pub returns-clause-turn : goal.returns-clause-turn
+returns-clause-turn g c =
+    let o = c.write_turn.ensures in
+    let result : Result Turn RelayFault = c.write_turn.result in
+    as_gives (seen c.args.state.now.plan c.args.state.now.events) c.args.tape.now c.args.self.now c.write_turn.new.self (g.W.Wire.past c.args.wire.now) (g.W.Wire.past c.write_turn.new.wire) result c.requires o.turn
+    (λ f e. subst (λ (t : Option RelayFault). IfSome t (λ h. result ≡ Err h)) e o.faulted) (λ f e. subst (λ (r : Result Turn RelayFault). IfErr r (λ h. c.write_turn.new.self.fault ≡ Some h)) e o.keeps)

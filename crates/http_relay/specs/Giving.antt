@@ -1,0 +1,145 @@
+-- What the next hop was given, as a relation over histories.
+use Rattle.std.specs.Prelude.{◌≡◌, ℕ, ◌+◌, ◌<◌, ◌≤◌, ◌⊎◌, Bool, true, false, List, [], ◌∷◌, ◌++◌, length, take, drop, Option, Some, None, IfSome, if◌then◌else◌, ◌==◌, ◌||◌}
+use Rattle.icap_chunks.specs.Grammar.{last_chunk}
+use Rattle.trace_core.specs.declared.history.Event.{Event}
+use Rattle.trace_core.specs.declared.history.Event.TheVariants.{Usr, Done}
+use Rattle.trace_core.specs.declared.history.Seen.{Seen}
+use Rattle.trace_core.specs.Legal.{Allows}
+use Rattle.trace_core.specs.Faults.{chooses_original}
+use Rattle.trace_core.specs.View.{after}
+use Rattle.chunk_writer.specs.declared.next.Next.{Next}
+use Rattle.chunk_writer.specs.Cut.{IsCut, Run}
+use Rattle.chunk_writer.specs.Writer.{Writer, waiting, is_ending, end_text}
+use Rattle.http_side.specs.Refusals.{refusal}
+use Rattle.http_side.specs.declared.body.Framing.{Framing}
+use Rattle.http_relay.specs.declared.hop.Stage.{Stage}
+use Rattle.http_relay.specs.declared.hop.Stage.TheVariants as at
+use Rattle.adapt_sides.specs.declared.fault.RelayFault.{RelayFault}
+use Rattle.adapt_sides.specs.Turns.{Gift}
+use Rattle.adapt_sides.specs.Turns.Gift.{nothing as no_gift, message as message_gift, refusal as refusal_gift}
+use Rattle.adapt_sides.specs.Tapes.{chosen_delivered, chosen_received, chosen_over}
+use Rattle.http_relay.specs.Message.{is_chunked, length_of}
+
+-- no body byte went out
+abbrev pub IsUndelivered : Seen → Type 0
+IsUndelivered x = (x.original_delivered ≡ 0) × (x.adapted_delivered ≡ 0)
+
+-- a next hop's end: the text that is on its way, how the body goes, what is written, whether a byte went out, and its fault
+pub record Hop : Type 0 where
+  pub writer : Writer
+  pub framing : Framing
+  pub stage : Stage
+  pub touched : Bool
+  pub fault : Option RelayFault
+
+-- what is fixed of the body's text, these bytes of the body being in it; with its end or not
+pub data Front (framing : Framing) (whole : Bool) (body text : List ℕ) (left : ℕ) : Type 0 where
+  plain : is_chunked framing ≡ false → left ≡ 0 → text ≡ body → Front framing whole body text left
+  run : is_chunked framing ≡ true → whole ≡ false → Run body text left → Front framing whole body text left
+  over : is_chunked framing ≡ true → whole ≡ true → left ≡ 0 → (chunks : List ℕ) → IsCut body chunks → text ≡ chunks ++ last_chunk false → Front framing whole body text left
+
+-- of a message with this head, these bytes were taken
+pub record GivesMessage (x : Seen) (framing : Framing) (whole : Bool) (head body taken : List ℕ) (w : Writer) : Type 0 where
+  pub behind : List ℕ
+  pub fixed_is : taken ++ waiting w ≡ head ++ behind
+  pub front : Front framing whole (take (chosen_delivered x) body) behind w.left
+  pub there : chosen_delivered x + w.left ≤ chosen_received x
+  pub within : IfSome (length_of framing) (λ n. chosen_delivered x ≤ n)
+  pub all_out : whole ≡ true → (chosen_over x ≡ true) × (chosen_delivered x ≡ chosen_received x) × IfSome (length_of framing) (λ n. chosen_delivered x ≡ n)
+
+-- the bytes that the next hop took of a message: none yet, or a front of one; a refusal is no message
+abbrev pub GivenAt : Stage → Seen → Framing → List ℕ → List ℕ → List ℕ → Writer → Type 0
+GivenAt at.Empty x framing head body taken w = (taken ++ waiting w ≡ []) × IsUndelivered x
+GivenAt at.Message x framing head body taken w = GivesMessage x framing false head body taken w
+GivenAt at.Whole x framing head body taken w = GivesMessage x framing true head body taken w
+GivenAt (at.Refusal status) x framing head body taken w = ⊥
+
+-- with this head and a body of which these bytes came, these bytes were taken
+pub record HasGiven (x : Seen) (head body taken : List ℕ) (h : Hop) : Type 0 where
+  pub given : GivenAt h.stage x h.framing head body taken h.writer
+  pub untouched : h.touched ≡ false → (taken ≡ []) × IsUndelivered x
+
+-- the bytes that were taken where no message is written: none, or a front of the refusal alone
+abbrev pub AsideAt : Stage → List ℕ → Writer → Type 0
+AsideAt at.Empty taken w = taken ++ waiting w ≡ []
+AsideAt at.Message taken w = ⊥
+AsideAt at.Whole taken w = ⊥
+AsideAt (at.Refusal status) taken w = taken ++ waiting w ≡ refusal status
+
+pub record IsAside (taken : List ℕ) (h : Hop) : Type 0 where
+  pub text : AsideAt h.stage taken h.writer
+  pub untouched : h.touched ≡ false → taken ≡ []
+
+-- What a turn decides before it writes.
+abbrev pub is_message : Stage → Bool
+is_message at.Message = true
+is_message _ = false
+
+abbrev pub is_whole : Stage → Bool
+is_whole at.Whole = true
+is_whole _ = false
+
+abbrev pub is_empty : Stage → Bool
+is_empty at.Empty = true
+is_empty _ = false
+
+abbrev pub body_end : Framing → List ℕ
+body_end framing = if is_chunked framing then last_chunk false else []
+
+pub record Decides (x : Seen) (w : Writer) (framing : Framing) (stage : Stage) (next : Next) : Type 0 where
+  pub chunked : next.chunked ≡ is_chunked framing
+  pub from : next.from ≡ chosen_delivered x
+  pub few : next.count ≤ 4096
+  pub within : next.chunked ≡ true → 0 < w.left → next.count ≤ w.left
+  pub usr : 0 < next.count → (is_message stage ≡ true) × (x.closed ≡ false) × Allows x (Usr next.count)
+  pub room : 0 < next.count → IfSome (length_of framing) (λ n. chosen_received x ≤ n)
+  pub ends : is_ending next.end ≡ true → (is_message stage ≡ true) × (x.closed ≡ false) × (chosen_over x ≡ true) × (chosen_delivered x + next.count ≡ chosen_received x)
+  pub text : is_ending next.end ≡ true → end_text next.end ≡ body_end framing
+  pub exact : is_ending next.end ≡ true → IfSome (length_of framing) (λ n. chosen_received x ≡ n)
+  pub no_usr : is_message stage ≡ true → next.count ≡ 0 → (n : ℕ) → x.closed ≡ false → Allows x (Usr n) → ⊥
+  pub no_end : is_message stage ≡ true → next.count ≡ 0 → is_ending next.end ≡ false → x.closed ≡ false → chosen_over x ≡ true → chosen_delivered x ≡ chosen_received x → ⊥
+
+-- the body that came passes its length, or has ended short of it
+pub data BreaksLength (x : Seen) (framing : Framing) : Type 0 where
+  longer : (n : ℕ) → length_of framing ≡ Some n → n < chosen_received x → BreaksLength x framing
+  shorter : (n : ℕ) → length_of framing ≡ Some n → chosen_over x ≡ true → chosen_received x < n → BreaksLength x framing
+
+-- The events of a turn.
+abbrev pub usr_events : ℕ → List Event
+usr_events n = if n == 0 then [] else Usr n ∷ []
+
+abbrev pub turn_events : ℕ → Bool → List Event
+turn_events n true = usr_events n ++ Done ∷ []
+turn_events n false = usr_events n
+
+-- the stage once the body's end is fixed
+abbrev pub stage_then : Stage → Bool → Stage
+stage_then stage true = at.Whole
+stage_then stage false = stage
+
+-- nothing waits, and no event of giving may follow; one message at most is chosen
+pub record NothingDue (x : Seen) (h : Hop) : Type 0 where
+  pub one : chooses_original x ≡ true → x.modified ≡ false
+  pub flushed : waiting h.writer ≡ []
+  pub none : is_message h.stage ≡ true → (n : ℕ) → x.closed ≡ false → Allows x (Usr n) → ⊥
+  pub no_done : is_message h.stage || is_whole h.stage ≡ true → x.closed ≡ false → Allows x Done → ⊥
+
+-- what the side writes
+abbrev pub gift_of : Stage → Gift
+gift_of at.Empty = no_gift
+gift_of at.Message = message_gift
+gift_of at.Whole = message_gift
+gift_of (at.Refusal status) = refusal_gift status
+
+-- all that is fixed is out
+abbrev pub is_flushed : Hop → Bool
+is_flushed h = length (waiting h.writer) == 0
+
+-- memory was given back, and nothing else
+pub record LetsGo (old new : Hop) : Type 0 where
+  pub waiting_is : waiting new.writer ≡ waiting old.writer
+  pub left : new.writer.left ≡ old.writer.left
+  pub framing : new.framing ≡ old.framing
+  pub stage : new.stage ≡ old.stage
+  pub touched : new.touched ≡ old.touched
+  pub fault : new.fault ≡ old.fault

@@ -1,0 +1,11 @@
+pub mod Body
+pub mod Events
+pub mod Source
+pub mod Reasons
+pub mod Reading
+pub mod Message
+pub mod Giving
+pub mod Writing
+pub mod SourceLaws
+pub mod Keeping
+pub mod HopLaws

@@ -1,0 +1,163 @@
+-- A source's side over its wire.
+use Rattle.std.specs.Prelude.{◌≡◌, ◌≢◌, ℕ, ◌+◌, ◌<◌, ◌≤◌, ◌⊎◌, Bool, true, false, List, [], ◌++◌, length, take, Option, Some, None as Nothing, Result, Ok, Err, IfSome}
+use Rattle.http_side.specs.Heads.{RequestParts, ResponseParts}
+use Rattle.http_side.specs.Requests.{IsRead}
+use Rattle.http_side.specs.Responses.{IsResponseRead}
+use Rattle.http_side.specs.Framings.{request_framing, response_framing}
+use Rattle.http_side.specs.declared.body.Framing.{Framing}
+use Rattle.http_side.specs.declared.body.Framing.TheVariants.{None}
+use Rattle.trace_core.specs.declared.history.Event.{Event}
+use Rattle.trace_core.specs.declared.history.Seen.{Seen}
+use Rattle.wire_kit.specs.Past.{Past}
+use Rattle.trace_core.specs.Turns.{after_all, MayAllFollow, AllAre, in_sum, is_of_source}
+use Rattle.http_relay.specs.Source.{known, Agrees, BodyRead, MustWait, Refuses}
+use Rattle.wire_kit.specs.Past.{IsLater}
+use Rattle.http_relay.specs.Reasons.{IsExplained}
+use Rattle.adapt_sides.specs.Turns.{SaysWaiting, events_of, waits_of}
+use Rattle.adapt_sides.specs.declared.fault.RelayFault.{RelayFault}
+use Rattle.adapt_sides.specs.declared.fault.RelayFault.TheVariants.{Closed, Device, NoMemory}
+use Rattle.http_relay.specs.declared.side.SourceSide.{SourceSide}
+use Rattle.http_relay.specs.declared.side.Asks.{Asks}
+use Rattle.http_relay.specs.declared.side.Asks.TheVariants as asks
+use Rattle.http_relay.specs.declared.side.SourceHead.{SourceHead}
+use Rattle.http_relay.specs.declared.side.SourceHead.TheVariants as heads
+use Rattle.http_relay.specs.declared.side.Judged.{Judged}
+use Rattle.http_relay.specs.declared.side.Judged.TheVariants as judged
+use Rattle.http_relay.specs.declared.side.Filled.{Filled}
+use Rattle.http_relay.specs.declared.side.Filled.TheVariants as filled
+use Rattle.adapt_sides.specs.declared.turn.Turn.{Turn}
+
+-- an interim response other than 101
+pub record IsInterim (r : ResponseParts) : Type 0 where
+  pub from : 100 ≤ r.status
+  pub to : r.status ≤ 199
+  pub other : r.status ≢ 101
+
+-- the text is a head of these parts, with whatever behind it
+abbrev pub IsHeadText : Asks → SourceHead → List ℕ → Type 0
+IsHeadText asks.Request (heads.Request r) text = (more : List ℕ) × IsRead false (text ++ more) r (length text)
+IsHeadText (asks.Response to_head) (heads.Response r) text = (more : List ℕ) × IsResponseRead to_head (text ++ more) r (length text)
+IsHeadText _ _ text = ⊥
+
+-- interim responses in a row; before a request there are none
+pub data AreInterims (to_head : Bool) : List ℕ → Type 0 where
+  nothing : AreInterims to_head []
+  further : (before text more : List ℕ) (r : ResponseParts) → AreInterims to_head before → IsResponseRead to_head (text ++ more) r (length text) → IsInterim r → AreInterims to_head (before ++ text)
+
+abbrev pub IsBefore : Asks → List ℕ → Type 0
+IsBefore asks.Request text = text ≡ []
+IsBefore (asks.Response to_head) text = AreInterims to_head text
+
+-- the request's head, and the response's
+abbrev pub request_of : SourceHead → Option RequestParts
+request_of (heads.Request r) = Some r
+request_of _ = Nothing
+
+abbrev pub response_of : SourceHead → Option ResponseParts
+response_of (heads.Response r) = Some r
+response_of _ = Nothing
+
+-- how the body behind the head is framed
+abbrev pub framing_of : SourceHead → Framing
+framing_of heads.Unread = None
+framing_of (heads.Request r) = request_framing r
+framing_of (heads.Response r) = response_framing r
+
+-- these bytes of the body came; the bytes read since the message began are interim responses, its head, what was framed of
+-- its body, and the raw ones
+pub record SideRead (x : Seen) (body read : List ℕ) (s : SourceSide) : Type 0 where
+  pub before : List ℕ
+  pub head_text : List ℕ
+  pub framed : List ℕ
+  pub text_is : read ≡ (before ++ head_text) ++ (framed ++ s.raw.items)
+  pub interims : IsBefore s.asks before
+  pub head : IsHeadText s.asks s.head head_text
+  pub way : s.body.framing ≡ framing_of s.head
+  pub body_read : BodyRead x body framed s.body
+
+-- the bytes read are interim responses and the raw ones: no head was taken yet
+pub record AtHead (read : List ℕ) (s : SourceSide) : Type 0 where
+  pub before : List ℕ
+  pub text_is : read ≡ before ++ s.raw.items
+  pub interims : IsBefore s.asks before
+  pub unread : s.head ≡ heads.Unread
+
+-- these events tell what further bytes of the wire do, with these of the body
+pub record SideReads (old new : SourceSide) (events : List Event) (delta part : List ℕ) : Type 0 where
+  pub only : AllAre is_of_source events
+  pub legal : (x : Seen) → Agrees x old.body → x.closed ≡ false → MayAllFollow x events × Agrees (after_all x events) new.body
+  pub reads : (x : Seen) (body read : List ℕ) → SideRead x body read old → SideRead (after_all x events) (body ++ part) (read ++ delta) new
+
+-- nothing is to be read: the end was told, or there is no room
+abbrev pub Rests : ℕ → SourceSide → Type 0
+Rests room s = (s.body.ended ≡ true) ⊎ (room ≡ 0)
+
+-- ---- one read
+
+-- after a read that gave these bytes, on a wire that may have had each of these pasts
+abbrev pub Gave : (Past → Type 0) → (Past → Type 0) → List ℕ → Type 0
+Gave before after delta = (p : Past) → before p → after (record { read = p.read ++ delta; taken = p.taken; ends = p.ends; read_waits = p.read_waits; write_waits = p.write_waits; faults = p.faults })
+
+-- bytes came behind the raw ones, or none, with the wire's reason
+abbrev pub IsFilled : (Past → Type 0) → (Past → Type 0) → List ℕ → List ℕ → Filled → Type 0
+IsFilled before after old new filled.Bytes = (delta : List ℕ) × (0 < length delta) × (new ≡ old ++ delta) × Gave before after delta
+IsFilled before after old new filled.Ended = (new ≡ old) × ((p : Past) → before p → after (record { read = p.read; taken = p.taken; ends = p.ends + 1; read_waits = p.read_waits; write_waits = p.write_waits; faults = p.faults }))
+IsFilled before after old new filled.Wait = (new ≡ old) × ((p : Past) → before p → after (record { read = p.read; taken = p.taken; ends = p.ends; read_waits = p.read_waits + 1; write_waits = p.write_waits; faults = p.faults }))
+IsFilled before after old new filled.Failed = (new ≡ old) × ((p : Past) → before p → after (record { read = p.read; taken = p.taken; ends = p.ends; read_waits = p.read_waits; write_waits = p.write_waits; faults = p.faults + 1 }))
+IsFilled before after old new filled.NoMemory = (new ≡ old) × ((p : Past) → before p → after p)
+
+-- ---- a turn of a side without a fault
+
+-- the fault is the wire's, or want of memory, or that of the raw bytes
+abbrev pub IsCause : RelayFault → SourceSide → Type 0
+IsCause fault s = (fault ≡ Closed) ⊎ ((fault ≡ Device) ⊎ ((fault ≡ NoMemory) ⊎ Refuses fault s.body s.raw.items))
+
+pub record ReadTurn (room : ℕ) (old new : SourceSide) (before after : Past → Type 0) (out : List ℕ) (result : Result Turn RelayFault) : Type 0 where
+  pub delta : List ℕ
+  pub wire : (p : Past) → before p → (q : Past) × after q × IsLater p delta [] q × IsExplained p q old.fault (Rests room new) (λ past. past.read_waits) result
+  pub count : in_sum (events_of result) ≤ room
+  pub reads : SideReads old new (events_of result) delta (take (in_sum (events_of result)) out)
+  pub waiting : SaysWaiting (events_of result) delta result
+  pub waits : waits_of result ≡ true → MustWait new.body new.raw.items room
+  pub cause : (fault : RelayFault) → result ≡ Err fault → IsCause fault new
+
+-- ---- the head
+
+-- the message begins: of its body nothing was read, and its numbers are those of a history without In and End
+abbrev pub Begins : List ℕ → SourceSide → Type 0
+Begins read s = (x : Seen) → x.received ≡ 0 → x.ended ≡ false → SideRead x [] read s × (IfSome x.plan.len (λ len. known s.body.framing ≡ Some len) → Agrees x s.body)
+
+-- what judging the raw bytes gives: the message begins, or its head is still to come
+abbrev pub JudgedTo : Result Judged RelayFault → List ℕ → SourceSide → Type 0
+JudgedTo (Ok judged.Taken) read s = Begins read s
+JudgedTo (Ok judged.More) read s = AtHead read s
+JudgedTo (Ok judged.Interim) read s = AtHead read s
+JudgedTo (Err fault) read s = AtHead read s
+
+abbrev pub ScannedTo : Result Bool RelayFault → List ℕ → SourceSide → Type 0
+ScannedTo (Ok true) read s = Begins read s
+ScannedTo (Ok false) read s = AtHead read s
+ScannedTo (Err fault) read s = AtHead read s
+
+-- why a turn at the head answers that more is to come, or a fault of its wire
+pub record HeadReason (p q : Past) (delta : List ℕ) (result : Result Bool RelayFault) : Type 0 where
+  pub waits : result ≡ Ok false → (0 < length delta) ⊎ (p.read_waits < q.read_waits)
+  pub closed : result ≡ Err Closed → p.ends < q.ends
+  pub device : result ≡ Err Device → p.faults < q.faults
+
+-- a turn at the head, in which the wire gave these bytes
+pub record HeadTurn (old new : SourceSide) (before after : Past → Type 0) (result : Result Bool RelayFault) : Type 0 where
+  pub delta : List ℕ
+  pub wire : (p : Past) → before p → (q : Past) × after q × IsLater p delta [] q × HeadReason p q delta result
+  pub heads : (read : List ℕ) → AtHead read old → ScannedTo result (read ++ delta) new
+
+-- only room for raw bytes was given back
+pub record GivesBack (old new : SourceSide) : Type 0 where
+  pub asks : new.asks ≡ old.asks
+  pub head : new.head ≡ old.head
+  pub body : new.body ≡ old.body
+  pub raw : new.raw.items ≡ old.raw.items
+  pub judged : new.judged ≡ old.judged
+  pub fault : new.fault ≡ old.fault
+  pub head_fault : new.head_fault ≡ old.head_fault
+  pub empty : new.raw.items ≡ [] → new.raw.spare ≡ 0

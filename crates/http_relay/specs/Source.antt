@@ -1,0 +1,56 @@
+-- A source's body, as far as it was read.
+use Rattle.std.specs.Prelude.{◌≡◌, ℕ, ◌+◌, ◌^◌, ◌<◌, ◌≤◌, ◌⊎◌, Bool, true, false, List, [], ◌∷◌, ◌++◌, length, take, Option, Some, None as Nothing, IfSome}
+use Rattle.icap_chunks.specs.declared.fault.ChunkFault.{ChunkFault}
+use Rattle.http_side.specs.Body.{HasRead, IsClosedBody}
+use Rattle.http_side.specs.declared.body.Framing.{Framing}
+use Rattle.http_side.specs.declared.body.Framing.TheVariants.{None, Length, Chunked, Close}
+use Rattle.trace_core.specs.declared.history.Event.{Event}
+use Rattle.trace_core.specs.declared.history.Seen.{Seen}
+use Rattle.http_relay.specs.Body.{ReadsOn, IsBodyNext, IsBroken}
+use Rattle.trace_core.specs.Turns.{after_all, MayAllFollow, AllAre, is_of_source}
+use Rattle.http_relay.specs.declared.source_body.SourceBody.{SourceBody}
+use Rattle.adapt_sides.specs.declared.fault.RelayFault.{RelayFault}
+use Rattle.adapt_sides.specs.declared.fault.RelayFault.TheVariants as faults
+
+-- the length that a framing tells
+abbrev pub known : Framing → Option ℕ
+known None = Some 0
+known (Length n) = Some n
+known Chunked = Nothing
+known Close = Nothing
+
+-- so many more bytes of the body may be told, and then its end
+pub record Fits (s : SourceBody) (count : ℕ) (ended : Bool) : Type 0 where
+  pub sum : s.received + count < 2 ^ 62
+  pub len : IfSome (known s.framing) (λ len. s.received + count ≤ len)
+  pub end : ended ≡ true → IfSome (known s.framing) (λ len. s.received + count ≡ len)
+
+-- its numbers are those of what is seen; a length that the plan knows is the framing's
+pub record Agrees (x : Seen) (s : SourceBody) : Type 0 where
+  pub received : x.received ≡ s.received
+  pub ended : x.ended ≡ s.ended
+  pub len : IfSome x.plan.len (λ len. known s.framing ≡ Some len)
+
+-- of the text this was read, and these bytes of the body came; its end was told only where the text is a whole body
+pub record BodyRead (x : Seen) (body text : List ℕ) (s : SourceBody) : Type 0 where
+  pub count : x.received ≡ length body
+  pub ended : x.ended ≡ s.ended
+  pub reads : HasRead s.framing text body s.reader
+  pub whole : s.ended ≡ true → IsClosedBody s.framing text body
+
+-- these events tell what these further bytes do, with these of the body
+pub record BodyReads (old new : SourceBody) (events : List Event) (bytes part : List ℕ) : Type 0 where
+  pub only : AllAre is_of_source events
+  pub legal : (x : Seen) → Agrees x old → x.closed ≡ false → MayAllFollow x events × Agrees (after_all x events) new
+  pub reads : (x : Seen) (body text : List ℕ) → BodyRead x body text old → BodyRead (after_all x events) (body ++ part) (text ++ bytes) new
+
+-- none of these bytes can be framed, with so much room: the end was told, no byte is there, or the next is one of the body
+-- and there is no room
+abbrev pub MustWait : SourceBody → List ℕ → ℕ → Type 0
+MustWait s raw room = (s.ended ≡ true) ⊎ ((raw ≡ []) ⊎ ((room ≡ 0) × IsBodyNext s.reader raw))
+
+-- why bytes of a body are refused
+abbrev pub Refuses : RelayFault → SourceBody → List ℕ → Type 0
+Refuses faults.Chunk s raw = (fault : ChunkFault) × IsBroken s.reader raw fault
+Refuses faults.Length s raw = (count : ℕ) × (ended : Bool) × (Fits s count ended → ⊥)
+Refuses _ s raw = ⊥

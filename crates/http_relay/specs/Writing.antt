@@ -1,0 +1,55 @@
+-- What a write turn of the next hop does.
+use Rattle.std.specs.Prelude.{◌≡◌, ℕ, ◌⊎◌, Bool, true, false, List, [], ◌++◌, Option, Some, None, Result, Ok, Err}
+use Rattle.trace_core.specs.declared.history.Event.{Event}
+use Rattle.trace_core.specs.declared.history.Seen.{Seen}
+use Rattle.span_tape.specs.Tape.{Tape}
+use Rattle.wire_kit.specs.Past.{Past, Offers, delta_of}
+use Rattle.wire_kit.specs.declared.wire.Put.{Put}
+use Rattle.wire_kit.specs.declared.wire.Put.TheVariants as put
+use Rattle.chunk_writer.specs.Writer.{waiting}
+use Rattle.adapt_sides.specs.declared.turn.Turn.{Turn}
+use Rattle.adapt_sides.specs.declared.fault.RelayFault.{RelayFault}
+use Rattle.adapt_sides.specs.declared.fault.RelayFault.TheVariants.{Device, Length}
+use Rattle.http_relay.specs.declared.hop.Stage.TheVariants as at
+use Rattle.trace_core.specs.Turns.{after_all, MayAllFollow}
+use Rattle.adapt_sides.specs.Tapes.{Follows}
+use Rattle.adapt_sides.specs.Turns.{events_of}
+use Rattle.http_relay.specs.Giving.{Hop, HasGiven, IsAside, NothingDue, BreaksLength, is_message, turn_events, gift_of}
+
+-- The side goes on by these events while its wire takes these bytes; Done stands only where the message's text is out whole.
+pub record GoesOn (x : Seen) (tape : Tape) (old new : Hop) (events : List Event) (delta : List ℕ) : Type 0 where
+  pub legal : MayAllFollow x events
+  pub given : (head body taken : List ℕ) → Follows tape body → HasGiven x head body taken old → HasGiven (after_all x events) head body (taken ++ delta) new
+  pub aside : (taken : List ℕ) → IsAside taken old → IsAside (taken ++ delta) new
+  pub sent : ℕ
+  pub done : Bool
+  pub events_are : events ≡ turn_events sent done
+  pub whole : done ≡ true → (new.stage ≡ at.Whole) × (waiting new.writer ≡ [])
+  pub framing : new.framing ≡ old.framing
+  pub gift : gift_of new.stage ≡ gift_of old.stage
+
+-- A turn that answers events, by what its wire answered. It waits only where the wire said so in this call, or where
+-- nothing was due; else the wire took bytes, or an event stands.
+pub record FitsAnswer (x : Seen) (new : Hop) (answer : Option Put) (turn : Turn) : Type 0 where
+  pub no_fault : answer ≡ Some put.Fault → ⊥
+  pub wait : answer ≡ Some put.Wait → turn.events.items ≡ []
+  pub idle : answer ≡ None → turn.events.items ≡ [] → NothingDue x new
+  pub waiting_is : turn.waiting ≡ true → (turn.events.items ≡ []) × ((answer ≡ Some put.Wait) ⊎ (answer ≡ None))
+  pub moved : turn.waiting ≡ false → turn.events.items ≡ [] → answer ≡ None → ⊥
+  pub woke : turn.waiting ≡ false → answer ≡ Some put.Wait → ⊥
+
+-- A first fault is Device, exactly where the wire failed in this call, or Length, where the body breaks its length and
+-- nothing was offered.
+abbrev pub Fits : Seen → Hop → Hop → Option Put → Result Turn RelayFault → Type 0
+Fits x old new answer (Ok turn) = FitsAnswer x new answer turn
+Fits x old new answer (Err fault) =
+    ((fault ≡ Device) × (answer ≡ Some put.Fault))
+    ⊎ ((fault ≡ Length) × (answer ≡ None) × (is_message old.stage ≡ true) × BreaksLength x old.framing)
+
+-- A turn makes one write at most. Behind a fault it makes none.
+pub record WriteTurn (x : Seen) (tape : Tape) (old new : Hop) (before after : Past → Type 0) (result : Result Turn RelayFault) : Type 0 where
+  pub text : List ℕ
+  pub answer : Option Put
+  pub wire : Offers before after text answer
+  pub goes_on : GoesOn x tape old new (events_of result) (delta_of text answer)
+  pub fits : old.fault ≡ None → Fits x old new answer result

@@ -1,0 +1,152 @@
+//! What may go to the next hop next.
+
+ghost use Rattle.arrayvec.specs.ArrayVec.{array_vec_len};
+ghost use Rattle.std.specs.Prelude.{◌≡◌, ◌+◌, ◌<◌, ◌≤◌, ◌++◌, ◌∷◌, [], IfSome, true, false, Some, None};
+ghost use Rattle.trace_core.specs.History.{seen};
+ghost use Rattle.chunk_writer.specs.Writer.{is_ending, end_text};
+ghost use Rattle.http_relay.specs.Message.{is_chunked, length_of};
+ghost use Rattle.adapt_sides.specs.Tapes.{chosen_delivered, chosen_received, chosen_over};
+ghost use Rattle.http_relay.specs.Giving.{is_message, body_end, Decides, BreaksLength, turn_events};
+
+use crate::hop::Stage;
+use adapt_sides::Turn;
+use arrayvec::ArrayVec;
+use chunk_writer::{ChunkWriter, Ending, Next};
+use http_side::Framing;
+use trace_core::{Event, Kind, Seen, State};
+
+/// What may come next of the message, or `None` where its body breaks its length.
+#[tactic(auto, using(crate::proofs::Chosen::fewer))]
+pub(crate) fn decide(
+    state: &State,
+    writer: &ChunkWriter,
+    framing: Framing,
+    stage: Stage,
+) -> Option<Next>
+    ensures next { IfSome result (λ next. Decides (seen state.now.plan state.now.events) writer.now framing stage next) }
+    ensures none { result ≡ None → (is_message stage ≡ true) × BreaksLength (seen state.now.plan state.now.events) framing }
+{
+    let seen = state.seen();
+    let chunked = is_in_chunks(framing);
+    let (from, came, over) = chosen(&seen);
+    if !is_begun(stage) {
+        return Some(Next {
+            chunked,
+            from,
+            count: 0,
+            end: Ending::NotYet,
+        });
+    }
+    if !fits_length(&seen, framing, came, over) {
+        return None;
+    }
+    let count = writer.fit(chunked, state.sendable().usr);
+    let end = ending(&seen, framing, count);
+    Some(Next {
+        chunked,
+        from,
+        count,
+        end,
+    })
+}
+
+/// The body's end, if it stands behind so many more bytes.
+fn ending(seen: &Seen, framing: Framing, count: u64) -> Ending
+    ensures ends { is_ending result ≡ true → (seen.now.closed ≡ false) × (chosen_over seen.now ≡ true) × (chosen_delivered seen.now + count ≡ chosen_received seen.now) }
+    ensures text { is_ending result ≡ true → end_text result ≡ body_end framing }
+    ensures never { is_ending result ≡ false → seen.now.closed ≡ false → chosen_over seen.now ≡ true → chosen_delivered seen.now + count ≡ chosen_received seen.now → ⊥ }
+{
+    let (out, came, over) = chosen(seen);
+    if seen.closed {
+        return Ending::NotYet;
+    }
+    if !over {
+        return Ending::NotYet;
+    }
+    if came < out {
+        return Ending::NotYet;
+    }
+    if came - out != count {
+        return Ending::NotYet;
+    }
+    body_ending(framing)
+}
+
+fn is_begun(stage: Stage) -> bool
+    ensures { result ≡ is_message stage }
+{
+    matches!(stage, Stage::Message)
+}
+
+fn is_in_chunks(framing: Framing) -> bool
+    ensures { result ≡ is_chunked framing }
+{
+    matches!(framing, Framing::Chunked)
+}
+
+/// Of the chosen message: what went out of its body, what came of it, and whether it has ended.
+fn chosen(seen: &Seen) -> (u64, u64, bool)
+    ensures out { result.0 ≡ chosen_delivered seen.now }
+    ensures came { result.1 ≡ chosen_received seen.now }
+    ensures over { result.2 ≡ chosen_over seen.now }
+{
+    if seen.plan.kind == Kind::Plain || seen.no_mod {
+        (seen.original_delivered, seen.received, seen.ended)
+    } else {
+        (
+            seen.adapted_delivered,
+            seen.adapted_received,
+            seen.adapted_over,
+        )
+    }
+}
+
+/// Whether the body that came so far may have the length that its framing gives it.
+fn fits_length(seen: &Seen, framing: Framing, came: u64, over: bool) -> bool
+    requires came { came ≡ chosen_received seen.now }
+    requires over { over ≡ chosen_over seen.now }
+    ensures within { result ≡ true → IfSome (length_of framing) (λ n. chosen_received seen.now ≤ n) }
+    ensures exact { result ≡ true → chosen_over seen.now ≡ true → IfSome (length_of framing) (λ n. chosen_received seen.now ≡ n) }
+    ensures breaks { result ≡ false → BreaksLength seen.now framing }
+{
+    let _ = seen;
+    match framing {
+        Framing::None => came == 0,
+        Framing::Length(n) => came <= n && (!over || came == n),
+        Framing::Chunked | Framing::Close => true,
+    }
+}
+
+fn body_ending(framing: Framing) -> Ending
+    ensures is_end { is_ending result ≡ true }
+    ensures text { end_text result ≡ body_end framing }
+{
+    match framing {
+        Framing::Chunked => Ending::LastChunk(false),
+        _ => Ending::Silent,
+    }
+}
+
+pub(crate) fn turn_of(sent: u64, done: bool, moved: bool) -> Turn
+    ensures events { result.events.items ≡ turn_events sent done }
+    ensures waits { result.waiting ≡ true → (result.events.items ≡ []) × (moved ≡ false) }
+    ensures goes { result.waiting ≡ false → (moved ≡ false) → result.events.items ≡ [] → ⊥ }
+{
+    let mut events = ArrayVec::new();
+    if sent > 0 {
+        push(&mut events, Event::Usr(sent));
+    }
+    if done {
+        push(&mut events, Event::Done);
+    }
+    let waiting = sent == 0 && !done && !moved;
+    Turn { events, waiting }
+}
+
+fn push(events: &mut ArrayVec<Event, 4>, event: Event)
+    requires { array_vec_len events.old < 4 }
+    ensures items { events.new.items ≡ events.old.items ++ event ∷ [] }
+    ensures len { array_vec_len events.new ≡ array_vec_len events.old + 1 }
+{
+    events.push(event);
+}

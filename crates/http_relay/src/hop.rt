@@ -1,0 +1,189 @@
+//! The next hop's end of one transaction: one message, or the proxy's own refusal (RFC 9112, sections 6 and 7).
+
+ghost use Rattle.std.specs.Prelude.{◌≡◌, ℕ, List, IfSome, IfErr, Err, IsTrue, true, false, Some, None, [], ◌⊎◌, not, length};
+ghost use Rattle.trace_core.specs.declared.history.Seen.{Seen};
+ghost use Rattle.trace_core.specs.History.{seen};
+ghost use Rattle.chunk_writer.specs.Writer.{fresh, waiting};
+ghost use Rattle.http_side.specs.Refusals.{is_own_status, refusal};
+ghost use Rattle.adapt_sides.specs.Tapes.{KeepsUndelivered};
+ghost use Rattle.http_relay.specs.Giving.{Hop, HasGiven, IsAside, IsUndelivered, LetsGo, is_flushed, is_whole, is_empty, stage_then};
+ghost use Rattle.http_relay.specs.Writing.{WriteTurn};
+
+use crate::due::{decide, turn_of};
+use adapt_sides::{RelayFault, Turn};
+use chunk_writer::ChunkWriter;
+use http_side::{Framing, own_refusal};
+use span_tape::SpanTape;
+use std::alloc::Global;
+use std::marker::Model;
+use trace_core::State;
+use wire_kit::{Put, Wire};
+
+/// What the next hop gets.
+#[derive(Clone, Copy, Debug, PartialEq, Eq)]
+pub enum Stage {
+    /// Nothing is known of it yet.
+    Empty,
+    /// A message.
+    Message,
+    /// A message, the end of whose body is fixed.
+    Whole,
+    /// The proxy's own refusal with this status.
+    Refusal(u16),
+}
+
+/// The next hop's end of one transaction.
+#[derive(Drop)]
+pub struct NextHop {
+    writer: ChunkWriter,
+    framing: Framing,
+    stage: Stage,
+    touched: bool,
+    fault: Option<RelayFault>,
+}
+
+impl Model for NextHop {
+    ghost use Rattle.http_relay.specs.Giving.{Hop};
+
+    ghost Value = { Hop };
+
+    ghost view = { λ h. record { writer = h.writer; framing = h.framing; stage = h.stage; touched = h.touched; fault = h.fault } };
+}
+
+impl NextHop {
+    /// A next hop to which nothing is written yet.
+    pub fn new(alloc: Global) -> NextHop
+        ensures shows { result ≡ record { writer = fresh []; framing = Framing.None; stage = Stage.Empty; touched = false; fault = None } }
+        ensures given { (x : Seen) (head body : List ℕ) → IsUndelivered x → HasGiven x head body [] result }
+        ensures aside { IsAside [] result }
+    {
+        NextHop {
+            writer: ChunkWriter::new(Vec::new(alloc)),
+            framing: Framing::None,
+            stage: Stage::Empty,
+            touched: false,
+            fault: None,
+        }
+    }
+
+    /// Begins the chosen message: its forwarded head, and how its body goes.
+    pub fn begin(&mut self, head: Vec<u8>, framing: Framing)
+        requires { self.old.stage ≡ Stage.Empty }
+        ensures shows { self.new ≡ record { writer = fresh head.items; framing = framing; stage = Stage.Message; touched = self.old.touched; fault = self.old.fault } }
+        ensures given { (x : Seen) (none body taken : List ℕ) → HasGiven x none body taken self.old → HasGiven x head.items body taken self.new }
+    {
+        self.writer = ChunkWriter::new(head);
+        self.framing = framing;
+        self.stage = Stage::Message;
+    }
+
+    /// Puts the proxy's own refusal in the message's place. No byte has gone out. It takes no memory.
+    pub fn refuse(&mut self, status: u16)
+        requires untouched { self.old.touched ≡ false }
+        requires own { IsTrue (is_own_status status) }
+        ensures shows { self.new ≡ record { writer = fresh (refusal status); framing = Framing.None; stage = Stage.Refusal status; touched = false; fault = self.old.fault } }
+        ensures aside { IsAside [] self.new }
+    {
+        self.writer = ChunkWriter::constant(own_refusal(status));
+        self.framing = Framing::None;
+        self.stage = Stage::Refusal(status);
+    }
+
+    /// Whether no byte has gone out.
+    pub fn untouched(&self) -> bool
+        ensures { result ≡ not self.now.touched }
+    {
+        !self.touched
+    }
+
+    /// Whether nothing is written yet: neither a message nor a refusal was begun.
+    pub fn is_idle(&self) -> bool
+        ensures { result ≡ is_empty self.now.stage }
+    {
+        matches!(self.stage, Stage::Empty)
+    }
+
+    /// The fault that each turn answers, if there is one.
+    pub fn fault(&self) -> Option<RelayFault>
+        ensures { result ≡ self.now.fault }
+    {
+        self.fault
+    }
+
+    /// Whether all that is fixed is out: the whole refusal, where one was put in the message's place.
+    pub fn is_out(&self) -> bool
+        ensures { result ≡ is_flushed self.now }
+    {
+        self.writer.is_out()
+    }
+
+    /// Gives back the head's memory, once all of it is out.
+    fn let_go(&mut self)
+        ensures { LetsGo self.old self.new }
+    {
+        self.writer.release();
+    }
+
+    /// Counts what a turn wrote, and says whether the whole message is out with it.
+    fn settle(&mut self, sent: u64, ended: bool, may: bool) -> bool
+        ensures stage { self.new ≡ record { writer = self.old.writer; framing = self.old.framing; stage = stage_then self.old.stage ended; touched = self.old.touched; fault = self.old.fault } }
+        ensures done { result ≡ true → (stage_then self.old.stage ended ≡ Stage.Whole) × (waiting self.old.writer ≡ []) × ((ended ≡ true) ⊎ ((may ≡ true) × (sent ≡ 0))) }
+        ensures ended { result ≡ false → waiting self.old.writer ≡ [] → ended ≡ true → ⊥ }
+        ensures may { result ≡ false → waiting self.old.writer ≡ [] → is_whole self.old.stage ≡ true → sent ≡ 0 → may ≡ true → ⊥ }
+    {
+        if ended {
+            self.stage = Stage::Whole;
+        }
+        matches!(self.stage, Stage::Whole) && self.writer.is_out() && (ended || (may && sent == 0))
+    }
+
+    /// Writes what is due of the message or of the refusal, with one write at most. The caller steps the events, in their
+    /// order; Done stands only where the message's text is out whole.
+    ///
+    /// `Err(Device)` where the wire failed in this call; `Err(Length)` where the body that came has another length than the
+    /// head tells. A fault stays.
+    pub fn write_turn<W: Wire>(
+        &mut self,
+        state: &State,
+        tape: &SpanTape,
+        wire: &mut W,
+    ) -> Result<Turn, RelayFault>
+        requires { KeepsUndelivered (seen state.now.plan state.now.events) tape.now }
+        ensures turn { WriteTurn (seen state.now.plan state.now.events) tape.now self.old self.new (W.past wire.old) (W.past wire.new) result }
+
+        // A side that failed keeps its fault, and answers it again.
+        ensures faulted { IfSome self.old.fault (λ fault. result ≡ Err fault) }
+        ensures keeps { IfErr result (λ fault. self.new.fault ≡ Some fault) }
+    {
+        if let Some(fault) = self.fault {
+            return Err(fault);
+        }
+        let _ = state.trace();
+        let may = state.sendable().done;
+        let next = match decide(state, &self.writer, self.framing, self.stage) {
+            Some(next) => next,
+            None => {
+                self.fault = Some(RelayFault::Length);
+                return Err(RelayFault::Length);
+            }
+        };
+        let wrote = self.writer.write(&next, tape, wire);
+        match wrote.answer {
+            Some(Put::Fault) => {
+                self.fault = Some(RelayFault::Device);
+                Err(RelayFault::Device)
+            }
+            Some(Put::Wait) => Ok(turn_of(0, false, false)),
+            Some(Put::Took(_)) => {
+                self.touched = true;
+                let done = self.settle(wrote.sent, wrote.ended, may);
+                self.let_go();
+                Ok(turn_of(wrote.sent, done, true))
+            }
+            None => {
+                let done = self.settle(0, wrote.ended, may);
+                Ok(turn_of(0, done, false))
+            }
+        }
+    }
+}

@@ -1,0 +1,63 @@
+//! What holds of every message that was given by turns.
+
+ghost use Rattle.std.specs.Prelude.{◌≡◌, List, ℕ, [], ◌∷◌, ◌++◌, ◌≤◌, IfSome, length, take, false};
+ghost use Rattle.trace_core.specs.declared.history.Seen.{Seen};
+ghost use Rattle.trace_core.specs.declared.history.Plan.{Plan};
+ghost use Rattle.trace_core.specs.declared.history.Event.{Event};
+ghost use Rattle.trace_core.specs.History.{seen};
+ghost use Rattle.trace_core.specs.Legal.{IsLegal};
+ghost use Rattle.chunk_writer.specs.Cut.{IsPrefixOf};
+ghost use Rattle.chunk_writer.specs.Writer.{waiting};
+ghost use Rattle.http_side.specs.Refusals.{refusal};
+ghost use Rattle.http_relay.specs.declared.hop.Stage.TheVariants as at;
+ghost use Rattle.trace_core.specs.Turns.{is_of_hop};
+ghost use Rattle.http_relay.specs.Message.{IsFrontOfMessage, IsMessage, length_of};
+ghost use Rattle.adapt_sides.specs.Tapes.{chosen_delivered, chosen_received};
+ghost use Rattle.http_relay.specs.Giving.{Hop, HasGiven, IsAside, IsUndelivered};
+
+/// What the next hop took is a front of one message with the head that was begun, whose body begins with what came of it;
+/// where the framing gives a length, as long as no more came, and else with what went out. Once the message's end is fixed
+/// the body is the whole one, and where nothing waits what was taken is that message.
+pub fn given_is_a_front()
+    ensures front { (x : Seen) (head body taken : List ℕ) (h : Hop) → h.stage ≡ at.Message → length body ≡ chosen_received x
+        → IfSome (length_of h.framing) (λ n. chosen_received x ≤ n)
+        → HasGiven x head body taken h → IsFrontOfMessage h.framing head body taken }
+    ensures delivered { (x : Seen) (head body taken : List ℕ) (h : Hop) → h.stage ≡ at.Message → length body ≡ chosen_received x
+        → HasGiven x head body taken h → IsFrontOfMessage h.framing head (take (chosen_delivered x) body) taken }
+    ensures fixed { (x : Seen) (head body taken : List ℕ) (h : Hop) → h.stage ≡ at.Whole → length body ≡ chosen_received x
+        → HasGiven x head body taken h → IsFrontOfMessage h.framing head body taken }
+    ensures whole { (x : Seen) (head body taken : List ℕ) (h : Hop) → h.stage ≡ at.Whole → length body ≡ chosen_received x
+        → HasGiven x head body taken h → waiting h.writer ≡ [] → IsMessage h.framing head body taken }
+    ensures empty { (x : Seen) (head body taken : List ℕ) (h : Hop) → h.stage ≡ at.Empty
+        → HasGiven x head body taken h → taken ≡ [] }
+{}
+
+/// Where a refusal is written, what was taken is a front of it alone, and all of it once nothing waits; no message was given.
+pub fn refusal_goes_alone()
+    ensures front { (status : ℕ) (taken : List ℕ) (h : Hop) → h.stage ≡ at.Refusal status
+        → IsAside taken h → IsPrefixOf taken (refusal status) }
+    ensures whole { (status : ℕ) (taken : List ℕ) (h : Hop) → h.stage ≡ at.Refusal status
+        → IsAside taken h → waiting h.writer ≡ [] → taken ≡ refusal status }
+    ensures no_message { (status : ℕ) (x : Seen) (head body taken : List ℕ) (h : Hop) → h.stage ≡ at.Refusal status
+        → HasGiven x head body taken h → ⊥ }
+{}
+
+/// Before a message is begun nothing was taken of one, and that is all that is known: it may still be any message. Where no
+/// byte went out, none of a body did.
+pub fn nothing_before_the_message()
+    ensures given { (x : Seen) (head body taken : List ℕ) (h : Hop) → h.stage ≡ at.Empty
+        → IsAside taken h → IsUndelivered x → HasGiven x head body taken h }
+    ensures aside { (x : Seen) (head body taken : List ℕ) (h : Hop) → h.stage ≡ at.Empty
+        → HasGiven x head body taken h → IsAside taken h }
+    ensures untouched { (x : Seen) (head body taken : List ℕ) (h : Hop) → h.touched ≡ false
+        → HasGiven x head body taken h → (taken ≡ []) × IsUndelivered x }
+    ensures untouched_aside { (taken : List ℕ) (h : Hop) → h.touched ≡ false → IsAside taken h → taken ≡ [] }
+{}
+
+/// The other sides' events leave what was given as it is, the choice of the message among them. Body bytes that come of the
+/// chosen message stand behind those that came.
+pub fn other_events_keep_what_was_given()
+    ensures { (plan : Plan) (events : List Event) (event : Event) (head body more taken : List ℕ) (h : Hop) → IsLegal plan (event ∷ events)
+        → is_of_hop event ≡ false → length body ≡ chosen_received (seen plan events)
+        → HasGiven (seen plan events) head body taken h → HasGiven (seen plan (event ∷ events)) head (body ++ more) taken h }
+{}

@@ -1,0 +1,15 @@
+//! The HTTP ends of a transaction: the source's message in, the next hop's message out (RFC 9112, sections 6 and 7).
+#![tactic(auto)]
+
+mod body;
+mod due;
+mod hop;
+pub mod laws;
+mod pieces;
+mod side;
+mod source_body;
+mod traits;
+
+pub use adapt_sides::{RelayFault, Turn};
+pub use hop::{NextHop, Stage};
+pub use side::{Asks, SourceHead, SourceSide};

@@ -1,0 +1,521 @@
+//! The source's side: a message's head, and its body, over a wire.
+
+ghost use Rattle.std.specs.Prelude.{◌≡◌, ◌<◌, ◌≤◌, [], length, take, IfOk, IfErr, OnErr, None, true, false, List, ℕ, ◌↔◌, IsTrue, IfSome, Some, Err, option_copied};
+ghost use Rattle.trace_core.specs.Turns.{in_sum};
+ghost use Rattle.http_relay.specs.Source.{Agrees, MustWait, Refuses};
+ghost use Rattle.adapt_sides.specs.Turns.{ReadsBody};
+ghost use Rattle.http_relay.specs.Reading.{AtHead, GivesBack, HeadTurn, request_of, response_of, JudgedTo, ScannedTo, SideRead, SideReads, Rests, IsFilled, ReadTurn};
+ghost use Rattle.trace_core.specs.declared.history.Seen.{Seen};
+ghost use Rattle.wire_kit.specs.Past.{Past};
+
+use crate::pieces::behind;
+use crate::source_body::SourceBody;
+use adapt_sides::{RelayFault, Turn};
+use arrayvec::ArrayVec;
+use bytes::BytesMut;
+use http_side::{Framing, HttpFault, HttpRequest, HttpResponse, read_request, read_response};
+use std::alloc::Global;
+use trace_core::{Event, Plan};
+use wire_kit::{Got, Wire};
+
+/// The most bytes that are kept without being framed.
+const MAX_RAW: usize = 16_384;
+
+/// The most bytes of one read.
+const MAX_READ: usize = 4096;
+
+/// Which messages come: requests, or responses, to HEAD or to another request.
+#[derive(Clone, Copy, Debug, PartialEq, Eq)]
+pub enum Asks {
+    Request,
+    Response(bool),
+}
+
+/// The head of the message, once it was read.
+#[derive(Drop)]
+pub enum SourceHead {
+    Unread,
+    Request(HttpRequest),
+    Response(HttpResponse),
+}
+
+/// What judging the raw bytes gave.
+#[derive(Clone, Copy, Debug, PartialEq, Eq)]
+pub(crate) enum Judged {
+    /// A head isn't there yet.
+    More,
+    /// An interim response was dropped.
+    Interim,
+    /// The message's head was taken.
+    Taken,
+}
+
+/// What a read gave.
+#[derive(Clone, Copy, Debug, PartialEq, Eq)]
+pub(crate) enum Filled {
+    /// Bytes came.
+    Bytes,
+    /// The other side has ended its bytes.
+    Ended,
+    /// Nothing now.
+    Wait,
+    /// The connection failed.
+    Failed,
+    /// There was no memory for bytes.
+    NoMemory,
+}
+
+/// Reads once behind the raw bytes.
+fn fill<W: Wire>(raw: &mut BytesMut, wire: &mut W) -> Filled
+    requires { length raw.old.items < 16384 }
+    ensures filled { IsFilled (W.past wire.old) (W.past wire.new) raw.old.items raw.new.items result }
+    ensures fits { length raw.new.items ≤ 16384 }
+{
+    let most = (MAX_RAW - raw.len()).min(MAX_READ);
+    if raw.reserve(most).is_err() {
+        return Filled::NoMemory;
+    }
+    let mut buf = [0; 4096];
+    match wire.try_read(&mut buf[..most]) {
+        Got::Bytes(n) => {
+            raw.extend_reserved(&buf[..n]);
+            Filled::Bytes
+        }
+        Got::Ended => Filled::Ended,
+        Got::Wait => Filled::Wait,
+        Got::Fault => Filled::Failed,
+    }
+}
+
+/// Whether a line ends in the bytes.
+fn has_line(bytes: &[u8]) -> bool {
+    for byte in bytes {
+        if *byte == b'\n' {
+            return true;
+        }
+    }
+    false
+}
+
+/// A message's source.
+#[derive(Drop)]
+pub struct SourceSide {
+    alloc: Global,
+    asks: Asks,
+    head: SourceHead,
+    head_fault: Option<HttpFault>,
+    body: SourceBody,
+    raw: BytesMut,
+    judged: usize,
+    fault: Option<RelayFault>,
+}
+
+impl SourceSide {
+    /// Frames what may be framed of the raw bytes of the body.
+    fn frame_raw(&mut self, out: &mut [u8]) -> Result<ArrayVec<Event, 4>, RelayFault>
+        ensures room { IfOk result (λ events. in_sum events.items ≤ length out.old) }
+        ensures reads { IfOk result (λ events. SideReads self.old self.new events.items [] (take (in_sum events.items) out.new)) }
+        ensures waits { IfOk result (λ events. events.items ≡ [] → MustWait self.new.body self.new.raw.items (length out.old)) }
+        ensures refuses { IfErr result (λ fault. Refuses fault self.old.body self.old.raw.items) }
+        ensures err { OnErr result (self.new ≡ self.old) }
+        ensures fault { self.new.fault ≡ self.old.fault }
+        ensures head { self.new.head ≡ self.old.head }
+    {
+        match self.body.frame(self.raw.as_slice(), out) {
+            Ok(framed) => {
+                self.raw.advance(framed.used);
+                Ok(framed.events)
+            }
+            Err(fault) => Err(fault),
+        }
+    }
+
+    /// Reads the wire once, and frames what came.
+    fn read_wire<W: Wire>(&mut self, wire: &mut W, out: &mut [u8]) -> Result<Turn, RelayFault>
+        requires empty { self.old.raw.items ≡ [] }
+        requires going_on { self.old.body.ended ≡ false }
+        ensures turn { ReadTurn (length out.old) self.old self.new (W.past wire.old) (W.past wire.new) out.new result }
+        ensures fault { self.new.fault ≡ self.old.fault }
+        ensures head { self.new.head ≡ self.old.head }
+    {
+        match fill(&mut self.raw, wire) {
+            Filled::Bytes => match self.frame_raw(out) {
+                Ok(events) => Ok(Turn {
+                    events,
+                    waiting: false,
+                }),
+                Err(fault) => Err(fault),
+            },
+            Filled::Wait => Ok(Turn {
+                events: ArrayVec::new(),
+                waiting: true,
+            }),
+            Filled::Ended => match self.body.close() {
+                Ok(events) => Ok(Turn {
+                    events,
+                    waiting: false,
+                }),
+                Err(fault) => Err(fault),
+            },
+            Filled::Failed => Err(RelayFault::Device),
+            Filled::NoMemory => Err(RelayFault::NoMemory),
+        }
+    }
+
+    /// Frames the raw bytes, and reads the wire once where nothing of them can be framed and there is room.
+    fn frame_or_read<W: Wire>(&mut self, wire: &mut W, out: &mut [u8]) -> Result<Turn, RelayFault>
+        ensures turn { ReadTurn (length out.old) self.old self.new (W.past wire.old) (W.past wire.new) out.new result }
+        ensures fault { self.new.fault ≡ self.old.fault }
+        ensures head { self.new.head ≡ self.old.head }
+    {
+        let events = match self.frame_raw(out) {
+            Ok(events) => events,
+            Err(fault) => return Err(fault),
+        };
+        if !events.as_slice().is_empty() {
+            return Ok(Turn {
+                events,
+                waiting: false,
+            });
+        }
+        if self.body.has_ended() || out.is_empty() {
+            return Ok(Turn {
+                events,
+                waiting: true,
+            });
+        }
+        self.read_wire(wire, out)
+    }
+
+    /// The same, and keeps no empty room.
+    fn try_turn<W: Wire>(&mut self, wire: &mut W, out: &mut [u8]) -> Result<Turn, RelayFault>
+        ensures turn { ReadTurn (length out.old) self.old self.new (W.past wire.old) (W.past wire.new) out.new result }
+        ensures fault { self.new.fault ≡ self.old.fault }
+        ensures head { self.new.head ≡ self.old.head }
+        ensures empty { self.new.raw.items ≡ [] → self.new.raw.spare ≡ 0 }
+    {
+        let result = self.frame_or_read(wire, out);
+        self.give_back();
+        result
+    }
+
+    /// Reads the message's body. The raw bytes come first; the wire is read once at most, where none of them can be framed and
+    /// there is room. The bytes of the body go to the front of `out`, as many as the events say, and the caller steps the events.
+    ///
+    /// A fault stays: every later turn answers it again.
+    pub fn read_turn<W: Wire>(&mut self, wire: &mut W, out: &mut [u8]) -> Result<Turn, RelayFault>
+        ensures source { ReadsBody (λ x body read. SideRead x body read self.old) (λ x body read. SideRead x body read self.new)
+            (λ x. Agrees x self.old.body) (λ x. Agrees x self.new.body) self.old.fault self.new.fault (Rests (length out.old) self.new) (W.past wire.old) (W.past wire.new) out.new result }
+        ensures turn { self.old.fault ≡ None → ReadTurn (length out.old) self.old self.new (W.past wire.old) (W.past wire.new) out.new result }
+        ensures head { self.new.head ≡ self.old.head }
+
+        // No empty room is kept.
+        ensures empty { self.old.fault ≡ None → self.new.raw.items ≡ [] → self.new.raw.spare ≡ 0 }
+    {
+        if let Some(fault) = self.fault {
+            return Err(fault);
+        }
+        match self.try_turn(wire, out) {
+            Ok(turn) => Ok(turn),
+            Err(fault) => {
+                self.fault = Some(fault);
+                Err(fault)
+            }
+        }
+    }
+
+    /// A source of requests, before the first byte.
+    pub fn request(alloc: Global) -> SourceSide
+        ensures begins { AtHead [] result }
+        ensures fault { result.fault ≡ None }
+        ensures asks { result.asks ≡ Asks.Request }
+    {
+        SourceSide::fresh(alloc, Asks::Request, BytesMut::new(alloc))
+    }
+
+    /// A source of one response, to HEAD or to another request, before the first byte.
+    pub fn response(alloc: Global, to_head: bool) -> SourceSide
+        ensures begins { AtHead [] result }
+        ensures fault { result.fault ≡ None }
+        ensures asks { result.asks ≡ Asks.Response to_head }
+    {
+        SourceSide::fresh(alloc, Asks::Response(to_head), BytesMut::new(alloc))
+    }
+
+    fn fresh(alloc: Global, asks: Asks, raw: BytesMut) -> SourceSide
+        ensures begins { AtHead raw.items result }
+        ensures fault { result.fault ≡ None }
+        ensures asks { result.asks ≡ asks }
+        ensures raw { result.raw.items ≡ raw.items }
+    {
+        SourceSide {
+            alloc,
+            asks,
+            head: SourceHead::Unread,
+            head_fault: None,
+            body: SourceBody::idle(),
+            raw,
+            judged: 0,
+            fault: None,
+        }
+    }
+
+    /// Whether the message was read to its end.
+    pub fn ended(&self) -> bool
+        ensures { IsTrue result ↔ ((self.now.body.ended ≡ true) × (self.now.head ≡ SourceHead.Unread → ⊥)) }
+    {
+        !self.is_unread() && self.body.has_ended()
+    }
+
+    /// The side of the next message on the same connection: the raw bytes left over are its first.
+    pub fn next(&mut self)
+        requires over { self.old.body.ended ≡ true }
+        requires read { self.old.head ≡ SourceHead.Unread → ⊥ }
+        ensures begins { AtHead self.old.raw.items self.new }
+        ensures asks { self.new.asks ≡ self.old.asks }
+        ensures fault { self.new.fault ≡ None }
+        ensures head_fault { self.new.head_fault ≡ None }
+    {
+        self.head = SourceHead::Unread;
+        self.head_fault = None;
+        self.body = SourceBody::idle();
+        self.judged = 0;
+        self.fault = None;
+    }
+
+    /// The request's head, once it was read.
+    pub fn request_head(&self) -> Option<&HttpRequest>
+        ensures { option_copied result ≡ request_of self.now.head }
+    {
+        match &self.head {
+            SourceHead::Request(head) => Some(head),
+            _ => None,
+        }
+    }
+
+    /// The response's head, once it was read.
+    pub fn response_head(&self) -> Option<&HttpResponse>
+        ensures { option_copied result ≡ response_of self.now.head }
+    {
+        match &self.head {
+            SourceHead::Response(head) => Some(head),
+            _ => None,
+        }
+    }
+
+    /// How the message's body is framed; none before its head was read.
+    pub fn framing(&self) -> Framing
+        ensures { result ≡ self.now.body.framing }
+    {
+        self.body.framing()
+    }
+
+    /// The fault that each turn answers, if there is one.
+    pub fn fault(&self) -> Option<RelayFault>
+        ensures { result ≡ self.now.fault }
+    {
+        self.fault
+    }
+
+    /// Whether a byte of the message was read: of its head, or of an interim response before it that isn't whole.
+    pub fn has_begun(&self) -> bool
+        ensures { result ≡ false → (self.now.head ≡ SourceHead.Unread) × (self.now.raw.items ≡ []) }
+    {
+        !self.is_unread() || !self.raw.is_empty()
+    }
+
+    /// Whether a transaction with this plan may begin: the head was read, nothing of the body was told, and a length that the
+    /// plan knows is the framing's.
+    pub fn begins(&self, plan: &Plan) -> bool
+        ensures read { result ≡ true → self.now.head ≡ SourceHead.Unread → ⊥ }
+        ensures fault { result ≡ true → self.now.fault ≡ None }
+        ensures agrees { result ≡ true → (x : Seen) → x.plan ≡ plan.now → x.received ≡ 0 → x.ended ≡ false → Agrees x self.now.body }
+    {
+        !self.is_unread() && self.fault.is_none() && self.body.begins(plan.len)
+    }
+
+    /// Why the head is refused, where a turn answered Head. None behind Head is 101.
+    pub fn head_fault(&self) -> Option<HttpFault>
+        ensures { result ≡ self.now.head_fault }
+    {
+        self.head_fault
+    }
+
+    /// Whether the raw bytes are to be judged: a line has ended since they were last, or there is no room for more.
+    fn is_due(&self) -> bool
+        ensures { result ≡ false → length self.now.raw.items < 16384 }
+    {
+        let raw = self.raw.as_slice();
+        raw.len() >= MAX_RAW || has_line(behind(raw, self.judged.min(raw.len())))
+    }
+
+    /// Judges the raw bytes.
+    fn judge(&mut self) -> Result<Judged, RelayFault>
+        requires { self.old.head ≡ SourceHead.Unread }
+        ensures heads { (read : List ℕ) → AtHead read self.old → JudgedTo result read self.new }
+        ensures short { IfOk result (λ judged. judged ≡ Judged.More → length self.new.raw.items < 16384) }
+        ensures shrinks { IfOk result (λ judged. judged ≡ Judged.Interim → length self.new.raw.items < length self.old.raw.items) }
+        ensures unread { IfOk result (λ judged. (judged ≡ Judged.Taken → ⊥) → self.new.head ≡ SourceHead.Unread) }
+        ensures fault { self.new.fault ≡ self.old.fault }
+        ensures refused { IfErr result (λ fault. fault ≡ RelayFault.Head) }
+    {
+        if !self.is_due() {
+            return Ok(Judged::More);
+        }
+        match self.asks {
+            Asks::Request => self.judge_request(),
+            Asks::Response(to_head) => self.judge_response(to_head),
+        }
+    }
+
+    fn judge_request(&mut self) -> Result<Judged, RelayFault>
+        requires unread { self.old.head ≡ SourceHead.Unread }
+        requires asks { self.old.asks ≡ Asks.Request }
+        ensures heads { (read : List ℕ) → AtHead read self.old → JudgedTo result read self.new }
+        ensures short { IfOk result (λ judged. judged ≡ Judged.More → length self.new.raw.items < 16384) }
+        ensures unread { IfOk result (λ judged. (judged ≡ Judged.Taken → ⊥) → self.new.head ≡ SourceHead.Unread) }
+        ensures never { IfOk result (λ judged. judged ≡ Judged.Interim → ⊥) }
+        ensures fault { self.new.fault ≡ self.old.fault }
+        ensures refused { IfErr result (λ fault. fault ≡ RelayFault.Head) }
+    {
+        match read_request(self.alloc, self.raw.as_slice(), false) {
+            Ok(head) => {
+                self.raw.advance(head.length);
+                self.body = SourceBody::new(head.value.framing());
+                self.head = SourceHead::Request(head.value);
+                Ok(Judged::Taken)
+            }
+            Err(HttpFault::More) => {
+                self.judged = self.raw.len();
+                Ok(Judged::More)
+            }
+            Err(fault) => {
+                self.head_fault = Some(fault);
+                Err(RelayFault::Head)
+            }
+        }
+    }
+
+    fn judge_response(&mut self, to_head: bool) -> Result<Judged, RelayFault>
+        requires unread { self.old.head ≡ SourceHead.Unread }
+        requires asks { self.old.asks ≡ Asks.Response to_head }
+        ensures heads { (read : List ℕ) → AtHead read self.old → JudgedTo result read self.new }
+        ensures short { IfOk result (λ judged. judged ≡ Judged.More → length self.new.raw.items < 16384) }
+        ensures shrinks { IfOk result (λ judged. judged ≡ Judged.Interim → length self.new.raw.items < length self.old.raw.items) }
+        ensures unread { IfOk result (λ judged. (judged ≡ Judged.Taken → ⊥) → self.new.head ≡ SourceHead.Unread) }
+        ensures fault { self.new.fault ≡ self.old.fault }
+        ensures refused { IfErr result (λ fault. fault ≡ RelayFault.Head) }
+    {
+        match read_response(self.alloc, self.raw.as_slice(), to_head) {
+            Ok(head) => {
+                let status = head.value.status();
+                if status == 101 || head.length == 0 {
+                    return Err(RelayFault::Head);
+                }
+                self.raw.advance(head.length);
+                if 100 <= status && status <= 199 {
+                    self.judged = 0;
+                    return Ok(Judged::Interim);
+                }
+                self.body = SourceBody::new(head.value.framing());
+                self.head = SourceHead::Response(head.value);
+                Ok(Judged::Taken)
+            }
+            Err(HttpFault::More) => {
+                self.judged = self.raw.len();
+                Ok(Judged::More)
+            }
+            Err(fault) => {
+                self.head_fault = Some(fault);
+                Err(RelayFault::Head)
+            }
+        }
+    }
+
+    /// Judges the raw bytes, and drops interim responses.
+    fn scan(&mut self) -> Result<bool, RelayFault>
+        requires { self.old.head ≡ SourceHead.Unread }
+        ensures heads { (read : List ℕ) → AtHead read self.old → ScannedTo result read self.new }
+        ensures short { IfOk result (λ found. found ≡ false → length self.new.raw.items < 16384) }
+        ensures unread { IfOk result (λ found. found ≡ false → self.new.head ≡ SourceHead.Unread) }
+        ensures fault { self.new.fault ≡ self.old.fault }
+        ensures refused { IfErr result (λ fault. fault ≡ RelayFault.Head) }
+    {
+        loop {
+            match self.judge() {
+                Ok(Judged::More) => return Ok(false),
+                Ok(Judged::Taken) => return Ok(true),
+                Ok(Judged::Interim) => {}
+                Err(fault) => return Err(fault),
+            }
+        }
+    }
+
+    /// Judges the raw bytes, and reads the wire once where no head is there.
+    fn scan_or_read<W: Wire>(&mut self, wire: &mut W) -> Result<bool, RelayFault>
+        requires { self.old.head ≡ SourceHead.Unread }
+        ensures turn { HeadTurn self.old self.new (W.past wire.old) (W.past wire.new) result }
+    {
+        match self.scan() {
+            Ok(true) => return Ok(true),
+            Ok(false) => {}
+            Err(fault) => return Err(fault),
+        }
+        match fill(&mut self.raw, wire) {
+            Filled::Bytes => self.scan(),
+            Filled::Wait => Ok(false),
+            Filled::Ended => Err(RelayFault::Closed),
+            Filled::Failed => Err(RelayFault::Device),
+            Filled::NoMemory => Err(RelayFault::NoMemory),
+        }
+    }
+
+    /// The same, and keeps no empty room.
+    fn try_head<W: Wire>(&mut self, wire: &mut W) -> Result<bool, RelayFault>
+        requires { self.old.head ≡ SourceHead.Unread }
+        ensures turn { HeadTurn self.old self.new (W.past wire.old) (W.past wire.new) result }
+        ensures empty { self.new.raw.items ≡ [] → self.new.raw.spare ≡ 0 }
+    {
+        let result = self.scan_or_read(wire);
+        self.give_back();
+        result
+    }
+
+    /// Reads the message's head: true once it was read. The raw bytes come first, then the wire is read once at most.
+    /// Interim responses are dropped, and 101 is refused. A fault stays.
+    pub fn head_turn<W: Wire>(&mut self, wire: &mut W) -> Result<bool, RelayFault>
+        ensures turn { self.old.fault ≡ None → self.old.head ≡ SourceHead.Unread → HeadTurn self.old self.new (W.past wire.old) (W.past wire.new) result }
+        ensures empty { self.old.fault ≡ None → self.old.head ≡ SourceHead.Unread → self.new.raw.items ≡ [] → self.new.raw.spare ≡ 0 }
+        ensures stays { IfErr result (λ fault. self.new.fault ≡ Some fault) }
+        ensures faulted { IfSome self.old.fault (λ fault. (result ≡ Err fault) × (self.new ≡ self.old)) }
+    {
+        if let Some(fault) = self.fault {
+            return Err(fault);
+        }
+        if !self.is_unread() {
+            return Ok(true);
+        }
+        match self.try_head(wire) {
+            Ok(read) => Ok(read),
+            Err(fault) => {
+                self.fault = Some(fault);
+                Err(fault)
+            }
+        }
+    }
+
+    /// Gives back the room for raw bytes, where none is there.
+    fn give_back(&mut self)
+        ensures { GivesBack self.old self.new }
+    {
+        if self.raw.is_empty() {
+            self.raw = BytesMut::new(self.alloc);
+        }
+    }
+
+    fn is_unread(&self) -> bool
+        ensures { IsTrue result ↔ self.now.head ≡ SourceHead.Unread }
+    {
+        matches!(self.head, SourceHead::Unread)
+    }
+}

@@ -1,0 +1,172 @@
+//! A source's body: bytes in, In and End out, and nothing of wires.
+
+ghost use Rattle.std.specs.Prelude.{◌≡◌, ℕ, ◌+◌, ◌<◌, ◌≤◌, ◌↔◌, ◌⊎◌, List, [], length, take, drop, IfOk, IfErr, OnErr, IfSome, Some, true, false, IsTrue};
+ghost use Rattle.http_side.specs.Body.{HasRead, is_over, IsClosedBody};
+ghost use Rattle.trace_core.specs.Turns.{in_sum};
+ghost use Rattle.http_relay.specs.Events.{body_events};
+ghost use Rattle.http_relay.specs.Source.{Fits, BodyReads, MustWait, Refuses, known};
+ghost use Rattle.http_side.specs.declared.body.Framing.{Framing as Way};
+
+use crate::body::read_body;
+use adapt_sides::RelayFault;
+use arrayvec::ArrayVec;
+use http_side::{BodyReader, Framing};
+use trace_core::Event;
+
+/// The most body bytes that a message may have.
+const MAX_COUNT: u64 = (1 << 62) - 1;
+
+/// What was framed of the bytes that were offered: so many from the front, and what they tell.
+#[derive(Drop)]
+pub(crate) struct Framed {
+    pub(crate) used: usize,
+    pub(crate) events: ArrayVec<Event, 4>,
+}
+
+/// A source's body, as far as it was read and told.
+#[derive(Clone, Copy, Debug, PartialEq, Eq)]
+pub(crate) struct SourceBody {
+    framing: Framing,
+    reader: BodyReader,
+    received: u64,
+    ended: bool,
+}
+
+impl SourceBody {
+    pub(crate) fn new(framing: Framing) -> SourceBody
+        ensures framing { result.framing ≡ framing }
+        ensures reads { HasRead framing [] [] result.reader }
+        ensures received { result.received ≡ 0 }
+        ensures ended { result.ended ≡ false }
+    {
+        SourceBody {
+            framing,
+            reader: BodyReader::new(framing),
+            received: 0,
+            ended: false,
+        }
+    }
+
+    /// No body, before a head was read.
+    pub(crate) fn idle() -> SourceBody
+        ensures { result.ended ≡ true }
+    {
+        SourceBody {
+            framing: Framing::None,
+            reader: BodyReader::new(Framing::None),
+            received: 0,
+            ended: true,
+        }
+    }
+
+    /// Whether the body's end was told.
+    pub(crate) fn has_ended(&self) -> bool
+        ensures { result ≡ self.now.ended }
+    {
+        self.ended
+    }
+
+    /// How it is framed.
+    pub(crate) fn framing(&self) -> Framing
+        ensures { result ≡ self.now.framing }
+    {
+        self.framing
+    }
+
+    /// Whether nothing of it was told yet, and this length, if there is one, is the framing's.
+    pub(crate) fn begins(&self, len: Option<u64>) -> bool
+        ensures { result ≡ true → (self.now.received ≡ 0) × (self.now.ended ≡ false) × IfSome len (λ n. known self.now.framing ≡ Some n) }
+    {
+        if self.received != 0 || self.ended {
+            return false;
+        }
+        match (len, self.framing) {
+            (None, _) => true,
+            (Some(n), Framing::None) => n == 0,
+            (Some(n), Framing::Length(count)) => n == count,
+            (Some(_), Framing::Chunked | Framing::Close) => false,
+        }
+    }
+
+    /// Whether so many more bytes may be told, and then the end.
+    fn fits(&self, count: u64, ended: bool) -> bool
+        ensures { IsTrue result ↔ Fits self.now count ended }
+    {
+        if self.received > MAX_COUNT || count > MAX_COUNT - self.received {
+            return false;
+        }
+        let sum = self.received + count;
+        match self.framing {
+            Framing::None => sum == 0,
+            Framing::Length(len) => sum <= len && (!ended || sum == len),
+            Framing::Chunked | Framing::Close => true,
+        }
+    }
+
+    /// Frames what may be framed of the bytes. Those of the body go to the front of `out`, as many as the events say.
+    pub(crate) fn frame(&mut self, raw: &[u8], out: &mut [u8]) -> Result<Framed, RelayFault>
+        ensures within { IfOk result (λ framed. (framed.used ≤ length raw.now) × (in_sum framed.events.items ≤ length out.old)) }
+        ensures reads { IfOk result (λ framed. BodyReads self.old self.new framed.events.items (take framed.used raw.now) (take (in_sum framed.events.items) out.new)) }
+        ensures waits { IfOk result (λ framed. framed.events.items ≡ [] → MustWait self.new (drop framed.used raw.now) (length out.old)) }
+        ensures refuses { IfErr result (λ fault. Refuses fault self.old raw.now) }
+        ensures err { OnErr result (self.new ≡ self.old) }
+        ensures framing { self.new.framing ≡ self.old.framing }
+    {
+        if self.ended {
+            return Ok(Framed {
+                used: 0,
+                events: ArrayVec::new(),
+            });
+        }
+        let mut next = self.reader;
+        match read_body(&mut next, raw, out) {
+            Ok(copied) => {
+                if !self.fits(copied.count as u64, copied.ended) {
+                    return Err(RelayFault::Length);
+                }
+                self.reader = next;
+                self.received += copied.count as u64;
+                self.ended = copied.ended;
+                Ok(Framed {
+                    used: copied.used,
+                    events: body_events(copied.count, copied.ended),
+                })
+            }
+            Err(_) => Err(RelayFault::Chunk),
+        }
+    }
+
+    /// The connection was closed behind what was read.
+    pub(crate) fn close(&mut self) -> Result<ArrayVec<Event, 4>, RelayFault>
+        requires { self.old.ended ≡ false }
+        ensures none { IfOk result (λ events. in_sum events.items ≡ 0) }
+        ensures some { IfOk result (λ events. events.items ≡ body_events 0 true) }
+        ensures reads { IfOk result (λ events. BodyReads self.old self.new events.items [] []) }
+        ensures refuses { IfErr result (λ fault. Refuses fault self.old [] ⊎ ((fault ≡ RelayFault.Closed) × ((way : Way) (text body : List ℕ) → HasRead way text body self.old.reader → IsClosedBody way text body → ⊥))) }
+        ensures err { OnErr result (self.new ≡ self.old) }
+        ensures framing { self.new.framing ≡ self.old.framing }
+    {
+        if !self.reader.at_close() {
+            return Err(RelayFault::Closed);
+        }
+        if !self.fits(0, true) {
+            return Err(RelayFault::Length);
+        }
+        self.ended = true;
+        Ok(body_events(0, true))
+    }
+}
+
+/// The events of so many bytes of the body, and of its end.
+fn body_events(count: usize, ended: bool) -> ArrayVec<Event, 4>
+    ensures { result.items ≡ body_events count ended }
+{
+    let mut events = ArrayVec::new();
+    if count > 0 {
+        let _ = events.try_push(Event::In(count as u64));
+    }
+    if ended {
+        let _ = events.try_push(Event::End);
+    }
+    events
+}

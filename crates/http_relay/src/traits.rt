@@ -1,0 +1,113 @@
+//! Both sides as a transaction asks for them.
+
+use crate::hop::NextHop;
+use crate::side::{SourceHead, SourceSide};
+use adapt_sides::{Hop, RelayFault, Source, Turn};
+use http_side::Framing;
+use span_tape::SpanTape;
+use trace_core::State;
+use wire_kit::Wire;
+
+impl Source for SourceSide {
+    ghost use Rattle.http_relay.specs.Source.{Agrees};
+    ghost use Rattle.http_relay.specs.Reading.{SideRead, Rests};
+    ghost use Rattle.http_relay.specs.SourceLaws as laws;
+
+    type Head = SourceHead;
+
+    ghost head = { λ s. s.head };
+
+    ghost fault = { λ s. s.fault };
+
+    ghost has_read = { SideRead };
+
+    ghost agrees = { λ x s. Agrees x s.body };
+
+    ghost rests = { Rests };
+
+    ghost others = { laws.others };
+
+    ghost others_agree = { laws.others_agree };
+
+    ghost rests_where = { laws.rests_where };
+
+    fn read_turn<W: Wire>(&mut self, wire: &mut W, out: &mut [u8]) -> Result<Turn, RelayFault> {
+        SourceSide::read_turn(self, wire, out)
+    }
+}
+
+impl Hop for NextHop {
+    ghost use Rattle.std.specs.Prelude.{not};
+    ghost use Rattle.http_relay.specs.Message.{IsMessage};
+    ghost use Rattle.http_relay.specs.Giving.{HasGiven, IsAside, NothingDue, gift_of, is_flushed};
+    ghost use Rattle.http_relay.specs.HopLaws as laws;
+
+    type Framing = Framing;
+
+    ghost gift = { λ h. gift_of h.stage };
+
+    ghost body_framing = { λ h. h.framing };
+
+    ghost fault = { λ h. h.fault };
+
+    ghost has_given = { HasGiven };
+
+    ghost aside = { IsAside };
+
+    ghost is_whole = { λ head body taken h. IsMessage h.framing head body taken };
+
+    ghost rests = { NothingDue };
+
+    ghost untouched = { λ h. not h.touched };
+
+    ghost is_out = { is_flushed };
+
+    ghost others = { laws.others };
+
+    ghost idle_given = { laws.idle_given };
+
+    ghost idle_aside = { laws.idle_aside };
+
+    ghost begun = { laws.begun };
+
+    ghost refused = { laws.refused };
+
+    ghost untouched_given = { laws.untouched_given };
+
+    ghost untouched_aside = { laws.untouched_aside };
+
+    ghost rests_where = { laws.rests_where };
+
+    fn untouched(&self) -> bool {
+        NextHop::untouched(self)
+    }
+
+    fn is_out(&self) -> bool {
+        NextHop::is_out(self)
+    }
+
+    fn is_idle(&self) -> bool {
+        NextHop::is_idle(self)
+    }
+
+    fn fault(&self) -> Option<RelayFault> {
+        NextHop::fault(self)
+    }
+
+    fn begin(&mut self, head: Vec<u8>, framing: Framing) {
+        NextHop::begin(self, head, framing);
+    }
+
+    fn refuse(&mut self, status: u16) {
+        NextHop::refuse(self, status);
+    }
+
+    fn write_turn<W: Wire>(
+        &mut self,
+        state: &State,
+        tape: &SpanTape,
+        wire: &mut W,
+    ) -> Result<Turn, RelayFault> {
+        NextHop::write_turn(self, state, tape, wire)
+    }
+}
