@@ -11,17 +11,20 @@ ghost use Rattle.http_side.specs.declared.body.BodyReader.{BodyReader as Reader}
 
 use icap_chunks::{ChunkFault, ChunkReader, Fed};
 
-/// Where a body ends.
+/// Where a body ends (RFC 9112, section 6.3).
 #[derive(Clone, Copy, Debug, PartialEq, Eq)]
 pub enum Framing {
+    /// There is none.
     None,
+    /// After so many bytes.
     Length(u64),
+    /// With its last chunk and the trailers behind it (RFC 9112, section 7.1).
     Chunked,
     /// With the connection; in responses alone.
     Close,
 }
 
-/// A reader of one body, fed in any pieces.
+/// A reader of one body, fed in any pieces. It keeps numbers alone, and takes no memory.
 #[derive(Clone, Copy, Debug, PartialEq, Eq)]
 pub struct BodyReader {
     place: Place,
@@ -38,6 +41,7 @@ enum Place {
 }
 
 impl BodyReader {
+    /// A reader of a body with this framing, none of which has been read.
     pub fn new(framing: Framing) -> BodyReader
         ensures { HasRead framing [] [] result }
     {
@@ -50,7 +54,8 @@ impl BodyReader {
         BodyReader { place }
     }
 
-    /// Reads on in the piece, up to the end of a run of body bytes, of the body or of the piece.
+    /// Reads on in the piece, up to the end of a run of body bytes, of the body or of the piece. It never uses a byte behind
+    /// the body's end. After a fault, which only chunks can have, every feed answers it again.
     pub fn feed(&mut self, piece: &[u8]) -> Result<Fed, ChunkFault>
         ensures within { IfOk result (λ fed. (fed.part.0 ≤ fed.part.1) × (fed.part.1 ≤ fed.used) × (fed.used ≤ length piece.now)) }
 

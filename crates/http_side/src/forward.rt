@@ -16,7 +16,9 @@ use std::alloc::{AllocError, Global};
 /// A head that goes on: a request to an origin, or a response to the user.
 #[derive(Clone, Copy, Debug)]
 pub enum Message<'a> {
+    /// A request, the user's or an adapted one.
     Request(&'a HttpRequest),
+    /// A response, an origin's or an adapted one.
     Response(&'a HttpResponse),
 }
 
@@ -36,7 +38,9 @@ pub enum Part {
 pub struct Forward<'u, 'm> {
     /// The user's own request: its target names the origin, and its version and Connection say what the user can take.
     pub user: &'u HttpRequest,
+    /// What goes on.
     pub message: Message<'m>,
+    /// What follows its head.
     pub part: Part,
     /// Whether the body of the user's request has been read to its end.
     pub body_read: bool,
