@@ -7,6 +7,7 @@ mod contract;
 mod decide;
 pub mod laws;
 mod lists;
+mod options;
 mod reader;
 mod replies;
 mod request;
@@ -15,6 +16,7 @@ mod service;
 mod side;
 mod stage;
 
+pub use options::{OptionsSide, OptionsStage};
 pub use reader::{Heard, ReplyReader};
 pub use service::ServiceSide;
 pub use side::ReplySide;

@@ -413,7 +413,7 @@ impl ReplyReader {
 }
 
 /// The fault of a text that has no ICAP head at its front; none where it may still become one.
-fn refusal(fault: HeadFault) -> Option<ClientFault>
+pub(crate) fn refusal(fault: HeadFault) -> Option<ClientFault>
     ensures some { IfSome result (λ found. ((fault ≡ HeadFault.NoMemory) × (found ≡ ClientFault.NoMemory))
         ⊎ ((found ≡ ClientFault.Head) × (fault ≢ HeadFault.NoMemory) × (fault ≢ HeadFault.More))) }
     ensures none { IfNone result (fault ≡ HeadFault.More) }

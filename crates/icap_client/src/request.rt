@@ -4,6 +4,7 @@ ghost use Rattle.std.specs.Prelude.{◌≡◌, ◌+◌, ◌<◌, ◌^◌, ◌++�
 ghost use Rattle.adapt_bytes.specs.Numeral.{numeral};
 ghost use Rattle.icap_client.specs.RequestHead.{joined, start_pieces, host_pieces, allow_pieces, preview_pieces, body_name, list_pieces, head_pieces, request_head};
 ghost use Rattle.icap_client.specs.RequestText.{is_null};
+ghost use Rattle.icap_client.specs.Asking.{options_pieces, options_request};
 
 use adapt_bytes::{Small, put_decimal};
 use arrayvec::ArrayVec;
@@ -38,6 +39,36 @@ pub(crate) fn request_head(
     )?;
     put_heads(&mut out, plan.point, req, res)?;
     Ok(out)
+}
+
+/// The text of an OPTIONS request to the service there.
+pub(crate) fn options_request(
+    alloc: Global,
+    host: &[u8],
+    port: u16,
+    path: &[u8],
+) -> Result<Vec<u8>, AllocError>
+    ensures { IfOk result (λ text. text.items ≡ options_request host.now port path.now) }
+{
+    let mut out = Vec::new(alloc);
+    put_asking(&mut out, host, port, path)?;
+    put_host(&mut out, host, port)?;
+    put(&mut out, b"Encapsulated: null-body=0")?;
+    put(&mut out, b"\r\n")?;
+    put(&mut out, b"\r\n")?;
+    Ok(out)
+}
+
+fn put_asking(out: &mut Vec<u8>, host: &[u8], port: u16, path: &[u8]) -> Result<(), AllocError>
+    ensures { OnOk result (out.new.items ≡ joined (options_pieces host.now port path.now) out.old.items) }
+{
+    put(out, b"OPTIONS icap://")?;
+    put(out, host)?;
+    put(out, b":")?;
+    put_number(out, u64::from(port))?;
+    put(out, path)?;
+    put(out, b" ICAP/1.0")?;
+    put(out, b"\r\n")
 }
 
 fn put(out: &mut Vec<u8>, text: &[u8]) -> Result<(), AllocError>

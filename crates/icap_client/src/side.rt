@@ -22,14 +22,14 @@ use trace_core::{Event, Kind, Point, State};
 use wire_kit::{Got, Wire};
 
 /// The most bytes that are kept without being framed.
-const MAX_RAW: usize = 16_384;
+pub(crate) const MAX_RAW: usize = 16_384;
 
 /// The most bytes of one read.
 const MAX_READ: usize = 4096;
 
 /// What a read gave.
 #[derive(Clone, Copy, Debug, PartialEq, Eq)]
-pub enum Filled {
+pub(crate) enum Filled {
     /// Bytes came.
     Bytes,
     /// The service has ended its bytes.
@@ -43,7 +43,7 @@ pub enum Filled {
 }
 
 /// Reads once behind the raw bytes.
-fn fill<W: Wire>(raw: &mut BytesMut, wire: &mut W) -> Filled
+pub(crate) fn fill<W: Wire>(raw: &mut BytesMut, wire: &mut W) -> Filled
     requires { length raw.old.items < 16384 }
     ensures filled { IsFilled (W.past wire.old) (W.past wire.new) raw.old.items raw.new.items result }
     ensures fits { length raw.new.items ≤ 16384 }

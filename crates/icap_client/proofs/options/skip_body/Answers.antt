@@ -1,0 +1,22 @@
+use Rattle.std.proofs.Common.{◌≡◌, ℕ, ◌+◌, ◌-◌, ◌≤◌, List, [], ◌++◌, length, take, refl, sym, ap, arith, length-drop, is_some, ◌∙◌}
+use Rattle.icap_chunks.specs.Machine.{end_of}
+use Rattle.icap_client.proofs.Skipping.{skip_none, skip_more}
+use Rattle.icap_client.proofs.options.skip_body.Goals as goal
+
+pub loop-used-init : goal.loop-used-init
+loop-used-init c = record { within = omega arith; part = []; reads = skip_none c.args.chunks.now c.args.raw.now }
+
+pub loop-used-preserved : goal.loop-used-preserved
+loop-used-preserved c =
+    let w = rw c.in-Ok-Some.field-0-is at c.in-Ok-Some.ensures.within in
+    let r = rw c.in-Ok-Some.field-0-is at c.in-Ok-Some.ensures.reads in
+    record {
+      within = omega (arith, w.0, ap length c.behind.ensures, length-drop c.loop-used.used c.args.raw.now);
+      part = c.loop-used.invariant.part ++ _;
+      reads = skip_more c.args.chunks.now c.loop-used.chunks c.read_run.new.chunks c.args.raw.now c.behind.result.now c.loop-used.used c.in-Ok-Some.run'.used c.loop-used.invariant.part _ c.loop-used.invariant.reads c.behind.ensures r;
+    }
+
+pub returns-then-run-clause-reads : goal.returns-then-run-clause-reads
+returns-then-run-clause-reads c =
+    let r = rw c.in-Ok-Some.field-0-is at c.in-Ok-Some.ensures.reads in
+    (_, skip_more c.args.chunks.now c.loop-used.chunks c.read_run.new.chunks c.args.raw.now c.behind.result.now c.loop-used.used c.in-Ok-Some.run'.used c.loop-used.invariant.part _ c.loop-used.invariant.reads c.behind.ensures r)

@@ -1,0 +1,13 @@
+use Rattle.std.proofs.Common.{◌≡◌, ◌≤◌, ◌-◌, ℕ, List, length}
+use Rattle.icap_client.specs.Hearing.{ReadsOn}
+use Rattle.icap_client.proofs.options.skip_body.Given as goal
+
+abbrev pub invariant-loop-used : goal.invariant-loop-used
+invariant-loop-used l = record {
+  within : l.used ≤ length l.raw;
+  part : List ℕ;
+  reads : ReadsOn l.initial.chunks l.raw l.used part l.chunks;
+}
+
+abbrev pub decreases-loop-used : goal.decreases-loop-used
+decreases-loop-used l = length l.raw - l.used

@@ -1,0 +1,311 @@
+//! Asking a service what it offers: one OPTIONS request and its answer, over a Wire (RFC 3507, section 4.10).
+
+ghost use Rattle.std.specs.Prelude.{◌≡◌, ℕ, ◌+◌, ◌<◌, ◌≤◌, ◌↔◌, List, [], ◌∷◌, ◌++◌, length, drop, take, OnOk, IfOk, IfErr, IfSome, IfNone, Some, None, Err, is_some, IsTrue, codes, true, false, option_map};
+ghost use Rattle.adapt_bytes.specs.Numeral.{numeral};
+ghost use Rattle.encapsulated.specs.declared.message.Method.TheVariants as methods;
+ghost use Rattle.icap_chunks.specs.Machine.{end_of};
+ghost use Rattle.icap_head.specs.Fields.{field_list, values_of};
+ghost use Rattle.icap_client.specs.Hearing.{ReadsOn};
+ghost use Rattle.icap_client.specs.Asking.{HasOptionsBody};
+ghost use Rattle.wire_kit.specs.Past.{Past};
+
+use crate::blank_line::behind;
+use crate::body::read_run;
+use crate::lists::has_body;
+use crate::reader::refusal;
+use crate::request::options_request;
+use crate::side::{Filled, MAX_RAW, fill};
+use adapt_sides::ClientFault;
+use bytes::BytesMut;
+use encapsulated::{Direction, Method, read};
+use icap_chunks::{ChunkFault, ChunkReader};
+use icap_head::{Fields, IcapResponse, read_response};
+use std::alloc::{AllocError, Global};
+use std::marker::Model;
+use wire_kit::{Put, Wire};
+
+/// How far the answer to an OPTIONS request is read.
+#[derive(Clone, Copy, Debug, PartialEq, Eq)]
+pub enum OptionsStage {
+    /// Its ICAP head comes.
+    Head,
+    /// Its body comes.
+    Body(ChunkReader),
+    /// It is whole.
+    Over,
+}
+
+/// One OPTIONS request and its answer.
+#[derive(Drop)]
+pub struct OptionsSide {
+    alloc: Global,
+    text: Vec<u8>,
+    out: usize,
+    stage: OptionsStage,
+    response: Option<IcapResponse>,
+    raw: BytesMut,
+    fault: Option<ClientFault>,
+}
+
+impl Model for OptionsSide {
+    ghost use Rattle.std.specs.Prelude.{◌≤◌, length, drop, option_map};
+    ghost use Rattle.icap_head.specs.Heads.{response_parts};
+    ghost use Rattle.icap_client.specs.Asking.{Asker};
+
+    ghost Value = { Asker };
+
+    ghost view = { λ s. record { waiting = drop s.out s.text.items; stage = s.stage; response = option_map response_parts s.response; raw = s.raw.items; fault = s.fault } };
+
+    ghost invariant = { λ s. (s.out ≤ length s.text.items) × (length s.raw.items ≤ 16384) };
+}
+
+impl OptionsSide {
+    ghost use Rattle.icap_head.specs.Heads.{response_parts};
+    ghost use Rattle.icap_client.specs.Asking.{options_request, Frames, Asks};
+
+    /// A request to the service at this host, port and path. NoMemory where its text can't be had.
+    pub fn new(
+        alloc: Global,
+        host: &[u8],
+        port: u16,
+        path: &[u8],
+    ) -> Result<OptionsSide, AllocError>
+        ensures { IfOk result (λ side. side ≡ record { waiting = options_request host.now port path.now; stage = OptionsStage.Head; response = None; raw = []; fault = None }) }
+    {
+        Ok(OptionsSide {
+            alloc,
+            text: options_request(alloc, host, port, path)?,
+            out: 0,
+            stage: OptionsStage::Head,
+            response: None,
+            raw: BytesMut::new(alloc),
+            fault: None,
+        })
+    }
+
+    /// The raw bytes left over.
+    pub fn raw_left(&self) -> usize
+        ensures left { result ≡ length self.now.raw }
+        ensures limit { result ≤ 16384 }
+    {
+        self.raw.len()
+    }
+
+    /// The text that waits.
+    fn rest(&self) -> &[u8]
+        ensures { result.now ≡ self.now.waiting }
+    {
+        &self.text[self.out..]
+    }
+
+    /// Whether text waits.
+    #[tactic(auto, using(crate::proofs::Skipping::none_left))]
+    fn has_rest(&self) -> bool
+        ensures waits { result ≡ true → 0 < length self.now.waiting }
+        ensures none { result ≡ false → self.now.waiting ≡ [] }
+    {
+        self.out < self.text.len()
+    }
+
+    /// Offers the text that waits.
+    fn write<W: Wire>(&mut self, wire: &mut W) -> Result<Option<IcapResponse>, ClientFault>
+        requires { 0 < length self.old.waiting }
+        ensures asks { Asks self.old self.new (W.past wire.old) (W.past wire.new) result }
+        ensures stage { self.new.stage ≡ self.old.stage }
+        ensures response { self.new.response ≡ self.old.response }
+        ensures raw { self.new.raw ≡ self.old.raw }
+        ensures fault { self.new.fault ≡ self.old.fault }
+    {
+        match wire.try_write(self.rest()) {
+            Put::Took(count) => {
+                self.out += count;
+                Ok(None)
+            }
+            Put::Wait => Ok(None),
+            Put::Fault => Err(ClientFault::Device),
+        }
+    }
+
+    /// Frames the raw bytes in the body: they are dropped.
+    fn frame_body(&mut self, chunks: ChunkReader) -> Result<Option<IcapResponse>, ClientFault>
+        requires { self.old.stage ≡ OptionsStage.Body chunks }
+        ensures frames { IfOk result (λ found. Frames self.old self.new (option_map response_parts found)) }
+        ensures fault { self.new.fault ≡ self.old.fault }
+        ensures waiting { self.new.waiting ≡ self.old.waiting }
+        ensures broken { IfErr result (λ fault. fault ≡ ClientFault.Chunk) }
+    {
+        let mut next = chunks;
+        match skip_body(&mut next, self.raw.as_slice()) {
+            Ok(skipped) => {
+                self.raw.advance(skipped.used);
+                if skipped.ended {
+                    self.stage = OptionsStage::Over;
+                    Ok(self.response.take())
+                } else {
+                    self.stage = OptionsStage::Body(next);
+                    Ok(None)
+                }
+            }
+            Err(_) => Err(ClientFault::Chunk),
+        }
+    }
+
+    /// Frames the raw bytes, of which the head comes first.
+    fn frame_head(&mut self) -> Result<Option<IcapResponse>, ClientFault>
+        requires { self.old.stage ≡ OptionsStage.Head }
+        ensures frames { IfOk result (λ found. Frames self.old self.new (option_map response_parts found)) }
+        ensures fault { self.new.fault ≡ self.old.fault }
+        ensures waiting { self.new.waiting ≡ self.old.waiting }
+        ensures broken { IfErr result (λ fault. (fault ≡ ClientFault.Closed → ⊥) × (fault ≡ ClientFault.Device → ⊥)) }
+    {
+        let head = match read_response(self.alloc, self.raw.as_slice()) {
+            Ok(head) => head,
+            Err(fault) => {
+                if let Some(fault) = refusal(fault) {
+                    return Err(fault);
+                }
+                return Ok(None);
+            }
+        };
+        let Some(body) = body_of(&head.value.fields) else {
+            return Err(ClientFault::Layout);
+        };
+        self.raw.advance(head.length);
+        if !body {
+            self.stage = OptionsStage::Over;
+            return Ok(Some(head.value));
+        }
+        let start = ChunkReader::new();
+        self.stage = OptionsStage::Body(start);
+        self.response = Some(head.value);
+        self.frame_body(start)
+    }
+
+    /// Frames the raw bytes.
+    fn frame(&mut self) -> Result<Option<IcapResponse>, ClientFault>
+        ensures frames { IfOk result (λ found. Frames self.old self.new (option_map response_parts found)) }
+        ensures fault { self.new.fault ≡ self.old.fault }
+        ensures waiting { self.new.waiting ≡ self.old.waiting }
+        ensures broken { IfErr result (λ fault. (fault ≡ ClientFault.Closed → ⊥) × (fault ≡ ClientFault.Device → ⊥)) }
+    {
+        match self.stage {
+            OptionsStage::Head => self.frame_head(),
+            OptionsStage::Body(chunks) => self.frame_body(chunks),
+            OptionsStage::Over => Ok(None),
+        }
+    }
+
+    /// Reads once, and frames what came.
+    fn read_on<W: Wire>(&mut self, wire: &mut W) -> Result<Option<IcapResponse>, ClientFault>
+        requires short { length self.old.raw < 16384 }
+        requires out { self.old.waiting ≡ [] }
+        ensures asks { Asks self.old self.new (W.past wire.old) (W.past wire.new) result }
+        ensures fault { self.new.fault ≡ self.old.fault }
+    {
+        match fill(&mut self.raw, wire) {
+            Filled::Bytes => {}
+            Filled::Wait => return Ok(None),
+            Filled::Ended => return Err(ClientFault::Closed),
+            Filled::Failed => return Err(ClientFault::Device),
+            Filled::NoMemory => return Err(ClientFault::NoMemory),
+        }
+        self.frame()
+    }
+
+    /// One step of [`OptionsSide::turn`].
+    fn try_turn<W: Wire>(&mut self, wire: &mut W) -> Result<Option<IcapResponse>, ClientFault>
+        ensures asks { Asks self.old self.new (W.past wire.old) (W.past wire.new) result }
+        ensures fault { self.new.fault ≡ self.old.fault }
+    {
+        if self.has_rest() {
+            return self.write(wire);
+        }
+        if let OptionsStage::Over = self.stage {
+            return Ok(None);
+        }
+        if self.raw.len() >= MAX_RAW {
+            return Err(ClientFault::Head);
+        }
+        self.read_on(wire)
+    }
+
+    /// Offers the text that waits, once; or, where none waits, reads once, and answers the head once its body, if any,
+    /// was read and dropped. Behind that it answers `None`, and leaves the wire alone.
+    ///
+    /// A fault stays: every later turn answers it again.
+    pub fn turn<W: Wire>(&mut self, wire: &mut W) -> Result<Option<IcapResponse>, ClientFault>
+        // One write or one read at most; what goes out is the request's text, and what is answered is what was read.
+        ensures asks { self.old.fault ≡ None → Asks self.old self.new (W.past wire.old) (W.past wire.new) result }
+
+        // A fault is kept and answered again, and then the wire isn't touched.
+        ensures stays { IfErr result (λ fault. self.new.fault ≡ Some fault) }
+        ensures faulted { IfSome self.old.fault (λ fault. (result ≡ Err fault) × (self.new ≡ self.old)) }
+        ensures untouched { IfSome self.old.fault (λ fault. (p : Past) → W.past wire.old p → W.past wire.new p) }
+        ensures sound { OnOk result (self.new.fault ≡ None) }
+    {
+        if let Some(fault) = self.fault {
+            return Err(fault);
+        }
+        match self.try_turn(wire) {
+            Ok(found) => Ok(found),
+            Err(fault) => {
+                self.fault = Some(fault);
+                Err(fault)
+            }
+        }
+    }
+}
+
+/// What was read of a body that is dropped.
+#[derive(Clone, Copy, Debug, PartialEq, Eq)]
+struct Skipped {
+    /// How many bytes were read.
+    used: usize,
+    /// Whether the body has ended.
+    ended: bool,
+}
+
+/// Reads on up to the end of the body, or of the bytes.
+fn skip_body(chunks: &mut ChunkReader, raw: &[u8]) -> Result<Skipped, ChunkFault>
+    ensures within { IfOk result (λ skipped. skipped.used ≤ length raw.now) }
+    ensures reads { IfOk result (λ skipped. (part : List ℕ) × ReadsOn chunks.old raw.now skipped.used part chunks.new) }
+    ensures ended { IfOk result (λ skipped. skipped.ended ≡ true → is_some (end_of chunks.new) ≡ true) }
+{
+    let mut scratch = [0; 4096];
+    let mut used = 0;
+    while used < raw.len() {
+        match read_run(chunks, behind(raw, used), &mut scratch) {
+            Ok(Some(run)) => {
+                used += run.used;
+                if run.ended {
+                    return Ok(Skipped { used, ended: true });
+                }
+            }
+            Ok(None) => return Ok(Skipped { used, ended: false }),
+            Err(fault) => return Err(fault),
+        }
+    }
+    Ok(Skipped { used, ended: false })
+}
+
+/// Whether the answer has a body; none where its Encapsulated fields aren't those of an OPTIONS answer.
+fn body_of(fields: &Fields) -> Option<bool>
+    ensures { IfSome result (λ body. HasOptionsBody (values_of (codes "Encapsulated") (field_list fields.now)) body) }
+{
+    let mut values = fields.values(b"Encapsulated");
+    match (values.next(), values.next()) {
+        (None, _) => Some(false),
+        (Some(list), None) => body_in(list),
+        (Some(_), Some(_)) => None,
+    }
+}
+
+/// Whether this list names a body; none where it isn't one of an OPTIONS answer.
+fn body_in(list: &[u8]) -> Option<bool>
+    ensures { IfSome result (λ body. HasOptionsBody (list.now ∷ []) body) }
+{
+    match read(Method::Options, Direction::Response, list) {
+        Ok(layout) => Some(has_body(layout.body)),
+        Err(_) => None,
+    }
+}
