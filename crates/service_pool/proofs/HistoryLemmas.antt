@@ -7,7 +7,7 @@ use Rattle.service_pool.specs.declared.step.PoolStep.{PoolStep}
 use Rattle.service_pool.specs.declared.step.PoolStep.TheVariants.{Take, Put, GiveUp, Replace, Limit}
 use Rattle.service_pool.specs.History.{is_take, is_return, is_limit}
 use Rattle.service_pool.specs.Replay.{after, open_count, replay}
-use Rattle.service_pool.specs.State.{IsWithin, IsAllowed, AreAllowed, Journaled, IsSound}
+use Rattle.service_pool.specs.Journal.{IsWithin, IsAllowed, AreAllowed, Journaled, IsSound}
 use Rattle.service_pool.proofs.StepLemmas.{replay-append}
 
 -- a step that is allowed keeps at most the maximum open, or none idle

@@ -4,7 +4,7 @@ use Rattle.service_pool.specs.declared.step.Numbers.{Numbers}
 use Rattle.service_pool.specs.declared.step.PoolStep.{PoolStep}
 use Rattle.service_pool.specs.declared.step.PoolStep.TheVariants.{Take, Put, GiveUp, Replace, Limit}
 use Rattle.service_pool.specs.Replay.{replay}
-use Rattle.service_pool.specs.State.{Journaled}
+use Rattle.service_pool.specs.Journal.{Journaled}
 
 -- the step leases a connection
 abbrev pub is_take : PoolStep → Bool

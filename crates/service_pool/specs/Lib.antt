@@ -1,6 +1,6 @@
 pub mod History
+pub mod Journal
 pub mod Leased
 pub mod Leasing
 pub mod Pooled
 pub mod Replay
-pub mod State

@@ -2,13 +2,18 @@
 use Rattle.std.specs.Prelude.{◌≡◌, ℕ, ◌≤◌, ◌<◌, List, [], ◌∷◌, ◌++◌, length}
 use Rattle.service_pool.specs.declared.state.Found.{Found}
 use Rattle.service_pool.specs.declared.state.Found.TheVariants.{Idle, Fresh, Busy}
+use Rattle.service_pool.specs.declared.step.Numbers.{Numbers}
 use Rattle.service_pool.specs.declared.step.PoolStep.TheVariants.{Take}
-use Rattle.service_pool.specs.State.{Journaled, stepped, IsSound}
+use Rattle.service_pool.specs.Journal.{Journaled, stepped, IsSound}
 
 -- the idle connections, the one put last at the end, and the numbers with their journal
 pub record Pooled (C : Type 0) : Type 0 where
   pub idle : List C
   pub journal : Journaled
+
+-- the numbers of a pool with no connection
+abbrev pub none_open : ℕ → Numbers
+none_open maximum = record { idle = 0; leased = 0; maximum = maximum }
 
 -- what every pool keeps: a sound journal, by whose numbers as many connections are idle as are there
 pub record IsKept {C : Type 0} (pool : Pooled C) : Type 0 where
@@ -21,12 +26,12 @@ IsBusy pool = (pool.idle ≡ []) × (pool.journal.numbers.maximum ≤ pool.journ
 
 -- a take gives the idle connection that was put last; where none is idle and fewer than the maximum are
 -- leased, the right to open one; and else nothing, and then it is no step
-abbrev pub Takes : {C : Type 0} → Pooled C → Pooled C → Found C → Type 0
-Takes old new (Idle c) = (old.idle ≡ new.idle ++ c ∷ []) × (new.journal ≡ stepped old.journal Take)
-Takes old new Fresh =
+abbrev pub Takes : {C : Type 0} → (Journaled → Journaled) → Pooled C → Pooled C → Found C → Type 0
+Takes make_room old new (Idle c) = (old.idle ≡ new.idle ++ c ∷ []) × (new.journal ≡ stepped make_room old.journal Take)
+Takes make_room old new Fresh =
     (old.idle ≡ []) × (old.journal.numbers.leased < old.journal.numbers.maximum)
-    × (new.idle ≡ []) × (new.journal ≡ stepped old.journal Take)
-Takes old new Busy = new ≡ old
+    × (new.idle ≡ []) × (new.journal ≡ stepped make_room old.journal Take)
+Takes make_room old new Busy = new ≡ old
 
 -- how many connections a take leases
 abbrev pub lease_count : {C : Type 0} → Found C → ℕ

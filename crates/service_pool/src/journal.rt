@@ -1,111 +1,44 @@
-//! A pool's numbers with the journal that replays to them. Everything that changes the numbers
-//! stands here, and nothing here knows a connection or a lock.
-ghost use Rattle.std.specs.Prelude.{◌≡◌, ◌≤◌, ◌<◌, length, IfOk, slice_get};
-ghost use Rattle.service_pool.specs.State.{IsAllowed, opening, rebased, pushed, stepped, IsSound};
+//! A journal: the numbers of a pool with the last steps that led to them.
+ghost use Rattle.std.specs.Prelude.{◌≡◌, ◌≤◌, IfOk, slice_get};
+ghost use Rattle.service_pool.specs.Journal.{Journaled, IsAllowed, IsBounded, opening, stepped, IsSound};
+ghost use Rattle.service_pool.specs.Replay.{after};
 
 use crate::NoMemory;
-use crate::step::{MAX_CONNECTIONS, Numbers, PoolStep};
+use crate::step::{Numbers, PoolStep};
 use std::alloc::Global;
-use std::marker::Model;
 
-/// The numbers now, and the journal: the last steps, and the base, a checkpoint that they replay
-/// from.
-#[derive(Drop)]
-pub struct Journal {
-    numbers: Numbers,
-    base: Numbers,
-    steps: Vec<PoolStep>,
-    room: usize,
-}
+/// The numbers now, and the last steps with their base, a checkpoint: the numbers before the oldest
+/// step that is kept. The steps replay from the base to the numbers now.
+///
+/// Journals differ in how a full one makes room for a step. None takes memory after `new`.
+pub trait Journal: Drop {
+    ghost seen: { Self → Journaled };
 
-impl Model for Journal {
-    ghost use Rattle.std.specs.Prelude.{◌≤◌, vec_capacity};
-    ghost use Rattle.service_pool.specs.State.{Journaled, IsSound};
+    ghost makes_room: { Journaled → Journaled };
 
-    ghost Value = { Journaled };
-
-    ghost view = { λ j.
-        record { numbers = j.numbers; base = j.base; steps = j.steps.items; room = j.room } };
-
-    ghost invariant = { λ j.
-        IsSound (record { numbers = j.numbers; base = j.base; steps = j.steps.items; room = j.room })
-        × (j.room ≤ vec_capacity j.steps) };
-}
-
-impl Journal {
-    /// The journal of a pool with no connection, with room for so many steps.
-    pub fn new(alloc: Global, maximum: u64, room: usize) -> Result<Journal, NoMemory>
-        requires maximum { maximum ≤ MAX_CONNECTIONS }
+    /// A journal with no step, and room for so many. `Err` where there is no memory for that room.
+    fn new(alloc: Global, numbers: Numbers, room: usize) -> Result<Self, NoMemory>
+        requires bounded { IsBounded numbers }
         requires room { 1 ≤ room }
-        ensures { IfOk result (λ j. j ≡ opening maximum room) }
-    {
-        let numbers = Numbers {
-            idle: 0,
-            leased: 0,
-            maximum,
-        };
-        let steps = Vec::with_capacity(alloc, room)?;
-        Ok(Journal {
-            numbers,
-            base: numbers,
-            steps,
-            room,
-        })
-    }
+        ensures { IfOk result (λ j. seen j ≡ opening numbers room) };
 
     /// The numbers now.
-    pub fn numbers(&self) -> Numbers
-        ensures numbers { result ≡ self.now.numbers }
-        ensures sound { IsSound self.now }
-    {
-        self.numbers
-    }
+    fn numbers(&self) -> Numbers
+        ensures numbers { result ≡ (seen self.now).numbers }
+        ensures sound { IsSound (seen self.now) };
 
     /// The numbers before the oldest step that is kept.
-    pub fn base(&self) -> Numbers
-        ensures { result ≡ self.now.base }
-    {
-        self.base
-    }
+    fn base(&self) -> Numbers
+        ensures { result ≡ (seen self.now).base };
 
-    /// The step at an index, 0 being the oldest that is kept.
-    pub fn step_at(&self, index: usize) -> Option<PoolStep>
-        ensures { result ≡ slice_get self.now.steps index }
-    {
-        self.steps.get(index).copied()
-    }
+    /// The step at an index, 0 being the oldest that is kept; `None` behind the last.
+    fn step_at(&self, index: usize) -> Option<PoolStep>
+        ensures { result ≡ slice_get (seen self.now).steps index };
 
     /// Takes a step that the numbers allow.
-    pub fn apply(&mut self, step: PoolStep)
-        requires { IsAllowed self.old.numbers step }
-        ensures step { self.new ≡ stepped self.old step }
-        ensures sound { IsSound self.new }
-    {
-        self.rebase();
-        self.push(step);
-    }
-
-    // Makes room for a step.
-    fn rebase(&mut self)
-        ensures rebased { self.new ≡ rebased self.old }
-        ensures numbers { self.new.numbers ≡ self.old.numbers }
-        ensures room { length self.new.steps < self.new.room }
-        ensures sound { IsSound self.new }
-    {
-        if self.steps.len() == self.room {
-            self.base = self.numbers;
-            self.steps.clear();
-        }
-    }
-
-    // Takes a step, where there is room for it.
-    fn push(&mut self, step: PoolStep)
-        requires allowed { IsAllowed self.old.numbers step }
-        requires room { length self.old.steps < self.old.room }
-        ensures pushed { self.new ≡ pushed self.old step }
-        ensures sound { IsSound self.new }
-    {
-        self.numbers = self.numbers.after(step);
-        self.steps.push_reserved(step);
-    }
+    fn apply(&mut self, step: PoolStep)
+        requires { IsAllowed (seen self.old).numbers step }
+        ensures step { seen self.new ≡ stepped makes_room (seen self.old) step }
+        ensures numbers { (seen self.new).numbers ≡ after (seen self.old).numbers step }
+        ensures sound { IsSound (seen self.new) };
 }

@@ -1,10 +1,11 @@
 //! What holds of every list of steps of a pool, and so of every history.
 ghost use Rattle.std.specs.Prelude.{◌≡◌, ℕ, ◌+◌, ◌≤◌, ◌<◌, List, [], ◌∷◌, ◌++◌, count_by};
+ghost use Rattle.circular_buffer.specs.Buffer.{keep_last};
 ghost use Rattle.service_pool.specs.declared.step.Numbers.{Numbers};
 ghost use Rattle.service_pool.specs.declared.step.PoolStep.{PoolStep};
 ghost use Rattle.service_pool.specs.History.{is_take, is_return, is_limit, HasLast};
 ghost use Rattle.service_pool.specs.Replay.{open_count, replay};
-ghost use Rattle.service_pool.specs.State.{IsWithin, AreAllowed, Journaled, IsSound, run};
+ghost use Rattle.service_pool.specs.Journal.{IsWithin, AreAllowed, Journaled, IsSound, opening, rebased, slid, run};
 
 /// At every moment at most the maximum are open, or none is idle.
 pub fn at_most_the_maximum_or_none_idle()
@@ -60,10 +61,19 @@ pub fn parts_replay_as_the_whole()
         → replay base (first ++ second) ≡ replay (replay base first) second }
 {}
 
-/// However often a full journal was rebased, it has the last of all steps ever taken, its base is
+/// However often a full journal made room, it has the last of all steps ever taken, its base is
 /// what the earlier ones replay to, and the numbers are what all of them replay to.
-pub fn rebasing_forgets_nothing()
-    ensures { (start : Journaled) (steps : List PoolStep)
+pub fn journals_forget_nothing()
+    ensures windows { (start : Journaled) (steps : List PoolStep)
         → start.base ≡ start.numbers → start.steps ≡ []
-        → HasLast start.numbers steps (run start steps) }
+        → HasLast start.numbers steps (run slid start steps) }
+    ensures rebasing { (start : Journaled) (steps : List PoolStep)
+        → start.base ≡ start.numbers → start.steps ≡ []
+        → HasLast start.numbers steps (run rebased start steps) }
+{}
+
+/// A window holds the last steps: as many as it has room for, or all that were taken.
+pub fn windows_hold_the_last_steps()
+    ensures { (base : Numbers) (room : ℕ) (steps : List PoolStep) → 0 < room
+        → (run slid (opening base room) steps).steps ≡ keep_last room steps }
 {}

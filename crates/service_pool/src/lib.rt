@@ -6,14 +6,19 @@ pub mod laws;
 mod lease;
 mod locked;
 mod pool;
+mod rebasing;
 mod state;
 mod step;
 #[cfg(test)]
 mod tests;
+mod window;
 
+pub use crate::journal::Journal;
 pub use crate::lease::{Lease, Taken};
 pub use crate::locked::Locked;
 pub use crate::pool::Pool;
+pub use crate::rebasing::RebasingJournal;
 pub use crate::state::{Found, PoolState};
 pub use crate::step::{AuditFault, LEDGER_PARTS, MAX_CONNECTIONS, Numbers, Over, PoolStep};
+pub use crate::window::Window;
 pub use std::alloc::AllocError as NoMemory;

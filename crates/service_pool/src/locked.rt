@@ -3,12 +3,13 @@ ghost use Rattle.std.specs.Prelude.{◌≡◌, ◌↔◌, ◌+◌, ◌≤◌, �
 ghost use Rattle.service_pool.specs.Leasing.{found, Tells};
 ghost use Rattle.service_pool.specs.Pooled.{Takes, IsBusy, IsKept};
 ghost use Rattle.service_pool.specs.Replay.{open_count};
-ghost use Rattle.service_pool.specs.State.{stepped};
+ghost use Rattle.service_pool.specs.Journal.{slid, stepped};
 
 use crate::NoMemory;
 use crate::lease::{Lease, Taken, give_back, lend};
 use crate::state::{Found, PoolState};
 use crate::step::{AuditFault, LEDGER_PARTS, MAX_CONNECTIONS, Over, PoolStep};
+use crate::window::Window;
 use std::alloc::Global;
 use std::marker::Model;
 use std::sync::ledger::{Blank, Book, Ledger, Share};
@@ -19,7 +20,7 @@ use std::sync::ledger::{Blank, Book, Ledger, Share};
 /// one in it, and the other parts lie here. Contracts see it as its state.
 #[derive(Drop)]
 pub struct Locked<C, L: Ledger> {
-    state: PoolState<C>,
+    state: PoolState<C, Window>,
     leased: Book<L>,
     rest: Share<L>,
 }
@@ -42,7 +43,7 @@ impl<C, L: Ledger> Model for Locked<C, L> {
 
 impl<C, L: Ledger> Locked<C, L> {
     /// The locked part round a state with no lease. The blank has `LEDGER_PARTS` parts.
-    pub fn new(state: PoolState<C>, blank: Blank) -> Locked<C, L>
+    pub fn new(state: PoolState<C, Window>, blank: Blank) -> Locked<C, L>
         requires blank { (blank.name ≡ L.name) × (blank.parts ≡ L.parts)
             × (blank.parts ≡ LEDGER_PARTS) }
         requires none { state.journal.numbers.leased ≡ 0 }
@@ -61,7 +62,7 @@ impl<C, L: Ledger> Locked<C, L> {
     /// Takes the idle connection that was put last, or the right to open one, with a lease, as the
     /// step `Take`.
     pub fn take(&mut self) -> Taken<C, L>
-        ensures take { Takes self.old self.new (found result) }
+        ensures take { Takes slid self.old self.new (found result) }
         ensures tells { Tells result }
 
         // It is refused exactly where none is idle and the leased aren't below the maximum.
@@ -89,7 +90,7 @@ impl<C, L: Ledger> Locked<C, L> {
         ensures back { IfSome result (λ c. (c ≡ connection)
             × (self.old.journal.numbers.maximum < open_count self.old.journal.numbers)
             × (self.new.idle ≡ self.old.idle)) }
-        ensures step { self.new.journal ≡ stepped self.old.journal PoolStep.Put }
+        ensures step { self.new.journal ≡ stepped slid self.old.journal PoolStep.Put }
         ensures leased { 1 ≤ self.old.journal.numbers.leased }
         ensures kept { IsKept self.new }
     {
@@ -106,7 +107,7 @@ impl<C, L: Ledger> Locked<C, L> {
     /// `GiveUp`.
     pub fn give_up(&mut self, lease: Lease<L>)
         ensures idle { self.new.idle ≡ self.old.idle }
-        ensures step { self.new.journal ≡ stepped self.old.journal PoolStep.GiveUp }
+        ensures step { self.new.journal ≡ stepped slid self.old.journal PoolStep.GiveUp }
         ensures leased { 1 ≤ self.old.journal.numbers.leased }
         ensures kept { IsKept self.new }
     {
@@ -126,7 +127,7 @@ impl<C, L: Ledger> Locked<C, L> {
             ↔ (self.old.journal.numbers.maximum < open_count self.old.journal.numbers) }
         ensures idle { self.new.idle ≡ self.old.idle }
         ensures step { OnOk result
-            (self.new.journal ≡ stepped self.old.journal PoolStep.Replace) }
+            (self.new.journal ≡ stepped slid self.old.journal PoolStep.Replace) }
         ensures fresh { OnOk result (lease.new ≡ record { reused = false }) }
         ensures err { OnErr result ((self.new ≡ self.old) × (lease.new ≡ lease.old)) }
         ensures leased { 1 ≤ self.old.journal.numbers.leased }
@@ -146,7 +147,7 @@ impl<C, L: Ledger> Locked<C, L> {
         ensures oldest { IfOk result (λ closed. closed.items ++ self.new.idle ≡ self.old.idle) }
         ensures few { IfOk result (λ closed. vec_len closed ≤ MAX_CONNECTIONS) }
         ensures step { OnOk result
-            (self.new.journal ≡ stepped self.old.journal (PoolStep.Limit maximum)) }
+            (self.new.journal ≡ stepped slid self.old.journal (PoolStep.Limit maximum)) }
         ensures err { OnErr result (self.new ≡ self.old) }
         ensures kept { IsKept self.new }
     {

@@ -2,9 +2,9 @@
 //! here knows a lock.
 ghost use Rattle.std.specs.Prelude.{◌≡◌, ◌↔◌, ◌+◌, ◌≤◌, ◌<◌, [], ◌∷◌, ◌++◌, take, drop, IsErr, IfOk, OnOk, OnErr, IfSome, IfNone, slice_get, vec_len, vec_capacity};
 ghost use Rattle.std.specs.VecDeque.{deque_len, deque_capacity};
-ghost use Rattle.service_pool.specs.Pooled.{Takes, IsBusy, IsKept, lease_count};
+ghost use Rattle.service_pool.specs.Pooled.{Takes, IsBusy, IsKept, lease_count, none_open};
 ghost use Rattle.service_pool.specs.Replay.{open_count, replay};
-ghost use Rattle.service_pool.specs.State.{opening, stepped};
+ghost use Rattle.service_pool.specs.Journal.{opening, stepped};
 
 use crate::NoMemory;
 use crate::journal::Journal;
@@ -15,17 +15,17 @@ use std::marker::Model;
 
 /// The idle connections of a pool, and its numbers with their journal.
 ///
-/// Each call that isn't refused is one step, which is appended to the journal: its steps replay
-/// from its base to the numbers now. A full journal first takes the present numbers as its base. A
-/// call that is refused is no step, and changes nothing.
+/// Each call that isn't refused is one step, which is added to the journal: its steps replay from
+/// its base to the numbers now. A call that is refused is no step, and changes nothing. `J` is the
+/// journal's form: `Window`, or `RebasingJournal`.
 #[derive(Drop)]
-pub struct PoolState<C> {
+pub struct PoolState<C, J: Journal> {
     // The oldest in front.
     idle: VecDeque<C>,
-    journal: Journal,
+    journal: J,
 }
 
-impl<C> Model for PoolState<C> {
+impl<C, J: Journal> Model for PoolState<C, J> {
     ghost use Rattle.std.specs.Prelude.{◌≤◌};
     ghost use Rattle.std.specs.VecDeque.{deque_capacity};
     ghost use Rattle.service_pool.specs.declared.step.TheConstants.{MAX_CONNECTIONS};
@@ -33,9 +33,9 @@ impl<C> Model for PoolState<C> {
 
     ghost Value = { Pooled C };
 
-    ghost view = { λ s. record { idle = s.idle.items; journal = s.journal } };
+    ghost view = { λ s. record { idle = s.idle.items; journal = J.seen s.journal } };
 
-    ghost invariant = { λ s. IsKept (record { idle = s.idle.items; journal = s.journal })
+    ghost invariant = { λ s. IsKept (record { idle = s.idle.items; journal = J.seen s.journal })
         × (MAX_CONNECTIONS ≤ deque_capacity s.idle) };
 }
 
@@ -50,17 +50,22 @@ pub enum Found<C> {
     Busy,
 }
 
-impl<C> PoolState<C> {
+impl<C, J: Journal> PoolState<C, J> {
     /// A pool with no connection, of which at most `maximum` may be open, with room for
     /// `MAX_CONNECTIONS` idle connections and a journal of so many steps. `Err` where there is no
     /// memory for that room.
-    pub fn new(alloc: Global, maximum: u64, journal: usize) -> Result<PoolState<C>, NoMemory>
+    pub fn new(alloc: Global, maximum: u64, journal: usize) -> Result<PoolState<C, J>, NoMemory>
         requires maximum { maximum ≤ MAX_CONNECTIONS }
         requires journal { 1 ≤ journal }
         ensures idle { IfOk result (λ s. s.idle ≡ []) }
-        ensures journal { IfOk result (λ s. s.journal ≡ opening maximum journal) }
+        ensures journal { IfOk result (λ s. s.journal ≡ opening (none_open maximum) journal) }
     {
-        let journal = Journal::new(alloc, maximum, journal)?;
+        let none = Numbers {
+            idle: 0,
+            leased: 0,
+            maximum,
+        };
+        let journal = J::new(alloc, none, journal)?;
         // Shows that the journal is sound.
         let _numbers = journal.numbers();
         let idle = VecDeque::with_capacity(alloc, MAX_CONNECTIONS as usize)?;
@@ -93,7 +98,7 @@ impl<C> PoolState<C> {
 
     /// Takes the idle connection that was put last, or the right to open one, as the step `Take`.
     pub fn take(&mut self) -> Found<C>
-        ensures take { Takes self.old self.new result }
+        ensures take { Takes J.makes_room self.old self.new result }
 
         // It is refused exactly where none is idle and the leased aren't below the maximum.
         ensures busy { (result ≡ Found.Busy) ↔ IsBusy self.old }
@@ -125,7 +130,7 @@ impl<C> PoolState<C> {
         ensures back { IfSome result (λ c. (c ≡ connection)
             × (self.old.journal.numbers.maximum < open_count self.old.journal.numbers)
             × (self.new.idle ≡ self.old.idle)) }
-        ensures step { self.new.journal ≡ stepped self.old.journal PoolStep.Put }
+        ensures step { self.new.journal ≡ stepped J.makes_room self.old.journal PoolStep.Put }
         ensures leased { self.new.journal.numbers.leased + 1 ≡ self.old.journal.numbers.leased }
         ensures kept { IsKept self.new }
     {
@@ -143,7 +148,7 @@ impl<C> PoolState<C> {
     pub fn give_up(&mut self)
         requires { 1 ≤ self.old.journal.numbers.leased }
         ensures idle { self.new.idle ≡ self.old.idle }
-        ensures step { self.new.journal ≡ stepped self.old.journal PoolStep.GiveUp }
+        ensures step { self.new.journal ≡ stepped J.makes_room self.old.journal PoolStep.GiveUp }
         ensures leased { self.new.journal.numbers.leased + 1 ≡ self.old.journal.numbers.leased }
         ensures kept { IsKept self.new }
     {
@@ -158,7 +163,7 @@ impl<C> PoolState<C> {
             ↔ (self.old.journal.numbers.maximum < open_count self.old.journal.numbers) }
         ensures idle { self.new.idle ≡ self.old.idle }
         ensures step { OnOk result
-            (self.new.journal ≡ stepped self.old.journal PoolStep.Replace) }
+            (self.new.journal ≡ stepped J.makes_room self.old.journal PoolStep.Replace) }
         ensures err { OnErr result (self.new ≡ self.old) }
         ensures leased { self.new.journal.numbers.leased ≡ self.old.journal.numbers.leased }
         ensures kept { IsKept self.new }
@@ -179,7 +184,7 @@ impl<C> PoolState<C> {
         ensures oldest { IfOk result (λ closed. closed.items ++ self.new.idle ≡ self.old.idle) }
         ensures few { IfOk result (λ closed. vec_len closed ≤ MAX_CONNECTIONS) }
         ensures step { OnOk result
-            (self.new.journal ≡ stepped self.old.journal (PoolStep.Limit maximum)) }
+            (self.new.journal ≡ stepped J.makes_room self.old.journal (PoolStep.Limit maximum)) }
         ensures err { OnErr result (self.new ≡ self.old) }
         ensures leased { self.new.journal.numbers.leased ≡ self.old.journal.numbers.leased }
         ensures kept { IsKept self.new }

@@ -1,7 +1,7 @@
 //! The numbers of a pool, the steps that change them, and why a call is refused.
 ghost use Rattle.std.specs.Prelude.{◌≡◌};
 ghost use Rattle.service_pool.specs.Replay.{after};
-ghost use Rattle.service_pool.specs.State.{IsAllowed, IsBounded};
+ghost use Rattle.service_pool.specs.Journal.{IsAllowed, IsBounded};
 
 use thiserror::Error;
 

@@ -39,32 +39,41 @@ pub record Journaled : Type 0 where
   pub steps : List PoolStep
   pub room : ℕ
 
--- the journal of a pool with no connection
-abbrev pub opening : ℕ → ℕ → Journaled
-opening maximum room =
-    let none : Numbers = record { idle = 0; leased = 0; maximum = maximum } in record { numbers = none; base = none; steps = []; room = room }
+-- a journal with no step
+abbrev pub opening : Numbers → ℕ → Journaled
+opening n room = record { numbers = n; base = n; steps = []; room = room }
 
 -- a full journal takes the present numbers as its base, and starts empty
 abbrev pub rebased : Journaled → Journaled
 rebased j = if length j.steps == j.room then record j { base = j.numbers; steps = [] } else j
 
+-- the journal without its oldest step, which goes into the base
+abbrev pub shortened : Journaled → List PoolStep → Journaled
+shortened j [] = j
+shortened j (step ∷ steps) = record j { base = after j.base step; steps = steps }
+
+-- a full journal lets its oldest step go
+abbrev pub slid : Journaled → Journaled
+slid j = if length j.steps == j.room then shortened j j.steps else j
+
 -- the step is taken, and stands at the end of the journal
 abbrev pub pushed : Journaled → PoolStep → Journaled
 pushed j step = record j { numbers = after j.numbers step; steps = j.steps ++ step ∷ [] }
 
--- the journal after a step
-abbrev pub stepped : Journaled → PoolStep → Journaled
-stepped j step = pushed (rebased j) step
+-- the journal after a step, for which a full one makes room in its way
+abbrev pub stepped : (Journaled → Journaled) → Journaled → PoolStep → Journaled
+stepped make_room j step = pushed (make_room j) step
 
 -- the journal after all steps of a list
-abbrev pub run : Journaled → List PoolStep → Journaled
-run j [] = j
-run j (step ∷ steps) = run (stepped j step) steps
+abbrev pub run : (Journaled → Journaled) → Journaled → List PoolStep → Journaled
+run make_room j [] = j
+run make_room j (step ∷ steps) = run make_room (stepped make_room j step) steps
 
 -- what every journal keeps: its steps replay from its base to the numbers now, each was allowed where it
 -- stands, the numbers are in their bounds, and it has room for at least one step
 pub record IsSound (j : Journaled) : Type 0 where
   pub replayed : replay j.base j.steps ≡ j.numbers
+  pub start : IsBounded j.base
   pub allowed : AreAllowed j.base j.steps
   pub bounded : IsBounded j.numbers
   pub steps : length j.steps ≤ j.room

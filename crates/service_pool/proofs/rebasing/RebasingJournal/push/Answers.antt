@@ -1,7 +1,7 @@
 use Rattle.std.proofs.Common.{arith}
-use Rattle.service_pool.specs.State.{Journaled}
+use Rattle.service_pool.specs.Journal.{Journaled}
 use Rattle.service_pool.proofs.StepLemmas.{sound-fields}
-use Rattle.service_pool.proofs.journal.Journal.push.Goals as goal
+use Rattle.service_pool.proofs.rebasing.RebasingJournal.push.Goals as goal
 
 -- the fields that were opened are the journal that was passed, and the two writes are one step of it
 pub invariant_of-self : goal.invariant_of-self

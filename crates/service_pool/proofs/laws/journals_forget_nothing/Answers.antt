@@ -1,0 +1,8 @@
+use Rattle.service_pool.proofs.JournalLemmas.{windows-have_last, rebasing-has_last}
+use Rattle.service_pool.proofs.laws.journals_forget_nothing.Goals as goal
+
+pub returns-clause-windows : goal.returns-clause-windows
+returns-clause-windows c = windows-have_last
+
+pub returns-clause-rebasing : goal.returns-clause-rebasing
+returns-clause-rebasing c = rebasing-has_last

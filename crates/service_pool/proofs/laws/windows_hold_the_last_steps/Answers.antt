@@ -1,0 +1,5 @@
+use Rattle.service_pool.proofs.JournalLemmas.{windows-keep_last}
+use Rattle.service_pool.proofs.laws.windows_hold_the_last_steps.Goals as goal
+
+pub returns : goal.returns
+returns c = windows-keep_last
