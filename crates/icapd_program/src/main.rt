@@ -6,6 +6,8 @@ mod config;
 mod error;
 mod sockets;
 mod standard_input;
+#[cfg(test)]
+mod tests;
 
 use command::{Command, read_command};
 use config::{Config, read_config};
