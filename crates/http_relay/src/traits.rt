@@ -5,7 +5,7 @@ use crate::side::{SourceHead, SourceSide};
 use adapt_sides::{Hop, RelayFault, Source, Turn};
 use http_side::Framing;
 use span_tape::SpanTape;
-use trace_core::State;
+use trace_core::{Plan, State};
 use wire_kit::Wire;
 
 impl Source for SourceSide {
@@ -30,6 +30,10 @@ impl Source for SourceSide {
     ghost others_agree = { laws.others_agree };
 
     ghost rests_where = { laws.rests_where };
+
+    fn begins(&self, plan: &Plan) -> bool {
+        SourceSide::begins(self, plan)
+    }
 
     fn read_turn<W: Wire>(&mut self, wire: &mut W, out: &mut [u8]) -> Result<Turn, RelayFault> {
         SourceSide::read_turn(self, wire, out)
