@@ -7,4 +7,4 @@ mod steps;
 mod store;
 
 pub use hold::Hold;
-pub use steps::{brought, fail, go_on, step_all};
+pub use steps::{brought, fail, go_on, step_all, step_one};

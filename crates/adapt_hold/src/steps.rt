@@ -64,7 +64,7 @@ fn bring<B: Ledgers>(rt: &impl Wait, bank: &Bank<B>, hold: &mut Hold<B>, event: 
 }
 
 /// Takes one event with its bytes, which may be none.
-fn step_one<B: Ledgers>(
+pub fn step_one<B: Ledgers>(
     rt: &impl Wait,
     bank: &Bank<B>,
     hold: &mut Hold<B>,

@@ -61,7 +61,12 @@ pub(crate) fn hop_cause(fault: RelayFault) -> Cause
 }
 
 /// Closes the transaction.
-fn close<B: Ledgers>(rt: &impl Wait, bank: &Bank<B>, hold: &mut Hold<B>, cause: Cause) -> Passed
+pub(crate) fn close<B: Ledgers>(
+    rt: &impl Wait,
+    bank: &Bank<B>,
+    hold: &mut Hold<B>,
+    cause: Cause,
+) -> Passed
     requires running { (shows hold.old.history).closed ≡ false }
     requires roomy { IsRoomy hold.old }
     ensures passed { result ≡ record { waiting = false; failed = Some cause; broken = false } }
@@ -77,7 +82,7 @@ fn close<B: Ledgers>(rt: &impl Wait, bank: &Bank<B>, hold: &mut Hold<B>, cause: 
 }
 
 /// A pass that closed nothing.
-fn went_on(waiting: bool) -> Passed
+pub(crate) fn went_on(waiting: bool) -> Passed
     ensures { result ≡ record { waiting = waiting; failed = None; broken = false } }
 {
     Passed {
