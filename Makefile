@@ -43,7 +43,7 @@ bench-chunks: ## chunked bodies: seconds and MB/s for 1 GiB
 bench-heads: ## HTTP heads: nanoseconds to read one and to write two, beside the parser alone
 	cd crates/head_bench && rt run -- 200000
 
-bench-bank: ## the buffer budget: nanoseconds for a pair of calls, and four threads' rounds
+bench-bank: ## the buffer budget: nanoseconds for a pair of calls, for turns of 4,096 bytes on tapes, and four threads' rounds
 	@tools/build_program bank_bench bank_bench 1
 	@bin/bank_bench 1000000
 

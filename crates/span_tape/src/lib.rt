@@ -3,6 +3,8 @@
 
 mod queue;
 mod tape;
+#[cfg(test)]
+mod tests;
 
 pub use crate::tape::SpanTape;
 pub use span_bank::Pages;
