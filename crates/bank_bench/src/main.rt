@@ -41,12 +41,7 @@ fn run<
     S: Ledger + Send + Sync,
     P: Ledger + Send + Sync,
     R: Threads + Wait + Clock + Eprint + Sync,
->(
-    rt: &R,
-    alloc: Global,
-    blanks: Blanks,
-    rounds: u32,
-) -> Result<Audit>
+>(rt: &R, alloc: Global, blanks: Blanks, rounds: u32) -> Result<Audit>
     requires held { (blanks.held.name ≡ H.name) × (blanks.held.parts ≡ H.parts) × (blanks.held.parts ≡ 5) }
     requires free { (blanks.free.name ≡ F.name) × (blanks.free.parts ≡ F.parts) × (blanks.free.parts ≡ 5) }
     requires slack { (blanks.slack.name ≡ S.name) × (blanks.slack.parts ≡ S.parts) × (blanks.slack.parts ≡ 5) }

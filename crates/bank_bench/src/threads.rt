@@ -6,11 +6,7 @@ use std::thread;
 use std::thread::Threads;
 
 /// Makes a reservation, holds all of it, lets it go and ends it, again and again.
-fn rounds_of_one<B: Ledgers>(
-    rt: &impl Wait,
-    bank: &Bank<B>,
-    rounds: u32,
-) -> Result<(), OpenFault> {
+fn rounds_of_one<B: Ledgers>(rt: &impl Wait, bank: &Bank<B>, rounds: u32) -> Result<(), OpenFault> {
     for _ in 0..rounds {
         let mut stake = bank.open(rt, PIECE)?;
         let page = bank.grow(rt, &mut stake, PIECE, 1);

@@ -127,7 +127,7 @@ EndsIn text body behind_data_cr = InChunk text body 0 (13 ∷ [])
 EndsIn text body (in_trailers count) = InTrailers text body count []
 EndsIn text body (behind_trailers_cr count) = InTrailers text body count (13 ∷ [])
 
--- A first part of the text could still be a body, and the byte behind it breaks it with this fault. What follows is not read.
+-- No byte of a first part of the text breaks the grammar, and the byte behind it breaks it with this fault. What follows is not read.
 pub record Breaks (text body : List ℕ) (fault : ChunkFault) : Type 0 where
   pub good : List ℕ
   pub byte : ℕ
