@@ -9,7 +9,7 @@ use Rattle.trace_core.specs.declared.history.Event.TheVariants.{In, End, Svc, St
 use Rattle.trace_core.specs.Legal.{MayFollow}
 use Rattle.trace_core.specs.Held.{original_from, adapted_from, held_original, held_adapted, keeps_original, held_places}
 use Rattle.trace_core.specs.View.{after}
-use Rattle.trace_core.specs.Norm.{History}
+use Rattle.trace_core.specs.History.{History}
 use Rattle.trace_core.proofs.Sound.{Sound, sound, sound-after}
 use Rattle.trace_core.proofs.Short.{norm-shows}
 use Rattle.trace_core.proofs.Kept.{original_within, kept_in, dropped_in, none_kept}

@@ -4,9 +4,9 @@ use Rattle.trace_core.specs.declared.history.Event.{Event}
 use Rattle.trace_core.specs.declared.history.Event.TheVariants.{In, Ad}
 use Rattle.trace_core.specs.Faults.{chooses_original}
 use Rattle.trace_core.specs.declared.history.Seen.{Seen}
-use Rattle.trace_core.specs.History.{seen, in_bytes, ad_bytes}
+use Rattle.trace_core.specs.History.{History, seen, in_bytes, ad_bytes}
 use Rattle.trace_core.specs.Legal.{IsLegal, MayFollow}
-use Rattle.trace_core.specs.Norm.{History, norm}
+use Rattle.trace_core.specs.Norm.{norm}
 use Rattle.trace_core.specs.Held.{original_from, adapted_from, held_original, held_adapted, original_places, adapted_places, held_places}
 use Rattle.plan_rules.specs.declared.limits.Limits.{Limits}
 use Rattle.plan_rules.specs.Room.{claim_then}

@@ -2,8 +2,7 @@
 use Rattle.std.specs.Prelude.{ℕ, ◌+◌, ◌≤◌, ⊤, List, [], ◌∷◌, length, take, drop}
 use Rattle.trace_core.specs.declared.history.Event.{Event}
 use Rattle.trace_core.specs.declared.history.Seen.{Seen}
-use Rattle.trace_core.specs.History.{in_bytes, ad_bytes}
-use Rattle.trace_core.specs.Norm.{History}
+use Rattle.trace_core.specs.History.{History, in_bytes, ad_bytes}
 use Rattle.trace_core.specs.View.{after}
 use Rattle.plan_rules.specs.Room.{IsWithinRoom, claim_then}
 use Rattle.trace_core.specs.Turns.{MayAllFollow}

@@ -12,7 +12,7 @@ use Rattle.trace_core.specs.Legal.{Allows, MaySend}
 use Rattle.trace_core.specs.Faults.{chooses_original}
 use Rattle.trace_core.specs.Held.{original_from, adapted_from}
 use Rattle.trace_core.specs.View.{after}
-use Rattle.trace_core.specs.Norm.{History}
+use Rattle.trace_core.specs.History.{History}
 use Rattle.trace_core.specs.Turns.{after_all, MayAllFollow, AllAre, in_sum, ad_sum, is_of_source, is_of_replies, is_of_sending, is_of_hop}
 use Rattle.trace_core.proofs.Sound.{Sound, sound, sound-after}
 use Rattle.plan_rules.specs.Room.{original_room, adapted_room, claim_then, IsWithinRoom}

@@ -1,7 +1,7 @@
 use Rattle.std.proofs.Common.{◌≡◌, ◌≤◌, ℕ, List, [], length, arith, sym, ◌∙◌, ap, subst, true, false}
 use Rattle.trace_core.specs.declared.history.Event.{Event}
 use Rattle.trace_core.specs.declared.history.Seen.{Seen}
-use Rattle.trace_core.specs.Norm.{History}
+use Rattle.trace_core.specs.History.{History}
 use Rattle.trace_core.specs.Turns.{MayAllFollow}
 use Rattle.plan_rules.specs.Room.{original_room, adapted_room}
 use Rattle.adapt_sides.specs.Turns.{ReadsBody, Sends, Hears, Gives}
