@@ -1,2 +1,3 @@
+pub mod FaultNames
 pub mod Tapes
 pub mod Turns

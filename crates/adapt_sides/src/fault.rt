@@ -1,5 +1,8 @@
 //! Why a side can't go on.
 
+ghost use Rattle.std.specs.Prelude.{◌≡◌};
+ghost use Rattle.adapt_sides.specs.FaultNames.{client_fault_number, client_fault_name, relay_fault_number, relay_fault_name};
+
 use std::error::Error;
 use std::fmt::{self, Display};
 
@@ -26,12 +29,16 @@ pub enum ClientFault {
 
 impl ClientFault {
     /// The fault's number, 1 to 8.
-    pub fn number(self) -> u64 {
+    pub fn number(self) -> u64
+        ensures { result ≡ client_fault_number self }
+    {
         self as u64
     }
 
     /// The fault's name, as `NotLegal`.
-    pub fn name(self) -> &'static str {
+    pub fn name(self) -> &'static str
+        ensures { result.now ≡ client_fault_name self }
+    {
         match self {
             ClientFault::Head => "Head",
             ClientFault::Layout => "Layout",
@@ -72,12 +79,16 @@ pub enum RelayFault {
 
 impl RelayFault {
     /// The fault's number, 1 to 6.
-    pub fn number(self) -> u64 {
+    pub fn number(self) -> u64
+        ensures { result ≡ relay_fault_number self }
+    {
         self as u64
     }
 
     /// The fault's name, as `Length`.
-    pub fn name(self) -> &'static str {
+    pub fn name(self) -> &'static str
+        ensures { result.now ≡ relay_fault_name self }
+    {
         match self {
             RelayFault::Head => "Head",
             RelayFault::Chunk => "Chunk",

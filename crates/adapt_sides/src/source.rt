@@ -11,7 +11,7 @@ ghost use Rattle.adapt_sides.specs.Turns.{ReadsBody};
 
 use crate::fault::RelayFault;
 use crate::turn::Turn;
-use trace_core::Plan;
+use trace_core::{Plan, State};
 use wire_kit::Wire;
 
 /// The message's source: its head was read, and its body comes.
@@ -38,6 +38,11 @@ pub trait Source {
     /// plan knows is its own.
     fn begins(&self, plan: &Plan) -> bool
         ensures { result ≡ true → agrees (seen plan.now []) self.now };
+
+    /// Whether its numbers are those of this history: the bytes that came, the end, and a known length.
+    fn agrees_with(&self, state: &State) -> bool
+        ensures yes { result ≡ true → agrees (seen state.now.plan state.now.events) self.now }
+        ensures no { result ≡ false → agrees (seen state.now.plan state.now.events) self.now → ⊥ };
 
     /// Reads what the wire gives into the front of the buffer, as many body bytes as the sum of In. With an empty buffer it
     /// asks no wire, and still answers an End that is due.

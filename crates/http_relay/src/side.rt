@@ -1,6 +1,7 @@
 //! The source's side: a message's head, and its body, over a wire.
 
 ghost use Rattle.std.specs.Prelude.{◌≡◌, ◌<◌, ◌≤◌, [], length, take, IfOk, IfErr, OnErr, None, true, false, List, ℕ, ◌↔◌, IsTrue, IfSome, Some, Err, option_copied};
+ghost use Rattle.trace_core.specs.History.{seen};
 ghost use Rattle.trace_core.specs.Turns.{in_sum};
 ghost use Rattle.http_relay.specs.Source.{Agrees, MustWait, Refuses};
 ghost use Rattle.adapt_sides.specs.Turns.{ReadsBody};
@@ -15,7 +16,7 @@ use arrayvec::ArrayVec;
 use bytes::BytesMut;
 use http_side::{Framing, HttpFault, HttpRequest, HttpResponse, read_request, read_response};
 use std::alloc::Global;
-use trace_core::{Event, Plan};
+use trace_core::{Event, Plan, State};
 use wire_kit::{Got, Wire};
 
 /// The most bytes that are kept without being framed.
@@ -332,6 +333,13 @@ impl SourceSide {
         ensures agrees { result ≡ true → (x : Seen) → x.plan ≡ plan.now → x.received ≡ 0 → x.ended ≡ false → Agrees x self.now.body }
     {
         !self.is_unread() && self.fault.is_none() && self.body.begins(plan.len)
+    }
+
+    /// Whether its numbers are those of this history: the bytes of the body that were told, its end, and a known length.
+    pub fn agrees_with(&self, state: &State) -> bool
+        ensures { IsTrue result ↔ Agrees (seen state.now.plan state.now.events) self.now.body }
+    {
+        self.body.agrees_with(&state.seen())
     }
 
     /// Why the head is refused, where a turn answered Head. None behind Head is 101.

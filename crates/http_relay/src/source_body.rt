@@ -4,14 +4,14 @@ ghost use Rattle.std.specs.Prelude.{◌≡◌, ℕ, ◌+◌, ◌<◌, ◌≤◌,
 ghost use Rattle.http_side.specs.Body.{HasRead, is_over, IsClosedBody};
 ghost use Rattle.trace_core.specs.Turns.{in_sum};
 ghost use Rattle.http_relay.specs.Events.{body_events};
-ghost use Rattle.http_relay.specs.Source.{Fits, BodyReads, MustWait, Refuses, known};
+ghost use Rattle.http_relay.specs.Source.{Agrees, Fits, BodyReads, MustWait, Refuses, known};
 ghost use Rattle.http_side.specs.declared.body.Framing.{Framing as Way};
 
 use crate::body::read_body;
 use adapt_sides::RelayFault;
 use arrayvec::ArrayVec;
 use http_side::{BodyReader, Framing};
-use trace_core::Event;
+use trace_core::{Event, Seen};
 
 /// The most body bytes that a message may have.
 const MAX_COUNT: u64 = (1 << 62) - 1;
@@ -77,9 +77,20 @@ impl SourceBody {
     pub(crate) fn begins(&self, len: Option<u64>) -> bool
         ensures { result ≡ true → (self.now.received ≡ 0) × (self.now.ended ≡ false) × IfSome len (λ n. known self.now.framing ≡ Some n) }
     {
-        if self.received != 0 || self.ended {
-            return false;
-        }
+        self.received == 0 && !self.ended && self.has_length(len)
+    }
+
+    /// Whether its numbers are those of what is seen, and a length that the plan knows is the framing's.
+    pub(crate) fn agrees_with(&self, seen: &Seen) -> bool
+        ensures { IsTrue result ↔ Agrees seen.now self.now }
+    {
+        seen.received == self.received && seen.ended == self.ended && self.has_length(seen.plan.len)
+    }
+
+    /// Whether this length, if there is one, is the framing's.
+    fn has_length(&self, len: Option<u64>) -> bool
+        ensures { IsTrue result ↔ IfSome len (λ n. known self.now.framing ≡ Some n) }
+    {
         match (len, self.framing) {
             (None, _) => true,
             (Some(n), Framing::None) => n == 0,

@@ -35,6 +35,10 @@ impl Source for SourceSide {
         SourceSide::begins(self, plan)
     }
 
+    fn agrees_with(&self, state: &State) -> bool {
+        SourceSide::agrees_with(self, state)
+    }
+
     fn read_turn<W: Wire>(&mut self, wire: &mut W, out: &mut [u8]) -> Result<Turn, RelayFault> {
         SourceSide::read_turn(self, wire, out)
     }
