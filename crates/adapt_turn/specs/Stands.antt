@@ -2,9 +2,13 @@
 use Rattle.std.specs.Prelude.{◌≡◌, ℕ, ◌<◌, ◌⊎◌, Bool, true, false, List, [], ◌++◌, Option, Some, None, if◌then◌else◌}
 use Rattle.trace_core.specs.declared.history.Seen.{Seen}
 use Rattle.trace_core.specs.declared.history.Cause.{Cause}
+use Rattle.trace_core.specs.declared.history.Point.{Point}
+use Rattle.trace_core.specs.declared.history.Point.TheVariants.{Reqmod, Respmod}
 use Rattle.trace_core.specs.Faults.{chooses_original}
 use Rattle.wire_kit.specs.Past.{Past, IsLater}
 use Rattle.adapt_sides.specs.Tapes.{chosen}
+use Rattle.adapt_sides.specs.Turns.{Gift}
+use Rattle.adapt_sides.specs.Turns.Gift.{nothing, message}
 use Rattle.adapt_hold.specs.Spans.{Span, EndsBody}
 use Rattle.adapt_hold.specs.Holding.{Holding, shows}
 
@@ -35,31 +39,65 @@ joined t d = record {
   back_taken = t.back_taken ++ d.back_taken;
 }
 
-abbrev pub nothing : Texts
-nothing = record { source_read = []; service_read = []; service_taken = []; next_taken = []; back_taken = [] }
+abbrev pub no_texts : Texts
+no_texts = record { source_read = []; service_read = []; service_taken = []; next_taken = []; back_taken = [] }
 
--- The message goes to one of the two wires, and the other one gets a refusal or nothing; or, once the history is closed and no
--- byte of a body went out, both get a refusal or nothing.
-abbrev pub HopsAre : (next_given : Seen → List ℕ → List ℕ → List ℕ → Type 0) → (next_aside : List ℕ → Type 0)
+-- no byte of a body went out
+abbrev pub IsUndelivered : Seen → Type 0
+IsUndelivered x = (x.original_delivered ≡ 0) × (x.adapted_delivered ≡ 0)
+
+-- what the user's writer has: at REQMOD the user is the source, at RESPMOD the next hop
+abbrev pub user_gift : Point → Gift → Gift → Gift
+user_gift Reqmod next back = back
+user_gift Respmod next back = next
+
+-- Where a message goes that has this head: one of the two wires has it, and as long as the history is open nothing is begun on the other one.
+pub record MessageOn (given : Seen → List ℕ → List ℕ → List ℕ → Type 0) (gift : Gift) (aside : List ℕ → Type 0) (other : Gift) (x : Seen) (body taken elsewhere : List ℕ) : Type 0 where
+  pub begun : gift ≡ message
+  pub alone : x.closed ≡ false → other ≡ nothing
+  pub head : List ℕ
+  pub given_is : given x head body taken
+  pub aside_is : aside elsewhere
+
+-- What the two wires took of messages and refusals: nothing is begun; one message goes to the next hop, or back to the user; or the
+-- history is closed, no byte of a body went out, and each wire took of a refusal alone, or nothing.
+pub record NoneBegun (next_gift back_gift : Gift) (next_aside back_aside : List ℕ → Type 0) (x : Seen) (next back : List ℕ) : Type 0 where
+  pub next_is : next_gift ≡ nothing
+  pub back_is : back_gift ≡ nothing
+  pub none : IsUndelivered x
+  pub next_aside_is : next_aside next
+  pub back_aside_is : back_aside back
+
+pub record IsRefused (next_aside back_aside : List ℕ → Type 0) (x : Seen) (next back : List ℕ) : Type 0 where
+  pub over : x.closed ≡ true
+  pub none : IsUndelivered x
+  pub next_aside_is : next_aside next
+  pub back_aside_is : back_aside back
+
+abbrev pub HopsAre : (next_gift back_gift : Gift)
+    → (next_given : Seen → List ℕ → List ℕ → List ℕ → Type 0) → (next_aside : List ℕ → Type 0)
     → (back_given : Seen → List ℕ → List ℕ → List ℕ → Type 0) → (back_aside : List ℕ → Type 0)
-    → Seen → List ℕ → List ℕ → List ℕ → List ℕ → Type 0
-HopsAre next_given next_aside back_given back_aside x head body next back =
-    (next_given x head body next × back_aside back)
-    ⊎ ((next_aside next × back_given x head body back)
-    ⊎ ((x.closed ≡ true) × (x.original_delivered ≡ 0) × (x.adapted_delivered ≡ 0) × next_aside next × back_aside back))
+    → Seen → List ℕ → List ℕ → List ℕ → Type 0
+HopsAre next_gift back_gift next_given next_aside back_given back_aside x body next back =
+    NoneBegun next_gift back_gift next_aside back_aside x next back
+    ⊎ (MessageOn next_given next_gift back_aside back_gift x body next back
+    ⊎ (MessageOn back_given back_gift next_aside next_gift x body back next
+    ⊎ IsRefused next_aside back_aside x next back))
 
 -- The source's bytes spell the original, the service's the adapted body, and the tapes keep the ends of both; what the service's
 -- wire took is of a request with the original, and what the next hop's took of one message with the chosen body.
-pub record Stands (h : Holding) (read sent heard : Seen → List ℕ → List ℕ → Type 0) (hops : Seen → List ℕ → List ℕ → List ℕ → List ℕ → Type 0) (t : Texts) : Type 0 where
+pub record Stands (h : Holding) (agrees : Seen → Type 0) (read sent heard : Seen → List ℕ → List ℕ → Type 0)
+    (hops : Seen → List ℕ → List ℕ → List ℕ → Type 0) (refuses : Point → Type 0) (t : Texts) : Type 0 where
   pub original : List ℕ
   pub adapted : List ℕ
-  pub head : List ℕ
   pub original_is : EndsBody h.original original
   pub adapted_is : EndsBody h.adapted adapted
+  pub agrees_is : (shows h.history).closed ≡ false → agrees (shows h.history)
   pub read_is : read (shows h.history) original t.source_read
   pub sent_is : sent (shows h.history) original t.service_taken
   pub heard_is : heard (shows h.history) adapted t.service_read
-  pub hops_are : hops (shows h.history) head (chosen (shows h.history) original adapted) t.next_taken t.back_taken
+  pub hops_are : hops (shows h.history) (chosen (shows h.history) original adapted) t.next_taken t.back_taken
+  pub refuses_is : refuses h.history.plan.point
 
 -- A pass over the three wires: they gave and took these bytes, and what stood before them stands with them.
 pub record Goes (old_stands new_stands : Texts → Type 0) (source_old source_new service_old service_new next_old next_new : Past → Type 0) : Type 0 where

@@ -3,9 +3,13 @@
 
 mod forward;
 mod parts;
+mod start;
+mod turned;
 mod turning;
 mod tx;
 
 pub use forward::Forward;
 pub use parts::Passed;
-pub use tx::{Line, Outcome, Parts, Side, Start, Turned, Tx};
+pub use start::{Line, Parts, Start};
+pub use turned::{Outcome, Side, Turned};
+pub use tx::Tx;

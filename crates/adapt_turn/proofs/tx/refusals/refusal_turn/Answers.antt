@@ -1,5 +1,5 @@
 use Rattle.adapt_turn.proofs.Passes as passes
-use Rattle.adapt_turn.proofs.tx.refusal_turn.Goals as goal
+use Rattle.adapt_turn.proofs.tx.refusals.refusal_turn.Goals as goal
 
 pub write_turn-requires : goal.write_turn-requires
 write_turn-requires g c = passes.keeps_undelivered_at c.args.hold.now c.state-state.result.now c.tape_of-tape.result.now c.state-state.ensures.tied c.state-state.ensures.state c.tape_of-tape.ensures.tape

@@ -1,0 +1,57 @@
+//! One more try of a request whose connection broke.
+
+ghost use Rattle.std.specs.Prelude.{◌≡◌, true, []};
+ghost use Rattle.trace_core.specs.declared.history.Event.TheVariants.{Fail, Retry};
+ghost use Rattle.trace_core.specs.declared.history.Cause.TheVariants.{Service};
+ghost use Rattle.trace_core.specs.Legal.{MayFollow};
+ghost use Rattle.adapt_hold.specs.Holding.{shows, moved};
+
+use crate::forward::Forward;
+use crate::turned::Outcome;
+use crate::tx::Tx;
+use adapt_hold::{fail, go_on};
+use adapt_sides::{Hop, Service, Source};
+use span_bank::{Bank, Ledgers};
+use std::mem;
+use std::sync::Wait;
+use trace_core::{Cause, Event};
+use wire_kit::Wire;
+
+impl<B: Ledgers, S: Source, V: Service, K: Hop, F: Forward<S, K>, A: Wire, W: Wire, C: Wire> Tx<
+    B,
+    S,
+    V,
+    K,
+    F,
+    A,
+    W,
+    C,
+> {
+    /// Begins the request anew on a fresh connection, and gives the broken one's wire back.
+    pub fn retry(&mut self, rt: &impl Wait, bank: &Bank<B>, wire: W) -> W
+        requires { MayFollow self.old.hold.history.plan self.old.hold.history.events Retry }
+        ensures { self.new.hold ≡ moved self.old.hold Retry [] }
+    {
+        go_on(rt, bank, &mut self.hold, Event::Retry);
+        self.broken = false;
+        self.reused = false;
+        match &mut self.service {
+            Some(line) => {
+                line.side.again();
+                mem::replace(&mut line.wire, wire)
+            }
+            None => wire,
+        }
+    }
+
+    /// Fails the transaction by the service's fault, where no fresh connection can be had.
+    pub fn no_retry(&mut self, rt: &impl Wait, bank: &Bank<B>)
+        requires { MayFollow self.old.hold.history.plan self.old.hold.history.events Retry }
+        ensures hold { self.new.hold ≡ moved self.old.hold (Fail Service) [] }
+        ensures outcome { self.new.outcome ≡ Outcome.Fail Service }
+        ensures over { (shows self.new.hold.history).closed ≡ true }
+    {
+        fail(rt, bank, &mut self.hold, Cause::Service);
+        self.refuse(Cause::Service);
+    }
+}
