@@ -6,3 +6,4 @@ pub mod StepLemmas
 pub mod RowLemmas
 pub mod SomeAnswer
 pub mod ZipLemmas
+pub mod Writable

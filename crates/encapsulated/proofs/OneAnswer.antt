@@ -100,7 +100,7 @@ back (Some q) (Some r) b o = refl
 pub layout_unique : (l k : Layout) → parts_of l ≡ parts_of k → l ≡ k
 layout_unique l k e = sym (back l.req_hdr l.res_hdr l.body l.offset) ∙ ap layout_from e ∙ back k.req_hdr k.res_hdr k.body k.offset
 
-front_of_whole : (lists : List (List Part)) (parts : List Part) → Contains lists parts → IsFront lists parts
+pub front_of_whole : (lists : List (List Part)) (parts : List Part) → Contains lists parts → IsFront lists parts
 front_of_whole lists parts h = ([], subst (Contains lists) (sym (append-nil parts)) h)
 
 whole_body_at : (m : Method) (d : Direction) (text : List ℕ) (parts others : List (Part × ℕ)) → AreParts text parts → AreParts text others

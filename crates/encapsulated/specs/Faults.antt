@@ -11,6 +11,14 @@ use Rattle.encapsulated.specs.Grammar.{AreItems, AreParts}
 use Rattle.encapsulated.specs.Rows.{allowed, IsFront}
 use Rattle.encapsulated.specs.Layouts.{names, offsets, Rises}
 
+-- the faults by their numbers
+abbrev pub fault_number : EncFault → ℕ
+fault_number Syntax = 1
+fault_number Name = 2
+fault_number Order = 3
+fault_number NoBodyPart = 4
+fault_number Offset = 5
+
 -- the text's parts are known, and P holds of them
 abbrev pub WithParts : List ℕ → (List (Part × ℕ) → Type 0) → Type 0
 WithParts text P = (parts : List (Part × ℕ)) × AreParts text parts × P parts

@@ -88,6 +88,16 @@ head_if false part = []
 abbrev pub heads_of : Form → List Part
 heads_of form = head_if form.req_hdr ReqHdr ++ head_if form.res_hdr ResHdr
 
+-- whether some list has this body behind these heads, whatever their offsets
+abbrev pub heads_fit : BodyPart → Option ℕ → Option ℕ → Bool
+heads_fit ReqBody req_hdr None = true
+heads_fit ReqBody req_hdr (Some offset) = false
+heads_fit OptBody None None = true
+heads_fit OptBody None (Some offset) = false
+heads_fit OptBody (Some offset) res_hdr = false
+heads_fit ResBody req_hdr res_hdr = true
+heads_fit NullBody req_hdr res_hdr = true
+
 -- a head's item, and what separates it from the next
 abbrev pub head_text : Part → Option ℕ → List ℕ
 head_text part None = []

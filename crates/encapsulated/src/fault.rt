@@ -1,4 +1,7 @@
 //! Why a list is refused.
+ghost use Rattle.std.specs.Prelude.{◌≡◌};
+ghost use Rattle.encapsulated.specs.Faults.{fault_number};
+
 use thiserror::Error;
 
 /// Why a list is refused. Of those that stand, the first in this order is answered.
@@ -19,4 +22,13 @@ pub enum EncFault {
     /// The first offset isn't 0, or one is smaller than the one before.
     #[error("the list's offsets don't begin at 0, or they fall")]
     Offset = 5,
+}
+
+impl EncFault {
+    /// The fault's number, 1 to 5.
+    pub fn number(self) -> u64
+        ensures { result ≡ fault_number self }
+    {
+        self as u64
+    }
 }

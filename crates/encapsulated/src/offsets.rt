@@ -1,6 +1,7 @@
 //! Where each part of an encapsulated message begins.
 ghost use Rattle.std.specs.Prelude.{◌≡◌, ◌↔◌, IsTrue};
-ghost use Rattle.encapsulated.specs.Layouts.{Rises, offsets, parts_of};
+ghost use Rattle.encapsulated.specs.Layouts.{IsWritable, Rises, offsets, parts_of};
+ghost use Rattle.encapsulated.specs.Order.{heads_fit};
 
 use crate::parts::BodyPart;
 
@@ -20,6 +21,24 @@ pub struct Layout {
 }
 
 impl Layout {
+    /// Whether some message may have this layout, so that it can be written (RFC 3507, section 4.4.1).
+    pub fn is_writable(&self) -> bool
+        ensures { IsTrue result ↔ IsWritable self.now }
+    {
+        self.heads_fit() && self.rises()
+    }
+
+    /// Whether some message may have these heads with this body.
+    fn heads_fit(&self) -> bool
+        ensures { result ≡ heads_fit self.now.body self.now.req_hdr self.now.res_hdr }
+    {
+        match self.body {
+            BodyPart::ReqBody => self.res_hdr.is_none(),
+            BodyPart::OptBody => self.req_hdr.is_none() && self.res_hdr.is_none(),
+            BodyPart::ResBody | BodyPart::NullBody => true,
+        }
+    }
+
     /// Whether the first offset is 0, and none is smaller than the one before.
     pub(crate) fn rises(&self) -> bool
         ensures { IsTrue result ↔ Rises (offsets (parts_of self.now)) }

@@ -2,7 +2,7 @@
 ghost use Rattle.std.specs.Prelude.{◌≡◌, ◌++◌, ◌^◌, ◌<◌, IfOk, OnOk, IfSome};
 ghost use Rattle.encapsulated.specs.declared.message.Direction.{Direction};
 ghost use Rattle.encapsulated.specs.declared.message.Method.{Method};
-ghost use Rattle.encapsulated.specs.Layouts.{MayHave, IsLayout, written, item_text};
+ghost use Rattle.encapsulated.specs.Layouts.{MayHave, IsLayout, IsWritable, written, item_text};
 ghost use Rattle.encapsulated.specs.Order.{head_text};
 
 use crate::NoMemory;
@@ -12,11 +12,12 @@ use adapt_bytes::{Small, put_decimal};
 use std::alloc::Global;
 
 /// The text of a list that some message may have: `name=offset` for each part, in lower case and
-/// without leading zeros, joined by a comma and a space (RFC 3507, section 4.4.1).
+/// without leading zeros, joined by a comma and a space (RFC 3507, section 4.4.1). What is asked is what
+/// [`Layout::is_writable`] tests.
 ///
 /// [`NoMemory`] where the text finds no memory.
 pub fn write(alloc: Global, layout: &Layout) -> Result<Vec<u8>, NoMemory>
-    requires { (method : Method) × (direction : Direction) × MayHave method direction layout.now }
+    requires { IsWritable layout.now }
     ensures text { IfOk result (λ text. text.items ≡ written layout.now) }
 
     // It is read again as this layout, in each message that may have it.

@@ -6,9 +6,23 @@ use Rattle.httparse.specs.declared.spans.HeaderSpan.{HeaderSpan}
 use Rattle.httparse.specs.declared.spans.RequestSpans.{RequestSpans}
 use Rattle.httparse.specs.declared.spans.ResponseSpans.{ResponseSpans}
 use Rattle.http_side.specs.declared.fault.HttpFault.{HttpFault}
+use Rattle.http_side.specs.declared.fault.HttpFault.TheVariants as Faults
 use Rattle.http_side.specs.declared.fault.HttpFault.TheVariants.{More, TooLong, Bad, BothLengths, Lengths, Coding}
 use Rattle.http_side.specs.Fields.{values_of}
 use Rattle.http_side.specs.Lengths.{content_length, coding}
+
+-- the faults by their numbers
+abbrev pub fault_number : HttpFault → ℕ
+fault_number Faults.More = 1
+fault_number Faults.Bad = 2
+fault_number Faults.TooLong = 3
+fault_number Faults.TooMany = 4
+fault_number Faults.BothLengths = 5
+fault_number Faults.Lengths = 6
+fault_number Faults.Coding = 7
+fault_number Faults.Target = 8
+fault_number Faults.Connect = 9
+fault_number Faults.NoMemory = 10
 
 -- a request's head; fields are names as they came, and values without blanks at their ends
 pub record RequestParts : Type 0 where

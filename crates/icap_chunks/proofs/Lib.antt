@@ -7,6 +7,7 @@ pub mod Readings
 pub mod Runs
 pub mod Standing
 pub mod Table
+pub mod Totals
 pub mod Stands
 pub mod Walks
 pub mod Words

@@ -39,6 +39,11 @@ pub fn reads_one_way()
     ensures { (text a b : List ℕ) (i j : Bool) → IsChunked text a i → IsChunked text b j → (a ≡ b) × (i ≡ j) }
 {}
 
+/// Each text has a reading: a body and what is left over, a fault, or the front of a body.
+pub fn has_a_reading()
+    ensures { (text : List ℕ) → (body : List ℕ) × (outcome : Outcome) × IsReading text body outcome }
+{}
+
 /// Any text has one reading at most: a body and what is left over, a fault, or the front of a body.
 pub fn has_one_reading()
     ensures { (text a b : List ℕ) (p q : Outcome) → IsReading text a p → IsReading text b q → (a ≡ b) × (p ≡ q) }

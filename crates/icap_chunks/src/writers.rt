@@ -13,6 +13,7 @@ pub fn put_chunk_head(n: u64, out: &mut Small)
     requires room { array_vec_len out.old + 18 ≤ 64 }
     ensures items { out.new.items ≡ out.old.items ++ chunk_head n }
     ensures len { array_vec_len out.new ≡ array_vec_len out.old + length (chunk_head n) }
+    ensures short { length (chunk_head n) ≤ 18 }
 {
     put_hex(n, out);
     put_line_end(out);
@@ -33,6 +34,7 @@ pub fn put_last(ieof: bool, out: &mut Small)
     requires { array_vec_len out.old + 11 ≤ 64 }
     ensures items { out.new.items ≡ out.old.items ++ last_chunk ieof }
     ensures len { array_vec_len out.new ≡ array_vec_len out.old + length (last_chunk ieof) }
+    ensures short { length (last_chunk ieof) ≤ 11 }
 {
     if ieof {
         put_text(b"0; ieof\r\n\r\n", out);

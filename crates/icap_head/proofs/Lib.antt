@@ -9,5 +9,6 @@ pub mod Readings
 pub mod Refusals
 pub mod Sections
 pub mod Statuses
+pub mod Totals
 pub mod Trimmed
 pub mod Words

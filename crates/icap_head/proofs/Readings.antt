@@ -1,5 +1,5 @@
 -- A text has one reading as a head, and where it has one no fault stands.
-use Rattle.std.proofs.Common.{◌≡◌, ℕ, ◌≤◌, List, [], ◌∷◌, ◌++◌, length, take, drop, map, refl, sym, ap, ◌∙◌, subst, arith, append-nil, append_assoc, take-append-drop, length-append, length-drop, length-take, codes, ◌⊎◌, inl, inr}
+use Rattle.std.proofs.Common.{take_all, ◌≡◌, ℕ, ◌≤◌, List, [], ◌∷◌, ◌++◌, length, take, drop, map, refl, sym, ap, ◌∙◌, subst, arith, append-nil, append_assoc, take-append-drop, length-append, length-drop, length-take, codes, ◌⊎◌, inl, inr}
 use Rattle.std.proofs.lemmas.List.{append_cancel_right, take-take, drop_at, length-map, take-append-le}
 use Rattle.httparse.specs.Grammar.{ReadsSection, NeverHasSection, print_section}
 use Rattle.httparse.specs.Spans.{name_and_value}
@@ -173,3 +173,13 @@ has_head-append S text more fields n h = record {
   few = h.few;
   head = subst (λ t. ReadsHead S t fields []) (sym (take-append-le n text more h.inside)) h.head;
 }
+
+-- a text that is a head within the limits is found, whatever follows
+pub has_all : (S : List ℕ → Type 0) (text more : List ℕ) (fields : FieldList) → length fields ≤ 100 → length text ≤ 16384 → ReadsHead S text fields []
+    → HasHead S (text ++ more) fields (length text)
+has_all S text more fields few short head = has_head-append S text more fields (length text) (record {
+  inside = omega arith;
+  within = short;
+  few = few;
+  head = subst (λ t. ReadsHead S t fields []) (sym (take_all (length text) text (omega arith))) head;
+})

@@ -31,7 +31,7 @@ no_feeds [] lacks = refl
 no_feeds (b ∷ text) lacks = line_count-other b text (lacks 0 (omega arith)) ∙ no_feeds text (λ k inside is. lacks (suc k) (omega arith) is)
 
 -- a text that has an LF has a line
-count_at : (text : List ℕ) (k : ℕ) → k < length text → get_or text k 0 ≡ 10 → 0 < line_count text
+pub count_at : (text : List ℕ) (k : ℕ) → k < length text → get_or text k 0 ≡ 10 → 0 < line_count text
 count_at [] k inside is = absurd (omega arith)
 count_at (b ∷ text) zero inside is = let e = line_count-feed b text is in omega (arith, e)
 count_at (b ∷ text) (suc k) inside is =
@@ -50,7 +50,7 @@ count_behind front w init e pos =
 -- ---- lines
 
 -- the text is one line: it ends in LF and has no other
-abbrev OneLine : List ℕ → Type 0
+abbrev pub OneLine : List ℕ → Type 0
 OneLine text = (init : List ℕ) × Lacks 10 init × (text ≡ init ++ 10 ∷ [])
 
 end_line : (e : LineEnd) → OneLine (print_end e)
@@ -70,7 +70,7 @@ name_lacks name token k inside is = false_true (sym feed_no_name ∙ ap is_token
 value_lacks : (value : List ℕ) → AllPass is_value_byte value → Lacks 10 value
 value_lacks value pass k inside is = false_true (ap is_value_byte (sym is) ∙ pass k 0 inside)
 
-field_line : (f : Line) → IsField f → OneLine (print_field f)
+pub field_line : (f : Line) → IsField f → OneLine (print_field f)
 field_line f h =
     with_front (f.name ++ 58 ∷ f.raw) (print_end f.end)
     (lacks_append 10 f.name (58 ∷ f.raw) (name_lacks f.name h.name) (lacks_cons 10 58 f.raw (tested 10 58 refl) (value_lacks f.raw h.raw)))
@@ -92,7 +92,7 @@ all_head f fields all = all 0 f (omega arith)
 all_tail : (f : Line) (fields : List Line) → All IsField (f ∷ fields) → All IsField fields
 all_tail f fields all k d inside = all (suc k) d (omega arith)
 
-all_take : (n : ℕ) (fields : List Line) → All IsField fields → All IsField (take n fields)
+pub all_take : (n : ℕ) (fields : List Line) → All IsField fields → All IsField (take n fields)
 all_take zero fields all k d inside = absurd (omega arith)
 all_take (suc n) [] all k d inside = all k d inside
 all_take (suc n) (f ∷ fields) all k d inside = All-cons IsField f (take n fields) (all_head f fields all) (all_take n fields (all_tail f fields all)) k d inside
@@ -135,7 +135,7 @@ reads_cons f fields last text behind rest h e r =
     (All-cons IsField f fields h r.0, e ∙ ap (λ t. print_field f ++ t) r.1 ∙ sym (append_assoc (print_field f) (print_section fields last) rest) ∙ ap (λ t. t ++ rest) (sym (section_cons f fields last)))
 
 -- the lines of an unfinished section are whole field lines
-open_lines : (k : ℕ) (fields : List Line) (last : LineEnd) (text more : List ℕ) → All IsField fields → text ++ more ≡ print_section fields last
+pub open_lines : (k : ℕ) (fields : List Line) (last : LineEnd) (text more : List ℕ) → All IsField fields → text ++ more ≡ print_section fields last
     → k ≤ line_count text → HasNoSection text
     → (k ≤ length fields) × ((rest : List ℕ) × (text ≡ flat_map print_field (take k fields) ++ rest))
 open_lines zero fields last text more all e enough none = (omega arith, (text, refl))

@@ -5,6 +5,7 @@ use Rattle.icap_head.specs.FieldLines.{ReadsFields, FieldsStand, unended}
 use Rattle.icap_head.specs.Methods.{method_name}
 use Rattle.icap_head.specs.StartLines.{IsFirstLine, HasNoLine, IsRequestLine, IsStatusLine, LineStands, MayBeRequestLine}
 use Rattle.icap_head.specs.declared.reading.HeadFault.{HeadFault}
+use Rattle.icap_head.specs.declared.reading.HeadFault.TheVariants as Faults
 use Rattle.icap_head.specs.declared.requests.IcapRequest.{IcapRequest}
 use Rattle.icap_head.specs.declared.responses.IcapResponse.{IcapResponse}
 
@@ -22,6 +23,16 @@ pub record HasHead (IsStart : List ℕ → Type 0) (text : List ℕ) (fields : F
   pub within : size ≤ 16384
   pub few : length fields ≤ 100
   pub head : ReadsHead IsStart (take size text) fields []
+
+-- the faults by their numbers
+abbrev pub fault_number : HeadFault → ℕ
+fault_number Faults.More = 1
+fault_number Faults.StartLine = 2
+fault_number Faults.Version = 3
+fault_number Faults.Field = 4
+fault_number Faults.TooLong = 5
+fault_number Faults.TooMany = 6
+fault_number Faults.NoMemory = 7
 
 -- why no head is read, of a start line of that form: the first 16,384 bytes have no whole line, or a line that is refused,
 -- or fields that are

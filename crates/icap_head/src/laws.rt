@@ -1,12 +1,13 @@
 //! What holds of all heads: each law is the contract of a function that does nothing.
-ghost use Rattle.std.specs.Prelude.{◌≡◌, ◌≢◌, ℕ, ◌<◌, ◌≤◌, ◌↔◌, ◌++◌, List, take};
+ghost use Rattle.std.specs.Prelude.{◌≡◌, ◌≢◌, ℕ, ◌<◌, ◌≤◌, ◌↔◌, ◌++◌, List, length, take};
 ghost use Rattle.http_header.specs.HeaderMap.{get_all};
 ghost use Rattle.http_header.specs.Token.{lowercase};
 ghost use Rattle.icap_head.specs.declared.reading.HeadFault.{HeadFault};
 ghost use Rattle.icap_head.specs.Fields.{FieldList, as_header_map, values_of};
 ghost use Rattle.icap_head.specs.Heads.{Request, Response, HasRequest, HasResponse, IsRequestHead, IsResponseHead, Stands};
 ghost use Rattle.icap_head.specs.StartLines.{RequestForm, StatusForm};
-ghost use Rattle.icap_head.specs.Written.{IsRequest, IsResponse};
+ghost use Rattle.icap_head.specs.declared.reading.TheConstants.{MAX_FIELDS, MAX_HEAD};
+ghost use Rattle.icap_head.specs.Written.{IsRequest, IsResponse, request_text, response_text};
 
 /// A text has one head at its front, of one length, at most.
 pub fn one_head()
@@ -26,6 +27,14 @@ pub fn one_fault()
         → Stands RequestForm fault text → ¬ (HasRequest text value size) }
     ensures no_response { (text : List ℕ) (fault : HeadFault) (value : Response) (size : ℕ)
         → Stands StatusForm fault text → ¬ (HasResponse text value size) }
+{}
+
+/// Each text has an answer: it can't be that no head is at its front and that no fault stands, `More` among them.
+pub fn some_answer()
+    ensures requests { (text : List ℕ) → ((value : Request) (size : ℕ) → ¬ (HasRequest text value size))
+        → ((fault : HeadFault) → ¬ (Stands RequestForm fault text)) → ⊥ }
+    ensures responses { (text : List ℕ) → ((value : Response) (size : ℕ) → ¬ (HasResponse text value size))
+        → ((fault : HeadFault) → ¬ (Stands StatusForm fault text)) → ⊥ }
 {}
 
 /// A head stays the same whatever follows.
@@ -56,6 +65,15 @@ pub fn beginnings_are_more()
 pub fn writes_what_heads_hold()
     ensures requests { (value : Request) → IsRequest value ↔ ((text : List ℕ) × IsRequestHead text value) }
     ensures responses { (value : Response) → IsResponse value ↔ ((text : List ℕ) × IsResponseHead text value) }
+{}
+
+/// What is written within the limits is read again by the reader: a head of at most 100 fields and 16,384 bytes is found
+/// whole, whatever follows. A written head beyond them is a head too, and is refused by its reader as any other.
+pub fn reads_what_it_writes()
+    ensures requests { (value : Request) (more : List ℕ) → IsRequest value → length value.fields ≤ MAX_FIELDS
+        → length (request_text value) ≤ MAX_HEAD → HasRequest (request_text value ++ more) value (length (request_text value)) }
+    ensures responses { (value : Response) (more : List ℕ) → IsResponse value → length value.fields ≤ MAX_FIELDS
+        → length (response_text value) ≤ MAX_HEAD → HasResponse (response_text value ++ more) value (length (response_text value)) }
 {}
 
 /// A look-up by name finds what a header map of the fields has under that name.

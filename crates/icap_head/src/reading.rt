@@ -3,6 +3,7 @@ ghost use Rattle.std.specs.Prelude.{◌≡◌, ◌≤◌, ◌<◌, length, take}
 ghost use Rattle.icap_head.specs.declared.reading.HeadFault.{HeadFault};
 ghost use Rattle.icap_head.specs.declared.reading.HeadFault.TheVariants as Faults;
 ghost use Rattle.icap_head.specs.FieldLines.{unended};
+ghost use Rattle.icap_head.specs.Heads.{fault_number};
 
 use std::alloc::AllocError;
 
@@ -37,6 +38,15 @@ pub enum HeadFault {
     TooMany = 6,
     /// Memory ran out.
     NoMemory = 7,
+}
+
+impl HeadFault {
+    /// The fault's number, 1 to 7.
+    pub fn number(self) -> u64
+        ensures { result ≡ fault_number self }
+    {
+        self as u64
+    }
 }
 
 impl From<AllocError> for HeadFault {

@@ -18,7 +18,7 @@ pub const MAX_PAGES: u64 = 1 << 40;
 #[cycle(chain)]
 #[derive(Drop)]
 pub struct Page {
-    bytes: [u8; 4096],
+    bytes: [u8; PAGE],
     rest: Chain,
 }
 
@@ -42,12 +42,13 @@ impl Model for Chain {
     ghost Value = { List (List ℕ) };
 
     ghost use Rattle.span_bank.specs.Chain.{contents_of, text_of};
+    ghost use Rattle.span_bank.specs.declared.chain.TheConstants.{PAGE};
     ghost use Rattle.std.proofs.Common.{arith};
 
     ghost view = { λ p. contents_of p.top };
 
     ghost invariant = { λ p. (p.count ≡ length (contents_of p.top)) × (p.count ≤ 2 ^ 40)
-        × (length (text_of (contents_of p.top)) ≡ 4096 * p.count) };
+        × (length (text_of (contents_of p.top)) ≡ PAGE * p.count) };
 
     ghost size = { λ ps. length ps };
 
@@ -61,7 +62,7 @@ pub(crate) fn blank(alloc: Global) -> Result<Box<Page>, NoMemory>
     Ok(Box::new(
         alloc,
         Page {
-            bytes: [0; 4096],
+            bytes: [0; PAGE],
             rest: Chain::none(),
         },
     )?)
@@ -71,14 +72,14 @@ impl Page {
     /// What stands on it.
     pub fn bytes(&self) -> &[u8]
         ensures bytes { result.now ≡ self.now.bytes }
-        ensures size { length self.now.bytes ≡ 4096 }
+        ensures size { length self.now.bytes ≡ PAGE }
     {
         &self.bytes[..]
     }
 
     /// Writes bytes at a place.
     pub fn write(&mut self, at: usize, bytes: &[u8])
-        requires { at + length bytes.now ≤ 4096 }
+        requires { at + length bytes.now ≤ PAGE }
         ensures written { self.new.bytes ≡ take at self.old.bytes ++ bytes.now ++ drop (at + length bytes.now) self.old.bytes }
         ensures rest { self.new.rest ≡ self.old.rest }
     {
@@ -101,7 +102,7 @@ impl Chain {
     pub fn count(&self) -> u64
         ensures count { result ≡ length self.now }
         ensures within { length self.now ≤ MAX_PAGES }
-        ensures text { length (text_of self.now) ≡ 4096 * length self.now }
+        ensures text { length (text_of self.now) ≡ PAGE * length self.now }
     {
         self.count
     }
@@ -127,7 +128,7 @@ impl Chain {
     /// Takes the first page.
     pub fn pop(&mut self) -> Option<Box<Page>>
         ensures some { IfSome result (λ p. (p.value.rest ≡ []) × (self.old ≡ p.value.bytes ∷ self.new)) }
-        ensures size { IfSome result (λ p. length p.value.bytes ≡ 4096) }
+        ensures size { IfSome result (λ p. length p.value.bytes ≡ PAGE) }
         ensures none { IfNone result ((self.old ≡ []) × (self.new ≡ [])) }
     {
         match mem::replace(self, Chain::none()).into_top().first() {
@@ -152,7 +153,7 @@ impl Chain {
     /// The first page, read in place, and those behind it.
     pub fn first(&self) -> Option<(&Page, &Chain)>
         ensures some { IfSome result (λ p. self.now ≡ p.0.now.bytes ∷ p.1.now) }
-        ensures size { IfSome result (λ p. length p.0.now.bytes ≡ 4096) }
+        ensures size { IfSome result (λ p. length p.0.now.bytes ≡ PAGE) }
         ensures none { IfNone result (self.now ≡ []) }
     {
         match &self.top {

@@ -37,6 +37,7 @@ impl<B: Ledgers> Model for Locked<B> {
     ghost use Rattle.span_bank.specs.State.{IsKept};
     ghost use Rattle.span_bank.specs.Ledgers.{no_amounts};
     ghost use Rattle.span_bank.specs.Stakes.{Stored, IsResized, IsUnchanged, pages_of};
+    ghost use Rattle.span_bank.specs.declared.step.TheConstants.{PAGE_BYTES, SPARE_PAGES};
 
     ghost Value = { Stored };
 
@@ -47,7 +48,7 @@ impl<B: Ledgers> Model for Locked<B> {
     ghost invariant = { λ l. IsKept l.state
         × (l.books.held ≡ l.state.journal.numbers.held)
         × (l.books.held + l.books.free ≡ l.state.journal.numbers.claimed)
-        × (l.books.slack + 4096 * l.used ≡ l.books.held + 16384 * l.state.journal.numbers.rows)
+        × (l.books.slack + PAGE_BYTES * l.used ≡ l.books.held + SPARE_PAGES * PAGE_BYTES * l.state.journal.numbers.rows)
         × (l.books.pages ≡ l.used)
         × (l.rest.parts + l.state.journal.numbers.rows ≡ B.Held.parts)
         × (l.rest.amounts ≡ no_amounts)
@@ -207,7 +208,7 @@ impl<B: Ledgers> Locked<B> {
     pub fn store(&self) -> Store
         ensures used { result.used ≡ self.now.used }
         ensures total { result.total ≡ pages_of self.now.state.journal.numbers.capacity self.now.state.most_rows }
-        ensures bound { self.now.used ≤ self.now.state.journal.numbers.claimed / 4096 + 4 * self.now.state.journal.numbers.rows }
+        ensures bound { self.now.used ≤ self.now.state.journal.numbers.claimed / PAGE_BYTES + SPARE_PAGES * self.now.state.journal.numbers.rows }
         ensures within { result.used ≤ result.total }
     {
         // Shows that the state is sound.

@@ -22,6 +22,7 @@ pub struct Stake<B: Ledgers> {
 impl<B: Ledgers> Model for Stake<B> {
     ghost use Rattle.std.specs.Prelude.{◌≡◌, ◌+◌, ◌*◌, ◌≤◌, ◌^◌};
     ghost use Rattle.span_bank.specs.Stakes.{Shown};
+    ghost use Rattle.span_bank.specs.declared.step.TheConstants.{PAGE_BYTES, SPARE_PAGES};
 
     ghost Value = { Shown };
 
@@ -31,7 +32,7 @@ impl<B: Ledgers> Model for Stake<B> {
     // that may still be had, and the pages as their amounts
     ghost invariant = { λ s. (s.claim ≤ 2 ^ 40) × (s.parts.parts ≡ 1) × (s.parts.amounts.held ≡ s.held)
         × (s.held + s.parts.amounts.free ≡ s.claim)
-        × (s.parts.amounts.slack + 4096 * s.pages ≡ s.held + 16384)
+        × (s.parts.amounts.slack + PAGE_BYTES * s.pages ≡ s.held + SPARE_PAGES * PAGE_BYTES)
         × (s.parts.amounts.pages ≡ s.pages) };
 }
 
@@ -40,7 +41,7 @@ pub(crate) fn lend<B: Ledgers>(books: &mut Books<B>, rest: &mut Parts<B>, claim:
     requires claim { claim ≤ 2 ^ 40 }
     requires parts { 1 < rest.old.parts }
     ensures stake { result ≡ record { held = 0; claim = claim; pages = 0 } }
-    ensures books { books.new ≡ plus books.old (record no_amounts { free = claim; slack = 16384 }) }
+    ensures books { books.new ≡ plus books.old (record no_amounts { free = claim; slack = SPARE_PAGES * PAGE_BYTES }) }
     ensures part { rest.new.parts + 1 ≡ rest.old.parts }
     ensures rest { rest.new.amounts ≡ rest.old.amounts }
 {
@@ -92,7 +93,7 @@ impl<B: Ledgers> Stake<B> {
         ensures stake { self.new ≡ record self.old { held = self.old.held + n; pages = self.old.pages + k } }
         ensures held { books.new.held ≡ books.old.held + n }
         ensures free { books.new.free + n ≡ books.old.free }
-        ensures slack { books.new.slack + 4096 * k ≡ books.old.slack + n }
+        ensures slack { books.new.slack + PAGE_BYTES * k ≡ books.old.slack + n }
         ensures pages { books.new.pages ≡ books.old.pages + k }
     {
         books.count(&mut self.parts);
@@ -126,7 +127,7 @@ impl<B: Ledgers> Stake<B> {
         ensures stake { self.new ≡ record self.old { held = self.old.held - n; pages = self.old.pages - k } }
         ensures held { books.new.held + n ≡ books.old.held }
         ensures free { books.new.free ≡ books.old.free + n }
-        ensures slack { books.new.slack + n ≡ books.old.slack + 4096 * k }
+        ensures slack { books.new.slack + n ≡ books.old.slack + PAGE_BYTES * k }
         ensures pages { books.new.pages + k ≡ books.old.pages }
     {
         books.count(&mut self.parts);
@@ -174,7 +175,7 @@ impl<B: Ledgers> Stake<B> {
         requires held { self.held ≡ 0 }
         ensures free { books.new.free + self.claim ≡ books.old.free }
         ensures held { books.new.held ≡ books.old.held }
-        ensures slack { books.new.slack + 16384 ≡ books.old.slack + 4096 * self.pages }
+        ensures slack { books.new.slack + SPARE_PAGES * PAGE_BYTES ≡ books.old.slack + PAGE_BYTES * self.pages }
         ensures pages { books.new.pages + self.pages ≡ books.old.pages }
         ensures part { rest.new.parts ≡ rest.old.parts + 1 }
         ensures rest { rest.new.amounts ≡ rest.old.amounts }

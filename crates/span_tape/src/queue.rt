@@ -5,7 +5,7 @@ ghost use Rattle.span_bank.specs.Chain.{text_of, down_of};
 ghost use Rattle.span_tape.specs.Queue.{Paged};
 ghost use Rattle.span_tape.specs.Tape.{page_count};
 
-use span_bank::{Chain, PAGE, Page, Pages};
+use span_bank::{Chain, PAGE, PAGE_BYTES, Page, Pages};
 use std::boxed::Box;
 use std::marker::Model;
 use std::mem;
@@ -27,6 +27,7 @@ impl Model for Queue {
     ghost Value = { Paged };
 
     ghost use Rattle.span_bank.specs.Chain.{text_of, down_of};
+    ghost use Rattle.span_bank.specs.declared.step.TheConstants.{PAGE_BYTES};
 
     ghost view = { λ q. record {
       text = text_of q.front ++ down_of q.back;
@@ -34,8 +35,8 @@ impl Model for Queue {
     } };
 
     ghost invariant = { λ q. (length q.back ≡ 0 → length q.front ≡ 0)
-        × (length (text_of q.front) ≡ 4096 * length q.front)
-        × (length (text_of q.back) ≡ 4096 * length q.back) };
+        × (length (text_of q.front) ≡ PAGE_BYTES * length q.front)
+        × (length (text_of q.back) ≡ PAGE_BYTES * length q.back) };
 }
 
 impl Queue {
@@ -54,7 +55,7 @@ impl Queue {
     pub(crate) fn count(&self) -> u64
         ensures count { result ≡ self.now.count }
         ensures within { result ≤ 2 ^ 41 }
-        ensures text { length self.now.text ≡ 4096 * self.now.count }
+        ensures text { length self.now.text ≡ PAGE_BYTES * self.now.count }
     {
         let front = self.front.count();
         let back = self.back.count();
@@ -71,7 +72,7 @@ impl Queue {
         ensures count { self.new.count ≡ page_count (at + length bytes.now) }
         ensures pages { pages.new + self.new.count ≡ pages.old + self.old.count }
     {
-        let before = 4096 * self.front.count();
+        let before = PAGE_BYTES * self.front.count();
         append_last(&mut self.back, at - before, bytes, pages);
         // Shows how many bytes the pages have.
         let _back = self.back.count();
@@ -82,7 +83,7 @@ impl Queue {
         ensures some { IfSome result (λ p. (p.value.rest ≡ [])
             × (self.old.text ≡ p.value.bytes ++ self.new.text)
             × (self.old.count ≡ self.new.count + 1)) }
-        ensures size { IfSome result (λ p. length p.value.bytes ≡ 4096) }
+        ensures size { IfSome result (λ p. length p.value.bytes ≡ PAGE_BYTES) }
         ensures none { IfNone result (self.old.count ≡ 0) }
     {
         let page = first_of(&mut self.front, &mut self.back);
@@ -97,7 +98,7 @@ impl Queue {
     pub(crate) fn take_first(&mut self, k: u64) -> Pages
         requires there { k ≤ self.old.count }
         requires small { k ≤ 2 ^ 40 }
-        ensures text { self.new.text ≡ drop (4096 * k) self.old.text }
+        ensures text { self.new.text ≡ drop (PAGE_BYTES * k) self.old.text }
         ensures left { self.new.count + k ≡ self.old.count }
         ensures given { result ≡ k }
     {
@@ -114,10 +115,10 @@ impl Queue {
     // Copies the bytes from a place on.
     #[tactic(auto, using(crate::proofs::PageLemmas::length_down))]
     pub(crate) fn copy_out(&self, at: u64, out: &mut [u8])
-        requires { at + length out.old ≤ 4096 * self.now.count }
+        requires { at + length out.old ≤ PAGE_BYTES * self.now.count }
         ensures { out.new ≡ take (length out.old) (drop at self.now.text) }
     {
-        let before = 4096 * self.front.count();
+        let before = PAGE_BYTES * self.front.count();
         // Shows how many bytes the pages have.
         let _back = self.back.count();
         if at < before {
@@ -167,7 +168,7 @@ fn first_of(front: &mut Chain, back: &mut Chain) -> Option<Box<Page>>
     ensures some { IfSome result (λ p. (p.value.rest ≡ [])
         × (text_of front.old ++ down_of back.old ≡ p.value.bytes ++ (text_of front.new ++ down_of back.new))
         × (length front.old + length back.old ≡ length front.new + length back.new + 1)) }
-    ensures size { IfSome result (λ p. length p.value.bytes ≡ 4096) }
+    ensures size { IfSome result (λ p. length p.value.bytes ≡ PAGE_BYTES) }
     ensures none { IfNone result (length front.old + length back.old ≡ 0) }
     ensures last { length back.new ≡ 0 → length front.new ≡ 0 }
 {
@@ -183,7 +184,7 @@ fn first_of(front: &mut Chain, back: &mut Chain) -> Option<Box<Page>>
 // Puts a page with bytes written on it behind the others, which stand last to first.
 fn put_last(back: &mut Chain, page: Box<Page>, at: usize, bytes: &[u8])
     requires room { length back.old < 2 ^ 40 }
-    requires fits { at + length bytes.now ≤ 4096 }
+    requires fits { at + length bytes.now ≤ PAGE_BYTES }
     requires alone { page.value.rest ≡ [] }
     ensures text { down_of back.new ≡ down_of back.old ++ (take at page.value.bytes ++ bytes.now ++ drop (at + length bytes.now) page.value.bytes) }
     ensures count { length back.new ≡ length back.old + 1 }
@@ -201,10 +202,10 @@ fn fill_last(back: &mut Chain, at: u64, bytes: &[u8]) -> usize
     ensures done { result ≤ length bytes.now }
     ensures same { length back.new ≡ length back.old }
     ensures count { length back.new ≡ page_count (at + result) }
-    ensures full { result < length bytes.now → at + result ≡ 4096 * length back.new }
+    ensures full { result < length bytes.now → at + result ≡ PAGE_BYTES * length back.new }
     ensures text { take (at + result) (down_of back.new) ≡ take at (down_of back.old) ++ take result bytes.now }
 {
-    let used = (at % 4096) as usize;
+    let used = (at % PAGE_BYTES) as usize;
     if used == 0 {
         return 0;
     }
@@ -246,11 +247,11 @@ fn append_last(back: &mut Chain, at: u64, bytes: &[u8], pages: &mut Pages)
 
 // Copies a page's bytes from a place on behind the first `done`, and says how many there are then.
 fn copy_page(page: &Page, from: usize, out: &mut [u8], done: usize) -> usize
-    requires from { from < 4096 }
+    requires from { from < PAGE_BYTES }
     requires done { done < length out.old }
     ensures all { length out.new ≡ length out.old }
-    ensures size { length page.now.bytes ≡ 4096 }
-    ensures count { result ≡ min (length out.old) (done + (4096 - from)) }
+    ensures size { length page.now.bytes ≡ PAGE_BYTES }
+    ensures count { result ≡ min (length out.old) (done + (PAGE_BYTES - from)) }
     ensures text { take result out.new ≡ take done out.old ++ take (result - done) (drop from page.now.bytes) }
 {
     let more = (out.len() - done).min(PAGE - from);
@@ -261,18 +262,18 @@ fn copy_page(page: &Page, from: usize, out: &mut [u8], done: usize) -> usize
 // Copies the bytes from a place on, of pages that stand first to last.
 #[tactic(auto, using(crate::proofs::PageLemmas::next_page, crate::proofs::PageLemmas::next_text, crate::proofs::PageLemmas::another_copied))]
 fn copy_first(front: &Chain, at: u64, out: &mut [u8])
-    requires { at + length out.old ≤ 4096 * length front.now }
+    requires { at + length out.old ≤ PAGE_BYTES * length front.now }
     ensures { out.new ≡ take (length out.old) (drop at (text_of front.now)) }
 {
     let _whole = front.count();
     let mut rest = front;
-    for _i in 0..at / 4096 {
+    for _i in 0..at / PAGE_BYTES {
         match rest.first() {
             Some((_, next)) => rest = next,
             None => unreachable!(),
         }
     }
-    let mut from = (at % 4096) as usize;
+    let mut from = (at % PAGE_BYTES) as usize;
     let mut done = 0;
     while done < out.len() {
         match rest.first() {
@@ -289,7 +290,7 @@ fn copy_first(front: &Chain, at: u64, out: &mut [u8])
 // Copies a page's bytes up to a place before those of `out` that stand already, of which the first
 // `left` are missing, and says how many are missing then.
 fn copy_page_before(page: &Page, upto: usize, out: &mut [u8], left: usize) -> usize
-    requires upto { (0 < upto) × (upto ≤ 4096) }
+    requires upto { (0 < upto) × (upto ≤ PAGE_BYTES) }
     requires left { (0 < left) × (left ≤ length out.old) }
     ensures all { length out.new ≡ length out.old }
     ensures count { result + min upto left ≡ left }
@@ -303,13 +304,13 @@ fn copy_page_before(page: &Page, upto: usize, out: &mut [u8], left: usize) -> us
 // Copies the bytes from a place on, of pages that stand last to first.
 #[tactic(auto, using(crate::proofs::PageLemmas::before_last, crate::proofs::PageLemmas::length_down))]
 fn copy_last(back: &Chain, at: u64, out: &mut [u8])
-    requires { at + length out.old ≤ 4096 * length back.now }
+    requires { at + length out.old ≤ PAGE_BYTES * length back.now }
     ensures { out.new ≡ take (length out.old) (drop at (down_of back.now)) }
 {
     let mut rest = back;
     let mut left = out.len();
     let whole = back.count();
-    for _i in 0..whole - (at + left as u64).div_ceil(4096) {
+    for _i in 0..whole - (at + left as u64).div_ceil(PAGE_BYTES) {
         match rest.first() {
             Some((_page, next)) => {
                 // Shows how many bytes the pages have.
@@ -323,7 +324,7 @@ fn copy_last(back: &Chain, at: u64, out: &mut [u8])
         match rest.first() {
             None => unreachable!(),
             Some((page, next)) => {
-                let upto = (at + left as u64 - 4096 * next.count()) as usize;
+                let upto = (at + left as u64 - PAGE_BYTES * next.count()) as usize;
                 left = copy_page_before(page, upto, out, left);
                 rest = next;
             }

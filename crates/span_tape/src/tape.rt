@@ -3,7 +3,7 @@ ghost use Rattle.std.specs.Prelude.{◌≡◌, ◌+◌, ◌-◌, ◌<◌, ◌≤
 ghost use Rattle.span_tape.specs.Tape.{Tape, end_of, from_place, page_count, pages_in};
 
 use crate::queue::Queue;
-use span_bank::Pages;
+use span_bank::{PAGE_BYTES, Pages};
 use std::marker::Model;
 
 /// A retained body buffer: the bytes of one body from an offset on, as far as they were appended.
@@ -21,6 +21,7 @@ pub struct SpanTape {
 
 impl Model for SpanTape {
     ghost use Rattle.std.specs.Prelude.{◌≡◌, ◌+◌, ◌*◌, ◌<◌, ◌≤◌, ◌^◌, take, drop, length};
+    ghost use Rattle.span_bank.specs.declared.step.TheConstants.{PAGE_BYTES};
     ghost use Rattle.span_tape.specs.Tape.{Tape, page_count};
 
     ghost Value = { Tape };
@@ -32,9 +33,9 @@ impl Model for SpanTape {
     } };
 
     ghost invariant = { λ t. (t.base + t.len < 2 ^ 62) × (t.len ≤ 2 ^ 50)
-        × (t.start < 4096) × (t.len ≡ 0 → t.start ≡ 0)
+        × (t.start < PAGE_BYTES) × (t.len ≡ 0 → t.start ≡ 0)
         × (t.pages.count ≡ page_count (t.start + t.len))
-        × (length t.pages.text ≡ 4096 * t.pages.count) };
+        × (length t.pages.text ≡ PAGE_BYTES * t.pages.count) };
 }
 
 impl SpanTape {
@@ -70,7 +71,7 @@ impl SpanTape {
         requires { n ≤ 2 ^ 50 }
         ensures { result + pages_in self.now ≡ page_count (self.now.start + length self.now.bytes + n) }
     {
-        (self.start + self.len + n).div_ceil(4096) - self.pages.count()
+        (self.start + self.len + n).div_ceil(PAGE_BYTES) - self.pages.count()
     }
 
     /// Adds bytes at the end, on as many more pages as `pages_for` says.
@@ -101,9 +102,9 @@ impl SpanTape {
         self.base = place;
         if gone < self.len {
             let first = self.start + gone;
-            self.start = first % 4096;
+            self.start = first % PAGE_BYTES;
             self.len -= gone;
-            self.pages.take_first(first / 4096)
+            self.pages.take_first(first / PAGE_BYTES)
         } else {
             self.start = 0;
             self.len = 0;

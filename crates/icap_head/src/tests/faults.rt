@@ -113,6 +113,6 @@ fn faults_have_numbers(rt: HostRuntime) {
         (HeadFault::NoMemory, 7),
     ];
     for (fault, number) in cases {
-        assert_eq!(rt; fault as u8, number);
+        assert_eq!(rt; fault.number(), number);
     }
 }

@@ -1,0 +1,5 @@
+use Rattle.icap_chunks.proofs.Totals.{some_reading}
+use Rattle.icap_chunks.proofs.laws.has_a_reading.Goals as goal
+
+pub returns : goal.returns
+returns c = some_reading
