@@ -9,7 +9,7 @@ use Rattle.icap_client.specs.Events.{May, ad_sum}
 use Rattle.icap_client.specs.Heard.{Reader}
 use Rattle.icap_client.specs.Hearing.{MustWait}
 use Rattle.icap_client.specs.Refused.{Refuses}
-use Rattle.icap_client.specs.Reading.{Side, SideHears, IsFilled, IsLaterRead, NothingToRead, HasReason, IsRefused, IsUnheard, CameOf, ReadTurn}
+use Rattle.icap_client.specs.Reading.{Side, GivesBack, SideHears, IsFilled, IsLaterRead, NothingToRead, HasReason, IsRefused, IsUnheard, CameOf, ReadTurn}
 use Rattle.adapt_sides.specs.declared.fault.ClientFault.{ClientFault}
 use Rattle.adapt_sides.specs.declared.fault.ClientFault.TheVariants.{Closed, Device, NoMemory, NotLegal}
 use Rattle.icap_client.specs.declared.side.Filled.TheVariants as filled
@@ -226,4 +226,27 @@ turn_kept x a room old new kept P Q out fault e r t = record {
       let one = t.wire p b in
       (one.0, one.1, one.2, subst (λ (r : Reader). HasReason x a room r.stage p one.0 (Err fault)) (sym e) one.3);
   came = (other_fault x old new kept [] t.delta [] e r t.came.0, t.came.1);
+}
+
+came_given_back : (x : Seen) (old new kept : Side) (room : ℕ) (out delta : List ℕ) (result : Result Turn ClientFault) → GivesBack new kept → CameOf x old new room out delta result → CameOf x old kept room out delta result
+came_given_back x old new kept room out delta (Ok t) b c = (
+  other_fault x old new kept t.events.items delta (take (ad_sum t.events.items) out) b.reader b.raw c.0,
+  c.1,
+  (λ w.
+      let i = c.2 w in
+      let at : MustWait kept.reader.stage new.raw room = subst (λ (r : Reader). MustWait r.stage new.raw room) (sym b.reader) i.2 in
+      (i.0, i.1, subst (λ (raw : List ℕ). MustWait kept.reader.stage raw room) (sym b.raw) at)),
+  c.3,
+)
+came_given_back x old new kept room out delta (Err fault) b c = (other_fault x old new kept [] delta [] b.reader b.raw c.0, c.1)
+
+-- room that holds no byte is given back
+pub turn_given_back : (x : Seen) (a : Bool) (room : ℕ) (old new kept : Side) (P Q : Past → Type 0) (out : List ℕ) (result : Result Turn ClientFault) → GivesBack new kept → ReadTurn x a room old new P Q out result
+    → ReadTurn x a room old kept P Q out result
+turn_given_back x a room old new kept P Q out result b t = record {
+  delta = t.delta;
+  wire = λ p h.
+      let one = t.wire p h in
+      (one.0, one.1, one.2, subst (λ (r : Reader). HasReason x a room r.stage p one.0 result) (sym b.reader) one.3);
+  came = came_given_back x old new kept room out t.delta result b t.came;
 }

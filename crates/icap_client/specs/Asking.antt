@@ -55,13 +55,23 @@ pub record IsOptionsFront (value : Response) (chunks : ChunkReader) (text : List
   pub read : HasRead rest body chunks
 
 -- a side: the request's text that waits, how far the answer is read, its head where a body comes, the bytes that aren't
--- framed yet, and the fault that stays
+-- framed yet, the fault that stays, and the room behind those bytes
 pub record Asker : Type 0 where
   pub waiting : List ℕ
   pub stage : OptionsStage
   pub response : Option Response
   pub raw : List ℕ
   pub fault : Option ClientFault
+  pub room : ℕ
+
+-- the same, and without room where there are no bytes
+pub record LetsRoomGo (old new : Asker) : Type 0 where
+  pub waiting : new.waiting ≡ old.waiting
+  pub stage : new.stage ≡ old.stage
+  pub response : new.response ≡ old.response
+  pub raw : new.raw ≡ old.raw
+  pub fault : new.fault ≡ old.fault
+  pub none : new.raw ≡ [] → new.room ≡ 0
 
 -- this text was framed, by how far the answer is read
 abbrev pub AnsweredTo : OptionsStage → Option Response → List ℕ → Type 0

@@ -34,7 +34,7 @@ same_by x y a b c d e f = record { no_mod_is = a; modified_is = b; has_body_is =
 pub same_heard : (x : Seen) → Same x (after x Heard)
 same_heard x = same_by x _ refl refl refl refl refl (omega arith)
 
-same_after : (x : Seen) (event : Event) → is_of_replies event ≡ false → Same x (after x event)
+pub same_after : (x : Seen) (event : Event) → is_of_replies event ≡ false → Same x (after x event)
 same_after x (In n) o = same_by x _ refl refl refl refl refl (omega arith)
 same_after x End o = same_by x _ refl refl refl refl refl (omega arith)
 same_after x (Svc n) o = same_by x _ refl refl refl refl refl (omega arith)

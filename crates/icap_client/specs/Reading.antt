@@ -17,11 +17,19 @@ use Rattle.adapt_sides.specs.declared.turn.Turn.{Turn}
 use Rattle.icap_client.specs.declared.stage.Stage.{Stage}
 use Rattle.icap_client.specs.declared.stage.Stage.TheVariants.{Over}
 
--- the reading half: the reader, the bytes that came and aren't framed yet, and the fault that stays
+-- the reading half: the reader, the bytes that came and aren't framed yet, the fault that stays, and the room behind those bytes
 pub record Side : Type 0 where
   pub reader : Reader
   pub raw : List ℕ
   pub fault : Option ClientFault
+  pub room : ℕ
+
+-- the same, and without room where there are no bytes
+pub record GivesBack (old new : Side) : Type 0 where
+  pub reader : new.reader ≡ old.reader
+  pub raw : new.raw ≡ old.raw
+  pub fault : new.fault ≡ old.fault
+  pub none : new.raw ≡ [] → new.room ≡ 0
 
 -- no byte of a reply was read
 pub record NotBegun (x : Seen) (adapted read : List ℕ) : Type 0 where

@@ -1,8 +1,8 @@
 -- What a write turn of the service's side does.
-use Rattle.std.specs.Prelude.{◌&&◌, ◌||◌, not, option_map, is_some, ◌≡◌, ℕ, ◌<◌, ◌≤◌, ◌⊎◌, ◌==◌, length, take, ⊤, Bool, true, false, List, [], ◌++◌, Option, Some, None, Result, Ok, Err}
+use Rattle.std.specs.Prelude.{◌&&◌, ◌||◌, not, option_map, is_some, is_none, ◌≡◌, ℕ, ◌<◌, ◌≤◌, ◌⊎◌, ◌==◌, length, take, ⊤, Bool, true, false, List, [], ◌++◌, Option, Some, None, Result, Ok, Err}
 use Rattle.trace_core.specs.declared.history.Event.{Event}
 use Rattle.trace_core.specs.declared.history.Seen.{Seen}
-use Rattle.trace_core.specs.History.{is_preview}
+use Rattle.trace_core.specs.History.{is_preview, is_whole}
 use Rattle.encapsulated.specs.declared.offsets.Layout.{Layout}
 use Rattle.span_tape.specs.Tape.{Tape}
 use Rattle.wire_kit.specs.Past.{Past, Offers, delta_of}
@@ -13,7 +13,10 @@ use Rattle.wire_kit.specs.declared.wire.Put.TheVariants as put
 use Rattle.chunk_writer.specs.Writer.{Writer, waiting}
 use Rattle.icap_client.specs.Sending.{HasSent, Came, NothingDue}
 use Rattle.icap_client.specs.Events.{after_all, MayAllFollow, AllAre, is_of_sending}
-use Rattle.icap_client.specs.Reading.{Side, NothingToRead}
+use Rattle.icap_client.specs.Reading.{Side, SideHeard, NothingToRead}
+use Rattle.icap_client.specs.Laws.{IsWhole}
+use Rattle.icap_client.specs.declared.stage.Stage.{Stage}
+use Rattle.icap_client.specs.declared.stage.Stage.TheVariants.{Replies, Head, Body, Over}
 use Rattle.adapt_sides.specs.declared.turn.Turn.{Turn}
 use Rattle.adapt_sides.specs.declared.fault.ClientFault.{ClientFault}
 use Rattle.adapt_sides.specs.declared.fault.ClientFault.TheVariants.{Device}
@@ -24,10 +27,21 @@ pub record GoesOn (x : Seen) (tape : Tape) (old new : Writer) (events : List Eve
   pub only : AllAre is_of_sending events
   pub sent : (came taken : List ℕ) → Came x tape came → HasSent x came taken old → HasSent (after_all x events) came (taken ++ delta) new
 
--- the service's side: what is written, and what is read with the fault that stays
+-- the service's side: what is written, what is read with the fault that stays, and two marks: the Stop was fixed after which
+-- nothing goes to the service; a preview was answered, with no 100 before it
 pub record Service : Type 0 where
   pub writer : Writer
   pub replies : Side
+  pub last_stop : Bool
+  pub answered : Bool
+
+-- a final response answered a preview, with no 100 before it (RFC 3507, section 4.5)
+abbrev pub is_answered : Seen → Bool
+is_answered x = is_preview x.plan.kind && (not x.continued && (x.no_mod || x.modified))
+
+-- a Stop behind so many bytes of the body is the one after which nothing goes to the service
+abbrev pub is_last_at : Seen → ℕ → Bool
+is_last_at x place = is_whole x.plan.kind || (is_preview x.plan.kind && not x.stopped && x.ended && (place == x.received)) || (is_preview x.plan.kind && x.continued)
 
 -- all that was fixed is out
 abbrev pub is_flushed : Writer → Bool
@@ -71,10 +85,39 @@ is_response_in (Some layout) = is_some layout.res_hdr
 abbrev pub adapted_head_of : Service → Option (List ℕ)
 adapted_head_of s = option_map (λ layout. s.replies.reader.head) s.replies.reader.layout
 
+-- of the message these bytes came and these bytes of the request were taken, and the side's mark is the history's
+pub record ServiceSent (x : Seen) (came taken : List ℕ) (s : Service) : Type 0 where
+  pub sent : HasSent x came taken s.writer
+  pub last_stop : s.last_stop ≡ x.last_stop
+
+-- these adapted bytes came and these bytes were read, and the side's mark is the history's
+pub record ServiceHeard (x : Seen) (adapted read : List ℕ) (s : Service) : Type 0 where
+  pub heard : SideHeard x adapted read s.replies
+  pub answered : s.answered ≡ is_answered x
+
 -- all of the request is out; or all of a preview, which was answered without a 100
-abbrev pub is_whole_request : Seen → Writer → Bool
-is_whole_request x w = is_flushed w && (x.last_stop || (is_preview x.plan.kind && x.stopped && not x.continued && (x.no_mod || x.modified)))
+abbrev pub is_whole_request : Service → Bool
+is_whole_request s = is_flushed s.writer && (s.last_stop || s.answered)
+
+abbrev pub is_over : Stage → Bool
+is_over Replies = false
+is_over (Head layout) = false
+is_over (Body chunks) = false
+is_over Over = true
+
+-- another request may follow on the service's connection: the request is whole, the final response was read to its end and
+-- nothing behind it, it doesn't say that the connection closes, and no fault stands
+abbrev pub is_reusable : Service → Bool
+is_reusable s = is_whole_request s && (is_over s.replies.reader.stage && ((length s.replies.raw == 0) && (not s.replies.reader.closes && is_none s.replies.fault)))
 
 -- the adapted message is a response: its head stands as res-hdr
 abbrev pub is_response_of : Service → Bool
 is_response_of s = is_response_in s.replies.reader.layout
+
+-- the connection carried a whole request, or a preview that was answered, with nothing more due; and just a whole answer,
+-- which doesn't say that the connection closes
+pub record IsClean (x : Seen) (adapted read : List ℕ) (s : Service) : Type 0 where
+  pub out : waiting s.writer ≡ []
+  pub request : (x.last_stop || is_answered x) ≡ true
+  pub answer : IsWhole x adapted read s.replies.reader
+  pub goes_on : s.replies.reader.closes ≡ false

@@ -1,11 +1,11 @@
 //! The service's side as a transaction calls it.
 
 ghost use Rattle.std.specs.Prelude.{◌≡◌, ℕ, List, Option};
-ghost use Rattle.icap_client.specs.Reading.{SideHeard};
-ghost use Rattle.icap_client.specs.Sending.{HasSent, NothingDue};
-ghost use Rattle.icap_client.specs.Turns.{RestsReading, adapted_head_of, is_response_of, is_flushed};
-ghost use Rattle.icap_client.specs.OthersSent.{others, none_may_send};
-ghost use Rattle.icap_client.specs.OthersHeard.{side_keeps, unheard_none, rests_where};
+ghost use Rattle.icap_client.specs.Sending.{NothingDue};
+ghost use Rattle.icap_client.specs.Turns.{ServiceSent, ServiceHeard, RestsReading, adapted_head_of, is_response_of, is_flushed};
+ghost use Rattle.icap_client.specs.OthersSent.{none_may_send};
+ghost use Rattle.icap_client.specs.OthersHeard.{unheard_none, rests_where};
+ghost use Rattle.icap_client.specs.Marks.{service_others, service_keeps};
 
 use crate::service::ServiceSide;
 use adapt_sides::{ClientFault, Service, Turn};
@@ -18,9 +18,9 @@ impl Service for ServiceSide {
 
     ghost fault = { λ s. s.replies.fault };
 
-    ghost has_sent = { λ x came taken s. HasSent x came taken s.writer };
+    ghost has_sent = { ServiceSent };
 
-    ghost has_heard = { λ x adapted read s. SideHeard x adapted read s.replies };
+    ghost has_heard = { ServiceHeard };
 
     ghost rests_writing = { λ x s. NothingDue x s.writer };
 
@@ -28,15 +28,15 @@ impl Service for ServiceSide {
 
     ghost is_response = { is_response_of };
 
-    ghost others_sent = { λ x event came bytes taken s. others x event came bytes taken s.writer };
+    ghost others_sent = { service_others };
 
-    ghost others_heard = { λ x event adapted read s o n. side_keeps x event adapted read s.replies o };
+    ghost others_heard = { λ x event adapted read s o n. service_keeps x event adapted read s o };
 
-    ghost unheard = { λ x adapted read s. unheard_none x adapted read s.replies };
+    ghost unheard = { λ x adapted read s h. unheard_none x adapted read s.replies h.heard };
 
     ghost rests_writing_where = { λ x s. none_may_send x s.writer };
 
-    ghost rests_reading_where = { λ x adapted read room s. rests_where x adapted read (is_flushed s.writer) room s.replies };
+    ghost rests_reading_where = { λ x adapted read room s h. rests_where x adapted read (is_flushed s.writer) room s.replies h.heard };
 
     fn adapted_head(&self) -> Option<&[u8]> {
         match ServiceSide::adapted_head(self) {

@@ -15,6 +15,7 @@ ghost use Rattle.icap_client.specs.Sending.{HasSent};
 ghost use Rattle.chunk_writer.specs.Writer.{Writer, fresh, waiting};
 ghost use Rattle.icap_client.specs.Replies.{Final, IsAnswer};
 ghost use Rattle.icap_client.specs.Reading.{Side, SideHeard};
+ghost use Rattle.icap_client.specs.Turns.{Service, ServiceSent, ServiceHeard, IsClean, is_reusable};
 ghost use Rattle.icap_client.specs.Laws.{first_reader, IsWhole, WasSaid};
 ghost use Rattle.icap_client.specs.declared.stage.Stage.TheVariants as stages;
 
@@ -81,4 +82,11 @@ pub fn a_request_is_whole()
     ensures { (plan : Plan) (events : List Event) (came taken : List ℕ) (w : Writer) → IsLegal plan events
         → (seen plan events).last_stop ≡ true → waiting w ≡ [] → length came ≡ (seen plan events).received
         → HasSent (seen plan events) came taken w → IsRequestText (seen plan events) w.head came taken }
+{}
+
+/// Where the service's connection may carry another request, all that was due of the request was taken, and just a whole
+/// answer was read.
+pub fn a_reusable_connection_is_clean()
+    ensures { (x : Seen) (came taken adapted read : List ℕ) (s : Service) → is_reusable s ≡ true
+        → ServiceSent x came taken s → ServiceHeard x adapted read s → IsClean x adapted read s }
 {}

@@ -1,10 +1,12 @@
 //! One ICAP request and its response, over a Wire (RFC 3507, section 4).
 #![tactic(auto)]
 
+mod answered;
 mod blank_line;
 mod body;
 mod contract;
 mod decide;
+mod events;
 pub mod laws;
 mod lists;
 mod options;
@@ -16,8 +18,10 @@ mod service;
 mod side;
 mod stage;
 
+pub use events::Heard;
 pub use options::{OptionsSide, OptionsStage};
-pub use reader::{Heard, ReplyReader};
+pub use reader::ReplyReader;
+pub use said::says_close;
 pub use service::ServiceSide;
 pub use side::ReplySide;
 pub use stage::Stage;

@@ -11,8 +11,8 @@ ghost use Rattle.wire_kit.specs.Past.{Past};
 
 use crate::blank_line::behind;
 use crate::body::read_run;
+use crate::events::refusal;
 use crate::lists::has_body;
-use crate::reader::refusal;
 use crate::request::options_request;
 use crate::side::{Filled, MAX_RAW, fill};
 use adapt_sides::ClientFault;
@@ -54,14 +54,14 @@ impl Model for OptionsSide {
 
     ghost Value = { Asker };
 
-    ghost view = { λ s. record { waiting = drop s.out s.text.items; stage = s.stage; response = option_map response_parts s.response; raw = s.raw.items; fault = s.fault } };
+    ghost view = { λ s. record { waiting = drop s.out s.text.items; stage = s.stage; response = option_map response_parts s.response; raw = s.raw.items; fault = s.fault; room = s.raw.spare } };
 
     ghost invariant = { λ s. (s.out ≤ length s.text.items) × (length s.raw.items ≤ 16384) };
 }
 
 impl OptionsSide {
     ghost use Rattle.icap_head.specs.Heads.{response_parts};
-    ghost use Rattle.icap_client.specs.Asking.{options_request, Frames, Asks};
+    ghost use Rattle.icap_client.specs.Asking.{options_request, LetsRoomGo, Frames, Asks};
 
     /// A request to the service at this host, port and path. NoMemory where its text can't be had.
     pub fn new(
@@ -70,7 +70,7 @@ impl OptionsSide {
         port: u16,
         path: &[u8],
     ) -> Result<OptionsSide, AllocError>
-        ensures { IfOk result (λ side. side ≡ record { waiting = options_request host.now port path.now; stage = OptionsStage.Head; response = None; raw = []; fault = None }) }
+        ensures { IfOk result (λ side. side ≡ record { waiting = options_request host.now port path.now; stage = OptionsStage.Head; response = None; raw = []; fault = None; room = 0 }) }
     {
         Ok(OptionsSide {
             alloc,
@@ -229,6 +229,26 @@ impl OptionsSide {
         self.read_on(wire)
     }
 
+    /// Gives back the room for raw bytes, where none is there.
+    fn give_back(&mut self)
+        ensures { LetsRoomGo self.old self.new }
+    {
+        if self.raw.is_empty() {
+            self.raw = BytesMut::new(self.alloc);
+        }
+    }
+
+    /// The same, and keeps no empty room.
+    fn turn_once<W: Wire>(&mut self, wire: &mut W) -> Result<Option<IcapResponse>, ClientFault>
+        ensures asks { Asks self.old self.new (W.past wire.old) (W.past wire.new) result }
+        ensures fault { self.new.fault ≡ self.old.fault }
+        ensures empty { self.new.raw ≡ [] → self.new.room ≡ 0 }
+    {
+        let result = self.try_turn(wire);
+        self.give_back();
+        result
+    }
+
     /// Offers the text that waits, once; or, where none waits, reads once, and answers the head once its body, if any,
     /// was read and dropped. Behind that it answers `None`, and leaves the wire alone.
     ///
@@ -242,11 +262,14 @@ impl OptionsSide {
         ensures faulted { IfSome self.old.fault (λ fault. (result ≡ Err fault) × (self.new ≡ self.old)) }
         ensures untouched { IfSome self.old.fault (λ fault. (p : Past) → W.past wire.old p → W.past wire.new p) }
         ensures sound { OnOk result (self.new.fault ≡ None) }
+
+        // No empty room is kept.
+        ensures empty { self.old.fault ≡ None → self.new.raw ≡ [] → self.new.room ≡ 0 }
     {
         if let Some(fault) = self.fault {
             return Err(fault);
         }
-        match self.try_turn(wire) {
+        match self.turn_once(wire) {
             Ok(found) => Ok(found),
             Err(fault) => {
                 self.fault = Some(fault);

@@ -16,6 +16,7 @@ ghost use Rattle.encapsulated.specs.declared.offsets.Layout.{Layout as Parts};
 
 use crate::blank_line::{behind, front, head_end};
 use crate::body::read_body;
+use crate::events::{Framed, Heard, body_events, event_list, may_all, payload_of, refusal};
 use crate::lists::has_body;
 use crate::replies::{Reply, reply_of};
 use crate::said::says_close;
@@ -24,24 +25,10 @@ use adapt_sides::ClientFault;
 use arrayvec::ArrayVec;
 use encapsulated::Layout;
 use icap_chunks::ChunkReader;
-use icap_head::{HeadFault, IcapResponse, read_response};
+use icap_head::{IcapResponse, read_response};
 use std::alloc::{AllocError, Global};
 use std::marker::Model;
-use trace_core::{Event, Payload, Point, State};
-
-/// What was framed of the bytes that were offered: so many from the front, and what they say.
-#[derive(Clone, Copy, Debug, PartialEq, Eq)]
-pub(crate) struct Framed {
-    pub(crate) used: usize,
-    pub(crate) event: Option<Event>,
-}
-
-/// What was heard in the bytes that were offered: so many from the front were framed, and these events are what they say.
-#[derive(Drop)]
-pub struct Heard {
-    pub used: usize,
-    pub events: ArrayVec<Event, 4>,
-}
+use trace_core::{Event, Point, State};
 
 /// Reads the responses to one request.
 #[derive(Drop)]
@@ -409,80 +396,5 @@ impl ReplyReader {
             used: head.len(),
             event: Some(Event::Mod(payload)),
         })
-    }
-}
-
-/// The fault of a text that has no ICAP head at its front; none where it may still become one.
-pub(crate) fn refusal(fault: HeadFault) -> Option<ClientFault>
-    ensures some { IfSome result (λ found. ((fault ≡ HeadFault.NoMemory) × (found ≡ ClientFault.NoMemory))
-        ⊎ ((found ≡ ClientFault.Head) × (fault ≢ HeadFault.NoMemory) × (fault ≢ HeadFault.More))) }
-    ensures none { IfNone result (fault ≡ HeadFault.More) }
-{
-    match fault {
-        HeadFault::More => None,
-        HeadFault::NoMemory => Some(ClientFault::NoMemory),
-        HeadFault::StartLine
-        | HeadFault::Version
-        | HeadFault::Field
-        | HeadFault::TooLong
-        | HeadFault::TooMany => Some(ClientFault::Head),
-    }
-}
-
-/// The event, if there is one, as a list.
-pub(crate) fn event_list(event: Option<Event>) -> ArrayVec<Event, 4>
-    ensures { result.items ≡ listed event }
-{
-    let mut events = ArrayVec::new();
-    if let Some(event) = event {
-        let _ = events.try_push(event);
-    }
-    events
-}
-
-/// The events of so many bytes of the adapted body, and of its end.
-fn body_events(count: usize, ended: bool) -> ArrayVec<Event, 4>
-    ensures { result.items ≡ body_events count ended }
-{
-    let mut events = ArrayVec::new();
-    if count > 0 {
-        let _ = events.try_push(Event::Ad(count as u64));
-    }
-    if ended {
-        let _ = events.try_push(Event::AdEnd);
-    }
-    events
-}
-
-/// Whether these events may come now.
-fn may_all(state: &State, count: usize, ended: bool) -> bool
-    ensures may { IsTrue result → MayAllFollow (seen state.now.plan state.now.events) (body_events count ended) }
-    ensures heard { IsTrue result → (body_events count ended ≡ []) ⊎ ((seen state.now.plan state.now.events).heard ≡ true) }
-    ensures may_not { result ≡ false → ((0 < count) × (MayHear (seen state.now.plan state.now.events) (Event.Ad count) → ⊥)) ⊎ ((count ≡ 0) × (ended ≡ true) × (MayHear (seen state.now.plan state.now.events) Event.AdEnd → ⊥)) }
-{
-    if count > 0 {
-        return may_hear(state, Event::Ad(count as u64));
-    }
-    if ended {
-        return may_hear(state, Event::AdEnd);
-    }
-    true
-}
-
-/// Whether the event may come now, behind a first byte that was read before.
-fn may_hear(state: &State, event: Event) -> bool
-    ensures { IsTrue result ↔ MayHear (seen state.now.plan state.now.events) event }
-{
-    state.seen().heard && state.may(event)
-}
-
-/// What a 200 has behind its heads.
-fn payload_of(body: bool) -> Payload
-    ensures { result ≡ payload_if body }
-{
-    if body {
-        Payload::Body
-    } else {
-        Payload::NullBody
     }
 }

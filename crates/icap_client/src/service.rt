@@ -8,12 +8,14 @@ ghost use Rattle.wire_kit.specs.Past.{Past};
 ghost use Rattle.chunk_writer.specs.Writer.{fresh, waiting};
 ghost use Rattle.icap_client.specs.Heard.{KeepsHead};
 ghost use Rattle.icap_client.specs.Laws.{first_reader};
-ghost use Rattle.icap_client.specs.Reading.{SideHeard, ReadTurn};
-ghost use Rattle.icap_client.specs.Sending.{HasSent, KeepsUnsent, NothingDue, turn_events};
+ghost use Rattle.icap_client.specs.Reading.{ReadTurn};
+ghost use Rattle.icap_client.specs.Events.{after_all};
+ghost use Rattle.icap_client.specs.Sending.{KeepsUnsent, NothingDue, turn_events};
 ghost use Rattle.icap_client.specs.RequestHead.{request_head};
-ghost use Rattle.icap_client.specs.Turns.{is_whole_request, WriteTurn, Sends, Hears, RestsReading, is_flushed};
+ghost use Rattle.icap_client.specs.Turns.{ServiceSent, ServiceHeard, is_whole_request, is_reusable, is_answered, WriteTurn, Sends, Hears, RestsReading, events_of, is_flushed};
 
-use crate::decide::decide;
+use crate::answered::is_answered;
+use crate::decide::{decide, has_last_stop};
 use crate::request::request_head;
 use crate::side::ReplySide;
 use crate::stage::Stage;
@@ -24,22 +26,26 @@ use encapsulated::Layout;
 use span_tape::SpanTape;
 use std::alloc::{AllocError, Global};
 use std::marker::Model;
-use trace_core::{Event, Kind, Plan, Point, State};
+use trace_core::{Event, Plan, Point, State};
 use wire_kit::{Put, Wire};
 
-/// Writes what is due, with one write at most.
+/// Writes what is due, with one write at most, and keeps in mind whether the last Stop is fixed.
 fn write_once<W: Wire>(
     writer: &mut ChunkWriter,
+    last_stop: &mut bool,
     state: &State,
     tape: &SpanTape,
     wire: &mut W,
 ) -> Result<Turn, ClientFault>
     requires { KeepsUnsent (seen state.now.plan state.now.events) tape.now }
     ensures turn { WriteTurn (seen state.now.plan state.now.events) tape.now writer.old writer.new (W.past wire.old) (W.past wire.new) result }
+    ensures last_stop { last_stop.new ≡ (after_all (seen state.now.plan state.now.events) (events_of result)).last_stop }
 {
     let _ = state.trace();
     let next = decide(state, writer);
     let wrote = writer.write(&next, tape, wire);
+    let seen = state.seen();
+    *last_stop = has_last_stop(&seen, wrote.ended, next.from + next.count);
     match wrote.answer {
         Some(Put::Fault) => Err(ClientFault::Device),
         Some(Put::Took(_)) => Ok(turn_of(wrote.sent, wrote.ended, true)),
@@ -53,6 +59,10 @@ fn write_once<W: Wire>(
 pub struct ServiceSide {
     writer: ChunkWriter,
     replies: ReplySide,
+    /// The Stop is fixed after which nothing goes to the service.
+    last_stop: bool,
+    /// A preview was answered, with no 100 before it.
+    answered: bool,
 }
 
 impl Model for ServiceSide {
@@ -60,7 +70,7 @@ impl Model for ServiceSide {
 
     ghost Value = { Service };
 
-    ghost view = { λ s. record { writer = s.writer; replies = s.replies } };
+    ghost view = { λ s. record { writer = s.writer; replies = s.replies; last_stop = s.last_stop; answered = s.answered } };
 }
 
 impl ServiceSide {
@@ -70,10 +80,14 @@ impl ServiceSide {
         ensures reader { result.replies.reader ≡ first_reader point }
         ensures raw { result.replies.raw ≡ [] }
         ensures fault { result.replies.fault ≡ None }
+        ensures room { result.replies.room ≡ 0 }
+        ensures marks { (result.last_stop ≡ false) × (result.answered ≡ false) }
     {
         ServiceSide {
             writer: ChunkWriter::new(head),
             replies: ReplySide::new(alloc, point),
+            last_stop: false,
+            answered: false,
         }
     }
 
@@ -93,6 +107,8 @@ impl ServiceSide {
         ensures reader { IfOk result (λ side. side.replies.reader ≡ first_reader plan.now.point) }
         ensures raw { IfOk result (λ side. side.replies.raw ≡ []) }
         ensures fault { IfOk result (λ side. side.replies.fault ≡ None) }
+        ensures room { IfOk result (λ side. side.replies.room ≡ 0) }
+        ensures marks { IfOk result (λ side. (side.last_stop ≡ false) × (side.answered ≡ false)) }
     {
         let head = request_head(alloc, plan, host, port, path, req, res)?;
         Ok(ServiceSide::of_head(alloc, plan.point, head))
@@ -105,20 +121,28 @@ impl ServiceSide {
         ensures reader { self.new.replies.reader ≡ first_reader self.old.replies.reader.point }
         ensures raw { self.new.replies.raw ≡ [] }
         ensures fault { self.new.replies.fault ≡ None }
+        ensures room { self.new.replies.room ≡ 0 }
+        ensures marks { (self.new.last_stop ≡ false) × (self.new.answered ≡ false) }
     {
         self.writer.again();
         self.replies.again();
+        self.last_stop = false;
+        self.answered = false;
     }
 
     /// Whether the request is whole: all of it is out, or all of the preview, and that was answered without a 100.
-    pub fn request_whole(&self, state: &State) -> bool
-        ensures { result ≡ is_whole_request (seen state.now.plan state.now.events) self.now.writer }
+    pub fn request_whole(&self) -> bool
+        ensures { result ≡ is_whole_request self.now }
     {
-        let seen = state.seen();
-        let preview = matches!(seen.plan.kind, Kind::Preview(_));
-        let answered = seen.no_mod || seen.modified;
-        flushed(&self.writer)
-            && (seen.last_stop || (preview && seen.stopped && !seen.continued && answered))
+        flushed(&self.writer) && (self.last_stop || self.answered)
+    }
+
+    /// Whether the service's connection may carry another request behind this one: the request is whole, the final response
+    /// was read to its end and no byte behind it, its head doesn't say that the connection closes, and no fault stands.
+    pub fn is_reusable(&self) -> bool
+        ensures { result ≡ is_reusable self.now }
+    {
+        self.request_whole() && self.replies.is_done()
     }
 
     /// The raw bytes left over.
@@ -174,17 +198,19 @@ impl ServiceSide {
         requires { KeepsUnsent (seen state.now.plan state.now.events) tape.now }
         ensures reader { self.new.replies.reader ≡ self.old.replies.reader }
         ensures raw { self.new.replies.raw ≡ self.old.replies.raw }
+        ensures room { self.new.replies.room ≡ self.old.replies.room }
+        ensures answered { self.new.answered ≡ self.old.answered }
 
         // One write at most, and what each answer of it means.
         ensures turn { self.old.replies.fault ≡ None → WriteTurn (seen state.now.plan state.now.events) tape.now self.old.writer self.new.writer (W.past wire.old) (W.past wire.new) result }
         ensures sends { Sends (seen state.now.plan state.now.events) tape.now
-            (λ x came taken. HasSent x came taken self.old.writer) (λ x came taken. HasSent x came taken self.new.writer)
+            (λ x came taken. ServiceSent x came taken self.old) (λ x came taken. ServiceSent x came taken self.new)
             self.old.replies.fault self.new.replies.fault (NothingDue (seen state.now.plan state.now.events) self.new.writer) (W.past wire.old) (W.past wire.new) result }
     {
         if let Some(fault) = self.replies.fault() {
             return Err(fault);
         }
-        match write_once(&mut self.writer, state, tape, wire) {
+        match write_once(&mut self.writer, &mut self.last_stop, state, tape, wire) {
             Ok(turn) => Ok(turn),
             Err(fault) => {
                 self.replies.keep(fault);
@@ -202,16 +228,27 @@ impl ServiceSide {
         out: &mut [u8],
     ) -> Result<Turn, ClientFault>
         ensures writer { self.new.writer ≡ self.old.writer }
+        ensures last_stop { self.new.last_stop ≡ self.old.last_stop }
+        ensures answered { IfOk result (λ turn. self.new.answered ≡ is_answered (after_all (seen state.now.plan state.now.events) turn.events.items)) }
         ensures head { KeepsHead (seen state.now.plan state.now.events) self.old.replies.reader self.new.replies.reader }
 
         // What the wire gave, what was framed, and why bytes are refused.
         ensures turn { self.old.replies.fault ≡ None → ReadTurn (seen state.now.plan state.now.events) (is_flushed self.old.writer) (length out.old) self.old.replies self.new.replies (W.past wire.old) (W.past wire.new) out.new result }
         ensures hears { Hears (seen state.now.plan state.now.events)
-            (λ x adapted read. SideHeard x adapted read self.old.replies) (λ x adapted read. SideHeard x adapted read self.new.replies)
+            (λ x adapted read. ServiceHeard x adapted read self.old) (λ x adapted read. ServiceHeard x adapted read self.new)
             self.old.replies.fault self.new.replies.fault (RestsReading (seen state.now.plan state.now.events) (length out.old) self.new) (W.past wire.old) (W.past wire.new) out.new result }
+
+        // No empty room is kept.
+        ensures empty { self.old.replies.fault ≡ None → self.new.replies.raw ≡ [] → self.new.replies.room ≡ 0 }
     {
         let all_sent = flushed(&self.writer);
-        self.replies.read_turn(state, all_sent, wire, out)
+        match self.replies.read_turn(state, all_sent, wire, out) {
+            Ok(turn) => {
+                self.answered = is_answered(&state.seen(), turn.events.as_slice());
+                Ok(turn)
+            }
+            Err(fault) => Err(fault),
+        }
     }
 }
 

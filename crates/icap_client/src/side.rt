@@ -1,16 +1,18 @@
 //! The reading half of the service's side: the reader over a wire.
 
-ghost use Rattle.std.specs.Prelude.{option_copied, ◌≡◌, ◌<◌, ◌≤◌, ◌↔◌, [], length, take, IsTrue, IfOk, IfErr, IfSome, OnOk, None, Some, Bool, true, false, Err, MatchOption};
+ghost use Rattle.std.specs.Prelude.{option_copied, is_none, not, ◌&&◌, ◌==◌, ◌≡◌, ◌<◌, ◌≤◌, ◌↔◌, [], length, take, IsTrue, IfOk, IfErr, IfSome, OnOk, None, Some, Bool, true, false, Err, MatchOption};
 ghost use Rattle.trace_core.specs.History.{seen};
 ghost use Rattle.icap_client.specs.Events.{May, ad_sum};
 ghost use Rattle.icap_client.specs.Hearing.{MustWait};
 ghost use Rattle.icap_client.specs.Heard.{KeepsLimits, KeepsHead};
 ghost use Rattle.icap_client.specs.Laws.{first_reader};
 ghost use Rattle.icap_client.specs.Refused.{Refuses};
-ghost use Rattle.icap_client.specs.Reading.{Side, SideHears, MayRead, NothingToRead, IsFilled, ReadTurn};
+ghost use Rattle.icap_client.specs.Reading.{Side, GivesBack, SideHears, MayRead, NothingToRead, IsFilled, ReadTurn};
+ghost use Rattle.icap_client.specs.Turns.{is_over};
 ghost use Rattle.wire_kit.specs.Past.{Past};
 
-use crate::reader::{ReplyReader, event_list};
+use crate::events::event_list;
+use crate::reader::ReplyReader;
 use crate::stage::Stage;
 use adapt_sides::{ClientFault, Turn};
 use arrayvec::ArrayVec;
@@ -89,7 +91,7 @@ impl Model for ReplySide {
 
     ghost Value = { Side };
 
-    ghost view = { λ s. record { reader = s.reader; raw = s.raw.items; fault = s.fault } };
+    ghost view = { λ s. record { reader = s.reader; raw = s.raw.items; fault = s.fault; room = s.raw.spare } };
 
     ghost invariant = { λ s. length s.raw.items ≤ 16384 };
 }
@@ -101,6 +103,7 @@ impl ReplySide {
     pub fn new(alloc: Global, point: Point) -> ReplySide
         ensures raw { result.raw ≡ [] }
         ensures fault { result.fault ≡ None }
+        ensures room { result.room ≡ 0 }
         ensures reader { result.reader ≡ first_reader point }
     {
         ReplySide {
@@ -115,6 +118,7 @@ impl ReplySide {
         ensures reader { self.new.reader ≡ first_reader self.old.reader.point }
         ensures raw { self.new.raw ≡ [] }
         ensures fault { self.new.fault ≡ None }
+        ensures room { self.new.room ≡ 0 }
     {
         self.reader.again();
         self.raw = BytesMut::new(self.reader.allocator());
@@ -169,6 +173,17 @@ impl ReplySide {
         ensures { IsTrue result ↔ self.now.reader.stage ≡ Stage.Over }
     {
         self.reader.is_over()
+    }
+
+    /// Whether the final response was read to its end and no byte behind it, doesn't say that the connection closes, and no
+    /// fault stands.
+    pub(crate) fn is_done(&self) -> bool
+        ensures { result ≡ (is_over self.now.reader.stage && ((length self.now.raw == 0) && (not self.now.reader.closes && is_none self.now.fault))) }
+    {
+        self.reader.is_over()
+            && self.raw.is_empty()
+            && !self.reader.closes()
+            && self.fault.is_none()
     }
 
     /// Frames what may be framed of the raw bytes.
@@ -309,6 +324,33 @@ impl ReplySide {
         self.read_first(state, wire, out)
     }
 
+    /// Gives back the room for raw bytes, where none is there.
+    fn give_back(&mut self)
+        ensures { GivesBack self.old self.new }
+    {
+        if self.raw.is_empty() {
+            self.raw = BytesMut::new(self.reader.allocator());
+        }
+    }
+
+    /// The same, and keeps no empty room.
+    fn turn_once<W: Wire>(
+        &mut self,
+        state: &State,
+        all_sent: bool,
+        wire: &mut W,
+        out: &mut [u8],
+    ) -> Result<Turn, ClientFault>
+        ensures turn { ReadTurn (seen state.now.plan state.now.events) all_sent (length out.old) self.old self.new (W.past wire.old) (W.past wire.new) out.new result }
+        ensures fault { self.new.fault ≡ self.old.fault }
+        ensures head { KeepsHead (seen state.now.plan state.now.events) self.old.reader self.new.reader }
+        ensures empty { self.new.raw ≡ [] → self.new.room ≡ 0 }
+    {
+        let result = self.try_turn(state, all_sent, wire, out);
+        self.give_back();
+        result
+    }
+
     /// Reads what the service answers. The raw bytes come first; the wire is read once at most, where none of them can be
     /// framed. `all_sent` says that all text that was fixed for the service is out. The bytes of the adapted body go to the
     /// front of `out`, as many as the events say, and the caller steps the events.
@@ -329,11 +371,14 @@ impl ReplySide {
         ensures untouched { IfSome self.old.fault (λ fault. (p : Past) → W.past wire.old p → W.past wire.new p) }
         ensures sound { OnOk result (self.new.fault ≡ None) }
         ensures head { KeepsHead (seen state.now.plan state.now.events) self.old.reader self.new.reader }
+
+        // No empty room is kept.
+        ensures empty { self.old.fault ≡ None → self.new.raw ≡ [] → self.new.room ≡ 0 }
     {
         if let Some(fault) = self.fault {
             return Err(fault);
         }
-        match self.try_turn(state, all_sent, wire, out) {
+        match self.turn_once(state, all_sent, wire, out) {
             Ok(turn) => Ok(turn),
             Err(fault) => {
                 self.fault = Some(fault);

@@ -1,18 +1,45 @@
-use Rattle.std.proofs.Common.{◌≡◌, Bool, refl, ap, sym, subst, length, Some, None, Ok, Err, rules}
+use Rattle.std.proofs.Common.{◌≡◌, ◌∙◌, Bool, List, refl, ap, sym, subst, length, Some, None, Result, Ok, Err, rules}
+use Rattle.trace_core.specs.declared.history.Event.{Event}
+use Rattle.trace_core.specs.declared.history.Seen.{Seen}
 use Rattle.trace_core.specs.History.{seen}
+use Rattle.adapt_sides.specs.declared.turn.Turn.{Turn}
+use Rattle.adapt_sides.specs.declared.fault.ClientFault.{ClientFault}
+use Rattle.icap_client.specs.Events.{after_all}
 use Rattle.icap_client.specs.Reading.{SideHeard, NothingToRead}
-use Rattle.icap_client.specs.Turns.{Service, Hears}
+use Rattle.icap_client.specs.Turns.{Service, Hears, is_answered, is_flushed}
 use Rattle.icap_client.proofs.Both.{hears_all}
+use Rattle.icap_client.proofs.Marked.{hears_marked}
 use Rattle.icap_client.proofs.service.ServiceSide.read_turn.Goals as goal
 
-pub returns-clause-hears : goal.returns-clause-hears
-returns-clause-hears g c =
+pub returns-in-Ok-clause-hears : goal.returns-in-Ok-clause-hears
+returns-in-Ok-clause-hears g c =
     let y = seen c.args.state.now.plan c.args.state.now.events in
     let room = length c.args.out.now in
     let new = c.read_turn.new.self in
-    subst (λ (b : Bool). Hears y (λ x adapted read. SideHeard x adapted read c.args.self.now.replies) (λ x adapted read. SideHeard x adapted read new) c.args.self.now.replies.fault new.fault (NothingToRead y b room new.reader.stage)
-    (g.W.Wire.past c.args.wire.now) (g.W.Wire.past c.read_turn.new.wire) c.read_turn.new.out c.read_turn.result) c.flushed-all_sent.ensures
+    let result : Result Turn ClientFault = Ok c.in-Ok.turn in
+    let slice : c.as_slice.result.now ≡ c.in-Ok.turn.events.items = search rules in
+    let mark : c.is_answered-self-inside.result ≡ is_answered (after_all y c.in-Ok.turn.events.items) =
+    c.is_answered-self-inside.ensures
+    ∙ (ap (λ (s : Seen). is_answered (after_all s c.as_slice.result.now)) c.seen.ensures
+    ∙ ap (λ (es : List Event). is_answered (after_all y es)) slice) in
+    hears_marked y c.args.self.now _ c.args.self.now.replies.fault new.fault (NothingToRead y (is_flushed c.self.inside.writer) room new.reader.stage) (g.W.Wire.past c.args.wire.now) (g.W.Wire.past c.read_turn.new.wire) c.read_turn.new.out result (λ e. mark)
+    (subst (λ (b : Bool). Hears y (λ x adapted read. SideHeard x adapted read c.args.self.now.replies) (λ x adapted read. SideHeard x adapted read new) c.args.self.now.replies.fault new.fault (NothingToRead y b room new.reader.stage)
+    (g.W.Wire.past c.args.wire.now) (g.W.Wire.past c.read_turn.new.wire) c.read_turn.new.out result) c.flushed-all_sent.ensures
     (subst (λ (s : Service). Hears y (λ x adapted read. SideHeard x adapted read s.replies) (λ x adapted read. SideHeard x adapted read new) s.replies.fault new.fault (NothingToRead y c.flushed-all_sent.result room new.reader.stage)
-    (g.W.Wire.past c.args.wire.now) (g.W.Wire.past c.read_turn.new.wire) c.read_turn.new.out c.read_turn.result) c.self.view_is
-    (hears_all y c.flushed-all_sent.result room c.self.inside.replies new (g.W.Wire.past c.args.wire.now) (g.W.Wire.past c.read_turn.new.wire) c.read_turn.new.out c.read_turn.result
-    (sym c.read_turn.auto.out) c.read_turn.ensures.turn c.read_turn.ensures.stays c.read_turn.ensures.faulted c.read_turn.ensures.untouched))
+    (g.W.Wire.past c.args.wire.now) (g.W.Wire.past c.read_turn.new.wire) c.read_turn.new.out result) c.self.view_is
+    (hears_all y c.flushed-all_sent.result room c.self.inside.replies new (g.W.Wire.past c.args.wire.now) (g.W.Wire.past c.read_turn.new.wire) c.read_turn.new.out result
+    (sym c.read_turn.auto.out) c.in-Ok.ensures.turn c.in-Ok.ensures.stays c.in-Ok.ensures.faulted c.in-Ok.ensures.untouched)))
+
+pub returns-in-Err-clause-hears : goal.returns-in-Err-clause-hears
+returns-in-Err-clause-hears g c =
+    let y = seen c.args.state.now.plan c.args.state.now.events in
+    let room = length c.args.out.now in
+    let new = c.read_turn.new.self in
+    let result : Result Turn ClientFault = Err c.in-Err.fault in
+    hears_marked y c.args.self.now _ c.args.self.now.replies.fault new.fault (NothingToRead y (is_flushed c.self.inside.writer) room new.reader.stage) (g.W.Wire.past c.args.wire.now) (g.W.Wire.past c.read_turn.new.wire) c.read_turn.new.out result (λ e. ap (λ (s : Service). s.answered) c.self.view_is ∙ e)
+    (subst (λ (b : Bool). Hears y (λ x adapted read. SideHeard x adapted read c.args.self.now.replies) (λ x adapted read. SideHeard x adapted read new) c.args.self.now.replies.fault new.fault (NothingToRead y b room new.reader.stage)
+    (g.W.Wire.past c.args.wire.now) (g.W.Wire.past c.read_turn.new.wire) c.read_turn.new.out result) c.flushed-all_sent.ensures
+    (subst (λ (s : Service). Hears y (λ x adapted read. SideHeard x adapted read s.replies) (λ x adapted read. SideHeard x adapted read new) s.replies.fault new.fault (NothingToRead y c.flushed-all_sent.result room new.reader.stage)
+    (g.W.Wire.past c.args.wire.now) (g.W.Wire.past c.read_turn.new.wire) c.read_turn.new.out result) c.self.view_is
+    (hears_all y c.flushed-all_sent.result room c.self.inside.replies new (g.W.Wire.past c.args.wire.now) (g.W.Wire.past c.read_turn.new.wire) c.read_turn.new.out result
+    (sym c.read_turn.auto.out) c.in-Err.ensures.turn c.in-Err.ensures.stays c.in-Err.ensures.faulted c.in-Err.ensures.untouched)))

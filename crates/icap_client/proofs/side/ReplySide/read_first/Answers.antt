@@ -10,29 +10,29 @@ use Rattle.icap_client.proofs.side.ReplySide.read_first.Goals as goal
 
 pub returns-clause-turn : goal.returns-clause-turn
 returns-clause-turn g c = λ a.
-    let mid : Side = record { reader = c.self.inside.reader; raw = c.fill.new.raw.items; fault = c.self.inside.fault } in
+    let mid : Side = record { reader = c.self.inside.reader; raw = c.fill.new.raw.items; fault = c.self.inside.fault; room = c.fill.new.raw.spare } in
     let t : Turn = record { events = c.event_list.result; waiting = false } in
     turn_first (seen c.args.state.now.plan c.args.state.now.events) a (length c.args.out.now) c.args.self.now mid (g.W.Wire.past c.args.wire.now) (g.W.Wire.past c.fill.new.wire) c.args.out.now t c.requires.may
     (ap (λ (s : Side). s.reader) c.self.view_is) (subst (λ (s : Side). IsFilled (g.W.Wire.past c.args.wire.now) (g.W.Wire.past c.fill.new.wire) s.raw c.fill.new.raw.items filled.Bytes) c.self.view_is c.in-Bytes.ensures.filled) c.event_list.ensures refl
 
 pub returns-in-Wait-clause-turn : goal.returns-in-Wait-clause-turn
 returns-in-Wait-clause-turn g c = λ a.
-    let mid : Side = record { reader = c.self.inside.reader; raw = c.fill.new.raw.items; fault = c.self.inside.fault } in
+    let mid : Side = record { reader = c.self.inside.reader; raw = c.fill.new.raw.items; fault = c.self.inside.fault; room = c.fill.new.raw.spare } in
     let t : Turn = record { events = c.new.result; waiting = true } in
     turn_waited (seen c.args.state.now.plan c.args.state.now.events) a (length c.args.out.now) c.args.self.now mid (g.W.Wire.past c.args.wire.now) (g.W.Wire.past c.fill.new.wire) c.args.out.now t
     (ap (λ (s : Side). s.reader) c.self.view_is) (subst (λ (s : Side). IsFilled (g.W.Wire.past c.args.wire.now) (g.W.Wire.past c.fill.new.wire) s.raw c.fill.new.raw.items filled.Wait) c.self.view_is c.in-Wait.ensures.filled) c.requires.waits c.new.ensures refl
 
 pub returns-in-Ended-clause-turn : goal.returns-in-Ended-clause-turn
 returns-in-Ended-clause-turn g c = λ a.
-    let mid : Side = record { reader = c.self.inside.reader; raw = c.fill.new.raw.items; fault = c.self.inside.fault } in
+    let mid : Side = record { reader = c.self.inside.reader; raw = c.fill.new.raw.items; fault = c.self.inside.fault; room = c.fill.new.raw.spare } in
     turn_ended (seen c.args.state.now.plan c.args.state.now.events) a (length c.args.out.now) c.args.self.now mid (g.W.Wire.past c.args.wire.now) (g.W.Wire.past c.fill.new.wire) c.args.out.now (ap (λ (s : Side). s.reader) c.self.view_is) (subst (λ (s : Side). IsFilled (g.W.Wire.past c.args.wire.now) (g.W.Wire.past c.fill.new.wire) s.raw c.fill.new.raw.items filled.Ended) c.self.view_is c.in-Ended.ensures.filled)
 
 pub returns-in-Failed-clause-turn : goal.returns-in-Failed-clause-turn
 returns-in-Failed-clause-turn g c = λ a.
-    let mid : Side = record { reader = c.self.inside.reader; raw = c.fill.new.raw.items; fault = c.self.inside.fault } in
+    let mid : Side = record { reader = c.self.inside.reader; raw = c.fill.new.raw.items; fault = c.self.inside.fault; room = c.fill.new.raw.spare } in
     turn_failed (seen c.args.state.now.plan c.args.state.now.events) a (length c.args.out.now) c.args.self.now mid (g.W.Wire.past c.args.wire.now) (g.W.Wire.past c.fill.new.wire) c.args.out.now (ap (λ (s : Side). s.reader) c.self.view_is) (subst (λ (s : Side). IsFilled (g.W.Wire.past c.args.wire.now) (g.W.Wire.past c.fill.new.wire) s.raw c.fill.new.raw.items filled.Failed) c.self.view_is c.in-Failed.ensures.filled)
 
 pub returns-in-NoMemory-clause-turn : goal.returns-in-NoMemory-clause-turn
 returns-in-NoMemory-clause-turn g c = λ a.
-    let mid : Side = record { reader = c.self.inside.reader; raw = c.fill.new.raw.items; fault = c.self.inside.fault } in
+    let mid : Side = record { reader = c.self.inside.reader; raw = c.fill.new.raw.items; fault = c.self.inside.fault; room = c.fill.new.raw.spare } in
     turn_full (seen c.args.state.now.plan c.args.state.now.events) a (length c.args.out.now) c.args.self.now mid (g.W.Wire.past c.args.wire.now) (g.W.Wire.past c.fill.new.wire) c.args.out.now (ap (λ (s : Side). s.reader) c.self.view_is) (subst (λ (s : Side). IsFilled (g.W.Wire.past c.args.wire.now) (g.W.Wire.past c.fill.new.wire) s.raw c.fill.new.raw.items filled.NoMemory) c.self.view_is c.in-NoMemory.ensures.filled)

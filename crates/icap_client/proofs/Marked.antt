@@ -1,0 +1,153 @@
+-- The side's marks behind a turn's events.
+use Rattle.std.proofs.Common.{◌≡◌, ℕ, ◌+◌, Bool, true, false, not, ◌||◌, ◌&&◌, List, [], ◌∷◌, ◌++◌, length, take, refl, ap, sym, subst, ◌∙◌, arith, Option, None, Some, Result, Ok, Err, IfOk, if◌then◌else◌, ◌==◌, ◌⊎◌, inl, inr}
+use Rattle.std.specs.List.{list_any}
+use Rattle.trace_core.specs.declared.history.Event.{Event}
+use Rattle.trace_core.specs.declared.history.Event.TheVariants.{Svc, Stop, Retry}
+use Rattle.trace_core.specs.declared.history.Plan.{Plan}
+use Rattle.trace_core.specs.declared.history.Seen.{Seen}
+use Rattle.trace_core.specs.History.{is_continue, is_no_mod, is_mod, is_preview, is_whole}
+use Rattle.trace_core.specs.View.{after}
+use Rattle.span_tape.specs.Tape.{Tape}
+use Rattle.wire_kit.specs.Past.{Past}
+use Rattle.adapt_sides.specs.declared.turn.Turn.{Turn}
+use Rattle.adapt_sides.specs.declared.fault.ClientFault.{ClientFault}
+use Rattle.icap_client.specs.Events.{after_all, is_final}
+use Rattle.icap_client.specs.Sending.{HasSent, NothingDue, turn_events, svc_events}
+use Rattle.icap_client.specs.Reading.{Side, SideHeard, NotBegun}
+use Rattle.icap_client.specs.Turns.{Service, ServiceSent, ServiceHeard, Sends, Hears, events_of, is_answered, is_last_at}
+
+-- ---- a preview that was answered
+
+or_none : (b : Bool) → b ≡ (b || false)
+or_none true = refl
+or_none false = refl
+
+or_swap : (a b c : Bool) → ((a || b) || c) ≡ (b || (a || c))
+or_swap true true c = refl
+or_swap true false c = refl
+or_swap false b c = or_same b c
+  where
+    or_same : (b c : Bool) → ((false || b) || c) ≡ (b || (false || c))
+    or_same true c = refl
+    or_same false c = refl
+
+continued_after : (x : Seen) (events : List Event) → (after_all x events).continued ≡ (x.continued || list_any is_continue events)
+continued_after x [] = or_none x.continued
+continued_after x (event ∷ events) = continued_after (after x event) events ∙ or_swap (is_continue event) x.continued (list_any is_continue events)
+
+or_mixed : (a n b m c : Bool) → (((a || n) || (b || m)) || c) ≡ ((n || m) || ((a || b) || c))
+or_mixed true true true true c = refl
+or_mixed true true true false c = refl
+or_mixed true true false true c = refl
+or_mixed true true false false c = refl
+or_mixed true false true true c = refl
+or_mixed true false true false c = refl
+or_mixed true false false true c = refl
+or_mixed true false false false c = refl
+or_mixed false true true true c = refl
+or_mixed false true true false c = refl
+or_mixed false true false true c = refl
+or_mixed false true false false c = refl
+or_mixed false false true true c = refl
+or_mixed false false true false c = refl
+or_mixed false false false true c = refl
+or_mixed false false false false c = refl
+
+final_after : (x : Seen) (events : List Event) → ((after_all x events).no_mod || (after_all x events).modified) ≡ ((x.no_mod || x.modified) || list_any is_final events)
+final_after x [] = or_none (x.no_mod || x.modified)
+final_after x (event ∷ events) = final_after (after x event) events ∙ or_mixed (is_no_mod event) x.no_mod (is_mod event) x.modified (list_any is_final events)
+
+plan_after : (x : Seen) (events : List Event) → (after_all x events).plan ≡ x.plan
+plan_after x [] = refl
+plan_after x (event ∷ events) = plan_after (after x event) events
+
+pub answered_after : (x : Seen) (events : List Event)
+    → (is_preview x.plan.kind && (not (x.continued || list_any is_continue events) && ((x.no_mod || x.modified) || list_any is_final events))) ≡ is_answered (after_all x events)
+answered_after x events =
+    let y = after_all x events in
+    ap (λ (r : Bool). is_preview x.plan.kind && (not (x.continued || list_any is_continue events) && r)) (sym (final_after x events))
+    ∙ (ap (λ (c : Bool). is_preview x.plan.kind && (not c && (y.no_mod || y.modified))) (sym (continued_after x events))
+    ∙ ap (λ (p : Plan). is_preview p.kind && (not y.continued && (y.no_mod || y.modified))) (sym (plan_after x events)))
+
+and_none : (a b : Bool) → (a && (b && false)) ≡ false
+and_none true true = refl
+and_none true false = refl
+and_none false b = refl
+
+unheard_marks : (x : Seen) (adapted read : List ℕ) → (x.heard ≡ true) ⊎ NotBegun x adapted read → x.heard ≡ false → (x.no_mod ≡ false) × (x.modified ≡ false)
+unheard_marks x adapted read (inl e) f = let odd : true ≡ false = sym e ∙ f in cc
+unheard_marks x adapted read (inr b) f = (b.marks.no_mod_is, b.marks.modified_is)
+
+-- before the first byte of a reply nothing is answered, and nothing is so behind a Retry
+pub none_answered : (x : Seen) (adapted read : List ℕ) (s : Side) → x.heard ≡ false → SideHeard x adapted read s → is_answered (after x Retry) ≡ false
+none_answered x adapted read s f h =
+    let marks = unheard_marks x adapted read h.begun f in
+    ap (λ (n : Bool). is_preview x.plan.kind && (not x.continued && (n || x.modified))) marks.0
+    ∙ (ap (λ (m : Bool). is_preview x.plan.kind && (not x.continued && (false || m))) marks.1
+    ∙ and_none (is_preview x.plan.kind) (not x.continued))
+
+-- ---- the last Stop
+
+last_here : (x : Seen) → is_last_at x x.sent ≡ is_last_at x (x.sent + 0)
+last_here x = ap (λ (n : ℕ). is_last_at x n) (omega arith)
+
+last_moved : (x : Seen) (n : ℕ) → is_last_at x (x.sent + n) ≡ is_last_at x (n + x.sent)
+last_moved x n = let e : x.sent + n ≡ n + x.sent = omega arith in ap (λ (m : ℕ). is_last_at x m) e
+
+stop_none : (x : Seen) → (after x Stop).last_stop ≡ (is_last_at x x.sent || x.last_stop)
+stop_none x = refl
+
+stop_some : (x : Seen) (n : ℕ) → (after (after x (Svc n)) Stop).last_stop ≡ (is_last_at x (n + x.sent) || x.last_stop)
+stop_some x n =
+    let r : 0 + x.received ≡ x.received = omega arith in
+    ap (λ (m : ℕ). (is_whole x.plan.kind || (is_preview x.plan.kind && not x.stopped && x.ended && (n + x.sent == m)) || (is_preview x.plan.kind && x.continued)) || x.last_stop) r
+
+last_by : (x : Seen) (n : ℕ) (b : Bool) → (n == 0) ≡ b → (after_all x (turn_events n true)).last_stop ≡ (is_last_at x (x.sent + n) || x.last_stop)
+last_by x n true e =
+    let z : n ≡ 0 = grind (arith) in
+    rw e (stop_none x ∙ ap (λ (m : ℕ). is_last_at x m || x.last_stop) (omega (arith, z)))
+last_by x n false e = rw e (stop_some x n ∙ ap (λ (l : Bool). l || x.last_stop) (sym (last_moved x n)))
+
+last_still : (x : Seen) (n : ℕ) (b : Bool) → (n == 0) ≡ b → (after_all x (turn_events n false)).last_stop ≡ x.last_stop
+last_still x n true e = rw e refl
+last_still x n false e = rw e refl
+
+-- `all` says that a Stop stands only behind all bytes that were to come next
+pub last_after : (x : Seen) (n count from : ℕ) (e : Bool) (events : List Event) → events ≡ turn_events n e → from ≡ x.sent → (e ≡ true → n ≡ count)
+    → ((e && is_last_at x (from + count)) || x.last_stop) ≡ (after_all x events).last_stop
+last_after x n count from true events i f all =
+    let same : from + count ≡ x.sent + n = omega (arith, f, all refl) in
+    ap (λ (m : ℕ). is_last_at x m || x.last_stop) same
+    ∙ (sym (last_by x n (n == 0) refl) ∙ ap (λ (es : List Event). (after_all x es).last_stop) (sym i))
+last_after x n count from false events i f all = sym (last_still x n (n == 0) refl) ∙ ap (λ (es : List Event). (after_all x es).last_stop) (sym i)
+
+-- ---- both in a turn
+
+pub sends_marked : (x : Seen) (tape : Tape) (old new : Service) (fault kept : Option ClientFault) (P Q : Past → Type 0) (result : Result Turn ClientFault)
+    → (old.last_stop ≡ x.last_stop → new.last_stop ≡ (after_all x (events_of result)).last_stop)
+    → Sends x tape (λ x came taken. HasSent x came taken old.writer) (λ x came taken. HasSent x came taken new.writer) fault kept (NothingDue x new.writer) P Q result
+    → Sends x tape (λ x came taken. ServiceSent x came taken old) (λ x came taken. ServiceSent x came taken new) fault kept (NothingDue x new.writer) P Q result
+sends_marked x tape old new fault kept P Q result mark s = record {
+  delta = s.delta;
+  wire = s.wire;
+  only = s.only;
+  legal = s.legal;
+  goes_on = λ came taken f h. record { sent = s.goes_on came taken f h.sent; last_stop = mark h.last_stop };
+  waiting = s.waiting;
+  fault = s.fault;
+}
+
+pub hears_marked : (x : Seen) (old new : Service) (fault kept : Option ClientFault) (rests : Type 0) (P Q : Past → Type 0) (out : List ℕ) (result : Result Turn ClientFault)
+    → (old.answered ≡ is_answered x → new.answered ≡ is_answered (after_all x (events_of result)))
+    → Hears x (λ x adapted read. SideHeard x adapted read old.replies) (λ x adapted read. SideHeard x adapted read new.replies) fault kept rests P Q out result
+    → Hears x (λ x adapted read. ServiceHeard x adapted read old) (λ x adapted read. ServiceHeard x adapted read new) fault kept rests P Q out result
+hears_marked x old new fault kept rests P Q out result mark s = record {
+  delta = s.delta;
+  wire = s.wire;
+  only = s.only;
+  count = s.count;
+  legal = s.legal;
+  goes_on = λ adapted read h. record { heard = s.goes_on adapted read h.heard; answered = mark h.answered };
+  waiting = s.waiting;
+  fault = s.fault;
+}

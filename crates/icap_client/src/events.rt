@@ -1,0 +1,100 @@
+//! What the reader of responses answers: events, whether they may come now, and the fault of a head.
+
+ghost use Rattle.std.specs.Prelude.{◌≡◌, ◌≢◌, ◌<◌, ◌⊎◌, [], IfSome, IfNone, IsTrue, ◌↔◌, true, false};
+ghost use Rattle.trace_core.specs.History.{seen};
+ghost use Rattle.icap_client.specs.Events.{listed, MayHear, MayAllFollow, body_events};
+ghost use Rattle.icap_client.specs.Replies.{payload_if};
+
+use adapt_sides::ClientFault;
+use arrayvec::ArrayVec;
+use icap_head::HeadFault;
+use trace_core::{Event, Payload, State};
+
+/// What was framed of the bytes that were offered: so many from the front, and what they say.
+#[derive(Clone, Copy, Debug, PartialEq, Eq)]
+pub(crate) struct Framed {
+    pub(crate) used: usize,
+    pub(crate) event: Option<Event>,
+}
+
+/// What was heard in the bytes that were offered: so many from the front were framed, and these events are what they say.
+#[derive(Drop)]
+pub struct Heard {
+    pub used: usize,
+    pub events: ArrayVec<Event, 4>,
+}
+
+/// The fault of a text that has no ICAP head at its front; none where it may still become one.
+pub(crate) fn refusal(fault: HeadFault) -> Option<ClientFault>
+    ensures some { IfSome result (λ found. ((fault ≡ HeadFault.NoMemory) × (found ≡ ClientFault.NoMemory))
+        ⊎ ((found ≡ ClientFault.Head) × (fault ≢ HeadFault.NoMemory) × (fault ≢ HeadFault.More))) }
+    ensures none { IfNone result (fault ≡ HeadFault.More) }
+{
+    match fault {
+        HeadFault::More => None,
+        HeadFault::NoMemory => Some(ClientFault::NoMemory),
+        HeadFault::StartLine
+        | HeadFault::Version
+        | HeadFault::Field
+        | HeadFault::TooLong
+        | HeadFault::TooMany => Some(ClientFault::Head),
+    }
+}
+
+/// The event, if there is one, as a list.
+pub(crate) fn event_list(event: Option<Event>) -> ArrayVec<Event, 4>
+    ensures { result.items ≡ listed event }
+{
+    let mut events = ArrayVec::new();
+    if let Some(event) = event {
+        let _ = events.try_push(event);
+    }
+    events
+}
+
+/// The events of so many bytes of the adapted body, and of its end.
+pub(crate) fn body_events(count: usize, ended: bool) -> ArrayVec<Event, 4>
+    ensures { result.items ≡ body_events count ended }
+{
+    let mut events = ArrayVec::new();
+    if count > 0 {
+        let _ = events.try_push(Event::Ad(count as u64));
+    }
+    if ended {
+        let _ = events.try_push(Event::AdEnd);
+    }
+    events
+}
+
+/// Whether these events may come now.
+pub(crate) fn may_all(state: &State, count: usize, ended: bool) -> bool
+    ensures may { IsTrue result → MayAllFollow (seen state.now.plan state.now.events) (body_events count ended) }
+    ensures heard { IsTrue result → (body_events count ended ≡ []) ⊎ ((seen state.now.plan state.now.events).heard ≡ true) }
+    ensures may_not { result ≡ false → ((0 < count) × (MayHear (seen state.now.plan state.now.events) (Event.Ad count) → ⊥)) ⊎ ((count ≡ 0) × (ended ≡ true) × (MayHear (seen state.now.plan state.now.events) Event.AdEnd → ⊥)) }
+{
+    if count > 0 {
+        return may_hear(state, Event::Ad(count as u64));
+    }
+    if ended {
+        return may_hear(state, Event::AdEnd);
+    }
+    true
+}
+
+/// Whether the event may come now, behind a first byte that was read before.
+fn may_hear(state: &State, event: Event) -> bool
+    ensures { IsTrue result ↔ MayHear (seen state.now.plan state.now.events) event }
+{
+    state.seen().heard && state.may(event)
+}
+
+/// What a 200 has behind its heads.
+pub(crate) fn payload_of(body: bool) -> Payload
+    ensures { result ≡ payload_if body }
+{
+    if body {
+        Payload::Body
+    } else {
+        Payload::NullBody
+    }
+}
