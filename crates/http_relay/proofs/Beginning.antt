@@ -1,14 +1,16 @@
 -- From a head to the body behind it.
-use Rattle.std.proofs.Common.{◌≡◌, ℕ, ◌+◌, ◌-◌, ◌<◌, ◌≤◌, Bool, true, false, List, [], ◌++◌, length, take, drop, refl, ap, sym, subst, ◌∙◌, append_assoc, append-nil, arith, length-append, length-drop}
-use Rattle.std.proofs.lemmas.List.{take-append-drop, length-take-le, length-take}
-use Rattle.httparse.specs.Grammar.{print_request, print_response}
+use Rattle.std.proofs.Common.{◌≡◌, ℕ, ◌+◌, ◌-◌, ◌<◌, ◌≤◌, Bool, true, false, List, [], ◌∷◌, ◌++◌, length, take, drop, refl, ap, sym, subst, ◌∙◌, append_assoc, append-nil, arith, length-append, length-drop}
+use Rattle.std.proofs.lemmas.List.{take-append-drop, take-append-le, take_all, drop_all, length-take}
+use Rattle.std.proofs.Math.Seq.{take-append_seam}
+use Rattle.httparse.specs.Grammar.{ResponseHead, print_request, print_response, print_blank, print_version, print_reason, print_end, print_section}
+use Rattle.httparse.proofs.GrammarLemmas.{print_response-append}
 use Rattle.http_side.specs.Heads.{RequestParts, ResponseParts}
 use Rattle.http_side.specs.Body.{HasRead}
 use Rattle.http_side.specs.Requests.{IsRead}
 use Rattle.http_side.specs.Responses.{IsResponseRead}
 use Rattle.trace_core.specs.declared.history.Seen.{Seen}
 use Rattle.http_relay.specs.Source.{BodyRead}
-use Rattle.http_relay.specs.Reading.{SideRead, AtHead, Begins, IsBefore, IsHeadText, IsInterim, AreInterims, framing_of}
+use Rattle.http_relay.specs.Reading.{SideRead, AtHead, Begins, IsBefore, IsHeadText, IsInterim, IsFinal, AreInterims, framing_of}
 use Rattle.http_relay.specs.Reading.AreInterims.{nothing, further}
 use Rattle.http_relay.specs.declared.side.SourceSide.{SourceSide}
 use Rattle.http_relay.specs.declared.side.SourceHead.{SourceHead}
@@ -16,11 +18,46 @@ use Rattle.http_relay.specs.declared.side.SourceHead.TheVariants as heads
 use Rattle.http_relay.specs.declared.side.Asks.{Asks}
 use Rattle.http_relay.specs.declared.side.Asks.TheVariants as asks
 
-request_text : (raw : List ℕ) (r : RequestParts) (n : ℕ) → n ≤ length raw → IsRead false raw r n → IsHeadText asks.Request (heads.Request r) (take n raw)
-request_text raw r n l h = (drop n raw, subst (λ (t : List ℕ). IsRead false t r (length (take n raw))) (sym (take-append-drop n raw)) (subst (λ (k : ℕ). IsRead false raw r k) (sym (length-take-le n raw l)) h))
+-- a text that stands at the front of the raw bytes is all of itself
+pub at_front : (raw text rest : List ℕ) (n : ℕ) → take 16384 raw ≡ text ++ rest → n ≡ length text → take n raw ≡ text
+at_front raw text rest n e l =
+    let all : length (take 16384 raw) ≡ length text + length rest = ap (λ (t : List ℕ). length t) e ∙ length-append text rest in
+    let near : take n raw ≡ take n (take 16384 raw) =
+    ap (λ (t : List ℕ). take n t) (sym (take-append-drop 16384 raw)) ∙ take-append-le n (take 16384 raw) (drop 16384 raw) (omega (arith, all, l)) in
+    near ∙ (ap (λ (t : List ℕ). take n t) e ∙ (ap (λ (k : ℕ). take k (text ++ rest)) l ∙ take-append_seam text rest))
 
-response_text : (raw : List ℕ) (r : ResponseParts) (n : ℕ) (to_head : Bool) → n ≤ length raw → IsResponseRead to_head raw r n → IsResponseRead to_head (take n raw ++ drop n raw) r (length (take n raw))
-response_text raw r n to_head l h = subst (λ (t : List ℕ). IsResponseRead to_head t r (length (take n raw))) (sym (take-append-drop n raw)) (subst (λ (k : ℕ). IsResponseRead to_head raw r k) (sym (length-take-le n raw l)) h)
+alone : (raw text rest : List ℕ) (n : ℕ) → take 16384 raw ≡ text ++ rest → n ≡ length text
+    → (take 16384 (take n raw) ≡ text ++ drop (length (take n raw)) (take 16384 (take n raw))) × (length (take n raw) ≡ length text)
+alone raw text rest n e l =
+    let is : take n raw ≡ text = at_front raw text rest n e l in
+    let all : length (take 16384 raw) ≡ length text + length rest = ap (λ (t : List ℕ). length t) e ∙ length-append text rest in
+    let short : length text ≤ 16384 = omega (arith, all, length-take 16384 raw) in
+    let judged : take 16384 (take n raw) ≡ text = ap (λ (t : List ℕ). take 16384 t) is ∙ take_all 16384 text short in
+    let none : drop (length (take n raw)) (take 16384 (take n raw)) ≡ [] =
+    ap (λ (t : List ℕ). drop (length (take n raw)) t) judged ∙ drop_all (length (take n raw)) text (omega (arith, ap (λ (t : List ℕ). length t) is)) in (
+      judged ∙ (sym (append-nil text) ∙ ap (λ (t : List ℕ). text ++ t) (sym none)),
+      ap (λ (t : List ℕ). length t) is,
+    )
+
+-- so the head is its own text
+pub request_alone : (raw : List ℕ) (r : RequestParts) (n : ℕ) → IsRead false raw r n → IsRead false (take n raw) r (length (take n raw))
+request_alone raw r n h =
+    let is = alone raw (print_request h.there.head) (drop n (take 16384 raw)) n h.there.reads.1 h.there.len_is in
+    record {
+      there = record { head = h.there.head; reads = (h.there.reads.0, is.0); len_is = is.1; parts_are = h.there.parts_are };
+      few = h.few;
+      taken = h.taken;
+    }
+
+pub response_alone : (raw : List ℕ) (r : ResponseParts) (n : ℕ) (to_head : Bool) → IsResponseRead to_head raw r n → IsResponseRead to_head (take n raw) r (length (take n raw))
+response_alone raw r n to_head h =
+    let is = alone raw (print_response h.there.head) (drop n (take 16384 raw)) n h.there.reads.1 h.there.len_is in
+    record {
+      there = record { head = h.there.head; reads = (h.there.reads.0, is.0); len_is = is.1; parts_are = h.there.parts_are };
+      few = h.few;
+      asked = h.asked;
+      no_fault = h.no_fault;
+    }
 
 -- the head was taken from the front of the raw bytes
 begins : (old new : SourceSide) (n : ℕ) → new.asks ≡ old.asks → new.raw.items ≡ drop n old.raw.items → IsHeadText old.asks new.head (take n old.raw.items)
@@ -44,13 +81,13 @@ begins old new n a r h way fresh going zero read s x count going_on = (
 pub begins_request : (old new : SourceSide) (n : ℕ) (r : RequestParts) → old.asks ≡ asks.Request → new.asks ≡ old.asks → new.raw.items ≡ drop n old.raw.items → n ≤ length old.raw.items → new.head ≡ heads.Request r → IsRead false old.raw.items r n
     → new.body.framing ≡ framing_of (heads.Request r) → HasRead new.body.framing [] [] new.body.reader → new.body.ended ≡ false → new.body.received ≡ 0 → (read : List ℕ) → AtHead read old → Begins read new
 begins_request old new n r q a d l h is way fresh going zero =
-    begins old new n a d (subst (λ (t : Asks). IsHeadText t new.head (take n old.raw.items)) (sym q) (subst (λ (t : SourceHead). IsHeadText asks.Request t (take n old.raw.items)) (sym h) (request_text old.raw.items r n l is)))
+    begins old new n a d (subst (λ (t : Asks). IsHeadText t new.head (take n old.raw.items)) (sym q) (subst (λ (t : SourceHead). IsHeadText asks.Request t (take n old.raw.items)) (sym h) (request_alone old.raw.items r n is)))
     (way ∙ ap framing_of (sym h)) fresh going zero
 
-pub begins_response : (old new : SourceSide) (n : ℕ) (r : ResponseParts) (to_head : Bool) → old.asks ≡ asks.Response to_head → new.asks ≡ old.asks → new.raw.items ≡ drop n old.raw.items → n ≤ length old.raw.items → new.head ≡ heads.Response r → IsResponseRead to_head old.raw.items r n
+pub begins_response : (old new : SourceSide) (n : ℕ) (r : ResponseParts) (to_head : Bool) → old.asks ≡ asks.Response to_head → new.asks ≡ old.asks → new.raw.items ≡ drop n old.raw.items → n ≤ length old.raw.items → new.head ≡ heads.Response r → IsResponseRead to_head old.raw.items r n → IsFinal r
     → new.body.framing ≡ framing_of (heads.Response r) → HasRead new.body.framing [] [] new.body.reader → new.body.ended ≡ false → new.body.received ≡ 0 → (read : List ℕ) → AtHead read old → Begins read new
-begins_response old new n r to_head q a d l h is way fresh going zero =
-    begins old new n a d (subst (λ (t : Asks). IsHeadText t new.head (take n old.raw.items)) (sym q) (subst (λ (t : SourceHead). IsHeadText (asks.Response to_head) t (take n old.raw.items)) (sym h) (drop n old.raw.items, response_text old.raw.items r n to_head l is)))
+begins_response old new n r to_head q a d l h is last way fresh going zero =
+    begins old new n a d (subst (λ (t : Asks). IsHeadText t new.head (take n old.raw.items)) (sym q) (subst (λ (t : SourceHead). IsHeadText (asks.Response to_head) t (take n old.raw.items)) (sym h) (response_alone old.raw.items r n to_head is, last)))
     (way ∙ ap framing_of (sym h)) fresh going zero
 
 -- an interim response was dropped
@@ -62,7 +99,7 @@ drops_interim old new n r to_head q a h d l is between read s = record {
       let joined : take n old.raw.items ++ new.raw.items ≡ old.raw.items = ap (λ (t : List ℕ). take n old.raw.items ++ t) d ∙ take-append-drop n old.raw.items in
       s.text_is ∙ (ap (λ (t : List ℕ). s.before ++ t) (sym joined) ∙ sym (append_assoc s.before (take n old.raw.items) new.raw.items));
   interims = subst (λ (t : Asks). IsBefore t (s.before ++ take n old.raw.items)) (sym (a ∙ q))
-      (further s.before (take n old.raw.items) (drop n old.raw.items) r (subst (λ (t : Asks). IsBefore t s.before) q s.interims) (response_text old.raw.items r n to_head l is) between);
+      (further s.before (take n old.raw.items) r (subst (λ (t : Asks). IsBefore t s.before) q s.interims) (response_alone old.raw.items r n to_head is) between);
   unread = h ∙ s.unread;
 }
 
@@ -91,3 +128,13 @@ request_within raw r n h = let l = short_front raw (print_request h.there.head) 
 
 pub response_within : (raw : List ℕ) (r : ResponseParts) (n : ℕ) (to_head : Bool) → IsResponseRead to_head raw r n → n ≤ length raw
 response_within raw r n to_head h = let l = short_front raw (print_response h.there.head) (drop n (take 16384 raw)) h.there.reads.1 in omega (arith, l, h.there.len_is)
+
+some_digits : (h : ResponseHead) → 0 < length (print_response h)
+some_digits h =
+    let rest : List ℕ = h.digits ++ (print_reason h.reason ++ (print_end h.line_end ++ (print_section h.fields h.last ++ []))) in
+    let e = ap (λ (t : List ℕ). length t) (print_response-append h []) in
+    omega (arith, e, length-append (print_response h) [], length-append (print_blank h.blank) (print_version h.minor ++ 32 ∷ rest), length-append (print_version h.minor) (32 ∷ rest))
+
+-- a response's head has a byte at least
+pub response_some : (raw : List ℕ) (r : ResponseParts) (n : ℕ) (to_head : Bool) → IsResponseRead to_head raw r n → 0 < n
+response_some raw r n to_head h = let l = some_digits h.there.head in omega (arith, l, h.there.len_is)

@@ -1,16 +1,26 @@
 -- Turns at the head, by what the wire gave.
-use Rattle.std.proofs.Common.{◌≡◌, ℕ, ◌+◌, ◌<◌, ◌≤◌, ◌⊎◌, inl, inr, Bool, true, false, List, [], ◌++◌, length, refl, ap, sym, subst, ◌∙◌, append_assoc, append-nil, arith, Result, Ok, Err, Some, IfSome}
+use Rattle.std.proofs.Common.{◌≡◌, ℕ, ◌+◌, ◌<◌, ◌≤◌, ◌⊎◌, inl, inr, Bool, true, false, List, [], ◌++◌, length, take, drop, refl, ap, sym, subst, ◌∙◌, append_assoc, append-nil, length-append, arith, Result, Ok, Err, Option, Some, None, IfSome, IfOk}
+use Rattle.std.proofs.lemmas.List.{take-append-le}
+use Rattle.std.proofs.Math.Seq.{take-length, drop-length}
+use Rattle.http_side.specs.declared.fault.HttpFault.{HttpFault}
+use Rattle.http_side.specs.declared.fault.HttpFault.TheVariants.{More, Bad, TooLong, TooMany, BothLengths, Lengths, Coding, Target, Connect}
+use Rattle.http_side.specs.declared.fault.HttpFault.TheVariants as http
+use Rattle.http_relay.specs.Judging.{has_line, RefusesBytes, IsSwitching, IsLooking, HasNoHead, RefusesHead, LacksMemory, Scans, Looks}
 use Rattle.wire_kit.specs.Past.{Past}
 use Rattle.wire_kit.specs.Past.{IsLater}
-use Rattle.http_relay.specs.Reading.{AtHead, GivesBack, Begins, SideRead, SideReads, ScannedTo, HeadReason, HeadTurn, IsFilled, IsBefore}
+use Rattle.http_relay.specs.Reading.{AtHead, GivesBack, Begins, SideRead, SideReads, JudgedTo, ScannedTo, HeadReason, HeadTurn, IsFilled, IsBefore}
 use Rattle.http_relay.specs.Source.{Agrees, known}
 use Rattle.http_relay.specs.declared.source_body.SourceBody.{SourceBody}
 use Rattle.trace_core.specs.declared.history.Seen.{Seen}
 use Rattle.http_relay.proofs.Sides.{filled_more}
 use Rattle.adapt_sides.specs.declared.fault.RelayFault.{RelayFault}
-use Rattle.adapt_sides.specs.declared.fault.RelayFault.TheVariants.{Head, Closed, Device, NoMemory}
+use Rattle.adapt_sides.specs.declared.fault.RelayFault.TheVariants.{Head, Chunk, Closed, Device, Length, NoMemory}
 use Rattle.http_relay.specs.declared.side.Asks.{Asks}
-use Rattle.http_relay.specs.declared.side.Filled.TheVariants as filled
+use Rattle.http_relay.specs.declared.side.Asks.TheVariants as asks
+use Rattle.http_relay.specs.declared.side.SourceHead.TheVariants as heads
+use Rattle.http_relay.specs.declared.side.head.Judged.{Judged}
+use Rattle.http_relay.specs.declared.side.head.Judged.TheVariants as judged
+use Rattle.http_relay.specs.declared.fill.Filled.TheVariants as filled
 use Rattle.http_relay.specs.declared.side.SourceSide.{SourceSide}
 use Rattle.http_relay.proofs.Beginning.{still_at_head}
 use Rattle.http_relay.proofs.Turning.{SameSide}
@@ -26,10 +36,130 @@ filled_at_head old new delta m r read s = record {
   unread = m.head ∙ s.unread;
 }
 
+-- ---- what was judged
+
+-- judging refuses nothing that a turn doesn't
+scans_looks : (result : Result Bool RelayFault) (s : SourceSide) → Scans result s → Looks result s
+scans_looks (Ok true) s h = h
+scans_looks (Ok false) s h = h
+scans_looks (Err Head) s h = h
+scans_looks (Err NoMemory) s h = inl h
+scans_looks (Err Closed) s h = absurd h
+scans_looks (Err Device) s h = absurd h
+scans_looks (Err Chunk) s h = absurd h
+scans_looks (Err Length) s h = absurd h
+
+-- what judging looks at
+pub record SameLook (old new : SourceSide) : Type 0 where
+  pub judged : new.judged ≡ old.judged
+  pub head_fault : new.head_fault ≡ old.head_fault
+
+-- the bytes that were judged stay in front
+looks_on : (old new : SourceSide) (delta : List ℕ) → new.asks ≡ old.asks → SameLook old new → new.raw.items ≡ old.raw.items ++ delta → IsLooking old → IsLooking new
+looks_on old new delta a m r l =
+    let front : take new.judged new.raw.items ≡ take old.judged old.raw.items =
+    ap (λ (n : ℕ). take n new.raw.items) m.judged ∙ (ap (λ (t : List ℕ). take old.judged t) r ∙ take-append-le old.judged old.raw.items delta l.within) in
+    record {
+      within = omega (arith, l.within, m.judged, ap (λ (t : List ℕ). length t) r, length-append old.raw.items delta);
+      beginning = elim l.beginning [
+        | inl z ↦ inl (m.judged ∙ z)
+        | inr b ↦ inr (subst (λ (t : Asks). RefusesBytes t (take new.judged new.raw.items) More) (sym a) (subst (λ (t : List ℕ). RefusesBytes old.asks t More) (sym front) b))
+      ];
+      no_fault = m.head_fault ∙ l.no_fault;
+    }
+
+none_on : (old new : SourceSide) → new.asks ≡ old.asks → SameLook old new → new.raw.items ≡ old.raw.items → HasNoHead old → HasNoHead new
+none_on old new a m r h = record {
+  looking = looks_on old new [] a m (r ∙ sym (append-nil old.raw.items)) h.looking;
+  no_line = ap (λ (n : ℕ). has_line (drop n new.raw.items)) m.judged ∙ (ap (λ (t : List ℕ). has_line (drop old.judged t)) r ∙ h.no_line);
+  few = omega (arith, h.few, ap (λ (t : List ℕ). length t) r);
+}
+
+switching_on : (old new : SourceSide) → new.asks ≡ old.asks → new.raw.items ≡ old.raw.items → IsSwitching old.asks old.raw.items → IsSwitching new.asks new.raw.items
+switching_on old new a r h = subst (λ (t : Asks). IsSwitching t new.raw.items) (sym a) (subst (λ (t : List ℕ). IsSwitching old.asks t) (sym r) h)
+
+bytes_on : (old new : SourceSide) (fault : HttpFault) → new.asks ≡ old.asks → new.raw.items ≡ old.raw.items → RefusesBytes old.asks old.raw.items fault → RefusesBytes new.asks new.raw.items fault
+bytes_on old new fault a r h = subst (λ (t : Asks). RefusesBytes t new.raw.items fault) (sym a) (subst (λ (t : List ℕ). RefusesBytes old.asks t fault) (sym r) h)
+
+refuses_on : (old new : SourceSide) (why : Option HttpFault) → new.asks ≡ old.asks → new.raw.items ≡ old.raw.items → RefusesHead old why → RefusesHead new why
+refuses_on old new (Some More) a r h = h
+refuses_on old new (Some Bad) a r h = bytes_on old new Bad a r h
+refuses_on old new (Some TooLong) a r h = bytes_on old new TooLong a r h
+refuses_on old new (Some TooMany) a r h = bytes_on old new TooMany a r h
+refuses_on old new (Some BothLengths) a r h = bytes_on old new BothLengths a r h
+refuses_on old new (Some Lengths) a r h = bytes_on old new Lengths a r h
+refuses_on old new (Some Coding) a r h = bytes_on old new Coding a r h
+refuses_on old new (Some Target) a r h = bytes_on old new Target a r h
+refuses_on old new (Some Connect) a r h = bytes_on old new Connect a r h
+refuses_on old new (Some http.NoMemory) a r h = h
+refuses_on old new None a r h = switching_on old new a r h
+
+lacks_on : (old new : SourceSide) → new.asks ≡ old.asks → SameLook old new → new.raw.items ≡ old.raw.items → LacksMemory old → LacksMemory new
+lacks_on old new a m r h = record { fault = m.head_fault ∙ h.fault; cause = bytes_on old new http.NoMemory a r h.cause }
+
+-- what a turn says stays said
+pub looks_same : (old new : SourceSide) (result : Result Bool RelayFault) → new.asks ≡ old.asks → new.head ≡ old.head → SameLook old new → new.raw.items ≡ old.raw.items → Looks result old → Looks result new
+looks_same old new (Ok true) a u m r h = λ e. h (sym u ∙ e)
+looks_same old new (Ok false) a u m r h = none_on old new a m r h
+looks_same old new (Err Head) a u m r h = subst (λ (w : Option HttpFault). RefusesHead new w) (sym m.head_fault) (refuses_on old new old.head_fault a r h)
+looks_same old new (Err NoMemory) a u m r h = elim h [ inl x ↦ inl (lacks_on old new a m r x) | inr x ↦ inr (none_on old new a m r x) ]
+looks_same old new (Err Closed) a u m r h = none_on old new a m r h
+looks_same old new (Err Device) a u m r h = none_on old new a m r h
+looks_same old new (Err Chunk) a u m r h = h
+looks_same old new (Err Length) a u m r h = h
+
+-- why the bytes are refused, by the fault
+pub refuses_by : (s : SourceSide) (fault : HttpFault) → (fault ≡ More → ⊥) → (fault ≡ http.NoMemory → ⊥) → RefusesBytes s.asks s.raw.items fault → RefusesHead s (Some fault)
+refuses_by s More m n h = absurd (m refl)
+refuses_by s Bad m n h = h
+refuses_by s TooLong m n h = h
+refuses_by s TooMany m n h = h
+refuses_by s BothLengths m n h = h
+refuses_by s Lengths m n h = h
+refuses_by s Coding m n h = h
+refuses_by s Target m n h = h
+refuses_by s Connect m n h = h
+refuses_by s http.NoMemory m n h = absurd (n refl)
+
+pub more_is_few : (a : Asks) (raw : List ℕ) → RefusesBytes a raw More → length raw < 16384
+more_is_few asks.Request raw h = h.1
+more_is_few (asks.Response to_head) raw h = h.1
+
+-- a refusal leaves the head to come
+pub still_refused : (old new : SourceSide) (result : Result Judged RelayFault) → new.asks ≡ old.asks → new.head ≡ heads.Unread → new.raw.items ≡ old.raw.items → IfOk result (λ j. (j ≡ judged.More) × (length new.raw.items < 16384))
+    → (read : List ℕ) → AtHead read old → JudgedTo result read new
+still_refused old new (Ok judged.More) a u r m read s = still_at_head old new a (u ∙ sym s.unread) r read s
+still_refused old new (Ok judged.Interim) a u r m read s = still_at_head old new a (u ∙ sym s.unread) r read s
+still_refused old new (Ok judged.Taken) a u r m read s = let odd : judged.Taken ≡ judged.More = m.0 in cc
+still_refused old new (Err fault) a u r m read s = still_at_head old new a (u ∙ sym s.unread) r read s
+
+-- all raw bytes were judged, and more may make a head of them
+pub judged_all : (old new : SourceSide) → new.asks ≡ old.asks → new.head_fault ≡ old.head_fault → new.raw.items ≡ old.raw.items → new.judged ≡ length old.raw.items
+    → length old.raw.items < 16384 → RefusesBytes old.asks old.raw.items More → IsLooking old → HasNoHead new
+judged_all old new a f r n few h l =
+    let front : take new.judged new.raw.items ≡ old.raw.items = ap (λ (k : ℕ). take k new.raw.items) n ∙ (ap (λ (t : List ℕ). take (length old.raw.items) t) r ∙ take-length old.raw.items) in
+    let rest : drop new.judged new.raw.items ≡ [] = ap (λ (k : ℕ). drop k new.raw.items) n ∙ (ap (λ (t : List ℕ). drop (length old.raw.items) t) r ∙ drop-length old.raw.items) in
+    record {
+      looking = record {
+        within = omega (arith, n, ap (λ (t : List ℕ). length t) r);
+        beginning = inr (subst (λ (t : Asks). RefusesBytes t (take new.judged new.raw.items) More) (sym a) (subst (λ (t : List ℕ). RefusesBytes old.asks t More) (sym front) h));
+        no_fault = f ∙ l.no_fault;
+      };
+      no_line = ap has_line rest;
+      few = omega (arith, few, ap (λ (t : List ℕ). length t) r);
+    }
+
+-- ---- turns
+
 -- the raw bytes decided
-pub head_scanned : (old new : SourceSide) (P : Past → Type 0) (result : Result Bool RelayFault) → (result ≡ Ok false → ⊥) → ((f : RelayFault) → result ≡ Err f → f ≡ Head)
-    → ((read : List ℕ) → AtHead read old → ScannedTo result read new) → HeadTurn old new P P result
-head_scanned old new P result not only h = record {
+-- a fault of judging is none of the wire's
+no_wire_fault : (f : RelayFault) → (f ≡ Head) ⊎ (f ≡ NoMemory) → (f ≡ Closed → ⊥) × (f ≡ Device → ⊥)
+no_wire_fault f (inl e) = (λ c. let odd : Closed ≡ Head = sym c ∙ e in cc, λ c. let odd : Device ≡ Head = sym c ∙ e in cc)
+no_wire_fault f (inr e) = (λ c. let odd : Closed ≡ NoMemory = sym c ∙ e in cc, λ c. let odd : Device ≡ NoMemory = sym c ∙ e in cc)
+
+pub head_scanned : (old new : SourceSide) (P : Past → Type 0) (result : Result Bool RelayFault) → (result ≡ Ok false → ⊥) → ((f : RelayFault) → result ≡ Err f → (f ≡ Head) ⊎ (f ≡ NoMemory))
+    → ((read : List ℕ) → AtHead read old → ScannedTo result read new) → (IsLooking old → Scans result new) → HeadTurn old new P P result
+head_scanned old new P result not only h j = record {
   delta = [];
   wire = λ p b. (
     p,
@@ -37,17 +167,19 @@ head_scanned old new P result not only h = record {
     later_none p,
     record {
       waits = λ e. absurd (not e);
-      closed = λ e. let odd : Closed ≡ Head = only Closed e in cc;
-      device = λ e. let odd : Device ≡ Head = only Device e in cc;
+      closed = λ e. absurd ((no_wire_fault Closed (only Closed e)).0 refl);
+      device = λ e. absurd ((no_wire_fault Device (only Device e)).1 refl);
     },
   );
   heads = λ read s. subst (λ (t : List ℕ). ScannedTo result t new) (sym (append-nil read)) (h read s);
+  looks = λ l. scans_looks result new (j l);
 }
 
 -- they didn't, and bytes came
 pub head_bytes : (old mid more new : SourceSide) (P Q : Past → Type 0) (result : Result Bool RelayFault) → ((read : List ℕ) → AtHead read old → AtHead read mid) → SameSide mid more
-    → IsFilled P Q mid.raw.items more.raw.items filled.Bytes → ((f : RelayFault) → result ≡ Err f → f ≡ Head) → ((read : List ℕ) → AtHead read more → ScannedTo result read new) → HeadTurn old new P Q result
-head_bytes old mid more new P Q result a m f only h = record {
+    → IsFilled P Q mid.raw.items more.raw.items filled.Bytes → ((f : RelayFault) → result ≡ Err f → (f ≡ Head) ⊎ (f ≡ NoMemory)) → ((read : List ℕ) → AtHead read more → ScannedTo result read new)
+    → SameLook mid more → (IsLooking old → HasNoHead mid) → (IsLooking more → Scans result new) → HeadTurn old new P Q result
+head_bytes old mid more new P Q result a m f only h same j on = record {
   delta = f.0;
   wire = λ p b. (
     record { read = p.read ++ f.0; taken = p.taken; ends = p.ends; read_waits = p.read_waits; write_waits = p.write_waits; faults = p.faults },
@@ -55,18 +187,20 @@ head_bytes old mid more new P Q result a m f only h = record {
     record { read = refl; out = sym (append-nil p.taken); write_waits = omega arith; ends = omega arith; read_waits = omega arith; faults = omega arith },
     record {
       waits = λ e. inl f.1;
-      closed = λ e. let odd : Closed ≡ Head = only Closed e in cc;
-      device = λ e. let odd : Device ≡ Head = only Device e in cc;
+      closed = λ e. absurd ((no_wire_fault Closed (only Closed e)).0 refl);
+      device = λ e. absurd ((no_wire_fault Device (only Device e)).1 refl);
     },
   );
   heads = λ read s. h (read ++ f.0) (filled_at_head mid more f.0 m f.2 read (a read s));
+  looks = λ l. scans_looks result new (on (looks_on mid more f.0 m.asks same f.2 (j l).looking));
 }
 
 stays_at_head : (old mid new : SourceSide) → ((read : List ℕ) → AtHead read old → AtHead read mid) → SameSide mid new → new.raw.items ≡ mid.raw.items → (read : List ℕ) → AtHead read old → AtHead (read ++ []) new
 stays_at_head old mid new a m r read s = filled_at_head mid new [] m (r ∙ sym (append-nil mid.raw.items)) read (a read s)
 
-pub head_waited : (old mid new : SourceSide) (P Q : Past → Type 0) → ((read : List ℕ) → AtHead read old → AtHead read mid) → SameSide mid new → IsFilled P Q mid.raw.items new.raw.items filled.Wait → HeadTurn old new P Q (Ok false)
-head_waited old mid new P Q a m f = record {
+pub head_waited : (old mid new : SourceSide) (P Q : Past → Type 0) → ((read : List ℕ) → AtHead read old → AtHead read mid) → SameSide mid new → IsFilled P Q mid.raw.items new.raw.items filled.Wait
+    → SameLook mid new → (IsLooking old → HasNoHead mid) → HeadTurn old new P Q (Ok false)
+head_waited old mid new P Q a m f same j = record {
   delta = [];
   wire = λ p b. (
     record { read = p.read; taken = p.taken; ends = p.ends; read_waits = p.read_waits + 1; write_waits = p.write_waits; faults = p.faults },
@@ -75,10 +209,12 @@ head_waited old mid new P Q a m f = record {
     record { waits = λ e. inr (omega arith); closed = λ e. cc; device = λ e. cc },
   );
   heads = stays_at_head old mid new a m f.0;
+  looks = λ l. none_on mid new m.asks same f.0 (j l);
 }
 
-pub head_ended : (old mid new : SourceSide) (P Q : Past → Type 0) → ((read : List ℕ) → AtHead read old → AtHead read mid) → SameSide mid new → IsFilled P Q mid.raw.items new.raw.items filled.Ended → HeadTurn old new P Q (Err Closed)
-head_ended old mid new P Q a m f = record {
+pub head_ended : (old mid new : SourceSide) (P Q : Past → Type 0) → ((read : List ℕ) → AtHead read old → AtHead read mid) → SameSide mid new → IsFilled P Q mid.raw.items new.raw.items filled.Ended
+    → SameLook mid new → (IsLooking old → HasNoHead mid) → HeadTurn old new P Q (Err Closed)
+head_ended old mid new P Q a m f same j = record {
   delta = [];
   wire = λ p b. (
     record { read = p.read; taken = p.taken; ends = p.ends + 1; read_waits = p.read_waits; write_waits = p.write_waits; faults = p.faults },
@@ -87,10 +223,12 @@ head_ended old mid new P Q a m f = record {
     record { waits = λ e. cc; closed = λ e. omega arith; device = λ e. cc },
   );
   heads = stays_at_head old mid new a m f.0;
+  looks = λ l. none_on mid new m.asks same f.0 (j l);
 }
 
-pub head_failed : (old mid new : SourceSide) (P Q : Past → Type 0) → ((read : List ℕ) → AtHead read old → AtHead read mid) → SameSide mid new → IsFilled P Q mid.raw.items new.raw.items filled.Failed → HeadTurn old new P Q (Err Device)
-head_failed old mid new P Q a m f = record {
+pub head_failed : (old mid new : SourceSide) (P Q : Past → Type 0) → ((read : List ℕ) → AtHead read old → AtHead read mid) → SameSide mid new → IsFilled P Q mid.raw.items new.raw.items filled.Failed
+    → SameLook mid new → (IsLooking old → HasNoHead mid) → HeadTurn old new P Q (Err Device)
+head_failed old mid new P Q a m f same j = record {
   delta = [];
   wire = λ p b. (
     record { read = p.read; taken = p.taken; ends = p.ends; read_waits = p.read_waits; write_waits = p.write_waits; faults = p.faults + 1 },
@@ -99,21 +237,25 @@ head_failed old mid new P Q a m f = record {
     record { waits = λ e. cc; closed = λ e. cc; device = λ e. omega arith },
   );
   heads = stays_at_head old mid new a m f.0;
+  looks = λ l. none_on mid new m.asks same f.0 (j l);
 }
 
-pub head_full : (old mid new : SourceSide) (P Q : Past → Type 0) → ((read : List ℕ) → AtHead read old → AtHead read mid) → SameSide mid new → IsFilled P Q mid.raw.items new.raw.items filled.NoMemory → HeadTurn old new P Q (Err NoMemory)
-head_full old mid new P Q a m f = record {
+pub head_full : (old mid new : SourceSide) (P Q : Past → Type 0) → ((read : List ℕ) → AtHead read old → AtHead read mid) → SameSide mid new → IsFilled P Q mid.raw.items new.raw.items filled.NoMemory
+    → SameLook mid new → (IsLooking old → HasNoHead mid) → HeadTurn old new P Q (Err NoMemory)
+head_full old mid new P Q a m f same j = record {
   delta = [];
   wire = λ p b. (p, f.1 p b, later_none p, record { waits = λ e. cc; closed = λ e. cc; device = λ e. cc });
   heads = stays_at_head old mid new a m f.0;
+  looks = λ l. inr (none_on mid new m.asks same f.0 (j l));
 }
 
 -- the fault is kept
-pub head_kept : (old mid new : SourceSide) (P Q : Past → Type 0) (fault : RelayFault) → SameSide mid new → new.raw.items ≡ mid.raw.items → HeadTurn old mid P Q (Err fault) → HeadTurn old new P Q (Err fault)
-head_kept old mid new P Q fault m r t = record {
+pub head_kept : (old mid new : SourceSide) (P Q : Past → Type 0) (fault : RelayFault) → SameSide mid new → SameLook mid new → new.raw.items ≡ mid.raw.items → HeadTurn old mid P Q (Err fault) → HeadTurn old new P Q (Err fault)
+head_kept old mid new P Q fault m same r t = record {
   delta = t.delta;
   wire = t.wire;
   heads = λ read s. still_at_head mid new m.asks m.head r (read ++ t.delta) (t.heads read s);
+  looks = λ l. looks_same mid new (Err fault) m.asks m.head same r (t.looks l);
 }
 
 begins_given_back : (old new : SourceSide) (read : List ℕ) → GivesBack old new → Begins read old → Begins read new
@@ -135,4 +277,5 @@ head_given_back old mid new P Q result b t = record {
   delta = t.delta;
   wire = t.wire;
   heads = λ read s. scanned_given_back mid new (read ++ t.delta) result b (t.heads read s);
+  looks = λ l. looks_same mid new result b.asks b.head (record { judged = b.judged; head_fault = b.head_fault }) b.raw (t.looks l);
 }

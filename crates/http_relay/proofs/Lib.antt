@@ -10,3 +10,5 @@ pub mod Carried
 pub mod Answering
 pub mod Whole
 pub mod Gives
+pub mod TooLong
+pub mod Missed

@@ -47,7 +47,7 @@ at_len : (o k : Option ℕ) (P : ℕ → Type 0) → IfSome o (λ len. k ≡ Som
 at_len Nothing k P e h = tt
 at_len (Some len) k P e h = subst (λ (j : Option ℕ). IfSome j P) e h
 
-if_more : (o : Option ℕ) (P Q : ℕ → Type 0) → ((n : ℕ) → P n → Q n) → IfSome o P → IfSome o Q
+pub if_more : (o : Option ℕ) (P Q : ℕ → Type 0) → ((n : ℕ) → P n → Q n) → IfSome o P → IfSome o Q
 if_more Nothing P Q f h = tt
 if_more (Some n) P Q f h = f n h
 

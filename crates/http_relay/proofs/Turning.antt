@@ -11,7 +11,7 @@ use Rattle.adapt_sides.specs.Turns.{SaysWaiting, Remembers, ReadsBody, events_of
 use Rattle.http_relay.specs.Reading.{SideRead, SideReads, Rests, IsFilled, IsCause, ReadTurn}
 use Rattle.adapt_sides.specs.declared.fault.RelayFault.{RelayFault}
 use Rattle.adapt_sides.specs.declared.fault.RelayFault.TheVariants.{Closed, Device, NoMemory}
-use Rattle.http_relay.specs.declared.side.Filled.TheVariants as filled
+use Rattle.http_relay.specs.declared.fill.Filled.TheVariants as filled
 use Rattle.http_relay.specs.declared.side.SourceSide.{SourceSide}
 use Rattle.http_relay.specs.declared.source_body.SourceBody.{SourceBody}
 use Rattle.adapt_sides.specs.declared.turn.Turn.{Turn}

@@ -9,3 +9,4 @@ pub mod Writing
 pub mod SourceLaws
 pub mod Keeping
 pub mod HopLaws
+pub mod Judging

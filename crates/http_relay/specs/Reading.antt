@@ -21,10 +21,11 @@ use Rattle.http_relay.specs.declared.side.Asks.{Asks}
 use Rattle.http_relay.specs.declared.side.Asks.TheVariants as asks
 use Rattle.http_relay.specs.declared.side.SourceHead.{SourceHead}
 use Rattle.http_relay.specs.declared.side.SourceHead.TheVariants as heads
-use Rattle.http_relay.specs.declared.side.Judged.{Judged}
-use Rattle.http_relay.specs.declared.side.Judged.TheVariants as judged
-use Rattle.http_relay.specs.declared.side.Filled.{Filled}
-use Rattle.http_relay.specs.declared.side.Filled.TheVariants as filled
+use Rattle.http_relay.specs.declared.side.head.Judged.{Judged}
+use Rattle.http_relay.specs.declared.side.head.Judged.TheVariants as judged
+use Rattle.http_relay.specs.declared.fill.Filled.{Filled}
+use Rattle.http_relay.specs.declared.fill.Filled.TheVariants as filled
+use Rattle.http_relay.specs.Judging.{IsLooking, Looks}
 use Rattle.adapt_sides.specs.declared.turn.Turn.{Turn}
 
 -- an interim response other than 101
@@ -33,16 +34,20 @@ pub record IsInterim (r : ResponseParts) : Type 0 where
   pub to : r.status ≤ 199
   pub other : r.status ≢ 101
 
--- the text is a head of these parts, with whatever behind it
+-- a status that isn't an interim response's
+abbrev pub IsFinal : ResponseParts → Type 0
+IsFinal r = (r.status < 100) ⊎ (199 < r.status)
+
+-- the text is a head of these parts, to its last byte; a response's is final
 abbrev pub IsHeadText : Asks → SourceHead → List ℕ → Type 0
-IsHeadText asks.Request (heads.Request r) text = (more : List ℕ) × IsRead false (text ++ more) r (length text)
-IsHeadText (asks.Response to_head) (heads.Response r) text = (more : List ℕ) × IsResponseRead to_head (text ++ more) r (length text)
+IsHeadText asks.Request (heads.Request r) text = IsRead false text r (length text)
+IsHeadText (asks.Response to_head) (heads.Response r) text = IsResponseRead to_head text r (length text) × IsFinal r
 IsHeadText _ _ text = ⊥
 
 -- interim responses in a row; before a request there are none
 pub data AreInterims (to_head : Bool) : List ℕ → Type 0 where
   nothing : AreInterims to_head []
-  further : (before text more : List ℕ) (r : ResponseParts) → AreInterims to_head before → IsResponseRead to_head (text ++ more) r (length text) → IsInterim r → AreInterims to_head (before ++ text)
+  further : (before text : List ℕ) (r : ResponseParts) → AreInterims to_head before → IsResponseRead to_head text r (length text) → IsInterim r → AreInterims to_head (before ++ text)
 
 abbrev pub IsBefore : Asks → List ℕ → Type 0
 IsBefore asks.Request text = text ≡ []
@@ -150,6 +155,7 @@ pub record HeadTurn (old new : SourceSide) (before after : Past → Type 0) (res
   pub delta : List ℕ
   pub wire : (p : Past) → before p → (q : Past) × after q × IsLater p delta [] q × HeadReason p q delta result
   pub heads : (read : List ℕ) → AtHead read old → ScannedTo result (read ++ delta) new
+  pub looks : IsLooking old → Looks result new
 
 -- only room for raw bytes was given back
 pub record GivesBack (old new : SourceSide) : Type 0 where

@@ -49,8 +49,9 @@ pub record BodyReads (old new : SourceBody) (events : List Event) (bytes part : 
 abbrev pub MustWait : SourceBody → List ℕ → ℕ → Type 0
 MustWait s raw room = (s.ended ≡ true) ⊎ ((raw ≡ []) ⊎ ((room ≡ 0) × IsBodyNext s.reader raw))
 
--- why bytes of a body are refused
+-- Why bytes of a body are refused. For its length only where there may be 2^62 of them, which no Content-Length allows.
 abbrev pub Refuses : RelayFault → SourceBody → List ℕ → Type 0
 Refuses faults.Chunk s raw = (fault : ChunkFault) × IsBroken s.reader raw fault
-Refuses faults.Length s raw = (count : ℕ) × (ended : Bool) × (Fits s count ended → ⊥)
+Refuses faults.Length s raw = (x : Seen) (body text : List ℕ) → Agrees x s → BodyRead x body text s
+    → (2 ^ 62 ≤ s.received + length raw) × IfSome (known s.framing) (λ len. 2 ^ 62 ≤ len)
 Refuses _ s raw = ⊥

@@ -1,6 +1,6 @@
-//! What holds of every message that was given by turns.
+//! What holds of every message that is read, or given, by turns.
 
-ghost use Rattle.std.specs.Prelude.{◌≡◌, List, ℕ, [], ◌∷◌, ◌++◌, ◌≤◌, IfSome, length, take, false};
+ghost use Rattle.std.specs.Prelude.{◌≡◌, Bool, List, ℕ, [], ◌∷◌, ◌++◌, ◌≤◌, IfSome, length, take, false};
 ghost use Rattle.trace_core.specs.declared.history.Seen.{Seen};
 ghost use Rattle.trace_core.specs.declared.history.Plan.{Plan};
 ghost use Rattle.trace_core.specs.declared.history.Event.{Event};
@@ -9,6 +9,12 @@ ghost use Rattle.trace_core.specs.Legal.{IsLegal};
 ghost use Rattle.chunk_writer.specs.Cut.{IsPrefixOf};
 ghost use Rattle.chunk_writer.specs.Writer.{waiting};
 ghost use Rattle.http_side.specs.Refusals.{refusal};
+ghost use Rattle.http_side.specs.Heads.{RequestParts, ResponseParts};
+ghost use Rattle.http_side.specs.Requests.{IsRead};
+ghost use Rattle.http_side.specs.Responses.{IsResponseRead};
+ghost use Rattle.http_relay.specs.declared.side.SourceSide.{SourceSide};
+ghost use Rattle.http_relay.specs.declared.side.Asks.TheVariants as asks;
+ghost use Rattle.http_relay.specs.Judging.{HasNoHead};
 ghost use Rattle.http_relay.specs.declared.hop.Stage.TheVariants as at;
 ghost use Rattle.trace_core.specs.Turns.{is_of_hop};
 ghost use Rattle.http_relay.specs.Message.{IsFrontOfMessage, IsMessage, length_of};
@@ -60,4 +66,12 @@ pub fn other_events_keep_what_was_given()
     ensures { (plan : Plan) (events : List Event) (event : Event) (head body more taken : List ℕ) (h : Hop) → IsLegal plan (event ∷ events)
         → is_of_hop event ≡ false → length body ≡ chosen_received (seen plan events)
         → HasGiven (seen plan events) head body taken h → HasGiven (seen plan (event ∷ events)) head (body ++ more) taken h }
+{}
+
+/// Where a turn at the head answers that more is to come, no head stands in the raw bytes yet.
+pub fn no_head_is_missed()
+    ensures requests { (s : SourceSide) (r : RequestParts) (len : ℕ) → s.asks ≡ asks.Request → HasNoHead s
+        → IsRead false s.raw.items r len → ⊥ }
+    ensures responses { (s : SourceSide) (to_head : Bool) (r : ResponseParts) (len : ℕ) → s.asks ≡ asks.Response to_head → HasNoHead s
+        → IsResponseRead to_head s.raw.items r len → ⊥ }
 {}

@@ -3,6 +3,7 @@
 
 mod body;
 mod due;
+mod fill;
 mod hop;
 pub mod laws;
 mod pieces;

@@ -1,29 +1,26 @@
 //! The source's side: a message's head, and its body, over a wire.
 
-ghost use Rattle.std.specs.Prelude.{◌≡◌, ◌<◌, ◌≤◌, [], length, take, IfOk, IfErr, OnErr, None, true, false, List, ℕ, ◌↔◌, IsTrue, IfSome, Some, Err, option_copied};
+ghost use Rattle.std.specs.Prelude.{◌≡◌, ◌≤◌, [], length, take, IfOk, IfErr, OnErr, None, true, false, List, ℕ, ◌↔◌, IsTrue, option_copied};
 ghost use Rattle.trace_core.specs.History.{seen};
 ghost use Rattle.trace_core.specs.Turns.{in_sum};
 ghost use Rattle.http_relay.specs.Source.{Agrees, MustWait, Refuses};
 ghost use Rattle.adapt_sides.specs.Turns.{ReadsBody};
-ghost use Rattle.http_relay.specs.Reading.{AtHead, GivesBack, HeadTurn, request_of, response_of, JudgedTo, ScannedTo, SideRead, SideReads, Rests, IsFilled, ReadTurn};
+ghost use Rattle.http_relay.specs.Judging.{IsLooking};
+ghost use Rattle.http_relay.specs.Reading.{AtHead, GivesBack, request_of, response_of, SideRead, SideReads, Rests, ReadTurn};
 ghost use Rattle.trace_core.specs.declared.history.Seen.{Seen};
 ghost use Rattle.wire_kit.specs.Past.{Past};
 
-use crate::pieces::behind;
+use crate::fill::{Filled, fill};
 use crate::source_body::SourceBody;
 use adapt_sides::{RelayFault, Turn};
 use arrayvec::ArrayVec;
 use bytes::BytesMut;
-use http_side::{Framing, HttpFault, HttpRequest, HttpResponse, read_request, read_response};
+use http_side::{Framing, HttpFault, HttpRequest, HttpResponse};
 use std::alloc::Global;
 use trace_core::{Event, Plan, State};
-use wire_kit::{Got, Wire};
+use wire_kit::Wire;
 
-/// The most bytes that are kept without being framed.
-const MAX_RAW: usize = 16_384;
-
-/// The most bytes of one read.
-const MAX_READ: usize = 4096;
+mod head;
 
 /// Which messages come: requests, or responses, to HEAD or to another request.
 #[derive(Clone, Copy, Debug, PartialEq, Eq)]
@@ -38,64 +35,6 @@ pub enum SourceHead {
     Unread,
     Request(HttpRequest),
     Response(HttpResponse),
-}
-
-/// What judging the raw bytes gave.
-#[derive(Clone, Copy, Debug, PartialEq, Eq)]
-pub(crate) enum Judged {
-    /// A head isn't there yet.
-    More,
-    /// An interim response was dropped.
-    Interim,
-    /// The message's head was taken.
-    Taken,
-}
-
-/// What a read gave.
-#[derive(Clone, Copy, Debug, PartialEq, Eq)]
-pub(crate) enum Filled {
-    /// Bytes came.
-    Bytes,
-    /// The other side has ended its bytes.
-    Ended,
-    /// Nothing now.
-    Wait,
-    /// The connection failed.
-    Failed,
-    /// There was no memory for bytes.
-    NoMemory,
-}
-
-/// Reads once behind the raw bytes.
-fn fill<W: Wire>(raw: &mut BytesMut, wire: &mut W) -> Filled
-    requires { length raw.old.items < 16384 }
-    ensures filled { IsFilled (W.past wire.old) (W.past wire.new) raw.old.items raw.new.items result }
-    ensures fits { length raw.new.items ≤ 16384 }
-{
-    let most = (MAX_RAW - raw.len()).min(MAX_READ);
-    if raw.reserve(most).is_err() {
-        return Filled::NoMemory;
-    }
-    let mut buf = [0; 4096];
-    match wire.try_read(&mut buf[..most]) {
-        Got::Bytes(n) => {
-            raw.extend_reserved(&buf[..n]);
-            Filled::Bytes
-        }
-        Got::Ended => Filled::Ended,
-        Got::Wait => Filled::Wait,
-        Got::Fault => Filled::Failed,
-    }
-}
-
-/// Whether a line ends in the bytes.
-fn has_line(bytes: &[u8]) -> bool {
-    for byte in bytes {
-        if *byte == b'\n' {
-            return true;
-        }
-    }
-    false
 }
 
 /// A message's source.
@@ -228,6 +167,7 @@ impl SourceSide {
     /// A source of requests, before the first byte.
     pub fn request(alloc: Global) -> SourceSide
         ensures begins { AtHead [] result }
+        ensures looks { IsLooking result }
         ensures fault { result.fault ≡ None }
         ensures asks { result.asks ≡ Asks.Request }
     {
@@ -237,6 +177,7 @@ impl SourceSide {
     /// A source of one response, to HEAD or to another request, before the first byte.
     pub fn response(alloc: Global, to_head: bool) -> SourceSide
         ensures begins { AtHead [] result }
+        ensures looks { IsLooking result }
         ensures fault { result.fault ≡ None }
         ensures asks { result.asks ≡ Asks.Response to_head }
     {
@@ -245,6 +186,7 @@ impl SourceSide {
 
     fn fresh(alloc: Global, asks: Asks, raw: BytesMut) -> SourceSide
         ensures begins { AtHead raw.items result }
+        ensures looks { IsLooking result }
         ensures fault { result.fault ≡ None }
         ensures asks { result.asks ≡ asks }
         ensures raw { result.raw.items ≡ raw.items }
@@ -273,6 +215,7 @@ impl SourceSide {
         requires over { self.old.body.ended ≡ true }
         requires read { self.old.head ≡ SourceHead.Unread → ⊥ }
         ensures begins { AtHead self.old.raw.items self.new }
+        ensures looks { IsLooking self.new }
         ensures asks { self.new.asks ≡ self.old.asks }
         ensures fault { self.new.fault ≡ None }
         ensures head_fault { self.new.head_fault ≡ None }
@@ -342,174 +285,12 @@ impl SourceSide {
         self.body.agrees_with(&state.seen())
     }
 
-    /// Why the head is refused, where a turn answered Head. None behind Head is 101.
+    /// Why the head is refused, where a turn at the head answered Head, or NoMemory for want of memory for the head. None behind
+    /// Head is 101: another protocol isn't forwarded.
     pub fn head_fault(&self) -> Option<HttpFault>
         ensures { result ≡ self.now.head_fault }
     {
         self.head_fault
-    }
-
-    /// Whether the raw bytes are to be judged: a line has ended since they were last, or there is no room for more.
-    fn is_due(&self) -> bool
-        ensures { result ≡ false → length self.now.raw.items < 16384 }
-    {
-        let raw = self.raw.as_slice();
-        raw.len() >= MAX_RAW || has_line(behind(raw, self.judged.min(raw.len())))
-    }
-
-    /// Judges the raw bytes.
-    fn judge(&mut self) -> Result<Judged, RelayFault>
-        requires { self.old.head ≡ SourceHead.Unread }
-        ensures heads { (read : List ℕ) → AtHead read self.old → JudgedTo result read self.new }
-        ensures short { IfOk result (λ judged. judged ≡ Judged.More → length self.new.raw.items < 16384) }
-        ensures shrinks { IfOk result (λ judged. judged ≡ Judged.Interim → length self.new.raw.items < length self.old.raw.items) }
-        ensures unread { IfOk result (λ judged. (judged ≡ Judged.Taken → ⊥) → self.new.head ≡ SourceHead.Unread) }
-        ensures fault { self.new.fault ≡ self.old.fault }
-        ensures refused { IfErr result (λ fault. fault ≡ RelayFault.Head) }
-    {
-        if !self.is_due() {
-            return Ok(Judged::More);
-        }
-        match self.asks {
-            Asks::Request => self.judge_request(),
-            Asks::Response(to_head) => self.judge_response(to_head),
-        }
-    }
-
-    fn judge_request(&mut self) -> Result<Judged, RelayFault>
-        requires unread { self.old.head ≡ SourceHead.Unread }
-        requires asks { self.old.asks ≡ Asks.Request }
-        ensures heads { (read : List ℕ) → AtHead read self.old → JudgedTo result read self.new }
-        ensures short { IfOk result (λ judged. judged ≡ Judged.More → length self.new.raw.items < 16384) }
-        ensures unread { IfOk result (λ judged. (judged ≡ Judged.Taken → ⊥) → self.new.head ≡ SourceHead.Unread) }
-        ensures never { IfOk result (λ judged. judged ≡ Judged.Interim → ⊥) }
-        ensures fault { self.new.fault ≡ self.old.fault }
-        ensures refused { IfErr result (λ fault. fault ≡ RelayFault.Head) }
-    {
-        match read_request(self.alloc, self.raw.as_slice(), false) {
-            Ok(head) => {
-                self.raw.advance(head.length);
-                self.body = SourceBody::new(head.value.framing());
-                self.head = SourceHead::Request(head.value);
-                Ok(Judged::Taken)
-            }
-            Err(HttpFault::More) => {
-                self.judged = self.raw.len();
-                Ok(Judged::More)
-            }
-            Err(fault) => {
-                self.head_fault = Some(fault);
-                Err(RelayFault::Head)
-            }
-        }
-    }
-
-    fn judge_response(&mut self, to_head: bool) -> Result<Judged, RelayFault>
-        requires unread { self.old.head ≡ SourceHead.Unread }
-        requires asks { self.old.asks ≡ Asks.Response to_head }
-        ensures heads { (read : List ℕ) → AtHead read self.old → JudgedTo result read self.new }
-        ensures short { IfOk result (λ judged. judged ≡ Judged.More → length self.new.raw.items < 16384) }
-        ensures shrinks { IfOk result (λ judged. judged ≡ Judged.Interim → length self.new.raw.items < length self.old.raw.items) }
-        ensures unread { IfOk result (λ judged. (judged ≡ Judged.Taken → ⊥) → self.new.head ≡ SourceHead.Unread) }
-        ensures fault { self.new.fault ≡ self.old.fault }
-        ensures refused { IfErr result (λ fault. fault ≡ RelayFault.Head) }
-    {
-        match read_response(self.alloc, self.raw.as_slice(), to_head) {
-            Ok(head) => {
-                let status = head.value.status();
-                if status == 101 || head.length == 0 {
-                    return Err(RelayFault::Head);
-                }
-                self.raw.advance(head.length);
-                if 100 <= status && status <= 199 {
-                    self.judged = 0;
-                    return Ok(Judged::Interim);
-                }
-                self.body = SourceBody::new(head.value.framing());
-                self.head = SourceHead::Response(head.value);
-                Ok(Judged::Taken)
-            }
-            Err(HttpFault::More) => {
-                self.judged = self.raw.len();
-                Ok(Judged::More)
-            }
-            Err(fault) => {
-                self.head_fault = Some(fault);
-                Err(RelayFault::Head)
-            }
-        }
-    }
-
-    /// Judges the raw bytes, and drops interim responses.
-    fn scan(&mut self) -> Result<bool, RelayFault>
-        requires { self.old.head ≡ SourceHead.Unread }
-        ensures heads { (read : List ℕ) → AtHead read self.old → ScannedTo result read self.new }
-        ensures short { IfOk result (λ found. found ≡ false → length self.new.raw.items < 16384) }
-        ensures unread { IfOk result (λ found. found ≡ false → self.new.head ≡ SourceHead.Unread) }
-        ensures fault { self.new.fault ≡ self.old.fault }
-        ensures refused { IfErr result (λ fault. fault ≡ RelayFault.Head) }
-    {
-        loop {
-            match self.judge() {
-                Ok(Judged::More) => return Ok(false),
-                Ok(Judged::Taken) => return Ok(true),
-                Ok(Judged::Interim) => {}
-                Err(fault) => return Err(fault),
-            }
-        }
-    }
-
-    /// Judges the raw bytes, and reads the wire once where no head is there.
-    fn scan_or_read<W: Wire>(&mut self, wire: &mut W) -> Result<bool, RelayFault>
-        requires { self.old.head ≡ SourceHead.Unread }
-        ensures turn { HeadTurn self.old self.new (W.past wire.old) (W.past wire.new) result }
-    {
-        match self.scan() {
-            Ok(true) => return Ok(true),
-            Ok(false) => {}
-            Err(fault) => return Err(fault),
-        }
-        match fill(&mut self.raw, wire) {
-            Filled::Bytes => self.scan(),
-            Filled::Wait => Ok(false),
-            Filled::Ended => Err(RelayFault::Closed),
-            Filled::Failed => Err(RelayFault::Device),
-            Filled::NoMemory => Err(RelayFault::NoMemory),
-        }
-    }
-
-    /// The same, and keeps no empty room.
-    fn try_head<W: Wire>(&mut self, wire: &mut W) -> Result<bool, RelayFault>
-        requires { self.old.head ≡ SourceHead.Unread }
-        ensures turn { HeadTurn self.old self.new (W.past wire.old) (W.past wire.new) result }
-        ensures empty { self.new.raw.items ≡ [] → self.new.raw.spare ≡ 0 }
-    {
-        let result = self.scan_or_read(wire);
-        self.give_back();
-        result
-    }
-
-    /// Reads the message's head: true once it was read. The raw bytes come first, then the wire is read once at most.
-    /// Interim responses are dropped, and 101 is refused. A fault stays.
-    pub fn head_turn<W: Wire>(&mut self, wire: &mut W) -> Result<bool, RelayFault>
-        ensures turn { self.old.fault ≡ None → self.old.head ≡ SourceHead.Unread → HeadTurn self.old self.new (W.past wire.old) (W.past wire.new) result }
-        ensures empty { self.old.fault ≡ None → self.old.head ≡ SourceHead.Unread → self.new.raw.items ≡ [] → self.new.raw.spare ≡ 0 }
-        ensures stays { IfErr result (λ fault. self.new.fault ≡ Some fault) }
-        ensures faulted { IfSome self.old.fault (λ fault. (result ≡ Err fault) × (self.new ≡ self.old)) }
-    {
-        if let Some(fault) = self.fault {
-            return Err(fault);
-        }
-        if !self.is_unread() {
-            return Ok(true);
-        }
-        match self.try_head(wire) {
-            Ok(read) => Ok(read),
-            Err(fault) => {
-                self.fault = Some(fault);
-                Err(fault)
-            }
-        }
     }
 
     /// Gives back the room for raw bytes, where none is there.

@@ -4,7 +4,7 @@ use Rattle.http_relay.proofs.Bodies.{reads_more_runs, reads_kept, reads_none, br
 use Rattle.http_relay.proofs.body.read_body.Goals as goal
 
 pub loop-used-init : goal.loop-used-init
-loop-used-init c = record { read = omega arith; fits = omega arith; reads = reads_none c.args.reader.now c.args.raw.now; going_on = sym c.has_ended.ensures ∙ c.if-has_ended.false }
+loop-used-init c = record { read = omega arith; fits = omega arith; fewer = omega arith; reads = reads_none c.args.reader.now c.args.raw.now; going_on = sym c.has_ended.ensures ∙ c.if-has_ended.false }
 
 pub loop-used-preserved : goal.loop-used-preserved
 loop-used-preserved c =
@@ -15,6 +15,7 @@ loop-used-preserved c =
     record {
       read = omega (arith, w.0, ap length c.behind-rest.ensures, length-drop c.loop-used.used c.args.raw.now);
       fits = omega (arith, w.1, kept);
+      fewer = omega (arith, w.2, c.loop-used.invariant.fewer);
       reads = reads_more_runs c.args.reader.now c.loop-used.reader c.read_run.new.reader c.args.raw.now c.behind-rest.result.now c.loop-used.used c.in-Ok-Some.run'.used c.loop-used.out c.read_run.new.out
           c.loop-used.count (length c.loop-used.out - c.loop-used.count) c.in-Ok-Some.run'.count c.loop-used.invariant.reads c.behind-rest.ensures r c.loop-used.invariant.fits (omega (arith, w.1, kept));
       going_on = not_ended c.read_run.new.reader c.in-Ok-Some.run'.ended e c.if-run.false;

@@ -1,0 +1,11 @@
+use Rattle.std.proofs.Common.{Some, Err, Result, Bool, subst, refl, ◌∙◌, sym}
+use Rattle.http_relay.specs.Reading.{HeadTurn}
+use Rattle.http_relay.specs.declared.side.SourceSide.{SourceSide}
+use Rattle.adapt_sides.specs.declared.fault.RelayFault.{RelayFault}
+use Rattle.http_relay.proofs.Heads.{head_kept}
+use Rattle.http_relay.proofs.side.SourceSide.head_turn.Goals as goal
+
+pub returns-in-Err-clause-turn : goal.returns-in-Err-clause-turn
+returns-in-Err-clause-turn g c = λ no unread.
+    head_kept c.args.self.now c.try_head.new.self _ (g.W.Wire.past c.args.wire.now) (g.W.Wire.past c.try_head.new.wire) c.in-Err.fault
+    (record { asks = refl; head = refl; body = refl }) (record { judged = refl; head_fault = refl }) refl c.in-Err.ensures.turn

@@ -1,0 +1,83 @@
+-- When a head is judged, and why one is refused.
+use Rattle.std.specs.Prelude.{◌≡◌, ℕ, ◌<◌, ◌≤◌, ◌⊎◌, ◌==◌, Bool, true, false, List, length, take, drop, Option, Some, None, Result, Ok, Err}
+use Rattle.std.specs.List.{list_any}
+use Rattle.http_side.specs.Heads.{ResponseParts}
+use Rattle.http_side.specs.Requests.{RefusesText}
+use Rattle.http_side.specs.Responses.{RefusesResponse, IsResponseRead}
+use Rattle.http_side.specs.declared.fault.HttpFault.{HttpFault}
+use Rattle.http_side.specs.declared.fault.HttpFault.TheVariants as why
+use Rattle.adapt_sides.specs.declared.fault.RelayFault.{RelayFault}
+use Rattle.adapt_sides.specs.declared.fault.RelayFault.TheVariants.{Head, Chunk, Closed, Device, Length, NoMemory}
+use Rattle.http_relay.specs.declared.side.SourceSide.{SourceSide}
+use Rattle.http_relay.specs.declared.side.Asks.{Asks}
+use Rattle.http_relay.specs.declared.side.Asks.TheVariants as asks
+use Rattle.http_relay.specs.declared.side.SourceHead.TheVariants as heads
+use Rattle.http_relay.specs.declared.side.head.Judged.{Judged}
+use Rattle.http_relay.specs.declared.side.head.Judged.TheVariants as judged
+
+-- a line ends in the bytes
+abbrev pub has_line : List ℕ → Bool
+has_line bytes = list_any (λ byte. byte == 10) bytes
+
+-- the bytes are refused for this, as a request's head or a response's
+abbrev pub RefusesBytes : Asks → List ℕ → HttpFault → Type 0
+RefusesBytes asks.Request bytes fault = RefusesText false bytes fault
+RefusesBytes (asks.Response to_head) bytes fault = RefusesResponse bytes fault
+
+-- a response asks for another protocol (RFC 9110, section 15.2.2)
+abbrev pub IsSwitching : Asks → List ℕ → Type 0
+IsSwitching asks.Request bytes = ⊥
+IsSwitching (asks.Response to_head) bytes = (r : ResponseParts) × (len : ℕ) × IsResponseRead to_head bytes r len × (r.status ≡ 101)
+
+-- before the head: of the raw bytes, those that were judged are a head's beginning, and nothing was refused
+pub record IsLooking (s : SourceSide) : Type 0 where
+  pub within : s.judged ≤ length s.raw.items
+  pub beginning : (s.judged ≡ 0) ⊎ RefusesBytes s.asks (take s.judged s.raw.items) why.More
+  pub no_fault : s.head_fault ≡ None
+
+-- and no line has ended since: there is nothing to judge before more bytes come
+pub record HasNoHead (s : SourceSide) : Type 0 where
+  pub looking : IsLooking s
+  pub no_line : has_line (drop s.judged s.raw.items) ≡ false
+  pub few : length s.raw.items < 16384
+
+-- the raw bytes are refused, and this is the fault behind it; 101 has none
+abbrev pub RefusesHead : SourceSide → Option HttpFault → Type 0
+RefusesHead s (Some why.More) = ⊥
+RefusesHead s (Some why.NoMemory) = ⊥
+RefusesHead s (Some fault) = RefusesBytes s.asks s.raw.items fault
+RefusesHead s None = IsSwitching s.asks s.raw.items
+
+-- there is no memory for the head
+pub record LacksMemory (s : SourceSide) : Type 0 where
+  pub fault : s.head_fault ≡ Some why.NoMemory
+  pub cause : RefusesBytes s.asks s.raw.items why.NoMemory
+
+-- what a fault of judging says
+abbrev pub IsRefused : RelayFault → SourceSide → Type 0
+IsRefused Head s = RefusesHead s s.head_fault
+IsRefused NoMemory s = LacksMemory s
+IsRefused _ s = ⊥
+
+-- what judging the raw bytes once says of them
+abbrev pub Judges : Result Judged RelayFault → SourceSide → Type 0
+Judges (Ok judged.More) s = HasNoHead s
+Judges (Ok judged.Interim) s = IsLooking s
+Judges (Ok judged.Taken) s = s.head ≡ heads.Unread → ⊥
+Judges (Err fault) s = IsRefused fault s
+
+abbrev pub Scans : Result Bool RelayFault → SourceSide → Type 0
+Scans (Ok true) s = s.head ≡ heads.Unread → ⊥
+Scans (Ok false) s = HasNoHead s
+Scans (Err fault) s = IsRefused fault s
+
+-- What a turn at the head says of the raw bytes: where no head is there, each line's end in them was judged; the wire's own
+-- faults are answered there alone.
+abbrev pub Looks : Result Bool RelayFault → SourceSide → Type 0
+Looks (Ok true) s = s.head ≡ heads.Unread → ⊥
+Looks (Ok false) s = HasNoHead s
+Looks (Err Head) s = RefusesHead s s.head_fault
+Looks (Err NoMemory) s = LacksMemory s ⊎ HasNoHead s
+Looks (Err Closed) s = HasNoHead s
+Looks (Err Device) s = HasNoHead s
+Looks (Err _) s = ⊥

@@ -1,0 +1,228 @@
+//! The head of a source's message, and the interim responses before it (RFC 9112, sections 2 to 5; RFC 9110, section 15.2).
+
+ghost use Rattle.std.specs.Prelude.{◌≡◌, ◌<◌, ◌≤◌, ◌⊎◌, [], length, drop, IfOk, IfErr, None, true, false, List, ℕ, IfSome, Some, Err};
+ghost use Rattle.http_relay.specs.Judging.{has_line, RefusesBytes, IsLooking, Judges, Scans};
+ghost use Rattle.http_relay.specs.Reading.{AtHead, HeadTurn, JudgedTo, ScannedTo};
+
+use crate::fill::{Filled, MAX_RAW, fill};
+use crate::pieces::behind;
+use crate::side::{Asks, SourceHead, SourceSide};
+use crate::source_body::SourceBody;
+use adapt_sides::RelayFault;
+use http_side::{HttpFault, read_request, read_response};
+use wire_kit::Wire;
+
+/// What judging the raw bytes gave.
+#[derive(Clone, Copy, Debug, PartialEq, Eq)]
+pub(crate) enum Judged {
+    /// A head isn't there yet.
+    More,
+    /// An interim response was dropped.
+    Interim,
+    /// The message's head was taken.
+    Taken,
+}
+
+/// Whether a response with this status comes before the message's own (RFC 9110, section 15.2).
+fn is_interim(status: u16) -> bool
+    ensures interim { result ≡ true → (100 ≤ status) × (status ≤ 199) }
+    ensures last { result ≡ false → (status < 100) ⊎ (199 < status) }
+{
+    100 <= status && status <= 199
+}
+
+impl SourceSide {
+    /// The raw bytes that came since they were last judged.
+    fn unjudged(&self) -> &[u8]
+        ensures { result.now ≡ drop self.now.judged self.now.raw.items }
+    {
+        let raw = self.raw.as_slice();
+        if self.judged >= raw.len() {
+            return &[];
+        }
+        behind(raw, self.judged)
+    }
+
+    /// Whether the raw bytes are to be judged: a line has ended since they were last, or there is no room for more.
+    fn is_due(&self) -> bool
+        ensures due { result ≡ true → (16384 ≤ length self.now.raw.items) ⊎ (has_line (drop self.now.judged self.now.raw.items) ≡ true) }
+        ensures few { result ≡ false → length self.now.raw.items < 16384 }
+        ensures no_line { result ≡ false → has_line (drop self.now.judged self.now.raw.items) ≡ false }
+    {
+        self.raw.len() >= MAX_RAW || self.unjudged().contains(&b'\n')
+    }
+
+    /// Judges the raw bytes.
+    fn judge(&mut self) -> Result<Judged, RelayFault>
+        requires { self.old.head ≡ SourceHead.Unread }
+        ensures heads { (read : List ℕ) → AtHead read self.old → JudgedTo result read self.new }
+        ensures judged { IsLooking self.old → Judges result self.new }
+        ensures short { IfOk result (λ judged. judged ≡ Judged.More → length self.new.raw.items < 16384) }
+        ensures shrinks { IfOk result (λ judged. judged ≡ Judged.Interim → length self.new.raw.items < length self.old.raw.items) }
+        ensures unread { IfOk result (λ judged. (judged ≡ Judged.Taken → ⊥) → self.new.head ≡ SourceHead.Unread) }
+        ensures fault { self.new.fault ≡ self.old.fault }
+        ensures refused { IfErr result (λ fault. (fault ≡ RelayFault.Head) ⊎ (fault ≡ RelayFault.NoMemory)) }
+    {
+        if !self.is_due() {
+            return Ok(Judged::More);
+        }
+        match self.asks {
+            Asks::Request => self.judge_request(),
+            Asks::Response(to_head) => self.judge_response(to_head),
+        }
+    }
+
+    fn judge_request(&mut self) -> Result<Judged, RelayFault>
+        requires unread { self.old.head ≡ SourceHead.Unread }
+        requires asks { self.old.asks ≡ Asks.Request }
+        ensures heads { (read : List ℕ) → AtHead read self.old → JudgedTo result read self.new }
+        ensures judged { IsLooking self.old → Judges result self.new }
+        ensures short { IfOk result (λ judged. judged ≡ Judged.More → length self.new.raw.items < 16384) }
+        ensures unread { IfOk result (λ judged. (judged ≡ Judged.Taken → ⊥) → self.new.head ≡ SourceHead.Unread) }
+        ensures never { IfOk result (λ judged. judged ≡ Judged.Interim → ⊥) }
+        ensures fault { self.new.fault ≡ self.old.fault }
+        ensures refused { IfErr result (λ fault. (fault ≡ RelayFault.Head) ⊎ (fault ≡ RelayFault.NoMemory)) }
+    {
+        match read_request(self.alloc, self.raw.as_slice(), false) {
+            Ok(head) => {
+                self.raw.advance(head.length);
+                self.judged = 0;
+                self.body = SourceBody::new(head.value.framing());
+                self.head = SourceHead::Request(head.value);
+                Ok(Judged::Taken)
+            }
+            Err(fault) => self.refuse(fault),
+        }
+    }
+
+    fn judge_response(&mut self, to_head: bool) -> Result<Judged, RelayFault>
+        requires unread { self.old.head ≡ SourceHead.Unread }
+        requires asks { self.old.asks ≡ Asks.Response to_head }
+        ensures heads { (read : List ℕ) → AtHead read self.old → JudgedTo result read self.new }
+        ensures judged { IsLooking self.old → Judges result self.new }
+        ensures short { IfOk result (λ judged. judged ≡ Judged.More → length self.new.raw.items < 16384) }
+        ensures shrinks { IfOk result (λ judged. judged ≡ Judged.Interim → length self.new.raw.items < length self.old.raw.items) }
+        ensures unread { IfOk result (λ judged. (judged ≡ Judged.Taken → ⊥) → self.new.head ≡ SourceHead.Unread) }
+        ensures fault { self.new.fault ≡ self.old.fault }
+        ensures refused { IfErr result (λ fault. (fault ≡ RelayFault.Head) ⊎ (fault ≡ RelayFault.NoMemory)) }
+    {
+        match read_response(self.alloc, self.raw.as_slice(), to_head) {
+            Ok(head) => {
+                let status = head.value.status();
+                if status == 101 {
+                    return Err(RelayFault::Head);
+                }
+                self.raw.advance(head.length);
+                self.judged = 0;
+                if is_interim(status) {
+                    return Ok(Judged::Interim);
+                }
+                self.body = SourceBody::new(head.value.framing());
+                self.head = SourceHead::Response(head.value);
+                Ok(Judged::Taken)
+            }
+            Err(fault) => self.refuse(fault),
+        }
+    }
+
+    /// Where the raw bytes are refused for this: there are too few yet, or the fault is kept.
+    fn refuse(&mut self, fault: HttpFault) -> Result<Judged, RelayFault>
+        requires unread { self.old.head ≡ SourceHead.Unread }
+        requires cause { RefusesBytes self.old.asks self.old.raw.items fault }
+        ensures judged { IsLooking self.old → Judges result self.new }
+        ensures more { IfOk result (λ judged. (judged ≡ Judged.More) × (length self.new.raw.items < 16384)) }
+        ensures asks { self.new.asks ≡ self.old.asks }
+        ensures raw { self.new.raw.items ≡ self.old.raw.items }
+        ensures unread { self.new.head ≡ SourceHead.Unread }
+        ensures fault { self.new.fault ≡ self.old.fault }
+        ensures refused { IfErr result (λ fault. (fault ≡ RelayFault.Head) ⊎ (fault ≡ RelayFault.NoMemory)) }
+    {
+        match fault {
+            HttpFault::More => {
+                self.judged = self.raw.len();
+                Ok(Judged::More)
+            }
+            HttpFault::NoMemory => {
+                self.head_fault = Some(fault);
+                Err(RelayFault::NoMemory)
+            }
+            _ => {
+                self.head_fault = Some(fault);
+                Err(RelayFault::Head)
+            }
+        }
+    }
+
+    /// Judges the raw bytes, and drops interim responses.
+    fn scan(&mut self) -> Result<bool, RelayFault>
+        requires { self.old.head ≡ SourceHead.Unread }
+        ensures heads { (read : List ℕ) → AtHead read self.old → ScannedTo result read self.new }
+        ensures judged { IsLooking self.old → Scans result self.new }
+        ensures short { IfOk result (λ found. found ≡ false → length self.new.raw.items < 16384) }
+        ensures unread { IfOk result (λ found. found ≡ false → self.new.head ≡ SourceHead.Unread) }
+        ensures fault { self.new.fault ≡ self.old.fault }
+        ensures refused { IfErr result (λ fault. (fault ≡ RelayFault.Head) ⊎ (fault ≡ RelayFault.NoMemory)) }
+    {
+        loop {
+            match self.judge() {
+                Ok(Judged::More) => return Ok(false),
+                Ok(Judged::Taken) => return Ok(true),
+                Ok(Judged::Interim) => {}
+                Err(fault) => return Err(fault),
+            }
+        }
+    }
+
+    /// Judges the raw bytes, and reads the wire once where no head is there.
+    fn scan_or_read<W: Wire>(&mut self, wire: &mut W) -> Result<bool, RelayFault>
+        requires { self.old.head ≡ SourceHead.Unread }
+        ensures turn { HeadTurn self.old self.new (W.past wire.old) (W.past wire.new) result }
+    {
+        match self.scan() {
+            Ok(true) => return Ok(true),
+            Ok(false) => {}
+            Err(fault) => return Err(fault),
+        }
+        match fill(&mut self.raw, wire) {
+            Filled::Bytes => self.scan(),
+            Filled::Wait => Ok(false),
+            Filled::Ended => Err(RelayFault::Closed),
+            Filled::Failed => Err(RelayFault::Device),
+            Filled::NoMemory => Err(RelayFault::NoMemory),
+        }
+    }
+
+    /// The same, and keeps no empty room.
+    fn try_head<W: Wire>(&mut self, wire: &mut W) -> Result<bool, RelayFault>
+        requires { self.old.head ≡ SourceHead.Unread }
+        ensures turn { HeadTurn self.old self.new (W.past wire.old) (W.past wire.new) result }
+        ensures empty { self.new.raw.items ≡ [] → self.new.raw.spare ≡ 0 }
+    {
+        let result = self.scan_or_read(wire);
+        self.give_back();
+        result
+    }
+
+    /// Reads the message's head: true once it was read. The raw bytes come first, then the wire is read once at most.
+    /// Interim responses are dropped, and 101 is refused. A fault stays.
+    pub fn head_turn<W: Wire>(&mut self, wire: &mut W) -> Result<bool, RelayFault>
+        ensures turn { self.old.fault ≡ None → self.old.head ≡ SourceHead.Unread → HeadTurn self.old self.new (W.past wire.old) (W.past wire.new) result }
+        ensures empty { self.old.fault ≡ None → self.old.head ≡ SourceHead.Unread → self.new.raw.items ≡ [] → self.new.raw.spare ≡ 0 }
+        ensures stays { IfErr result (λ fault. self.new.fault ≡ Some fault) }
+        ensures faulted { IfSome self.old.fault (λ fault. (result ≡ Err fault) × (self.new ≡ self.old)) }
+    {
+        if let Some(fault) = self.fault {
+            return Err(fault);
+        }
+        if !self.is_unread() {
+            return Ok(true);
+        }
+        match self.try_head(wire) {
+            Ok(read) => Ok(read),
+            Err(fault) => {
+                self.fault = Some(fault);
+                Err(fault)
+            }
+        }
+    }
+}
