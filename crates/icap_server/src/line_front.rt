@@ -1,0 +1,118 @@
+//! A head that comes in small pieces: whether what came last is worth reading the whole again.
+ghost use Rattle.std.specs.Prelude.{◌≡◌, ℕ, ◌++◌, ◌∷◌, [], List, IsTrue, IfSome};
+ghost use Rattle.httparse.specs.Grammar.{is_value_byte};
+ghost use Rattle.icap_head.specs.Heads.{Stands};
+ghost use Rattle.icap_head.specs.StartLines.{RequestForm};
+ghost use Rattle.icap_head.specs.declared.reading.HeadFault.TheVariants.{More};
+ghost use Rattle.icap_server.specs.LineFront.{IsAt, IsLastLine};
+
+use adapt_bytes::is_token;
+use icap_head::MAX_HEAD;
+
+/// Where a field line, or the empty one, is before its LF (RFC 9112, section 5).
+#[derive(Clone, Copy, Debug)]
+enum Place {
+    Start,
+    Name,
+    Value,
+    /// Behind the CR.
+    Return,
+}
+
+/// Whether the front of a head is one still with a piece behind it: the piece ends no line, and the last line may still become
+/// a field line or the empty one. It looks at the piece and at the last line alone.
+pub(crate) fn goes_on(head: &[u8], piece: &[u8]) -> bool
+    ensures { IsTrue result → Stands RequestForm More head.now → Stands RequestForm More (head.now ++ piece.now) }
+{
+    if piece.len() >= MAX_HEAD.saturating_sub(head.len()) {
+        return false;
+    }
+    if piece.contains(&b'\n') {
+        return false;
+    }
+    let start = last_line(head);
+    if start == 0 {
+        return true;
+    }
+    match behind_all(Place::Start, &head[start..]) {
+        Some(place) => behind_all(place, piece).is_some(),
+        None => false,
+    }
+}
+
+/// Where the last line begins.
+fn last_line(text: &[u8]) -> usize
+    ensures { IsLastLine text.now result }
+{
+    let mut start = text.len();
+    while start > 0 && text[start - 1] != b'\n' {
+        start -= 1;
+    }
+    start
+}
+
+/// The place behind some bytes more; none where no line has them there, or where the line ends.
+fn behind_all(place: Place, bytes: &[u8]) -> Option<Place>
+    ensures { IfSome result (λ next. (line : List ℕ) → IsAt place line → IsAt next (line ++ bytes.now)) }
+{
+    let mut next = place;
+    for byte in bytes {
+        next = behind(next, *byte)?;
+    }
+    Some(next)
+}
+
+/// The place behind one byte more.
+fn behind(place: Place, byte: u8) -> Option<Place>
+    ensures { IfSome result (λ next. (line : List ℕ) → IsAt place line → IsAt next (line ++ byte ∷ [])) }
+{
+    match place {
+        Place::Start => behind_start(byte),
+        Place::Name => behind_name(byte),
+        Place::Value => behind_value(byte),
+        Place::Return => None,
+    }
+}
+
+fn behind_start(byte: u8) -> Option<Place>
+    ensures { IfSome result (λ next. IsAt next (byte ∷ [])) }
+{
+    if byte == b'\r' {
+        return Some(Place::Return);
+    }
+    if is_token(&[byte]) {
+        return Some(Place::Name);
+    }
+    None
+}
+
+fn behind_name(byte: u8) -> Option<Place>
+    ensures { IfSome result (λ next. (line : List ℕ) → IsAt Place.Name line → IsAt next (line ++ byte ∷ [])) }
+{
+    if byte == b':' {
+        return Some(Place::Value);
+    }
+    if is_token(&[byte]) {
+        return Some(Place::Name);
+    }
+    None
+}
+
+fn behind_value(byte: u8) -> Option<Place>
+    ensures { IfSome result (λ next. (line : List ℕ) → IsAt Place.Value line → IsAt next (line ++ byte ∷ [])) }
+{
+    if byte == b'\r' {
+        return Some(Place::Return);
+    }
+    if is_value_byte(byte) {
+        return Some(Place::Value);
+    }
+    None
+}
+
+/// Whether a field's value may have this byte.
+fn is_value_byte(byte: u8) -> bool
+    ensures { result ≡ is_value_byte byte }
+{
+    byte == b'\t' || (byte >= b' ' && byte != 0x7f)
+}
