@@ -1,2 +1,7 @@
 pub mod Passes
-pub mod Standing
+pub mod Stepped
+pub mod Carry
+pub mod Advance
+pub mod Hops
+pub mod Together
+pub mod Giving

@@ -1,5 +1,5 @@
 -- What a side reported, as one part of a turn.
-use Rattle.std.proofs.Common.{◌≡◌, ℕ, ◌+◌, ◌-◌, ◌<◌, ◌≤◌, ◌^◌, ◌⊎◌, inl, inr, Bool, true, false, List, [], ◌∷◌, ◌++◌, length, take, drop, Option, Some, None, Result, Ok, Err, arith, refl, sym, ◌∙◌, ap, subst}
+use Rattle.std.proofs.Common.{◌≡◌, ℕ, ◌+◌, ◌≤◌, ◌⊎◌, inl, inr, Bool, true, false, List, [], ◌∷◌, length, Option, Some, None, Result, Ok, Err, arith, refl, sym, ◌∙◌, ap, subst}
 use Rattle.std.proofs.lemmas.Bool.Decides.{nat_tests}
 use Rattle.std.specs.Prelude.{if◌then◌else◌}
 use Rattle.std.proofs.lemmas.Bool.{false≢true}
@@ -13,13 +13,13 @@ use Rattle.trace_core.specs.Faults.{chooses_original}
 use Rattle.trace_core.specs.Held.{original_from, adapted_from}
 use Rattle.trace_core.specs.View.{after}
 use Rattle.trace_core.specs.History.{History}
-use Rattle.trace_core.specs.Turns.{after_all, MayAllFollow, AllAre, in_sum, ad_sum, is_of_source, is_of_replies, is_of_sending, is_of_hop}
-use Rattle.trace_core.proofs.Sound.{Sound, sound, sound-after}
-use Rattle.plan_rules.specs.Room.{original_room, adapted_room, claim_then, IsWithinRoom}
+use Rattle.trace_core.specs.Turns.{MayAllFollow, AllAre, in_sum, ad_sum, is_of_source, is_of_replies, is_of_sending, is_of_hop}
+use Rattle.trace_core.proofs.Sound.{Sound, sound-after}
+use Rattle.plan_rules.specs.Room.{original_room, adapted_room, claim_then}
 use Rattle.span_tape.specs.Tape.{Tape, end_of}
 use Rattle.wire_kit.specs.Past.{Past, IsLater}
 use Rattle.adapt_sides.specs.Tapes.{Follows, KeepsUnsent, KeepsUndelivered, chosen, chosen_received, chosen_delivered}
-use Rattle.adapt_sides.specs.Turns.{ReadsBody, Sends, Hears, Gives, HasReason, SaysWaiting, Remembers, events_of}
+use Rattle.adapt_sides.specs.Turns.{ReadsBody, Sends, Hears, Gives, HasReason, SaysWaiting}
 use Rattle.adapt_sides.specs.declared.fault.ClientFault.{ClientFault}
 use Rattle.adapt_sides.specs.declared.fault.ClientFault.TheVariants as client
 use Rattle.adapt_sides.specs.declared.fault.RelayFault.{RelayFault}
@@ -30,7 +30,7 @@ use Rattle.adapt_hold.specs.Holding.{Holding, IsTied, IsRoomy, shows, moved}
 use Rattle.adapt_hold.specs.Steps.{brought_all, HasRoomFor, MayRun, moved_all}
 use Rattle.adapt_hold.proofs.Bodies.{ends}
 use Rattle.adapt_turn.specs.declared.parts.Passed.{Passed}
-use Rattle.adapt_turn.specs.Parts.{Part, Explains, Tells, SourcePart, SendPart, HearPart, HopPart, stepped, source_cause, service_cause, hop_cause}
+use Rattle.adapt_turn.specs.Parts.{Part, SourcePart, SendPart, HearPart, HopPart, source_cause, service_cause, hop_cause}
 use Rattle.adapt_turn.specs.Stands.{IsChosen, chosen_span}
 
 -- an event without body bytes that come

@@ -84,10 +84,15 @@ HopsAre next_gift back_gift next_given next_aside back_given back_aside x body n
     ⊎ (MessageOn back_given back_gift next_aside next_gift x body back next
     ⊎ IsRefused next_aside back_aside x next back))
 
+-- a refusal is due only once the history is closed, and where the user's writer has no message
+abbrev pub IsRefusing : (refusing : Bool) → (next_gift back_gift : Gift) → Seen → Type 0
+IsRefusing refusing next_gift back_gift x =
+    refusing ≡ true → (x.closed ≡ true) × (user_gift x.plan.point next_gift back_gift ≡ message → ⊥)
+
 -- The source's bytes spell the original, the service's the adapted body, and the tapes keep the ends of both; what the service's
 -- wire took is of a request with the original, and what the next hop's took of one message with the chosen body.
 pub record Stands (h : Holding) (agrees : Seen → Type 0) (read sent heard : Seen → List ℕ → List ℕ → Type 0)
-    (hops : Seen → List ℕ → List ℕ → List ℕ → Type 0) (refuses : Point → Type 0) (t : Texts) : Type 0 where
+    (hops : Seen → List ℕ → List ℕ → List ℕ → Type 0) (refuses : Seen → Type 0) (t : Texts) : Type 0 where
   pub original : List ℕ
   pub adapted : List ℕ
   pub original_is : EndsBody h.original original
@@ -97,7 +102,7 @@ pub record Stands (h : Holding) (agrees : Seen → Type 0) (read sent heard : Se
   pub sent_is : sent (shows h.history) original t.service_taken
   pub heard_is : heard (shows h.history) adapted t.service_read
   pub hops_are : hops (shows h.history) (chosen (shows h.history) original adapted) t.next_taken t.back_taken
-  pub refuses_is : refuses h.history.plan.point
+  pub refuses_is : refuses (shows h.history)
 
 -- A pass over the three wires: they gave and took these bytes, and what stood before them stands with them.
 pub record Goes (old_stands new_stands : Texts → Type 0) (source_old source_new service_old service_new next_old next_new : Past → Type 0) : Type 0 where
@@ -106,6 +111,12 @@ pub record Goes (old_stands new_stands : Texts → Type 0) (source_old source_ne
   pub source : (p : Past) → source_old p → (q : Past) × source_new q × IsLater p delta.source_read delta.back_taken q
   pub service : (p : Past) → service_old p → (q : Past) × service_new q × IsLater p delta.service_read delta.service_taken q
   pub next : (p : Past) → next_old p → (q : Past) × next_new q × IsLater p [] delta.next_taken q
+
+-- a wire took these bytes of a refusal
+pub record TakesAside (old_aside new_aside : List ℕ → Type 0) (before after : Past → Type 0) : Type 0 where
+  pub delta : List ℕ
+  pub aside : (taken : List ℕ) → old_aside taken → new_aside (taken ++ delta)
+  pub wire : (p : Past) → before p → (q : Past) × after q × IsLater p [] delta q
 
 -- nothing was due, or the wire answered Wait in this call
 abbrev pub Waited : Type 0 → (Past → ℕ) → (Past → Type 0) → (Past → Type 0) → Type 0

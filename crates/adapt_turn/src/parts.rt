@@ -4,14 +4,14 @@ ghost use Rattle.std.specs.Prelude.{◌≡◌, ℕ, ◌≤◌, ◌⊎◌, true, 
 ghost use Rattle.trace_core.specs.declared.history.Seen.{Seen};
 ghost use Rattle.trace_core.specs.declared.history.Event.TheVariants.{Fail, Retry};
 ghost use Rattle.trace_core.specs.Legal.{MayFollow};
-ghost use Rattle.plan_rules.specs.Room.{adapted_room};
+ghost use Rattle.plan_rules.specs.Room.{original_room, adapted_room};
 ghost use Rattle.adapt_hold.specs.Spans.{span_of};
 ghost use Rattle.adapt_hold.specs.Holding.{shows, moved, IsRoomy, IsTied};
-ghost use Rattle.adapt_turn.specs.Parts.{SendPart, HearPart, HopPart, source_cause, service_cause, hop_cause};
+ghost use Rattle.adapt_turn.specs.Parts.{SourcePart, SendPart, HearPart, HopPart, source_cause, service_cause, hop_cause};
 ghost use Rattle.adapt_turn.specs.Stands.{IsChosen, chosen_span};
 
 use adapt_hold::{Hold, fail, step_all};
-use adapt_sides::{ClientFault, Hop, RelayFault, Service};
+use adapt_sides::{ClientFault, Hop, RelayFault, Service, Source};
 use span_bank::{Bank, Ledgers};
 use span_tape::SpanTape;
 use std::sync::Wait;
@@ -89,6 +89,35 @@ pub(crate) fn went_on(waiting: bool) -> Passed
         waiting,
         failed: None,
         broken: false,
+    }
+}
+
+/// Takes what the source gives, into a buffer of the room's length.
+pub(crate) fn take_source<B: Ledgers, S: Source, A: Wire>(
+    rt: &impl Wait,
+    bank: &Bank<B>,
+    hold: &mut Hold<B>,
+    source: &mut S,
+    wire: &mut A,
+    out: &mut [u8],
+) -> Passed
+    requires running { (shows hold.old.history).closed ≡ false }
+    requires roomy { IsRoomy hold.old }
+    requires agrees { S.agrees (shows hold.old.history) source.old }
+    requires room { length out.old ≡ original_room (shows hold.old.history) hold.old.claim hold.old.limits.window }
+    ensures part { SourcePart hold.old hold.new (λ x body read. S.has_read x body read source.old) (λ x body read. S.has_read x body read source.new)
+        (λ x. S.agrees x source.new) (S.fault source.old) (S.fault source.new) (S.rests (original_room (shows hold.old.history) hold.old.claim hold.old.limits.window) source.new)
+        (A.past wire.old) (A.past wire.new) result }
+    ensures whole { result.broken ≡ false }
+    ensures roomy { IsRoomy hold.new }
+{
+    let _state = hold.state();
+    match source.read_turn(wire, out) {
+        Ok(turn) => {
+            step_all(rt, bank, hold, turn.events.as_slice(), out);
+            went_on(turn.waiting)
+        }
+        Err(fault) => close(rt, bank, hold, source_cause(fault)),
     }
 }
 

@@ -1,12 +1,16 @@
 //! One transaction with its three sides and their wires.
 
-ghost use Rattle.std.specs.Prelude.{◌≡◌, ◌≤◌, ◌^◌, ◌↔◌, true, false, [], Some, None, IsOk, IfOk, IfErr};
+ghost use Rattle.std.specs.Prelude.{◌≡◌, ◌≤◌, ◌^◌, ◌↔◌, true, false, [], Some, None, IsOk, IfOk, IfErr, IfSome};
 ghost use Rattle.trace_core.specs.declared.history.Event.TheVariants.{Retry};
 ghost use Rattle.trace_core.specs.Legal.{MayFollow};
 ghost use Rattle.plan_rules.specs.Claims.{claim_of};
 ghost use Rattle.adapt_hold.specs.Holding.{shows, IsRoomy};
-ghost use Rattle.adapt_turn.specs.Stands.{IsChosen};
+ghost use Rattle.trace_core.specs.History.{seen};
+ghost use Rattle.adapt_sides.specs.Turns.{Gift};
+ghost use Rattle.adapt_sides.specs.Turns.Gift.{nothing};
+ghost use Rattle.adapt_turn.specs.Stands.{Texts, no_texts};
 
+mod giving;
 mod passes;
 mod refusals;
 mod retries;
@@ -22,6 +26,19 @@ use span_bank::{Ledgers, Stake};
 use std::alloc::Global;
 use trace_core::Event;
 use wire_kit::Wire;
+
+/// What stands between a transaction and its wires.
+pub trait Standing {
+    // these bytes may its wires have given and taken since its messages began on them: the source's spell the original, the
+    // service's the adapted body, and what was taken is of one request and of one message, or of a refusal alone
+    ghost stands: { Self → Texts → Type 0 };
+}
+
+/// What a call does to a transaction and its wires.
+pub trait Going {
+    // what stood before it stands behind it, with what its wires gave and took in it
+    ghost goes: { Self → Self → Type 0 };
+}
 
 /// One transaction.
 #[must_use]
@@ -53,6 +70,38 @@ pub struct Tx<
     ghost roomy: { IsRoomy hold },
 }
 
+impl<
+    B: Ledgers,
+    S: Source,
+    V: Service,
+    K: Hop,
+    F: Forward<S, K>,
+    A: Wire,
+    W: Wire,
+    C: Wire,
+> Standing for Tx<B, S, V, K, F, A, W, C> {
+    ghost use Rattle.std.specs.Prelude.{◌≡◌, [], MatchOption};
+    ghost use Rattle.adapt_turn.specs.Stands.{Stands, HopsAre, IsRefusing};
+
+    ghost stands = { λ tx t. Stands tx.hold (λ x. S.agrees x tx.source) (λ x body read. S.has_read x body read tx.source)
+        (λ x came taken. MatchOption tx.service (taken ≡ []) (λ line. V.has_sent x came taken line.side))
+        (λ x adapted read. MatchOption tx.service ((adapted ≡ []) × (read ≡ [])) (λ line. V.has_heard x adapted read line.side))
+        (HopsAre (K.gift tx.next) (K.gift tx.back) (λ x head body taken. K.has_given x head body taken tx.next) (λ taken. K.aside taken tx.next)
+        (λ x head body taken. K.has_given x head body taken tx.back) (λ taken. K.aside taken tx.back))
+        (IsRefusing tx.refusing (K.gift tx.next) (K.gift tx.back)) t };
+}
+
+impl<B: Ledgers, S: Source, V: Service, K: Hop, F: Forward<S, K>, A: Wire, W: Wire, C: Wire> Going
+    for Tx<B, S, V, K, F, A, W, C> {
+    ghost use Rattle.std.specs.Prelude.{MatchOption};
+    ghost use Rattle.adapt_turn.specs.Stands.{Goes};
+
+    ghost goes = { λ old new. Goes (⟦<Tx<B, S, V, K, F, A, W, C> as Standing>⟧.stands old) (⟦<Tx<B, S, V, K, F, A, W, C> as Standing>⟧.stands new)
+        (A.past old.source_wire) (A.past new.source_wire)
+        (λ p. MatchOption old.service ⊥ (λ line. W.past line.wire p)) (λ p. MatchOption new.service ⊥ (λ line. W.past line.wire p))
+        (C.past old.next_wire) (C.past new.next_wire) };
+}
+
 impl<B: Ledgers, S: Source, V: Service, K: Hop, F: Forward<S, K>, A: Wire, W: Wire, C: Wire> Tx<
     B,
     S,
@@ -74,6 +123,10 @@ impl<B: Ledgers, S: Source, V: Service, K: Hop, F: Forward<S, K>, A: Wire, W: Wi
         requires small { start.stake.claim ≤ 2 ^ 40 }
         ensures begun { IfOk result (λ tx. tx.hold.history ≡ record { plan = start.plan; events = [] }) }
         ensures clock { IfOk result (λ tx. (tx.last_moved ≡ start.now) × (tx.deadline ≡ start.deadline)) }
+        ensures stands { IfOk result (λ tx. S.has_read (seen start.plan []) [] [] start.source
+            → IfSome start.service (λ line. V.has_sent (seen start.plan []) [] [] line.side × V.has_heard (seen start.plan []) [] [] line.side)
+            → K.gift start.next ≡ nothing → K.aside [] start.next → K.gift start.back ≡ nothing → K.aside [] start.back
+            → ⟦<Self as Standing>⟧.stands tx no_texts) }
         ensures back { IfErr result (λ back. back.stake ≡ start.stake) }
     {
         let Start {
@@ -195,6 +248,7 @@ fn begin_hold<B: Ledgers>(plan: Plan, limits: Limits, stake: Stake<B>) -> Hold<B
     requires claim { stake.claim ≡ claim_of plan limits.window }
     requires small { stake.claim ≤ 2 ^ 40 }
     ensures history { result.history ≡ record { plan = plan; events = [] } }
+    ensures empty { (result.original ≡ record { base = 0; bytes = [] }) × (result.adapted ≡ record { base = 0; bytes = [] }) }
     ensures roomy { IsRoomy result }
 {
     Hold::new(plan, limits, stake)

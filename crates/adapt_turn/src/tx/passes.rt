@@ -1,54 +1,28 @@
-//! A pass of each side of a transaction.
+//! A pass of the source's and of the service's side of a transaction.
 
-ghost use Rattle.std.specs.Prelude.{◌≡◌, true, false, None};
-ghost use Rattle.adapt_sides.specs.Turns.{Gift};
-ghost use Rattle.adapt_sides.specs.Turns.Gift.{nothing};
+ghost use Rattle.std.specs.Prelude.{◌≡◌, true, false, Some, None};
+ghost use Rattle.trace_core.specs.declared.history.Cause.{Cause};
 ghost use Rattle.adapt_hold.specs.Holding.{shows};
-ghost use Rattle.adapt_turn.specs.Stands.{IsChosen};
 
 use crate::forward::Forward;
-use crate::parts::{Passed, give, send};
-use crate::start::Line;
+use crate::parts::{Passed, close, send};
 use crate::turned::Side;
 use crate::turning::{hear, read_source};
-use crate::tx::Tx;
-use adapt_hold::{Hold, fail};
+use crate::tx::{Going, Tx};
 use adapt_sides::{Hop, Service, Source};
 use span_bank::{Bank, Ledgers};
-use std::alloc::Global;
 use std::sync::Wait;
-use trace_core::{Cause, Point};
+use trace_core::Cause;
 use wire_kit::Wire;
 
 /// A pass that did nothing.
-fn idle() -> Passed
+pub(crate) fn idle() -> Passed
     ensures { result ≡ record { waiting = true; failed = None; broken = false } }
 {
     Passed {
         waiting: true,
         failed: None,
         broken: false,
-    }
-}
-
-/// The head of the chosen message, and how its body goes.
-fn forwarded<B: Ledgers, S: Source, V: Service, K: Hop, F: Forward<S, K>, W>(
-    alloc: Global,
-    forward: &mut F,
-    hold: &Hold<B>,
-    source: &S,
-    service: &Option<Line<V, W>>,
-) -> Result<(Vec<u8>, K::Framing), Cause> {
-    let state = hold.state();
-    match service {
-        Some(line) if state.seen().modified => forward.forward(
-            alloc,
-            state,
-            source,
-            line.side.adapted_head(),
-            line.side.is_response(),
-        ),
-        _ => forward.forward(alloc, state, source, None, false),
     }
 }
 
@@ -69,33 +43,35 @@ impl<B: Ledgers, S: Source, V: Service, K: Hop, F: Forward<S, K>, A: Wire, W: Wi
         self.hold.state().seen().closed
     }
 
-    /// Whether a message is chosen for the next hop.
-    fn is_chosen(&self) -> bool
-        ensures { result ≡ true → IsChosen (shows self.now.hold.history) }
+    /// A pass of the source's side. A source whose numbers aren't those of the history is no message of this transaction.
+    fn source_pass(&mut self, rt: &impl Wait, bank: &Bank<B>) -> Passed
+        requires running { (shows self.old.hold.history).closed ≡ false }
+        ensures goes { ⟦<Self as Going>⟧.goes self.old self.new }
+        ensures over { (cause : Cause) → result.failed ≡ Some cause → (shows self.new.hold.history).closed ≡ true }
     {
         let state = self.hold.state();
-        state.chooses_original() || state.seen().modified
+        if self.source.agrees_with(state) {
+            read_source(
+                rt,
+                bank,
+                &mut self.hold,
+                &mut self.source,
+                &mut self.source_wire,
+            )
+        } else {
+            close(rt, bank, &mut self.hold, Cause::Source)
+        }
     }
 
-    /// A pass of the source's side.
-    fn source_pass(&mut self, rt: &impl Wait, bank: &Bank<B>) -> Passed
-        requires { (shows self.old.hold.history).closed ≡ false }
+    /// A pass of the service's side that writes. Nothing is due where there is no service.
+    fn send_pass(&mut self, rt: &impl Wait, bank: &Bank<B>) -> Passed
+        requires running { (shows self.old.hold.history).closed ≡ false }
+        ensures goes { ⟦<Self as Going>⟧.goes self.old self.new }
+        ensures over { (cause : Cause) → result.failed ≡ Some cause → (shows self.new.hold.history).closed ≡ true }
     {
-        read_source(
-            rt,
-            bank,
-            &mut self.hold,
-            &mut self.source,
-            &mut self.source_wire,
-        )
-    }
-
-    /// A pass of the service's side: it writes what is due, and then reads. Nothing is due where there is no service.
-    fn service_pass(&mut self, rt: &impl Wait, bank: &Bank<B>) -> Passed
-        requires { (shows self.old.hold.history).closed ≡ false }
-    {
+        let _state = self.hold.state();
         let reused = self.reused;
-        let sent = match &mut self.service {
+        match &mut self.service {
             Some(line) => send(
                 rt,
                 bank,
@@ -104,12 +80,19 @@ impl<B: Ledgers, S: Source, V: Service, K: Hop, F: Forward<S, K>, A: Wire, W: Wi
                 &mut line.wire,
                 reused,
             ),
-            None => return idle(),
-        };
-        if sent.broken || self.is_closed() {
-            return sent;
+            None => idle(),
         }
-        let heard = match &mut self.service {
+    }
+
+    /// A pass of the service's side that reads.
+    fn hear_pass(&mut self, rt: &impl Wait, bank: &Bank<B>) -> Passed
+        requires running { (shows self.old.hold.history).closed ≡ false }
+        ensures goes { ⟦<Self as Going>⟧.goes self.old self.new }
+        ensures over { (cause : Cause) → result.failed ≡ Some cause → (shows self.new.hold.history).closed ≡ true }
+    {
+        let _state = self.hold.state();
+        let reused = self.reused;
+        match &mut self.service {
             Some(line) => hear(
                 rt,
                 bank,
@@ -118,8 +101,24 @@ impl<B: Ledgers, S: Source, V: Service, K: Hop, F: Forward<S, K>, A: Wire, W: Wi
                 &mut line.wire,
                 reused,
             ),
-            None => return sent,
-        };
+            None => idle(),
+        }
+    }
+
+    /// A pass of the service's side: it writes what is due, and then reads.
+    fn service_pass(&mut self, rt: &impl Wait, bank: &Bank<B>) -> Passed
+        requires running { (shows self.old.hold.history).closed ≡ false }
+        ensures goes { ⟦<Self as Going>⟧.goes self.old self.new }
+        ensures over { (cause : Cause) → result.failed ≡ Some cause → (shows self.new.hold.history).closed ≡ true }
+    {
+        let sent = self.send_pass(rt, bank);
+        if sent.broken {
+            return sent;
+        }
+        if self.is_closed() {
+            return sent;
+        }
+        let heard = self.hear_pass(rt, bank);
         Passed {
             waiting: sent.waiting && heard.waiting,
             failed: heard.failed,
@@ -127,94 +126,11 @@ impl<B: Ledgers, S: Source, V: Service, K: Hop, F: Forward<S, K>, A: Wire, W: Wi
         }
     }
 
-    /// Whether the adapted message is an answer to the user, though a request was offered.
-    fn answers_user(&self) -> bool {
-        let seen = self.hold.state().seen();
-        match &self.service {
-            Some(line) => seen.modified
-                && matches!(seen.plan.point, Point::Reqmod)
-                && line.side.is_response(),
-            None => false,
-        }
-    }
-
-    /// Begins the chosen message, or says why the transaction was closed in place of it.
-    fn begin(&mut self, rt: &impl Wait, bank: &Bank<B>) -> Option<Cause>
-        requires running { (shows self.old.hold.history).closed ≡ false }
-        requires next { K.gift self.old.next ≡ nothing }
-        requires back { K.gift self.old.back ≡ nothing }
-        ensures begun { result ≡ None → self.new.hold ≡ self.old.hold }
-    {
-        let answers = self.answers_user();
-        let made = forwarded::<B, S, V, K, F, W>(
-            self.alloc,
-            &mut self.forward,
-            &self.hold,
-            &self.source,
-            &self.service,
-        );
-        match made {
-            Ok((head, framing)) => {
-                if answers {
-                    self.back.begin(head, framing);
-                } else {
-                    self.next.begin(head, framing);
-                }
-                None
-            }
-            Err(cause) => {
-                fail(rt, bank, &mut self.hold, cause);
-                Some(cause)
-            }
-        }
-    }
-
-    /// A pass of the message's writer, which was begun.
-    fn give_pass(&mut self, rt: &impl Wait, bank: &Bank<B>) -> Passed
-        requires running { (shows self.old.hold.history).closed ≡ false }
-        requires chosen { IsChosen (shows self.old.hold.history) }
-    {
-        if self.back.is_idle() {
-            give(
-                rt,
-                bank,
-                &mut self.hold,
-                &mut self.next,
-                &mut self.next_wire,
-            )
-        } else {
-            give(
-                rt,
-                bank,
-                &mut self.hold,
-                &mut self.back,
-                &mut self.source_wire,
-            )
-        }
-    }
-
-    /// A pass of the next hop's side: nothing is due before a message is chosen.
-    fn next_pass(&mut self, rt: &impl Wait, bank: &Bank<B>) -> Passed
-        requires { (shows self.old.hold.history).closed ≡ false }
-    {
-        if !self.is_chosen() {
-            return idle();
-        }
-        if self.next.is_idle() && self.back.is_idle() {
-            if let Some(cause) = self.begin(rt, bank) {
-                return Passed {
-                    waiting: false,
-                    failed: Some(cause),
-                    broken: false,
-                };
-            }
-        }
-        self.give_pass(rt, bank)
-    }
-
     /// A pass of one side.
     pub(crate) fn pass(&mut self, rt: &impl Wait, bank: &Bank<B>, side: Side) -> Passed
-        requires { (shows self.old.hold.history).closed ≡ false }
+        requires running { (shows self.old.hold.history).closed ≡ false }
+        ensures goes { ⟦<Self as Going>⟧.goes self.old self.new }
+        ensures over { (cause : Cause) → result.failed ≡ Some cause → (shows self.new.hold.history).closed ≡ true }
     {
         match side {
             Side::Source => self.source_pass(rt, bank),

@@ -1,15 +1,21 @@
 //! The proxy's own refusals.
 
-ghost use Rattle.std.specs.Prelude.{◌≡◌, ◌⊎◌, true, false, Some};
-ghost use Rattle.adapt_sides.specs.Turns.{IsOwnStatus};
+ghost use Rattle.std.specs.Prelude.{◌≡◌, true, false, [], Some, None};
+ghost use Rattle.trace_core.specs.declared.history.Event.TheVariants.{Fail};
+ghost use Rattle.trace_core.specs.declared.history.Cause.{Cause};
+ghost use Rattle.adapt_sides.specs.Turns.{Gift, IsOwnStatus};
+ghost use Rattle.adapt_sides.specs.Turns.Gift.{refusal};
+ghost use Rattle.adapt_hold.specs.Holding.{shows, moved};
+ghost use Rattle.adapt_turn.specs.Stands.{TakesAside};
 
 use crate::forward::Forward;
 use crate::parts::tape_of;
 use crate::turned::{Outcome, Turned};
-use crate::tx::Tx;
-use adapt_hold::Hold;
+use crate::tx::{Going, Tx};
+use adapt_hold::{Hold, fail};
 use adapt_sides::{Hop, Service, Source};
-use span_bank::Ledgers;
+use span_bank::{Bank, Ledgers};
+use std::sync::Wait;
 use trace_core::{Cause, Point};
 use wire_kit::Wire;
 
@@ -32,8 +38,13 @@ fn refusal_turn<B: Ledgers, K: Hop, C: Wire>(
     wire: &mut C,
 ) -> Option<Turned>
     ensures open { (outcome : Outcome) → result ≡ Some (Turned.Finished outcome) → ⊥ }
+    ensures gift { K.gift hop.new ≡ K.gift hop.old }
+    ensures takes { TakesAside (λ taken. K.aside taken hop.old) (λ taken. K.aside taken hop.new) (C.past wire.old) (C.past wire.new) }
 {
-    if hop.is_out() || hop.fault().is_some() {
+    if hop.is_out() {
+        return None;
+    }
+    if hop.fault().is_some() {
         return None;
     }
     let (_, before) = wire.counts();
@@ -54,6 +65,10 @@ fn refusal_turn<B: Ledgers, K: Hop, C: Wire>(
 /// Puts a refusal where no byte has gone out, and says whether it did.
 fn refuse_on<K: Hop>(hop: &mut K, status: u16) -> bool
     requires { IsOwnStatus status }
+    ensures untouched { result ≡ true → K.untouched hop.old ≡ true }
+    ensures gift { result ≡ true → K.gift hop.new ≡ refusal status }
+    ensures aside { result ≡ true → K.aside [] hop.new }
+    ensures same { result ≡ false → hop.new ≡ hop.old }
 {
     if hop.untouched() {
         hop.refuse(status);
@@ -73,22 +88,121 @@ impl<B: Ledgers, S: Source, V: Service, K: Hop, F: Forward<S, K>, A: Wire, W: Wi
     W,
     C,
 > {
+    /// At which point the message is offered.
+    fn point(&self) -> Point
+        ensures { result ≡ (shows self.now.hold.history).plan.point }
+    {
+        self.hold.state().seen().plan.point
+    }
+
+    /// Puts the proxy's own refusal on the next hop's wire, where no byte has gone out on it.
+    fn refuse_next(&mut self, status: u16)
+        requires status { IsOwnStatus status }
+        requires over { (shows self.old.hold.history).closed ≡ true }
+        requires point { (shows self.old.hold.history).plan.point ≡ Point.Respmod }
+        ensures goes { ⟦<Self as Going>⟧.goes self.old self.new }
+        ensures hold { self.new.hold ≡ self.old.hold }
+        ensures outcome { self.new.outcome ≡ self.old.outcome }
+    {
+        self.refusing = refuse_on(&mut self.next, status);
+    }
+
+    /// Puts the proxy's own refusal on the source's wire, where no byte has gone out on it.
+    fn refuse_back(&mut self, status: u16)
+        requires status { IsOwnStatus status }
+        requires over { (shows self.old.hold.history).closed ≡ true }
+        requires point { (shows self.old.hold.history).plan.point ≡ Point.Reqmod }
+        ensures goes { ⟦<Self as Going>⟧.goes self.old self.new }
+        ensures hold { self.new.hold ≡ self.old.hold }
+        ensures outcome { self.new.outcome ≡ self.old.outcome }
+    {
+        self.refusing = refuse_on(&mut self.back, status);
+    }
+
     /// Puts the proxy's own refusal where no byte has gone to the user.
     pub(crate) fn refuse(&mut self, cause: Cause)
+        requires over { (shows self.old.hold.history).closed ≡ true }
+        ensures goes { ⟦<Self as Going>⟧.goes self.old self.new }
         ensures hold { self.new.hold ≡ self.old.hold }
         ensures outcome { self.new.outcome ≡ Outcome.Fail cause }
     {
-        let point = self.hold.state().seen().plan.point;
-        let status = status_of(cause, point);
         self.outcome = Outcome::Fail(cause);
-        self.refusing = match point {
-            Point::Reqmod => refuse_on(&mut self.back, status),
-            Point::Respmod => refuse_on(&mut self.next, status),
-        };
+        let point = self.point();
+        let status = status_of(cause, point);
+        match point {
+            Point::Reqmod => self.refuse_back(status),
+            Point::Respmod => self.refuse_next(status),
+        }
+    }
+
+    /// Puts it where a pass has failed.
+    pub(crate) fn refuse_failed(&mut self, failed: Option<Cause>)
+        requires over { (cause : Cause) → failed ≡ Some cause → (shows self.old.hold.history).closed ≡ true }
+        ensures goes { ⟦<Self as Going>⟧.goes self.old self.new }
+        ensures hold { self.new.hold ≡ self.old.hold }
+        ensures none { failed ≡ None → self.new.outcome ≡ self.old.outcome }
+        ensures some { (cause : Cause) → failed ≡ Some cause → self.new.outcome ≡ Outcome.Fail cause }
+    {
+        match failed {
+            Some(cause) => self.refuse(cause),
+            None => {}
+        }
+    }
+
+    /// Fails the transaction, and puts a refusal where no byte has gone to the user.
+    pub(crate) fn fail_by(&mut self, rt: &impl Wait, bank: &Bank<B>, cause: Cause)
+        requires running { (shows self.old.hold.history).closed ≡ false }
+        ensures goes { ⟦<Self as Going>⟧.goes self.old self.new }
+        ensures hold { self.new.hold ≡ moved self.old.hold (Fail cause) [] }
+        ensures over { (shows self.new.hold.history).closed ≡ true }
+        ensures outcome { self.new.outcome ≡ Outcome.Fail cause }
+    {
+        let _state = self.hold.state();
+        fail(rt, bank, &mut self.hold, cause);
+        self.refuse(cause);
+    }
+
+    /// Writes what is due of a refusal on the next hop's wire.
+    fn refusal_next(&mut self) -> Option<Turned>
+        requires due { self.old.refusing ≡ true }
+        requires point { (shows self.old.hold.history).plan.point ≡ Point.Respmod }
+        ensures goes { ⟦<Self as Going>⟧.goes self.old self.new }
+        ensures open { (outcome : Outcome) → result ≡ Some (Turned.Finished outcome) → ⊥ }
+        ensures hold { self.new.hold ≡ self.old.hold }
+        ensures outcome { self.new.outcome ≡ self.old.outcome }
+    {
+        refusal_turn(&self.hold, &mut self.next, &mut self.next_wire)
+    }
+
+    /// Writes what is due of a refusal on the source's wire.
+    fn refusal_back(&mut self) -> Option<Turned>
+        requires due { self.old.refusing ≡ true }
+        requires point { (shows self.old.hold.history).plan.point ≡ Point.Reqmod }
+        ensures goes { ⟦<Self as Going>⟧.goes self.old self.new }
+        ensures open { (outcome : Outcome) → result ≡ Some (Turned.Finished outcome) → ⊥ }
+        ensures hold { self.new.hold ≡ self.old.hold }
+        ensures outcome { self.new.outcome ≡ self.old.outcome }
+    {
+        refusal_turn(&self.hold, &mut self.back, &mut self.source_wire)
+    }
+
+    /// Writes what is due of a refusal.
+    fn refusal(&mut self) -> Option<Turned>
+        requires due { self.old.refusing ≡ true }
+        ensures goes { ⟦<Self as Going>⟧.goes self.old self.new }
+        ensures open { (outcome : Outcome) → result ≡ Some (Turned.Finished outcome) → ⊥ }
+        ensures hold { self.new.hold ≡ self.old.hold }
+        ensures outcome { self.new.outcome ≡ self.old.outcome }
+    {
+        match self.point() {
+            Point::Reqmod => self.refusal_back(),
+            Point::Respmod => self.refusal_next(),
+        }
     }
 
     /// A turn of a closed transaction: it writes a refusal that is due.
     pub(crate) fn closed_turn(&mut self) -> Turned
+        ensures goes { ⟦<Self as Going>⟧.goes self.old self.new }
         ensures hold { self.new.hold ≡ self.old.hold }
         ensures outcome { (outcome : Outcome) → result ≡ Turned.Finished outcome → outcome ≡ self.old.outcome }
         ensures same { self.new.outcome ≡ self.old.outcome }
@@ -97,11 +211,7 @@ impl<B: Ledgers, S: Source, V: Service, K: Hop, F: Forward<S, K>, A: Wire, W: Wi
         if !self.refusing {
             return Turned::Finished(self.outcome);
         }
-        let turned = match self.hold.state().seen().plan.point {
-            Point::Reqmod => refusal_turn(&self.hold, &mut self.back, &mut self.source_wire),
-            Point::Respmod => refusal_turn(&self.hold, &mut self.next, &mut self.next_wire),
-        };
-        match turned {
+        match self.refusal() {
             Some(turned) => turned,
             None => Turned::Finished(self.outcome),
         }

@@ -1,15 +1,16 @@
 //! One more try of a request whose connection broke.
 
-ghost use Rattle.std.specs.Prelude.{◌≡◌, true, []};
+ghost use Rattle.std.specs.Prelude.{◌≡◌, true, [], IfSome};
 ghost use Rattle.trace_core.specs.declared.history.Event.TheVariants.{Fail, Retry};
 ghost use Rattle.trace_core.specs.declared.history.Cause.TheVariants.{Service};
 ghost use Rattle.trace_core.specs.Legal.{MayFollow};
 ghost use Rattle.adapt_hold.specs.Holding.{shows, moved};
+ghost use Rattle.adapt_turn.specs.Stands.{Texts};
 
 use crate::forward::Forward;
 use crate::turned::Outcome;
-use crate::tx::Tx;
-use adapt_hold::{fail, go_on};
+use crate::tx::{Going, Standing, Tx};
+use adapt_hold::go_on;
 use adapt_sides::{Hop, Service, Source};
 use span_bank::{Bank, Ledgers};
 use std::mem;
@@ -30,8 +31,13 @@ impl<B: Ledgers, S: Source, V: Service, K: Hop, F: Forward<S, K>, A: Wire, W: Wi
     /// Begins the request anew on a fresh connection, and gives the broken one's wire back.
     pub fn retry(&mut self, rt: &impl Wait, bank: &Bank<B>, wire: W) -> W
         requires { MayFollow self.old.hold.history.plan self.old.hold.history.events Retry }
-        ensures { self.new.hold ≡ moved self.old.hold Retry [] }
+        ensures hold { self.new.hold ≡ moved self.old.hold Retry [] }
+        ensures anew { (t : Texts) → ⟦<Self as Standing>⟧.stands self.old t → ⟦<Self as Standing>⟧.stands self.new (record t { service_read = []; service_taken = [] }) }
+        ensures fresh { IfSome self.new.service (λ line. line.wire ≡ wire) }
+        ensures back { IfSome self.old.service (λ line. result ≡ line.wire) }
+        ensures others { (self.new.source_wire ≡ self.old.source_wire) × (self.new.next_wire ≡ self.old.next_wire) }
     {
+        let _state = self.hold.state();
         go_on(rt, bank, &mut self.hold, Event::Retry);
         self.broken = false;
         self.reused = false;
@@ -47,11 +53,11 @@ impl<B: Ledgers, S: Source, V: Service, K: Hop, F: Forward<S, K>, A: Wire, W: Wi
     /// Fails the transaction by the service's fault, where no fresh connection can be had.
     pub fn no_retry(&mut self, rt: &impl Wait, bank: &Bank<B>)
         requires { MayFollow self.old.hold.history.plan self.old.hold.history.events Retry }
+        ensures goes { ⟦<Self as Going>⟧.goes self.old self.new }
         ensures hold { self.new.hold ≡ moved self.old.hold (Fail Service) [] }
         ensures outcome { self.new.outcome ≡ Outcome.Fail Service }
         ensures over { (shows self.new.hold.history).closed ≡ true }
     {
-        fail(rt, bank, &mut self.hold, Cause::Service);
-        self.refuse(Cause::Service);
+        self.fail_by(rt, bank, Cause::Service);
     }
 }

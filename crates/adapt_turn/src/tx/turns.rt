@@ -1,20 +1,44 @@
 //! Turns of a transaction.
 
-ghost use Rattle.std.specs.Prelude.{◌≡◌, ◌+◌, ◌≤◌, true, false, []};
+ghost use Rattle.std.specs.Prelude.{◌≡◌, ℕ, ◌+◌, ◌<◌, ◌≤◌, true, false, [], Some};
 ghost use Rattle.trace_core.specs.declared.history.Event.TheVariants.{Fail};
+ghost use Rattle.trace_core.specs.declared.history.Cause.{Cause};
 ghost use Rattle.trace_core.specs.declared.history.Cause.TheVariants.{Deadline, Stopping};
 ghost use Rattle.adapt_hold.specs.Holding.{shows, moved};
 
 use crate::forward::Forward;
 use crate::parts::Passed;
 use crate::turned::{Outcome, Side, Turned};
-use crate::tx::Tx;
-use adapt_hold::fail;
+use crate::tx::{Going, Tx};
 use adapt_sides::{Hop, Service, Source};
 use span_bank::{Bank, Ledgers};
 use std::sync::Wait;
 use trace_core::Cause;
 use wire_kit::Wire;
+
+/// The moment of the last moved byte.
+fn moment_of(moved: u64, now: u64, before: u64) -> u64
+    ensures none { moved ≡ 0 → result ≡ before }
+    ensures some { 0 < moved → result ≡ now }
+{
+    if moved > 0 { now } else { before }
+}
+
+/// What a turn answers, by what its pass did.
+fn answer_of(passed: Passed, moved: u64) -> Turned
+    ensures waiting { result ≡ Turned.Waiting → (passed.waiting ≡ true) × (passed.broken ≡ false) }
+    ensures broken { result ≡ Turned.Broken → passed.broken ≡ true }
+    ensures moved { (n : ℕ) → result ≡ Turned.Moved n → (n ≡ moved) × (passed.waiting ≡ false) × (passed.broken ≡ false) }
+    ensures open { (outcome : Outcome) → result ≡ Turned.Finished outcome → ⊥ }
+{
+    if passed.broken {
+        Turned::Broken
+    } else if passed.waiting {
+        Turned::Waiting
+    } else {
+        Turned::Moved(moved)
+    }
+}
 
 impl<B: Ledgers, S: Source, V: Service, K: Hop, F: Forward<S, K>, A: Wire, W: Wire, C: Wire> Tx<
     B,
@@ -31,6 +55,7 @@ impl<B: Ledgers, S: Source, V: Service, K: Hop, F: Forward<S, K>, A: Wire, W: Wi
     /// A turn at the deadline fails in place of moving a byte. A turn that fails answers what its wires moved before; Finished comes
     /// with a later one, once a refusal that is due is out or its wire has failed.
     pub fn turn(&mut self, rt: &impl Wait, bank: &Bank<B>, side: Side, now: u64) -> Turned
+        ensures goes { ⟦<Self as Going>⟧.goes self.old self.new }
         ensures deadline { (shows self.old.hold.history).closed ≡ false → self.old.last_moved + self.old.deadline ≤ now
             → (self.new.hold ≡ moved self.old.hold (Fail Deadline) []) × (result ≡ Turned.Moved 0) × (self.new.outcome ≡ Outcome.Fail Deadline) }
         ensures closed { (shows self.old.hold.history).closed ≡ true → (self.new.hold ≡ self.old.hold) × (self.new.outcome ≡ self.old.outcome) }
@@ -40,8 +65,7 @@ impl<B: Ledgers, S: Source, V: Service, K: Hop, F: Forward<S, K>, A: Wire, W: Wi
             return self.closed_turn();
         }
         if now >= self.last_moved && now - self.last_moved >= self.deadline {
-            fail(rt, bank, &mut self.hold, Cause::Deadline);
-            self.refuse(Cause::Deadline);
+            self.fail_by(rt, bank, Cause::Deadline);
             return Turned::Moved(0);
         }
         if matches!(side, Side::Service) && self.is_broken() {
@@ -55,40 +79,40 @@ impl<B: Ledgers, S: Source, V: Service, K: Hop, F: Forward<S, K>, A: Wire, W: Wi
 
     /// What a turn answers, by what its pass did.
     fn after_pass(&mut self, passed: Passed, moved: u64, now: u64) -> Turned
+        requires over { (cause : Cause) → passed.failed ≡ Some cause → (shows self.old.hold.history).closed ≡ true }
+        ensures goes { ⟦<Self as Going>⟧.goes self.old self.new }
         ensures open { (outcome : Outcome) → result ≡ Turned.Finished outcome → ⊥ }
     {
-        self.last_moved = if moved > 0 { now } else { self.last_moved };
-        self.broken = self.broken || passed.broken;
-        if let Some(cause) = passed.failed {
-            self.refuse(cause);
-        }
-        if passed.broken {
-            Turned::Broken
-        } else if passed.waiting {
-            Turned::Waiting
-        } else {
-            Turned::Moved(moved)
-        }
+        self.last_moved = moment_of(moved, now, self.last_moved);
+        self.broken |= passed.broken;
+        self.refuse_failed(passed.failed);
+        answer_of(passed, moved)
     }
 
     /// Turns by a schedule, each at the moment of the last moved byte, so that no deadline of at least a second passes.
-    pub fn drive(&mut self, rt: &impl Wait, bank: &Bank<B>, schedule: &[Side]) {
-        for side in schedule {
-            let now = self.last_moved;
-            self.turn(rt, bank, *side, now);
+    pub fn drive(&mut self, rt: &impl Wait, bank: &Bank<B>, schedule: &[Side])
+        ensures goes { ⟦<Self as Going>⟧.goes self.old self.new }
+    {
+        match schedule {
+            [] => {}
+            [side, rest @ ..] => {
+                let now = self.last_moved;
+                self.turn(rt, bank, *side, now);
+                self.drive(rt, bank, rest);
+            }
         }
     }
 
     /// Fails the transaction, because the proxy is stopping, where it isn't closed. Later turns write a refusal that is due.
     pub fn halt(&mut self, rt: &impl Wait, bank: &Bank<B>)
+        ensures goes { ⟦<Self as Going>⟧.goes self.old self.new }
         ensures closed { (shows self.old.hold.history).closed ≡ true → (self.new.hold ≡ self.old.hold) × (self.new.outcome ≡ self.old.outcome) }
         ensures halted { (shows self.old.hold.history).closed ≡ false
             → (self.new.hold ≡ moved self.old.hold (Fail Stopping) []) × (self.new.outcome ≡ Outcome.Fail Stopping) }
         ensures over { (shows self.new.hold.history).closed ≡ true }
     {
         if !self.is_closed() {
-            fail(rt, bank, &mut self.hold, Cause::Stopping);
-            self.refuse(Cause::Stopping);
+            self.fail_by(rt, bank, Cause::Stopping);
         }
     }
 }

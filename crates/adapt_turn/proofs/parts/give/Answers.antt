@@ -1,13 +1,9 @@
-use Rattle.std.proofs.Common.{◌≡◌, ◌≤◌, ℕ, List, [], length, arith, sym, ◌∙◌, ap, subst, true, false}
+use Rattle.std.proofs.Common.{List, [], sym, subst}
 use Rattle.trace_core.specs.declared.history.Event.{Event}
-use Rattle.trace_core.specs.declared.history.Seen.{Seen}
 use Rattle.trace_core.specs.History.{History}
 use Rattle.trace_core.specs.Turns.{MayAllFollow}
-use Rattle.plan_rules.specs.Room.{original_room, adapted_room}
-use Rattle.adapt_sides.specs.Turns.{ReadsBody, Sends, Hears, Gives}
-use Rattle.adapt_hold.specs.Holding.{Holding, shows}
-use Rattle.adapt_hold.specs.Steps.{MayRun, moved_all}
-use Rattle.adapt_turn.specs.Parts.{SourcePart, SendPart, HearPart, HopPart, source_cause, service_cause, hop_cause}
+use Rattle.adapt_hold.specs.Holding.{shows}
+use Rattle.adapt_hold.specs.Steps.{MayRun}
 use Rattle.adapt_turn.proofs.Passes as passes
 use Rattle.adapt_turn.proofs.parts.give.Goals as goal
 

@@ -1,4 +1,4 @@
-use Rattle.std.proofs.Common.{◌≡◌, sym, subst}
+use Rattle.std.proofs.Common.{sym, subst}
 use Rattle.plan_rules.proofs.Paced.{paces-begin}
 use Rattle.adapt_hold.specs.Holding.{Holding, IsRoomy}
 use Rattle.adapt_turn.proofs.tx.begin_hold.Goals as goal

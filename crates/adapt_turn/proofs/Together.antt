@@ -1,0 +1,285 @@
+-- Passes one behind the other, over the three wires.
+use Rattle.std.proofs.Common.{◌≡◌, ℕ, inl, Bool, true, false, ◌||◌, List, [], ◌∷◌, ◌++◌, length, Option, Some, None, arith, refl, sym, ◌∙◌, ap, subst}
+use Rattle.std.specs.Prelude.{MatchOption, IfSome}
+use Rattle.std.proofs.lemmas.Bool.{false≢true}
+use Rattle.std.proofs.lemmas.List.{append-nil, append_assoc}
+use Rattle.trace_core.specs.declared.history.Seen.{Seen}
+use Rattle.trace_core.specs.declared.history.Plan.{Plan}
+use Rattle.trace_core.specs.declared.history.Event.{Event}
+use Rattle.trace_core.specs.declared.history.Event.TheVariants.{Fail, Retry}
+use Rattle.trace_core.specs.declared.history.Cause.{Cause}
+use Rattle.trace_core.specs.History.{History, seen, in_bytes, ad_bytes, is_retry, is_close}
+use Rattle.trace_core.specs.Legal.{IsLegal, MayFollow}
+use Rattle.trace_core.specs.View.{after}
+use Rattle.trace_core.specs.Turns.{is_of_source, is_of_replies, is_of_sending, is_of_hop}
+use Rattle.wire_kit.specs.Past.{Past, IsLater}
+use Rattle.adapt_sides.specs.declared.fault.ClientFault.{ClientFault}
+use Rattle.adapt_sides.specs.declared.fault.RelayFault.{RelayFault}
+use Rattle.adapt_sides.specs.Tapes.{chosen}
+use Rattle.adapt_sides.specs.Turns.{Gift}
+use Rattle.adapt_sides.specs.Turns.Gift.{nothing}
+use Rattle.adapt_hold.specs.Spans.{Span, EndsBody}
+use Rattle.adapt_hold.specs.Holding.{Holding, IsTied, IsRoomy, shows, moved}
+use Rattle.adapt_turn.specs.declared.parts.Passed.{Passed}
+use Rattle.adapt_turn.specs.declared.start.Line.{Line}
+use Rattle.adapt_turn.specs.Parts.{SourcePart, SendPart, HearPart}
+use Rattle.adapt_turn.specs.Stands.{Texts, joined, no_texts, Stands, Goes, HopsAre, IsRefusing, IsUndelivered}
+use Rattle.adapt_turn.proofs.Carry.{off_sending, off_replies, not_true, both_not}
+use Rattle.adapt_turn.proofs.Passes.{fail_runs}
+use Rattle.adapt_turn.proofs.Advance.{Others, source_stands, send_stands, hear_stands, fail_stands, retry_stands}
+use Rattle.adapt_turn.proofs.Hops.{hops_others}
+
+-- The laws of the three sides, together.
+
+stays_closed : (b c : Bool) → c ≡ true → b || c ≡ true
+stays_closed true c e = refl
+stays_closed false c e = e
+
+sent_line : {V W : Type 0} (has_sent : Seen → List ℕ → List ℕ → V → Type 0)
+    → ((x : Seen) (event : Event) (came bytes taken : List ℕ) (s : V) → is_of_sending event ≡ false → is_retry event ≡ false
+    → length came ≡ x.received → length bytes ≡ in_bytes event → has_sent x came taken s → has_sent (after x event) (came ++ bytes) taken s)
+    → (line : Option (Line V W)) (x : Seen) (event : Event) (came bytes taken : List ℕ) → off_sending event ≡ true → length came ≡ x.received → length bytes ≡ in_bytes event
+    → MatchOption line (taken ≡ []) (λ l. has_sent x came taken l.side) → MatchOption line (taken ≡ []) (λ l. has_sent (after x event) (came ++ bytes) taken l.side)
+sent_line has_sent law None x event came bytes taken o n m p = p
+sent_line has_sent law (Some l) x event came bytes taken o n m p =
+    let w = both_not (is_of_sending event) (is_retry event) o in law x event came bytes taken l.side w.0 w.1 n m p
+
+heard_line : {V W : Type 0} (has_heard : Seen → List ℕ → List ℕ → V → Type 0)
+    → ((x : Seen) (event : Event) (adapted text : List ℕ) (s : V) → is_of_replies event ≡ false → is_retry event ≡ false → has_heard x adapted text s → has_heard (after x event) adapted text s)
+    → (line : Option (Line V W)) (x : Seen) (event : Event) (adapted text : List ℕ) → off_replies event ≡ true
+    → MatchOption line ((adapted ≡ []) × (text ≡ [])) (λ l. has_heard x adapted text l.side) → MatchOption line ((adapted ≡ []) × (text ≡ [])) (λ l. has_heard (after x event) adapted text l.side)
+heard_line has_heard law None x event adapted text o p = p
+heard_line has_heard law (Some l) x event adapted text o p =
+    let w = both_not (is_of_replies event) (is_retry event) o in law x event adapted text l.side w.0 w.1 p
+
+pub others_of : {S V W K : Type 0} (agrees : Seen → S → Type 0) (has_read : Seen → List ℕ → List ℕ → S → Type 0) (has_sent has_heard : Seen → List ℕ → List ℕ → V → Type 0)
+    (has_given : Seen → List ℕ → List ℕ → List ℕ → K → Type 0) (gift : K → Gift) (aside : List ℕ → K → Type 0)
+    → ((x : Seen) (event : Event) (s : S) → is_of_source event ≡ false → agrees x s → agrees (after x event) s)
+    → ((x : Seen) (event : Event) (body text : List ℕ) (s : S) → is_of_source event ≡ false → has_read x body text s → has_read (after x event) body text s)
+    → ((x : Seen) (event : Event) (came bytes taken : List ℕ) (s : V) → is_of_sending event ≡ false → is_retry event ≡ false
+    → length came ≡ x.received → length bytes ≡ in_bytes event → has_sent x came taken s → has_sent (after x event) (came ++ bytes) taken s)
+    → ((x : Seen) (event : Event) (adapted text : List ℕ) (s : V) → is_of_replies event ≡ false → is_retry event ≡ false → has_heard x adapted text s → has_heard (after x event) adapted text s)
+    → ((plan : Plan) (before : List Event) (event : Event) (head original adapted bytes more taken : List ℕ) (s : K)
+    → IsLegal plan (event ∷ before) → is_of_hop event ≡ false
+    → length original ≡ (seen plan before).received → length adapted ≡ (seen plan before).adapted_received
+    → length bytes ≡ in_bytes event → length more ≡ ad_bytes event
+    → has_given (seen plan before) head (chosen (seen plan before) original adapted) taken s
+    → has_given (seen plan (event ∷ before)) head (chosen (seen plan (event ∷ before)) (original ++ bytes) (adapted ++ more)) taken s)
+    → (source : S) (line : Option (Line V W)) (next back : K) (refusing : Bool)
+    → Others (λ x. agrees x source) (λ x body text. has_read x body text source)
+    (λ x came taken. MatchOption line (taken ≡ []) (λ l. has_sent x came taken l.side))
+    (λ x adapted text. MatchOption line ((adapted ≡ []) × (text ≡ [])) (λ l. has_heard x adapted text l.side))
+    (HopsAre (gift next) (gift back) (λ x head body taken. has_given x head body taken next) (λ taken. aside taken next)
+    (λ x head body taken. has_given x head body taken back) (λ taken. aside taken back))
+    (IsRefusing refusing (gift next) (gift back))
+others_of agrees has_read has_sent has_heard has_given gift aside la lr ls lh lg source line next back refusing = record {
+  agrees_on = λ x event o a. la x event source (not_true (is_of_source event) o) a;
+  read_on = λ x event body text o p. lr x event body text source (not_true (is_of_source event) o) p;
+  sent_on = λ x event came bytes taken o n m p. sent_line has_sent ls line x event came bytes taken o n m p;
+  heard_on = λ x event adapted text o p. heard_line has_heard lh line x event adapted text o p;
+  hops_on = hops_others (gift next) (gift back) (λ x head body taken. has_given x head body taken next) (λ x head body taken. has_given x head body taken back) (λ taken. aside taken next) (λ taken. aside taken back)
+      (λ plan before event head original adapted bytes more taken l o a b c d p. lg plan before event head original adapted bytes more taken next l o a b c d p)
+      (λ plan before event head original adapted bytes more taken l o a b c d p. lg plan before event head original adapted bytes more taken back l o a b c d p);
+  refuses_on = λ x event r e. let w = r e in (stays_closed (is_close event) x.closed w.0, w.1);
+}
+
+-- Wires.
+
+pub no_later : (p : Past) → IsLater p [] [] p
+no_later p = record { read = sym (append-nil p.read); out = sym (append-nil p.taken); ends = omega arith; read_waits = omega arith; write_waits = omega arith; faults = omega arith }
+
+pub later_then : (p q r : Past) (a b c d : List ℕ) → IsLater p a b q → IsLater q c d r → IsLater p (a ++ c) (b ++ d) r
+later_then p q r a b c d l m = record {
+  read = m.read ∙ ap (λ (bs : List ℕ). bs ++ c) l.read ∙ append_assoc p.read a c;
+  out = m.out ∙ ap (λ (bs : List ℕ). bs ++ d) l.out ∙ append_assoc p.taken b d;
+  ends = let e = l.ends in let f = m.ends in omega arith;
+  read_waits = let e = l.read_waits in let f = m.read_waits in omega arith;
+  write_waits = let e = l.write_waits in let f = m.write_waits in omega arith;
+  faults = let e = l.faults in let f = m.faults in omega arith;
+}
+
+pub of_five : (P : Texts → Type 0) (a b c d e a' b' c' d' e' : List ℕ) → a ≡ a' → b ≡ b' → c ≡ c' → d ≡ d' → e ≡ e'
+    → P (record { source_read = a; service_read = b; service_taken = c; next_taken = d; back_taken = e })
+    → P (record { source_read = a'; service_read = b'; service_taken = c'; next_taken = d'; back_taken = e' })
+of_five P a b c d e a' b' c' d' e' p q r s t k =
+    subst (λ (z : List ℕ). P (record { source_read = z; service_read = b'; service_taken = c'; next_taken = d'; back_taken = e' })) p
+    (subst (λ (z : List ℕ). P (record { source_read = a; service_read = z; service_taken = c'; next_taken = d'; back_taken = e' })) q
+    (subst (λ (z : List ℕ). P (record { source_read = a; service_read = b; service_taken = z; next_taken = d'; back_taken = e' })) r
+    (subst (λ (z : List ℕ). P (record { source_read = a; service_read = b; service_taken = c; next_taken = z; back_taken = e' })) s
+    (subst (λ (z : List ℕ). P (record { source_read = a; service_read = b; service_taken = c; next_taken = d; back_taken = z })) t k))))
+
+pub still : (wire : Past → Type 0) (p : Past) → wire p → (q : Past) × wire q × IsLater p [] [] q
+still wire p w = (p, w, no_later p)
+
+-- what stands stands on, where no wire was touched
+pub goes_still : (old new : Texts → Type 0) (source service next : Past → Type 0) → ((t : Texts) → old t → new t) → Goes old new source source service service next next
+goes_still old new source service next on_ = record {
+  delta = record { source_read = []; service_read = []; service_taken = []; next_taken = []; back_taken = [] };
+  stands = λ t o. of_five new _ _ _ _ _ _ _ _ _ _
+      (sym (append-nil t.source_read)) (sym (append-nil t.service_read)) (sym (append-nil t.service_taken)) (sym (append-nil t.next_taken)) (sym (append-nil t.back_taken)) (on_ t o);
+  source = λ p b. still source p b;
+  service = λ p b. still service p b;
+  next = λ p b. still next p b;
+}
+
+pub goes_none : (stands : Texts → Type 0) (source service next : Past → Type 0) → Goes stands stands source source service service next next
+goes_none stands source service next = goes_still stands stands source service next (λ t o. o)
+
+pub goes_then : (s0 s1 s2 : Texts → Type 0) (a0 a1 a2 b0 b1 b2 c0 c1 c2 : Past → Type 0) → Goes s0 s1 a0 a1 b0 b1 c0 c1 → Goes s1 s2 a1 a2 b1 b2 c1 c2 → Goes s0 s2 a0 a2 b0 b2 c0 c2
+goes_then s0 s1 s2 a0 a1 a2 b0 b1 b2 c0 c1 c2 f g = record {
+  delta = joined f.delta g.delta;
+  stands = λ t o. of_five s2 _ _ _ _ _ _ _ _ _ _
+      (append_assoc t.source_read f.delta.source_read g.delta.source_read)
+      (append_assoc t.service_read f.delta.service_read g.delta.service_read)
+      (append_assoc t.service_taken f.delta.service_taken g.delta.service_taken)
+      (append_assoc t.next_taken f.delta.next_taken g.delta.next_taken)
+      (append_assoc t.back_taken f.delta.back_taken g.delta.back_taken)
+      (g.stands (joined t f.delta) (f.stands t o));
+  source = λ p b. let w = f.source p b in let v = g.source w.0 w.1 in (v.0, v.1, later_then p w.0 v.0 f.delta.source_read f.delta.back_taken g.delta.source_read g.delta.back_taken w.2 v.2);
+  service = λ p b. let w = f.service p b in let v = g.service w.0 w.1 in (v.0, v.1, later_then p w.0 v.0 f.delta.service_read f.delta.service_taken g.delta.service_read g.delta.service_taken w.2 v.2);
+  next = λ p b. let w = f.next p b in let v = g.next w.0 w.1 in (v.0, v.1, later_then p w.0 v.0 [] f.delta.next_taken [] g.delta.next_taken w.2 v.2);
+}
+
+-- The passes.
+
+pub source_goes : (h k : Holding) (ao an : Seen → Type 0) (ro rn sent heard : Seen → List ℕ → List ℕ → Type 0) (hops : Seen → List ℕ → List ℕ → List ℕ → Type 0) (refuses : Seen → Type 0)
+    (f0 f1 : Option RelayFault) (rests : Type 0) (before after_ service next : Past → Type 0) (passed : Passed)
+    → Others an rn sent heard hops refuses → IsTied h → SourcePart h k ro rn an f0 f1 rests before after_ passed
+    → Goes (Stands h ao ro sent heard hops refuses) (Stands k an rn sent heard hops refuses) before after_ service service next next
+source_goes h k ao an ro rn sent heard hops refuses f0 f1 rests before after_ service next passed u tied d = record {
+  delta = record { source_read = d.delta; service_read = []; service_taken = []; next_taken = []; back_taken = [] };
+  stands = λ t o. of_five (Stands k an rn sent heard hops refuses) _ _ _ _ _ _ _ _ _ _ refl (sym (append-nil t.service_read)) (sym (append-nil t.service_taken)) (sym (append-nil t.next_taken)) (sym (append-nil t.back_taken))
+      (source_stands h k ao an ro rn sent heard hops refuses f0 f1 rests before after_ passed t u tied d o);
+  source = λ p b. let w = d.part.wire p b in (w.0, w.1, w.2);
+  service = λ p b. still service p b;
+  next = λ p b. still next p b;
+}
+
+pub fail_goes : (h k : Holding) (cause : Cause) (agrees : Seen → Type 0) (read sent heard : Seen → List ℕ → List ℕ → Type 0) (hops : Seen → List ℕ → List ℕ → List ℕ → Type 0) (refuses : Seen → Type 0)
+    (source service next : Past → Type 0)
+    → Others agrees read sent heard hops refuses → IsTied h → IsRoomy h → (shows h.history).closed ≡ false → k ≡ moved h (Fail cause) []
+    → Goes (Stands h agrees read sent heard hops refuses) (Stands k agrees read sent heard hops refuses) source source service service next next
+fail_goes h k cause agrees read sent heard hops refuses source service next u tied roomy c is =
+    goes_still _ _ source service next (λ t o. fail_stands h k cause agrees read sent heard hops refuses t u tied (fail_runs h cause [] roomy c) c is o)
+
+-- a source that doesn't agree never stood
+pub disagree_goes : (h : Holding) (history : History) (agrees : Seen → Type 0) (read sent heard : Seen → List ℕ → List ℕ → Type 0) (hops : Seen → List ℕ → List ℕ → List ℕ → Type 0) (refuses : Seen → Type 0)
+    (new : Texts → Type 0) (source service next : Past → Type 0)
+    → (shows h.history).closed ≡ false → history ≡ h.history → (agrees (shows history) → ⊥)
+    → Goes (Stands h agrees read sent heard hops refuses) new source source service service next next
+disagree_goes h history agrees read sent heard hops refuses new source service next c e un =
+    goes_still _ new source service next (λ t o. absurd (un (subst (λ (y : History). agrees (shows y)) (sym e) (o.agrees_is c))))
+
+-- the service's line, where there is one
+
+abbrev pub on_line : {L : Type 0} → (L → Seen → List ℕ → List ℕ → Type 0) → Option L → Seen → List ℕ → List ℕ → Type 0
+on_line said line x came taken = MatchOption line (taken ≡ []) (λ l. said l x came taken)
+
+abbrev pub heard_on_line : {L : Type 0} → (L → Seen → List ℕ → List ℕ → Type 0) → Option L → Seen → List ℕ → List ℕ → Type 0
+heard_on_line said line x adapted text = MatchOption line ((adapted ≡ []) × (text ≡ [])) (λ l. said l x adapted text)
+
+abbrev pub past_on : {L : Type 0} → (L → Past → Type 0) → Option L → Past → Type 0
+past_on past line p = MatchOption line ⊥ (λ l. past l p)
+
+pub send_goes : {L : Type 0} (line : Option L) (l m : L) (h k : Holding) (agrees : Seen → Type 0) (read : Seen → List ℕ → List ℕ → Type 0) (said heard : L → Seen → List ℕ → List ℕ → Type 0) (past : L → Past → Type 0)
+    (hops : Seen → List ℕ → List ℕ → List ℕ → Type 0) (refuses : Seen → Type 0) (f0 f1 : Option ClientFault) (rests : Type 0) (source next : Past → Type 0) (passed : Passed)
+    → line ≡ Some l → Others agrees read (said m) (heard m) hops refuses → ((x : Seen) (adapted text : List ℕ) → heard l x adapted text → heard m x adapted text) → IsTied h
+    → (shows h.history).closed ≡ false → SendPart h k (said l) (said m) f0 f1 rests (past l) (past m) passed
+    → Goes (Stands h agrees read (on_line said line) (heard_on_line heard line) hops refuses) (Stands k agrees read (on_line said (Some m)) (heard_on_line heard (Some m)) hops refuses)
+    source source (past_on past line) (past_on past (Some m)) next next
+send_goes {L} line l m h k agrees read said heard past hops refuses f0 f1 rests source next passed e u same tied c d =
+    subst (λ (z : Option L). Goes (Stands h agrees read (on_line said z) (heard_on_line heard z) hops refuses) (Stands k agrees read (said m) (heard m) hops refuses) source source (past_on past z) (past m) next next) (sym e)
+    (record {
+      delta = record { source_read = []; service_read = []; service_taken = d.delta; next_taken = []; back_taken = [] };
+      stands = λ t o. of_five (Stands k agrees read (said m) (heard m) hops refuses) _ _ _ _ _ _ _ _ _ _ (sym (append-nil t.source_read)) (sym (append-nil t.service_read)) refl (sym (append-nil t.next_taken)) (sym (append-nil t.back_taken))
+          (send_stands h k agrees read (said l) (said m) (heard l) (heard m) hops refuses f0 f1 rests (past l) (past m) passed t u same tied c d o);
+      source = λ p b. still source p b;
+      service = λ p b. let w = d.part.wire p b in (w.0, w.1, w.2);
+      next = λ p b. still next p b;
+    })
+
+pub hear_goes : {L : Type 0} (line : Option L) (l m : L) (h k : Holding) (agrees : Seen → Type 0) (read : Seen → List ℕ → List ℕ → Type 0) (said heard : L → Seen → List ℕ → List ℕ → Type 0) (past : L → Past → Type 0)
+    (hops : Seen → List ℕ → List ℕ → List ℕ → Type 0) (refuses : Seen → Type 0) (f0 f1 : Option ClientFault) (rests : Type 0) (source next : Past → Type 0) (passed : Passed)
+    → line ≡ Some l → Others agrees read (said m) (heard m) hops refuses → ((x : Seen) (came text : List ℕ) → said l x came text → said m x came text) → IsTied h
+    → (shows h.history).closed ≡ false → HearPart h k (heard l) (heard m) f0 f1 rests (past l) (past m) passed
+    → Goes (Stands h agrees read (on_line said line) (heard_on_line heard line) hops refuses) (Stands k agrees read (on_line said (Some m)) (heard_on_line heard (Some m)) hops refuses)
+    source source (past_on past line) (past_on past (Some m)) next next
+hear_goes {L} line l m h k agrees read said heard past hops refuses f0 f1 rests source next passed e u same tied c d =
+    subst (λ (z : Option L). Goes (Stands h agrees read (on_line said z) (heard_on_line heard z) hops refuses) (Stands k agrees read (said m) (heard m) hops refuses) source source (past_on past z) (past m) next next) (sym e)
+    (record {
+      delta = record { source_read = []; service_read = d.delta; service_taken = []; next_taken = []; back_taken = [] };
+      stands = λ t o. of_five (Stands k agrees read (said m) (heard m) hops refuses) _ _ _ _ _ _ _ _ _ _ (sym (append-nil t.source_read)) refl (sym (append-nil t.service_taken)) (sym (append-nil t.next_taken)) (sym (append-nil t.back_taken))
+          (hear_stands h k agrees read (said l) (said m) (heard l) (heard m) hops refuses f0 f1 rests (past l) (past m) passed t u same tied c d o);
+      source = λ p b. still source p b;
+      service = λ p b. let w = d.part.wire p b in (w.0, w.1, w.2);
+      next = λ p b. still next p b;
+    })
+
+-- A new beginning, where there is a service and where there is none.
+
+abbrev nil : List ℕ
+nil = []
+
+pub line_again : {V W : Type 0} (has_sent has_heard : Seen → List ℕ → List ℕ → V → Type 0) (line : Option (Line V W)) (l m : Line V W) (h k : Holding)
+    (agrees : Seen → Type 0) (read : Seen → List ℕ → List ℕ → Type 0) (hops : Seen → List ℕ → List ℕ → List ℕ → Type 0) (refuses : Seen → Type 0) (t : Texts)
+    → line ≡ Some l → Others agrees read (λ x came taken. has_sent x came taken m.side) (λ x adapted text. has_heard x adapted text m.side) hops refuses
+    → IsTied h → IsRoomy h → MayFollow h.history.plan h.history.events Retry → k ≡ moved h Retry []
+    → ((x : Seen) (came taken adapted text : List ℕ) → x.heard ≡ false → length came ≡ x.received → has_sent x came taken l.side → has_heard x adapted text l.side → has_sent (after x Retry) came [] m.side)
+    → ((x : Seen) (came taken adapted text : List ℕ) → x.heard ≡ false → length came ≡ x.received → has_sent x came taken l.side → has_heard x adapted text l.side → has_heard (after x Retry) [] [] m.side)
+    → ((x : Seen) (adapted text : List ℕ) (s : V) → has_heard x adapted text s → x.heard ≡ false → (adapted ≡ []) × (text ≡ []))
+    → Stands h agrees read (λ x came taken. MatchOption line (taken ≡ []) (λ z. has_sent x came taken z.side)) (λ x adapted text. MatchOption line ((adapted ≡ []) × (text ≡ [])) (λ z. has_heard x adapted text z.side)) hops refuses t
+    → Stands k agrees read (λ x came taken. has_sent x came taken m.side) (λ x adapted text. has_heard x adapted text m.side) hops refuses (record t { service_read = []; service_taken = [] })
+line_again {V} {W} has_sent has_heard line l m h k agrees read hops refuses t e u tied roomy f is again_sent again_heard unheard s =
+    retry_stands h k agrees read (λ x came taken. has_sent x came taken l.side) (λ x came taken. has_sent x came taken m.side) (λ x adapted text. has_heard x adapted text l.side) (λ x adapted text. has_heard x adapted text m.side) hops refuses t
+    u tied roomy f is (again_sent (shows h.history)) (again_heard (shows h.history)) (λ adapted text p. unheard (shows h.history) adapted text l.side p)
+    (subst (λ (z : Option (Line V W)). Stands h agrees read (λ x came taken. MatchOption z (taken ≡ []) (λ y. has_sent x came taken y.side)) (λ x adapted text. MatchOption z ((adapted ≡ []) × (text ≡ [])) (λ y. has_heard x adapted text y.side)) hops refuses t) e s)
+
+pub none_again : {V W : Type 0} (has_sent has_heard : Seen → List ℕ → List ℕ → V → Type 0) (line : Option (Line V W)) (h k : Holding)
+    (agrees : Seen → Type 0) (read : Seen → List ℕ → List ℕ → Type 0) (hops : Seen → List ℕ → List ℕ → List ℕ → Type 0) (refuses : Seen → Type 0) (t : Texts)
+    → line ≡ None
+    → Others agrees read (λ x came taken. MatchOption line (taken ≡ []) (λ z. has_sent x came taken z.side)) (λ x adapted text. MatchOption line ((adapted ≡ []) × (text ≡ [])) (λ z. has_heard x adapted text z.side)) hops refuses
+    → IsTied h → IsRoomy h → MayFollow h.history.plan h.history.events Retry → k ≡ moved h Retry []
+    → Stands h agrees read (λ x came taken. MatchOption line (taken ≡ []) (λ z. has_sent x came taken z.side)) (λ x adapted text. MatchOption line ((adapted ≡ []) × (text ≡ [])) (λ z. has_heard x adapted text z.side)) hops refuses t
+    → Stands k agrees read (λ x came taken. MatchOption line (taken ≡ []) (λ z. has_sent x came taken z.side)) (λ x adapted text. MatchOption line ((adapted ≡ []) × (text ≡ [])) (λ z. has_heard x adapted text z.side)) hops refuses (record t { service_read = []; service_taken = [] })
+none_again {V} {W} has_sent has_heard line h k agrees read hops refuses t e u tied roomy f is s =
+    retry_stands h k agrees read (λ x came taken. MatchOption line (taken ≡ []) (λ z. has_sent x came taken z.side)) (λ x came taken. MatchOption line (taken ≡ []) (λ z. has_sent x came taken z.side))
+    (λ x adapted text. MatchOption line ((adapted ≡ []) × (text ≡ [])) (λ z. has_heard x adapted text z.side)) (λ x adapted text. MatchOption line ((adapted ≡ []) × (text ≡ [])) (λ z. has_heard x adapted text z.side)) hops refuses t
+    u tied roomy f is
+    (λ came taken adapted text q n p r. subst (λ (z : Option (Line V W)). MatchOption z (nil ≡ nil) (λ y. has_sent (after (shows h.history) Retry) came [] y.side)) (sym e) refl)
+    (λ came taken adapted text q n p r. subst (λ (z : Option (Line V W)). MatchOption z ((nil ≡ nil) × (nil ≡ nil)) (λ y. has_heard (after (shows h.history) Retry) [] [] y.side)) (sym e) (refl, refl))
+    (λ adapted text p q. subst (λ (z : Option (Line V W)). MatchOption z ((adapted ≡ []) × (text ≡ [])) (λ y. has_heard (shows h.history) adapted text y.side)) e p)
+    s
+
+-- the beginning
+
+pub begins : {V W K : Type 0} (has_sent has_heard : Seen → List ℕ → List ℕ → V → Type 0) (has_given : Seen → List ℕ → List ℕ → List ℕ → K → Type 0) (gift : K → Gift) (aside : List ℕ → K → Type 0)
+    (h : Holding) (plan : Plan) (agrees : Seen → Type 0) (read : Seen → List ℕ → List ℕ → Type 0) (line : Option (Line V W)) (next back : K)
+    → h.history ≡ record { plan = plan; events = [] } → h.original ≡ record { base = 0; bytes = [] } → h.adapted ≡ record { base = 0; bytes = [] }
+    → agrees (seen plan []) → read (seen plan []) [] [] → IfSome line (λ l. has_sent (seen plan []) [] [] l.side × has_heard (seen plan []) [] [] l.side)
+    → gift next ≡ nothing → aside [] next → gift back ≡ nothing → aside [] back
+    → Stands h agrees read (λ x came taken. MatchOption line (taken ≡ []) (λ l. has_sent x came taken l.side)) (λ x adapted text. MatchOption line ((adapted ≡ []) × (text ≡ [])) (λ l. has_heard x adapted text l.side))
+    (HopsAre (gift next) (gift back) (λ x head body taken. has_given x head body taken next) (λ taken. aside taken next) (λ x head body taken. has_given x head body taken back) (λ taken. aside taken back))
+    (IsRefusing false (gift next) (gift back)) no_texts
+begins {V} {W} {K} has_sent has_heard has_given gift aside h plan agrees read line next back eh eo ea ag re sides ng na bg ba = record {
+  original = [];
+  adapted = [];
+  original_is = subst (λ (s : Span). EndsBody s []) (sym eo) empty;
+  adapted_is = subst (λ (s : Span). EndsBody s []) (sym ea) empty;
+  agrees_is = λ c. subst (λ (y : History). agrees (shows y)) (sym eh) ag;
+  read_is = subst (λ (y : History). read (shows y) [] []) (sym eh) re;
+  sent_is = subst (λ (y : History). MatchOption line (nil ≡ nil) (λ l. has_sent (shows y) [] [] l.side)) (sym eh) (sent line sides);
+  heard_is = subst (λ (y : History). MatchOption line ((nil ≡ nil) × (nil ≡ nil)) (λ l. has_heard (shows y) [] [] l.side)) (sym eh) (heard line sides);
+  hops_are = inl (record { next_is = ng; back_is = bg; none = subst (λ (y : History). IsUndelivered (shows y)) (sym eh) (refl, refl); next_aside_is = na; back_aside_is = ba });
+  refuses_is = λ e. absurd (false≢true e);
+}
+  where
+    empty : EndsBody (record { base = 0; bytes = [] }) []
+    empty = record { end = refl; bytes = refl }
+
+    sent : (z : Option (Line V W)) → IfSome z (λ l. has_sent (seen plan []) [] [] l.side × has_heard (seen plan []) [] [] l.side) → MatchOption z (nil ≡ nil) (λ l. has_sent (seen plan []) [] [] l.side)
+    sent None s = refl
+    sent (Some l) s = s.0
+
+    heard : (z : Option (Line V W)) → IfSome z (λ l. has_sent (seen plan []) [] [] l.side × has_heard (seen plan []) [] [] l.side) → MatchOption z ((nil ≡ nil) × (nil ≡ nil)) (λ l. has_heard (seen plan []) [] [] l.side)
+    heard None s = (refl, refl)
+    heard (Some l) s = s.1

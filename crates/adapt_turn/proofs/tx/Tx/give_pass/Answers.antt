@@ -1,0 +1,15 @@
+use Rattle.adapt_turn.proofs.Together.{others_of}
+use Rattle.adapt_turn.proofs.Giving.{next_goes, back_goes}
+use Rattle.adapt_turn.proofs.tx.Tx.give_pass.Goals as goal
+
+pub returns-then-is_idle-clause-goes : goal.returns-then-is_idle-clause-goes
+returns-then-is_idle-clause-goes g c =
+    next_goes c.args.self.now.hold c.give.new.hold _ _ _ _ (g.K.Hop.gift c.args.self.now.next) (g.K.Hop.gift c.give.new.hop) (g.K.Hop.gift c.args.self.now.back) _ _ _ _ _ _ c.args.self.now.refusing _ _ _ _ _ _ _ _ c.give.result
+    (others_of g.S.Source.agrees g.S.Source.has_read g.V.Service.has_sent g.V.Service.has_heard g.K.Hop.has_given g.K.Hop.gift g.K.Hop.aside g.met.S.Source.others_agree g.met.S.Source.others g.met.V.Service.others_sent g.met.V.Service.others_heard g.met.K.Hop.others c.args.self.now.source c.args.self.now.service c.give.new.hop c.args.self.now.back c.args.self.now.refusing)
+    c.state-state.ensures.tied c.requires.running (c.is_idle.ensures.idle c.if-is_idle.true) (λ n. c.requires.begun n (c.is_idle.ensures.idle c.if-is_idle.true)) c.give.ensures.gift c.give.ensures.part
+
+pub returns-else-is_idle-clause-goes : goal.returns-else-is_idle-clause-goes
+returns-else-is_idle-clause-goes g c =
+    back_goes c.args.self.now.hold c.give-else-is_idle.new.hold _ _ _ _ (g.K.Hop.gift c.args.self.now.next) (g.K.Hop.gift c.args.self.now.back) (g.K.Hop.gift c.give-else-is_idle.new.hop) _ _ _ _ _ _ c.args.self.now.refusing _ _ _ _ _ _ _ _ c.give-else-is_idle.result
+    (others_of g.S.Source.agrees g.S.Source.has_read g.V.Service.has_sent g.V.Service.has_heard g.K.Hop.has_given g.K.Hop.gift g.K.Hop.aside g.met.S.Source.others_agree g.met.S.Source.others g.met.V.Service.others_sent g.met.V.Service.others_heard g.met.K.Hop.others c.args.self.now.source c.args.self.now.service c.args.self.now.next c.give-else-is_idle.new.hop c.args.self.now.refusing)
+    c.state-state.ensures.tied c.requires.running (c.is_idle.ensures.busy c.if-is_idle.false) c.give-else-is_idle.ensures.gift c.give-else-is_idle.ensures.part

@@ -1,0 +1,13 @@
+use Rattle.adapt_turn.proofs.Together.{others_of, source_goes, disagree_goes}
+use Rattle.adapt_turn.proofs.tx.Tx.source_pass.Goals as goal
+
+pub returns-then-agrees_with-clause-goes : goal.returns-then-agrees_with-clause-goes
+returns-then-agrees_with-clause-goes g c =
+    source_goes c.args.self.now.hold c.read_source.new.hold _ _ _ _ _ _ _ _ _ _ _ _ _ _ _ c.read_source.result
+    (others_of g.S.Source.agrees g.S.Source.has_read g.V.Service.has_sent g.V.Service.has_heard g.K.Hop.has_given g.K.Hop.gift g.K.Hop.aside g.met.S.Source.others_agree g.met.S.Source.others g.met.V.Service.others_sent g.met.V.Service.others_heard g.met.K.Hop.others c.read_source.new.source c.args.self.now.service c.args.self.now.next c.args.self.now.back c.args.self.now.refusing)
+    c.state-state.ensures.tied c.read_source.ensures.part
+
+pub returns-else-agrees_with-clause-goes : goal.returns-else-agrees_with-clause-goes
+returns-else-agrees_with-clause-goes g c =
+    disagree_goes c.args.self.now.hold c.state-state.result.now (λ x. g.S.Source.agrees x c.args.self.now.source) _ _ _ _ _ _ _ _ _
+    c.requires.running c.state-state.ensures.state (c.agrees_with.ensures.no c.if-agrees_with.false)

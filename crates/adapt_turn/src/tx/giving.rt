@@ -1,0 +1,173 @@
+//! A pass of the side that the chosen message goes to.
+
+ghost use Rattle.std.specs.Prelude.{◌≡◌, true, false, Some, None};
+ghost use Rattle.trace_core.specs.declared.history.Cause.{Cause};
+ghost use Rattle.adapt_sides.specs.Turns.{Gift};
+ghost use Rattle.adapt_sides.specs.Turns.Gift.{nothing};
+ghost use Rattle.adapt_hold.specs.Holding.{shows};
+ghost use Rattle.adapt_turn.specs.Stands.{IsChosen};
+
+use crate::forward::Forward;
+use crate::parts::{Passed, give};
+use crate::start::Line;
+use crate::tx::passes::idle;
+use crate::tx::{Going, Tx};
+use adapt_hold::{Hold, fail};
+use adapt_sides::{Hop, Service, Source};
+use span_bank::{Bank, Ledgers};
+use std::alloc::Global;
+use std::sync::Wait;
+use trace_core::{Cause, Point};
+use wire_kit::Wire;
+
+/// The head of the chosen message, and how its body goes.
+fn forwarded<B: Ledgers, S: Source, V: Service, K: Hop, F: Forward<S, K>, W>(
+    alloc: Global,
+    forward: &mut F,
+    hold: &Hold<B>,
+    source: &S,
+    service: &Option<Line<V, W>>,
+) -> Result<(Vec<u8>, K::Framing), Cause> {
+    let state = hold.state();
+    match service {
+        Some(line) if state.seen().modified => forward.forward(
+            alloc,
+            state,
+            source,
+            line.side.adapted_head(),
+            line.side.is_response(),
+        ),
+        _ => forward.forward(alloc, state, source, None, false),
+    }
+}
+
+impl<B: Ledgers, S: Source, V: Service, K: Hop, F: Forward<S, K>, A: Wire, W: Wire, C: Wire> Tx<
+    B,
+    S,
+    V,
+    K,
+    F,
+    A,
+    W,
+    C,
+> {
+    /// Whether a message is chosen for the next hop.
+    fn is_chosen(&self) -> bool
+        ensures { result ≡ true → IsChosen (shows self.now.hold.history) }
+    {
+        let state = self.hold.state();
+        state.chooses_original() || state.seen().modified
+    }
+
+    /// Whether the adapted message is an answer to the user, though a request was offered.
+    fn answers_user(&self) -> bool {
+        let seen = self.hold.state().seen();
+        match &self.service {
+            Some(line) => seen.modified
+                && matches!(seen.plan.point, Point::Reqmod)
+                && line.side.is_response(),
+            None => false,
+        }
+    }
+
+    /// Begins the chosen message, where none is begun, or says why the transaction was closed in place of it.
+    fn begin(&mut self, rt: &impl Wait, bank: &Bank<B>) -> Option<Cause>
+        requires running { (shows self.old.hold.history).closed ≡ false }
+        ensures goes { ⟦<Self as Going>⟧.goes self.old self.new }
+        ensures begun { result ≡ None → self.new.hold ≡ self.old.hold }
+        ensures over { (cause : Cause) → result ≡ Some cause → (shows self.new.hold.history).closed ≡ true }
+        ensures busy { result ≡ None → K.gift self.new.next ≡ nothing → K.gift self.new.back ≡ nothing → ⊥ }
+    {
+        if !self.next.is_idle() {
+            return None;
+        }
+        if !self.back.is_idle() {
+            return None;
+        }
+        self.begin_message(rt, bank)
+    }
+
+    /// Begins the chosen message.
+    fn begin_message(&mut self, rt: &impl Wait, bank: &Bank<B>) -> Option<Cause>
+        requires running { (shows self.old.hold.history).closed ≡ false }
+        requires next { K.gift self.old.next ≡ nothing }
+        requires back { K.gift self.old.back ≡ nothing }
+        ensures goes { ⟦<Self as Going>⟧.goes self.old self.new }
+        ensures begun { result ≡ None → self.new.hold ≡ self.old.hold }
+        ensures over { (cause : Cause) → result ≡ Some cause → (shows self.new.hold.history).closed ≡ true }
+        ensures busy { result ≡ None → K.gift self.new.next ≡ nothing → K.gift self.new.back ≡ nothing → ⊥ }
+    {
+        let _state = self.hold.state();
+        let answers = self.answers_user();
+        let made = forwarded::<B, S, V, K, F, W>(
+            self.alloc,
+            &mut self.forward,
+            &self.hold,
+            &self.source,
+            &self.service,
+        );
+        match made {
+            Ok((head, framing)) => {
+                if answers {
+                    self.back.begin(head, framing);
+                } else {
+                    self.next.begin(head, framing);
+                }
+                None
+            }
+            Err(cause) => {
+                fail(rt, bank, &mut self.hold, cause);
+                Some(cause)
+            }
+        }
+    }
+
+    /// A pass of the message's writer, which was begun.
+    fn give_pass(&mut self, rt: &impl Wait, bank: &Bank<B>) -> Passed
+        requires running { (shows self.old.hold.history).closed ≡ false }
+        requires chosen { IsChosen (shows self.old.hold.history) }
+        requires begun { K.gift self.old.next ≡ nothing → K.gift self.old.back ≡ nothing → ⊥ }
+        ensures goes { ⟦<Self as Going>⟧.goes self.old self.new }
+        ensures over { (cause : Cause) → result.failed ≡ Some cause → (shows self.new.hold.history).closed ≡ true }
+        ensures whole { result.broken ≡ false }
+    {
+        let _state = self.hold.state();
+        if self.back.is_idle() {
+            give(
+                rt,
+                bank,
+                &mut self.hold,
+                &mut self.next,
+                &mut self.next_wire,
+            )
+        } else {
+            give(
+                rt,
+                bank,
+                &mut self.hold,
+                &mut self.back,
+                &mut self.source_wire,
+            )
+        }
+    }
+
+    /// A pass of the next hop's side: nothing is due before a message is chosen.
+    pub(crate) fn next_pass(&mut self, rt: &impl Wait, bank: &Bank<B>) -> Passed
+        requires running { (shows self.old.hold.history).closed ≡ false }
+        ensures goes { ⟦<Self as Going>⟧.goes self.old self.new }
+        ensures over { (cause : Cause) → result.failed ≡ Some cause → (shows self.new.hold.history).closed ≡ true }
+        ensures whole { result.broken ≡ false }
+    {
+        if !self.is_chosen() {
+            return idle();
+        }
+        if let Some(cause) = self.begin(rt, bank) {
+            return Passed {
+                waiting: false,
+                failed: Some(cause),
+                broken: false,
+            };
+        }
+        self.give_pass(rt, bank)
+    }
+}
