@@ -4,7 +4,7 @@ use Rattle.trace_core.specs.declared.history.Event.{Event}
 use Rattle.trace_core.specs.declared.history.Seen.{Seen}
 use Rattle.wire_kit.specs.Past.{Past}
 use Rattle.trace_core.specs.Turns.{in_sum, after_all}
-use Rattle.http_relay.specs.Source.{Agrees, BodyReads, MustWait, Refuses}
+use Rattle.http_relay.specs.Source.{Agrees, BodyReads, IsCutShort, MustWait, Refuses}
 use Rattle.wire_kit.specs.Past.{IsLater}
 use Rattle.http_relay.specs.Reasons.{IsExplained}
 use Rattle.adapt_sides.specs.Turns.{SaysWaiting, Remembers, ReadsBody, events_of, waits_of}
@@ -185,12 +185,12 @@ turn_end room old new P Q out t m f b zero some w =
 
 -- the connection was closed within the message
 pub turn_ended : (room : ℕ) (old new : SourceSide) (P Q : Past → Type 0) (out : List ℕ) (fault : RelayFault) → SameSide old new → old.raw.items ≡ [] → IsFilled P Q old.raw.items new.raw.items filled.Ended
-    → Refuses fault old.body [] ⊎ (fault ≡ Closed) → ReadTurn room old new P Q out (Err fault)
+    → Refuses fault old.body [] ⊎ ((fault ≡ Closed) × IsCutShort old.body) → ReadTurn room old new P Q out (Err fault)
 turn_ended room old new P Q out fault m empty f r =
-    let not_device : fault ≡ Device → ⊥ = λ e. elim r [ inl h ↦ (not_wire fault old.body [] h).1 e | inr h ↦ (let odd : Closed ≡ Device = sym h ∙ e in cc) ] in
+    let not_device : fault ≡ Device → ⊥ = λ e. elim r [ inl h ↦ (not_wire fault old.body [] h).1 e | inr h ↦ (let odd : Closed ≡ Device = sym h.0 ∙ e in cc) ] in
     let here : IsCause fault new = elim r [
       | inl h ↦ inr (inr (inr (subst (λ (t : List ℕ). Refuses fault new.body t) (sym (f.0 ∙ empty)) (subst (λ (b : SourceBody). Refuses fault b []) (sym m.body) h))))
-      | inr h ↦ inl h
+      | inr h ↦ inl (h.0, subst (λ (b : SourceBody). IsCutShort b) (sym m.body) h.1)
     ] in
     record {
       delta = [];
@@ -275,7 +275,7 @@ turn_kept room old mid new P Q out result m r t =
       };
       waiting = t.waiting;
       waits = λ w. subst (λ (b : SourceBody). MustWait b new.raw.items room) (sym m.body) (subst (λ (i : List ℕ). MustWait mid.body i room) (sym r) (t.waits w));
-      cause = λ f e. subst (λ (b : SourceBody). (f ≡ Closed) ⊎ ((f ≡ Device) ⊎ ((f ≡ NoMemory) ⊎ Refuses f b new.raw.items))) (sym m.body) (subst (λ (i : List ℕ). (f ≡ Closed) ⊎ ((f ≡ Device) ⊎ ((f ≡ NoMemory) ⊎ Refuses f mid.body i))) (sym r) (t.cause f e));
+      cause = λ f e. subst (λ (b : SourceBody). ((f ≡ Closed) × IsCutShort b) ⊎ ((f ≡ Device) ⊎ ((f ≡ NoMemory) ⊎ Refuses f b new.raw.items))) (sym m.body) (subst (λ (i : List ℕ). ((f ≡ Closed) × IsCutShort mid.body) ⊎ ((f ≡ Device) ⊎ ((f ≡ NoMemory) ⊎ Refuses f mid.body i))) (sym r) (t.cause f e));
     }
 
 -- so it is what a transaction asks of a source

@@ -10,7 +10,7 @@ use Rattle.trace_core.specs.declared.history.Event.{Event}
 use Rattle.trace_core.specs.declared.history.Seen.{Seen}
 use Rattle.wire_kit.specs.Past.{Past}
 use Rattle.trace_core.specs.Turns.{after_all, MayAllFollow, AllAre, in_sum, is_of_source}
-use Rattle.http_relay.specs.Source.{known, Agrees, BodyRead, MustWait, Refuses}
+use Rattle.http_relay.specs.Source.{known, Agrees, BodyRead, IsCutShort, MustWait, Refuses}
 use Rattle.wire_kit.specs.Past.{IsLater}
 use Rattle.http_relay.specs.Reasons.{IsExplained}
 use Rattle.adapt_sides.specs.Turns.{SaysWaiting, events_of, waits_of}
@@ -113,9 +113,9 @@ IsFilled before after old new filled.NoMemory = (new ≡ old) × ((p : Past) →
 
 -- ---- a turn of a side without a fault
 
--- the fault is the wire's, or want of memory, or that of the raw bytes
+-- the fault is the wire's, which closed within the body or failed, or want of memory, or that of the raw bytes
 abbrev pub IsCause : RelayFault → SourceSide → Type 0
-IsCause fault s = (fault ≡ Closed) ⊎ ((fault ≡ Device) ⊎ ((fault ≡ NoMemory) ⊎ Refuses fault s.body s.raw.items))
+IsCause fault s = ((fault ≡ Closed) × IsCutShort s.body) ⊎ ((fault ≡ Device) ⊎ ((fault ≡ NoMemory) ⊎ Refuses fault s.body s.raw.items))
 
 pub record ReadTurn (room : ℕ) (old new : SourceSide) (before after : Past → Type 0) (out : List ℕ) (result : Result Turn RelayFault) : Type 0 where
   pub delta : List ℕ

@@ -49,6 +49,10 @@ pub record BodyReads (old new : SourceBody) (events : List Event) (bytes part : 
 abbrev pub MustWait : SourceBody → List ℕ → ℕ → Type 0
 MustWait s raw room = (s.ended ≡ true) ⊎ ((raw ≡ []) ⊎ ((room ≡ 0) × IsBodyNext s.reader raw))
 
+-- the close cuts the body short
+abbrev pub IsCutShort : SourceBody → Type 0
+IsCutShort s = (way : Framing) (text body : List ℕ) → HasRead way text body s.reader → IsClosedBody way text body → ⊥
+
 -- Why bytes of a body are refused. For its length only where there may be 2^62 of them, which no Content-Length allows.
 abbrev pub Refuses : RelayFault → SourceBody → List ℕ → Type 0
 Refuses faults.Chunk s raw = (fault : ChunkFault) × IsBroken s.reader raw fault

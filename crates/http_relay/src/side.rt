@@ -263,7 +263,7 @@ impl SourceSide {
 
     /// Whether a byte of the message was read: of its head, or of an interim response before it that isn't whole.
     pub fn has_begun(&self) -> bool
-        ensures { result ≡ false → (self.now.head ≡ SourceHead.Unread) × (self.now.raw.items ≡ []) }
+        ensures { result ≡ false ↔ ((self.now.head ≡ SourceHead.Unread) × (self.now.raw.items ≡ [])) }
     {
         !self.is_unread() || !self.raw.is_empty()
     }
@@ -273,6 +273,7 @@ impl SourceSide {
     pub fn begins(&self, plan: &Plan) -> bool
         ensures read { result ≡ true → self.now.head ≡ SourceHead.Unread → ⊥ }
         ensures fault { result ≡ true → self.now.fault ≡ None }
+        ensures refuses { result ≡ false → self.now.fault ≡ None → (self.now.head ≡ SourceHead.Unread → ⊥) → Agrees (seen plan.now []) self.now.body → ⊥ }
         ensures agrees { result ≡ true → (x : Seen) → x.plan ≡ plan.now → x.received ≡ 0 → x.ended ≡ false → Agrees x self.now.body }
     {
         !self.is_unread() && self.fault.is_none() && self.body.begins(plan.len)

@@ -1,11 +1,10 @@
 //! A source's body: bytes in, In and End out, and nothing of wires.
 
 ghost use Rattle.std.specs.Prelude.{◌≡◌, ℕ, ◌+◌, ◌<◌, ◌≤◌, ◌↔◌, ◌⊎◌, List, [], length, take, drop, IfOk, IfErr, OnErr, IfSome, Some, true, false, IsTrue};
-ghost use Rattle.http_side.specs.Body.{HasRead, is_over, IsClosedBody};
+ghost use Rattle.http_side.specs.Body.{HasRead};
 ghost use Rattle.trace_core.specs.Turns.{in_sum};
 ghost use Rattle.http_relay.specs.Events.{body_events};
-ghost use Rattle.http_relay.specs.Source.{Agrees, Fits, BodyReads, MustWait, Refuses, known};
-ghost use Rattle.http_side.specs.declared.body.Framing.{Framing as Way};
+ghost use Rattle.http_relay.specs.Source.{Agrees, Fits, BodyReads, IsCutShort, MustWait, Refuses, known};
 
 use crate::body::read_body;
 use adapt_sides::RelayFault;
@@ -75,7 +74,7 @@ impl SourceBody {
 
     /// Whether nothing of it was told yet, and this length, if there is one, is the framing's.
     pub(crate) fn begins(&self, len: Option<u64>) -> bool
-        ensures { result ≡ true → (self.now.received ≡ 0) × (self.now.ended ≡ false) × IfSome len (λ n. known self.now.framing ≡ Some n) }
+        ensures { IsTrue result ↔ ((self.now.received ≡ 0) × (self.now.ended ≡ false) × IfSome len (λ n. known self.now.framing ≡ Some n)) }
     {
         self.received == 0 && !self.ended && self.has_length(len)
     }
@@ -153,7 +152,7 @@ impl SourceBody {
         ensures none { IfOk result (λ events. in_sum events.items ≡ 0) }
         ensures some { IfOk result (λ events. events.items ≡ body_events 0 true) }
         ensures reads { IfOk result (λ events. BodyReads self.old self.new events.items [] []) }
-        ensures refuses { IfErr result (λ fault. Refuses fault self.old [] ⊎ ((fault ≡ RelayFault.Closed) × ((way : Way) (text body : List ℕ) → HasRead way text body self.old.reader → IsClosedBody way text body → ⊥))) }
+        ensures refuses { IfErr result (λ fault. Refuses fault self.old [] ⊎ ((fault ≡ RelayFault.Closed) × IsCutShort self.old)) }
         ensures err { OnErr result (self.new ≡ self.old) }
         ensures framing { self.new.framing ≡ self.old.framing }
     {

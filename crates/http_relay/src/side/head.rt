@@ -1,6 +1,6 @@
 //! The head of a source's message, and the interim responses before it (RFC 9112, sections 2 to 5; RFC 9110, section 15.2).
 
-ghost use Rattle.std.specs.Prelude.{◌≡◌, ◌<◌, ◌≤◌, ◌⊎◌, [], length, drop, IfOk, IfErr, None, true, false, List, ℕ, IfSome, Some, Err};
+ghost use Rattle.std.specs.Prelude.{◌≡◌, ◌<◌, ◌≤◌, ◌⊎◌, [], length, drop, IfOk, IfErr, None, true, false, List, ℕ, IfSome, Some, Ok, Err};
 ghost use Rattle.http_relay.specs.Judging.{has_line, RefusesBytes, IsLooking, Judges, Scans};
 ghost use Rattle.http_relay.specs.Reading.{AtHead, HeadTurn, JudgedTo, ScannedTo};
 
@@ -208,6 +208,7 @@ impl SourceSide {
     pub fn head_turn<W: Wire>(&mut self, wire: &mut W) -> Result<bool, RelayFault>
         ensures turn { self.old.fault ≡ None → self.old.head ≡ SourceHead.Unread → HeadTurn self.old self.new (W.past wire.old) (W.past wire.new) result }
         ensures empty { self.old.fault ≡ None → self.old.head ≡ SourceHead.Unread → self.new.raw.items ≡ [] → self.new.raw.spare ≡ 0 }
+        ensures read { self.old.fault ≡ None → (self.old.head ≡ SourceHead.Unread → ⊥) → (result ≡ Ok true) × (self.new ≡ self.old) }
         ensures stays { IfErr result (λ fault. self.new.fault ≡ Some fault) }
         ensures faulted { IfSome self.old.fault (λ fault. (result ≡ Err fault) × (self.new ≡ self.old)) }
     {

@@ -38,7 +38,7 @@ pub returns-in-Err-close-clause-turn : goal.returns-in-Err-close-clause-turn
 returns-in-Err-close-clause-turn g c =
     let new : SourceSide = record { alloc = c.args.self.now.alloc; asks = c.args.self.now.asks; head = c.args.self.now.head; head_fault = c.args.self.now.head_fault; body = c.close.new.self; raw = c.fill.new.raw; judged = c.args.self.now.judged; fault = c.args.self.now.fault } in
     turn_ended (length c.args.out.now) c.args.self.now new (g.W.Wire.past c.args.wire.now) (g.W.Wire.past c.fill.new.wire) c.args.out.now c.in-Err-close.fault (record { asks = refl; head = refl; body = c.in-Err-close.ensures.err }) c.requires.empty c.in-Ended.ensures.filled
-    (elim c.in-Err-close.ensures.refuses [ inl h ↦ inl h | inr h ↦ inr h.0 ])
+    c.in-Err-close.ensures.refuses
 
 pub returns-in-Failed-clause-turn : goal.returns-in-Failed-clause-turn
 returns-in-Failed-clause-turn g c =
