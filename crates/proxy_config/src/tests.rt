@@ -112,6 +112,13 @@ fn services_have_a_host_and_a_path(rt: HostRuntime) -> Result<(), Fail> {
             "respmod.path",
         ),
         ("[respmod]\nhost = \"127.0.0.1\"\npath = \"/a?b=c\"", "-"),
+    ];
+    check_faults(&rt, &cases)
+}
+
+#[test]
+fn services_have_numbers_within_their_ranges(rt: HostRuntime) -> Result<(), Fail> {
+    let cases = [
         (
             "[respmod]\nhost = \"127.0.0.1\"\nport = 0\npath = \"/\"",
             "respmod.port",

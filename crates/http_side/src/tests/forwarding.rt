@@ -10,9 +10,26 @@ use std::test::Fail;
 /// A user's request, the head that an origin gets, and the head that a service gets.
 type RequestCase<'a> = (&'a [u8], &'a [u8], &'a [u8]);
 
+fn check_requests(rt: &(impl Abort + AllocGlobal), cases: &[RequestCase<'_>]) -> Result<(), Fail> {
+    for (text, origin, service) in cases {
+        let user = read_request(rt.alloc(), *text, false)?;
+        let forward = Forward {
+            user: &user.value,
+            message: Message::Request(&user.value),
+            part: Part::Own,
+            body_read: true,
+        };
+        let head = forward_head(rt.alloc(), &forward)?;
+        assert_eq!(rt; head.as_slice(), *origin);
+        let head = encapsulated_head(rt.alloc(), &user.value, Message::Request(&user.value))?;
+        assert_eq!(rt; head.as_slice(), *service);
+    }
+    Ok(())
+}
+
 #[test]
-fn requests_to_origins_and_services(rt: HostRuntime) -> Result<(), Fail> {
-    let cases: [RequestCase<'_>; 6] = [
+fn targets_to_origins_and_services(rt: HostRuntime) -> Result<(), Fail> {
+    let cases: [RequestCase<'_>; 4] = [
         (
             b"GET http://o.test/a.txt HTTP/1.1\r\nHost: o.test\r\n\r\n",
             b"GET /a.txt HTTP/1.1\r\nHost: o.test\r\nConnection: close\r\nVia: 1.1 adaptproxy\r\n\r\n",
@@ -33,6 +50,13 @@ fn requests_to_origins_and_services(rt: HostRuntime) -> Result<(), Fail> {
             b"GET /x?y HTTP/1.1\r\nA: b\r\nhOST: [::1]:8\r\nConnection: close\r\nVia: 1.0 adaptproxy\r\n\r\n",
             b"GET http://[::1]:8/x?y HTTP/1.1\r\nA: b\r\nhOST: [::1]:8\r\n\r\n",
         ),
+    ];
+    check_requests(&rt, &cases)
+}
+
+#[test]
+fn fields_to_origins_and_services(rt: HostRuntime) -> Result<(), Fail> {
+    let cases: [RequestCase<'_>; 2] = [
         (
             b"POST http://o/ HTTP/1.0\r\nConnection: x, keep-alive, Host\r\nX: 1\r\nY:2 \r\nTE: trailers\r\nExpect: 100-continue\r\nContent-Length: 3\r\nContent-Length: 03\r\nEmpty: \r\nConnection: Z\r\nz: 1\r\n\r\n",
             b"POST / HTTP/1.1\r\nHost: o\r\nY: 2\r\nContent-Length: 3\r\nEmpty: \r\nConnection: close\r\nVia: 1.0 adaptproxy\r\n\r\n",
@@ -44,20 +68,7 @@ fn requests_to_origins_and_services(rt: HostRuntime) -> Result<(), Fail> {
             b"POST http://o/ HTTP/1.1\r\nHost: o\r\n\r\n",
         ),
     ];
-    for (text, origin, service) in cases {
-        let user = read_request(rt.alloc(), text, false)?;
-        let forward = Forward {
-            user: &user.value,
-            message: Message::Request(&user.value),
-            part: Part::Own,
-            body_read: true,
-        };
-        let head = forward_head(rt.alloc(), &forward)?;
-        assert_eq!(rt; head.as_slice(), origin);
-        let head = encapsulated_head(rt.alloc(), &user.value, Message::Request(&user.value))?;
-        assert_eq!(rt; head.as_slice(), service);
-    }
-    Ok(())
+    check_requests(&rt, &cases)
 }
 
 /// An adapted request goes to the origin of the user's target, whatever its own form, target and Host.
@@ -116,8 +127,8 @@ fn sent(rt: &impl Abort, alloc: Global, case: ResponseCase<'_>) -> Result<(), Fa
 }
 
 #[test]
-fn originals_to_users(rt: HostRuntime) -> Result<(), Fail> {
-    let cases: [ResponseCase<'_>; 5] = [
+fn originals_to_new_users(rt: HostRuntime) -> Result<(), Fail> {
+    let cases: [ResponseCase<'_>; 3] = [
         (
             NEW,
             b"HTTP/1.1 200 OK\r\nContent-Length: 6\r\n\r\n",
@@ -135,6 +146,24 @@ fn originals_to_users(rt: HostRuntime) -> Result<(), Fail> {
             b"HTTP/1.1 200 OK\r\nTransfer-Encoding: chunked\r\nVia: 1.1 adaptproxy\r\n\r\n",
         ),
         (
+            NEW,
+            b"HTTP/1.1 200 OK\r\nConnection: content-length, a\r\nContent-Length: 3\r\nA: b\r\n\r\n",
+            Part::Own,
+            Framing::Length(3),
+            false,
+            b"HTTP/1.1 200 OK\r\nContent-Length: 3\r\nVia: 1.1 adaptproxy\r\n\r\n",
+        ),
+    ];
+    for case in cases {
+        sent(&rt, rt.alloc(), case)?;
+    }
+    Ok(())
+}
+
+#[test]
+fn originals_to_old_users(rt: HostRuntime) -> Result<(), Fail> {
+    let cases: [ResponseCase<'_>; 2] = [
+        (
             OLD,
             b"HTTP/1.0 200\r\n\r\n",
             Part::Own,
@@ -149,14 +178,6 @@ fn originals_to_users(rt: HostRuntime) -> Result<(), Fail> {
             Framing::Length(3),
             true,
             b"HTTP/1.1 200 OK\r\nContent-Length: 3\r\nConnection: close\r\nVia: 1.1 adaptproxy\r\n\r\n",
-        ),
-        (
-            NEW,
-            b"HTTP/1.1 200 OK\r\nConnection: content-length, a\r\nContent-Length: 3\r\nA: b\r\n\r\n",
-            Part::Own,
-            Framing::Length(3),
-            false,
-            b"HTTP/1.1 200 OK\r\nContent-Length: 3\r\nVia: 1.1 adaptproxy\r\n\r\n",
         ),
     ];
     for case in cases {

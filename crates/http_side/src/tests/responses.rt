@@ -1,17 +1,47 @@
 //! Responses, and where their bodies end (RFC 9112, sections 4 and 6.3).
 use crate::{Framing, HttpFault, read_response};
+use std::process::Abort;
 
 /// A response, whether it answers a HEAD, and where its body ends.
 type FramingCase<'a> = (&'a [u8], bool, Result<Framing, HttpFault>);
 
+fn check_framings(rt: &(impl Abort + AllocGlobal), cases: &[FramingCase<'_>]) {
+    for (text, to_head, want) in cases {
+        let found = match read_response(rt.alloc(), *text, *to_head) {
+            Ok(head) => Ok(head.value.framing()),
+            Err(fault) => Err(fault),
+        };
+        assert_eq!(rt; found, *want, "{text:?}");
+    }
+}
+
 #[test]
-fn framings(rt: HostRuntime) {
-    let cases: [FramingCase<'_>; 16] = [
+fn bodies_by_length_chunks_and_close(rt: HostRuntime) {
+    let cases: [FramingCase<'_>; 5] = [
         (
             b"HTTP/1.1 200 OK\r\nContent-Length: 6\r\n\r\n",
             false,
             Ok(Framing::Length(6)),
         ),
+        (
+            b"HTTP/1.1 200 OK\r\nContent-Length: 06\r\nContent-Length: 6\r\n\r\n",
+            false,
+            Ok(Framing::Length(6)),
+        ),
+        (
+            b"HTTP/1.0 200 OK\r\nTransfer-Encoding: chunked\r\nContent-Length: 9\r\n\r\n",
+            false,
+            Ok(Framing::Chunked),
+        ),
+        (b"HTTP/1.1 099 No\r\n\r\n", false, Ok(Framing::Close)),
+        (b"HTTP/1.1 200\r\n\r\n", false, Ok(Framing::Close)),
+    ];
+    check_framings(&rt, &cases);
+}
+
+#[test]
+fn responses_without_a_body(rt: HostRuntime) {
+    let cases: [FramingCase<'_>; 5] = [
         (
             b"HTTP/1.1 200 OK\r\nContent-Length: 6\r\n\r\n",
             true,
@@ -29,18 +59,13 @@ fn framings(rt: HostRuntime) {
         ),
         (b"HTTP/1.1 100 Continue\r\n\r\n", false, Ok(Framing::None)),
         (b"HTTP/1.1 199 No\r\n\r\n", false, Ok(Framing::None)),
-        (b"HTTP/1.1 099 No\r\n\r\n", false, Ok(Framing::Close)),
-        (b"HTTP/1.1 200\r\n\r\n", false, Ok(Framing::Close)),
-        (
-            b"HTTP/1.0 200 OK\r\nTransfer-Encoding: chunked\r\nContent-Length: 9\r\n\r\n",
-            false,
-            Ok(Framing::Chunked),
-        ),
-        (
-            b"HTTP/1.1 200 OK\r\nContent-Length: 06\r\nContent-Length: 6\r\n\r\n",
-            false,
-            Ok(Framing::Length(6)),
-        ),
+    ];
+    check_framings(&rt, &cases);
+}
+
+#[test]
+fn refused_framings(rt: HostRuntime) {
+    let cases: [FramingCase<'_>; 6] = [
         (
             b"HTTP/1.1 200 OK\r\nContent-Length: x\r\nTransfer-Encoding: chunked\r\n\r\n",
             false,
@@ -64,11 +89,5 @@ fn framings(rt: HostRuntime) {
         (b"HTTP/1.1 20 OK\r\n\r\n", false, Err(HttpFault::Bad)),
         (b"HTTP/1.1 200 O\0K\r\n\r\n", false, Err(HttpFault::Bad)),
     ];
-    for (text, to_head, want) in cases {
-        let found = read_response(rt.alloc(), text, to_head);
-        match found {
-            Ok(head) => assert_eq!(rt; Ok(head.value.framing()), want, "{text:?}"),
-            Err(fault) => assert_eq!(rt; Err(fault), want, "{text:?}"),
-        }
-    }
+    check_framings(&rt, &cases);
 }
