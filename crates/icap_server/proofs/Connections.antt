@@ -1,6 +1,6 @@
 -- A connection, read by read.
 use Rattle.std.proofs.Common.{◌≡◌, ℕ, ◌++◌, List, [], take, refl, sym, ap, ◌∙◌, subst, append-nil, Bool, true, false, inl, inr, ◌⊎◌, Option, Some, None}
-use Rattle.std.specs.Io.KnownBytes.{Appends, Consumes, IsAtEnd}
+use Rattle.std.specs.Io.KnownBytes.{Consumes, IsAtEnd}
 use Rattle.std.proofs.KnownBytes.{Consumes-nil, Consumes-trans, Appends-nil, Appends-trans}
 use Rattle.icap_services.specs.Texts.{Shown, shown}
 use Rattle.icap_server.specs.declared.side.ServerSide.{ServerSide}

@@ -1,5 +1,5 @@
 -- A head of which only the last line has grown isn't whole yet, and nothing in it is wrong, if that line may still become one.
-use Rattle.std.proofs.Common.{◌≡◌, ◌≢◌, ℕ, zero, suc, ◌+◌, ◌-◌, ◌<◌, ◌≤◌, ◌⊎◌, List, [], ◌∷◌, ◌++◌, length, take, drop, get_or, slice_index, refl, sym, ap, ◌∙◌, subst, arith, append_assoc, append-nil, length-append, length-drop, length-take-le, take-append-drop, take_all, codes, All, Bool, true, false, eqb, Option, Some, None, IfSome, is_some, IsTrue, inl, inr}
+use Rattle.std.proofs.Common.{◌≡◌, ℕ, zero, suc, ◌+◌, ◌-◌, ◌<◌, ◌≤◌, List, [], ◌∷◌, ◌++◌, length, take, drop, get_or, slice_index, refl, sym, ap, ◌∙◌, subst, arith, append_assoc, append-nil, length-append, length-take-le, take_all, All, Bool, true, false, eqb, Option, Some, None, IfSome, is_some, IsTrue, inl, inr}
 use Rattle.std.specs.List.{flat_map, list_any}
 use Rattle.std.proofs.lemmas.Bool.{cases_lt, ne_eqb, eq-eqb, both_ways, or_parts}
 use Rattle.std.proofs.lemmas.Grind.{flat_map-append}
@@ -8,18 +8,17 @@ use Rattle.std.proofs.lemmas.List.Elements.{All-cons, All-append}
 use Rattle.adapt_bytes.specs.Text.{Lacks}
 use Rattle.httparse.specs.Grammar.{LineEnd, crlf, lf, print_end, Field as Line, print_field, IsField, print_section, ReadsSection, HasNoSection}
 use Rattle.httparse.proofs.GrammarLemmas.{section_unique, ReadsSection-append}
-use Rattle.icap_head.specs.declared.reading.HeadFault.{HeadFault}
-use Rattle.icap_head.specs.declared.reading.HeadFault.TheVariants.{More, StartLine, Version, Field, TooMany}
-use Rattle.icap_head.specs.FieldLines.{FieldsStand, HasTooMany, IsOpen, line_count}
+use Rattle.icap_head.specs.declared.reading.HeadFault.TheVariants.{More}
+use Rattle.icap_head.specs.FieldLines.{HasTooMany, IsOpen, line_count}
 use Rattle.icap_head.specs.Heads.{Stands}
-use Rattle.icap_head.specs.StartLines.{IsFirstLine, HasNoLine, LineStands, RequestForm, without_cr}
+use Rattle.icap_head.specs.StartLines.{IsFirstLine, RequestForm, without_cr}
 use Rattle.icap_head.proofs.Follows.{unended_short}
 use Rattle.icap_head.proofs.Lacking.{lacks_cut}
 use Rattle.icap_head.proofs.Readings.{first-append}
-use Rattle.icap_head.proofs.Sections.{OneLine, all_take, count_at, field_line, line_count-append, lines_count, open_lines, too_many_count}
+use Rattle.icap_head.proofs.Sections.{all_take, count_at, field_line, line_count-append, lines_count, open_lines, too_many_count}
 use Rattle.icap_head.proofs.Totals.{first_feed}
 use Rattle.adapt_bytes.specs.Text.{is_token_byte, IsToken}
-use Rattle.httparse.specs.Grammar.{AllPass, is_value_byte}
+use Rattle.httparse.specs.Grammar.{is_value_byte}
 use Rattle.icap_head.proofs.Trimmed.{token_name}
 use Rattle.icap_server.specs.declared.line_front.Place.{Place}
 use Rattle.icap_server.specs.declared.line_front.Place.TheVariants.{Start, Name, Value, Return}

@@ -1,5 +1,5 @@
 -- No stream is without an answer.
-use Rattle.std.proofs.Common.{◌≡◌, ◌≢◌, ℕ, zero, suc, ◌+◌, ◌-◌, ◌<◌, ◌≤◌, ◌⊎◌, ◌++◌, List, [], ◌∷◌, length, take, drop, refl, sym, ap, ◌∙◌, subst, arith, append_assoc, append-nil, length-append, length-drop, length-take-le, length-take, codes, Bool, true, false, Some, None, Option, inl, inr}
+use Rattle.std.proofs.Common.{◌≡◌, ℕ, zero, suc, ◌+◌, ◌-◌, ◌<◌, ◌≤◌, ◌⊎◌, ◌++◌, List, [], ◌∷◌, length, take, drop, refl, sym, ap, ◌∙◌, subst, arith, append_assoc, append-nil, length-append, length-drop, length-take-le, codes, Bool, true, false, Some, None, inl, inr}
 use Rattle.std.proofs.lemmas.Bool.{cases_lt, cases_Bool}
 use Rattle.encapsulated.specs.declared.message.Direction.TheVariants.{Request as OfRequest}
 use Rattle.encapsulated.specs.declared.message.Method.{Method}
@@ -26,7 +26,7 @@ use Rattle.icap_services.specs.Texts.{Shown, options_text, continue_text, error_
 use Rattle.icap_server.specs.declared.call.Call.{Call}
 use Rattle.icap_server.specs.declared.call.Verdict.{Verdict}
 use Rattle.icap_server.specs.declared.call.Verdict.TheVariants.{Refused, Describes, Offers}
-use Rattle.icap_server.specs.Answers.{First, Opens, IsFirst, Follows, ReadsBody, ReadsChunks, EndsBody, EndsFirst, ReadsRest, EndsRest, Leads, Answers, IsOver, body_limit, due_to, answered, null_preview}
+use Rattle.icap_server.specs.Answers.{First, IsFirst, Follows, ReadsBody, ReadsChunks, EndsBody, EndsFirst, ReadsRest, EndsRest, Answers, IsOver, body_limit, due_to, answered, null_preview}
 use Rattle.icap_server.specs.Answers.First.{whole, last}
 use Rattle.icap_server.specs.Answers.Leads.{here, behind}
 use Rattle.icap_server.specs.HeadParts.{IsHead, BreaksHead, OpenHead, HeadsWhole, HeadsBroken, HeadsOpen, middle, ends_blank, has_head_sizes}

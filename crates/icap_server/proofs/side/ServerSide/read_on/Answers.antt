@@ -1,4 +1,4 @@
-use Rattle.std.proofs.Common.{◌≡◌, ◌++◌, List, ℕ, [], take, sym, ap, ◌∙◌, subst, append_assoc, append-nil}
+use Rattle.std.proofs.Common.{◌≡◌, ◌++◌, List, ℕ, take, sym, ap, ◌∙◌, subst, append_assoc, append-nil}
 use Rattle.icap_services.specs.Texts.{shown}
 use Rattle.icap_server.specs.Served.{Serves}
 use Rattle.icap_server.proofs.side.ServerSide.read_on.Goals as goal
