@@ -7,12 +7,12 @@ use Rattle.trace_core.specs.declared.history.Seen.{Seen}
 use Rattle.wire_kit.specs.Past.{Past}
 use Rattle.icap_client.specs.Events.{May, ad_sum}
 use Rattle.icap_client.specs.Heard.{Reader}
-use Rattle.icap_client.specs.Hearing.{MustWait}
+use Rattle.icap_client.specs.HeadFront.{HasToWait}
 use Rattle.icap_client.specs.Refused.{Refuses}
 use Rattle.icap_client.specs.Reading.{Side, GivesBack, SideHears, IsFilled, IsLaterRead, NothingToRead, HasReason, IsRefused, IsUnheard, CameOf, ReadTurn}
 use Rattle.adapt_sides.specs.declared.fault.ClientFault.{ClientFault}
 use Rattle.adapt_sides.specs.declared.fault.ClientFault.TheVariants.{Closed, Device, NoMemory, NotLegal}
-use Rattle.icap_client.specs.declared.side.Filled.TheVariants as filled
+use Rattle.icap_client.specs.declared.filled.Filled.TheVariants as filled
 use Rattle.adapt_sides.specs.declared.turn.Turn.{Turn}
 use Rattle.icap_client.specs.declared.stage.Stage.{Stage}
 use Rattle.icap_client.specs.declared.stage.Stage.TheVariants.{Replies, Head, Body, Over}
@@ -64,7 +64,7 @@ turn_spoke x a room old new P out t h l w some = record {
 
 -- nothing is to be read
 pub turn_idle : (x : Seen) (a : Bool) (room : ℕ) (old new : Side) (P : Past → Type 0) (out : List ℕ) (t : Turn) → SideHears x old new t.events.items [] (take (ad_sum t.events.items) out) → ad_sum t.events.items ≤ room
-    → t.waiting ≡ true → t.events.items ≡ [] → MustWait new.reader.stage new.raw room → NothingToRead x a room new.reader.stage → ReadTurn x a room old new P P out (Ok t)
+    → t.waiting ≡ true → t.events.items ≡ [] → HasToWait new.reader.stage new.raw room → NothingToRead x a room new.reader.stage → ReadTurn x a room old new P P out (Ok t)
 turn_idle x a room old new P out t h l w none m n = record {
   delta = [];
   wire = λ p b. (p, b, later_none p, record { waits = λ u e i. inl n; closed = λ e. cc; device = λ e. cc });
@@ -145,10 +145,10 @@ turn_unheard x a room old new P out was never h = record {
 
 -- the wire waits
 pub turn_waited : (x : Seen) (a : Bool) (room : ℕ) (old new : Side) (P Q : Past → Type 0) (out : List ℕ) (t : Turn) → new.reader ≡ old.reader → IsFilled P Q old.raw new.raw filled.Wait
-    → MustWait old.reader.stage old.raw room → t.events.items ≡ [] → t.waiting ≡ true → ReadTurn x a room old new P Q out (Ok t)
+    → HasToWait old.reader.stage old.raw room → t.events.items ≡ [] → t.waiting ≡ true → ReadTurn x a room old new P Q out (Ok t)
 turn_waited x a room old new P Q out t e f m none w =
     let still : SideHears x old new [] [] [] = filled_more x old new [] (inr refl) e (f.0 ∙ sym (append-nil old.raw)) in
-    let here : MustWait new.reader.stage new.raw room = subst (λ (s : Stage). MustWait s new.raw room) (ap (λ (r : Reader). r.stage) (sym e)) (subst (λ (t : List ℕ). MustWait old.reader.stage t room) (sym f.0) m) in
+    let here : HasToWait new.reader.stage new.raw room = subst (λ (s : Stage). HasToWait s new.raw room) (ap (λ (r : Reader). r.stage) (sym e)) (subst (λ (t : List ℕ). HasToWait old.reader.stage t room) (sym f.0) m) in
     record {
       delta = [];
       wire = λ p b. (
@@ -234,8 +234,8 @@ came_given_back x old new kept room out delta (Ok t) b c = (
   c.1,
   (λ w.
       let i = c.2 w in
-      let at : MustWait kept.reader.stage new.raw room = subst (λ (r : Reader). MustWait r.stage new.raw room) (sym b.reader) i.2 in
-      (i.0, i.1, subst (λ (raw : List ℕ). MustWait kept.reader.stage raw room) (sym b.raw) at)),
+      let at : HasToWait kept.reader.stage new.raw room = subst (λ (r : Reader). HasToWait r.stage new.raw room) (sym b.reader) i.2 in
+      (i.0, i.1, subst (λ (raw : List ℕ). HasToWait kept.reader.stage raw room) (sym b.raw) at)),
   c.3,
 )
 came_given_back x old new kept room out delta (Err fault) b c = (other_fault x old new kept [] delta [] b.reader b.raw c.0, c.1)

@@ -2,6 +2,9 @@
 use Rattle.std.proofs.Common.{◌≡◌, ℕ, ◌+◌, ◌<◌, ◌≤◌, ◌⊎◌, inl, inr, Bool, true, false, ◌||◌, List, [], ◌∷◌, ◌++◌, length, take, drop, refl, ap, sym, subst, ◌∙◌, append_assoc, append-nil, arith, length-append, nat_lt, if◌then◌else◌}
 use Rattle.std.proofs.lemmas.Bool.Decides.{nat_tests}
 use Rattle.std.proofs.lemmas.List.{take-append-drop}
+use Rattle.std.proofs.Math.Seq.{take-length}
+use Rattle.std.proofs.Math.ListN.{drop_of_length-le}
+use Rattle.icap_client.specs.HeadFront.{HasToWait, has_line}
 use Rattle.icap_head.specs.Heads.{Stands}
 use Rattle.icap_head.specs.StartLines.{StatusForm}
 use Rattle.icap_head.specs.FieldLines.{unended}
@@ -39,13 +42,28 @@ more_short raw (inr (line, behind, first, inr (form, inl h))) = let odd = h.0 in
 more_short raw (inr (line, behind, first, inr (form, inr (inl h)))) = let odd = h.0 in cc
 more_short raw (inr (line, behind, first, inr (form, inr (inr h)))) = unended_more (length raw) h.0
 
--- where nothing can be framed with some room, there is room for raw bytes
-pub wait_short : (s : Stage) (raw : List ℕ) (room : ℕ) → KeepsLimits s → ¬ (s ≡ Over) → 0 < room → MustWait s raw room → length raw < 16384
-wait_short Replies raw room k o r w = more_short raw w
+-- where a side has to wait with some room, there is room for raw bytes
+pub wait_short : (s : Stage) (raw : List ℕ) (room : ℕ) → KeepsLimits s → ¬ (s ≡ Over) → 0 < room → HasToWait s raw room → length raw < 16384
+wait_short Replies raw room k o r w = w.short
 wait_short (Head layout) raw room k o r w = omega (arith, k.1, w.0)
 wait_short (Body chunks) raw room k o r (inl e) = omega (arith, ap (λ (t : List ℕ). length t) e)
 wait_short (Body chunks) raw room k o r (inr h) = absurd (omega (arith, h.0))
 wait_short Over raw room k o r w = absurd (o refl)
+
+none_behind : (raw : List ℕ) → has_line (drop (length raw) raw) ≡ false
+none_behind raw = ap has_line (drop_of_length-le raw (omega arith))
+
+-- all bytes were judged
+pub has_to_wait : (s : Stage) (raw : List ℕ) (room : ℕ) → MustWait s raw room → HasToWait s raw room
+has_to_wait Replies raw room w = record {
+  judged = length raw;
+  more = inr (subst (λ (t : List ℕ). Stands StatusForm More t) (sym (take-length raw)) w);
+  no_line = none_behind raw;
+  short = more_short raw w;
+}
+has_to_wait (Head layout) raw room w = w
+has_to_wait (Body chunks) raw room w = w
+has_to_wait Over raw room w = w
 
 or_true : (a b : Bool) → b ≡ true → (a || b) ≡ true
 or_true true b e = refl

@@ -6,7 +6,7 @@ use Rattle.adapt_sides.specs.declared.fault.ClientFault.{ClientFault}
 use Rattle.adapt_sides.specs.declared.fault.ClientFault.TheVariants.{Closed, Device, NoMemory}
 use Rattle.icap_head.specs.declared.responses.IcapResponse.{IcapResponse}
 use Rattle.icap_client.specs.Reading.{IsFilled}
-use Rattle.icap_client.specs.declared.side.Filled.TheVariants as filled
+use Rattle.icap_client.specs.declared.filled.Filled.TheVariants as filled
 use Rattle.std.proofs.Math.Seq.{take-add}
 use Rattle.std.proofs.Math.ListN.{drop_of_length-le}
 use Rattle.std.proofs.lemmas.List.{take-append-drop, length-take-le}

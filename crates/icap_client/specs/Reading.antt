@@ -7,12 +7,12 @@ use Rattle.trace_core.specs.History.{is_preview}
 use Rattle.wire_kit.specs.Past.{Past}
 use Rattle.icap_client.specs.Events.{May, after_all, MayAllFollow, AllAre, is_of_replies, ad_sum}
 use Rattle.icap_client.specs.Heard.{Reader, HasHeard, Marks}
-use Rattle.icap_client.specs.Hearing.{MustWait}
+use Rattle.icap_client.specs.HeadFront.{HasToWait}
 use Rattle.icap_client.specs.Refused.{Refuses}
 use Rattle.adapt_sides.specs.declared.fault.ClientFault.{ClientFault}
 use Rattle.adapt_sides.specs.declared.fault.ClientFault.TheVariants.{Closed, Device, NoMemory, NotLegal}
-use Rattle.icap_client.specs.declared.side.Filled.{Filled}
-use Rattle.icap_client.specs.declared.side.Filled.TheVariants as filled
+use Rattle.icap_client.specs.declared.filled.Filled.{Filled}
+use Rattle.icap_client.specs.declared.filled.Filled.TheVariants as filled
 use Rattle.adapt_sides.specs.declared.turn.Turn.{Turn}
 use Rattle.icap_client.specs.declared.stage.Stage.{Stage}
 use Rattle.icap_client.specs.declared.stage.Stage.TheVariants.{Over}
@@ -107,7 +107,7 @@ abbrev pub CameOf : Seen → Side → Side → ℕ → List ℕ → List ℕ →
 CameOf x old new room out delta (Ok turn) =
     SideHears x old new turn.events.items delta (take (ad_sum turn.events.items) out)
     × (ad_sum turn.events.items ≤ room)
-    × (turn.waiting ≡ true → (turn.events.items ≡ []) × (delta ≡ []) × MustWait new.reader.stage new.raw room)
+    × (turn.waiting ≡ true → (turn.events.items ≡ []) × (delta ≡ []) × HasToWait new.reader.stage new.raw room)
     × (turn.waiting ≡ false → turn.events.items ≡ [] → 0 < length delta)
 CameOf x old new room out delta (Err fault) =
     SideHears x old new [] delta []

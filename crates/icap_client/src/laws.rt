@@ -1,6 +1,6 @@
 //! What holds of all that was heard of a service and sent to it: each law is the contract of a function that does nothing.
 
-ghost use Rattle.std.specs.Prelude.{◌≡◌, ℕ, List, [], ◌++◌, length, true, false, Bool};
+ghost use Rattle.std.specs.Prelude.{◌≡◌, ℕ, ◌+◌, ◌<◌, ◌^◌, List, [], ◌++◌, length, true, false, Bool};
 ghost use Rattle.trace_core.specs.declared.history.Plan.{Plan};
 ghost use Rattle.trace_core.specs.declared.history.Point.{Point};
 ghost use Rattle.trace_core.specs.declared.history.Event.{Event};
@@ -10,6 +10,7 @@ ghost use Rattle.trace_core.specs.Legal.{IsLegal};
 ghost use Rattle.trace_core.specs.View.{after};
 ghost use Rattle.icap_client.specs.Heard.{Reader, HasHeard};
 ghost use Rattle.icap_client.specs.Events.{is_of_replies, is_of_sending};
+ghost use Rattle.icap_client.specs.RequestHead.{IsReadBack};
 ghost use Rattle.icap_client.specs.RequestText.{IsFrontOfRequest, IsRequestText};
 ghost use Rattle.icap_client.specs.Sending.{HasSent};
 ghost use Rattle.chunk_writer.specs.Writer.{Writer, fresh, waiting};
@@ -89,4 +90,10 @@ pub fn a_request_is_whole()
 pub fn a_reusable_connection_is_clean()
     ensures { (x : Seen) (came taken adapted read : List ℕ) (s : Service) → is_reusable s ≡ true
         → ServiceSent x came taken s → ServiceHeard x adapted read s → IsClean x adapted read s }
+{}
+
+/// The list of a request's heads and body is read back by a server as the layout with each head behind the one before it, and
+/// the body behind them all (RFC 3507, section 4.4.1).
+pub fn a_server_reads_the_list()
+    ensures { (point : Point) (null : Bool) (req res : ℕ) → req + res < 2 ^ 62 → IsReadBack point null req res }
 {}

@@ -7,6 +7,8 @@ mod body;
 mod contract;
 mod decide;
 mod events;
+mod filled;
+mod kept;
 pub mod laws;
 mod lists;
 mod options;

@@ -14,6 +14,8 @@ ghost use Rattle.icap_client.specs.Replies.{IsEncapsulatedHead, has_body, payloa
 ghost use Rattle.icap_client.specs.Refused.{Refuses, RefusesReply, RefusesHead, RefusesBody, Says, LimitsOf};
 ghost use Rattle.encapsulated.specs.declared.offsets.Layout.{Layout as Parts};
 
+mod shown;
+
 use crate::blank_line::{behind, front, head_end};
 use crate::body::read_body;
 use crate::events::{Framed, Heard, body_events, event_list, may_all, payload_of, refusal};
@@ -83,44 +85,6 @@ impl ReplyReader {
     /// Where its memory comes from.
     pub(crate) fn allocator(&self) -> Global {
         self.alloc
-    }
-
-    /// The layout of a 200 and the adapted message's head, once both were read.
-    pub fn adapted_head(&self) -> Option<(Layout, &[u8])>
-        ensures { MatchOption result (self.now.layout ≡ None) (λ found. (self.now.layout ≡ Some found.0) × (found.1.now ≡ self.now.head)) }
-    {
-        match self.layout {
-            Some(layout) => Some((layout, self.head.as_slice())),
-            None => None,
-        }
-    }
-
-    /// Whether the final response is whole.
-    pub fn is_over(&self) -> bool
-        ensures over { IsTrue result ↔ self.now.stage ≡ Stage.Over }
-        ensures limits { KeepsLimits self.now.stage }
-    {
-        match self.stage {
-            Stage::Over => true,
-            Stage::Replies | Stage::Head(_) | Stage::Body(_) => false,
-        }
-    }
-
-    /// What the last response's ICAP head said: its tag.
-    pub fn tag(&self) -> Option<&[u8]>
-        ensures { option_copied result ≡ self.now.tag }
-    {
-        match &self.tag {
-            Some(tag) => Some(tag.as_slice()),
-            None => None,
-        }
-    }
-
-    /// What the last response's ICAP head said: that the connection closes.
-    pub fn closes(&self) -> bool
-        ensures { result ≡ self.now.closes }
-    {
-        self.closes
     }
 
     /// Keeps what a response says beside its message.

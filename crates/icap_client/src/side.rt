@@ -3,7 +3,7 @@
 ghost use Rattle.std.specs.Prelude.{option_copied, is_none, not, ◌&&◌, ◌==◌, ◌≡◌, ◌<◌, ◌≤◌, ◌↔◌, [], length, take, IsTrue, IfOk, IfErr, IfSome, OnOk, None, Some, Bool, true, false, Err, MatchOption};
 ghost use Rattle.trace_core.specs.History.{seen};
 ghost use Rattle.icap_client.specs.Events.{May, ad_sum};
-ghost use Rattle.icap_client.specs.Hearing.{MustWait};
+ghost use Rattle.icap_client.specs.HeadFront.{HasToWait, IsHeadFront};
 ghost use Rattle.icap_client.specs.Heard.{KeepsLimits, KeepsHead};
 ghost use Rattle.icap_client.specs.Laws.{first_reader};
 ghost use Rattle.icap_client.specs.Refused.{Refuses};
@@ -11,60 +11,18 @@ ghost use Rattle.icap_client.specs.Reading.{Side, GivesBack, SideHears, MayRead,
 ghost use Rattle.icap_client.specs.Turns.{is_over};
 ghost use Rattle.wire_kit.specs.Past.{Past};
 
-use crate::events::event_list;
+use crate::events::{Heard, event_list};
+use crate::filled::Filled;
+use crate::kept::Kept;
 use crate::reader::ReplyReader;
 use crate::stage::Stage;
 use adapt_sides::{ClientFault, Turn};
 use arrayvec::ArrayVec;
-use bytes::BytesMut;
 use encapsulated::Layout;
 use std::alloc::Global;
 use std::marker::Model;
 use trace_core::{Event, Kind, Point, State};
-use wire_kit::{Got, Wire};
-
-/// The most bytes that are kept without being framed.
-pub(crate) const MAX_RAW: usize = 16_384;
-
-/// The most bytes of one read.
-const MAX_READ: usize = 4096;
-
-/// What a read gave.
-#[derive(Clone, Copy, Debug, PartialEq, Eq)]
-pub(crate) enum Filled {
-    /// Bytes came.
-    Bytes,
-    /// The service has ended its bytes.
-    Ended,
-    /// Nothing now.
-    Wait,
-    /// The connection failed.
-    Failed,
-    /// There was no memory for bytes.
-    NoMemory,
-}
-
-/// Reads once behind the raw bytes.
-pub(crate) fn fill<W: Wire>(raw: &mut BytesMut, wire: &mut W) -> Filled
-    requires { length raw.old.items < 16384 }
-    ensures filled { IsFilled (W.past wire.old) (W.past wire.new) raw.old.items raw.new.items result }
-    ensures fits { length raw.new.items ≤ 16384 }
-{
-    let most = (MAX_RAW - raw.len()).min(MAX_READ);
-    if raw.reserve(most).is_err() {
-        return Filled::NoMemory;
-    }
-    let mut buf = [0; 4096];
-    match wire.try_read(&mut buf[..most]) {
-        Got::Bytes(n) => {
-            raw.extend_reserved(&buf[..n]);
-            Filled::Bytes
-        }
-        Got::Ended => Filled::Ended,
-        Got::Wait => Filled::Wait,
-        Got::Fault => Filled::Failed,
-    }
-}
+use wire_kit::Wire;
 
 /// Whether the service may answer now.
 fn may_read(state: &State, all_sent: bool) -> bool
@@ -77,23 +35,28 @@ fn may_read(state: &State, all_sent: bool) -> bool
     }
 }
 
+/// Whether all bytes were judged to be the front of a response's head.
+fn awaits_more(reader: &ReplyReader, heard: &Heard) -> bool
+    ensures none { result ≡ true → heard.now.events.items ≡ [] }
+    ensures stage { result ≡ true → reader.now.stage ≡ Stage.Replies }
+{
+    heard.events.as_slice().is_empty() && reader.awaits_reply()
+}
+
 /// The reading half of the service's side.
 #[derive(Drop)]
 pub struct ReplySide {
     reader: ReplyReader,
-    raw: BytesMut,
+    raw: Kept,
     fault: Option<ClientFault>,
 }
 
 impl Model for ReplySide {
-    ghost use Rattle.std.specs.Prelude.{◌≤◌, length};
     ghost use Rattle.icap_client.specs.Reading.{Side};
 
     ghost Value = { Side };
 
-    ghost view = { λ s. record { reader = s.reader; raw = s.raw.items; fault = s.fault; room = s.raw.spare } };
-
-    ghost invariant = { λ s. length s.raw.items ≤ 16384 };
+    ghost view = { λ s. record { reader = s.reader; raw = s.raw.bytes; fault = s.fault; room = s.raw.room } };
 }
 
 impl ReplySide {
@@ -108,7 +71,7 @@ impl ReplySide {
     {
         ReplySide {
             reader: ReplyReader::new(alloc, point),
-            raw: BytesMut::new(alloc),
+            raw: Kept::new(alloc),
             fault: None,
         }
     }
@@ -121,7 +84,7 @@ impl ReplySide {
         ensures room { self.new.room ≡ 0 }
     {
         self.reader.again();
-        self.raw = BytesMut::new(self.reader.allocator());
+        self.raw = Kept::new(self.reader.allocator());
         self.fault = None;
     }
 
@@ -181,12 +144,20 @@ impl ReplySide {
         ensures { result ≡ (is_over self.now.reader.stage && ((length self.now.raw == 0) && (not self.now.reader.closes && is_none self.now.fault))) }
     {
         self.reader.is_over()
-            && self.raw.is_empty()
+            && self.raw.len() == 0
             && !self.reader.closes()
             && self.fault.is_none()
     }
 
-    /// Frames what may be framed of the raw bytes.
+    /// Whether the raw bytes are the front of a response's head, of which no line has ended since it was judged.
+    fn is_at_front(&self) -> bool
+        ensures stage { result ≡ true → self.now.reader.stage ≡ Stage.Replies }
+        ensures front { result ≡ true → IsHeadFront self.now.raw }
+    {
+        self.reader.awaits_reply() && self.raw.is_front()
+    }
+
+    /// Frames what may be framed of the raw bytes. A head is judged where a line has ended, or where there is no more room.
     fn frame_raw(
         &mut self,
         state: &State,
@@ -194,15 +165,19 @@ impl ReplySide {
     ) -> Result<ArrayVec<Event, 4>, ClientFault>
         ensures room { IfOk result (λ events. ad_sum events.items ≤ length out.old) }
         ensures hears { IfOk result (λ events. SideHears (seen state.now.plan state.now.events) self.old self.new events.items [] (take (ad_sum events.items) out.new)) }
-        ensures waits { IfOk result (λ events. events.items ≡ [] → MustWait self.new.reader.stage self.new.raw (length out.old)) }
+        ensures waits { IfOk result (λ events. events.items ≡ [] → HasToWait self.new.reader.stage self.new.raw (length out.old)) }
         ensures refuses { IfErr result (λ fault. Refuses fault (seen state.now.plan state.now.events) self.old.reader.point self.old.reader.stage self.old.raw) }
         ensures fault { self.new.fault ≡ self.old.fault }
         ensures head { KeepsHead (seen state.now.plan state.now.events) self.old.reader self.new.reader }
         ensures kept { IfErr result (λ _. SideHears (seen state.now.plan state.now.events) self.old self.new [] [] []) }
     {
+        if self.is_at_front() {
+            return Ok(ArrayVec::new());
+        }
         match self.reader.frame(state, self.raw.as_slice(), out) {
             Ok(heard) => {
-                self.raw.advance(heard.used);
+                let judged = awaits_more(&self.reader, &heard);
+                self.raw.pass(heard.used, judged);
                 Ok(heard.events)
             }
             Err(fault) => Err(fault),
@@ -231,13 +206,13 @@ impl ReplySide {
         out: &mut [u8],
     ) -> Result<Turn, ClientFault>
         requires short { length self.old.raw < 16384 }
-        requires waits { MustWait self.old.reader.stage self.old.raw (length out.old) }
+        requires waits { HasToWait self.old.reader.stage self.old.raw (length out.old) }
         requires may { May (seen state.now.plan state.now.events) Event.Heard }
         ensures fault { self.new.fault ≡ self.old.fault }
         ensures turn { (all_sent : Bool) → ReadTurn (seen state.now.plan state.now.events) all_sent (length out.old) self.old self.new (W.past wire.old) (W.past wire.new) out.new result }
         ensures head { KeepsHead (seen state.now.plan state.now.events) self.old.reader self.new.reader }
     {
-        match fill(&mut self.raw, wire) {
+        match self.raw.fill(wire) {
             Filled::Bytes => {}
             Filled::Wait => {
                 return Ok(Turn {
@@ -263,13 +238,13 @@ impl ReplySide {
         out: &mut [u8],
     ) -> Result<Turn, ClientFault>
         requires short { length self.old.raw < 16384 }
-        requires waits { MustWait self.old.reader.stage self.old.raw (length out.old) }
+        requires waits { HasToWait self.old.reader.stage self.old.raw (length out.old) }
         requires heard { (seen state.now.plan state.now.events).heard ≡ true }
         ensures fault { self.new.fault ≡ self.old.fault }
         ensures turn { (all_sent : Bool) → ReadTurn (seen state.now.plan state.now.events) all_sent (length out.old) self.old self.new (W.past wire.old) (W.past wire.new) out.new result }
         ensures head { KeepsHead (seen state.now.plan state.now.events) self.old.reader self.new.reader }
     {
-        match fill(&mut self.raw, wire) {
+        match self.raw.fill(wire) {
             Filled::Bytes => match self.frame_raw(state, out) {
                 Ok(events) => Ok(Turn {
                     events,
@@ -328,9 +303,7 @@ impl ReplySide {
     fn give_back(&mut self)
         ensures { GivesBack self.old self.new }
     {
-        if self.raw.is_empty() {
-            self.raw = BytesMut::new(self.reader.allocator());
-        }
+        self.raw.give_back(self.reader.allocator());
     }
 
     /// The same, and keeps no empty room.

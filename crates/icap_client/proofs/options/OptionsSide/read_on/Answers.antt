@@ -1,7 +1,7 @@
 use Rattle.std.proofs.Common.{rules, ◌≡◌, ◌∙◌, ap, sym, subst, refl, List, ℕ}
 use Rattle.icap_client.specs.Asking.{Asker}
 use Rattle.icap_client.specs.Reading.{IsFilled}
-use Rattle.icap_client.specs.declared.side.Filled.TheVariants as filled
+use Rattle.icap_client.specs.declared.filled.Filled.TheVariants as filled
 use Rattle.icap_client.proofs.Skipping.{asks_bytes, asks_wait, asks_ended, asks_failed, asks_full}
 use Rattle.icap_client.proofs.options.OptionsSide.read_on.Goals as goal
 

@@ -1,0 +1,6 @@
+use Rattle.std.proofs.Common.{◌≡◌, drop}
+use Rattle.icap_client.specs.HeadFront.{has_line}
+use Rattle.icap_client.proofs.kept.has_line.Given as goal
+
+abbrev pub invariant-loop-byte : goal.invariant-loop-byte
+invariant-loop-byte l = has_line l.bytes ≡ has_line (drop l.byte-index l.bytes)

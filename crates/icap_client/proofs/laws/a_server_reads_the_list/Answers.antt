@@ -1,0 +1,5 @@
+use Rattle.icap_client.proofs.ReadBack.{read_back}
+use Rattle.icap_client.proofs.laws.a_server_reads_the_list.Goals as goal
+
+pub returns : goal.returns
+returns c = read_back

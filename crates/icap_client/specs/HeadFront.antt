@@ -1,0 +1,37 @@
+-- The front of a reply's head, which is judged where a line has ended.
+use Rattle.std.specs.Prelude.{◌≡◌, ℕ, ◌<◌, ◌⊎◌, Bool, false, ◌==◌, List, length, take, drop}
+use Rattle.std.specs.List.{list_any}
+use Rattle.icap_head.specs.Heads.{Stands}
+use Rattle.icap_head.specs.StartLines.{StatusForm}
+use Rattle.icap_head.specs.declared.reading.HeadFault.TheVariants.{More}
+use Rattle.icap_client.specs.Hearing.{MustWait}
+use Rattle.icap_client.specs.declared.stage.Stage.{Stage}
+use Rattle.icap_client.specs.declared.stage.Stage.TheVariants.{Replies, Head, Body, Over}
+
+-- bytes that aren't framed yet, how many of them were judged, and the room behind them
+pub record Store : Type 0 where
+  pub bytes : List ℕ
+  pub judged : ℕ
+  pub room : ℕ
+
+-- a line ends in the bytes
+abbrev pub has_line : List ℕ → Bool
+has_line bytes = list_any (λ byte. byte == 10) bytes
+
+-- so many were judged to be the front of an ICAP head, or none was
+abbrev pub IsJudged : ℕ → List ℕ → Type 0
+IsJudged judged bytes = (judged ≡ 0) ⊎ Stands StatusForm More (take judged bytes)
+
+-- the front of a head: no line has ended behind what was judged so, and there is room for more
+pub record IsHeadFront (bytes : List ℕ) : Type 0 where
+  pub judged : ℕ
+  pub more : IsJudged judged bytes
+  pub no_line : has_line (drop judged bytes) ≡ false
+  pub short : length bytes < 16384
+
+-- a side has to wait for more bytes, with room for so many adapted ones
+abbrev pub HasToWait : Stage → List ℕ → ℕ → Type 0
+HasToWait Replies raw room = IsHeadFront raw
+HasToWait (Head layout) raw room = MustWait (Head layout) raw room
+HasToWait (Body chunks) raw room = MustWait (Body chunks) raw room
+HasToWait Over raw room = MustWait Over raw room

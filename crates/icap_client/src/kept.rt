@@ -1,0 +1,112 @@
+//! The bytes of a reply that are kept without being framed.
+
+ghost use Rattle.std.specs.Prelude.{◌≡◌, ◌<◌, ◌≤◌, ◌==◌, [], length, drop, true};
+ghost use Rattle.std.specs.List.{list_any};
+ghost use Rattle.icap_head.specs.Heads.{Stands};
+ghost use Rattle.icap_head.specs.StartLines.{StatusForm};
+ghost use Rattle.icap_head.specs.declared.reading.HeadFault.TheVariants.{More};
+ghost use Rattle.icap_client.specs.HeadFront.{IsHeadFront, has_line};
+ghost use Rattle.icap_client.specs.Reading.{IsFilled};
+
+use crate::blank_line::behind;
+use crate::filled::{Filled, MAX_RAW, fill};
+use bytes::BytesMut;
+use std::alloc::Global;
+use std::marker::Model;
+use wire_kit::Wire;
+
+/// Bytes that came and aren't framed yet, and how many of them were judged to be the front of an ICAP head.
+#[derive(Drop)]
+pub(crate) struct Kept {
+    bytes: BytesMut,
+    judged: usize,
+}
+
+impl Model for Kept {
+    ghost use Rattle.std.specs.Prelude.{◌≤◌, length};
+    ghost use Rattle.icap_client.specs.HeadFront.{Store, IsJudged};
+
+    ghost Value = { Store };
+
+    ghost view = { λ k. record { bytes = k.bytes.items; judged = k.judged; room = k.bytes.spare } };
+
+    ghost invariant = { λ k. (length k.bytes.items ≤ 16384) × (k.judged ≤ length k.bytes.items) × IsJudged k.judged k.bytes.items };
+}
+
+/// Whether a line ends in the bytes.
+fn has_line(bytes: &[u8]) -> bool
+    ensures { result ≡ has_line bytes.now }
+{
+    for byte in bytes {
+        if *byte == b'\n' {
+            return true;
+        }
+    }
+    false
+}
+
+impl Kept {
+    /// No byte, and no room.
+    pub(crate) fn new(alloc: Global) -> Kept
+        ensures { result ≡ record { bytes = []; judged = 0; room = 0 } }
+    {
+        Kept {
+            bytes: BytesMut::new(alloc),
+            judged: 0,
+        }
+    }
+
+    /// How many there are.
+    pub(crate) fn len(&self) -> usize
+        ensures len { result ≡ length self.now.bytes }
+        ensures limit { result ≤ 16384 }
+    {
+        self.bytes.len()
+    }
+
+    /// The bytes.
+    pub(crate) fn as_slice(&self) -> &[u8]
+        ensures { result.now ≡ self.now.bytes }
+    {
+        self.bytes.as_slice()
+    }
+
+    /// Lets go of the first so many, which were framed. The rest was judged to be the front of a head, or wasn't.
+    pub(crate) fn pass(&mut self, used: usize, judged: bool)
+        requires within { used ≤ length self.old.bytes }
+        requires front { judged ≡ true → Stands StatusForm More (drop used self.old.bytes) }
+        ensures { self.new.bytes ≡ drop used self.old.bytes }
+    {
+        self.judged = 0;
+        self.bytes.advance(used);
+        if judged {
+            self.judged = self.bytes.len();
+        }
+    }
+
+    /// Whether they needn't be judged again: no line has ended behind those that were, and there is room for more.
+    pub(crate) fn is_front(&self) -> bool
+        ensures { result ≡ true → IsHeadFront self.now.bytes }
+    {
+        self.bytes.len() < MAX_RAW && !has_line(behind(self.bytes.as_slice(), self.judged))
+    }
+
+    /// Gives back the room, where no byte is there.
+    pub(crate) fn give_back(&mut self, alloc: Global)
+        ensures bytes { self.new.bytes ≡ self.old.bytes }
+        ensures none { self.new.bytes ≡ [] → self.new.room ≡ 0 }
+    {
+        if self.bytes.is_empty() {
+            self.judged = 0;
+            self.bytes = BytesMut::new(alloc);
+        }
+    }
+
+    /// Reads once behind them.
+    pub(crate) fn fill<W: Wire>(&mut self, wire: &mut W) -> Filled
+        requires { length self.old.bytes < 16384 }
+        ensures filled { IsFilled (W.past wire.old) (W.past wire.new) self.old.bytes self.new.bytes result }
+    {
+        fill(&mut self.bytes, wire)
+    }
+}
