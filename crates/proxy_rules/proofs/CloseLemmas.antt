@@ -1,0 +1,73 @@
+-- The Connection fields of a head that goes on.
+use Rattle.std.proofs.Common.{◌≡◌, ℕ, Bool, true, false, not, List, [], ◌∷◌, ◌++◌, length, refl, sym, ap, ◌∙◌}
+use Rattle.std.specs.Prelude.{codes, ◌||◌, if◌then◌else◌}
+use Rattle.std.specs.List.{list_any}
+use Rattle.adapt_bytes.specs.Text.{trim, comma_parts, comma_items}
+use Rattle.http_side.specs.declared.forward.Forward.{Forward}
+use Rattle.http_side.specs.declared.forward.Message.{Message}
+use Rattle.http_side.specs.declared.forward.Message.TheVariants.{Request, Response}
+use Rattle.http_side.specs.Fields.{values_of}
+use Rattle.http_side.specs.Items.{has_item}
+use Rattle.http_side.specs.Forward.{is_response, is_named_by, gets_zero, is_chunks, next_framing, closes, when, via_value, added_fields, extra_of}
+use Rattle.http_side.specs.Laws.{passed_fields, minor_of, forwarded_fields}
+use Rattle.http_side.specs.Targets.{authority_of}
+use Rattle.http_side.proofs.Passing.{values-append}
+use Rattle.http_side.proofs.Removed.{request_loses, response_loses}
+
+abbrev CONNECTION : List ℕ
+CONNECTION = codes "connection"
+
+abbrev on_close : Bool → List (List ℕ)
+on_close b = if b then codes "close" ∷ [] else []
+
+added_close : (f : Forward) (minor : ℕ) → values_of CONNECTION (added_fields (extra_of f) minor) ≡ on_close (not (is_response f.message) || closes f)
+added_close f minor = by_four (gets_zero f) (is_chunks (next_framing f)) (not (is_response f.message) || closes f) true
+  where
+    by_four : (a b c d : Bool) → values_of CONNECTION (when a (codes "Content-Length", codes "0") ++ when b (codes "Transfer-Encoding", codes "chunked")
+        ++ when c (codes "Connection", codes "close") ++ when d (codes "Via", via_value minor)) ≡ on_close c
+    by_four true true true true = refl
+    by_four true true true false = refl
+    by_four true true false true = refl
+    by_four true true false false = refl
+    by_four true false true true = refl
+    by_four true false true false = refl
+    by_four true false false true = refl
+    by_four true false false false = refl
+    by_four false true true true = refl
+    by_four false true true false = refl
+    by_four false true false true = refl
+    by_four false true false false = refl
+    by_four false false true true = refl
+    by_four false false true false = refl
+    by_four false false false true = refl
+    by_four false false false false = refl
+
+no_item : (values : List (List ℕ)) → length values ≡ 0 → values ≡ []
+no_item [] e = refl
+no_item (value ∷ values) e = absurd (let f : length (value ∷ values) ≡ 0 = e in cc)
+
+passed_none : (authority : List ℕ) (m : Message) → values_of CONNECTION (passed_fields authority m) ≡ []
+passed_none authority (Request r) = no_item _ (request_loses r.now authority CONNECTION refl)
+passed_none authority (Response r) = no_item _ (response_loses r.now CONNECTION refl)
+
+close_in : has_item (codes "close") (codes "close") ≡ true
+unfolding trim comma_parts comma_items
+close_in = refl
+
+named : (b : Bool) → list_any (has_item (codes "close")) (on_close b) ≡ b
+named true = ap (λ t. t || false) close_in
+named false = refl
+
+says : (f : Forward) → is_named_by (forwarded_fields f) (codes "close") ≡ (not (is_response f.message) || closes f)
+says f =
+    ap (list_any (has_item (codes "close")))
+    (values-append CONNECTION (passed_fields (authority_of f.user.now.target) f.message) (added_fields (extra_of f) (minor_of f.message))
+    ∙ ap (λ t. t ++ values_of CONNECTION (added_fields (extra_of f) (minor_of f.message))) (passed_none (authority_of f.user.now.target) f.message)
+    ∙ added_close f (minor_of f.message))
+    ∙ named (not (is_response f.message) || closes f)
+
+pub answer_says : (f : Forward) → is_response f.message ≡ true → is_named_by (forwarded_fields f) (codes "close") ≡ closes f
+answer_says f e = says f ∙ ap (λ b. not b || closes f) e
+
+pub request_says : (f : Forward) → is_response f.message ≡ false → is_named_by (forwarded_fields f) (codes "close") ≡ true
+request_says f e = says f ∙ ap (λ b. not b || closes f) e

@@ -1,0 +1,4 @@
+pub mod UserLemmas
+pub mod OnwardLemmas
+pub mod HeadLemmas
+pub mod CloseLemmas

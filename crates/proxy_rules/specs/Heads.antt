@@ -1,0 +1,64 @@
+-- The head of a transaction's chosen message.
+use Rattle.std.specs.Prelude.{◌≡◌, ◌⊎◌, ⊤, Bool, true, false, List, ℕ, Option, Some, None}
+use Rattle.trace_core.specs.declared.history.Cause.{Cause}
+use Rattle.trace_core.specs.declared.history.Cause.TheVariants as causes
+use Rattle.trace_core.specs.declared.history.Seen.{Seen}
+use Rattle.http_side.specs.declared.body.Framing.{Framing}
+use Rattle.http_side.specs.declared.forward.Message.{Message}
+use Rattle.http_side.specs.declared.forward.Part.TheVariants.{Own}
+use Rattle.http_side.specs.Heads.{RequestParts}
+use Rattle.http_relay.specs.declared.side.SourceHead.{SourceHead}
+use Rattle.http_relay.specs.declared.side.SourceHead.TheVariants as heads
+use Rattle.http_relay.specs.declared.side.SourceSide.{SourceSide}
+use Rattle.http_relay.specs.Reading.{request_of}
+use Rattle.proxy_rules.specs.Users.{is_head}
+use Rattle.proxy_rules.specs.Onward.{GoesOn, IsRequest, IsResponse, IsAdaptedRequest, IsAdaptedResponse, NoAdaptedRequest, NoAdaptedResponse, part_of}
+use Rattle.proxy_rules.specs.declared.onward.Headed.{Headed}
+
+-- the original is what the source's head says
+abbrev pub IsOriginal : SourceHead → Message → Type 0
+IsOriginal heads.Unread message = ⊥
+IsOriginal (heads.Request r) message = IsRequest r message
+IsOriginal (heads.Response r) message = IsResponse r message
+
+-- the chosen message: the original, or the one whose head a service sent
+abbrev pub MakesOf : SourceHead → RequestParts → Bool → Option (List ℕ) → Bool → Bool → Headed → Type 0
+MakesOf source user body_read None is_response has_body headed = GoesOn user body_read Own (IsOriginal source) headed
+MakesOf source user body_read (Some text) true has_body headed = GoesOn user body_read (part_of has_body) (IsAdaptedResponse (is_head user) has_body text) headed
+MakesOf source user body_read (Some text) false has_body headed = GoesOn user body_read (part_of has_body) (IsAdaptedRequest text) headed
+
+-- the user: the source of a request, or the side whose request is answered
+abbrev pub user_side : Option SourceSide → SourceSide → SourceSide
+user_side None source = source
+user_side (Some user) source = user
+
+-- whether its body was read to its end: as the history shows of the source, or as the side says
+abbrev pub body_read_of : Option SourceSide → Seen → Bool
+body_read_of None x = x.ended
+body_read_of (Some user) x = user.body.ended
+
+-- a message that goes on, of what the transaction has
+pub record Makes (user : Option SourceSide) (source : SourceSide) (x : Seen) (adapted : Option (List ℕ)) (is_response : Bool) (headed : Headed) : Type 0 where
+  pub asked : RequestParts
+  pub asked_is : request_of (user_side user source).head ≡ Some asked
+  pub makes : MakesOf source.head asked (body_read_of user x) adapted is_response x.has_body headed
+
+-- and what is told of it: its text, how its body goes, and whether the user's connection ends behind it
+pub record Remembers (user : Option SourceSide) (source : SourceSide) (x : Seen) (adapted : Option (List ℕ)) (is_response : Bool) (head : List ℕ) (framing : Framing) (ends : Bool) : Type 0 where
+  pub headed : Headed
+  pub makes : Makes user source x adapted is_response headed
+  pub head_is : head ≡ headed.head.items
+  pub framing_is : framing ≡ headed.framing
+  pub ends_is : ends ≡ headed.closes
+
+-- why none is made of the chosen message: memory ran out, no head was read, or the service sent none that may go on
+abbrev pub MakesNoneOf : SourceHead → RequestParts → Option (List ℕ) → Bool → Bool → Cause → Type 0
+MakesNoneOf source user None is_response has_body cause = (cause ≡ causes.Memory) ⊎ ((cause ≡ causes.Source) × (source ≡ heads.Unread))
+MakesNoneOf source user (Some text) true has_body cause = (cause ≡ causes.Memory) ⊎ ((cause ≡ causes.Service) × NoAdaptedResponse (is_head user) has_body text)
+MakesNoneOf source user (Some text) false has_body cause = (cause ≡ causes.Memory) ⊎ ((cause ≡ causes.Service) × NoAdaptedRequest text)
+
+-- why no head is made: the user's wasn't read, or none of the chosen message
+abbrev pub MakesNone : Option SourceSide → SourceSide → Seen → Option (List ℕ) → Bool → Cause → Type 0
+MakesNone user source x adapted is_response cause =
+    ((cause ≡ causes.Source) × (request_of (user_side user source).head ≡ None))
+    ⊎ ((asked : RequestParts) × (request_of (user_side user source).head ≡ Some asked) × MakesNoneOf source.head asked adapted is_response x.has_body cause)

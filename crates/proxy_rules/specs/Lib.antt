@@ -1,0 +1,9 @@
+pub mod Reasons
+pub mod Origins
+pub mod Plans
+pub mod Users
+pub mod Onward
+pub mod Offers
+pub mod Connections
+pub mod Pools
+pub mod Heads

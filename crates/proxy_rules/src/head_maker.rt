@@ -1,0 +1,172 @@
+//! The heads of one transaction.
+
+ghost use Rattle.std.specs.Prelude.{◌≡◌, IfOk, IfErr, IfSome, true, false, Some, None, option_copied};
+ghost use Rattle.trace_core.specs.History.{seen};
+ghost use Rattle.http_relay.specs.Reading.{request_of};
+ghost use Rattle.proxy_rules.specs.Heads.{Makes, MakesNone, Remembers, MakesOf, MakesNoneOf, user_side, body_read_of};
+
+use crate::onward::{
+    Asked, Headed, adapted_request, adapted_response, request_onward, response_onward,
+};
+use adapt_turn::Forward;
+use http_relay::{NextHop, SourceHead, SourceSide};
+use http_side::{Framing, HttpRequest, Part};
+use std::alloc::Global;
+use trace_core::{Cause, State};
+
+/// Makes the heads of one transaction's message, and remembers whether the user's connection ends behind it.
+#[derive(Drop)]
+pub struct HeadMaker {
+    user: Option<SourceSide>,
+    closes: bool,
+}
+
+impl HeadMaker {
+    /// For a request: its source is the user's side.
+    pub fn for_request() -> HeadMaker
+        ensures user { result.user ≡ None }
+        ensures closes { result.closes ≡ true }
+    {
+        HeadMaker {
+            user: None,
+            closes: true,
+        }
+    }
+
+    /// For a response: this is the side of the user whose request it answers.
+    pub fn for_response(user: SourceSide) -> HeadMaker
+        ensures user { result.user ≡ Some user }
+        ensures closes { result.closes ≡ true }
+    {
+        HeadMaker {
+            user: Some(user),
+            closes: true,
+        }
+    }
+
+    /// Whether the user's connection ends behind the message: as the head said that was made last, and where none was made.
+    pub fn closes(&self) -> bool
+        ensures { result ≡ self.now.closes }
+    {
+        self.closes
+    }
+
+    /// The user's side again, where the message is a response.
+    pub fn into_user(self) -> Option<SourceSide>
+        ensures { result ≡ self.user }
+    {
+        self.user
+    }
+
+    /// The head of the user's request, once it was read.
+    fn asked<'a>(&'a self, source: &'a SourceSide) -> Option<&'a HttpRequest>
+        ensures { option_copied result ≡ request_of (user_side self.now.user source.now).head }
+    {
+        match &self.user {
+            Some(side) => side.request_head(),
+            None => source.request_head(),
+        }
+    }
+
+    /// Whether the user's body was read to its end.
+    fn body_read(&self, state: &State) -> bool
+        ensures { IfSome self.now.user (λ user. user.head ≡ SourceHead.Unread → ⊥) → result ≡ body_read_of self.now.user (seen state.now.plan state.now.events) }
+    {
+        match &self.user {
+            Some(side) => side.ended(),
+            None => state.seen().ended,
+        }
+    }
+
+    /// The head of the chosen message: of the original, or of what a service made, where its head is given.
+    pub fn make(
+        &self,
+        alloc: Global,
+        state: &State,
+        source: &SourceSide,
+        adapted: Option<&[u8]>,
+        is_response: bool,
+    ) -> Result<Headed, Cause>
+        ensures ok { IfOk result (Makes self.now.user source.now (seen state.now.plan state.now.events) (option_copied adapted.entry) is_response) }
+        ensures err { IfErr result (MakesNone self.now.user source.now (seen state.now.plan state.now.events) (option_copied adapted.entry) is_response) }
+    {
+        let Some(user) = self.asked(source) else {
+            return Err(Cause::Source);
+        };
+        let asked = Asked {
+            user,
+            body_read: self.body_read(state),
+        };
+        let has_body = state.seen().has_body;
+        chosen(alloc, asked, source, adapted, is_response, has_body)
+    }
+
+    /// The same, and remembers whether the user's connection ends behind the message.
+    fn make_next(
+        &mut self,
+        alloc: Global,
+        state: &State,
+        source: &SourceSide,
+        adapted: Option<&[u8]>,
+        is_response: bool,
+    ) -> Result<(Vec<u8>, Framing), Cause>
+        ensures ok { IfOk result (λ made. Remembers self.old.user source.now (seen state.now.plan state.now.events) (option_copied adapted.entry) is_response made.0.items made.1 self.new.closes) }
+        ensures err { IfErr result (MakesNone self.old.user source.now (seen state.now.plan state.now.events) (option_copied adapted.entry) is_response) }
+        ensures user { self.new.user ≡ self.old.user }
+    {
+        let headed = self.make(alloc, state, source, adapted, is_response)?;
+        self.closes = headed.closes;
+        Ok((headed.head, headed.framing))
+    }
+}
+
+/// The head of the original.
+fn original(alloc: Global, asked: Asked<'_>, source: &SourceSide) -> Result<Headed, Cause>
+    ensures ok { IfOk result (MakesOf source.now.head asked.entry.user.now asked.entry.body_read None false false) }
+    ensures err { IfErr result (MakesNoneOf source.now.head asked.entry.user.now None false false) }
+{
+    if let Some(request) = source.request_head() {
+        return request_onward(alloc, asked, request, Part::Own);
+    }
+    match source.response_head() {
+        Some(response) => response_onward(alloc, asked, response, Part::Own),
+        None => Err(Cause::Source),
+    }
+}
+
+/// The head of the original, or of what a service made.
+fn chosen(
+    alloc: Global,
+    asked: Asked<'_>,
+    source: &SourceSide,
+    adapted: Option<&[u8]>,
+    is_response: bool,
+    has_body: bool,
+) -> Result<Headed, Cause>
+    ensures ok { IfOk result (MakesOf source.now.head asked.entry.user.now asked.entry.body_read (option_copied adapted.entry) is_response has_body) }
+    ensures err { IfErr result (MakesNoneOf source.now.head asked.entry.user.now (option_copied adapted.entry) is_response has_body) }
+{
+    match adapted {
+        None => original(alloc, asked, source),
+        Some(text) => {
+            if is_response {
+                adapted_response(alloc, asked, text, has_body)
+            } else {
+                adapted_request(alloc, asked, text, has_body)
+            }
+        }
+    }
+}
+
+impl Forward<SourceSide, NextHop> for HeadMaker {
+    fn forward(
+        &mut self,
+        alloc: Global,
+        state: &State,
+        source: &SourceSide,
+        adapted: Option<&[u8]>,
+        is_response: bool,
+    ) -> Result<(Vec<u8>, Framing), Cause> {
+        self.make_next(alloc, state, source, adapted, is_response)
+    }
+}

@@ -1,0 +1,32 @@
+//! What the proxy decides of a message beside its transaction: refusals, the origin, the plan, the heads, and what becomes
+//! of a connection.
+//!
+//! Each decision is a function of heads, records and configured values. Nothing here has a socket, a clock or a lock.
+#![tactic(auto)]
+
+mod address;
+mod connections;
+mod expect;
+mod head_maker;
+mod items;
+pub mod laws;
+mod offer;
+mod onward;
+mod plans;
+mod pools;
+mod reason;
+mod route;
+mod scan;
+
+pub use address::{Origin, origin_of};
+pub use connections::keeps_user;
+pub use expect::{awaits_continue, interim_continue, is_head};
+pub use head_maker::HeadMaker;
+pub use offer::{ask_options, offer_request, offer_response};
+pub use onward::Headed;
+pub use plans::{limits_of, request_plan, response_plan};
+pub use pools::{is_reusable_after_options, pool_maximum};
+pub use reason::{
+    Reason, open_reason, options_reason, origin_head_reason, record_reason, user_head_reason,
+};
+pub use route::origin_address;
