@@ -5,3 +5,4 @@ pub mod Advance
 pub mod Hops
 pub mod Together
 pub mod Giving
+pub mod Reasons

@@ -1,5 +1,5 @@
 -- How a transaction's history, its tapes and its wires belong together.
-use Rattle.std.specs.Prelude.{◌≡◌, ℕ, ◌<◌, ◌⊎◌, Bool, true, false, List, [], ◌++◌, Option, Some, None, if◌then◌else◌}
+use Rattle.std.specs.Prelude.{◌≡◌, ℕ, ◌<◌, ◌≤◌, ◌⊎◌, Bool, true, false, List, [], ◌++◌, Option, Some, None, if◌then◌else◌}
 use Rattle.trace_core.specs.declared.history.Seen.{Seen}
 use Rattle.trace_core.specs.declared.history.Cause.{Cause}
 use Rattle.trace_core.specs.declared.history.Point.{Point}
@@ -112,6 +112,10 @@ pub record Goes (old_stands new_stands : Texts → Type 0) (source_old source_ne
   pub service : (p : Past) → service_old p → (q : Past) × service_new q × IsLater p delta.service_read delta.service_taken q
   pub next : (p : Past) → next_old p → (q : Past) × next_new q × IsLater p [] delta.next_taken q
 
+-- the cause is that of the side's fault
+abbrev pub IsCauseOf : {F : Type 0} → (F → Cause) → Cause → Option F → Type 0
+IsCauseOf {F} own cause new_fault = (fault : F) × (new_fault ≡ Some fault) × (cause ≡ own fault)
+
 -- a wire took these bytes of a refusal
 pub record TakesAside (old_aside new_aside : List ℕ → Type 0) (before after : Past → Type 0) : Type 0 where
   pub delta : List ℕ
@@ -121,6 +125,15 @@ pub record TakesAside (old_aside new_aside : List ℕ → Type 0) (before after 
 -- nothing was due, or the wire answered Wait in this call
 abbrev pub Waited : Type 0 → (Past → ℕ) → (Past → Type 0) → (Past → Type 0) → Type 0
 Waited rests waits before after = (p : Past) → before p → (q : Past) × after q × (rests ⊎ (waits p < waits q))
+
+-- the same, and another count didn't fall
+abbrev pub WaitedBeside : Type 0 → (waits others : Past → ℕ) → (Past → Type 0) → (Past → Type 0) → Type 0
+WaitedBeside rests waits others before after = (p : Past) → before p → (q : Past) × after q × (others p ≤ others q) × (rests ⊎ (waits p < waits q))
+
+-- the same of a line that is written and read: nothing was due to be written, or to be read, or the wire answered Wait
+abbrev pub WaitedBoth : (writes reads : Type 0) → (Past → Type 0) → (Past → Type 0) → Type 0
+WaitedBoth writes reads before after =
+    (p : Past) → before p → (q : Past) × after q × (writes ⊎ (p.write_waits < q.write_waits)) × (reads ⊎ (p.read_waits < q.read_waits))
 
 -- the cause is that of the side's fault; a first failure of the connection only where its wire failed in this call
 abbrev pub Blamed : {F : Type 0} → F → (F → Cause) → Cause → Option F → Option F → (Past → Type 0) → (Past → Type 0) → Type 0

@@ -172,6 +172,7 @@ pub(crate) fn send<B: Ledgers, V: Service, W: Wire>(
     ensures heard { (x : Seen) (adapted read : List ℕ) → V.has_heard x adapted read service.old → V.has_heard x adapted read service.new }
     ensures head { V.adapted_head service.new ≡ V.adapted_head service.old }
     ensures roomy { IsRoomy hold.new }
+    ensures whole { result.waiting ≡ true → result.broken ≡ false }
 {
     let state = hold.state();
     let tape = hold.original();

@@ -1,11 +1,13 @@
 //! A pass of the side that the chosen message goes to.
 
-ghost use Rattle.std.specs.Prelude.{◌≡◌, true, false, Some, None};
+ghost use Rattle.std.specs.Prelude.{◌≡◌, ◌⊎◌, true, false, Some, None};
 ghost use Rattle.trace_core.specs.declared.history.Cause.{Cause};
+ghost use Rattle.adapt_sides.specs.declared.fault.RelayFault.TheVariants.{Device};
 ghost use Rattle.adapt_sides.specs.Turns.{Gift};
 ghost use Rattle.adapt_sides.specs.Turns.Gift.{nothing};
 ghost use Rattle.adapt_hold.specs.Holding.{shows};
-ghost use Rattle.adapt_turn.specs.Stands.{IsChosen};
+ghost use Rattle.adapt_turn.specs.Parts.{hop_cause};
+ghost use Rattle.adapt_turn.specs.Stands.{IsChosen, Waited, Blamed};
 
 use crate::forward::Forward;
 use crate::parts::{Passed, give};
@@ -53,7 +55,8 @@ impl<B: Ledgers, S: Source, V: Service, K: Hop, F: Forward<S, K>, A: Wire, W: Wi
 > {
     /// Whether a message is chosen for the next hop.
     fn is_chosen(&self) -> bool
-        ensures { result ≡ true → IsChosen (shows self.now.hold.history) }
+        ensures chosen { result ≡ true → IsChosen (shows self.now.hold.history) }
+        ensures unchosen { result ≡ false → IsChosen (shows self.now.hold.history) → ⊥ }
     {
         let state = self.hold.state();
         state.chooses_original() || state.seen().modified
@@ -77,6 +80,9 @@ impl<B: Ledgers, S: Source, V: Service, K: Hop, F: Forward<S, K>, A: Wire, W: Wi
         ensures begun { result ≡ None → self.new.hold ≡ self.old.hold }
         ensures over { (cause : Cause) → result ≡ Some cause → (shows self.new.hold.history).closed ≡ true }
         ensures busy { result ≡ None → K.gift self.new.next ≡ nothing → K.gift self.new.back ≡ nothing → ⊥ }
+        ensures none { (cause : Cause) → result ≡ Some cause → (K.gift self.old.next ≡ nothing) × (K.gift self.old.back ≡ nothing) }
+        ensures kept { (self.new.source_wire ≡ self.old.source_wire) × (self.new.next_wire ≡ self.old.next_wire) × (K.fault self.new.next ≡ K.fault self.old.next) × (K.fault self.new.back ≡ K.fault self.old.back) }
+        ensures outcome { self.new.outcome ≡ self.old.outcome }
     {
         if !self.next.is_idle() {
             return None;
@@ -96,6 +102,8 @@ impl<B: Ledgers, S: Source, V: Service, K: Hop, F: Forward<S, K>, A: Wire, W: Wi
         ensures begun { result ≡ None → self.new.hold ≡ self.old.hold }
         ensures over { (cause : Cause) → result ≡ Some cause → (shows self.new.hold.history).closed ≡ true }
         ensures busy { result ≡ None → K.gift self.new.next ≡ nothing → K.gift self.new.back ≡ nothing → ⊥ }
+        ensures kept { (self.new.source_wire ≡ self.old.source_wire) × (self.new.next_wire ≡ self.old.next_wire) × (K.fault self.new.next ≡ K.fault self.old.next) × (K.fault self.new.back ≡ K.fault self.old.back) }
+        ensures outcome { self.new.outcome ≡ self.old.outcome }
     {
         let _state = self.hold.state();
         let answers = self.answers_user();
@@ -130,6 +138,12 @@ impl<B: Ledgers, S: Source, V: Service, K: Hop, F: Forward<S, K>, A: Wire, W: Wi
         ensures goes { ⟦<Self as Going>⟧.goes self.old self.new }
         ensures over { (cause : Cause) → result.failed ≡ Some cause → (shows self.new.hold.history).closed ≡ true }
         ensures whole { result.broken ≡ false }
+        ensures idle { result.waiting ≡ true → result.failed ≡ None }
+        ensures waits { result.waiting ≡ true → (Waited (K.rests (shows self.old.hold.history) self.new.next) (λ past. past.write_waits) (C.past self.old.next_wire) (C.past self.new.next_wire)
+            ⊎ Waited (K.rests (shows self.old.hold.history) self.new.back) (λ past. past.write_waits) (A.past self.old.source_wire) (A.past self.new.source_wire)) }
+        ensures blames { (cause : Cause) → result.failed ≡ Some cause → (Blamed Device hop_cause cause (K.fault self.old.next) (K.fault self.new.next) (C.past self.old.next_wire) (C.past self.new.next_wire)
+            ⊎ Blamed Device hop_cause cause (K.fault self.old.back) (K.fault self.new.back) (A.past self.old.source_wire) (A.past self.new.source_wire)) }
+        ensures outcome { self.new.outcome ≡ self.old.outcome }
     {
         let _state = self.hold.state();
         if self.back.is_idle() {
@@ -157,17 +171,23 @@ impl<B: Ledgers, S: Source, V: Service, K: Hop, F: Forward<S, K>, A: Wire, W: Wi
         ensures goes { ⟦<Self as Going>⟧.goes self.old self.new }
         ensures over { (cause : Cause) → result.failed ≡ Some cause → (shows self.new.hold.history).closed ≡ true }
         ensures whole { result.broken ≡ false }
+        ensures idle { result.waiting ≡ true → result.failed ≡ None }
+        ensures waits { result.waiting ≡ true → (IsChosen (shows self.old.hold.history) → ⊥) ⊎ (Waited (K.rests (shows self.old.hold.history) self.new.next) (λ past. past.write_waits) (C.past self.old.next_wire) (C.past self.new.next_wire)
+            ⊎ Waited (K.rests (shows self.old.hold.history) self.new.back) (λ past. past.write_waits) (A.past self.old.source_wire) (A.past self.new.source_wire)) }
+        ensures blames { (cause : Cause) → result.failed ≡ Some cause → ((K.gift self.old.next ≡ nothing) × (K.gift self.old.back ≡ nothing)) ⊎ (Blamed Device hop_cause cause (K.fault self.old.next) (K.fault self.new.next) (C.past self.old.next_wire) (C.past self.new.next_wire)
+            ⊎ Blamed Device hop_cause cause (K.fault self.old.back) (K.fault self.new.back) (A.past self.old.source_wire) (A.past self.new.source_wire)) }
+        ensures outcome { self.new.outcome ≡ self.old.outcome }
     {
         if !self.is_chosen() {
             return idle();
         }
-        if let Some(cause) = self.begin(rt, bank) {
-            return Passed {
+        match self.begin(rt, bank) {
+            Some(cause) => Passed {
                 waiting: false,
                 failed: Some(cause),
                 broken: false,
-            };
+            },
+            None => self.give_pass(rt, bank),
         }
-        self.give_pass(rt, bank)
     }
 }

@@ -69,6 +69,7 @@ fn refuse_on<K: Hop>(hop: &mut K, status: u16) -> bool
     ensures gift { result ≡ true → K.gift hop.new ≡ refusal status }
     ensures aside { result ≡ true → K.aside [] hop.new }
     ensures same { result ≡ false → hop.new ≡ hop.old }
+    ensures fault { K.fault hop.new ≡ K.fault hop.old }
 {
     if hop.untouched() {
         hop.refuse(status);
@@ -103,6 +104,8 @@ impl<B: Ledgers, S: Source, V: Service, K: Hop, F: Forward<S, K>, A: Wire, W: Wi
         ensures goes { ⟦<Self as Going>⟧.goes self.old self.new }
         ensures hold { self.new.hold ≡ self.old.hold }
         ensures outcome { self.new.outcome ≡ self.old.outcome }
+        ensures kept { (self.new.source ≡ self.old.source) × (self.new.source_wire ≡ self.old.source_wire) × (self.new.service ≡ self.old.service) × (self.new.next_wire ≡ self.old.next_wire)
+            × (K.fault self.new.next ≡ K.fault self.old.next) × (K.fault self.new.back ≡ K.fault self.old.back) }
     {
         self.refusing = refuse_on(&mut self.next, status);
     }
@@ -115,6 +118,8 @@ impl<B: Ledgers, S: Source, V: Service, K: Hop, F: Forward<S, K>, A: Wire, W: Wi
         ensures goes { ⟦<Self as Going>⟧.goes self.old self.new }
         ensures hold { self.new.hold ≡ self.old.hold }
         ensures outcome { self.new.outcome ≡ self.old.outcome }
+        ensures kept { (self.new.source ≡ self.old.source) × (self.new.source_wire ≡ self.old.source_wire) × (self.new.service ≡ self.old.service) × (self.new.next_wire ≡ self.old.next_wire)
+            × (K.fault self.new.next ≡ K.fault self.old.next) × (K.fault self.new.back ≡ K.fault self.old.back) }
     {
         self.refusing = refuse_on(&mut self.back, status);
     }
@@ -125,6 +130,8 @@ impl<B: Ledgers, S: Source, V: Service, K: Hop, F: Forward<S, K>, A: Wire, W: Wi
         ensures goes { ⟦<Self as Going>⟧.goes self.old self.new }
         ensures hold { self.new.hold ≡ self.old.hold }
         ensures outcome { self.new.outcome ≡ Outcome.Fail cause }
+        ensures kept { (self.new.source ≡ self.old.source) × (self.new.source_wire ≡ self.old.source_wire) × (self.new.service ≡ self.old.service) × (self.new.next_wire ≡ self.old.next_wire)
+            × (K.fault self.new.next ≡ K.fault self.old.next) × (K.fault self.new.back ≡ K.fault self.old.back) }
     {
         self.outcome = Outcome::Fail(cause);
         let point = self.point();
@@ -142,6 +149,9 @@ impl<B: Ledgers, S: Source, V: Service, K: Hop, F: Forward<S, K>, A: Wire, W: Wi
         ensures hold { self.new.hold ≡ self.old.hold }
         ensures none { failed ≡ None → self.new.outcome ≡ self.old.outcome }
         ensures some { (cause : Cause) → failed ≡ Some cause → self.new.outcome ≡ Outcome.Fail cause }
+        ensures kept { (self.new.source ≡ self.old.source) × (self.new.source_wire ≡ self.old.source_wire) × (self.new.service ≡ self.old.service) × (self.new.next_wire ≡ self.old.next_wire)
+            × (K.fault self.new.next ≡ K.fault self.old.next) × (K.fault self.new.back ≡ K.fault self.old.back) }
+        ensures same { failed ≡ None → (self.new.next ≡ self.old.next) × (self.new.back ≡ self.old.back) }
     {
         match failed {
             Some(cause) => self.refuse(cause),

@@ -2,3 +2,15 @@ use Rattle.adapt_turn.proofs.tx.Tx.after_pass.Goals as goal
 
 pub returns-clause-goes : goal.returns-clause-goes
 returns-clause-goes g c = c.refuse_failed.ensures.goes
+
+pub returns-clause-kept : goal.returns-clause-kept
+returns-clause-kept g c = c.refuse_failed.ensures.kept
+
+pub returns-clause-same : goal.returns-clause-same
+returns-clause-same g c = c.refuse_failed.ensures.same
+
+pub returns-clause-none : goal.returns-clause-none
+returns-clause-none g c = c.refuse_failed.ensures.none
+
+pub returns-clause-some : goal.returns-clause-some
+returns-clause-some g c = c.refuse_failed.ensures.some

@@ -1,5 +1,9 @@
 use Rattle.std.proofs.Common.{Some}
 use Rattle.adapt_turn.proofs.Together.{others_of, hear_goes, goes_none}
+use Rattle.adapt_turn.proofs.Reasons.{part_idle, hear_waits, line_blames}
+use Rattle.std.proofs.Common.{Option, subst}
+use Rattle.std.specs.Prelude.{MatchOption}
+use Rattle.adapt_turn.specs.declared.start.Line.{Line}
 use Rattle.adapt_turn.proofs.tx.Tx.hear_pass.Goals as goal
 
 pub returns-in-Some-clause-goes : goal.returns-in-Some-clause-goes
@@ -11,3 +15,15 @@ returns-in-Some-clause-goes g c =
 
 pub returns-in-None-clause-goes : goal.returns-in-None-clause-goes
 returns-in-None-clause-goes g c = goes_none _ _ _ _
+
+pub returns-in-Some-clause-idle : goal.returns-in-Some-clause-idle
+returns-in-Some-clause-idle g c = λ e. part_idle _ _ _ _ _ _ _ _ _ _ _ _ _ _ _ _ _ c.hear.ensures.part.part e
+
+pub returns-in-Some-clause-waits : goal.returns-in-Some-clause-waits
+returns-in-Some-clause-waits g c = λ e. hear_waits c.args.self.now.service c.in-Some.line (λ l p. g.W.Wire.past l.wire p) _ _ _ _ _ _ _ _ _ _ _ _ _ c.hear.result c.in-Some.is c.hear.ensures.part.part e
+
+pub returns-in-Some-clause-blames : goal.returns-in-Some-clause-blames
+returns-in-Some-clause-blames g c = λ cause e p b. line_blames c.args.self.now.service c.in-Some.line (λ l p. g.W.Wire.past l.wire p) _ _ _ _ _ _ _ _ _ _ _ _ _ _ c.hear.result c.in-Some.is c.hear.ensures.part.part cause e p b
+
+pub returns-in-None-clause-waits : goal.returns-in-None-clause-waits
+returns-in-None-clause-waits g c = λ e p b. absurd (subst (λ (z : Option (Line g.row.V.Denot g.row.W.Denot)). MatchOption z ⊥ (λ l. g.W.Wire.past l.wire p)) c.in-None.is b)

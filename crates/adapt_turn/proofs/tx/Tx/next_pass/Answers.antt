@@ -1,8 +1,29 @@
 use Rattle.adapt_turn.proofs.Together.{goes_none, goes_then}
+use Rattle.std.proofs.Common.{inl, inr}
+use Rattle.adapt_hold.specs.Holding.{shows}
+use Rattle.adapt_turn.proofs.Reasons.{waits_moved, blamed_from}
 use Rattle.adapt_turn.proofs.tx.Tx.next_pass.Goals as goal
 
 pub returns-then-not-is_chosen-clause-goes : goal.returns-then-not-is_chosen-clause-goes
 returns-then-not-is_chosen-clause-goes g c = goes_none _ _ _ _
 
-pub returns-clause-goes : goal.returns-clause-goes
-returns-clause-goes g c = goes_then _ _ _ _ _ _ _ _ _ _ _ _ c.begin.ensures.goes c.give_pass.ensures.goes
+pub returns-in-None-clause-goes : goal.returns-in-None-clause-goes
+returns-in-None-clause-goes g c = goes_then _ _ _ _ _ _ _ _ _ _ _ _ c.begin.ensures.goes c.give_pass.ensures.goes
+
+pub returns-then-not-is_chosen-clause-waits : goal.returns-then-not-is_chosen-clause-waits
+returns-then-not-is_chosen-clause-waits g c = λ e. inl (c.is_chosen.ensures.unchosen c.if-not-is_chosen.true)
+
+pub returns-in-Some-clause-blames : goal.returns-in-Some-clause-blames
+returns-in-Some-clause-blames g c = λ cause e. inl (c.begin.ensures.none c.in-Some.cause c.in-Some.is)
+
+pub returns-in-None-clause-waits : goal.returns-in-None-clause-waits
+returns-in-None-clause-waits g c = λ e. inr (elim (c.give_pass.ensures.waits e) [
+  | inl w ↦ inl (waits_moved c.args.self.now.hold c.begin.new.self.hold (λ h. g.K.Hop.rests (shows h.history) c.give_pass.new.self.next) g.C.Wire.past _ _ c.args.self.now.next_wire c.begin.new.self.next_wire (c.begin.ensures.begun c.in-None.is) c.begin.ensures.kept.1 w)
+  | inr w ↦ inr (waits_moved c.args.self.now.hold c.begin.new.self.hold (λ h. g.K.Hop.rests (shows h.history) c.give_pass.new.self.back) g.A.Wire.past _ _ c.args.self.now.source_wire c.begin.new.self.source_wire (c.begin.ensures.begun c.in-None.is) c.begin.ensures.kept.0 w)
+])
+
+pub returns-in-None-clause-blames : goal.returns-in-None-clause-blames
+returns-in-None-clause-blames g c = λ cause e. inr (elim (c.give_pass.ensures.blames cause e) [
+  | inl w ↦ inl (blamed_from _ _ cause g.C.Wire.past _ (g.K.Hop.fault c.begin.new.self.next) (g.K.Hop.fault c.args.self.now.next) _ c.begin.new.self.next_wire c.args.self.now.next_wire c.begin.ensures.kept.2 c.begin.ensures.kept.1 w)
+  | inr w ↦ inr (blamed_from _ _ cause g.A.Wire.past _ (g.K.Hop.fault c.begin.new.self.back) (g.K.Hop.fault c.args.self.now.back) _ c.begin.new.self.source_wire c.args.self.now.source_wire c.begin.ensures.kept.3 c.begin.ensures.kept.0 w)
+])

@@ -1,5 +1,9 @@
 use Rattle.std.proofs.Common.{Some}
 use Rattle.adapt_turn.proofs.Together.{others_of, send_goes, goes_none}
+use Rattle.adapt_turn.proofs.Reasons.{part_idle, part_still, send_waits, line_blames}
+use Rattle.std.proofs.Common.{Option, subst}
+use Rattle.std.specs.Prelude.{MatchOption}
+use Rattle.adapt_turn.specs.declared.start.Line.{Line}
 use Rattle.adapt_turn.proofs.tx.Tx.send_pass.Goals as goal
 
 pub returns-in-Some-clause-goes : goal.returns-in-Some-clause-goes
@@ -11,3 +15,18 @@ returns-in-Some-clause-goes g c =
 
 pub returns-in-None-clause-goes : goal.returns-in-None-clause-goes
 returns-in-None-clause-goes g c = goes_none _ _ _ _
+
+pub returns-in-Some-clause-idle : goal.returns-in-Some-clause-idle
+returns-in-Some-clause-idle g c = λ e. part_idle _ _ _ _ _ _ _ _ _ _ _ _ _ _ _ _ _ c.send.ensures.part.part e
+
+pub returns-in-Some-clause-still : goal.returns-in-Some-clause-still
+returns-in-Some-clause-still g c = λ e. part_still _ _ _ _ _ _ _ _ _ _ _ _ _ _ _ _ _ c.send.ensures.part.part e
+
+pub returns-in-Some-clause-waits : goal.returns-in-Some-clause-waits
+returns-in-Some-clause-waits g c = λ e. send_waits c.args.self.now.service c.in-Some.line (λ l p. g.W.Wire.past l.wire p) _ _ _ _ _ _ _ _ _ _ _ _ _ c.send.result c.in-Some.is c.send.ensures.part.part e
+
+pub returns-in-Some-clause-blames : goal.returns-in-Some-clause-blames
+returns-in-Some-clause-blames g c = λ cause e p b. line_blames c.args.self.now.service c.in-Some.line (λ l p. g.W.Wire.past l.wire p) _ _ _ _ _ _ _ _ _ _ _ _ _ _ c.send.result c.in-Some.is c.send.ensures.part.part cause e p b
+
+pub returns-in-None-clause-waits : goal.returns-in-None-clause-waits
+returns-in-None-clause-waits g c = λ e p b. absurd (subst (λ (z : Option (Line g.row.V.Denot g.row.W.Denot)). MatchOption z ⊥ (λ l. g.W.Wire.past l.wire p)) c.in-None.is b)

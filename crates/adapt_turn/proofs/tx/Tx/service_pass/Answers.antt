@@ -1,4 +1,10 @@
 use Rattle.adapt_turn.proofs.Together.{goes_then}
+use Rattle.std.proofs.Common.{sym, ◌∙◌, ap}
+use Rattle.std.proofs.lemmas.Bool.{false≢true}
+use Rattle.std.specs.Prelude.{MatchOption, ⊤}
+use Rattle.plan_rules.specs.Room.{adapted_room}
+use Rattle.adapt_hold.specs.Holding.{Holding, shows}
+use Rattle.adapt_turn.proofs.Reasons.{both_waited}
 use Rattle.adapt_turn.proofs.tx.Tx.service_pass.Goals as goal
 
 pub returns-then-sent-2-clause-goes : goal.returns-then-sent-2-clause-goes
@@ -6,3 +12,17 @@ returns-then-sent-2-clause-goes g c = goes_then _ _ _ _ _ _ _ _ _ _ _ _ c.send_p
 
 pub returns-else-sent-2-clause-goes : goal.returns-else-sent-2-clause-goes
 returns-else-sent-2-clause-goes g c = goes_then _ _ _ _ _ _ _ _ _ _ _ _ c.send_pass-sent.ensures.goes c.hear_pass-heard.ensures.goes
+
+pub returns-then-is_closed-clause-waits : goal.returns-then-is_closed-clause-waits
+returns-then-is_closed-clause-waits g c = λ e. absurd (false≢true (sym c.requires.running ∙ ap (λ (h : Holding). (shows h.history).closed) (sym (c.send_pass-sent.ensures.still e)) ∙ sym c.is_closed.ensures ∙ c.if-is_closed.true))
+
+pub returns-then-sent-2-clause-waits : goal.returns-then-sent-2-clause-waits
+returns-then-sent-2-clause-waits g c = λ e. both_waited c.args.self.now.hold c.send_pass-sent.new.self.hold _ _ _ _ _
+    (λ h. MatchOption c.hear_pass-heard.new.self.service ⊤ (λ line. g.V.Service.rests_reading (shows h.history) (adapted_room (shows h.history) h.limits.window) line.side))
+    (c.send_pass-sent.ensures.still c.if-sent-2.true) (λ x. c.hear_pass-heard.ensures.rests (shows c.args.self.now.hold.history) x) (c.send_pass-sent.ensures.waits c.if-sent-2.true) (c.hear_pass-heard.ensures.waits e)
+
+pub returns-then-sent-2-clause-blames : goal.returns-then-sent-2-clause-blames
+returns-then-sent-2-clause-blames g c = λ cause e p b. let w = c.send_pass-sent.ensures.goes.service p b in c.hear_pass-heard.ensures.blames cause e w.0 w.1
+
+pub returns-else-sent-2-clause-blames : goal.returns-else-sent-2-clause-blames
+returns-else-sent-2-clause-blames g c = λ cause e p b. let w = c.send_pass-sent.ensures.goes.service p b in c.hear_pass-heard.ensures.blames cause e w.0 w.1

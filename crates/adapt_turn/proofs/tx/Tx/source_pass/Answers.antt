@@ -1,4 +1,8 @@
 use Rattle.adapt_turn.proofs.Together.{others_of, source_goes, disagree_goes}
+use Rattle.std.proofs.Common.{sym, subst}
+use Rattle.trace_core.specs.History.{History}
+use Rattle.adapt_hold.specs.Holding.{shows}
+use Rattle.adapt_turn.proofs.Reasons.{part_idle, part_waits, part_blames}
 use Rattle.adapt_turn.proofs.tx.Tx.source_pass.Goals as goal
 
 pub returns-then-agrees_with-clause-goes : goal.returns-then-agrees_with-clause-goes
@@ -11,3 +15,15 @@ pub returns-else-agrees_with-clause-goes : goal.returns-else-agrees_with-clause-
 returns-else-agrees_with-clause-goes g c =
     disagree_goes c.args.self.now.hold c.state-state.result.now (λ x. g.S.Source.agrees x c.args.self.now.source) _ _ _ _ _ _ _ _ _
     c.requires.running c.state-state.ensures.state (c.agrees_with.ensures.no c.if-agrees_with.false)
+
+pub returns-then-agrees_with-clause-idle : goal.returns-then-agrees_with-clause-idle
+returns-then-agrees_with-clause-idle g c = λ e. part_idle _ _ _ _ _ _ _ _ _ _ _ _ _ _ _ _ _ c.read_source.ensures.part.part e
+
+pub returns-then-agrees_with-clause-waits : goal.returns-then-agrees_with-clause-waits
+returns-then-agrees_with-clause-waits g c = λ e. part_waits _ _ _ _ _ _ _ _ _ _ _ _ _ _ _ _ _ c.read_source.ensures.part.part e
+
+pub returns-then-agrees_with-clause-blames : goal.returns-then-agrees_with-clause-blames
+returns-then-agrees_with-clause-blames g c = λ cause e a. part_blames _ _ _ _ _ _ _ _ _ _ _ _ _ _ _ _ _ c.read_source.ensures.part.part cause e
+
+pub returns-else-agrees_with-clause-blames : goal.returns-else-agrees_with-clause-blames
+returns-else-agrees_with-clause-blames g c = λ cause e a. absurd (c.agrees_with.ensures.no c.if-agrees_with.false (subst (λ (y : History). g.S.Source.agrees (shows y) c.args.self.now.source) (sym c.state-state.ensures.state) a))

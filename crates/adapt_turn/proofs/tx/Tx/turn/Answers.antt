@@ -1,4 +1,10 @@
 use Rattle.adapt_turn.proofs.Together.{goes_none, goes_then}
+use Rattle.std.proofs.Common.{inl, inr, ◌∙◌, ap}
+use Rattle.plan_rules.specs.Room.{original_room, adapted_room}
+use Rattle.adapt_hold.specs.Holding.{shows}
+use Rattle.adapt_turn.specs.Parts.{service_cause}
+use Rattle.adapt_turn.specs.Stands.{IsCauseOf}
+use Rattle.adapt_turn.proofs.Reasons.{waits_kept, both_kept, blamed_kept, line_kept, outcome_fails}
 use Rattle.adapt_turn.proofs.tx.Tx.turn.Goals as goal
 
 pub returns-then-is_broken-clause-goes : goal.returns-then-is_broken-clause-goes
@@ -6,3 +12,29 @@ returns-then-is_broken-clause-goes g c = goes_none _ _ _ _
 
 pub returns-clause-goes : goal.returns-clause-goes
 returns-clause-goes g c = goes_then _ _ _ _ _ _ _ _ _ _ _ _ c.pass-passed.ensures.goes c.after_pass.ensures.goes
+
+pub returns-clause-waits_source : goal.returns-clause-waits_source
+returns-clause-waits_source g c = λ s o w. waits_kept (λ z. g.S.Source.rests (original_room (shows c.args.self.now.hold.history) c.args.self.now.hold.claim c.args.self.now.hold.limits.window) z) g.A.Wire.past _ _ c.pass-passed.new.self.source c.after_pass.new.self.source c.pass-passed.new.self.source_wire c.after_pass.new.self.source_wire c.after_pass.ensures.kept.0 c.after_pass.ensures.kept.1 (c.pass-passed.ensures.waits_source s (c.after_pass.ensures.waiting w))
+
+pub returns-clause-waits_service : goal.returns-clause-waits_service
+returns-clause-waits_service g c = λ s o w. both_kept (λ l. g.V.Service.rests_writing (shows c.args.self.now.hold.history) l.side) (λ l. g.V.Service.rests_reading (shows c.args.self.now.hold.history) (adapted_room (shows c.args.self.now.hold.history) c.args.self.now.hold.limits.window) l.side) (λ l p. g.W.Wire.past l.wire p) _ c.pass-passed.new.self.service c.after_pass.new.self.service c.after_pass.ensures.kept.2 (c.pass-passed.ensures.waits_service s (c.after_pass.ensures.waiting w))
+
+pub returns-clause-waits_next : goal.returns-clause-waits_next
+returns-clause-waits_next g c = λ s o w. elim (c.pass-passed.ensures.waits_next s (c.after_pass.ensures.waiting w)) [
+  | inl u ↦ inl u
+  | inr (inl v) ↦ inr (inl (waits_kept (λ z. g.K.Hop.rests (shows c.args.self.now.hold.history) z) g.C.Wire.past _ _ c.pass-passed.new.self.next c.after_pass.new.self.next c.pass-passed.new.self.next_wire c.after_pass.new.self.next_wire (c.after_pass.ensures.same (c.pass-passed.ensures.idle (c.after_pass.ensures.waiting w))).0 c.after_pass.ensures.kept.3 v))
+  | inr (inr v) ↦ inr (inr (waits_kept (λ z. g.K.Hop.rests (shows c.args.self.now.hold.history) z) g.A.Wire.past _ _ c.pass-passed.new.self.back c.after_pass.new.self.back c.pass-passed.new.self.source_wire c.after_pass.new.self.source_wire (c.after_pass.ensures.same (c.pass-passed.ensures.idle (c.after_pass.ensures.waiting w))).1 c.after_pass.ensures.kept.1 v))
+]
+
+pub returns-clause-fails_source : goal.returns-clause-fails_source
+returns-clause-fails_source g c = λ s o d cause e. inr (λ a. blamed_kept _ _ cause g.A.Wire.past _ _ (g.S.Source.fault c.pass-passed.new.self.source) (g.S.Source.fault c.after_pass.new.self.source) c.pass-passed.new.self.source_wire c.after_pass.new.self.source_wire (ap g.S.Source.fault c.after_pass.ensures.kept.0) c.after_pass.ensures.kept.1 (c.pass-passed.ensures.blames_source s cause (outcome_fails c.pass-passed.result.failed c.args.self.now.outcome c.after_pass.new.self.outcome cause (λ n. c.after_pass.ensures.none n ∙ c.pass-passed.ensures.outcome) c.after_pass.ensures.some d e) a))
+
+pub returns-clause-fails_service : goal.returns-clause-fails_service
+returns-clause-fails_service g c = λ s o d cause e. inr (line_kept (λ l. IsCauseOf service_cause cause (g.V.Service.fault l.side)) _ c.pass-passed.new.self.service c.after_pass.new.self.service c.after_pass.ensures.kept.2 (c.pass-passed.ensures.blames_service s cause (outcome_fails c.pass-passed.result.failed c.args.self.now.outcome c.after_pass.new.self.outcome cause (λ n. c.after_pass.ensures.none n ∙ c.pass-passed.ensures.outcome) c.after_pass.ensures.some d e)))
+
+pub returns-clause-fails_next : goal.returns-clause-fails_next
+returns-clause-fails_next g c = λ s o d cause e. inr (elim (c.pass-passed.ensures.blames_next s cause (outcome_fails c.pass-passed.result.failed c.args.self.now.outcome c.after_pass.new.self.outcome cause (λ n. c.after_pass.ensures.none n ∙ c.pass-passed.ensures.outcome) c.after_pass.ensures.some d e)) [
+  | inl u ↦ inl u
+  | inr (inl v) ↦ inr (inl (blamed_kept _ _ cause g.C.Wire.past _ _ (g.K.Hop.fault c.pass-passed.new.self.next) (g.K.Hop.fault c.after_pass.new.self.next) c.pass-passed.new.self.next_wire c.after_pass.new.self.next_wire c.after_pass.ensures.kept.4 c.after_pass.ensures.kept.3 v))
+  | inr (inr v) ↦ inr (inr (blamed_kept _ _ cause g.A.Wire.past _ _ (g.K.Hop.fault c.pass-passed.new.self.back) (g.K.Hop.fault c.after_pass.new.self.back) c.pass-passed.new.self.source_wire c.after_pass.new.self.source_wire c.after_pass.ensures.kept.5 c.after_pass.ensures.kept.1 v))
+])

@@ -1,0 +1,109 @@
+-- Why a pass waits, or fails.
+use Rattle.std.proofs.Common.{◌≡◌, ℕ, ◌<◌, ◌≤◌, ◌⊎◌, inl, inr, Bool, true, List, Option, Some, None, arith, refl, sym, ◌∙◌, ap, subst}
+use Rattle.std.specs.Prelude.{MatchOption, ⊤}
+use Rattle.trace_core.specs.declared.history.Event.{Event}
+use Rattle.trace_core.specs.declared.history.Cause.{Cause}
+use Rattle.wire_kit.specs.Past.{Past}
+use Rattle.adapt_sides.specs.declared.fault.ClientFault.{ClientFault}
+use Rattle.adapt_sides.specs.declared.fault.ClientFault.TheVariants as client
+use Rattle.adapt_hold.specs.Holding.{Holding}
+use Rattle.adapt_hold.specs.Steps.{moved_all}
+use Rattle.adapt_turn.specs.declared.parts.Passed.{Passed}
+use Rattle.adapt_turn.specs.declared.turned.Outcome.{Outcome}
+use Rattle.adapt_turn.specs.declared.turned.Outcome.TheVariants as outcomes
+use Rattle.adapt_turn.specs.Parts.{Part, stepped}
+use Rattle.adapt_turn.specs.Stands.{Waited, WaitedBeside, WaitedBoth, Blamed, IsCauseOf}
+
+pub part_waits : {F : Type 0} (broken : F) (own : F → Cause) (h k : Holding) (test : Event → Bool) (reported : List Event) (out given taken delta : List ℕ) (f0 f1 : Option F) (rests : Type 0) (waits : Past → ℕ) (before after_ : Past → Type 0) (passed : Passed)
+    → Part broken own h k test reported out given taken delta f0 f1 rests waits before after_ passed → passed.waiting ≡ true → Waited rests waits before after_
+part_waits broken own h k test reported out given taken delta f0 f1 rests waits before after_ passed p e = λ past b. let w = p.wire past b in (w.0, w.1, w.3.waiting e)
+
+pub part_blames : {F : Type 0} (broken : F) (own : F → Cause) (h k : Holding) (test : Event → Bool) (reported : List Event) (out given taken delta : List ℕ) (f0 f1 : Option F) (rests : Type 0) (waits : Past → ℕ) (before after_ : Past → Type 0) (passed : Passed)
+    → Part broken own h k test reported out given taken delta f0 f1 rests waits before after_ passed → (cause : Cause) → passed.failed ≡ Some cause → Blamed broken own cause f0 f1 before after_
+part_blames broken own h k test reported out given taken delta f0 f1 rests waits before after_ passed p cause e = λ past b. let w = p.wire past b in (w.0, w.1, w.3.failed cause e)
+
+pub part_idle : {F : Type 0} (broken : F) (own : F → Cause) (h k : Holding) (test : Event → Bool) (reported : List Event) (out given taken delta : List ℕ) (f0 f1 : Option F) (rests : Type 0) (waits : Past → ℕ) (before after_ : Past → Type 0) (passed : Passed)
+    → Part broken own h k test reported out given taken delta f0 f1 rests waits before after_ passed → passed.waiting ≡ true → passed.failed ≡ None
+part_idle broken own h k test reported out given taken delta f0 f1 rests waits before after_ passed p e = (p.tells.idle e).2
+
+-- the same sides and wires, by other names
+
+pub waits_kept : {S A : Type 0} (rests : S → Type 0) (past : A → Past → Type 0) (waits : Past → ℕ) (before : Past → Type 0) (s s' : S) (a a' : A) → s' ≡ s → a' ≡ a
+    → Waited (rests s) waits before (past a) → Waited (rests s') waits before (past a')
+waits_kept {S} {A} rests past waits before s s' a a' e f w =
+    subst (λ (z : S). Waited (rests z) waits before (past a')) (sym e) (subst (λ (z : A). Waited (rests s) waits before (past z)) (sym f) w)
+
+pub blamed_kept : {F A : Type 0} (broken : F) (own : F → Cause) (cause : Cause) (past : A → Past → Type 0) (before : Past → Type 0) (f0 f1 f2 : Option F) (a a' : A) → f2 ≡ f1 → a' ≡ a
+    → Blamed broken own cause f0 f1 before (past a) → Blamed broken own cause f0 f2 before (past a')
+blamed_kept {F} {A} broken own cause past before f0 f1 f2 a a' e f w =
+    subst (λ (z : Option F). Blamed broken own cause f0 z before (past a')) (sym e) (subst (λ (z : A). Blamed broken own cause f0 f1 before (past z)) (sym f) w)
+
+-- the fault and the wire before it, by other names
+pub blamed_from : {F A : Type 0} (broken : F) (own : F → Cause) (cause : Cause) (past : A → Past → Type 0) (after_ : Past → Type 0) (f0 f1 f2 : Option F) (a a' : A) → f0 ≡ f1 → a ≡ a'
+    → Blamed broken own cause f0 f2 (past a) after_ → Blamed broken own cause f1 f2 (past a') after_
+blamed_from {F} {A} broken own cause past after_ f0 f1 f2 a a' e f w =
+    subst (λ (z : Option F). Blamed broken own cause z f2 (past a') after_) e (subst (λ (z : A). Blamed broken own cause f0 f2 (past z) after_) f w)
+
+-- an outcome that is new says why a pass failed
+pub outcome_fails : (failed : Option Cause) (before r : Outcome) (cause : Cause) → (failed ≡ None → r ≡ before) → ((c : Cause) → failed ≡ Some c → r ≡ outcomes.Fail c)
+    → before ≡ outcomes.Done → r ≡ outcomes.Fail cause → failed ≡ Some cause
+outcome_fails None before r cause none some d e = absurd (let n = none refl in cc)
+outcome_fails (Some c) before r cause none some d e = let s = some c refl in cc
+
+-- the service's line
+
+pub part_still : {F : Type 0} (broken : F) (own : F → Cause) (h k : Holding) (test : Event → Bool) (reported : List Event) (out given taken delta : List ℕ) (f0 f1 : Option F) (rests : Type 0) (waits : Past → ℕ) (before after_ : Past → Type 0) (passed : Passed)
+    → Part broken own h k test reported out given taken delta f0 f1 rests waits before after_ passed → passed.waiting ≡ true → k ≡ h
+part_still broken own h k test reported out given taken delta f0 f1 rests waits before after_ passed p e =
+    let i = p.tells.idle e in
+    p.is ∙ ap (λ (f : Option Cause). moved_all h (stepped f reported) out) i.2 ∙ ap (λ (es : List Event). moved_all h es out) i.1
+
+pub send_waits : {L : Type 0} (line : Option L) (l : L) (past : L → Past → Type 0) (own : ClientFault → Cause) (h k : Holding) (test : Event → Bool) (reported : List Event) (out given taken delta : List ℕ) (f0 f1 : Option ClientFault) (rests : Type 0) (after_ : Past → Type 0) (passed : Passed)
+    → line ≡ Some l → Part client.Device own h k test reported out given taken delta f0 f1 rests (λ q. q.write_waits) (past l) after_ passed → passed.waiting ≡ true
+    → WaitedBeside rests (λ q. q.write_waits) (λ q. q.read_waits) (λ p. MatchOption line ⊥ (λ z. past z p)) after_
+send_waits {L} line l past own h k test reported out given taken delta f0 f1 rests after_ passed same part e =
+    subst (λ (z : Option L). WaitedBeside rests (λ q. q.write_waits) (λ q. q.read_waits) (λ p. MatchOption z ⊥ (λ y. past y p)) after_) (sym same)
+    (λ p b. let w = part.wire p b in (w.0, w.1, w.2.read_waits, w.3.waiting e))
+
+pub hear_waits : {L : Type 0} (line : Option L) (l : L) (past : L → Past → Type 0) (own : ClientFault → Cause) (h k : Holding) (test : Event → Bool) (reported : List Event) (out given taken delta : List ℕ) (f0 f1 : Option ClientFault) (rests : Type 0) (after_ : Past → Type 0) (passed : Passed)
+    → line ≡ Some l → Part client.Device own h k test reported out given taken delta f0 f1 rests (λ q. q.read_waits) (past l) after_ passed → passed.waiting ≡ true
+    → WaitedBeside rests (λ q. q.read_waits) (λ q. q.write_waits) (λ p. MatchOption line ⊥ (λ z. past z p)) after_
+hear_waits {L} line l past own h k test reported out given taken delta f0 f1 rests after_ passed same part e =
+    subst (λ (z : Option L). WaitedBeside rests (λ q. q.read_waits) (λ q. q.write_waits) (λ p. MatchOption z ⊥ (λ y. past y p)) after_) (sym same)
+    (λ p b. let w = part.wire p b in (w.0, w.1, w.2.write_waits, w.3.waiting e))
+
+pub line_blames : {L : Type 0} (line : Option L) (l : L) (past : L → Past → Type 0) (own : ClientFault → Cause) (h k : Holding) (test : Event → Bool) (reported : List Event) (out given taken delta : List ℕ) (f0 f1 : Option ClientFault) (rests : Type 0) (waits : Past → ℕ) (after_ : Past → Type 0) (passed : Passed)
+    → line ≡ Some l → Part client.Device own h k test reported out given taken delta f0 f1 rests waits (past l) after_ passed → (cause : Cause) → passed.failed ≡ Some cause
+    → (p : Past) → MatchOption line ⊥ (λ z. past z p) → IsCauseOf own cause f1
+line_blames {L} line l past own h k test reported out given taken delta f0 f1 rests waits after_ passed same part cause e p b =
+    let w = part.wire p (subst (λ (z : Option L). MatchOption z ⊥ (λ y. past y p)) same b) in
+    let f = w.3.failed cause e in
+    (f.0, f.1, f.2)
+
+pub both_waited : (h m : Holding) (before mid after_ : Past → Type 0) (w0 w1 : Type 0) (r : Holding → Type 0) → m ≡ h → (w0 → w1)
+    → WaitedBeside w0 (λ q. q.write_waits) (λ q. q.read_waits) before mid → WaitedBeside (r m) (λ q. q.read_waits) (λ q. q.write_waits) mid after_ → WaitedBoth w1 (r h) before after_
+both_waited h m before mid after_ w0 w1 r e k s t = λ p b. let u = s p b in let v = t u.0 u.1 in (v.0, v.1, writes p u.0 v.0 v.2 u.3, reads p u.0 v.0 u.2 v.3)
+  where
+    writes : (a b c : Past) → b.write_waits ≤ c.write_waits → w0 ⊎ (a.write_waits < b.write_waits) → w1 ⊎ (a.write_waits < c.write_waits)
+    writes a b c l (inl x) = inl (k x)
+    writes a b c l (inr n) = inr (omega (arith, l, n))
+
+    reads : (a b c : Past) → a.read_waits ≤ b.read_waits → r m ⊎ (b.read_waits < c.read_waits) → r h ⊎ (a.read_waits < c.read_waits)
+    reads a b c l (inl x) = inl (subst r e x)
+    reads a b c l (inr n) = inr (omega (arith, l, n))
+
+-- the writer's pass, behind a beginning that changed neither what is held nor a wire
+
+pub waits_moved : {A : Type 0} (h m : Holding) (rests : Holding → Type 0) (past : A → Past → Type 0) (waits : Past → ℕ) (after_ : Past → Type 0) (a a' : A) → m ≡ h → a' ≡ a
+    → Waited (rests m) waits (past a') after_ → Waited (rests h) waits (past a) after_
+waits_moved {A} h m rests past waits after_ a a' e f w =
+    subst (λ (z : Holding). Waited (rests z) waits (past a) after_) e (subst (λ (z : A). Waited (rests m) waits (past z) after_) f w)
+
+-- the service's line behind a refusal
+
+pub both_kept : {L : Type 0} (w r : L → Type 0) (past : L → Past → Type 0) (before : Past → Type 0) (l l' : Option L) → l' ≡ l
+    → WaitedBoth (MatchOption l ⊤ w) (MatchOption l ⊤ r) before (λ p. MatchOption l ⊥ (λ z. past z p)) → WaitedBoth (MatchOption l' ⊤ w) (MatchOption l' ⊤ r) before (λ p. MatchOption l' ⊥ (λ z. past z p))
+both_kept {L} w r past before l l' e t = subst (λ (y : Option L). WaitedBoth (MatchOption y ⊤ w) (MatchOption y ⊤ r) before (λ p. MatchOption y ⊥ (λ z. past z p))) (sym e) t
+
+pub line_kept : {L : Type 0} (told : L → Type 0) (before : Past → Type 0) (l l' : Option L) → l' ≡ l → ((p : Past) → before p → MatchOption l ⊥ told) → (p : Past) → before p → MatchOption l' ⊥ told
+line_kept {L} told before l l' e t p b = subst (λ (y : Option L). MatchOption y ⊥ told) (sym e) (t p b)
