@@ -2,6 +2,7 @@
 
 mod streams;
 
+use crate::line_front::goes_on;
 use crate::{NoMemory, ServeFault, ServerFault, ServerSide, Settings, serve};
 use std::alloc::Global;
 use std::io::{self, ErrorKind, Read, Write};
@@ -40,6 +41,22 @@ fn streams_cut_at_every_byte(rt: HostRuntime) {
         for size in 1..text.len().max(1).saturating_add(1) {
             let found = answers(rt.alloc(), text, size).expect(&rt, "memory");
             assert_eq!(rt; found.as_slice(), want.as_bytes(), "{name} by {size}");
+        }
+    }
+}
+
+/// A head in single bytes is read anew at the end of each line, and at no other byte.
+#[test]
+fn dribbled_heads_are_read_once_a_line(rt: HostRuntime) {
+    let heads = [
+        "REQMOD icap://h:1344/reqmod/pass?a=b ICAP/1.0\r\nHost: h:1344\r\nX:\r\nAllow: 204, trailers\r\nPreview:\t4 \r\n\r\n",
+        "OPTIONS icap://h/respmod/upper ICAP/1.0\nHost: h\nEncapsulated: null-body=0\n\n",
+    ];
+    for head in heads {
+        let text = head.as_bytes();
+        for (at, byte) in text.iter().enumerate() {
+            let front = &text[..at.min(text.len())];
+            assert_eq!(rt; goes_on(front, &[*byte]), *byte != b'\n', "byte {at}");
         }
     }
 }
