@@ -253,20 +253,20 @@ none_again {V} {W} has_sent has_heard line h k agrees read hops refuses t e u ti
 -- the beginning
 
 pub begins : {V W K : Type 0} (has_sent has_heard : Seen → List ℕ → List ℕ → V → Type 0) (has_given : Seen → List ℕ → List ℕ → List ℕ → K → Type 0) (gift : K → Gift) (aside : List ℕ → K → Type 0)
-    (h : Holding) (plan : Plan) (agrees : Seen → Type 0) (read : Seen → List ℕ → List ℕ → Type 0) (line : Option (Line V W)) (next back : K)
+    (h : Holding) (plan : Plan) (agrees : Seen → Type 0) (read : Seen → List ℕ → List ℕ → Type 0) (line : Option (Line V W)) (next back : K) (text : List ℕ)
     → h.history ≡ record { plan = plan; events = [] } → h.original ≡ record { base = 0; bytes = [] } → h.adapted ≡ record { base = 0; bytes = [] }
-    → agrees (seen plan []) → read (seen plan []) [] [] → IfSome line (λ l. has_sent (seen plan []) [] [] l.side × has_heard (seen plan []) [] [] l.side)
+    → agrees (seen plan []) → read (seen plan []) [] text → IfSome line (λ l. has_sent (seen plan []) [] [] l.side × has_heard (seen plan []) [] [] l.side)
     → gift next ≡ nothing → aside [] next → gift back ≡ nothing → aside [] back
     → Stands h agrees read (λ x came taken. MatchOption line (taken ≡ []) (λ l. has_sent x came taken l.side)) (λ x adapted text. MatchOption line ((adapted ≡ []) × (text ≡ [])) (λ l. has_heard x adapted text l.side))
     (HopsAre (gift next) (gift back) (λ x head body taken. has_given x head body taken next) (λ taken. aside taken next) (λ x head body taken. has_given x head body taken back) (λ taken. aside taken back))
-    (IsRefusing false (gift next) (gift back)) no_texts
-begins {V} {W} {K} has_sent has_heard has_given gift aside h plan agrees read line next back eh eo ea ag re sides ng na bg ba = record {
+    (IsRefusing false (gift next) (gift back)) (record no_texts { source_read = text })
+begins {V} {W} {K} has_sent has_heard has_given gift aside h plan agrees read line next back text eh eo ea ag re sides ng na bg ba = record {
   original = [];
   adapted = [];
   original_is = subst (λ (s : Span). EndsBody s []) (sym eo) empty;
   adapted_is = subst (λ (s : Span). EndsBody s []) (sym ea) empty;
   agrees_is = λ c. subst (λ (y : History). agrees (shows y)) (sym eh) ag;
-  read_is = subst (λ (y : History). read (shows y) [] []) (sym eh) re;
+  read_is = subst (λ (y : History). read (shows y) [] text) (sym eh) re;
   sent_is = subst (λ (y : History). MatchOption line (nil ≡ nil) (λ l. has_sent (shows y) [] [] l.side)) (sym eh) (sent line sides);
   heard_is = subst (λ (y : History). MatchOption line ((nil ≡ nil) × (nil ≡ nil)) (λ l. has_heard (shows y) [] [] l.side)) (sym eh) (heard line sides);
   hops_are = inl (record { next_is = ng; back_is = bg; none = subst (λ (y : History). IsUndelivered (shows y)) (sym eh) (refl, refl); next_aside_is = na; back_aside_is = ba });

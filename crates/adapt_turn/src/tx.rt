@@ -1,6 +1,6 @@
 //! One transaction with its three sides and their wires.
 
-ghost use Rattle.std.specs.Prelude.{◌≡◌, ◌≤◌, ◌^◌, ◌↔◌, true, false, [], Some, None, IsOk, IfOk, IfErr, IfSome};
+ghost use Rattle.std.specs.Prelude.{◌≡◌, ℕ, List, ◌≤◌, ◌^◌, ◌↔◌, true, false, [], Some, None, IsOk, IfOk, IfErr, IfSome};
 ghost use Rattle.trace_core.specs.declared.history.Event.TheVariants.{Retry};
 ghost use Rattle.trace_core.specs.Legal.{MayFollow};
 ghost use Rattle.plan_rules.specs.Claims.{claim_of};
@@ -123,10 +123,10 @@ impl<B: Ledgers, S: Source, V: Service, K: Hop, F: Forward<S, K>, A: Wire, W: Wi
         requires small { start.stake.claim ≤ 2 ^ 40 }
         ensures begun { IfOk result (λ tx. tx.hold.history ≡ record { plan = start.plan; events = [] }) }
         ensures clock { IfOk result (λ tx. (tx.last_moved ≡ start.now) × (tx.deadline ≡ start.deadline)) }
-        ensures stands { IfOk result (λ tx. S.has_read (seen start.plan []) [] [] start.source
+        ensures stands { IfOk result (λ tx. (read : List ℕ) → S.has_read (seen start.plan []) [] read start.source
             → IfSome start.service (λ line. V.has_sent (seen start.plan []) [] [] line.side × V.has_heard (seen start.plan []) [] [] line.side)
             → K.gift start.next ≡ nothing → K.aside [] start.next → K.gift start.back ≡ nothing → K.aside [] start.back
-            → ⟦<Self as Standing>⟧.stands tx no_texts) }
+            → ⟦<Self as Standing>⟧.stands tx (record no_texts { source_read = read })) }
         ensures back { IfErr result (λ back. back.stake ≡ start.stake) }
     {
         let Start {
