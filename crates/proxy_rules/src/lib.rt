@@ -17,6 +17,8 @@ mod pools;
 mod reason;
 mod route;
 mod scan;
+#[cfg(test)]
+mod tests;
 
 pub use address::{Origin, origin_of};
 pub use connections::keeps_user;

@@ -1,0 +1,4 @@
+mod address;
+mod heads;
+mod offers;
+mod reasons;

@@ -1,0 +1,106 @@
+//! Where requests go, and what users wait for.
+use crate::{awaits_continue, interim_continue, is_head, origin_address, origin_of};
+use http_side::read_request;
+use proxy_config::read_config;
+use std::net::SocketAddrV4;
+use std::process::Abort;
+use std::test::Fail;
+
+const CONFIG: &[u8] =
+    b"listen = \"127.0.0.1:3128\"\nadmin = \"127.0.0.1:3129\"\n[hosts]\n\"o.test\" = \"127.0.0.1:8080\"\n";
+
+/// A target, its host, its port, and where the request goes.
+type Case<'a> = (&'a [u8], &'a [u8], Option<u16>, Option<&'a [u8]>);
+
+#[test]
+fn origins(rt: HostRuntime) -> Result<(), Fail> {
+    let config = read_config(rt.alloc(), CONFIG)?;
+    let cases: [Case<'_>; 8] = [
+        (
+            b"http://o.test/a.txt",
+            b"o.test",
+            None,
+            Some(b"127.0.0.1:8080"),
+        ),
+        (b"http://O.TEST", b"O.TEST", None, Some(b"127.0.0.1:8080")),
+        (
+            b"http://o.test:81/",
+            b"o.test",
+            Some(81),
+            Some(b"127.0.0.1:81"),
+        ),
+        (
+            b"http://o.test:?q",
+            b"o.test",
+            None,
+            Some(b"127.0.0.1:8080"),
+        ),
+        (b"http://10.0.0.1/", b"10.0.0.1", None, Some(b"10.0.0.1:80")),
+        (
+            b"http://10.0.0.1:0008080/",
+            b"10.0.0.1",
+            Some(8080),
+            Some(b"10.0.0.1:8080"),
+        ),
+        (b"http://[::1]:81/", b"[::1]", Some(81), None),
+        (b"http://other.test/", b"other.test", None, None),
+    ];
+    for (target, host, port, address) in cases {
+        let mut text = Vec::new(rt.alloc());
+        text.extend_from_slice(b"GET ")?;
+        text.extend_from_slice(target)?;
+        text.extend_from_slice(b" HTTP/1.0\r\n\r\n")?;
+        let user = read_request(rt.alloc(), &text, false)?;
+        let origin = origin_of(&user.value);
+        assert_eq!(rt; origin.host, host);
+        assert_eq!(rt; origin.port, port);
+        let want = match address {
+            Some(address) => SocketAddrV4::parse_ascii(address).ok(),
+            None => None,
+        };
+        assert_eq!(rt; origin_address(&config.hosts, &user.value), want);
+    }
+    Ok(())
+}
+
+#[test]
+fn users_that_wait(rt: HostRuntime) -> Result<(), Fail> {
+    let cases: [(&[u8], bool); 7] = [
+        (
+            b"POST http://o/ HTTP/1.1\r\nHost: o\r\nExpect: 100-Continue\r\nContent-Length: 3\r\n\r\n",
+            true,
+        ),
+        (
+            b"POST http://o/ HTTP/1.1\r\nHost: o\r\nexpect: a, 100-continue\r\nTransfer-Encoding: chunked\r\n\r\n",
+            true,
+        ),
+        (
+            b"POST http://o/ HTTP/1.1\r\nHost: o\r\nExpect: 100-continue\r\nContent-Length: 0\r\n\r\n",
+            false,
+        ),
+        (
+            b"GET http://o/ HTTP/1.1\r\nHost: o\r\nExpect: 100-continue\r\n\r\n",
+            false,
+        ),
+        (
+            b"POST http://o/ HTTP/1.0\r\nExpect: 100-continue\r\nContent-Length: 3\r\n\r\n",
+            false,
+        ),
+        (
+            b"POST http://o/ HTTP/1.1\r\nHost: o\r\nExpect: 101-continue\r\nContent-Length: 3\r\n\r\n",
+            false,
+        ),
+        (
+            b"HEAD http://o/ HTTP/1.1\r\nHost: o\r\nContent-Length: 3\r\n\r\n",
+            false,
+        ),
+    ];
+    for (text, want) in cases {
+        let user = read_request(rt.alloc(), text, false)?;
+        assert_eq!(rt; awaits_continue(&user.value), want);
+        assert_eq!(rt; is_head(&user.value), text.starts_with(b"HEAD"));
+    }
+    let text: &[u8] = b"HTTP/1.1 100 Continue\r\n\r\n";
+    assert_eq!(rt; interim_continue(), text);
+    Ok(())
+}
