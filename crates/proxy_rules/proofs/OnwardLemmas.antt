@@ -1,6 +1,6 @@
 -- Heads that go on, and heads that a service may not send.
-use Rattle.std.proofs.Common.{◌≡◌, ℕ, Bool, true, false, List, length, refl, sym, ap, ◌∙◌, inl, inr, ◌⊎◌}
-use Rattle.std.specs.Prelude.{Result, Ok, Err, IfOk, IsOkAnd}
+use Rattle.std.proofs.Common.{◌≡◌, ℕ, Bool, true, List, length, refl, ◌∙◌, inl, inr, ◌⊎◌}
+use Rattle.std.specs.Prelude.{Result, Ok, Err, IfOk}
 use Rattle.trace_core.specs.declared.history.Cause.{Cause}
 use Rattle.trace_core.specs.declared.history.Cause.TheVariants as causes
 use Rattle.http_side.specs.declared.fault.HttpFault.{HttpFault}
@@ -12,7 +12,7 @@ use Rattle.http_side.specs.Forward.{forwarded, next_framing, closes}
 use Rattle.http_side.specs.Heads.{RequestParts, ResponseParts}
 use Rattle.http_side.specs.Requests.{IsRead}
 use Rattle.http_side.specs.Responses.{IsResponseRead}
-use Rattle.proxy_rules.specs.Onward.{GoesOn, IsRequest, IsResponse, IsAnswerOf, IsAdaptedRequest, IsAdaptedResponse, cause_of, may_answer}
+use Rattle.proxy_rules.specs.Onward.{GoesOn, IsRequest, IsResponse, IsAdaptedRequest, IsAdaptedResponse, cause_of, may_answer}
 use Rattle.proxy_rules.specs.declared.onward.Headed.{Headed}
 
 -- a head of a message is one of each kind that the message is of

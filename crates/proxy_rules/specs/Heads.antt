@@ -1,5 +1,5 @@
 -- The head of a transaction's chosen message.
-use Rattle.std.specs.Prelude.{◌≡◌, ◌⊎◌, ⊤, Bool, true, false, List, ℕ, Option, Some, None}
+use Rattle.std.specs.Prelude.{◌≡◌, ◌⊎◌, Bool, true, false, List, ℕ, Option, Some, None}
 use Rattle.trace_core.specs.declared.history.Cause.{Cause}
 use Rattle.trace_core.specs.declared.history.Cause.TheVariants as causes
 use Rattle.trace_core.specs.declared.history.Seen.{Seen}

@@ -1,7 +1,7 @@
 -- The parts of a request's target that say where it goes and how it is offered (RFC 9112, section 3.2.2; RFC 3986, section 3.2).
-use Rattle.std.specs.Prelude.{◌≡◌, ℕ, ◌+◌, Bool, ◌||◌, ◌&&◌, List, [], ◌∷◌, length, drop, take, min, Option, Some, None, slice_index, if◌then◌else◌, ◌==◌, nat_lt}
+use Rattle.std.specs.Prelude.{ℕ, ◌+◌, Bool, ◌||◌, ◌&&◌, List, [], ◌∷◌, drop, take, Option, Some, None, slice_index, if◌then◌else◌, ◌==◌, nat_lt}
 use Rattle.http_side.specs.Lengths.{length_value}
-use Rattle.http_side.specs.Targets.{authority_of, count_before, before, from, is_delimiter}
+use Rattle.http_side.specs.Targets.{count_before, before, from, is_delimiter}
 
 -- the byte is one of these
 abbrev pub is_any : ℕ → ℕ → ℕ → ℕ → Bool

@@ -1,5 +1,5 @@
 -- The plan of a message (RFC 3507, sections 4.5, 4.6 and 4.10.2).
-use Rattle.std.specs.Prelude.{◌≡◌, ℕ, Bool, false, List, nat_lt, Option, Some, None, MatchOption, if◌then◌else◌}
+use Rattle.std.specs.Prelude.{◌≡◌, ℕ, false, List, nat_lt, Option, Some, None, MatchOption, if◌then◌else◌}
 use Rattle.trace_core.specs.declared.history.Plan.{Plan}
 use Rattle.trace_core.specs.declared.history.Point.{Point}
 use Rattle.trace_core.specs.declared.history.Kind.TheVariants.{Plain}

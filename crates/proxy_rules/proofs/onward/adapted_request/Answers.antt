@@ -1,4 +1,4 @@
-use Rattle.std.proofs.Common.{refl, sym, ◌∙◌, inl, inr, length, ap}
+use Rattle.std.proofs.Common.{refl, inl, inr, length}
 use Rattle.proxy_rules.specs.Onward.{IsRequest, IsAdaptedRequest, NoAdaptedRequest, part_of}
 use Rattle.proxy_rules.proofs.OnwardLemmas.{widened, adapted_request_is, blamed}
 use Rattle.proxy_rules.proofs.onward.adapted_request.Goals as goal

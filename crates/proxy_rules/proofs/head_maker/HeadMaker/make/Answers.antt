@@ -1,4 +1,4 @@
-use Rattle.std.proofs.Common.{◌≡◌, sym, ap}
+use Rattle.std.proofs.Common.{sym, ap}
 use Rattle.trace_core.specs.History.{seen}
 use Rattle.proxy_rules.proofs.HeadLemmas.{makes, was_read}
 use Rattle.proxy_rules.proofs.head_maker.HeadMaker.make.Goals as goal
