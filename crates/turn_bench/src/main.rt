@@ -1,0 +1,70 @@
+//! How long one exchange takes over wires in memory: an answer of six bytes with a preview of four, a 100, and an adapted answer.
+//!
+//! The argument is how many times. The figures go to standard error, since they differ from run to run.
+#![tactic(auto)]
+
+ghost use Rattle.std.specs.Prelude.{◌<◌, ◌≡◌, IfOk};
+
+mod measured;
+#[cfg(test)]
+mod tests;
+mod worked;
+
+use adapt_bytes::read_decimal;
+use measured::{Measured, measure};
+use span_bank::{Bank, Blanks, Four};
+use std::alloc::Global;
+use std::marker::Brand;
+use std::rt::Runtime;
+use std::sync::Wait;
+use std::sync::ledger::Ledger;
+use std::time::Clock;
+use std::{env, io, mem};
+use worked::Moving;
+
+/// The capacity of the budget.
+const CAPACITY: u64 = 65536;
+
+/// All measurements on one budget.
+fn run<H: Ledger, F: Ledger, S: Ledger, P: Ledger, R: Wait + Clock>(
+    rt: &R,
+    alloc: Global,
+    blanks: Blanks,
+    times: u64,
+) -> io::Result<(Measured, usize)>
+    requires held { (blanks.held.name ≡ H.name) × (blanks.held.parts ≡ H.parts) × (blanks.held.parts ≡ 3) }
+    requires free { (blanks.free.name ≡ F.name) × (blanks.free.parts ≡ F.parts) × (blanks.free.parts ≡ 3) }
+    requires slack { (blanks.slack.name ≡ S.name) × (blanks.slack.parts ≡ S.parts) × (blanks.slack.parts ≡ 3) }
+    requires pages { (blanks.pages.name ≡ P.name) × (blanks.pages.parts ≡ P.parts) × (blanks.pages.parts ≡ 3) }
+{
+    let bank: Bank<Four<H, F, S, P>> = Bank::new(alloc, blanks, CAPACITY, 2, 64)?;
+    let measured = measure(rt, alloc, &bank, times)?;
+    Ok((measured, mem::size_of::<Moving<Four<H, F, S, P>>>()))
+}
+
+fn main(rt: HostRuntime) -> io::Result<()> {
+    let times = times(&rt)?;
+    let blanks = Blanks::new(3);
+    let (measured, size) = run::<Brand, Brand, Brand, Brand, HostRuntime>(
+        &rt,
+        rt.alloc(),
+        blanks,
+        times,
+    )?;
+    let Measured { whole, nanos } = measured;
+    let each = nanos / u128::from(times);
+    eprintln!(rt;
+        "{each} ns an exchange of three reads and four writes; a transaction has {size} bytes"
+    )?;
+    println!(rt; "whole {whole}")
+}
+
+/// The argument, or 20,000 where it is missing, zero or no number.
+fn times(rt: &impl Runtime) -> io::Result<u64>
+    ensures { IfOk result (λ times. 0 < times) }
+{
+    let mut args = env::args(rt)?;
+    let _program = args.next();
+    let given = args.next().and_then(|text| read_decimal(text.as_bytes()));
+    Ok(given.unwrap_or(20_000).max(1))
+}

@@ -1,0 +1,296 @@
+//! One exchange: an answer of six bytes reaches its user by a service that makes its letters capital (RFC 3507, section 4.5).
+
+ghost use Rattle.std.specs.Prelude.{◌≡◌, ◌≤◌, ◌^◌, IfSome};
+ghost use Rattle.plan_rules.specs.Claims.{claim_of};
+
+use adapt_turn::{Line, Outcome, Parts, Start, Tx};
+use http_relay::{NextHop, SourceSide};
+use icap_client::ServiceSide;
+use plan_rules::{Limits, claim};
+use proxy_rules::HeadMaker;
+use span_bank::{Bank, Ledgers, Pages, Stake};
+use std::alloc::{AllocError, Global};
+use std::sync::Wait;
+use trace_core::{Kind, Plan, Point};
+use wire_kit::{MemoryWire, ReadAnswer, WriteAnswer};
+
+/// What the user asks for.
+pub const REQUEST: &[u8] = b"GET http://o.test/a.txt HTTP/1.1\r\nHost: o.test\r\n\r\n";
+
+/// The head of the origin's answer.
+pub const RESPONSE: &[u8] = b"HTTP/1.1 200 OK\r\nContent-Length: 6\r\n\r\n";
+
+/// The origin's answer.
+pub const ANSWER: &[u8] = b"HTTP/1.1 200 OK\r\nContent-Length: 6\r\n\r\nabcdef";
+
+/// What the service answers to the preview.
+pub const GO_ON: &[u8] = b"ICAP/1.0 100 Continue\r\n\r\n";
+
+/// What the service answers at last.
+pub const ADAPTED: &[u8] =
+    b"ICAP/1.0 200 OK\r\nISTag: \"adapt-1\"\r\nEncapsulated: res-hdr=0, res-body=38\r\n\r\nHTTP/1.1 200 OK\r\nContent-Length: 6\r\n\r\n6\r\nABCDEF\r\n0\r\n\r\n";
+
+/// Where the service is.
+const HOST: &[u8] = b"127.0.0.1";
+
+const PORT: u16 = 1344;
+
+const PATH: &[u8] = b"/respmod/upper";
+
+/// The seconds that may pass without a moved byte.
+pub const DEADLINE: u64 = 60;
+
+/// The moment at which an exchange begins, in seconds.
+pub const BEGIN: u64 = 100;
+
+/// A transaction over wires in memory.
+pub type Moving<B> = Tx<
+    B,
+    SourceSide,
+    ServiceSide,
+    NextHop,
+    HeadMaker,
+    MemoryWire,
+    MemoryWire,
+    MemoryWire,
+>;
+
+/// What it begins with.
+type Starting<B> = Start<
+    B,
+    SourceSide,
+    ServiceSide,
+    NextHop,
+    HeadMaker,
+    MemoryWire,
+    MemoryWire,
+    MemoryWire,
+>;
+
+/// The wires of an exchange.
+#[derive(Drop)]
+pub struct Wires {
+    pub origin: MemoryWire,
+    pub service: MemoryWire,
+    pub user: MemoryWire,
+}
+
+/// What stands of an exchange before its reservation.
+#[derive(Drop)]
+struct Sides {
+    source: SourceSide,
+    service: ServiceSide,
+    heads: HeadMaker,
+}
+
+/// How an exchange ended, and what its wires took.
+#[derive(Drop)]
+pub struct Ended {
+    pub outcome: Outcome,
+    pub to_service: Vec<u8>,
+    pub to_user: Vec<u8>,
+}
+
+/// Reads a head, which the wire gives in these many answers at most.
+fn read_head(side: &mut SourceSide, wire: &mut MemoryWire, answers: usize) -> bool {
+    for _ in 0..answers {
+        if let Ok(true) = side.head_turn(wire) {
+            return true;
+        }
+    }
+    false
+}
+
+/// The user's side, whose request was read to its end.
+fn user_side(alloc: Global) -> Result<SourceSide, AllocError> {
+    let reads = vec![in alloc; ReadAnswer::Bytes(64)]?;
+    let mut wire = MemoryWire::new(alloc, REQUEST.to_vec(alloc)?, reads, Vec::new(alloc))?;
+    let mut side = SourceSide::request(alloc);
+    let _ = read_head(&mut side, &mut wire, 1);
+    let _ = side.read_turn(&mut wire, &mut []);
+    Ok(side)
+}
+
+/// The plan: a preview of four bytes. One that may begin anew is kept whole, so that a 204 may answer it at any moment.
+fn plan_of(retry: bool) -> Plan {
+    Plan {
+        kind: Kind::Preview(4),
+        allow: retry,
+        retry,
+        len: Some(6),
+        point: Point::Respmod,
+    }
+}
+
+/// What is configured.
+fn limits_of(retry: bool) -> Limits {
+    Limits {
+        preview_limit: 1024,
+        allow_limit: 0,
+        window: 8192,
+        retry,
+    }
+}
+
+/// All sides of the exchange. The origin gives its head in these many answers at most.
+fn make_sides(
+    alloc: Global,
+    origin: &mut MemoryWire,
+    plan: &Plan,
+    answers: usize,
+) -> Result<Sides, AllocError> {
+    let user = user_side(alloc)?;
+    let mut source = SourceSide::response(alloc, false);
+    let _ = read_head(&mut source, origin, answers);
+    let service = ServiceSide::new(alloc, plan, HOST, PORT, PATH, REQUEST, RESPONSE)?;
+    Ok(Sides {
+        source,
+        service,
+        heads: HeadMaker::for_response(user),
+    })
+}
+
+/// Begins the exchange over these wires. `None` where it can't begin.
+pub fn begin<B: Ledgers>(
+    rt: &impl Wait,
+    alloc: Global,
+    bank: &Bank<B>,
+    wires: Wires,
+    retry: bool,
+) -> Result<Option<Moving<B>>, AllocError> {
+    let mut wires = wires;
+    let plan = plan_of(retry);
+    let limits = limits_of(retry);
+    let sides = make_sides(alloc, &mut wires.origin, &plan, RESPONSE.len())?;
+    let bytes = claim(&plan, &limits);
+    if bytes == 0 {
+        return Ok(None);
+    }
+    match bank.open(rt, bytes) {
+        Ok(stake) => Ok(start(rt, alloc, bank, wires, sides, plan, limits, stake)),
+        Err(_) => Ok(None),
+    }
+}
+
+/// Starts the transaction on its reservation.
+fn start<B: Ledgers>(
+    rt: &impl Wait,
+    alloc: Global,
+    bank: &Bank<B>,
+    wires: Wires,
+    sides: Sides,
+    plan: Plan,
+    limits: Limits,
+    stake: Stake<B>,
+) -> Option<Moving<B>>
+    requires empty { (stake.held ≡ 0) × (stake.pages ≡ 0) }
+    requires claim { stake.claim ≡ claim_of plan limits.window }
+    requires small { stake.claim ≤ 2 ^ 40 }
+{
+    let Sides {
+        source,
+        service,
+        heads,
+    } = sides;
+    let Wires {
+        origin,
+        service: service_wire,
+        user,
+    } = wires;
+    let start = Start {
+        plan,
+        limits,
+        stake,
+        source,
+        source_wire: origin,
+        service: Some(Line {
+            side: service,
+            wire: service_wire,
+        }),
+        next: NextHop::new(alloc),
+        next_wire: user,
+        back: NextHop::new(alloc),
+        forward: heads,
+        deadline: DEADLINE,
+        now: BEGIN,
+        reused: limits.retry,
+    };
+    match Tx::new(alloc, start) {
+        Ok(tx) => Some(tx),
+        Err(start) => {
+            undo(rt, bank, start);
+            None
+        }
+    }
+}
+
+/// Takes apart what no transaction began with.
+fn undo<B: Ledgers>(rt: &impl Wait, bank: &Bank<B>, start: Starting<B>)
+    requires { (start.stake.held ≡ 0) × (start.stake.pages ≡ 0) }
+{
+    let Start {
+        plan: _,
+        limits: _,
+        stake,
+        source: _,
+        source_wire: _,
+        service,
+        next: _,
+        next_wire: _,
+        back: _,
+        forward: _,
+        deadline: _,
+        now: _,
+        reused: _,
+    } = start;
+    if let Some(Line { side: _, wire: _ }) = service {}
+    bank.close(rt, stake, Pages::none());
+}
+
+/// Ends the exchange: one that isn't over fails. Its reservation is closed.
+pub fn end<B: Ledgers>(
+    rt: &impl Wait,
+    alloc: Global,
+    bank: &Bank<B>,
+    tx: Moving<B>,
+) -> Result<Ended, AllocError> {
+    let mut tx = tx;
+    tx.halt(rt, bank);
+    match tx.into_parts() {
+        Ok(parts) => {
+            let Parts {
+                stake,
+                source: _,
+                source_wire: _,
+                service,
+                next: _,
+                next_wire,
+                back: _,
+                forward: _,
+                outcome,
+                seen: _,
+            } = parts;
+            bank.close(rt, stake, Pages::none());
+            let to_service = match service {
+                Some(Line { side: _, wire }) => wire.taken().to_vec(alloc)?,
+                None => Vec::new(alloc),
+            };
+            Ok(Ended {
+                outcome,
+                to_service,
+                to_user: next_wire.taken().to_vec(alloc)?,
+            })
+        }
+        Err(_) => unreachable!(),
+    }
+}
+
+/// So many answers of a reader, each of so many bytes at most.
+pub fn reads(alloc: Global, count: usize, size: usize) -> Result<Vec<ReadAnswer>, AllocError> {
+    Vec::from_elem(alloc, ReadAnswer::Bytes(size), count)
+}
+
+/// So many answers of a writer, each of so many bytes at most.
+pub fn writes(alloc: Global, count: usize, size: usize) -> Result<Vec<WriteAnswer>, AllocError> {
+    Vec::from_elem(alloc, WriteAnswer::Took(size), count)
+}
