@@ -2,7 +2,7 @@
 # below crates/; a line names each crate that is proved first, and then the program's output stands alone.
 SCRIPT ?= whole_body_without_allow
 
-.PHONY: help build trace check ci must-fail fmt bench-chunks bench-heads bench-exchange bench-bank refuse-allocations icapd bench-icapd
+.PHONY: help build trace check ci must-fail fmt bench-chunks bench-heads bench-exchange bench-turns bench-bank refuse-allocations icapd bench-icapd
 
 help: ## lists the targets
 	@grep -E '^[a-z-]+:.*##' Makefile | sed 's/:.*## /	/'
@@ -46,6 +46,10 @@ bench-heads: ## HTTP heads: nanoseconds to read one and to write two, beside the
 bench-exchange: ## a whole exchange with a service over memory wires: nanoseconds, and calls of its wire
 	@tools/build_program exchange_bench exchange_bench 1
 	@bin/exchange_bench 200000
+
+bench-turns: ## a whole exchange by a transaction's turns over memory wires: nanoseconds, and a transaction's bytes
+	@tools/build_program turn_bench turn_bench 1
+	@bin/turn_bench 20000
 
 bench-bank: ## the buffer budget: nanoseconds for a pair of calls, for turns of 4,096 bytes on tapes, and four threads' rounds
 	@tools/build_program bank_bench bank_bench 1
