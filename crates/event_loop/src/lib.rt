@@ -26,5 +26,5 @@ pub use listening::{Accepted, Listening};
 pub use looping::{EventLoop, Ports};
 pub use ready_list::ReadyList;
 pub use slots::Slots;
-pub use threads::{Base, add_loop, run_loops};
+pub use threads::{Base, add_loop, run_alone, run_loops};
 pub use work::{Driven, Told, Work};

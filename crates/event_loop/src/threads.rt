@@ -64,6 +64,16 @@ pub fn run_loops<K: Work + Send, R: Threads + Wait + Dial + Clock + Sync>(
     );
 }
 
+/// Runs one loop in its caller's thread, until it is told to stop or fails.
+pub fn run_alone<K: Work, R: Wait + Dial + Clock>(
+    rt: &R,
+    alloc: Global,
+    one: &mut EventLoop<K>,
+    inboxes: &[Inbox],
+) {
+    run_one(rt, alloc, 0, one, inboxes);
+}
+
 /// Runs one loop. One that fails tells all others to stop.
 fn run_one<K: Work, R: Wait + Dial + Clock>(
     rt: &R,

@@ -1,0 +1,56 @@
+//! Taking the loops apart.
+
+use crate::halting::stake_of;
+use crate::left::Left;
+use crate::phase::{Line, Phase};
+use crate::pools::Pools;
+use span_bank::{Bank, Ledgers};
+use std::sync::Wait;
+use std::sync::ledger::Ledger;
+
+impl<B: Ledgers, Q: Ledger, A: Ledger> Left<B, Q, A> {
+    fn take<R: Wait>(
+        &mut self,
+        rt: &R,
+        bank: &Bank<B>,
+        pools: &Pools<'_, Q, A>,
+        phase: Phase<B, Q, A>,
+    ) {
+        match phase {
+            Phase::Asking {
+                ends: _,
+                line,
+                side: _,
+            } => {
+                let Line { wire: _, lease } = line;
+                self.keep_lease(rt, pools, lease);
+            }
+            Phase::Moving { tx, lease } => {
+                let stake = stake_of(rt, bank, tx);
+                self.keep_stake(rt, bank, stake);
+                if let Some(lease) = lease {
+                    self.keep_lease(rt, pools, lease);
+                }
+            }
+            Phase::Head(_) | Phase::Answer(_) | Phase::Closing(_) => {}
+            Phase::Refusing { user: _, rest: _ } => {}
+        }
+    }
+
+    /// Takes what is in a loop's slots.
+    pub fn take_slots<R: Wait>(
+        &mut self,
+        rt: &R,
+        bank: &Bank<B>,
+        pools: Pools<'_, Q, A>,
+        slots: Vec<Option<Phase<B, Q, A>>>,
+    ) {
+        let mut slots = slots;
+        while let Some(slot) = slots.pop() {
+            if let Some(phase) = slot {
+                self.take(rt, bank, &pools, phase);
+            }
+        }
+        slots.destroy_empty();
+    }
+}

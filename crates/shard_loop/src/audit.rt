@@ -1,0 +1,38 @@
+//! What is left when the proxy stops.
+
+use std::error::Error;
+use std::fmt::{self, Display};
+
+/// What the audits of the buffer budget and of the pools found.
+#[derive(Clone, Copy, Debug, PartialEq, Eq)]
+pub struct StopAudit {
+    /// Reservations that were still open.
+    pub rows: u64,
+    /// Bytes that they held.
+    pub held: u64,
+    /// Leases that were still out, of all pools.
+    pub leased: u64,
+}
+
+/// Why the proxy ends without an audit.
+#[derive(Clone, Copy, Debug, PartialEq, Eq)]
+pub enum ServeFault {
+    /// A poll of the system can't be had.
+    System,
+    /// A reservation or a lease is missing.
+    Missing,
+    /// No memory was found.
+    NoMemory,
+}
+
+impl Display for ServeFault {
+    fn fmt<W: fmt::Write>(&self, f: &mut fmt::Formatter<W>) -> fmt::Result {
+        f.write_str(match self {
+            ServeFault::System => "cannot listen",
+            ServeFault::Missing => "audit missing",
+            ServeFault::NoMemory => "out of memory",
+        })
+    }
+}
+
+impl Error for ServeFault {}

@@ -1,0 +1,99 @@
+//! What the exchanges of one thread have in common.
+
+use crate::book::PointBook;
+use crate::pools::Pools;
+use crate::seats::Seats;
+use plan_rules::Limits;
+use proxy_config::{Config, ServicePoint};
+use proxy_rules::limits_of;
+use span_bank::{Bank, Ledgers};
+use std::alloc::{AllocError, Global};
+use std::sync::ledger::Ledger;
+use trace_core::Point;
+use wire_kit::Gate;
+
+/// How many bytes are read at once of what a user sends behind its last answer.
+const SCRATCH: usize = 4096;
+
+/// What all threads share.
+#[derive(Drop)]
+pub struct Shared<'a, B: Ledgers, Q: Ledger, A: Ledger, G: Gate> {
+    pub config: &'a Config,
+    pub bank: &'a Bank<B>,
+    pub pools: Pools<'a, Q, A>,
+    pub gate: &'a G,
+}
+
+impl<'a, B: Ledgers, Q: Ledger, A: Ledger, G: Gate> Shared<'a, B, Q, A, G> {
+    /// The same, for another thread.
+    pub fn again(&self) -> Shared<'a, B, Q, A, G> {
+        Shared {
+            config: self.config,
+            bank: self.bank,
+            pools: self.pools.again(),
+            gate: self.gate,
+        }
+    }
+}
+
+/// What the exchanges of one thread have in common: all but the exchanges themselves.
+#[derive(Drop)]
+pub struct Desk<'a, B: Ledgers, Q: Ledger, A: Ledger, G: Gate> {
+    pub alloc: Global,
+    pub shared: Shared<'a, B, Q, A, G>,
+    pub limits: Limits,
+    pub seats: Seats,
+    pub request_book: PointBook,
+    pub response_book: PointBook,
+    pub scratch: Vec<u8>,
+}
+
+impl<'a, B: Ledgers, Q: Ledger, A: Ledger, G: Gate> Desk<'a, B, Q, A, G> {
+    /// Before the first user, of whom there may be so many at once. `Err` where no memory was found.
+    pub fn new(
+        alloc: Global,
+        shared: Shared<'a, B, Q, A, G>,
+        rows: usize,
+    ) -> Result<Desk<'a, B, Q, A, G>, AllocError> {
+        let scratch = Vec::from_elem(alloc, 0u8, SCRATCH)?;
+        let limits = limits_of(shared.config);
+        Ok(Desk {
+            alloc,
+            shared,
+            limits,
+            seats: Seats::new(alloc, rows),
+            request_book: PointBook::new(),
+            response_book: PointBook::new(),
+            scratch,
+        })
+    }
+
+    /// The service of a point.
+    pub fn service(&self, point: Point) -> Option<&'a ServicePoint> {
+        let config = self.shared.config;
+        let service = match point {
+            Point::Reqmod => &config.reqmod,
+            Point::Respmod => &config.respmod,
+        };
+        match service {
+            Some(service) => Some(service),
+            None => None,
+        }
+    }
+
+    /// What the service of a point said.
+    pub fn book(&self, point: Point) -> &PointBook {
+        match point {
+            Point::Reqmod => &self.request_book,
+            Point::Respmod => &self.response_book,
+        }
+    }
+
+    /// The same, to be changed.
+    pub fn book_mut(&mut self, point: Point) -> &mut PointBook {
+        match point {
+            Point::Reqmod => &mut self.request_book,
+            Point::Respmod => &mut self.response_book,
+        }
+    }
+}

@@ -1,0 +1,138 @@
+//! What is still out when the loops have ended.
+
+ghost use Rattle.std.specs.Prelude.{All};
+ghost use Rattle.shard_loop.specs.Left.{HoldsNothing};
+
+use crate::audit::{ServeFault, StopAudit};
+use crate::pools::{Leased, Pools, Spare};
+use service_pool::{Lease, Pool};
+use span_bank::{Audit, Bank, Ledgers, Pages, Stake};
+use std::alloc::Global;
+use std::sync::Wait;
+use std::sync::ledger::Ledger;
+
+/// The most leases of a pool that are out.
+const MAX_LEASES: usize = 1024;
+
+/// The reservations and the leases that are still out.
+pub struct Left<B: Ledgers, Q: Ledger, A: Ledger> {
+    stakes: Vec<Stake<B>>,
+    requests: Vec<Lease<Q>>,
+    responses: Vec<Lease<A>>,
+    ghost idle: { All HoldsNothing stakes.items },
+}
+
+/// Gives leases up.
+fn end_leases<L: Ledger, R: Wait>(rt: &R, pool: &Pool<Spare, L>, leases: Vec<Lease<L>>) {
+    let mut leases = leases;
+    while let Some(lease) = leases.pop() {
+        pool.give_up(rt, lease);
+    }
+    leases.destroy_empty();
+}
+
+/// The number of a pool's leases that are out, if all are here.
+fn audit_pool<L: Ledger, R: Wait>(
+    rt: &R,
+    pool: Pool<Spare, L>,
+    leases: Vec<Lease<L>>,
+) -> Option<u64> {
+    match pool.audit(leases) {
+        Ok(leased) => Some(leased),
+        Err((pool, leases, _)) => {
+            end_leases(rt, &pool, leases);
+            None
+        }
+    }
+}
+
+/// Closes reservations.
+fn end_stakes<B: Ledgers, R: Wait>(rt: &R, bank: &Bank<B>, stakes: Vec<Stake<B>>)
+    requires { All HoldsNothing stakes.items }
+{
+    let mut stakes = stakes;
+    while let Some(stake) = stakes.pop() {
+        bank.close(rt, stake, Pages::none());
+    }
+    stakes.destroy_empty();
+}
+
+/// The sums of the open reservations, if all are here.
+fn audit_bank<B: Ledgers, R: Wait>(rt: &R, bank: Bank<B>, stakes: Vec<Stake<B>>) -> Option<Audit>
+    requires { All HoldsNothing stakes.items }
+{
+    match bank.audit(stakes) {
+        Ok(audit) => Some(audit),
+        Err((bank, stakes, _)) => {
+            end_stakes(rt, &bank, stakes);
+            None
+        }
+    }
+}
+
+impl<B: Ledgers, Q: Ledger, A: Ledger> Left<B, Q, A> {
+    /// Nothing yet.
+    pub fn new(alloc: Global) -> Left<B, Q, A> {
+        Left {
+            stakes: Vec::new(alloc),
+            requests: Vec::new(alloc),
+            responses: Vec::new(alloc),
+        }
+    }
+
+    /// Makes room for all that can be out. False where no memory was found.
+    pub fn reserve(&mut self, rows: usize) -> bool {
+        self.stakes.reserve(rows).is_ok()
+            && self.requests.reserve(MAX_LEASES).is_ok()
+            && self.responses.reserve(MAX_LEASES).is_ok()
+    }
+
+    /// Keeps a reservation that is still open.
+    pub fn keep_stake<R: Wait>(&mut self, rt: &R, bank: &Bank<B>, stake: Stake<B>)
+        requires { HoldsNothing stake }
+    {
+        if self.stakes.len() < self.stakes.capacity() {
+            self.stakes.push_reserved(stake);
+        } else {
+            bank.close(rt, stake, Pages::none());
+        }
+    }
+
+    /// Keeps a lease that is still out.
+    pub fn keep_lease<R: Wait>(&mut self, rt: &R, pools: &Pools<'_, Q, A>, lease: Leased<Q, A>) {
+        match lease {
+            Leased::Request(lease) if self.requests.len() < self.requests.capacity() => {
+                self.requests.push_reserved(lease);
+            }
+            Leased::Response(lease) if self.responses.len() < self.responses.capacity() => {
+                self.responses.push_reserved(lease);
+            }
+            lease => pools.give_up(rt, lease),
+        }
+    }
+
+    /// Audits the budget and the pools.
+    pub fn audit<R: Wait>(
+        self,
+        rt: &R,
+        bank: Bank<B>,
+        request: Pool<Spare, Q>,
+        response: Pool<Spare, A>,
+    ) -> Result<StopAudit, ServeFault> {
+        let Left {
+            stakes,
+            requests,
+            responses,
+        } = self;
+        let requests = audit_pool(rt, request, requests);
+        let responses = audit_pool(rt, response, responses);
+        match (audit_bank(rt, bank, stakes), requests, responses) {
+            (Some(audit), Some(requests), Some(responses)) => Ok(StopAudit {
+                rows: audit.rows,
+                held: audit.held,
+                leased: requests.saturating_add(responses),
+            }),
+            _ => Err(ServeFault::Missing),
+        }
+    }
+}

@@ -1,0 +1,27 @@
+//! The exchanges of one thread: connections, their phases, and the transactions between them.
+//!
+//! A user's connection brings requests, one after another. Each goes through phases: its head is read, a service says its
+//! options where they aren't known, the request goes to the origin as one transaction, the origin's head is read, and the
+//! response goes to the user as another one. The loops of `event_loop` drive them.
+#![tactic(auto)]
+
+mod admin;
+mod apart;
+mod audit;
+mod begin;
+mod book;
+mod desk;
+mod ending;
+mod halting;
+mod left;
+mod options;
+mod phase;
+mod pools;
+mod running;
+mod seats;
+mod shard;
+mod steps;
+mod turns;
+
+pub use audit::{ServeFault, StopAudit};
+pub use running::serve;

@@ -1,0 +1,129 @@
+//! The pools of both points.
+
+ghost use Rattle.std.specs.Prelude.{◌≤◌};
+
+use service_pool::{Lease, Pool, Taken};
+use socket_wire::{Readiness, SocketWire};
+use std::alloc::{AllocError, Global};
+use std::sync::ledger::Ledger;
+use std::sync::{Arc, Wait};
+use trace_core::Point;
+
+/// A connection to a service that no transaction uses, with what a poll told of it.
+#[derive(Drop)]
+pub struct Spare {
+    pub wire: SocketWire,
+    pub ready: Arc<Readiness>,
+}
+
+/// A lease of the pool of one point. It has no `Drop`, as the lease has none.
+pub enum Leased<Q: Ledger, A: Ledger> {
+    Request(Lease<Q>),
+    Response(Lease<A>),
+}
+
+impl<Q: Ledger, A: Ledger> Leased<Q, A> {
+    /// The point whose service it is of.
+    pub fn point(&self) -> Point {
+        match self {
+            Leased::Request(_) => Point::Reqmod,
+            Leased::Response(_) => Point::Respmod,
+        }
+    }
+
+    /// Whether the connection was idle when it was taken.
+    pub fn reused(&self) -> bool {
+        match self {
+            Leased::Request(lease) => lease.reused(),
+            Leased::Response(lease) => lease.reused(),
+        }
+    }
+}
+
+/// The pools of connections to the services, which all threads share.
+#[derive(Drop)]
+pub struct Pools<'a, Q: Ledger, A: Ledger> {
+    pub request: &'a Pool<Spare, Q>,
+    pub response: &'a Pool<Spare, A>,
+}
+
+/// What was found in a pool.
+pub enum Took<Q: Ledger, A: Ledger> {
+    /// An idle connection.
+    Idle(Spare, Leased<Q, A>),
+    /// The right to open one.
+    Fresh(Leased<Q, A>),
+    /// Neither.
+    Busy,
+}
+
+impl<'a, Q: Ledger, A: Ledger> Pools<'a, Q, A> {
+    /// The same pools.
+    pub fn again(&self) -> Pools<'a, Q, A> {
+        Pools {
+            request: self.request,
+            response: self.response,
+        }
+    }
+
+    /// Leases a connection of a point's service, an idle one first.
+    pub fn take<R: Wait>(&self, rt: &R, point: Point) -> Took<Q, A> {
+        match point {
+            Point::Reqmod => match self.request.take(rt) {
+                Taken::Idle(spare, lease) => Took::Idle(spare, Leased::Request(lease)),
+                Taken::Fresh(lease) => Took::Fresh(Leased::Request(lease)),
+                Taken::Busy => Took::Busy,
+            },
+            Point::Respmod => match self.response.take(rt) {
+                Taken::Idle(spare, lease) => Took::Idle(spare, Leased::Response(lease)),
+                Taken::Fresh(lease) => Took::Fresh(Leased::Response(lease)),
+                Taken::Busy => Took::Busy,
+            },
+        }
+    }
+
+    /// Puts a connection back. One that is too many is closed.
+    pub fn put<R: Wait>(&self, rt: &R, spare: Spare, lease: Leased<Q, A>) {
+        match lease {
+            Leased::Request(lease) => {
+                let _ = self.request.put(rt, spare, lease);
+            }
+            Leased::Response(lease) => {
+                let _ = self.response.put(rt, spare, lease);
+            }
+        }
+    }
+
+    /// Gives up the lease of a connection that is closed.
+    pub fn give_up<R: Wait>(&self, rt: &R, lease: Leased<Q, A>) {
+        match lease {
+            Leased::Request(lease) => self.request.give_up(rt, lease),
+            Leased::Response(lease) => self.response.give_up(rt, lease),
+        }
+    }
+
+    /// Whether a fresh connection may be opened in place of one that broke.
+    pub fn replace<R: Wait>(&self, rt: &R, lease: &mut Leased<Q, A>) -> bool {
+        match lease {
+            Leased::Request(lease) => self.request.replace(rt, lease).is_ok(),
+            Leased::Response(lease) => self.response.replace(rt, lease).is_ok(),
+        }
+    }
+
+    /// Sets how many connections may be open, and closes idle ones that are too many.
+    pub fn set_max<R: Wait>(
+        &self,
+        rt: &R,
+        alloc: Global,
+        point: Point,
+        maximum: u64,
+    ) -> Result<(), AllocError>
+        requires { maximum ≤ 1024 }
+    {
+        let _closed = match point {
+            Point::Reqmod => self.request.set_max(rt, alloc, maximum)?,
+            Point::Respmod => self.response.set_max(rt, alloc, maximum)?,
+        };
+        Ok(())
+    }
+}

@@ -1,0 +1,168 @@
+//! The steps of an exchange, by its phase.
+
+use crate::desk::Desk;
+use crate::phase::{Ends, Phase, Step};
+use crate::seats::At;
+use event_loop::{Closing, close_turn};
+use http_side::own_refusal;
+use proxy_rules::{Reason, origin_head_reason, user_head_reason};
+use socket_wire::{Dial, SocketWire};
+use span_bank::Ledgers;
+use std::sync::Wait;
+use std::sync::ledger::Ledger;
+use std::time::Clock;
+use trace_core::Point;
+use wire_kit::{Gate, Put, Wire};
+
+impl<'a, B: Ledgers, Q: Ledger, A: Ledger, G: Gate> Desk<'a, B, Q, A, G> {
+    /// A step of an exchange.
+    pub fn step<R: Wait + Dial + Clock>(
+        &mut self,
+        rt: &R,
+        at: At<'_>,
+        phase: Phase<B, Q, A>,
+    ) -> Step<B, Q, A> {
+        match phase {
+            Phase::Head(ends) => self.head_step(rt, at, ends),
+            Phase::Asking { ends, line, side } => self.asking_step(rt, at, ends, line, side),
+            Phase::Moving { tx, lease } => self.moving_step(rt, at, tx, lease),
+            Phase::Answer(ends) => self.answer_step(rt, at, ends),
+            Phase::Refusing { user, rest } => self.refusing_step(at, user, rest),
+            Phase::Closing(user) => self.closing_step(at, user),
+        }
+    }
+
+    /// Whether the deadline has passed.
+    pub fn is_late(&self, at: At<'_>) -> bool {
+        self.seats.is_late(at, self.shared.config.deadline)
+    }
+
+    /// Reads the head of the next request.
+    fn head_step<R: Wait + Dial + Clock>(
+        &mut self,
+        rt: &R,
+        at: At<'_>,
+        ends: Ends,
+    ) -> Step<B, Q, A> {
+        let mut ends = ends;
+        let (before, _) = ends.user.counts();
+        let read = ends.request.head_turn(&mut ends.user);
+        let (after, _) = ends.user.counts();
+        if after != before {
+            self.seats.touch(at);
+        }
+        match read {
+            Ok(true) => self.offer(rt, at, ends, Point::Reqmod),
+            Ok(false) if after != before => Step::On(Phase::Head(ends)),
+            Ok(false) if self.is_late(at) => Step::Over,
+            Ok(false) => Step::Waits(Phase::Head(ends)),
+            Err(fault) => match user_head_reason(fault, ends.request.head_fault()) {
+                Some(reason) => self.refuse(at, ends.user, reason),
+                None => Step::Over,
+            },
+        }
+    }
+
+    /// Reads the head of the origin's response.
+    fn answer_step<R: Wait + Dial + Clock>(
+        &mut self,
+        rt: &R,
+        at: At<'_>,
+        ends: Ends,
+    ) -> Step<B, Q, A> {
+        let mut ends = ends;
+        let Some(origin) = &mut ends.origin else {
+            return Step::Over;
+        };
+        let (before, _) = origin.wire.counts();
+        let read = origin.side.head_turn(&mut origin.wire);
+        let (after, _) = origin.wire.counts();
+        let fault = origin.side.head_fault();
+        if after != before {
+            self.seats.touch(at);
+        }
+        match read {
+            Ok(true) => self.offer(rt, at, ends, Point::Respmod),
+            Ok(false) if after != before => Step::On(Phase::Answer(ends)),
+            Ok(false) if self.is_late(at) => self.refuse(at, ends.user, Reason::Deadline),
+            Ok(false) => Step::Waits(Phase::Answer(ends)),
+            Err(relay) => self.refuse(at, ends.user, origin_head_reason(relay, fault)),
+        }
+    }
+
+    /// Offers a message whose head was read to its service: the service is asked for its options first, where what it said
+    /// of them serves no more.
+    fn offer<R: Wait + Dial + Clock>(
+        &mut self,
+        rt: &R,
+        at: At<'_>,
+        ends: Ends,
+        point: Point,
+    ) -> Step<B, Q, A> {
+        match self.service(point) {
+            Some(service) if !self.book(point).is_fresh(at.now) => {
+                self.ask(rt, at, ends, point, service)
+            }
+            _ => self.begin(rt, at, ends, point, None),
+        }
+    }
+
+    /// Has the proxy's own refusal written.
+    pub fn refuse(&mut self, at: At<'_>, user: SocketWire, reason: Reason) -> Step<B, Q, A> {
+        self.seats.touch(at);
+        Step::On(Phase::Refusing {
+            user,
+            rest: own_refusal(reason.status()),
+        })
+    }
+
+    /// Has a connection closed behind all that was said.
+    pub fn close(&mut self, at: At<'_>, user: SocketWire) -> Step<B, Q, A> {
+        let _ = user.finish();
+        self.seats.touch(at);
+        Step::On(Phase::Closing(user))
+    }
+
+    /// Writes the proxy's own refusal.
+    fn refusing_step(
+        &mut self,
+        at: At<'_>,
+        user: SocketWire,
+        rest: &'static [u8],
+    ) -> Step<B, Q, A> {
+        if rest.is_empty() {
+            return self.close(at, user);
+        }
+        let mut user = user;
+        match user.try_write(rest) {
+            Put::Took(count) => Step::On(Phase::Refusing {
+                user,
+                rest: behind(rest, count),
+            }),
+            Put::Wait if self.is_late(at) => Step::Over,
+            Put::Wait => Step::Waits(Phase::Refusing { user, rest }),
+            Put::Fault => Step::Over,
+        }
+    }
+
+    /// Drops what the user still sends.
+    fn closing_step(&mut self, at: At<'_>, user: SocketWire) -> Step<B, Q, A> {
+        let mut user = user;
+        if self.is_late(at) {
+            return Step::Over;
+        }
+        match close_turn(&mut user, self.scratch.as_mut_slice()) {
+            Closing::Over => Step::Over,
+            Closing::Waiting => Step::Waits(Phase::Closing(user)),
+            Closing::CutShort => Step::On(Phase::Closing(user)),
+        }
+    }
+}
+
+/// The text without its first so many bytes.
+pub fn behind(text: &'static [u8], count: usize) -> &'static [u8] {
+    match text.get(count..) {
+        Some(rest) => rest,
+        None => &[],
+    }
+}

@@ -1,0 +1,121 @@
+//! The turns of a transaction.
+
+use crate::desk::Desk;
+use crate::phase::{Moving, Phase, Step};
+use crate::pools::Leased;
+use crate::seats::At;
+use adapt_turn::{Side as Turning, Turned};
+use socket_wire::Dial;
+use span_bank::{Bank, Ledgers};
+use std::sync::Wait;
+use std::sync::ledger::Ledger;
+use std::time::Clock;
+use wire_kit::Gate;
+
+/// The most rounds of turns before others get theirs.
+const ROUNDS: u32 = 8;
+
+/// What a round of turns did, one of each side.
+#[derive(Clone, Copy, PartialEq, Eq)]
+enum Round {
+    /// Something moved.
+    Moved,
+    /// Each wire waits.
+    Waiting,
+    /// The service's connection broke, and the request may begin anew.
+    Broken,
+    /// It is over.
+    Finished,
+}
+
+impl Round {
+    /// What both did together.
+    fn and(self, turned: Turned) -> Round {
+        match (self, turned) {
+            (Round::Finished, _) | (_, Turned::Finished(_)) => Round::Finished,
+            (Round::Broken, _) | (_, Turned::Broken) => Round::Broken,
+            (Round::Moved, _) | (_, Turned::Moved(_)) => Round::Moved,
+            (Round::Waiting, Turned::Waiting) => Round::Waiting,
+        }
+    }
+}
+
+/// A turn of each side.
+fn turn_each<B: Ledgers, R: Wait>(rt: &R, bank: &Bank<B>, tx: &mut Moving<B>, now: u64) -> Round {
+    let source = tx.turn(rt, bank, Turning::Source, now);
+    let service = tx.turn(rt, bank, Turning::Service, now);
+    let next = tx.turn(rt, bank, Turning::NextHop, now);
+    Round::Waiting.and(source).and(service).and(next)
+}
+
+impl<'a, B: Ledgers, Q: Ledger, A: Ledger, G: Gate> Desk<'a, B, Q, A, G> {
+    /// Turns until each wire waits, or as often as one may before others get their turn.
+    fn rounds<R: Wait + Dial>(
+        &mut self,
+        rt: &R,
+        at: At<'_>,
+        tx: &mut Moving<B>,
+        lease: &mut Option<Leased<Q, A>>,
+    ) -> Round {
+        let bank = self.shared.bank;
+        for _ in 0..ROUNDS {
+            match turn_each(rt, bank, tx, at.now) {
+                Round::Moved => self.seats.touch(at),
+                Round::Broken => self.again(rt, at, tx, lease),
+                over => return over,
+            }
+        }
+        Round::Moved
+    }
+
+    /// Begins a request anew on a fresh connection, or fails it where there is none.
+    fn again<R: Wait + Dial>(
+        &mut self,
+        rt: &R,
+        at: At<'_>,
+        tx: &mut Moving<B>,
+        lease: &mut Option<Leased<Q, A>>,
+    ) {
+        let bank = self.shared.bank;
+        let fresh = match lease {
+            Some(lease) => {
+                if self.shared.pools.replace(rt, lease) {
+                    self.dial_service(rt, at, lease.point())
+                } else {
+                    None
+                }
+            }
+            None => None,
+        };
+        if !tx.is_broken() {
+            return;
+        }
+        match fresh {
+            Some(wire) => {
+                let _broken = tx.retry(rt, bank, wire);
+            }
+            None => tx.no_retry(rt, bank),
+        }
+    }
+
+    /// Turns of a transaction. One whose refusal a user doesn't take is over at the deadline.
+    pub fn moving_step<R: Wait + Dial + Clock>(
+        &mut self,
+        rt: &R,
+        at: At<'_>,
+        tx: Moving<B>,
+        lease: Option<Leased<Q, A>>,
+    ) -> Step<B, Q, A> {
+        let mut tx = tx;
+        let mut lease = lease;
+        match self.rounds(rt, at, &mut tx, &mut lease) {
+            Round::Moved | Round::Broken => Step::On(Phase::Moving { tx, lease }),
+            Round::Finished => self.settle(rt, at, tx, lease),
+            Round::Waiting if tx.outcome().is_some() && self.is_late(at) => {
+                self.end(rt, Phase::Moving { tx, lease });
+                Step::Over
+            }
+            Round::Waiting => Step::Waits(Phase::Moving { tx, lease }),
+        }
+    }
+}
