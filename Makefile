@@ -1,8 +1,9 @@
 # SCRIPT names a file of examples/, without its ending. What the toolchain says while a program is built goes to a file
 # below crates/; a line names each crate that is proved first, and then the program's output stands alone.
 SCRIPT ?= whole_body_without_allow
+PREFIX ?= /usr/local
 
-.PHONY: help build trace check ci must-fail fmt bench-chunks bench-heads bench-exchange bench-turns bench-bank refuse-allocations icapd bench-icapd
+.PHONY: help build serve stop install try-serve bench-serve trace check ci must-fail fmt bench-chunks bench-heads bench-exchange bench-turns bench-bank refuse-allocations icapd bench-icapd
 
 help: ## lists the targets
 	@grep -E '^[a-z-]+:.*##' Makefile | sed 's/:.*## /	/'
@@ -10,6 +11,21 @@ help: ## lists the targets
 build: ## proves and builds the programs, and leaves them under bin/
 	@tools/build_program proxy_program adaptproxy chunks 1
 	@tools/build_program icapd_program icapd once
+
+serve: build ## starts icapd and adaptproxy with the examples' configurations, until `make stop`
+	@tools/serve_examples
+
+stop: ## stops what `make serve` started
+	@bash -c 'echo stop > /dev/tcp/127.0.0.1/3129'
+
+install: build ## puts the programs, the examples and units for systemd below PREFIX (default /usr/local)
+	@tools/install_programs "$(PREFIX)"
+
+try-serve: build ## tries `adaptproxy serve` over loopback: some thirty cases, with users, origins and services that misbehave
+	@tools/try_serve
+
+bench-serve: build ## requests/s and CPU of `adaptproxy serve` beside Squid's, where squid, wrk, nginx and c-icap are installed
+	@tools/bench_serve
 
 icapd: ## answers examples/blocked.icap by the proved ICAP server
 	@tools/build_program icapd_program icapd once
