@@ -1,0 +1,45 @@
+-- What `serve` reads and prints.
+use Rattle.std.specs.Prelude.{◌≡◌, ℕ, ◌≤◌, ◌<◌, List, [], ◌∷◌, ◌++◌, length, Some, codes, ⊤}
+use Rattle.adapt_bytes.specs.Numeral.{numeral}
+use Rattle.toml.specs.Data.{Members}
+use Rattle.toml.specs.Parse.{parse_document}
+use Rattle.proxy_config.specs.Config.{Says, Refuses}
+use Rattle.proxy_config.specs.declared.config.Config.{Config as Configuration}
+use Rattle.proxy_config.specs.declared.fault.ConfigFault.{ConfigFault}
+use Rattle.proxy_config.specs.declared.fault.ConfigFault.TheVariants.{Text as NoDocument, Key as AtKey, NoMemory as WithoutMemory}
+use Rattle.shard_loop.specs.declared.audit.StopAudit.{StopAudit}
+use Rattle.proxy_program.specs.declared.error.Error.TheVariants.{InputTooLong, NoMemory, ReadFailed}
+use Rattle.proxy_program.specs.declared.serve_error.ServeError.{ServeError}
+use Rattle.proxy_program.specs.declared.serve_error.ServeError.TheVariants.{Ended, Config, Key, CannotListen, AuditMissing}
+
+-- the word `serve` alone
+abbrev pub AsksToServe : List (List ℕ) → Type 0
+AsksToServe words = words ≡ codes "serve" ∷ []
+
+-- the error that a refused configuration ends the program with
+abbrev pub IsRefusedAs : ConfigFault → ServeError → Type 0
+IsRefusedAs NoDocument error = error ≡ Config
+IsRefusedAs (AtKey key) error = error ≡ Key key
+IsRefusedAs WithoutMemory error = error ≡ Ended NoMemory
+
+-- the text is a configuration with these values
+pub record IsConfigured (text : List ℕ) (config : Configuration) : Type 0 where
+  pub short : length text ≤ 1048576
+  pub document : Members
+  pub is_document : parse_document text ≡ Some document
+  pub says : Says document config
+
+-- why a text is refused, its length first
+abbrev pub IsUnconfigured : List ℕ → ServeError → Type 0
+IsUnconfigured text (Ended InputTooLong) = 1048576 < length text
+IsUnconfigured text (Ended NoMemory) = ⊤
+IsUnconfigured text (Ended ReadFailed) = ⊤
+IsUnconfigured text (Ended other) = ⊥
+IsUnconfigured text Config = (length text ≤ 1048576) × Refuses text NoDocument
+IsUnconfigured text (Key key) = (length text ≤ 1048576) × Refuses text (AtKey key)
+IsUnconfigured text CannotListen = ⊥
+IsUnconfigured text AuditMissing = ⊥
+
+-- the line that is printed at the end
+abbrev pub audit_text : StopAudit → List ℕ
+audit_text a = (((((codes "audit rows " ++ numeral 10 a.rows) ++ codes " held ") ++ numeral 10 a.held) ++ codes " leased ") ++ numeral 10 a.leased) ++ codes "\n"

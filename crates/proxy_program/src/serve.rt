@@ -1,0 +1,77 @@
+//! `adaptproxy serve`: what it reads from standard input, and what it prints.
+
+ghost use Rattle.std.specs.Prelude.{◌≡◌, ◌↔◌, IsTrue, IfOk, IfErr, IfSome, map, string_bytes};
+ghost use Rattle.proxy_program.specs.Serve.{AsksToServe, IsRefusedAs, IsConfigured, IsUnconfigured, audit_text};
+
+use crate::answers::write_number;
+use crate::error::{Error, MAX_INPUT};
+use crate::run::read_input;
+use crate::serve_error::ServeError;
+use proxy_config::{Config, ConfigFault, read_config};
+use shard_loop::StopAudit;
+use std::alloc::{AllocError as NoMemory, Global};
+use std::io::Read;
+
+/// Whether the arguments behind the program's name are `serve` alone.
+pub fn asks_to_serve(args: &[String]) -> bool
+    ensures { IsTrue result ↔ AsksToServe (map string_bytes args.now) }
+{
+    match args {
+        [word] => word.as_str() == "serve",
+        _ => false,
+    }
+}
+
+/// The error of a configuration that is refused.
+fn refused_as(fault: ConfigFault) -> ServeError
+    ensures { IsRefusedAs fault result }
+{
+    match fault {
+        ConfigFault::Text => ServeError::Config,
+        ConfigFault::Key(key) => ServeError::Key(key),
+        ConfigFault::NoMemory => ServeError::Ended(Error::NoMemory),
+    }
+}
+
+/// The configuration that a text says.
+fn configuration_of(alloc: Global, text: &[u8]) -> Result<Config, ServeError>
+    ensures ok { IfOk result (IsConfigured text.now) }
+    ensures err { IfErr result (IsUnconfigured text.now) }
+{
+    if text.len() > MAX_INPUT {
+        return Err(ServeError::Ended(Error::InputTooLong));
+    }
+    match read_config(alloc, text) {
+        Ok(config) => Ok(config),
+        Err(fault) => Err(refused_as(fault)),
+    }
+}
+
+/// Reads the configuration: all bytes of a reader.
+///
+/// `ReadFailed` where the reader fails; `InputTooLong` for more than [`MAX_INPUT`] bytes; `Config` for a text that is no
+/// UTF-8 or no TOML; `Key` with the first key that is missing and has no default, of another kind, out of its range, or
+/// unknown; `NoMemory` where memory ran out.
+pub fn read_configuration<R: Read + Drop>(alloc: Global, reader: R) -> Result<Config, ServeError>
+    ensures ok { IfOk result (λ config. IfSome (R.remaining reader) (λ bytes. IsConfigured bytes config)) }
+    ensures err { IfErr result (λ error. IfSome (R.remaining reader) (λ bytes. IsUnconfigured bytes error)) }
+{
+    match read_input(alloc, reader) {
+        Ok(input) => configuration_of(alloc, input.as_slice()),
+        Err(error) => Err(ServeError::Ended(error)),
+    }
+}
+
+/// The line that is printed at the end: how many reservations were still out, the bytes that they held, and the leases.
+pub fn audit_line(alloc: Global, audit: StopAudit) -> Result<Vec<u8>, NoMemory>
+    ensures { IfOk result (λ line. line.items ≡ audit_text audit) }
+{
+    let mut line = b"audit rows ".to_vec(alloc)?;
+    write_number(&mut line, audit.rows)?;
+    line.extend_from_slice(b" held ")?;
+    write_number(&mut line, audit.held)?;
+    line.extend_from_slice(b" leased ")?;
+    write_number(&mut line, audit.leased)?;
+    line.extend_from_slice(b"\n")?;
+    Ok(line)
+}

@@ -1,0 +1,83 @@
+//! `adaptproxy serve` over sockets.
+
+use crate::error::Error;
+use crate::run::write_out;
+use crate::serve::{audit_line, read_configuration};
+use crate::serve_error::ServeError;
+use mio::net::TcpListener;
+use proxy_config::Config;
+use service_pool::LEDGER_PARTS;
+use shard_loop::{ServeFault, StopAudit, serve};
+use socket_wire::Dial;
+use span_bank::Blanks;
+use std::alloc::Global;
+use std::io::{Read, Write};
+use std::marker::Brand;
+use std::net::{Net, SocketAddr};
+use std::sync::Wait;
+use std::sync::ledger::Blank;
+use std::thread::Threads;
+use std::time::Clock;
+use wire_kit::{Gate, OpenGate};
+
+/// Listens where users connect, and where the administrator does.
+pub fn listen<R: Net>(rt: &R, config: &Config) -> Result<(TcpListener, TcpListener), ServeError> {
+    let users = TcpListener::bind(rt, SocketAddr::V4(config.listen));
+    let admin = TcpListener::bind(rt, SocketAddr::V4(config.admin));
+    match (users, admin) {
+        (Ok(users), Ok(admin)) => Ok((users, admin)),
+        _ => Err(ServeError::CannotListen),
+    }
+}
+
+/// Writes a line to standard output.
+pub fn say<W: Write>(output: &mut W, line: &[u8]) -> Result<(), ServeError> {
+    match write_out(output, line) {
+        Ok(()) => Ok(()),
+        Err(error) => Err(ServeError::Ended(error)),
+    }
+}
+
+/// Serves until the administrator says `stop`, and audits. The buffer budget and each pool have ledgers of their own.
+pub fn serve_ports<G: Gate + Sync, R: Threads + Wait + Net + Dial + Clock + Sync>(
+    rt: &R,
+    alloc: Global,
+    config: &Config,
+    users: TcpListener,
+    admin: TcpListener,
+    gate: &G,
+) -> Result<StopAudit, ServeError> {
+    let ended = serve::<Brand, Brand, Brand, Brand, Brand, Brand, G, R>(
+        rt,
+        alloc,
+        config,
+        users,
+        admin,
+        gate,
+        Blanks::new(config.rows + 1),
+        Blank::new(LEDGER_PARTS),
+        Blank::new(LEDGER_PARTS),
+    );
+    match ended {
+        Ok(audit) => Ok(audit),
+        Err(ServeFault::NoMemory) => Err(ServeError::Ended(Error::NoMemory)),
+        Err(ServeFault::System) => Err(ServeError::CannotListen),
+        Err(ServeFault::Missing) => Err(ServeError::AuditMissing),
+    }
+}
+
+/// Reads the configuration, listens, says so, serves until the administrator says `stop`, and says what was still out.
+pub fn serve_from<
+    I: Read + Drop,
+    O: Write,
+    R: Threads + Wait + Net + Dial + Clock + Sync,
+>(rt: &R, alloc: Global, reader: I, output: &mut O) -> Result<(), ServeError> {
+    let config = read_configuration(alloc, reader)?;
+    let (users, admin) = listen(rt, &config)?;
+    say(output, b"listening\n")?;
+    let audit = serve_ports(rt, alloc, &config, users, admin, &OpenGate)?;
+    match audit_line(alloc, audit) {
+        Ok(line) => say(output, line.as_slice()),
+        Err(_) => Err(ServeError::Ended(Error::NoMemory)),
+    }
+}
