@@ -18,8 +18,7 @@ pub said_alone : {X : Type 0} (f : X → List ℕ) (xs : List X) (a : X) (word :
     → r ≡ bytes_eq (f a) word → IsTrue r ↔ (map f xs ≡ word ∷ [])
 said_alone f xs a word r e h d =
     let one = one_word f xs a e h in
-    let decides = bytes_eq-Decides (f a) word in
-    (
+    let decides = bytes_eq-Decides (f a) word in (
       λ t. one ∙ ap (λ y. y ∷ []) (decides.0 (sym d ∙ t)),
       λ m. let alone : f a ≡ word = cc in d ∙ decides.1 alone,
     )

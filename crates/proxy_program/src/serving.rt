@@ -67,11 +67,12 @@ pub fn serve_ports<G: Gate + Sync, R: Threads + Wait + Net + Dial + Clock + Sync
 }
 
 /// Reads the configuration, listens, says so, serves until the administrator says `stop`, and says what was still out.
-pub fn serve_from<
-    I: Read + Drop,
-    O: Write,
-    R: Threads + Wait + Net + Dial + Clock + Sync,
->(rt: &R, alloc: Global, reader: I, output: &mut O) -> Result<(), ServeError> {
+pub fn serve_from<I: Read + Drop, O: Write, R: Threads + Wait + Net + Dial + Clock + Sync>(
+    rt: &R,
+    alloc: Global,
+    reader: I,
+    output: &mut O,
+) -> Result<(), ServeError> {
     let config = read_configuration(alloc, reader)?;
     let (users, admin) = listen(rt, &config)?;
     say(output, b"listening\n")?;

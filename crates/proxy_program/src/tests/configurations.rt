@@ -42,7 +42,8 @@ fn judged<R: Read + Drop>(alloc: Global, reader: R) -> Result<(Vec<u8>, u8), All
 
 const LEAST: &str = "listen = \"127.0.0.1:3128\"\nadmin = \"127.0.0.1:3129\"\n";
 
-const SERVICE: &str = "listen = \"127.0.0.1:1\"\nadmin = \"127.0.0.1:2\"\n[respmod]\nhost = \"127.0.0.1\"\n";
+const SERVICE: &str =
+    "listen = \"127.0.0.1:1\"\nadmin = \"127.0.0.1:2\"\n[respmod]\nhost = \"127.0.0.1\"\n";
 
 #[test]
 fn configurations_are_judged(rt: HostRuntime) {
@@ -56,7 +57,11 @@ fn configurations_are_judged(rt: HostRuntime) {
         (LEAST, "[hosts]\n\"o.test\" = 1", "config hosts.o.test\n"),
         (SERVICE, "", "config respmod.path\n"),
         (SERVICE, "path = \"/x\"\nport = 0", "config respmod.port\n"),
-        (SERVICE, "path = \"/x\"\nfast = true", "config respmod.fast\n"),
+        (
+            SERVICE,
+            "path = \"/x\"\nfast = true",
+            "config respmod.fast\n",
+        ),
     ];
     for (front, rest, want) in cases {
         let text = format!(in rt.alloc(); "{front}{rest}").expect(&rt, "memory");
@@ -65,7 +70,11 @@ fn configurations_are_judged(rt: HostRuntime) {
         assert_eq!(rt; line.as_slice(), whole.as_bytes(), "{text:?}");
         assert_eq!(rt; status, 2, "{text:?}");
     }
-    for rest in ["", "retry = false\nwindow = 65536", "[hosts]\n\"a\" = \"127.0.0.1:80\""] {
+    for rest in [
+        "",
+        "retry = false\nwindow = 65536",
+        "[hosts]\n\"a\" = \"127.0.0.1:80\"",
+    ] {
         let text = format!(in rt.alloc(); "{LEAST}{rest}").expect(&rt, "memory");
         let (line, status) = judged(rt.alloc(), text.as_bytes()).expect(&rt, "memory");
         assert!(rt; line.is_empty(), "{text:?}");
@@ -78,10 +87,26 @@ fn configurations_that_are_no_text(rt: HostRuntime) {
     let longer = filled(rt.alloc(), MAX_INPUT + 1).expect(&rt, "memory");
     let longest = filled(rt.alloc(), MAX_INPUT).expect(&rt, "memory");
     let found = [
-        (judged(rt.alloc(), b"\xff".as_slice()), b"adaptproxy: config\n".as_slice(), 2),
-        (judged(rt.alloc(), longest.as_slice()), b"adaptproxy: config\n", 2),
-        (judged(rt.alloc(), longer.as_slice()), b"adaptproxy: input too long\n", 2),
-        (judged(rt.alloc(), Broken { bytes: b"listen" }), b"adaptproxy: read failed\n", 1),
+        (
+            judged(rt.alloc(), b"\xff".as_slice()),
+            b"adaptproxy: config\n".as_slice(),
+            2,
+        ),
+        (
+            judged(rt.alloc(), longest.as_slice()),
+            b"adaptproxy: config\n",
+            2,
+        ),
+        (
+            judged(rt.alloc(), longer.as_slice()),
+            b"adaptproxy: input too long\n",
+            2,
+        ),
+        (
+            judged(rt.alloc(), Broken { bytes: b"listen" }),
+            b"adaptproxy: read failed\n",
+            1,
+        ),
     ];
     for (judged, line, status) in found {
         let (said, found) = judged.expect(&rt, "memory");
@@ -93,8 +118,16 @@ fn configurations_that_are_no_text(rt: HostRuntime) {
 #[test]
 fn errors_of_serve_are_one_line(rt: HostRuntime) {
     let cases = [
-        (ServeError::Ended(Error::WriteFailed), "adaptproxy: write failed\n", 1),
-        (ServeError::Ended(Error::NoMemory), "adaptproxy: out of memory\n", 1),
+        (
+            ServeError::Ended(Error::WriteFailed),
+            "adaptproxy: write failed\n",
+            1,
+        ),
+        (
+            ServeError::Ended(Error::NoMemory),
+            "adaptproxy: out of memory\n",
+            1,
+        ),
         (ServeError::CannotListen, "adaptproxy: cannot listen\n", 1),
         (ServeError::AuditMissing, "adaptproxy: audit missing\n", 1),
     ];
@@ -109,5 +142,8 @@ fn errors_of_serve_are_one_line(rt: HostRuntime) {
         leased: 0,
     };
     let line = audit_line(rt.alloc(), audit).expect(&rt, "memory");
-    assert_eq!(rt; line.as_slice(), b"audit rows 3 held 18446744073709551615 leased 0\n".as_slice());
+    assert_eq!(rt;
+        line.as_slice(),
+        b"audit rows 3 held 18446744073709551615 leased 0\n".as_slice()
+    );
 }

@@ -8,7 +8,7 @@ use Rattle.proxy_program.proofs.serve_error.put_error.Goals as goal
 pub returns-in_ok-write_all-in-Key-2 : goal.returns-in_ok-write_all-in-Key-2
 returns-in_ok-write_all-in-Key-2 g c =
     let text : serve_error_text c.args.error.now ≡ (codes "adaptproxy: config " ++ c.as_bytes.result.now) ++ codes "\n" =
-      ap serve_error_text c.in-Key.is ∙ ap (λ (t : List ℕ). (codes "adaptproxy: config " ++ t) ++ codes "\n") (sym c.as_bytes.ensures.value) in
+    ap serve_error_text c.in-Key.is ∙ ap (λ (t : List ℕ). (codes "adaptproxy: config " ++ t) ++ codes "\n") (sym c.as_bytes.ensures.value) in
     on_ok _ _ c.write_all-in-Key-3.result (λ last. chain _ _ _ _ _ _ _ _ text c.in_ok-write_all-in-Key.ensures.bytes c.in_ok-write_all-in-Key-2.ensures.bytes last) c.write_all-in-Key-3.ensures.bytes
 
 pub returns-in-CannotListen : goal.returns-in-CannotListen
