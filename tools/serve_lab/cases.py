@@ -1,0 +1,103 @@
+"""What the cases of tools/try_serve share: their list, the programs, requests, and what a refusal is."""
+import os
+import threading
+
+from serve_lab.loopback import TOP, Icap, Origin, Program, Proxy, User, free_port
+
+ADAPTPROXY = os.environ.get("ADAPTPROXY", os.path.join(TOP, "bin", "adaptproxy"))
+ICAPD = os.environ.get("ICAPD", os.path.join(TOP, "bin", "icapd"))
+CASES = []
+
+
+def case(function):
+    CASES.append(function)
+    return function
+
+
+def same(what, found, wanted):
+    if found != wanted:
+        def short(x):
+            text = repr(x)
+            return text if len(text) < 700 else text[:350] + " .. " + text[-350:]
+        raise AssertionError("%s: found %s, wanted %s" % (what, short(found), short(wanted)))
+
+
+class Bench:
+    """An origin, icapd, and a proxy: all that a case makes is ended behind it."""
+
+    def __init__(self):
+        self.all = []
+
+    def keep(self, thing):
+        self.all.append(thing)
+        return thing
+
+    def origin(self):
+        return self.keep(Origin())
+
+    def icap(self, *args, **words):
+        return self.keep(Icap(*args, **words))
+
+    def icapd(self, extra=""):
+        port = free_port()
+        program = self.keep(Program(ICAPD, 'listen = "127.0.0.1:%d"\n%s\n' % (port, extra)))
+        same("icapd", program.first, b"listening\n")
+        return port
+
+    def proxy(self, origin, text="", services=(), hosts="", descriptors=None):
+        return self.keep(Proxy(ADAPTPROXY, origin.port, text, services, hosts, descriptors))
+
+    def end(self):
+        for thing in reversed(self.all):
+            (thing.kill if isinstance(thing, Program) else thing.close)()
+
+
+def get(path, extra="", method="GET", version="1.1"):
+    return ("%s http://o.test%s HTTP/%s\r\nHost: o.test\r\n%s\r\n" % (method, path, version, extra)).encode()
+
+
+def post(path, body, extra=""):
+    return get(path, "Content-Length: %d\r\n%s" % (len(body), extra), "POST") + body
+
+
+def post_chunked(path, body, size, extra=""):
+    pieces = [body[at:at + size] for at in range(0, len(body), size)]
+    chunks = b"".join(b"%x\r\n%s\r\n" % (len(piece), piece) for piece in pieces)
+    return get(path, "Transfer-Encoding: chunked\r\n" + extra, "POST") + chunks + b"0\r\nX-T: 1\r\n\r\n"
+
+
+REFUSALS = {400: b"Bad Request", 501: b"Not Implemented", 502: b"Bad Gateway", 503: b"Service Unavailable",
+            504: b"Gateway Timeout"}
+
+
+def refusal(status):
+    return b"HTTP/1.1 %d %s\r\nContent-Length: 0\r\nConnection: close\r\n\r\n" % (status, REFUSALS[status])
+
+
+def is_refused(what, port, request, status):
+    """The whole answer is the proxy's own refusal, and the connection ends."""
+    user = User(port)
+    user.send(request)
+    same(what, user.reader.to_end(), refusal(status))
+    user.close()
+
+
+def at_once(count, one):
+    """Users in threads of their own: `one(number)` each."""
+    wrong = []
+
+    def guarded(number):
+        try:
+            one(number)
+        except Exception as error:  # noqa: BLE001
+            wrong.append("%s %s" % (type(error).__name__, error))
+    users = [threading.Thread(target=guarded, args=(number,)) for number in range(count)]
+    for user in users:
+        user.start()
+    for user in users:
+        user.join()
+    same("users that failed", wrong, [])
+
+
+IDLE = "audit rows 0 held 0 leased 0"
+SIZES = (0, 1, 4095, 4096, 4097, 65536)
