@@ -13,7 +13,7 @@ use std::net::{Ipv4Addr, Net, SocketAddr, TcpListener, TcpStream};
 use std::sync::Wait;
 use std::thread::{self, Threads};
 use std::time::Clock;
-use wire_kit::HoldGate;
+use wire_kit::OpenGate;
 
 /// What the service says of itself, with the lines that a test adds.
 fn options(alloc: Global, lines: &str) -> io::Result<String> {
@@ -168,10 +168,6 @@ pub fn goes_well<
     let others = make_others(rt)?;
     let config = configuration(alloc, &others, scene.adapts(), more)?;
     let (made, ports) = listeners(rt)?;
-    let gate = HoldGate::new();
-    if scene != Scene::TwoShards {
-        gate.answered();
-    }
     let mut made = Some(made);
     let mut audit = None;
     let mut right = false;
@@ -179,11 +175,11 @@ pub fn goes_well<
         rt,
         &mut || {
             if let Some((users, admin)) = made.take() {
-                audit = serve_ports(rt, alloc, &config, users, admin, &gate).ok();
+                audit = serve_ports(rt, alloc, &config, users, admin, &OpenGate).ok();
             }
         },
         &mut || {
-            right = play(rt, alloc, scene, ports, &others, &gate).unwrap_or(false);
+            right = play(rt, alloc, scene, ports, &others).unwrap_or(false);
             let _ = stop(rt, ports);
         },
     );

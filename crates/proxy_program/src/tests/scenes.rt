@@ -7,7 +7,6 @@ use std::alloc::Global;
 use std::io;
 use std::net::{Net, TcpListener, TcpStream};
 use std::test::Fail;
-use wire_kit::HoldGate;
 
 pub const REQUEST: &[u8] = b"GET http://o.test/a.txt HTTP/1.1\r\nHost: o.test\r\n\r\n";
 
@@ -46,8 +45,6 @@ const OFFERED: &[u8] = b"4\r\nabcd\r\n0\r\n\r\n";
 pub enum Scene {
     /// The worked exchange, twice on one connection of the user, and of the service.
     Worked,
-    /// The first user's exchange is held until the second user has its answer.
-    TwoShards,
     /// The service takes no connection, as it says.
     NoConnections,
     /// The service takes one connection: a second user is refused, and the first one served.
@@ -67,7 +64,7 @@ pub enum Scene {
 impl Scene {
     /// Whether responses are adapted.
     pub fn adapts(self) -> bool {
-        self != Scene::TwoShards && self != Scene::Capacity
+        self != Scene::Capacity
     }
 }
 
@@ -78,11 +75,9 @@ pub fn play<R: Net<Listener = TcpListener, Stream = TcpStream>>(
     scene: Scene,
     ports: Ports,
     others: &Others,
-    gate: &HoldGate,
 ) -> io::Result<bool> {
     match scene {
         Scene::Worked => worked(rt, alloc, ports, others),
-        Scene::TwoShards => two_shards(rt, alloc, ports, others, gate),
         Scene::NoConnections => no_connections(rt, alloc, ports, others),
         Scene::OneConnection => one_connection(rt, alloc, ports, others),
         Scene::ClosedOptions => closed_options(rt, alloc, ports, others),
@@ -132,26 +127,6 @@ fn worked<R: Net<Listener = TcpListener, Stream = TcpStream>>(
     let again = responds(alloc, others)? && adapts(alloc, &line, others)?;
     let second = until(alloc, &user, b"ABCDEF")?;
     Ok(asked && offered && again && first.as_slice() == ADAPTED && second.as_slice() == ADAPTED)
-}
-
-fn two_shards<R: Net<Listener = TcpListener, Stream = TcpStream>>(
-    rt: &R,
-    alloc: Global,
-    ports: Ports,
-    others: &Others,
-    gate: &HoldGate,
-) -> io::Result<bool> {
-    let first = asks(rt, ports)?;
-    let (held, _) = others.origin.accept()?;
-    let second = asks(rt, ports)?;
-    let responded = responds(alloc, others)?;
-    let earlier = until(alloc, &second, b"abcdef")?;
-    gate.answered();
-    let asked = until(alloc, &held, b"\r\n\r\n")?;
-    say(&held, RESPONSE)?;
-    let later = until(alloc, &first, b"abcdef")?;
-    let right = earlier.as_slice() == FORWARDED && later.as_slice() == FORWARDED;
-    Ok(right && responded && asked.as_slice() == TO_ORIGIN)
 }
 
 fn no_connections<R: Net<Listener = TcpListener, Stream = TcpStream>>(
@@ -280,15 +255,9 @@ fn the_worked_exchange(rt: HostRuntime) -> Result<(), Fail> {
 }
 
 #[test]
-fn threads_serve_beside_one_another(rt: HostRuntime) -> Result<(), Fail> {
-    assert!(rt; goes_well(&rt, rt.alloc(), Scene::TwoShards, "shards = 2\n")?);
-    Ok(())
-}
-
-#[test]
 fn a_service_says_how_many_connections_it_takes(rt: HostRuntime) -> Result<(), Fail> {
     let alloc = rt.alloc();
-    let lines = "shards = 2\nallow_limit = 0\n";
+    let lines = "allow_limit = 0\n";
     assert!(rt; goes_well(&rt, alloc, Scene::NoConnections, lines)?);
     assert!(rt; goes_well(&rt, alloc, Scene::OneConnection, lines)?);
     assert!(rt; goes_well(&rt, alloc, Scene::ClosedOptions, lines)?);
@@ -303,7 +272,7 @@ fn nobody_waits_for_ever(rt: HostRuntime) -> Result<(), Fail> {
 
 #[test]
 fn a_request_begins_anew_behind_an_idle_connection(rt: HostRuntime) -> Result<(), Fail> {
-    assert!(rt; goes_well(&rt, rt.alloc(), Scene::Retry, "shards = 1\n")?);
+    assert!(rt; goes_well(&rt, rt.alloc(), Scene::Retry, "")?);
     Ok(())
 }
 
