@@ -1,0 +1,5 @@
+mod Summing
+mod Banked
+mod Stepping
+mod Moving
+mod Pooled

@@ -1,0 +1,2 @@
+pub mod BankTie
+pub mod PoolTie

@@ -1,0 +1,12 @@
+//! What ties the locks to the world: the budget's bank and the services' pools, each behind a lock of its own, take
+//! just the steps that the events of a world's history are.
+//!
+//! [`world_core`] speaks of one list of events of all transactions; [`span_bank`] and [`service_pool`] of numbers and
+//! the steps that change them. The laws here stand on the definitions of all three: the sums over a world's open
+//! transactions are the totals of a bank, and each event that the world takes is at most one step of the bank and at
+//! most one of a pool, which leads from the numbers before it to those after it. What the world refuses for want of
+//! room the bank or the pool refuses, on the same condition.
+#![tactic(auto)]
+
+pub mod bank;
+pub mod pool;
