@@ -4,10 +4,12 @@
 mod commas;
 mod digits;
 pub mod laws;
+mod limits;
 #[cfg(test)]
 mod tests;
 mod text;
 
 pub use commas::{CommaItems, CommaParts, comma_items, comma_parts};
 pub use digits::{Small, put_decimal, put_hex, read_decimal, read_hex};
-pub use text::{is_token, same_ascii, trim};
+pub use limits::{COUNT_LIMIT, MAX_CONNECTIONS};
+pub use text::{is_blank, is_token, same_ascii, trim};

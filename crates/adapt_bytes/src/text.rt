@@ -40,7 +40,8 @@ fn is_token_byte(byte: u8) -> bool
         )
 }
 
-fn is_blank(byte: u8) -> bool
+/// Whether the byte is a space or a tab.
+pub fn is_blank(byte: u8) -> bool
     ensures { result ≡ is_blank byte }
 {
     byte == b' ' || byte == b'\t'

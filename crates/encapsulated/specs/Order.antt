@@ -7,7 +7,7 @@ use Rattle.encapsulated.specs.declared.parts.BodyPart.{BodyPart}
 use Rattle.encapsulated.specs.declared.parts.BodyPart.TheVariants.{ReqBody, ResBody, OptBody, NullBody}
 use Rattle.encapsulated.specs.declared.parts.Part.{Part}
 use Rattle.encapsulated.specs.declared.parts.Part.TheVariants.{ReqHdr, ResHdr, Body}
-use Rattle.encapsulated.specs.declared.seen.Form.{Form}
+use Rattle.encapsulated.specs.declared.seen.Row.{Row}
 use Rattle.encapsulated.specs.declared.seen.Seen.{Seen}
 use Rattle.encapsulated.specs.Grammar.{AreItems, AreParts}
 use Rattle.encapsulated.specs.Layouts.{if_there, names, item_text}
@@ -79,14 +79,14 @@ is_body (Body body) = true
 abbrev pub has_body : List Part → Bool
 has_body parts = list_any is_body parts
 
--- a head that a form may have
+-- a head that a row may have
 abbrev pub head_if : Bool → Part → List Part
 head_if true part = part ∷ []
 head_if false part = []
 
--- the heads that a form may have
-abbrev pub heads_of : Form → List Part
-heads_of form = head_if form.req_hdr ReqHdr ++ head_if form.res_hdr ResHdr
+-- the heads that a row may have
+abbrev pub heads_of : Row → List Part
+heads_of row = head_if row.req_hdr ReqHdr ++ head_if row.res_hdr ResHdr
 
 -- whether some list has this body behind these heads, whatever their offsets
 abbrev pub heads_fit : BodyPart → Option ℕ → Option ℕ → Bool

@@ -11,7 +11,7 @@ use crate::items::{are_items, read_part};
 use crate::message::{Direction, Method};
 use crate::offsets::Layout;
 use crate::parts::BodyPart;
-use crate::seen::{Form, Seen, and_part};
+use crate::seen::{Row, Seen, add_part};
 use adapt_bytes::comma_parts;
 
 /// Reads the value of an Encapsulated field of this kind of message (RFC 3507, section 4.4.1).
@@ -35,7 +35,7 @@ fn find_layout(method: Method, direction: Direction, list: &[u8]) -> Result<Layo
     ensures err { IfErr result (λ fault. Stands fault method direction list.now) }
 {
     let seen = read_parts(list)?;
-    if !may_begin(method, direction, seen) {
+    if !is_allowed_front(method, direction, seen) {
         return Err(EncFault::Order);
     }
     let Some(layout) = seen.whole() else {
@@ -62,56 +62,57 @@ fn read_parts(list: &[u8]) -> Result<Seen, EncFault>
             return Err(EncFault::Name);
         };
         // Parts out of order are no fault yet, since a later name may be unknown.
-        seen = and_part(seen, part, offset);
+        seen = add_part(seen, part, offset);
     }
     seen.ok_or(EncFault::Order)
 }
 
 /// `[req-hdr] req-body`
-const REQUEST: Form = Form {
+const REQUEST: Row = Row {
     req_hdr: true,
     res_hdr: false,
     body: BodyPart::ReqBody,
 };
 
 /// `[res-hdr] res-body`
-const RESPONSE: Form = Form {
+const RESPONSE: Row = Row {
     req_hdr: false,
     res_hdr: true,
     body: BodyPart::ResBody,
 };
 
 /// `[req-hdr] [res-hdr] res-body`
-const EXCHANGE: Form = Form {
+const EXCHANGE: Row = Row {
     req_hdr: true,
     res_hdr: true,
     body: BodyPart::ResBody,
 };
 
 /// `opt-body`
-const OPTIONS: Form = Form {
+const OPTIONS: Row = Row {
     req_hdr: false,
     res_hdr: false,
     body: BodyPart::OptBody,
 };
 
 /// `null-body`
-const NOTHING: Form = Form {
+const NOTHING: Row = Row {
     req_hdr: false,
     res_hdr: false,
     body: BodyPart::NullBody,
 };
 
 /// Whether a list that this message may have begins with these parts.
-fn may_begin(method: Method, direction: Direction, seen: Seen) -> bool
+fn is_allowed_front(method: Method, direction: Direction, seen: Seen) -> bool
     ensures { result ≡ any_front (allowed method direction) (names (seen_parts seen)) }
 {
     match (method, direction) {
-        (Method::Reqmod, Direction::Request) => seen.begins(REQUEST),
-        (Method::Reqmod, Direction::Response) => seen.begins(REQUEST) || seen.begins(RESPONSE),
-        (Method::Respmod, Direction::Request) => seen.begins(EXCHANGE),
-        (Method::Respmod, Direction::Response) => seen.begins(RESPONSE),
-        (Method::Options, Direction::Request) => seen.begins(NOTHING),
-        (Method::Options, Direction::Response) => seen.begins(OPTIONS),
+        (Method::Reqmod, Direction::Request) => seen.is_front_of(REQUEST),
+        (Method::Reqmod, Direction::Response) => seen.is_front_of(REQUEST)
+            || seen.is_front_of(RESPONSE),
+        (Method::Respmod, Direction::Request) => seen.is_front_of(EXCHANGE),
+        (Method::Respmod, Direction::Response) => seen.is_front_of(RESPONSE),
+        (Method::Options, Direction::Request) => seen.is_front_of(NOTHING),
+        (Method::Options, Direction::Response) => seen.is_front_of(OPTIONS),
     }
 }

@@ -15,9 +15,9 @@ pub(crate) struct Seen {
     body: Option<(BodyPart, u64)>,
 }
 
-/// What a list may name: heads, each of which may be missing, and a body, which may be null-body.
+/// A row of the RFC's table: heads, each of which may be missing, and a body, which may be null-body.
 #[derive(Clone, Copy, Debug, PartialEq, Eq)]
-pub(crate) struct Form {
+pub(crate) struct Row {
     pub(crate) req_hdr: bool,
     pub(crate) res_hdr: bool,
     pub(crate) body: BodyPart,
@@ -31,7 +31,7 @@ impl Seen {
     };
 
     /// With one more part behind them, where that part may still come.
-    fn with(self, part: Part, offset: u64) -> Option<Seen>
+    fn with_part(self, part: Part, offset: u64) -> Option<Seen>
         ensures some { IfSome result (λ new. seen_parts new ≡ seen_parts self ++ (part, offset) ∷ []) }
         ensures none { IfNone result ((more : List Part)
             → IsTrue (ascends (names (seen_parts self) ++ part ∷ more)) → ⊥) }
@@ -61,15 +61,15 @@ impl Seen {
         }
     }
 
-    /// Whether these are the first parts of a list of this form.
-    pub(crate) fn begins(self, form: Form) -> bool
-        ensures { result ≡ any_front (lists_of (heads_of form) form.body) (names (seen_parts self)) }
+    /// Whether these are the first parts of a list of this row.
+    pub(crate) fn is_front_of(self, row: Row) -> bool
+        ensures { result ≡ any_front (lists_of (heads_of row) row.body) (names (seen_parts self)) }
     {
         let body = match self.body {
             None | Some((BodyPart::NullBody, _)) => true,
-            Some((body, _)) => body == form.body,
+            Some((body, _)) => body == row.body,
         };
-        body && (form.req_hdr || self.req_hdr.is_none()) && (form.res_hdr || self.res_hdr.is_none())
+        body && (row.req_hdr || self.req_hdr.is_none()) && (row.res_hdr || self.res_hdr.is_none())
     }
 
     /// The layout, where the body part is there.
@@ -88,9 +88,9 @@ impl Seen {
 }
 
 /// With one more part, where the parts are in order so far.
-pub(crate) fn and_part(seen: Option<Seen>, part: Part, offset: u64) -> Option<Seen>
+pub(crate) fn add_part(seen: Option<Seen>, part: Part, offset: u64) -> Option<Seen>
     ensures { (parts : List (Part × ℕ)) → HasSeen seen parts
         → HasSeen result (parts ++ (part, offset) ∷ []) }
 {
-    seen?.with(part, offset)
+    seen?.with_part(part, offset)
 }

@@ -4,7 +4,7 @@ use Rattle.std.specs.Prelude.{◌↔◌}
 use Rattle.std.proofs.lemmas.List.{append-nil, take-append-drop, take-append-le}
 use Rattle.std.proofs.Math.Seq.{take-length}
 use Rattle.icap_chunks.specs.declared.places.Place.{Place}
-use Rattle.icap_chunks.specs.declared.places.Place.TheVariants.{LastFeed, Ended}
+use Rattle.icap_chunks.specs.declared.places.Place.TheVariants.{LastCr, Ended}
 use Rattle.icap_chunks.specs.declared.reader.ChunkReader.{ChunkReader}
 use Rattle.icap_chunks.specs.Grammar.{IsChunked}
 use Rattle.icap_chunks.specs.Machine.{start, step, run, body_of, end_at, end_of, EndsAt}
@@ -37,7 +37,7 @@ end_stays r ieof bytes e =
     let is = at_place r (Ended ieof) (ended_at r.place ieof e) in
     ap (λ x. end_of (run x bytes)) is ∙ ap end_of (run_ended r.sum ieof bytes) ∙ sym (ap end_of is) ∙ e
 
-no_end_last : (sum count : ℕ) (ieof x : Bool) → end_of (at sum (LastFeed count ieof)) ≡ Some x → ⊥
+no_end_last : (sum count : ℕ) (ieof x : Bool) → end_of (at sum (LastCr count ieof)) ≡ Some x → ⊥
 unfolding end_at
 no_end_last sum count ieof x e = cc
 
@@ -63,7 +63,7 @@ chunked_ends text body ieof w =
     early k x l e =
         let xs = all_but_last w in
         let stays = end_stays (run start (take k (xs ++ 10 ∷ []))) x (drop k xs) e in
-        let is : run (run start (take k (xs ++ 10 ∷ []))) (drop k xs) ≡ at (length body) (LastFeed (length w.trailers + 1) ieof)
+        let is : run (run start (take k (xs ++ 10 ∷ []))) (drop k xs) ≡ at (length body) (LastCr (length w.trailers + 1) ieof)
         = sym (run-append start (take k (xs ++ 10 ∷ [])) (drop k xs)) ∙ ap (run start) (front_of xs 10 k l) ∙ (open_walk text body ieof w).reads in
         no_end_last (length body) (length w.trailers + 1) ieof x (ap end_of (sym is) ∙ stays)
 

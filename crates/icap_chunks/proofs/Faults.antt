@@ -7,9 +7,10 @@ use Rattle.icap_chunks.specs.declared.fault.ChunkFault.{ChunkFault}
 use Rattle.icap_chunks.specs.declared.extension.Item.{Item}
 use Rattle.icap_chunks.specs.declared.extension.Item.TheVariants.{Blank}
 use Rattle.icap_chunks.specs.declared.places.Place.{Place}
-use Rattle.icap_chunks.specs.declared.places.Place.TheVariants.{Digits, Pad, Extension, LineEnd, Data, DataEnd, DataFeed, TrailerStart, Trailer, TrailerFeed, LastFeed, Ended, Faulted}
+use Rattle.icap_chunks.specs.declared.places.Place.TheVariants.{Digits, Pad, Extension, LineCr, Data, DataEnd, DataCr, TrailerStart, Trailer, TrailerCr, LastCr, Ended, Faulted}
 use Rattle.icap_chunks.specs.declared.reader.ChunkReader.{ChunkReader}
-use Rattle.icap_chunks.specs.Grammar.{is_blank, AllPass, SizeLine, print_line, has_ieof, IsSizeLine, Chunks}
+use Rattle.adapt_bytes.specs.Text.{is_blank}
+use Rattle.icap_chunks.specs.Grammar.{AllPass, SizeLine, print_line, has_ieof, IsSizeLine, Chunks}
 use Rattle.icap_chunks.specs.Machine.{start, step, run, body_of, is_data, faulted_at, fault_of, end_at, data_behind}
 use Rattle.icap_chunks.proofs.Standing.{Front, InDigits, InPad, InExtension, InLineEnd, InChunk, InTrailers, Stands, extension_behind}
 use Rattle.icap_chunks.specs.Faults.{Breaks}
@@ -72,9 +73,9 @@ extension_stand text body sum count size item found s =
     = ap (λ k. extends (length body) k size (extension_behind (Blank, false) s.extension)) same ∙ ap (λ x. extends (length body) count size x) s.behind in
     place_walk text body _ sum s.front (Extension count size item found) (of (to walk there) (simp append_assoc))
 
-line_end_stand : (text body : List ℕ) (sum size : ℕ) (ieof : Bool) → InLineEnd text body sum size ieof → Walk start text body (at sum (LineEnd size ieof))
-line_end_stand text body sum size ieof s = place_walk text body (print_line s.l ++ 13 ∷ []) sum s.front (LineEnd size ieof)
-    (to (line_walk (length body) s.l size s.is) (ap (λ x. at (length body) (LineEnd size x)) s.ieof_is))
+line_end_stand : (text body : List ℕ) (sum size : ℕ) (ieof : Bool) → InLineEnd text body sum size ieof → Walk start text body (at sum (LineCr size ieof))
+line_end_stand text body sum size ieof s = place_walk text body (print_line s.l ++ 13 ∷ []) sum s.front (LineCr size ieof)
+    (to (line_walk (length body) s.l size s.is) (ap (λ x. at (length body) (LineCr size x)) s.ieof_is))
 
 -- some bytes of a run, at most all of them
 some_data : (sum size : ℕ) (bytes : List ℕ) (s : ChunkReader) → 0 < size → length bytes ≤ size → data_behind sum (size - 1) (length bytes) ≡ s → Walk (at sum (Data (size - 1))) bytes bytes s
@@ -119,29 +120,29 @@ unfolding end_at faulted_at
 stands_walk text body sum (Digits count size) e f s = digits_stand text body sum count size s
 stands_walk text body sum (Pad count size) e f s = pad_stand text body sum count size s
 stands_walk text body sum (Extension count size item found) e f s = extension_stand text body sum count size item found s
-stands_walk text body sum (LineEnd size ieof) e f s = line_end_stand text body sum size ieof s
+stands_walk text body sum (LineCr size ieof) e f s = line_end_stand text body sum size ieof s
 stands_walk text body sum (Data more) e f s =
     let left : (s.size - 1) - length s.bytes ≡ more = omega (arith, s.left_is) in
     chunk_part text body sum (more + 1) [] s (Data more) (Data more)
     (behind_more sum (s.size - 1) (length s.bytes) (omega (arith, s.left_is)) ∙ ap (λ k. at sum (Data k)) left) (stay _)
 stands_walk text body sum DataEnd e f s = chunk_part text body sum 0 [] s DataEnd DataEnd (behind_all sum (s.size - 1) (length s.bytes) (omega (arith, s.left_is, s.some))) (stay _)
-stands_walk text body sum DataFeed e f s = chunk_part text body sum 0 (13 ∷ []) s DataEnd DataFeed (behind_all sum (s.size - 1) (length s.bytes) (omega (arith, s.left_is, s.some))) (data_end sum)
+stands_walk text body sum DataCr e f s = chunk_part text body sum 0 (13 ∷ []) s DataEnd DataCr (behind_all sum (s.size - 1) (length s.bytes) (omega (arith, s.left_is, s.some))) (data_end sum)
 stands_walk text body sum (TrailerStart count ieof) e f s =
     let same : length s.trailers ≡ count = omega (arith, s.count_is) in
     trailers_part text body sum count ieof [] s (TrailerStart count ieof) (to (stay _) (ap (λ k. at (length body) (TrailerStart k ieof)) same))
 stands_walk text body sum (Trailer count ieof) e f s =
     trailers_part text body sum count ieof s.0 s.1 (Trailer count ieof)
     (to (trailer_part (length body) (length s.1.trailers) ieof s.0 s.2 s.3 (omega (arith, s.1.count_is, s.1.short))) (ap (λ k. at (length body) (Trailer k ieof)) (sym s.1.count_is)))
-stands_walk text body sum (TrailerFeed count ieof) e f s =
+stands_walk text body sum (TrailerCr count ieof) e f s =
     let len = length-append s.0 (13 ∷ []) in
     let same : length s.1.trailers + length s.0 + 1 ≡ count = omega (arith, s.1.count_is) in
-    trailers_part text body sum count ieof (s.0 ++ 13 ∷ []) s.1 (TrailerFeed count ieof)
+    trailers_part text body sum count ieof (s.0 ++ 13 ∷ []) s.1 (TrailerCr count ieof)
     (to (on (trailer_part (length body) (length s.1.trailers) ieof s.0 s.2 s.3 (omega (arith, s.1.count_is, s.1.short)))
-    (trailer_end (length body) ieof (length s.1.trailers + length s.0) (omega (arith, s.1.short)))) (ap (λ k. at (length body) (TrailerFeed k ieof)) same))
-stands_walk text body sum (LastFeed count ieof) e f s =
+    (trailer_end (length body) ieof (length s.1.trailers + length s.0) (omega (arith, s.1.short)))) (ap (λ k. at (length body) (TrailerCr k ieof)) same))
+stands_walk text body sum (LastCr count ieof) e f s =
     let same : length s.trailers + 1 ≡ count = omega (arith, s.count_is) in
-    trailers_part text body sum count ieof (13 ∷ []) s (LastFeed count ieof)
-    (to (final_end (length body) ieof (length s.trailers) (omega (arith, s.count_is, s.short))) (ap (λ k. at (length body) (LastFeed k ieof)) same))
+    trailers_part text body sum count ieof (13 ∷ []) s (LastCr count ieof)
+    (to (final_end (length body) ieof (length s.trailers) (omega (arith, s.count_is, s.short))) (ap (λ k. at (length body) (LastCr k ieof)) same))
 stands_walk text body sum (Ended ieof) e f s = absurd (some_none e)
 stands_walk text body sum (Faulted fault) e f s = absurd (some_none f)
 

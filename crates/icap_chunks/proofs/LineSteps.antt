@@ -10,8 +10,9 @@ use Rattle.icap_chunks.specs.declared.extension.Item.TheVariants.{Blank}
 use Rattle.icap_chunks.specs.declared.places.Place.{Place}
 use Rattle.icap_chunks.specs.declared.places.Place.TheVariants.{Extension}
 use Rattle.icap_chunks.specs.declared.reader.ChunkReader.{ChunkReader}
-use Rattle.icap_chunks.specs.Grammar.{is_blank, is_line_byte, AllPass, print_line, IsSizeLine, no_line}
-use Rattle.icap_chunks.specs.Machine.{start, step, run, body_of, is_data, item_with, in_digits, in_pad, in_extension, in_line_end, in_data, in_data_end, in_data_feed, in_trailer_start, in_trailer, in_trailer_feed, in_last_feed}
+use Rattle.adapt_bytes.specs.Text.{is_blank}
+use Rattle.icap_chunks.specs.Grammar.{is_line_byte, AllPass, print_line, IsSizeLine, no_line}
+use Rattle.icap_chunks.specs.Machine.{start, step, run, body_of, is_data, item_with, in_digits, in_pad, in_extension, in_line_cr, in_data, in_data_end, in_data_cr, in_trailer_start, in_trailer, in_trailer_cr, in_last_cr}
 use Rattle.icap_chunks.specs.Machine as machine
 use Rattle.icap_chunks.proofs.Standing.{Front, InDigits, InPad, InExtension, InLineEnd, InChunk, InTrailers, Stands, extension_with}
 use Rattle.icap_chunks.proofs.Words.{extension_behind-append, answer, extension_found}
@@ -256,8 +257,8 @@ module _ (text body : List ℕ) (sum size : ℕ) (ieof : Bool) (b : ℕ) (s : In
     some = some;
   }
 
-  pub line_end_step : StandsAt (text ++ b ∷ []) body (in_line_end sum size ieof b)
-  unfolding in_line_end
+  pub line_end_step : StandsAt (text ++ b ∷ []) body (in_line_cr sum size ieof b)
+  unfolding in_line_cr
   line_end_step = let G = StandsAt (text ++ b ∷ []) body in choose_reader G (b == 10) _ _
       (λ e. choose_reader G (nat_lt (sum + size) 4611686018427387904) _ _
       (λ fits. choose (Stands (text ++ b ∷ []) body (sum + size)) (size == 0) _ _ (λ none. last_one (is_eq b 10 e) (is_eq size 0 none))

@@ -5,13 +5,13 @@ use Rattle.std.specs.Str.Parse.{digits_value}
 use Rattle.icap_chunks.specs.declared.extension.Item.{Item}
 use Rattle.icap_chunks.specs.declared.extension.Item.TheVariants.{Blank}
 use Rattle.icap_chunks.specs.declared.places.Place.{Place}
-use Rattle.icap_chunks.specs.declared.places.Place.TheVariants.{Digits, Pad, Extension, LineEnd, Data, DataEnd, DataFeed, TrailerStart, Trailer, TrailerFeed, LastFeed, Ended, Faulted}
+use Rattle.icap_chunks.specs.declared.places.Place.TheVariants.{Digits, Pad, Extension, LineCr, Data, DataEnd, DataCr, TrailerStart, Trailer, TrailerCr, LastCr, Ended, Faulted}
 use Rattle.icap_chunks.specs.Grammar.{is_line_byte, AllPass, print_line, has_ieof}
 use Rattle.icap_chunks.specs.Machine.{fault_of, step, end_at, faulted_at}
 use Rattle.icap_chunks.specs.Faults.{Part, in_line, behind_line, in_data, behind_data, behind_data_cr, in_trailers, behind_trailers_cr, fault_at, Behind, InLine, InChunk, InTrailers, EndsIn}
 use Rattle.icap_chunks.proofs.Standing.{Front, InDigits, InPad, InExtension, Stands, extension_behind}
 use Rattle.icap_chunks.proofs.Standing.{InChunk as ChunkStands, InTrailers as TrailersStand}
-use Rattle.icap_chunks.proofs.Table.{digits_table, pad_table, extension_table, line_end_table, data_table, data_end_table, data_feed_table, trailer_start_table, trailer_table, trailer_feed_table, last_feed_table}
+use Rattle.icap_chunks.proofs.Table.{digits_table, pad_table, extension_table, line_end_table, data_table, data_end_table, data_cr_table, trailer_start_table, trailer_table, trailer_cr_table, last_cr_table}
 use Rattle.icap_chunks.proofs.Walks.{at}
 
 -- the place and the part have the same faults
@@ -154,22 +154,22 @@ unfolding end_at faulted_at
 place_part text body sum (Digits count size) s quiet sound = digits_part text body sum count size s
 place_part text body sum (Pad count size) s quiet sound = pad_part text body sum count size s
 place_part text body sum (Extension count size item found) s quiet sound = extension_part text body sum count size item found s
-place_part text body sum (LineEnd size ieof) s quiet sound = record {
+place_part text body sum (LineCr size ieof) s quiet sound = record {
   part = behind_line size;
   ends = record { line = s.l; behind = behind_of s.front refl; is = s.is };
-  same = summed body sum (LineEnd size ieof) (behind_line size) s.front.sum_is (λ b. line_end_table (length body) size b ieof);
+  same = summed body sum (LineCr size ieof) (behind_line size) s.front.sum_is (λ b. line_end_table (length body) size b ieof);
 }
 place_part text body sum (Data more) s quiet sound = record { part = in_data; ends = (more + 1, omega arith, chunk_part s); same = λ b. data_table sum (length body) more b }
 place_part text body sum DataEnd s quiet sound = record { part = behind_data; ends = chunk_part s; same = λ b. data_end_table sum (length body) b }
-place_part text body sum DataFeed s quiet sound = record { part = behind_data_cr; ends = chunk_part s; same = λ b. data_feed_table sum (length body) b }
+place_part text body sum DataCr s quiet sound = record { part = behind_data_cr; ends = chunk_part s; same = λ b. data_cr_table sum (length body) b }
 place_part text body sum (TrailerStart count ieof) s quiet sound =
     record { part = in_trailers count; ends = trailers_part [] tt refl s; same = λ b. trailer_start_table sum (length body) count b ieof }
 place_part text body sum (Trailer count ieof) s quiet sound =
     record { part = in_trailers count; ends = trailers_part s.0 s.3 (sym (append-nil s.0)) s.1; same = λ b. trailer_table sum (length body) count b ieof }
-place_part text body sum (TrailerFeed count ieof) s quiet sound =
-    record { part = behind_trailers_cr count; ends = trailers_part s.0 s.3 refl s.1; same = λ b. trailer_feed_table sum (length body) count b ieof }
-place_part text body sum (LastFeed count ieof) s quiet sound =
-    record { part = behind_trailers_cr count; ends = trailers_part [] tt refl s; same = λ b. last_feed_table sum (length body) count b ieof }
+place_part text body sum (TrailerCr count ieof) s quiet sound =
+    record { part = behind_trailers_cr count; ends = trailers_part s.0 s.3 refl s.1; same = λ b. trailer_cr_table sum (length body) count b ieof }
+place_part text body sum (LastCr count ieof) s quiet sound =
+    record { part = behind_trailers_cr count; ends = trailers_part [] tt refl s; same = λ b. last_cr_table sum (length body) count b ieof }
 place_part text body sum (Ended ieof) s quiet sound = absurd cc
 place_part text body sum (Faulted fault) s quiet sound = absurd cc
 
@@ -292,19 +292,19 @@ behind_trailers_place : (text body : List ℕ) (count : ℕ) (s : InTrailers tex
 unfolding end_at faulted_at
 behind_trailers_place text body count s [] is = record {
   sum = length body;
-  place = LastFeed count (has_ieof s.last.extension);
+  place = LastCr count (has_ieof s.last.extension);
   stands = trailers_place s [] is;
   quiet = refl;
   sound = refl;
-  same = λ b. last_feed_table (length body) (length body) count b (has_ieof s.last.extension);
+  same = λ b. last_cr_table (length body) (length body) count b (has_ieof s.last.extension);
 }
 behind_trailers_place text body count s (c ∷ line) is = record {
   sum = length body;
-  place = TrailerFeed count (has_ieof s.last.extension);
+  place = TrailerCr count (has_ieof s.last.extension);
   stands = (c ∷ line, trailers_place s (c ∷ line) is, lit_pos c line, (let Q : List ℕ → Type 0 = λ p. AllPass is_line_byte p in subst Q is s.bytes));
   quiet = refl;
   sound = refl;
-  same = λ b. trailer_feed_table (length body) (length body) count b (has_ieof s.last.extension);
+  same = λ b. trailer_cr_table (length body) (length body) count b (has_ieof s.last.extension);
 }
   where
     lit_pos : (c : ℕ) (line : List ℕ) → 0 < length (c ∷ line)
@@ -315,7 +315,7 @@ unfolding end_at faulted_at
 part_place text body (in_line digits pad extension) s = line_place text body digits pad extension s
 part_place text body (behind_line size) s = record {
   sum = length body;
-  place = LineEnd size (has_ieof s.line.extension);
+  place = LineCr size (has_ieof s.line.extension);
   stands = record { l = s.line; front = front_of s.behind refl; is = s.is; ieof_is = refl };
   quiet = refl;
   sound = refl;
@@ -344,11 +344,11 @@ part_place text body behind_data s =
 part_place text body behind_data_cr s =
     record {
       sum = length s.done + s.size;
-      place = DataFeed;
+      place = DataCr;
       stands = chunk_place s;
       quiet = refl;
       sound = refl;
-      same = λ b. data_feed_table (length s.done + s.size) (length body) b;
+      same = λ b. data_cr_table (length s.done + s.size) (length body) b;
     }
 part_place text body (in_trailers count) s = in_trailers_place text body count s s.line refl
 part_place text body (behind_trailers_cr count) s = behind_trailers_place text body count s s.line refl

@@ -5,8 +5,9 @@ use Rattle.adapt_bytes.specs.Numeral.{Writes}
 use Rattle.icap_chunks.specs.declared.extension.Item.{Item}
 use Rattle.icap_chunks.specs.declared.extension.Item.TheVariants.{Blank}
 use Rattle.icap_chunks.specs.declared.places.Place.{Place}
-use Rattle.icap_chunks.specs.declared.places.Place.TheVariants.{Digits, Pad, Extension, LineEnd, Data, DataEnd, DataFeed, TrailerStart, Trailer, TrailerFeed, LastFeed, Ended, Faulted}
-use Rattle.icap_chunks.specs.Grammar.{is_blank, is_line_byte, AllPass, SizeLine, print_line, has_ieof, IsSizeLine, Chunks, TrailerLines, IsChunked}
+use Rattle.icap_chunks.specs.declared.places.Place.TheVariants.{Digits, Pad, Extension, LineCr, Data, DataEnd, DataCr, TrailerStart, Trailer, TrailerCr, LastCr, Ended, Faulted}
+use Rattle.adapt_bytes.specs.Text.{is_blank}
+use Rattle.icap_chunks.specs.Grammar.{is_line_byte, AllPass, SizeLine, print_line, has_ieof, IsSizeLine, Chunks, TrailerLines, IsChunked}
 use Rattle.icap_chunks.specs.Machine.{item_with, is_word}
 
 -- what a reader keeps of an extension: the item, and whether one before it is `ieof`
@@ -98,13 +99,13 @@ abbrev pub Stands : List ℕ → List ℕ → ℕ → Place → Type 0
 Stands text body sum (Digits count size) = InDigits text body sum count size
 Stands text body sum (Pad count size) = InPad text body sum count size
 Stands text body sum (Extension count size item found) = InExtension text body sum count size item found
-Stands text body sum (LineEnd size ieof) = InLineEnd text body sum size ieof
+Stands text body sum (LineCr size ieof) = InLineEnd text body sum size ieof
 Stands text body sum (Data more) = InChunk text body sum (more + 1) []
 Stands text body sum DataEnd = InChunk text body sum 0 []
-Stands text body sum DataFeed = InChunk text body sum 0 (13 ∷ [])
+Stands text body sum DataCr = InChunk text body sum 0 (13 ∷ [])
 Stands text body sum (TrailerStart count ieof) = InTrailers text body sum count ieof []
 Stands text body sum (Trailer count ieof) = (part : List ℕ) × InTrailers text body sum count ieof part × (0 < length part) × AllPass is_line_byte part
-Stands text body sum (TrailerFeed count ieof) = (part : List ℕ) × InTrailers text body sum count ieof (part ++ 13 ∷ []) × (0 < length part) × AllPass is_line_byte part
-Stands text body sum (LastFeed count ieof) = InTrailers text body sum count ieof (13 ∷ [])
+Stands text body sum (TrailerCr count ieof) = (part : List ℕ) × InTrailers text body sum count ieof (part ++ 13 ∷ []) × (0 < length part) × AllPass is_line_byte part
+Stands text body sum (LastCr count ieof) = InTrailers text body sum count ieof (13 ∷ [])
 Stands text body sum (Ended ieof) = HasEnded text body ieof
 Stands text body sum (Faulted fault) = Unit {0}

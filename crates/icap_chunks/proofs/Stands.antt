@@ -3,10 +3,10 @@ use Rattle.std.proofs.Common.{◌≡◌, ℕ, ◌+◌, ◌-◌, ◌<◌, Bool, t
 use Rattle.std.proofs.lemmas.List.{append-nil}
 use Rattle.std.proofs.lemmas.Bool.Decides.{nat_tests}
 use Rattle.icap_chunks.specs.declared.places.Place.{Place}
-use Rattle.icap_chunks.specs.declared.places.Place.TheVariants.{Digits, Pad, Extension, LineEnd, Data, DataEnd, DataFeed, TrailerStart, Trailer, TrailerFeed, LastFeed, Ended, Faulted}
+use Rattle.icap_chunks.specs.declared.places.Place.TheVariants.{Digits, Pad, Extension, LineCr, Data, DataEnd, DataCr, TrailerStart, Trailer, TrailerCr, LastCr, Ended, Faulted}
 use Rattle.icap_chunks.specs.declared.reader.ChunkReader.{ChunkReader}
 use Rattle.icap_chunks.specs.Grammar.{crlf, is_line_byte, AllPass, print_line, print_extension, IsSizeLine, no_chunk, chunk, line}
-use Rattle.icap_chunks.specs.Machine.{start, step, run, body_of, is_data, in_data, in_data_end, in_data_feed, in_trailer_start, in_trailer, in_trailer_feed, in_last_feed}
+use Rattle.icap_chunks.specs.Machine.{start, step, run, body_of, is_data, in_data, in_data_end, in_data_cr, in_trailer_start, in_trailer, in_trailer_cr, in_last_cr}
 use Rattle.icap_chunks.proofs.Standing.{Front, InChunk, InTrailers, HasEnded, Stands}
 use Rattle.icap_chunks.proofs.LineSteps.{Front_more, Front_text, Front_as, All_push, StandsAt, choose, or_left, or_right, is_nle, is_eq, is_lt, line_byte_from, digits_step, pad_step, extension_step, line_end_step}
 
@@ -54,9 +54,9 @@ module _ (text body : List ℕ) (sum b : ℕ) where
       })
       (λ _. tt)
 
-  data_feed_step : InChunk text body sum 0 (13 ∷ []) → Stands (text ++ b ∷ []) body sum (in_data_feed b)
-  unfolding in_data_feed
-  data_feed_step s = choose (Stands (text ++ b ∷ []) body sum) (b == 10) _ _
+  data_cr_step : InChunk text body sum 0 (13 ∷ []) → Stands (text ++ b ∷ []) body sum (in_data_cr b)
+  unfolding in_data_cr
+  data_cr_step s = choose (Stands (text ++ b ∷ []) body sum) (b == 10) _ _
       (λ e. record {
         digits = [];
         front = whole s (is_eq b 10 e);
@@ -123,10 +123,10 @@ module _ (text body : List ℕ) (sum count : ℕ) (ieof : Bool) (b : ℕ) where
   both_right true y e = e
   both_right false y e = absurd (true≢false (sym e))
 
-  trailer_feed_step : (part : List ℕ) → InTrailers text body sum count ieof (part ++ 13 ∷ []) → 0 < length part → AllPass is_line_byte part
-      → Stands (text ++ b ∷ []) body sum (in_trailer_feed count ieof b)
-  unfolding in_trailer_feed
-  trailer_feed_step part s some all = choose (Stands (text ++ b ∷ []) body sum) ((b == 10) && nat_lt count 8192) _ _
+  trailer_cr_step : (part : List ℕ) → InTrailers text body sum count ieof (part ++ 13 ∷ []) → 0 < length part → AllPass is_line_byte part
+      → Stands (text ++ b ∷ []) body sum (in_trailer_cr count ieof b)
+  unfolding in_trailer_cr
+  trailer_cr_step part s some all = choose (Stands (text ++ b ∷ []) body sum) ((b == 10) && nat_lt count 8192) _ _
       (λ go. whole_line (is_eq b 10 (both_left (b == 10) _ go)) (is_lt count 8192 (both_right (b == 10) _ go))) (λ _. tt)
     where
       whole_line : b ≡ 10 → count < 8192 → InTrailers (text ++ b ∷ []) body sum (count + 1) ieof []
@@ -141,9 +141,9 @@ module _ (text body : List ℕ) (sum count : ℕ) (ieof : Bool) (b : ℕ) where
         short = omega arith;
       }
 
-  last_feed_step : InTrailers text body sum count ieof (13 ∷ []) → Stands (text ++ b ∷ []) body sum (in_last_feed count ieof b)
-  unfolding in_last_feed
-  last_feed_step s = choose (Stands (text ++ b ∷ []) body sum) ((b == 10) && nat_lt count 8192) _ _
+  last_cr_step : InTrailers text body sum count ieof (13 ∷ []) → Stands (text ++ b ∷ []) body sum (in_last_cr count ieof b)
+  unfolding in_last_cr
+  last_cr_step s = choose (Stands (text ++ b ∷ []) body sum) ((b == 10) && nat_lt count 8192) _ _
       (λ go. whole_body (is_eq b 10 (both_left (b == 10) _ go)) (is_lt count 8192 (both_right (b == 10) _ go))) (λ _. tt)
     where
       whole_body : b ≡ 10 → count < 8192 → HasEnded (text ++ b ∷ []) body ieof
@@ -177,14 +177,14 @@ module _ (text body : List ℕ) (b : ℕ) where
   step_stands sum (Digits count size) s = same _ (digits_step text body sum count size b s)
   step_stands sum (Pad count size) s = same _ (pad_step text body sum count size b s)
   step_stands sum (Extension count size item found) s = same _ (extension_step text body sum count size item found b s)
-  step_stands sum (LineEnd size ieof) s = same _ (line_end_step text body sum size ieof b s)
+  step_stands sum (LineCr size ieof) s = same _ (line_end_step text body sum size ieof b s)
   step_stands sum (Data more) s = data_step text body sum more b s
   step_stands sum DataEnd s = same _ (data_end_step text body sum b s)
-  step_stands sum DataFeed s = same _ (data_feed_step text body sum b s)
+  step_stands sum DataCr s = same _ (data_cr_step text body sum b s)
   step_stands sum (TrailerStart count ieof) s = same _ (trailer_start_step text body sum count ieof b s)
   step_stands sum (Trailer count ieof) s = same _ (trailer_step text body sum count ieof b s.0 s.1 s.2 s.3)
-  step_stands sum (TrailerFeed count ieof) s = same _ (trailer_feed_step text body sum count ieof b s.0 s.1 s.2 s.3)
-  step_stands sum (LastFeed count ieof) s = same _ (last_feed_step text body sum count ieof b s)
+  step_stands sum (TrailerCr count ieof) s = same _ (trailer_cr_step text body sum count ieof b s.0 s.1 s.2 s.3)
+  step_stands sum (LastCr count ieof) s = same _ (last_cr_step text body sum count ieof b s)
   step_stands sum (Ended ieof) s = same (record { sum = sum; place = Ended ieof }) (ended_step ieof s)
   step_stands sum (Faulted fault) s = tt
 

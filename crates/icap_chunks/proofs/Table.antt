@@ -5,9 +5,9 @@ use Rattle.std.specs.Char.{digit_value}
 use Rattle.std.specs.Str.Parse.{digits_value}
 use Rattle.icap_chunks.specs.declared.extension.Item.{Item}
 use Rattle.icap_chunks.specs.declared.fault.ChunkFault.TheVariants.{Size, TooBig, Line}
-use Rattle.icap_chunks.specs.declared.places.Place.TheVariants.{Digits, Pad, Extension, LineEnd, Data, DataEnd, DataFeed, TrailerStart, Trailer, TrailerFeed, LastFeed}
-use Rattle.icap_chunks.specs.Machine.{fault_of, faulted_at, step, in_digits, in_pad, in_extension, in_line_end, in_data, in_data_end, in_data_feed, in_trailer_start, in_trailer, in_trailer_feed, in_last_feed}
-use Rattle.icap_chunks.specs.Faults.{in_line, behind_line, behind_data, behind_data_cr, in_trailers, behind_trailers_cr, is_digit, ends_size, fault_at}
+use Rattle.icap_chunks.specs.declared.places.Place.TheVariants.{Digits, Pad, Extension, LineCr, Data, DataEnd, DataCr, TrailerStart, Trailer, TrailerCr, LastCr}
+use Rattle.icap_chunks.specs.Machine.{fault_of, faulted_at, step, in_digits, in_pad, in_extension, in_line_cr, in_data, in_data_end, in_data_cr, in_trailer_start, in_trailer, in_trailer_cr, in_last_cr}
+use Rattle.icap_chunks.specs.Faults.{in_line, behind_line, behind_data, behind_data_cr, in_trailers, behind_trailers_cr, is_hex_digit, ends_size, fault_at}
 use Rattle.icap_chunks.specs.Faults.{in_data as within_data}
 use Rattle.icap_chunks.proofs.Walks.{at}
 
@@ -22,8 +22,8 @@ unfolding step in_digits faulted_at
 first_digit sum b = grind (arith, nat_tests)
 
 digits_body : (sum count size b : ℕ) → 0 < count → fault_of (step (at sum (Digits count size)) b)
-    ≡ (if past_line count b then Some Line else (if not (is_digit b || ends_size b) then Some Size
-    else (if is_digit b && nat_le (2 ^ 62) (size * 16 + digit_value b) then Some TooBig else None)))
+    ≡ (if past_line count b then Some Line else (if not (is_hex_digit b || ends_size b) then Some Size
+    else (if is_hex_digit b && nat_le (2 ^ 62) (size * 16 + digit_value b) then Some TooBig else None)))
 unfolding step in_digits faulted_at
 digits_body sum count size b pos = grind (arith, nat_tests)
 
@@ -60,8 +60,8 @@ extension_table sum count size b d digits (p ∷ pad) extension item found count
     ap (λ n. fault_of (step (at sum (Extension n size item found)) b)) count_is
     ∙ extension_body sum (length ((d ∷ digits) ++ ((p ∷ pad) ++ 59 ∷ extension))) size b item found
 
-pub line_end_table : (sum size b : ℕ) (ieof : Bool) → fault_of (step (at sum (LineEnd size ieof)) b) ≡ fault_at sum (behind_line size) b
-unfolding step in_line_end faulted_at
+pub line_end_table : (sum size b : ℕ) (ieof : Bool) → fault_of (step (at sum (LineCr size ieof)) b) ≡ fault_at sum (behind_line size) b
+unfolding step in_line_cr faulted_at
 line_end_table sum size b ieof = grind (arith, nat_tests)
 
 -- ---- data
@@ -74,9 +74,9 @@ pub data_end_table : (sum base b : ℕ) → fault_of (step (at sum DataEnd) b) �
 unfolding step in_data_end faulted_at
 data_end_table sum base b = grind (arith, nat_tests)
 
-pub data_feed_table : (sum base b : ℕ) → fault_of (step (at sum DataFeed) b) ≡ fault_at base behind_data_cr b
-unfolding step in_data_feed faulted_at
-data_feed_table sum base b = grind (arith, nat_tests)
+pub data_cr_table : (sum base b : ℕ) → fault_of (step (at sum DataCr) b) ≡ fault_at base behind_data_cr b
+unfolding step in_data_cr faulted_at
+data_cr_table sum base b = grind (arith, nat_tests)
 
 -- ---- trailers
 
@@ -88,10 +88,10 @@ pub trailer_table : (sum base count b : ℕ) (ieof : Bool) → fault_of (step (a
 unfolding step in_trailer faulted_at
 trailer_table sum base count b ieof = grind (arith, nat_tests)
 
-pub trailer_feed_table : (sum base count b : ℕ) (ieof : Bool) → fault_of (step (at sum (TrailerFeed count ieof)) b) ≡ fault_at base (behind_trailers_cr count) b
-unfolding step in_trailer_feed faulted_at
-trailer_feed_table sum base count b ieof = grind (arith, nat_tests)
+pub trailer_cr_table : (sum base count b : ℕ) (ieof : Bool) → fault_of (step (at sum (TrailerCr count ieof)) b) ≡ fault_at base (behind_trailers_cr count) b
+unfolding step in_trailer_cr faulted_at
+trailer_cr_table sum base count b ieof = grind (arith, nat_tests)
 
-pub last_feed_table : (sum base count b : ℕ) (ieof : Bool) → fault_of (step (at sum (LastFeed count ieof)) b) ≡ fault_at base (behind_trailers_cr count) b
-unfolding step in_last_feed faulted_at
-last_feed_table sum base count b ieof = grind (arith, nat_tests)
+pub last_cr_table : (sum base count b : ℕ) (ieof : Bool) → fault_of (step (at sum (LastCr count ieof)) b) ≡ fault_at base (behind_trailers_cr count) b
+unfolding step in_last_cr faulted_at
+last_cr_table sum base count b ieof = grind (arith, nat_tests)

@@ -10,10 +10,11 @@ use Rattle.std.specs.Str.Parse.{AllDigits, digits_value_after, digits_value}
 use Rattle.icap_chunks.specs.declared.extension.Item.{Item}
 use Rattle.icap_chunks.specs.declared.extension.Item.TheVariants.{Blank}
 use Rattle.icap_chunks.specs.declared.places.Place.{Place}
-use Rattle.icap_chunks.specs.declared.places.Place.TheVariants.{Digits, Pad, Extension, LineEnd, Data, DataEnd, DataFeed, TrailerStart, Trailer, TrailerFeed, LastFeed, Ended}
+use Rattle.icap_chunks.specs.declared.places.Place.TheVariants.{Digits, Pad, Extension, LineCr, Data, DataEnd, DataCr, TrailerStart, Trailer, TrailerCr, LastCr, Ended}
 use Rattle.icap_chunks.specs.declared.reader.ChunkReader.{ChunkReader}
-use Rattle.icap_chunks.specs.Grammar.{crlf, is_blank, is_line_byte, AllPass, SizeLine, print_line, print_extension, IsExtension, has_ieof, IsSizeLine, Chunks, no_chunk, chunk, TrailerLines, no_line, line, IsChunked}
-use Rattle.icap_chunks.specs.Machine.{start, step, run, body_of, is_data, item_with, in_digits, in_pad, in_extension, in_line_end, in_data_end, in_data_feed, in_trailer_start, in_trailer, in_trailer_feed, in_last_feed, data_behind}
+use Rattle.adapt_bytes.specs.Text.{is_blank}
+use Rattle.icap_chunks.specs.Grammar.{crlf, is_line_byte, AllPass, SizeLine, print_line, print_extension, IsExtension, has_ieof, IsSizeLine, Chunks, no_chunk, chunk, TrailerLines, no_line, line, IsChunked}
+use Rattle.icap_chunks.specs.Machine.{start, step, run, body_of, is_data, item_with, in_digits, in_pad, in_extension, in_line_cr, in_data_end, in_data_cr, in_trailer_start, in_trailer, in_trailer_cr, in_last_cr, data_behind}
 use Rattle.icap_chunks.specs.Machine as machine
 use Rattle.icap_chunks.proofs.Runs.{run-append, body_of-append, run_data, body_of_data, behind_all}
 use Rattle.icap_chunks.proofs.Standing.{extension_with, extension_behind}
@@ -157,11 +158,11 @@ extension_walk sum count size s (b ∷ text) all short =
     to (on (extension_byte sum count size s b (omega arith) all.0) (extension_walk sum (count + 1) size (extension_with s b) text all.1 (omega arith)))
     (ap (λ k. extends sum k size (extension_behind (extension_with s b) text)) same)
 
-pub extension_end : (sum count size : ℕ) (s : Item × Bool) → Walk (extends sum count size s) (13 ∷ []) [] (at sum (LineEnd size (answer s)))
+pub extension_end : (sum count size : ℕ) (s : Item × Bool) → Walk (extends sum count size s) (13 ∷ []) [] (at sum (LineCr size (answer s)))
 unfolding is_data step in_extension
 extension_end sum count size s = byte _ 13 _ refl refl
 
-pub pad_end : (sum count size : ℕ) → Walk (at sum (Pad count size)) (13 ∷ []) [] (at sum (LineEnd size false))
+pub pad_end : (sum count size : ℕ) → Walk (at sum (Pad count size)) (13 ∷ []) [] (at sum (LineCr size false))
 unfolding is_data step in_pad
 pad_end sum count size = byte _ 13 _ refl refl
 
@@ -169,7 +170,7 @@ pub pad_extension : (sum count size : ℕ) → count < 256 → Walk (at sum (Pad
 unfolding is_data step in_pad
 pad_extension sum count size short = byte _ 59 _ refl (rw (nle 256 count short) refl)
 
-pub digits_end : (sum count size : ℕ) → 0 < count → Walk (at sum (Digits count size)) (13 ∷ []) [] (at sum (LineEnd size false))
+pub digits_end : (sum count size : ℕ) → 0 < count → Walk (at sum (Digits count size)) (13 ∷ []) [] (at sum (LineCr size false))
 unfolding is_data step in_digits
 digits_end sum count size pos = byte _ 13 _ refl (rw (ne count 0 (λ e. omega arith)) refl)
 
@@ -178,17 +179,17 @@ unfolding is_data step in_digits
 digits_extension sum count size pos short = byte _ 59 _ refl (rw (nle 256 count short, ne count 0 (λ e. omega arith)) refl)
 
 -- what may stand behind the digits and the blanks, up to the CR
-pub behind_blanks : (sum count size : ℕ) (r : ChunkReader) (ends : Walk r (13 ∷ []) [] (at sum (LineEnd size false)))
+pub behind_blanks : (sum count size : ℕ) (r : ChunkReader) (ends : Walk r (13 ∷ []) [] (at sum (LineCr size false)))
     (goes : count < 256 → Walk r (59 ∷ []) [] (extends sum (count + 1) size (Blank, false))) (e : Option (List ℕ)) → IsExtension e
-    → count + length (print_extension e) ≤ 256 → Walk r (print_extension e ++ 13 ∷ []) [] (at sum (LineEnd size (has_ieof e)))
+    → count + length (print_extension e) ≤ 256 → Walk r (print_extension e ++ 13 ∷ []) [] (at sum (LineCr size (has_ieof e)))
 behind_blanks sum count size r ends goes None all short = ends
 behind_blanks sum count size r ends goes (Some text) all short =
     to (on (goes (omega arith)) (on (extension_walk sum (count + 1) size (Blank, false) text all (omega arith)) (extension_end sum (count + 1 + length text) size (extension_behind (Blank, false) text))))
-    (ap (λ x. at sum (LineEnd size x)) (extension_found text))
+    (ap (λ x. at sum (LineCr size x)) (extension_found text))
 
 behind_digits : (sum count size : ℕ) (pad : List ℕ) (e : Option (List ℕ)) → 0 < count → AllPass is_blank pad → IsExtension e
     → count + (length pad + length (print_extension e)) ≤ 256
-    → Walk (at sum (Digits count size)) (pad ++ (print_extension e ++ 13 ∷ [])) [] (at sum (LineEnd size (has_ieof e)))
+    → Walk (at sum (Digits count size)) (pad ++ (print_extension e ++ 13 ∷ [])) [] (at sum (LineCr size (has_ieof e)))
 behind_digits sum count size [] e pos blanks all short =
     behind_blanks sum count size _ (digits_end sum count size pos) (digits_extension sum count size pos) e all (omega arith)
 behind_digits sum count size (b ∷ pad) e pos blanks all short =
@@ -196,7 +197,7 @@ behind_digits sum count size (b ∷ pad) e pos blanks all short =
     (behind_blanks sum (count + 1 + length pad) size _ (pad_end sum _ size) (pad_extension sum (count + 1 + length pad) size) e all (omega arith)))
 
 -- a size line, up to its CR
-pub line_walk : (sum : ℕ) (l : SizeLine) (size : ℕ) → IsSizeLine l size → Walk (at sum (Digits 0 0)) (print_line l ++ 13 ∷ []) [] (at sum (LineEnd size (has_ieof l.extension)))
+pub line_walk : (sum : ℕ) (l : SizeLine) (size : ℕ) → IsSizeLine l size → Walk (at sum (Digits 0 0)) (print_line l ++ 13 ∷ []) [] (at sum (LineCr size (has_ieof l.extension)))
 line_walk sum l size is =
     let len = length-append l.digits (l.pad ++ print_extension l.extension) in
     let tail = length-append l.pad (print_extension l.extension) in
@@ -211,12 +212,12 @@ line_walk sum l size is =
 
 -- ---- behind a size line
 
-pub size_end : (sum size : ℕ) (ieof : Bool) → 0 < size → sum + size < 4611686018427387904 → Walk (at sum (LineEnd size ieof)) (10 ∷ []) [] (at (sum + size) (Data (size - 1)))
-unfolding is_data step in_line_end
+pub size_end : (sum size : ℕ) (ieof : Bool) → 0 < size → sum + size < 4611686018427387904 → Walk (at sum (LineCr size ieof)) (10 ∷ []) [] (at (sum + size) (Data (size - 1)))
+unfolding is_data step in_line_cr
 size_end sum size ieof pos fits = byte _ 10 _ refl (rw (lt (sum + size) 4611686018427387904 fits, ne size 0 (λ e. omega arith)) refl)
 
-pub last_end : (sum : ℕ) (ieof : Bool) → sum < 4611686018427387904 → Walk (at sum (LineEnd 0 ieof)) (10 ∷ []) [] (at sum (TrailerStart 0 ieof))
-unfolding is_data step in_line_end
+pub last_end : (sum : ℕ) (ieof : Bool) → sum < 4611686018427387904 → Walk (at sum (LineCr 0 ieof)) (10 ∷ []) [] (at sum (TrailerStart 0 ieof))
+unfolding is_data step in_line_cr
 last_end sum ieof fits = byte _ 10 _ refl (rw (add-zero sum, lt sum 4611686018427387904 fits) refl)
 
 pub data_walk : (sum : ℕ) (bytes : List ℕ) → 0 < length bytes → Walk (at sum (Data (length bytes - 1))) bytes bytes (at sum DataEnd)
@@ -225,19 +226,19 @@ data_walk sum bytes pos = record {
   finds = body_of_data sum (length bytes - 1) bytes (omega arith);
 }
 
-pub data_end : (sum : ℕ) → Walk (at sum DataEnd) (13 ∷ []) [] (at sum DataFeed)
+pub data_end : (sum : ℕ) → Walk (at sum DataEnd) (13 ∷ []) [] (at sum DataCr)
 unfolding is_data step in_data_end
 data_end sum = byte _ 13 _ refl refl
 
-pub data_feed : (sum : ℕ) → Walk (at sum DataFeed) (10 ∷ []) [] (at sum (Digits 0 0))
-unfolding is_data step in_data_feed
-data_feed sum = byte _ 10 _ refl refl
+pub data_cr : (sum : ℕ) → Walk (at sum DataCr) (10 ∷ []) [] (at sum (Digits 0 0))
+unfolding is_data step in_data_cr
+data_cr sum = byte _ 10 _ refl refl
 
 pub chunk_walk : (sum : ℕ) (l : SizeLine) (bytes : List ℕ) → IsSizeLine l (length bytes) → 0 < length bytes → sum + length bytes < 4611686018427387904
     → Walk (at sum (Digits 0 0)) (print_line l ++ (13 ∷ 10 ∷ (bytes ++ crlf))) bytes (at (sum + length bytes) (Digits 0 0))
 chunk_walk sum l bytes is pos fits =
     let found = on (line_walk sum l (length bytes) is) (on (size_end sum (length bytes) (has_ieof l.extension) pos fits) (on (data_walk (sum + length bytes) bytes pos)
-    (on (data_end (sum + length bytes)) (data_feed (sum + length bytes))))) in
+    (on (data_end (sum + length bytes)) (data_cr (sum + length bytes))))) in
     finding (of found (append_assoc (print_line l) (13 ∷ []) (10 ∷ (bytes ++ crlf)))) (append-nil bytes)
 
 -- whole chunks
@@ -270,13 +271,13 @@ module _ (sum : ℕ) (ieof : Bool) where
       let same : (count + 1) + length bytes ≡ count + suc (length bytes) = omega arith in
       to (on (next_trailer count b (omega arith) all.0) (trailer_bytes (count + 1) bytes all.1 (omega arith))) (ap (λ k. at sum (Trailer k ieof)) same)
 
-  pub trailer_end : (count : ℕ) → count < 8192 → Walk (at sum (Trailer count ieof)) (13 ∷ []) [] (at sum (TrailerFeed (count + 1) ieof))
+  pub trailer_end : (count : ℕ) → count < 8192 → Walk (at sum (Trailer count ieof)) (13 ∷ []) [] (at sum (TrailerCr (count + 1) ieof))
   unfolding is_data step in_trailer
   trailer_end count short = byte _ 13 _ refl (rw (nle 8192 count short) refl)
 
-  pub trailer_feed : (count : ℕ) → count < 8192 → Walk (at sum (TrailerFeed count ieof)) (10 ∷ []) [] (at sum (TrailerStart (count + 1) ieof))
-  unfolding is_data step in_trailer_feed
-  trailer_feed count short = byte _ 10 _ refl (rw (lt count 8192 short) refl)
+  pub trailer_cr : (count : ℕ) → count < 8192 → Walk (at sum (TrailerCr count ieof)) (10 ∷ []) [] (at sum (TrailerStart (count + 1) ieof))
+  unfolding is_data step in_trailer_cr
+  trailer_cr count short = byte _ 10 _ refl (rw (lt count 8192 short) refl)
 
   pub trailer_walk : (count : ℕ) (bytes : List ℕ) → 0 < length bytes → AllPass is_line_byte bytes → count + length bytes + 2 ≤ 8192
       → Walk (at sum (TrailerStart count ieof)) (bytes ++ crlf) [] (at sum (TrailerStart (count + length bytes + 2) ieof))
@@ -284,7 +285,7 @@ module _ (sum : ℕ) (ieof : Bool) where
   trailer_walk count (b ∷ bytes) pos all short =
       let same : (count + 1) + length bytes + 1 + 1 ≡ count + suc (length bytes) + 2 = omega arith in
       to (on (first_trailer count b (omega arith) all.0) (on (trailer_bytes (count + 1) bytes all.1 (omega arith))
-      (on (trailer_end (count + 1 + length bytes) (omega arith)) (trailer_feed (count + 1 + length bytes + 1) (omega arith)))))
+      (on (trailer_end (count + 1 + length bytes) (omega arith)) (trailer_cr (count + 1 + length bytes + 1) (omega arith)))))
       (ap (λ k. at sum (TrailerStart k ieof)) same)
 
   pub trailers_walk : {text : List ℕ} → TrailerLines text → length text ≤ 8192 → Walk (at sum (TrailerStart 0 ieof)) text [] (at sum (TrailerStart (length text) ieof))
@@ -295,19 +296,19 @@ module _ (sum : ℕ) (ieof : Bool) where
       let same : length text + length bytes + 2 ≡ length (text ++ (bytes ++ crlf)) = omega arith in
       to (on (trailers_walk t (omega arith)) (trailer_walk (length text) bytes pos all (omega arith))) (ap (λ k. at sum (TrailerStart k ieof)) same)
 
-  pub final_end : (count : ℕ) → count < 8192 → Walk (at sum (TrailerStart count ieof)) (13 ∷ []) [] (at sum (LastFeed (count + 1) ieof))
+  pub final_end : (count : ℕ) → count < 8192 → Walk (at sum (TrailerStart count ieof)) (13 ∷ []) [] (at sum (LastCr (count + 1) ieof))
   unfolding is_data step in_trailer_start
   final_end count short = byte _ 13 _ refl (rw (nle 8192 count short) refl)
 
-  pub final_feed : (count : ℕ) → count < 8192 → Walk (at sum (LastFeed count ieof)) (10 ∷ []) [] (at sum (Ended ieof))
-  unfolding is_data step in_last_feed
+  pub final_feed : (count : ℕ) → count < 8192 → Walk (at sum (LastCr count ieof)) (10 ∷ []) [] (at sum (Ended ieof))
+  unfolding is_data step in_last_cr
   final_feed count short = byte _ 10 _ refl (rw (lt count 8192 short) refl)
 
 -- a body but for its last byte
 abbrev pub all_but_last : {text body : List ℕ} {ieof : Bool} → IsChunked text body ieof → List ℕ
 all_but_last w = w.front ++ (print_line w.last ++ (13 ∷ 10 ∷ (w.trailers ++ 13 ∷ [])))
 
-pub open_walk : (text body : List ℕ) (ieof : Bool) (w : IsChunked text body ieof) → Walk start (all_but_last w) body (at (length body) (LastFeed (length w.trailers + 1) ieof))
+pub open_walk : (text body : List ℕ) (ieof : Bool) (w : IsChunked text body ieof) → Walk start (all_but_last w) body (at (length body) (LastCr (length w.trailers + 1) ieof))
 open_walk text body ieof w =
     let fits = chunks_fit w.chunks in
     let sum = length body in
@@ -315,7 +316,7 @@ open_walk text body ieof w =
     let last = on (line_walk sum w.last 0 w.is_last) (on (last_end sum found fits) (on (trailers_walk sum found w.lines (omega (arith, w.short)))
     (final_end sum found (length w.trailers) (omega (arith, w.short))))) in
     let all = on (chunks_walk w.chunks) (of last (append_assoc (print_line w.last) (13 ∷ []) (10 ∷ (w.trailers ++ 13 ∷ [])))) in
-    finding (to all (ap (λ x. at sum (LastFeed (length w.trailers + 1) x)) w.ieof_is)) (append-nil body)
+    finding (to all (ap (λ x. at sum (LastCr (length w.trailers + 1) x)) w.ieof_is)) (append-nil body)
 
 pub all_but_last-is : (text body : List ℕ) (ieof : Bool) (w : IsChunked text body ieof) → text ≡ all_but_last w ++ 10 ∷ []
 all_but_last-is text body ieof w = w.text_is ∙ sym (append_assoc w.front (print_line w.last ++ (13 ∷ 10 ∷ (w.trailers ++ 13 ∷ []))) (10 ∷ [])

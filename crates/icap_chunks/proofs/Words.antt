@@ -3,7 +3,8 @@ use Rattle.std.proofs.Common.{◌≡◌, ℕ, Bool, true, false, ◌||◌, ◌&&
 use Rattle.std.specs.List.{list_any, list_all}
 use Rattle.icap_chunks.specs.declared.extension.Item.{Item}
 use Rattle.icap_chunks.specs.declared.extension.Item.TheVariants.{Blank, I, Ie, Ieo, Ieof, Other}
-use Rattle.icap_chunks.specs.Grammar.{is_blank, items, with_front, is_letter, is_word, is_ieof, skip_blanks}
+use Rattle.adapt_bytes.specs.Text.{is_blank, skip_blanks}
+use Rattle.icap_chunks.specs.Grammar.{items, with_front, is_letter, is_word, is_ieof}
 use Rattle.icap_chunks.proofs.Standing.{extension_with, extension_behind}
 use Rattle.icap_chunks.specs.Machine as machine
 

@@ -1,10 +1,13 @@
 -- Which byte breaks a chunked body, and how: RFC 9112, section 7.1, with bounds on a line, on the sizes and on the trailers.
-use Rattle.std.specs.Prelude.{◌≡◌, ℕ, ◌+◌, ◌*◌, ◌<◌, ◌≤◌, ◌^◌, ◌⊎◌, Bool, false, not, ◌||◌, ◌&&◌, List, [], ◌∷◌, ◌++◌, length, Option, Some, None, if◌then◌else◌, ◌==◌, nat_lt, nat_le}
+use Rattle.std.specs.Prelude.{◌≡◌, ℕ, ◌+◌, ◌*◌, ◌<◌, ◌≤◌, ◌⊎◌, Bool, false, not, ◌||◌, ◌&&◌, List, [], ◌∷◌, ◌++◌, length, Option, Some, None, if◌then◌else◌, ◌==◌, nat_lt, nat_le}
 use Rattle.std.specs.Char.{digit_value}
 use Rattle.std.specs.Str.Parse.{AllDigits, digits_value}
 use Rattle.icap_chunks.specs.declared.fault.ChunkFault.{ChunkFault}
 use Rattle.icap_chunks.specs.declared.fault.ChunkFault.TheVariants.{Size, TooBig, Line, Break, Trailers}
-use Rattle.icap_chunks.specs.Grammar.{is_blank, is_line_byte, AllPass, SizeLine, print_line, print_extension, IsExtension, IsSizeLine, Chunks, TrailerLines}
+use Rattle.adapt_bytes.specs.Text.{is_blank}
+use Rattle.adapt_bytes.specs.declared.limits.TheConstants.{COUNT_LIMIT}
+use Rattle.icap_chunks.specs.declared.places.TheConstants.{MAX_LINE, MAX_TRAILERS}
+use Rattle.icap_chunks.specs.Grammar.{is_line_byte, AllPass, SizeLine, print_line, print_extension, IsExtension, IsSizeLine, Chunks, TrailerLines}
 
 -- what a text ends in, behind its whole chunks
 pub data Part : Type 0 where
@@ -22,8 +25,8 @@ pub data Part : Type 0 where
   behind_trailers_cr : ℕ → Part
 
 -- a hexadecimal digit
-abbrev pub is_digit : ℕ → Bool
-is_digit b = nat_lt (digit_value b) 16
+abbrev pub is_hex_digit : ℕ → Bool
+is_hex_digit b = nat_lt (digit_value b) 16
 
 -- may stand behind a size: a blank, `;` or CR
 abbrev pub ends_size : ℕ → Bool
@@ -31,21 +34,21 @@ ends_size b = is_blank b || (b == 59 || b == 13)
 
 -- Line: LF without CR, another byte than CR behind 256 of a size line, or another byte than LF behind its CR
 abbrev pub is_line : Part → ℕ → Bool
-is_line (in_line digits pad extension) b = b == 10 || (nat_le 256 (length (digits ++ (pad ++ print_extension extension))) && not (b == 13))
+is_line (in_line digits pad extension) b = b == 10 || (nat_le MAX_LINE (length (digits ++ (pad ++ print_extension extension))) && not (b == 13))
 is_line (behind_line size) b = not (b == 10)
 is_line _ b = false
 
 -- Size: no digit first, or behind the digits or the blanks a byte that may not stand there
 abbrev pub is_size : Part → ℕ → Bool
-is_size (in_line [] pad extension) b = not (is_digit b)
-is_size (in_line (d ∷ digits) [] None) b = not (is_digit b || ends_size b)
+is_size (in_line [] pad extension) b = not (is_hex_digit b)
+is_size (in_line (d ∷ digits) [] None) b = not (is_hex_digit b || ends_size b)
 is_size (in_line (d ∷ digits) (p ∷ pad) None) b = not (ends_size b)
 is_size _ b = false
 
 -- TooBig: the digit that brings the size past the greatest, or the end of the line whose size brings the sum past it
 abbrev pub is_too_big : ℕ → Part → ℕ → Bool
-is_too_big sum (in_line digits [] None) b = is_digit b && nat_le (2 ^ 62) (digits_value 16 digits * 16 + digit_value b)
-is_too_big sum (behind_line size) b = nat_le (2 ^ 62) (sum + size)
+is_too_big sum (in_line digits [] None) b = is_hex_digit b && nat_le COUNT_LIMIT (digits_value 16 digits * 16 + digit_value b)
+is_too_big sum (behind_line size) b = nat_le COUNT_LIMIT (sum + size)
 is_too_big sum _ b = false
 
 -- Break: another byte than CR LF behind the data
@@ -56,8 +59,8 @@ is_break _ b = false
 
 -- Trailers: a byte past 8,192 of them, LF without CR, or another byte than LF behind CR
 abbrev pub is_trailers : Part → ℕ → Bool
-is_trailers (in_trailers count) b = nat_le 8192 count || b == 10
-is_trailers (behind_trailers_cr count) b = nat_le 8192 count || not (b == 10)
+is_trailers (in_trailers count) b = nat_le MAX_TRAILERS count || b == 10
+is_trailers (behind_trailers_cr count) b = nat_le MAX_TRAILERS count || not (b == 10)
 is_trailers _ b = false
 
 -- the fault of a byte behind a part, where the sizes of the chunks before it have this sum; Line comes before the others
@@ -84,8 +87,8 @@ pub record InLine (text body digits pad : List ℕ) (extension : Option (List �
   pub blanks : AllPass is_blank pad
   pub bytes : IsExtension extension
   pub begun : (0 < length digits) ⊎ ((pad ≡ []) × (extension ≡ None))
-  pub short : length (digits ++ (pad ++ print_extension extension)) ≤ 256
-  pub fits : digits_value 16 digits < 2 ^ 62
+  pub short : length (digits ++ (pad ++ print_extension extension)) ≤ MAX_LINE
+  pub fits : digits_value 16 digits < COUNT_LIMIT
 
 pub record BehindLine (text body : List ℕ) (size : ℕ) : Type 0 where
   pub line : SizeLine
@@ -101,7 +104,7 @@ pub record InChunk (text body : List ℕ) (missing : ℕ) (tail : List ℕ) : Ty
   pub behind : Behind text done (print_line line ++ (13 ∷ 10 ∷ (bytes ++ tail)))
   pub is : IsSizeLine line size
   pub some : 0 < size
-  pub fits : length done + size < 2 ^ 62
+  pub fits : length done + size < COUNT_LIMIT
   pub body_is : body ≡ done ++ bytes
   pub missing_is : length bytes + missing ≡ size
 
@@ -115,7 +118,7 @@ pub record InTrailers (text body : List ℕ) (count : ℕ) (tail : List ℕ) : T
   pub whole : TrailerLines lines
   pub bytes : AllPass is_line_byte line
   pub count_is : count ≡ length lines + (length line + length tail)
-  pub short : count ≤ 8192
+  pub short : count ≤ MAX_TRAILERS
 
 -- the text ends in the part, and has this much of the body
 abbrev pub EndsIn : List ℕ → List ℕ → Part → Type 0

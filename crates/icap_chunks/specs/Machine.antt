@@ -1,13 +1,15 @@
 -- What one byte makes of a reader, and what a list of bytes does.
-use Rattle.std.specs.Prelude.{◌≡◌, ℕ, ◌+◌, ◌-◌, ◌*◌, ◌^◌, ◌<◌, Bool, true, false, ◌||◌, ◌&&◌, List, [], ◌∷◌, ◌++◌, length, take, Option, Some, None, if◌then◌else◌, ◌==◌, nat_lt, nat_le}
+use Rattle.std.specs.Prelude.{◌≡◌, ℕ, ◌+◌, ◌-◌, ◌*◌, ◌<◌, Bool, true, false, ◌||◌, ◌&&◌, List, [], ◌∷◌, ◌++◌, length, take, Option, Some, None, if◌then◌else◌, ◌==◌, nat_lt, nat_le}
 use Rattle.std.specs.Char.{digit_value, to_ascii_lowercase}
-use Rattle.icap_chunks.specs.Grammar.{is_blank}
+use Rattle.adapt_bytes.specs.Text.{is_blank}
+use Rattle.adapt_bytes.specs.declared.limits.TheConstants.{COUNT_LIMIT}
+use Rattle.icap_chunks.specs.declared.places.TheConstants.{MAX_LINE, MAX_TRAILERS}
 use Rattle.icap_chunks.specs.declared.fault.ChunkFault.{ChunkFault}
 use Rattle.icap_chunks.specs.declared.fault.ChunkFault.TheVariants.{Size, TooBig, Line, Break, Trailers}
 use Rattle.icap_chunks.specs.declared.extension.Item.{Item}
 use Rattle.icap_chunks.specs.declared.extension.Item.TheVariants.{Blank, I, Ie, Ieo, Ieof, Other}
 use Rattle.icap_chunks.specs.declared.places.Place.{Place}
-use Rattle.icap_chunks.specs.declared.places.Place.TheVariants.{Digits, Pad, Extension, LineEnd, Data, DataEnd, DataFeed, TrailerStart, Trailer, TrailerFeed, LastFeed, Ended, Faulted}
+use Rattle.icap_chunks.specs.declared.places.Place.TheVariants.{Digits, Pad, Extension, LineCr, Data, DataEnd, DataCr, TrailerStart, Trailer, TrailerCr, LastCr, Ended, Faulted}
 use Rattle.icap_chunks.specs.declared.reader.ChunkReader.{ChunkReader}
 
 -- an item of an extension with one more byte
@@ -27,9 +29,9 @@ is_word _ = false
 -- within the digits of a size line, or at its start
 unfoldable pub in_digits : ℕ → ℕ → ℕ → Place
 in_digits count size b =
-    if b == 13 then (if count == 0 then Faulted Size else LineEnd size false)
-    else (if (b == 10) || nat_le 256 count then Faulted Line
-    else (if nat_lt (digit_value b) 16 then (if nat_lt (size * 16 + digit_value b) (2 ^ 62) then Digits (count + 1) (size * 16 + digit_value b) else Faulted TooBig)
+    if b == 13 then (if count == 0 then Faulted Size else LineCr size false)
+    else (if (b == 10) || nat_le MAX_LINE count then Faulted Line
+    else (if nat_lt (digit_value b) 16 then (if nat_lt (size * 16 + digit_value b) COUNT_LIMIT then Digits (count + 1) (size * 16 + digit_value b) else Faulted TooBig)
     else (if count == 0 then Faulted Size
     else (if is_blank b then Pad (count + 1) size
     else (if b == 59 then Extension (count + 1) size Blank false else Faulted Size)))))
@@ -37,23 +39,23 @@ in_digits count size b =
 -- within the blanks behind them
 unfoldable pub in_pad : ℕ → ℕ → ℕ → Place
 in_pad count size b =
-    if b == 13 then LineEnd size false
-    else (if (b == 10) || nat_le 256 count then Faulted Line
+    if b == 13 then LineCr size false
+    else (if (b == 10) || nat_le MAX_LINE count then Faulted Line
     else (if is_blank b then Pad (count + 1) size
     else (if b == 59 then Extension (count + 1) size Blank false else Faulted Size)))
 
 -- within an extension
 unfoldable pub in_extension : ℕ → ℕ → Item → Bool → ℕ → Place
 in_extension count size item found b =
-    if b == 13 then LineEnd size (found || is_word item)
-    else (if (b == 10) || nat_le 256 count then Faulted Line
+    if b == 13 then LineCr size (found || is_word item)
+    else (if (b == 10) || nat_le MAX_LINE count then Faulted Line
     else (if b == 59 then Extension (count + 1) size Blank (found || is_word item)
     else Extension (count + 1) size (item_with item b) found))
 
 -- behind the CR of a size line
-unfoldable pub in_line_end : ℕ → ℕ → Bool → ℕ → ChunkReader
-in_line_end sum size ieof b =
-    if b == 10 then (if nat_lt (sum + size) (2 ^ 62)
+unfoldable pub in_line_cr : ℕ → ℕ → Bool → ℕ → ChunkReader
+in_line_cr sum size ieof b =
+    if b == 10 then (if nat_lt (sum + size) COUNT_LIMIT
     then record { sum = sum + size; place = if size == 0 then TrailerStart 0 ieof else Data (size - 1) }
     else record { sum = sum; place = Faulted TooBig })
     else record { sum = sum; place = Faulted Line }
@@ -63,27 +65,27 @@ unfoldable pub in_data : ℕ → Place
 in_data more = if nat_lt 0 more then Data (more - 1) else DataEnd
 
 unfoldable pub in_data_end : ℕ → Place
-in_data_end b = if b == 13 then DataFeed else Faulted Break
+in_data_end b = if b == 13 then DataCr else Faulted Break
 
-unfoldable pub in_data_feed : ℕ → Place
-in_data_feed b = if b == 10 then Digits 0 0 else Faulted Break
+unfoldable pub in_data_cr : ℕ → Place
+in_data_cr b = if b == 10 then Digits 0 0 else Faulted Break
 
 unfoldable pub in_trailer_start : ℕ → Bool → ℕ → Place
 in_trailer_start count ieof b =
-    if (b == 10) || nat_le 8192 count then Faulted Trailers
-    else (if b == 13 then LastFeed (count + 1) ieof else Trailer (count + 1) ieof)
+    if (b == 10) || nat_le MAX_TRAILERS count then Faulted Trailers
+    else (if b == 13 then LastCr (count + 1) ieof else Trailer (count + 1) ieof)
 
 unfoldable pub in_trailer : ℕ → Bool → ℕ → Place
 in_trailer count ieof b =
-    if (b == 10) || nat_le 8192 count then Faulted Trailers
-    else (if b == 13 then TrailerFeed (count + 1) ieof else Trailer (count + 1) ieof)
+    if (b == 10) || nat_le MAX_TRAILERS count then Faulted Trailers
+    else (if b == 13 then TrailerCr (count + 1) ieof else Trailer (count + 1) ieof)
 
-unfoldable pub in_trailer_feed : ℕ → Bool → ℕ → Place
-in_trailer_feed count ieof b =
-    if (b == 10) && nat_lt count 8192 then TrailerStart (count + 1) ieof else Faulted Trailers
+unfoldable pub in_trailer_cr : ℕ → Bool → ℕ → Place
+in_trailer_cr count ieof b =
+    if (b == 10) && nat_lt count MAX_TRAILERS then TrailerStart (count + 1) ieof else Faulted Trailers
 
-unfoldable pub in_last_feed : ℕ → Bool → ℕ → Place
-in_last_feed count ieof b = if (b == 10) && nat_lt count 8192 then Ended ieof else Faulted Trailers
+unfoldable pub in_last_cr : ℕ → Bool → ℕ → Place
+in_last_cr count ieof b = if (b == 10) && nat_lt count MAX_TRAILERS then Ended ieof else Faulted Trailers
 
 -- the reader with one more byte
 unfoldable pub step : ChunkReader → ℕ → ChunkReader
@@ -93,14 +95,14 @@ step r b = step_at r.sum r.place b
     step_at sum (Digits count size) b = record { sum = sum; place = in_digits count size b }
     step_at sum (Pad count size) b = record { sum = sum; place = in_pad count size b }
     step_at sum (Extension count size item found) b = record { sum = sum; place = in_extension count size item found b }
-    step_at sum (LineEnd size ieof) b = in_line_end sum size ieof b
+    step_at sum (LineCr size ieof) b = in_line_cr sum size ieof b
     step_at sum (Data left) b = record { sum = sum; place = in_data left }
     step_at sum DataEnd b = record { sum = sum; place = in_data_end b }
-    step_at sum DataFeed b = record { sum = sum; place = in_data_feed b }
+    step_at sum DataCr b = record { sum = sum; place = in_data_cr b }
     step_at sum (TrailerStart count ieof) b = record { sum = sum; place = in_trailer_start count ieof b }
     step_at sum (Trailer count ieof) b = record { sum = sum; place = in_trailer count ieof b }
-    step_at sum (TrailerFeed count ieof) b = record { sum = sum; place = in_trailer_feed count ieof b }
-    step_at sum (LastFeed count ieof) b = record { sum = sum; place = in_last_feed count ieof b }
+    step_at sum (TrailerCr count ieof) b = record { sum = sum; place = in_trailer_cr count ieof b }
+    step_at sum (LastCr count ieof) b = record { sum = sum; place = in_last_cr count ieof b }
     step_at sum (Ended ieof) b = record { sum = sum; place = Ended ieof }
     step_at sum (Faulted fault) b = record { sum = sum; place = Faulted fault }
 

@@ -2,7 +2,7 @@
 ghost use Rattle.std.specs.Prelude.{◌≡◌};
 ghost use Rattle.icap_chunks.specs.Machine.{item_with, is_word};
 
-use crate::places::blank;
+use adapt_bytes::is_blank;
 
 /// An item of a chunk's extension, by how much of `ieof` it is.
 #[derive(Clone, Copy, Debug, PartialEq, Eq)]
@@ -21,7 +21,7 @@ impl Item {
     pub(crate) fn with(self, byte: u8) -> Item
         ensures { result ≡ item_with self byte }
     {
-        let blank = blank(byte);
+        let blank = is_blank(byte);
         let letter = byte.to_ascii_lowercase();
         match self {
             Item::Blank => {

@@ -1,5 +1,6 @@
 //! Laws of chunked bodies: each is the contract of a function that does nothing.
-ghost use Rattle.std.specs.Prelude.{◌≡◌, ℕ, ◌+◌, ◌<◌, ◌^◌, ◌++◌, ◌↔◌, Bool, List, length, Some, None};
+ghost use Rattle.std.specs.Prelude.{◌≡◌, ℕ, ◌+◌, ◌<◌, ◌++◌, ◌↔◌, Bool, List, length, Some, None};
+ghost use Rattle.adapt_bytes.specs.declared.limits.TheConstants.{COUNT_LIMIT};
 ghost use Rattle.icap_chunks.specs.declared.fault.ChunkFault.{ChunkFault as Fault};
 ghost use Rattle.icap_chunks.specs.declared.pieces.Outcome.{Outcome};
 ghost use Rattle.icap_chunks.specs.declared.pieces.Outcome.TheVariants.{More};
@@ -29,7 +30,7 @@ pub fn stands_for_its_text()
 
 /// What is written is read again: a chunk with its bytes, and then the end.
 pub fn reads_what_it_writes()
-    ensures chunk { (front body bytes : List ℕ) → Chunks front body → 0 < length bytes → length body + length bytes < 2 ^ 62
+    ensures chunk { (front body bytes : List ℕ) → Chunks front body → 0 < length bytes → length body + length bytes < COUNT_LIMIT
         → Chunks (front ++ (chunk_head (length bytes) ++ (bytes ++ crlf))) (body ++ bytes) }
     ensures last { (front body : List ℕ) (ieof : Bool) → Chunks front body → IsChunked (front ++ last_chunk ieof) body ieof }
 {}

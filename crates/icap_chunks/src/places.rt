@@ -1,11 +1,12 @@
 //! Where in a chunked body a byte stands, and where the next one does.
-ghost use Rattle.std.specs.Prelude.{◌≡◌, ◌<◌, ◌+◌, ◌*◌, ◌^◌};
+ghost use Rattle.std.specs.Prelude.{◌≡◌, ◌<◌, ◌+◌, ◌*◌};
 ghost use Rattle.std.specs.Option.{SomeIff};
-ghost use Rattle.icap_chunks.specs.Grammar.{is_blank};
-ghost use Rattle.icap_chunks.specs.Machine.{in_digits, in_pad, in_extension, in_data, in_data_end, in_data_feed, in_trailer_start, in_trailer, in_trailer_feed, in_last_feed};
+ghost use Rattle.adapt_bytes.specs.declared.limits.TheConstants.{COUNT_LIMIT};
+ghost use Rattle.icap_chunks.specs.Machine.{in_digits, in_pad, in_extension, in_data, in_data_end, in_data_cr, in_trailer_start, in_trailer, in_trailer_cr, in_last_cr};
 
 use crate::extension::Item;
 use crate::fault::ChunkFault;
+use adapt_bytes::{COUNT_LIMIT, is_blank};
 
 /// Where in a chunked body the next byte stands.
 #[derive(Clone, Copy, Debug, PartialEq, Eq)]
@@ -17,48 +18,39 @@ pub enum Place {
     /// In the extension: the present item, and whether an earlier one is `ieof`.
     Extension(u16, u64, Item, bool),
     /// Behind the CR of a size line: its size, and whether it has `ieof`.
-    LineEnd(u64, bool),
+    LineCr(u64, bool),
     /// In a run of the body, with so many of its bytes behind the next one.
     Data(u64),
     /// Behind the data of a chunk.
     DataEnd,
     /// Behind the CR that follows the data.
-    DataFeed,
+    DataCr,
     /// At the start of a trailer line: so many bytes of trailers, and whether the body ends with `ieof`.
     TrailerStart(u16, bool),
     /// In a trailer line.
     Trailer(u16, bool),
     /// Behind the CR of a trailer line.
-    TrailerFeed(u16, bool),
+    TrailerCr(u16, bool),
     /// Behind the CR of the empty line.
-    LastFeed(u16, bool),
+    LastCr(u16, bool),
     /// Behind the body: whether it ended with `ieof`.
     Ended(bool),
     /// At a byte that breaks the grammar, or behind it.
     Faulted(ChunkFault),
 }
 
-/// A size and the sum of the sizes stay below this. A limit of ours.
-pub(crate) const PAST: u64 = 1 << 62;
+/// The most bytes of a size line, without its CR LF. A limit of ours.
+pub const MAX_LINE: u16 = 256;
 
-/// How many bytes a size line may have without its CR LF. A limit of ours.
-const LINE: u16 = 256;
+/// The most bytes behind the last size line, the last CR LF included. A limit of ours.
+pub const MAX_TRAILERS: u16 = 8192;
 
-/// How many bytes may stand behind the last size line, the last CR LF included. A limit of ours.
-const TRAILERS: u16 = 8192;
-
-pub(crate) fn blank(byte: u8) -> bool
-    ensures { result ≡ is_blank byte }
-{
-    byte == b' ' || byte == b'\t'
-}
-
-/// The size with one more digit, where that is no more than the greatest.
+/// The size with one more digit, where that is below the limit.
 pub(crate) fn size_with(size: u64, digit: u64) -> Option<u64>
     requires { digit < 16 }
-    ensures { SomeIff result (size * 16 + digit < 2 ^ 62) (size * 16 + digit) }
+    ensures { SomeIff result (size * 16 + digit < COUNT_LIMIT) (size * 16 + digit) }
 {
-    if size < PAST / 16 {
+    if size < COUNT_LIMIT / 16 {
         Some(size * 16 + digit)
     } else {
         None
@@ -73,10 +65,10 @@ pub(crate) fn in_digits(count: u16, size: u64, byte: u8) -> Place
         return if count == 0 {
             Place::Faulted(ChunkFault::Size)
         } else {
-            Place::LineEnd(size, false)
+            Place::LineCr(size, false)
         };
     }
-    if byte == b'\n' || count >= LINE {
+    if byte == b'\n' || count >= MAX_LINE {
         return Place::Faulted(ChunkFault::Line);
     }
     if let Some(digit) = (byte as char).to_digit(16) {
@@ -87,7 +79,7 @@ pub(crate) fn in_digits(count: u16, size: u64, byte: u8) -> Place
     }
     if count == 0 {
         Place::Faulted(ChunkFault::Size)
-    } else if blank(byte) {
+    } else if is_blank(byte) {
         Place::Pad(count + 1, size)
     } else if byte == b';' {
         Place::Extension(count + 1, size, Item::Blank, false)
@@ -101,10 +93,10 @@ pub(crate) fn in_pad(count: u16, size: u64, byte: u8) -> Place
     ensures { result ≡ in_pad count size byte }
 {
     if byte == b'\r' {
-        Place::LineEnd(size, false)
-    } else if byte == b'\n' || count >= LINE {
+        Place::LineCr(size, false)
+    } else if byte == b'\n' || count >= MAX_LINE {
         Place::Faulted(ChunkFault::Line)
-    } else if blank(byte) {
+    } else if is_blank(byte) {
         Place::Pad(count + 1, size)
     } else if byte == b';' {
         Place::Extension(count + 1, size, Item::Blank, false)
@@ -119,8 +111,8 @@ pub(crate) fn in_extension(count: u16, size: u64, item: Item, found: bool, byte:
 {
     let found_here = found || item.is_word();
     if byte == b'\r' {
-        Place::LineEnd(size, found_here)
-    } else if byte == b'\n' || count >= LINE {
+        Place::LineCr(size, found_here)
+    } else if byte == b'\n' || count >= MAX_LINE {
         Place::Faulted(ChunkFault::Line)
     } else if byte == b';' {
         Place::Extension(count + 1, size, Item::Blank, found_here)
@@ -145,15 +137,15 @@ pub(crate) fn in_data_end(byte: u8) -> Place
     ensures { result ≡ in_data_end byte }
 {
     if byte == b'\r' {
-        Place::DataFeed
+        Place::DataCr
     } else {
         Place::Faulted(ChunkFault::Break)
     }
 }
 
-#[tactic(auto, unfolding(crate::specs::Machine::in_data_feed))]
-pub(crate) fn in_data_feed(byte: u8) -> Place
-    ensures { result ≡ in_data_feed byte }
+#[tactic(auto, unfolding(crate::specs::Machine::in_data_cr))]
+pub(crate) fn in_data_cr(byte: u8) -> Place
+    ensures { result ≡ in_data_cr byte }
 {
     if byte == b'\n' {
         Place::Digits(0, 0)
@@ -166,10 +158,10 @@ pub(crate) fn in_data_feed(byte: u8) -> Place
 pub(crate) fn in_trailer_start(count: u16, ieof: bool, byte: u8) -> Place
     ensures { result ≡ in_trailer_start count ieof byte }
 {
-    if byte == b'\n' || count >= TRAILERS {
+    if byte == b'\n' || count >= MAX_TRAILERS {
         Place::Faulted(ChunkFault::Trailers)
     } else if byte == b'\r' {
-        Place::LastFeed(count + 1, ieof)
+        Place::LastCr(count + 1, ieof)
     } else {
         Place::Trailer(count + 1, ieof)
     }
@@ -179,31 +171,31 @@ pub(crate) fn in_trailer_start(count: u16, ieof: bool, byte: u8) -> Place
 pub(crate) fn in_trailer(count: u16, ieof: bool, byte: u8) -> Place
     ensures { result ≡ in_trailer count ieof byte }
 {
-    if byte == b'\n' || count >= TRAILERS {
+    if byte == b'\n' || count >= MAX_TRAILERS {
         Place::Faulted(ChunkFault::Trailers)
     } else if byte == b'\r' {
-        Place::TrailerFeed(count + 1, ieof)
+        Place::TrailerCr(count + 1, ieof)
     } else {
         Place::Trailer(count + 1, ieof)
     }
 }
 
-#[tactic(auto, unfolding(crate::specs::Machine::in_trailer_feed))]
-pub(crate) fn in_trailer_feed(count: u16, ieof: bool, byte: u8) -> Place
-    ensures { result ≡ in_trailer_feed count ieof byte }
+#[tactic(auto, unfolding(crate::specs::Machine::in_trailer_cr))]
+pub(crate) fn in_trailer_cr(count: u16, ieof: bool, byte: u8) -> Place
+    ensures { result ≡ in_trailer_cr count ieof byte }
 {
-    if byte == b'\n' && count < TRAILERS {
+    if byte == b'\n' && count < MAX_TRAILERS {
         Place::TrailerStart(count + 1, ieof)
     } else {
         Place::Faulted(ChunkFault::Trailers)
     }
 }
 
-#[tactic(auto, unfolding(crate::specs::Machine::in_last_feed))]
-pub(crate) fn in_last_feed(count: u16, ieof: bool, byte: u8) -> Place
-    ensures { result ≡ in_last_feed count ieof byte }
+#[tactic(auto, unfolding(crate::specs::Machine::in_last_cr))]
+pub(crate) fn in_last_cr(count: u16, ieof: bool, byte: u8) -> Place
+    ensures { result ≡ in_last_cr count ieof byte }
 {
-    if byte == b'\n' && count < TRAILERS {
+    if byte == b'\n' && count < MAX_TRAILERS {
         Place::Ended(ieof)
     } else {
         Place::Faulted(ChunkFault::Trailers)

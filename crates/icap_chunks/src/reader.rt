@@ -1,14 +1,15 @@
 //! The reader: numbers alone, fed in any pieces. A run of body bytes is a range of the piece and is never walked.
 ghost use Rattle.std.specs.Prelude.{◌≡◌, ℕ, ◌+◌, ◌<◌, ◌≤◌, ◌++◌, true, false, List, IfOk, IfErr, IfSome, IsOkAnd, Err, OnOk, is_some, [], length, take, slice_range, Some, None, min};
 ghost use Rattle.icap_chunks.specs.declared.places.Place.TheVariants.{Data};
-ghost use Rattle.icap_chunks.specs.Machine.{start, step, run, body_of, end_of, fault_of, end_at, is_in_data, pauses_at, data_behind, in_line_end, HasRead};
+ghost use Rattle.icap_chunks.specs.Machine.{start, step, run, body_of, end_of, fault_of, end_at, is_in_data, pauses_at, data_behind, in_line_cr, HasRead};
 ghost use Rattle.icap_chunks.specs.Faults.{Breaks};
 
 use crate::fault::ChunkFault;
 use crate::places::{
-    PAST, Place, in_data, in_data_end, in_data_feed, in_digits, in_extension, in_last_feed, in_pad,
-    in_trailer, in_trailer_feed, in_trailer_start,
+    Place, in_data, in_data_cr, in_data_end, in_digits, in_extension, in_last_cr, in_pad,
+    in_trailer, in_trailer_cr, in_trailer_start,
 };
+use adapt_bytes::COUNT_LIMIT;
 
 /// What one call of `feed` has found in its piece.
 #[derive(Clone, Copy, Debug, PartialEq, Eq)]
@@ -182,14 +183,14 @@ impl ChunkReader {
             Place::Extension(count, size, item, found) => {
                 in_extension(count, size, item, found, byte)
             }
-            Place::LineEnd(size, ieof) => return in_line_end(sum, size, ieof, byte),
+            Place::LineCr(size, ieof) => return in_line_cr(sum, size, ieof, byte),
             Place::Data(more) => in_data(more),
             Place::DataEnd => in_data_end(byte),
-            Place::DataFeed => in_data_feed(byte),
+            Place::DataCr => in_data_cr(byte),
             Place::TrailerStart(count, ieof) => in_trailer_start(count, ieof, byte),
             Place::Trailer(count, ieof) => in_trailer(count, ieof, byte),
-            Place::TrailerFeed(count, ieof) => in_trailer_feed(count, ieof, byte),
-            Place::LastFeed(count, ieof) => in_last_feed(count, ieof, byte),
+            Place::TrailerCr(count, ieof) => in_trailer_cr(count, ieof, byte),
+            Place::LastCr(count, ieof) => in_last_cr(count, ieof, byte),
             Place::Ended(ieof) => Place::Ended(ieof),
             Place::Faulted(fault) => Place::Faulted(fault),
         };
@@ -198,9 +199,9 @@ impl ChunkReader {
 }
 
 /// The reader behind the size line whose CR it has read.
-#[tactic(auto, unfolding(crate::specs::Machine::in_line_end))]
-fn in_line_end(sum: u64, size: u64, ieof: bool, byte: u8) -> ChunkReader
-    ensures { result ≡ in_line_end sum size ieof byte }
+#[tactic(auto, unfolding(crate::specs::Machine::in_line_cr))]
+fn in_line_cr(sum: u64, size: u64, ieof: bool, byte: u8) -> ChunkReader
+    ensures { result ≡ in_line_cr sum size ieof byte }
 {
     if byte != b'\n' {
         return ChunkReader {
@@ -208,7 +209,7 @@ fn in_line_end(sum: u64, size: u64, ieof: bool, byte: u8) -> ChunkReader
             place: Place::Faulted(ChunkFault::Line),
         };
     }
-    if sum >= PAST || size >= PAST - sum {
+    if sum >= COUNT_LIMIT || size >= COUNT_LIMIT - sum {
         return ChunkReader {
             sum,
             place: Place::Faulted(ChunkFault::TooBig),

@@ -1,6 +1,7 @@
 //! What a chunked body is written as.
-ghost use Rattle.std.specs.Prelude.{◌≡◌, ◌+◌, ◌<◌, ◌≤◌, ◌^◌, ◌++◌, length};
+ghost use Rattle.std.specs.Prelude.{◌≡◌, ◌+◌, ◌<◌, ◌≤◌, ◌++◌, length};
 ghost use Rattle.arrayvec.specs.ArrayVec.{array_vec_len};
+ghost use Rattle.adapt_bytes.specs.declared.limits.TheConstants.{COUNT_LIMIT};
 ghost use Rattle.icap_chunks.specs.Grammar.{chunk_head, last_chunk, crlf};
 
 use adapt_bytes::{Small, put_hex};
@@ -9,7 +10,7 @@ use adapt_bytes::{Small, put_hex};
 /// It needs room for 18 bytes.
 pub fn put_chunk_head(n: u64, out: &mut Small)
     requires some { 1 ≤ n }
-    requires fits { n < 2 ^ 62 }
+    requires fits { n < COUNT_LIMIT }
     requires room { array_vec_len out.old + 18 ≤ 64 }
     ensures items { out.new.items ≡ out.old.items ++ chunk_head n }
     ensures len { array_vec_len out.new ≡ array_vec_len out.old + length (chunk_head n) }

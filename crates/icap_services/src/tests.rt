@@ -82,46 +82,41 @@ fn services_by_preview_and_allow(rt: HostRuntime) {
     }
 }
 
+/// What a service answers to a request without a preview that has this head and this body.
+fn to_request<'a>(
+    alloc: Global,
+    service: Service,
+    head: Option<&'a [u8]>,
+    body: Option<&'a [u8]>,
+) -> Result<Vec<u8>, NoMemory> {
+    let request = WholeRequest {
+        point: Point::Reqmod,
+        req_hdr: head,
+        res_hdr: None,
+        body,
+        preview: None,
+        allow: false,
+    };
+    answer(alloc, service, &settings(alloc)?, &request)
+}
+
 #[test]
 fn messages_without_a_head_or_a_body(rt: HostRuntime) {
+    let no_body: &[u8] = b"null-body=0\r\n\r\n";
+    let empty: &[u8] = b"req-body=0\r\n\r\n0\r\n\r\n";
+    let raised: &[u8] = b"req-body=0\r\n\r\n1\r\nA\r\n0\r\n\r\n";
+    let same: &[u8] = b"req-hdr=0, null-body=3\r\n\r\na\n\n";
+    let stamped: &[u8] = b"req-hdr=0, null-body=21\r\n\r\na\nX-Adapted: stamp\r\n\n";
+    let head: Option<&[u8]> = Some(b"a\n\n");
     let cases: [(Service, Option<&[u8]>, Option<&[u8]>, &[u8]); 5] = [
-        (Service::Pass, None, None, b"null-body=0\r\n\r\n"),
-        (
-            Service::Stamp,
-            None,
-            Some(b""),
-            b"req-body=0\r\n\r\n0\r\n\r\n",
-        ),
-        (
-            Service::Upper,
-            None,
-            Some(b"a"),
-            b"req-body=0\r\n\r\n1\r\nA\r\n0\r\n\r\n",
-        ),
-        (
-            Service::Upper,
-            Some(b"a\n\n"),
-            None,
-            b"req-hdr=0, null-body=3\r\n\r\na\n\n",
-        ),
-        (
-            Service::Stamp,
-            Some(b"a\n\n"),
-            None,
-            b"req-hdr=0, null-body=21\r\n\r\na\nX-Adapted: stamp\r\n\n",
-        ),
+        (Service::Pass, None, None, no_body),
+        (Service::Stamp, None, Some(b""), empty),
+        (Service::Upper, None, Some(b"a"), raised),
+        (Service::Upper, head, None, same),
+        (Service::Stamp, head, None, stamped),
     ];
     for (service, head, body, want) in cases {
-        let request = WholeRequest {
-            point: Point::Reqmod,
-            req_hdr: head,
-            res_hdr: None,
-            body,
-            preview: None,
-            allow: false,
-        };
-        let settings = settings(rt.alloc()).expect(&rt, "memory");
-        let text = answer(rt.alloc(), service, &settings, &request).expect(&rt, "memory");
+        let text = to_request(rt.alloc(), service, head, body).expect(&rt, "memory");
         let lead = b"ICAP/1.0 200 OK\r\nISTag: \"adapt-1\"\r\nEncapsulated: ".as_slice();
         assert!(rt; text.as_slice().starts_with(lead), "{service:?}");
         assert!(rt; text.as_slice().ends_with(want), "{service:?}");

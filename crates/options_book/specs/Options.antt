@@ -2,6 +2,7 @@
 use Rattle.std.specs.Prelude.{◌≡◌, ◌≢◌, ℕ, ◌-◌, ◌<◌, ◌≤◌, Bool, true, ◌&&◌, nat_le, ◌==◌, ◌⊎◌, List, [], ◌∷◌, length, take, drop, slice_index, codes, Option, Some, if◌then◌else◌, bytes_eq, IfSome, min, option_map}
 use Rattle.std.specs.List.{list_any}
 use Rattle.adapt_bytes.specs.Text.{comma_items}
+use Rattle.adapt_bytes.specs.declared.limits.TheConstants.{MAX_CONNECTIONS}
 use Rattle.icap_head.specs.Fields.{FieldList, values_of, first_of}
 use Rattle.icap_head.specs.Heads.{Response}
 use Rattle.encapsulated.specs.Layouts.{IsLayout}
@@ -11,9 +12,8 @@ use Rattle.encapsulated.specs.declared.Direction.TheVariants as Directions
 use Rattle.trace_core.specs.declared.history.Point.{Point}
 use Rattle.trace_core.specs.declared.history.Point.TheVariants.{Reqmod, Respmod}
 use Rattle.options_book.specs.Numbers.{IsNumber}
-use Rattle.options_book.specs.Transfer.{Lists, items_of, lists_of}
+use Rattle.options_book.specs.Transfer.{Lists, items_of, kept_lists}
 use Rattle.options_book.specs.declared.transfer.TransferLists.{TransferLists}
-use Rattle.options_book.specs.declared.record.TheConstants.{MAX_CONNECTIONS}
 use Rattle.options_book.specs.declared.faults.OptFault.{OptFault}
 use Rattle.options_book.specs.declared.faults.OptFault.TheVariants as Faults
 
@@ -87,7 +87,7 @@ options_of tag preview connections ttl lists read_at = record {
   preview = preview;
   connections = connections;
   ttl = ttl;
-  lists = lists_of lists;
+  lists = kept_lists lists;
   read_at = read_at;
 }
 

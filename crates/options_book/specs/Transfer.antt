@@ -14,8 +14,8 @@ abbrev pub is_same_ascii : List ℕ → List ℕ → Bool
 is_same_ascii a b = bytes_eq (map to_ascii_lowercase a) (map to_ascii_lowercase b)
 
 -- the item is one of these, but for the case of ASCII letters
-abbrev pub has_item : List (List ℕ) → List ℕ → Bool
-has_item items item = list_any (λ found. is_same_ascii found item) items
+abbrev pub is_among : List (List ℕ) → List ℕ → Bool
+is_among items item = list_any (λ found. is_same_ascii found item) items
 
 -- the items of comma-separated lists, one list behind the other
 abbrev pub items_of : List (List ℕ) → List (List ℕ)
@@ -29,23 +29,23 @@ pub record Lists : Type 0 where
   pub ignore : List (List ℕ)
 
 -- what a vector has
-abbrev pub bytes_of : Vec ℕ → List ℕ
-bytes_of v = v.items
+abbrev pub vec_bytes : Vec ℕ → List ℕ
+vec_bytes v = v.items
 
 -- the items that a record has
-abbrev pub lists_of : TransferLists → Lists
-lists_of t = record {
-  complete = map bytes_of t.complete.items;
-  preview = map bytes_of t.preview.items;
-  ignore = map bytes_of t.ignore.items;
+abbrev pub kept_lists : TransferLists → Lists
+kept_lists t = record {
+  complete = map vec_bytes t.complete.items;
+  preview = map vec_bytes t.preview.items;
+  ignore = map vec_bytes t.ignore.items;
 }
 
 -- what the lists say of an item: Complete wins, then Preview, then Ignore
 abbrev pub listed : Lists → List ℕ → Option Treat
 listed lists item =
-    if has_item lists.complete item then Some Complete
-    else if has_item lists.preview item then Some Preview
-    else if has_item lists.ignore item then Some Ignore
+    if is_among lists.complete item then Some Complete
+    else if is_among lists.preview item then Some Preview
+    else if is_among lists.ignore item then Some Ignore
     else None
 
 -- an extension that is listed goes by its list; any other one, and a path with none, by the list of `*`; else Complete

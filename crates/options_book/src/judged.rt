@@ -1,6 +1,7 @@
 //! Judging an OPTIONS response, before memory is taken for its record.
 
-ghost use Rattle.std.specs.Prelude.{◌≡◌, ◌<◌, ◌^◌, ◌↔◌, ℕ, List, Option, IfOk, IfErr, OnErr, IfSome, IsTrue, MatchOption};
+ghost use Rattle.std.specs.Prelude.{◌≡◌, ◌<◌, ◌↔◌, ℕ, List, Option, IfOk, IfErr, OnErr, IfSome, IsTrue, MatchOption};
+ghost use Rattle.adapt_bytes.specs.declared.limits.TheConstants.{COUNT_LIMIT};
 ghost use Rattle.icap_head.specs.Fields.{field_list};
 ghost use Rattle.icap_head.specs.Heads.{response_parts};
 ghost use Rattle.options_book.specs.Options.{Stands, HasTag, AreNumbers, IsOptionsList, IsEncapsulated};
@@ -120,7 +121,7 @@ impl Judged<'_> {
         fields: &Fields,
         read_at: u64,
     ) -> Result<Record, NoMemory>
-        requires { IfSome self.numbers.preview (λ n. n < 2 ^ 62) }
+        requires { IfSome self.numbers.preview (λ n. n < COUNT_LIMIT) }
         ensures { IfOk result (λ made. made ≡ judged_options self.entry.tag.now self.entry.numbers (field_list fields.now) read_at) }
     {
         Ok(Record {

@@ -16,5 +16,5 @@ mod words;
 pub use faults::OptFault;
 pub use path::extension;
 pub use reading::read_record;
-pub use record::{MAX_CONNECTIONS, Record};
+pub use record::Record;
 pub use transfer::Treat;

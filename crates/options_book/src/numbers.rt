@@ -1,14 +1,14 @@
-//! The numbers of an OPTIONS response: each at most `2^62 - 1`, and the same wherever it is said.
+//! The numbers of an OPTIONS response: each below the limit of counts, and the same wherever it is said.
 
-ghost use Rattle.std.specs.Prelude.{◌≡◌, ◌↔◌, ◌<◌, ◌^◌, ℕ, Option, IsTrue, IfOk, OnErr, MatchOption};
+ghost use Rattle.std.specs.Prelude.{◌≡◌, ◌↔◌, ◌<◌, ℕ, Option, IsTrue, IfOk, OnErr, MatchOption};
+ghost use Rattle.adapt_bytes.specs.declared.limits.TheConstants.{COUNT_LIMIT};
 ghost use Rattle.adapt_bytes.specs.Numeral.{Writes};
 ghost use Rattle.icap_head.specs.Fields.{field_list, values_of, values_left};
 ghost use Rattle.options_book.specs.Numbers.{AllSpell, IsNumber};
 
 use crate::OptFault;
-use adapt_bytes::read_decimal;
+use adapt_bytes::{COUNT_LIMIT, read_decimal};
 use icap_head::{Fields, Values};
-use trace_core::MAX_COUNT;
 
 /// The number of the fields of this name; none where there is no such field.
 pub(crate) fn number(fields: &Fields, name: &[u8]) -> Result<Option<u64>, OptFault>
@@ -26,12 +26,12 @@ pub(crate) fn number(fields: &Fields, name: &[u8]) -> Result<Option<u64>, OptFau
     }
 }
 
-/// The number that a text spells, where it is a decimal up to `2^62 - 1`.
+/// The number that a text spells, where it is a decimal below the limit of counts.
 fn read_number(text: &[u8]) -> Option<u64>
-    ensures { MatchOption result ((n : ℕ) → n < 2 ^ 62 → Writes 10 text.now n → ⊥) (λ n. (n < 2 ^ 62) × Writes 10 text.now n) }
+    ensures { MatchOption result ((n : ℕ) → n < COUNT_LIMIT → Writes 10 text.now n → ⊥) (λ n. (n < COUNT_LIMIT) × Writes 10 text.now n) }
 {
     match read_decimal(text) {
-        Some(number) if number <= MAX_COUNT => Some(number),
+        Some(number) if number < COUNT_LIMIT => Some(number),
         _ => None,
     }
 }

@@ -3,10 +3,8 @@
 use crate::Treat;
 use crate::transfer::TransferLists;
 use crate::words::unquoted;
+use adapt_bytes::MAX_CONNECTIONS;
 use std::marker::Model;
-
-/// The most connections that are ever open to one service.
-pub const MAX_CONNECTIONS: u64 = 1024;
 
 /// What a service's OPTIONS response says, and when it was read (RFC 3507, section 4.10.2).
 #[derive(Debug, Drop)]
@@ -28,13 +26,15 @@ impl Model for Record {
 
     ghost view = { λ r. options_of r.tag.items r.preview r.connections r.ttl r.lists r.read_at };
 
-    ghost use Rattle.std.specs.Prelude.{IfSome, ◌<◌, ◌^◌};
+    ghost use Rattle.std.specs.Prelude.{IfSome, ◌<◌};
+    ghost use Rattle.adapt_bytes.specs.declared.limits.TheConstants.{COUNT_LIMIT};
 
-    ghost invariant = { λ r. IfSome r.preview (λ n. n < 2 ^ 62) };
+    ghost invariant = { λ r. IfSome r.preview (λ n. n < COUNT_LIMIT) };
 }
 
 impl Record {
-    ghost use Rattle.std.specs.Prelude.{◌≡◌, ◌<◌, ◌-◌, ◌^◌, ◌↔◌, IfSome, IsTrue, option_copied};
+    ghost use Rattle.std.specs.Prelude.{◌≡◌, ◌<◌, ◌-◌, ◌↔◌, IfSome, IsTrue, option_copied};
+    ghost use Rattle.adapt_bytes.specs.declared.limits.TheConstants.{COUNT_LIMIT};
     ghost use Rattle.options_book.specs.Options.{IsFresh, most_connections, unquoted};
     ghost use Rattle.options_book.specs.Transfer.{treat_of};
 
@@ -78,7 +78,7 @@ impl Record {
     /// How many bytes of a preview the service wants, where it says so.
     pub fn preview(&self) -> Option<u64>
         ensures size { result ≡ self.now.preview }
-        ensures bound { IfSome result (λ n. n < 2 ^ 62) }
+        ensures bound { IfSome result (λ n. n < COUNT_LIMIT) }
     {
         self.preview
     }

@@ -3,6 +3,7 @@ use crate::{OptFault, Record, Treat, extension, read_record};
 use adapt_bytes::trim;
 use icap_head::{Field, Fields, IcapResponse, NoMemory};
 use std::alloc::Global;
+use std::process::Abort;
 use std::test::*;
 use trace_core::Point;
 
@@ -100,12 +101,17 @@ fn each_fault_where_it_stands(rt: HostRuntime) {
     }
 }
 
+/// The fault of a response with these fields, if it has one.
+fn fault_of(rt: &impl Abort, alloc: Global, lines: &[u8]) -> Option<OptFault> {
+    let answer = answer(alloc, 200, lines).expect(rt, "memory");
+    fault(read_record(alloc, &answer, Point::Respmod, 1000))
+}
+
 #[test]
-fn fields_cut_and_misspelled(rt: HostRuntime) {
+fn methods_and_tags_cut_and_misspelled(rt: HostRuntime) {
     let no_methods = Some(OptFault::NoMethods);
     let no_tag = Some(OptFault::NoTag);
-    let bad_list = Some(OptFault::Encapsulated);
-    let cases: [(&[u8], Option<OptFault>); 15] = [
+    let cases: [(&[u8], Option<OptFault>); 9] = [
         (b"Methods: RESPMO\nISTag: a", no_methods),
         (b"Methods:\nISTag: a", no_methods),
         (b"Method: RESPMOD\nISTag: a", no_methods),
@@ -115,33 +121,32 @@ fn fields_cut_and_misspelled(rt: HostRuntime) {
         (b"Methods: RESPMOD\nISTag:\nISTag: a", no_tag),
         (b"Methods: RESPMOD\nISTag: a\nISTag:", None),
         (b"Methods: RESPMOD\nISTag: \"adapt", None),
-        (b"Methods: RESPMOD\nISTag: a\nEncapsulated:", bad_list),
-        (
-            b"Methods: RESPMOD\nISTag: a\nEncapsulated: null-body",
-            bad_list,
-        ),
-        (
-            b"Methods: RESPMOD\nISTag: a\nEncapsulated: null-body=",
-            bad_list,
-        ),
-        (
-            b"Methods: RESPMOD\nISTag: a\nEncapsulated: nul-body=0",
-            bad_list,
-        ),
-        (
-            b"Methods: RESPMOD\nISTag: a\nEncapsulated: null-body=1",
-            bad_list,
-        ),
-        (
-            b"Methods: RESPMOD\nISTag: a\nPreview: x\nEncapsulated: foo",
-            Some(OptFault::Number),
-        ),
     ];
     for (lines, want) in cases {
-        let answer = answer(rt.alloc(), 200, lines).expect(&rt, "memory");
-        let found = read_record(rt.alloc(), &answer, Point::Respmod, 1000);
-        assert_eq!(rt; fault(found), want);
+        assert_eq!(rt; fault_of(&rt, rt.alloc(), lines), want);
     }
+}
+
+#[test]
+fn encapsulated_lists_cut_and_misspelled(rt: HostRuntime) {
+    let cases: [&[u8]; 5] = [
+        b"Methods: RESPMOD\nISTag: a\nEncapsulated:",
+        b"Methods: RESPMOD\nISTag: a\nEncapsulated: null-body",
+        b"Methods: RESPMOD\nISTag: a\nEncapsulated: null-body=",
+        b"Methods: RESPMOD\nISTag: a\nEncapsulated: nul-body=0",
+        b"Methods: RESPMOD\nISTag: a\nEncapsulated: null-body=1",
+    ];
+    for lines in cases {
+        assert_eq!(rt;
+            fault_of(&rt, rt.alloc(), lines),
+            Some(OptFault::Encapsulated)
+        );
+    }
+    let number_too = b"Methods: RESPMOD\nISTag: a\nPreview: x\nEncapsulated: foo";
+    assert_eq!(rt;
+        fault_of(&rt, rt.alloc(), number_too),
+        Some(OptFault::Number)
+    );
 }
 
 #[test]

@@ -1,7 +1,7 @@
 //! The Transfer lists: which messages a service wants whole, with a preview, or not at all (RFC 3507, section 4.10.2).
 
 ghost use Rattle.std.specs.Prelude.{◌≡◌, map, option_copied};
-ghost use Rattle.options_book.specs.Transfer.{bytes_of, is_same_ascii, has_item, listed, treat_of, lists_of};
+ghost use Rattle.options_book.specs.Transfer.{vec_bytes, is_same_ascii, is_among, listed, treat_of, kept_lists};
 
 use adapt_bytes::same_ascii;
 
@@ -30,13 +30,13 @@ pub struct TransferLists {
 impl TransferLists {
     /// What the lists say of an item, an extension or `*`; Complete wins, then Preview, then Ignore.
     fn listed(&self, item: &[u8]) -> Option<Treat>
-        ensures { result ≡ listed (lists_of self.now) item.now }
+        ensures { result ≡ listed (kept_lists self.now) item.now }
     {
-        if has_item(&self.complete, item) {
+        if is_among(&self.complete, item) {
             Some(Treat::Complete)
-        } else if has_item(&self.preview, item) {
+        } else if is_among(&self.preview, item) {
             Some(Treat::Preview)
-        } else if has_item(&self.ignore, item) {
+        } else if is_among(&self.ignore, item) {
             Some(Treat::Ignore)
         } else {
             None
@@ -45,7 +45,7 @@ impl TransferLists {
 
     /// How the service wants a message whose path has this extension, or none.
     pub(crate) fn treat(&self, extension: Option<&[u8]>) -> Treat
-        ensures { result ≡ treat_of (lists_of self.now) (option_copied extension.entry) }
+        ensures { result ≡ treat_of (kept_lists self.now) (option_copied extension.entry) }
     {
         let named = match extension {
             Some(item) => self.listed(item),
@@ -59,8 +59,8 @@ impl TransferLists {
 }
 
 /// Whether the item is one of these, ASCII case ignored.
-fn has_item(items: &[Vec<u8>], item: &[u8]) -> bool
-    ensures { result ≡ has_item (map bytes_of items.now) item.now }
+fn is_among(items: &[Vec<u8>], item: &[u8]) -> bool
+    ensures { result ≡ is_among (map vec_bytes items.now) item.now }
 {
     for found in items {
         if is_same_ascii(found, item) {

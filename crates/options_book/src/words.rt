@@ -3,7 +3,7 @@
 ghost use Rattle.std.specs.Prelude.{◌≡◌, ◌++◌, map, IfOk, OnOk};
 ghost use Rattle.adapt_bytes.specs.Text.{comma_items};
 ghost use Rattle.icap_head.specs.Fields.{field_list, values_of};
-ghost use Rattle.options_book.specs.Transfer.{bytes_of, items_of};
+ghost use Rattle.options_book.specs.Transfer.{vec_bytes, items_of};
 ghost use Rattle.options_book.specs.Options.{unquoted, lists_item, serves, method_name};
 
 use adapt_bytes::comma_items;
@@ -62,7 +62,7 @@ pub(crate) fn copy_items(
     fields: &Fields,
     name: &[u8],
 ) -> Result<Vec<Vec<u8>>, NoMemory>
-    ensures { IfOk result (λ copies. map bytes_of copies.items ≡ items_of (values_of name.now (field_list fields.now))) }
+    ensures { IfOk result (λ copies. map vec_bytes copies.items ≡ items_of (values_of name.now (field_list fields.now))) }
 {
     let mut copies = Vec::new(alloc);
     for value in fields.values(name) {
@@ -73,7 +73,7 @@ pub(crate) fn copy_items(
 
 /// Copies of the items of one list, behind the others.
 fn push_items(alloc: Global, copies: &mut Vec<Vec<u8>>, list: &[u8]) -> Result<(), NoMemory>
-    ensures { OnOk result (map bytes_of copies.new.items ≡ map bytes_of copies.old.items ++ comma_items list.now) }
+    ensures { OnOk result (map vec_bytes copies.new.items ≡ map vec_bytes copies.old.items ++ comma_items list.now) }
 {
     for item in comma_items(list) {
         copies.push(item.to_vec(alloc)?)?;

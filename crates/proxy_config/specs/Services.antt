@@ -5,7 +5,9 @@ use Rattle.std.specs.Net.Grammar.{IsIpv4Text}
 use Rattle.std.specs.Net.Socket.{v4_ip, v4_port}
 use Rattle.http_uri.specs.Uri.{Spells}
 use Rattle.http_uri.specs.declared.uri.Uri.{Uri as Target}
+use Rattle.adapt_bytes.specs.declared.limits.TheConstants.{MAX_CONNECTIONS}
 use Rattle.proxy_config.specs.Values.{number_or}
+use Rattle.proxy_config.specs.declared.services.TheConstants.{MAX_PATH}
 use Rattle.proxy_config.specs.declared.point.ServicePoint.{ServicePoint}
 
 -- the text of a key, where its value is text
@@ -14,7 +16,7 @@ text_at key table = option_and_then as_str (get_member key table)
 
 -- at most 1,024 bytes that stand in a URI (RFC 3986, section 3.3)
 pub record IsServicePath (path : List ℕ) : Type 0 where
-  pub short : length path ≤ 1024
+  pub short : length path ≤ MAX_PATH
   pub uri : Target
   pub spells : Spells path uri
 
@@ -25,7 +27,7 @@ pub record SaysService (table : Members) (service : ServicePoint) : Type 0 where
   pub port : number_or 1 65535 1344 (get_member (codes "port") table) ≡ Some (v4_port service.address)
   pub path : text_at (codes "path") table ≡ Some (string_bytes service.path)
   pub good_path : IsServicePath (string_bytes service.path)
-  pub connections : number_or 1 1024 8 (get_member (codes "connections") table) ≡ Some service.connections
+  pub connections : number_or 1 MAX_CONNECTIONS 8 (get_member (codes "connections") table) ≡ Some service.connections
 
 -- the point has no table, and no service; or a table, which says the service
 abbrev pub IsServiceOf : List ℕ → Members → Option ServicePoint → Type 0

@@ -1,6 +1,7 @@
 //! The service of a point.
 
 ghost use Rattle.std.specs.Prelude.{◌≤◌};
+ghost use Rattle.adapt_bytes.specs.declared.limits.TheConstants.{MAX_CONNECTIONS};
 
 use std::net::SocketAddrV4;
 
@@ -16,7 +17,7 @@ pub struct ServicePoint {
     /// The most connections, until the service says another number.
     pub connections: u64,
     ghost some: { 1 ≤ connections },
-    ghost few: { connections ≤ 1024 },
+    ghost few: { connections ≤ MAX_CONNECTIONS },
 }
 
 /// The keys of a service's table.

@@ -9,6 +9,7 @@ ghost use Rattle.proxy_config.specs.Services.{text_at, IsServicePath, SaysServic
 use crate::fault::{ConfigFault, at_key, needed};
 use crate::point::ServicePoint;
 use crate::values::{number_or, value_of};
+use adapt_bytes::MAX_CONNECTIONS;
 use http_uri::{Uri, UriError};
 use std::alloc::{AllocError, Global};
 use std::net::{Ipv4Addr, SocketAddrV4};
@@ -120,7 +121,7 @@ fn read_service(alloc: Global, table: &Table, point: &str) -> Result<ServicePoin
         number_or(table, "port", 1, 65535, ICAP_PORT),
     )?;
     let path = of_point(alloc, point, "path", path(alloc, table)?)?;
-    let connections = number_or(table, "connections", 1, 1024, 8);
+    let connections = number_or(table, "connections", 1, MAX_CONNECTIONS, 8);
     let connections = of_point(alloc, point, "connections", connections)?;
     Ok(ServicePoint {
         host: String::from_str(alloc, host)?,

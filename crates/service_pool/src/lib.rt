@@ -19,6 +19,6 @@ pub use crate::locked::Locked;
 pub use crate::pool::Pool;
 pub use crate::rebasing::RebasingJournal;
 pub use crate::state::{Found, PoolState};
-pub use crate::step::{AuditFault, LEDGER_PARTS, MAX_CONNECTIONS, Numbers, Over, PoolStep};
+pub use crate::step::{AuditFault, LEDGER_PARTS, Numbers, Over, PoolStep};
 pub use crate::window::Window;
 pub use std::alloc::AllocError as NoMemory;

@@ -8,7 +8,8 @@ ghost use Rattle.service_pool.specs.Journal.{opening, stepped};
 
 use crate::NoMemory;
 use crate::journal::Journal;
-use crate::step::{MAX_CONNECTIONS, Numbers, Over, PoolStep};
+use crate::step::{Numbers, Over, PoolStep};
+use adapt_bytes::MAX_CONNECTIONS;
 use std::alloc::Global;
 use std::collections::VecDeque;
 use std::marker::Model;
@@ -28,7 +29,7 @@ pub struct PoolState<C, J: Journal> {
 impl<C, J: Journal> Model for PoolState<C, J> {
     ghost use Rattle.std.specs.Prelude.{◌≤◌};
     ghost use Rattle.std.specs.VecDeque.{deque_capacity};
-    ghost use Rattle.service_pool.specs.declared.step.TheConstants.{MAX_CONNECTIONS};
+    ghost use Rattle.adapt_bytes.specs.declared.limits.TheConstants.{MAX_CONNECTIONS};
     ghost use Rattle.service_pool.specs.Pooled.{Pooled, IsKept};
 
     ghost Value = { Pooled C };

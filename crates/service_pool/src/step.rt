@@ -3,11 +3,8 @@ ghost use Rattle.std.specs.Prelude.{◌≡◌};
 ghost use Rattle.service_pool.specs.Replay.{after};
 ghost use Rattle.service_pool.specs.Journal.{IsAllowed, IsBounded};
 
+use adapt_bytes::MAX_CONNECTIONS;
 use thiserror::Error;
-
-/// The most connections that a pool may have open: the greatest Max-Connections of a service
-/// (RFC 3507, section 4.10.2) that is used. A service that allows more is used with this many.
-pub const MAX_CONNECTIONS: u64 = 1024;
 
 /// How many parts the ledger of a pool's leases has: one for each lease that may be out, and one
 /// that stays under the lock.

@@ -1,5 +1,6 @@
 //! The body bytes that are kept, by their offsets.
 ghost use Rattle.std.specs.Prelude.{◌≡◌, ◌+◌, ◌-◌, ◌<◌, ◌≤◌, ◌^◌, [], ◌++◌, length, take, drop, min};
+ghost use Rattle.adapt_bytes.specs.declared.limits.TheConstants.{COUNT_LIMIT};
 ghost use Rattle.span_tape.specs.Tape.{Tape, end_of, from_place, page_count, pages_in};
 
 use crate::queue::Queue;
@@ -21,6 +22,7 @@ pub struct SpanTape {
 
 impl Model for SpanTape {
     ghost use Rattle.std.specs.Prelude.{◌≡◌, ◌+◌, ◌*◌, ◌<◌, ◌≤◌, ◌^◌, take, drop, length};
+    ghost use Rattle.adapt_bytes.specs.declared.limits.TheConstants.{COUNT_LIMIT};
     ghost use Rattle.span_bank.specs.declared.step.TheConstants.{PAGE_BYTES};
     ghost use Rattle.span_tape.specs.Tape.{Tape, page_count};
 
@@ -32,7 +34,7 @@ impl Model for SpanTape {
       bytes = take t.len (drop t.start t.pages.text);
     } };
 
-    ghost invariant = { λ t. (t.base + t.len < 2 ^ 62) × (t.len ≤ 2 ^ 50)
+    ghost invariant = { λ t. (t.base + t.len < COUNT_LIMIT) × (t.len ≤ 2 ^ 50)
         × (t.start < PAGE_BYTES) × (t.len ≡ 0 → t.start ≡ 0)
         × (t.pages.count ≡ page_count (t.start + t.len))
         × (length t.pages.text ≡ PAGE_BYTES * t.pages.count) };
@@ -61,7 +63,7 @@ impl SpanTape {
     /// The offset behind the last byte.
     pub fn end(&self) -> u64
         ensures end { result ≡ end_of self.now }
-        ensures small { result < 2 ^ 62 }
+        ensures small { result < COUNT_LIMIT }
     {
         self.base + self.len
     }
@@ -77,7 +79,7 @@ impl SpanTape {
     /// Adds bytes at the end, on as many more pages as `pages_for` says.
     #[tactic(auto, using(crate::proofs::PageLemmas::appended))]
     pub fn append(&mut self, bytes: &[u8], pages: &mut Pages)
-        requires fits { end_of self.old + length bytes.now < 2 ^ 62 }
+        requires fits { end_of self.old + length bytes.now < COUNT_LIMIT }
         requires small { length self.old.bytes + length bytes.now ≤ 2 ^ 50 }
         requires pages { page_count (self.old.start + length self.old.bytes + length bytes.now) ≤ pages_in self.old + pages.old }
         ensures tape { self.new ≡ record self.old { bytes = self.old.bytes ++ bytes.now } }
@@ -94,7 +96,7 @@ impl SpanTape {
     #[tactic(auto, using(crate::proofs::PageLemmas::dropped))]
     pub fn drop_to(&mut self, place: u64) -> Pages
         requires from { self.old.base ≤ place }
-        requires fits { place < 2 ^ 62 }
+        requires fits { place < COUNT_LIMIT }
         ensures tape { self.new ≡ from_place self.old place }
         ensures pages { result + pages_in self.new ≡ pages_in self.old }
     {

@@ -49,8 +49,7 @@ fn write_and_drop<H: Ledger, F: Ledger, S: Ledger, P: Ledger, R: Wait>(
     let needed = [first, second, tape.pages_for(4095), tape.pages_for(4096)];
     let mut out = [0; 3];
     let copied = tape.copy_out(4096, &mut out);
-    let end = tape.end();
-    let rest = tape.drop_to(end);
+    let rest = tape.drop_to(4097);
     bank.shrink(rt, &mut stake, 1, rest);
     bank.close(rt, stake, pages);
     Ok(Some(Seen {

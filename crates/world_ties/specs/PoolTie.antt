@@ -5,7 +5,7 @@ use Rattle.world_core.specs.declared.event.WorldEvent.{WorldEvent}
 use Rattle.world_core.specs.declared.event.WorldEvent.TheVariants.{Lease, Open, Of, Back, Reclaim, Close, Limit, Capacity}
 use Rattle.world_core.specs.WorldHistory.{lease_of, is_service}
 use Rattle.world_core.specs.WorldHistory as world
-use Rattle.service_pool.specs.declared.step.TheConstants.{MAX_CONNECTIONS}
+use Rattle.adapt_bytes.specs.declared.limits.TheConstants.{MAX_CONNECTIONS}
 use Rattle.service_pool.specs.declared.step.Numbers.{Numbers}
 use Rattle.service_pool.specs.declared.step.PoolStep.{PoolStep}
 use Rattle.service_pool.specs.declared.step.PoolStep.TheVariants as pool

@@ -4,6 +4,19 @@ use std::alloc::Global;
 use std::process::Abort;
 use std::test::*;
 
+// The steps of the calls below, one by one.
+const STEPS: [Option<PoolStep>; 9] = [
+    Some(PoolStep::Take),
+    Some(PoolStep::Take),
+    Some(PoolStep::Limit(1)),
+    Some(PoolStep::Put),
+    Some(PoolStep::Put),
+    Some(PoolStep::Take),
+    Some(PoolStep::Replace),
+    Some(PoolStep::GiveUp),
+    None,
+];
+
 fn calls<J: Journal, R: Abort>(rt: &R, alloc: Global) -> Result<(), Fail> {
     let mut state: PoolState<u32, J> = PoolState::new(alloc, 2, 9)?;
     let first = state.take();
@@ -32,19 +45,8 @@ fn calls<J: Journal, R: Abort>(rt: &R, alloc: Global) -> Result<(), Fail> {
     };
     assert_eq!(rt; state.base(), none);
     assert_eq!(rt; state.numbers(), Numbers { maximum: 1, ..none });
-    let steps = [
-        Some(PoolStep::Take),
-        Some(PoolStep::Take),
-        Some(PoolStep::Limit(1)),
-        Some(PoolStep::Put),
-        Some(PoolStep::Put),
-        Some(PoolStep::Take),
-        Some(PoolStep::Replace),
-        Some(PoolStep::GiveUp),
-        None,
-    ];
     for index in 0..9 {
-        assert_eq!(rt; state.journal_at(index), steps[index], "at {index}");
+        assert_eq!(rt; state.journal_at(index), STEPS[index], "at {index}");
     }
     Ok(())
 }

@@ -1,6 +1,6 @@
 //! Which fault is answered, and what each is called.
 use super::helpers::{answers_are, both, held};
-use crate::history::{Answer, Event, Kind, MAX_COUNT, Payload, StepFault};
+use crate::history::{Answer, Event, Kind, Payload, StepFault};
 use Answer::Fault;
 use Event::{Ad, AdEnd, Continue, Done, End, Heard, In, Mod, NoMod, Stop, Svc, Usr};
 use Payload::{Body, NullBody};
@@ -8,11 +8,12 @@ use StepFault::{
     Closed, Count, Ended, Ieof, NoReply, NoRetry, NoSuchPlace, Not204, NotPreview, NotWhole,
     PastLength, PastPreview, Replied, Stopped, TooSoon, Unheard,
 };
+use adapt_bytes::COUNT_LIMIT;
 
 /// Where two faults stand, the one with the smaller number is answered: of a body without a preview.
 #[test]
 fn first_of_two_faults_of_a_whole_body(rt: HostRuntime) {
-    let most = MAX_COUNT;
+    let most = COUNT_LIMIT - 1;
     let rows = [
         (Usr(0), Fault(Count)),
         (Usr(1), Fault(NoReply)),

@@ -1,12 +1,13 @@
 //! Requests that begin anew, and what a state and its plan show.
 use super::helpers::{answers_are, held, plan_of};
-use crate::history::{Answer, Event, Kind, MAX_COUNT, Payload, Plan, Point, StepFault};
+use crate::history::{Answer, Event, Kind, Payload, Plan, Point, StepFault};
 use crate::replay::{NoMemory, run};
 use crate::transaction::State;
 use Answer::Fault;
 use Event::{Ad, Done, End, Heard, In, Mod, NoMod, Retry, Stop, Svc, Usr};
 use Payload::Body;
 use StepFault::{NoRetry, NotPreview, PastPreview, TooSoon, Unheard};
+use adapt_bytes::COUNT_LIMIT;
 use std::alloc::Global;
 
 /// The answers where the plan has the leave to begin anew.
@@ -123,7 +124,7 @@ fn trace_sums_each_run(rt: HostRuntime) {
 
 #[test]
 fn numbers_of_a_plan_are_bounded(rt: HostRuntime) {
-    let most = MAX_COUNT;
+    let most = COUNT_LIMIT - 1;
     assert!(rt; plan_of(Kind::Preview(most), true, Some(most)).is_some());
     assert!(rt; plan_of(Kind::Preview(most + 1), true, None).is_none());
     assert!(rt; plan_of(Kind::Whole, true, Some(most + 1)).is_none());

@@ -32,7 +32,7 @@ loop-item-preserved c =
     record {
       can = tt;
       ends = tt;
-      parts = (h.0 ++ (part, offset) ∷ [], rw (map-append {A = Bor (List ℕ)} {B = List ℕ} (λ x. x.now) c.loop-item.yielded (c.in-Some.item ∷ [])) more, c.and_part-seen.ensures h.0 h.2);
+      parts = (h.0 ++ (part, offset) ∷ [], rw (map-append {A = Bor (List ℕ)} {B = List ℕ} (λ x. x.now) c.loop-item.yielded (c.in-Some.item ∷ [])) more, c.add_part-seen.ensures h.0 h.2);
     }
 
 pub returns-clause-err : goal.returns-clause-err

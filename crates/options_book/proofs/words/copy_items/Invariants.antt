@@ -1,11 +1,11 @@
 use Rattle.std.proofs.Common.{◌≡◌, ◌++◌, map}
 use Rattle.icap_head.specs.Fields.{field_list, values_of, values_left}
-use Rattle.options_book.specs.Transfer.{bytes_of, items_of}
+use Rattle.options_book.specs.Transfer.{vec_bytes, items_of}
 use Rattle.options_book.proofs.words.copy_items.Given as goal
 
 abbrev pub invariant-loop-value : goal.invariant-loop-value
 invariant-loop-value l = record {
   can : (goal.iterator-loop-value).can_next l.value-iterator;
   ends : (goal.iterator-loop-value).is_finite l.value-iterator;
-  rest : map bytes_of l.copies.items ++ items_of (values_left l.value-iterator) ≡ items_of (values_of l.fn.name (field_list l.fn.fields));
+  rest : map vec_bytes l.copies.items ++ items_of (values_left l.value-iterator) ≡ items_of (values_of l.fn.name (field_list l.fn.fields));
 }
