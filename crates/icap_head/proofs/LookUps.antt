@@ -1,5 +1,5 @@
 -- The values of a name, field by field.
-use Rattle.std.proofs.Common.{◌≡◌, ℕ, ◌+◌, ◌<◌, true, false, List, [], ◌∷◌, ◌++◌, length, get_or, drop, map, bytes_eq, refl, sym, ap, ◌∙◌, subst, inl, inr, append-nil, append_assoc}
+use Rattle.std.proofs.Common.{◌≡◌, ℕ, ◌+◌, ◌<◌, true, false, List, [], ◌∷◌, ◌++◌, length, drop, map, bytes_eq, refl, sym, ap, ◌∙◌, subst, inl, inr, append-nil, append_assoc}
 use Rattle.std.proofs.lemmas.Bool.{cases_Bool}
 use Rattle.std.proofs.lemmas.List.{drop_more}
 use Rattle.std.proofs.lemmas.Slice.Eq.{bytes_eq-Decides}
@@ -7,9 +7,8 @@ use Rattle.adapt_bytes.specs.Text.{SameAscii}
 use Rattle.http_header.specs.Token.{lowercase}
 use Rattle.http_header.specs.HeaderMap.{Entries, get_all, append, append_all}
 use Rattle.http_header.proofs.HeaderMapLemmas.{get_all-append_same, get_all-append_other}
-use Rattle.icap_head.specs.declared.field_list.Field.{Field}
 use Rattle.icap_head.proofs.Lacking.{false_true}
-use Rattle.icap_head.specs.Fields.{FieldList, field_parts, is_named, values_of, as_header_map}
+use Rattle.icap_head.specs.Fields.{FieldList, field_at, name_at, value_at, is_named, values_of, as_header_map}
 
 pub named : (name : List ℕ) (field : List ℕ × List ℕ) → SameAscii field.0 name → is_named name field ≡ true
 named name field same = (bytes_eq-Decides (lowercase field.0) (lowercase name)).1 same
@@ -24,19 +23,15 @@ values_yes name field fields is = rw is refl
 values_no : (name : List ℕ) (field : List ℕ × List ℕ) (fields : FieldList) → is_named name field ≡ false → values_of name (field ∷ fields) ≡ values_of name fields
 values_no name field fields off = rw off refl
 
-pub values_from_yes : (name : List ℕ) (fields : List Field) (at : ℕ) (d : Field) → at < length fields → SameAscii (get_or fields at d).name.items name
-    → values_of name (map field_parts (drop at fields)) ≡ (get_or fields at d).value.items ∷ values_of name (map field_parts (drop (at + 1) fields))
-values_from_yes name fields at d inside same =
-    let f = get_or fields at d in
-    ap (λ l. values_of name (map field_parts l)) (drop_more fields at d inside)
-    ∙ values_yes name (field_parts f) (map field_parts (drop (at + 1) fields)) (named name (field_parts f) same)
+pub values_from_yes : (name : List ℕ) (fields : FieldList) (at : ℕ) → at < length fields → SameAscii (name_at fields at) name
+    → values_of name (drop at fields) ≡ value_at fields at ∷ values_of name (drop (at + 1) fields)
+values_from_yes name fields at inside same =
+    ap (values_of name) (drop_more fields at ([], []) inside) ∙ values_yes name (field_at fields at) (drop (at + 1) fields) (named name (field_at fields at) same)
 
-pub values_from_no : (name : List ℕ) (fields : List Field) (at : ℕ) (d : Field) → at < length fields → (SameAscii (get_or fields at d).name.items name → ⊥)
-    → values_of name (map field_parts (drop at fields)) ≡ values_of name (map field_parts (drop (at + 1) fields))
-values_from_no name fields at d inside other =
-    let f = get_or fields at d in
-    ap (λ l. values_of name (map field_parts l)) (drop_more fields at d inside)
-    ∙ values_no name (field_parts f) (map field_parts (drop (at + 1) fields)) (not_named name (field_parts f) other)
+pub values_from_no : (name : List ℕ) (fields : FieldList) (at : ℕ) → at < length fields → (SameAscii (name_at fields at) name → ⊥)
+    → values_of name (drop at fields) ≡ values_of name (drop (at + 1) fields)
+values_from_no name fields at inside other =
+    ap (values_of name) (drop_more fields at ([], []) inside) ∙ values_no name (field_at fields at) (drop (at + 1) fields) (not_named name (field_at fields at) other)
 
 -- ---- as in a header map
 

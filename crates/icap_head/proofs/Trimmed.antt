@@ -1,13 +1,12 @@
 -- Values without blanks at their ends, in the words of `httparse` and of `adapt_bytes`.
-use Rattle.std.proofs.Common.{◌≡◌, ℕ, ◌+◌, ◌<◌, ◌↔◌, Bool, true, List, [], ◌∷◌, length, get_or, drop, map, reverse, refl, sym, ap, ◌∙◌, subst, inl, inr, bytes_eq}
+use Rattle.std.proofs.Common.{◌≡◌, ℕ, ◌+◌, ◌<◌, ◌↔◌, Bool, true, List, [], ◌∷◌, length, get_or, drop, reverse, refl, sym, ap, ◌∙◌, subst, inl, inr, bytes_eq}
 use Rattle.std.proofs.lemmas.Slice.Eq.{bytes_eq-Decides}
 use Rattle.std.specs.List.{AllByRecursion}
 use Rattle.std.proofs.lemmas.Bool.{cases_Bool}
 use Rattle.std.proofs.lemmas.List.{reverse-reverse, drop_more}
 use Rattle.adapt_bytes.specs.Text.{is_token_byte, IsToken, skip_blanks, trim}
 use Rattle.httparse.specs.Grammar.{is_token_byte as is_name_byte, IsToken as IsFieldName, is_ows, skip_ows, trim_ows}
-use Rattle.icap_head.specs.declared.field_list.Field.{Field}
-use Rattle.icap_head.specs.Fields.{field_parts}
+use Rattle.icap_head.specs.Fields.{FieldList, field_at}
 use Rattle.icap_head.specs.Written.{IsFieldPair}
 use Rattle.icap_head.proofs.Held.{trimmed_front, trimmed_back, skip_yes, skip_off}
 
@@ -48,8 +47,8 @@ pub compared : (a b : List ℕ) (same : Bool) → same ≡ bytes_eq a b → (sam
 compared a b same e = (λ is. (bytes_eq-Decides a b).0 (sym e ∙ is), λ is. e ∙ (bytes_eq-Decides a b).1 is)
 
 -- the fields from one on are writable where that one is and those behind it are
-pub all_from : (fields : List Field) (at : ℕ) (d : Field) → at < length fields
-    → AllByRecursion IsFieldPair (map field_parts (drop at fields)) ↔ (IsFieldPair (field_parts (get_or fields at d)) × AllByRecursion IsFieldPair (map field_parts (drop (at + 1) fields)))
-all_from fields at d inside =
-    let e = drop_more fields at d inside in
-    (λ h. subst (λ l. AllByRecursion IsFieldPair (map field_parts l)) e h, λ h. subst (λ l. AllByRecursion IsFieldPair (map field_parts l)) (sym e) h)
+pub all_from : (fields : FieldList) (at : ℕ) → at < length fields
+    → AllByRecursion IsFieldPair (drop at fields) ↔ (IsFieldPair (field_at fields at) × AllByRecursion IsFieldPair (drop (at + 1) fields))
+all_from fields at inside =
+    let e = drop_more fields at ([], []) inside in
+    (λ h. subst (AllByRecursion IsFieldPair) e h, λ h. subst (AllByRecursion IsFieldPair) (sym e) h)

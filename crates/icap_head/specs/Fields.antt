@@ -1,8 +1,8 @@
 -- The fields of a head (RFC 9110, section 5): a list of names as they came, with their values.
-use Rattle.std.specs.Prelude.{ℕ, Bool, List, [], map, filter, bytes_eq, Option, slice_get}
+use Rattle.std.specs.Prelude.{ℕ, Bool, List, [], map, filter, drop, bytes_eq, Option, slice_get, slice_index_or}
 use Rattle.http_header.specs.Token.{lowercase}
 use Rattle.http_header.specs.HeaderMap.{Entries, append_all}
-use Rattle.icap_head.specs.declared.field_list.Field.{Field}
+use Rattle.httparse.specs.Spans.{header_bytes}
 use Rattle.icap_head.specs.declared.field_list.Fields.{Fields}
 use Rattle.icap_head.specs.declared.field_list.Values.{Values}
 
@@ -10,13 +10,19 @@ use Rattle.icap_head.specs.declared.field_list.Values.{Values}
 abbrev pub FieldList : Type 0
 FieldList = List (List ℕ × List ℕ)
 
--- a field's name and value
-abbrev pub field_parts : Field → List ℕ × List ℕ
-field_parts field = (field.name.items, field.value.items)
-
 -- the fields as a list
 abbrev pub field_list : Fields → FieldList
-field_list fields = map field_parts fields.list.items
+field_list fields = map (header_bytes fields.text.items) fields.lines.items
+
+-- the field at a place
+abbrev pub field_at : FieldList → ℕ → List ℕ × List ℕ
+field_at fields at = slice_index_or fields at ([], [])
+
+abbrev pub name_at : FieldList → ℕ → List ℕ
+name_at fields at = (field_at fields at).0
+
+abbrev pub value_at : FieldList → ℕ → List ℕ
+value_at fields at = (field_at fields at).1
 
 -- the field has this name; names are compared in lower case (RFC 9110, section 5.1)
 abbrev pub is_named : List ℕ → List ℕ × List ℕ → Bool
@@ -32,7 +38,7 @@ first_of name fields = slice_get (values_of name fields) 0
 
 -- what an iterator has still to give
 abbrev pub values_left : Values → List (List ℕ)
-values_left values = values_of values.name.now (map field_parts values.fields.now)
+values_left values = values_of values.name.now (drop values.passed (field_list values.fields.now))
 
 -- the same fields in a header map, which keeps names in lower case
 abbrev pub as_header_map : FieldList → Entries (List ℕ)

@@ -1,50 +1,92 @@
 //! Fields of a head, and looking them up by name (RFC 9110, section 5).
-ghost use Rattle.std.specs.Prelude.{◌≡◌, ◌<◌, ◌∷◌, [], map, length, option_map, IfSome, IfNone};
+ghost use Rattle.std.specs.Prelude.{◌≡◌, ◌<◌, ◌≤◌, ◌∷◌, ◌++◌, [], length, drop, map, option_map, slice_get, Some, All, IfOk, IfSome, IfNone, OnOk, OnErr};
 ghost use Rattle.std.specs.Iterator.{YieldsFirstRef, item_count};
-ghost use Rattle.icap_head.specs.Fields.{field_parts, field_list, values_of, first_of, values_left};
+ghost use Rattle.httparse.specs.Spans.{IsHeaderWithin, header_bytes};
 
+use crate::NoMemory;
 use adapt_bytes::same_ascii;
+use httparse::spans::{HeaderSpan, Span};
+use std::alloc::Global;
 
-/// A header field: its name as it came, and its value without the spaces and tabs around it.
-#[derive(Debug, Drop)]
-pub struct Field {
-    pub name: Vec<u8>,
-    pub value: Vec<u8>,
-}
-
-/// The fields of a head, in their order.
+/// The fields of a head, in their order: names as they came, and values without the spaces and tabs around them.
 #[derive(Debug, Drop)]
 pub struct Fields {
-    list: Vec<Field>,
+    text: Vec<u8>,
+    /// Where they lie in the text.
+    lines: Vec<HeaderSpan>,
+    ghost inside: { All (IsHeaderWithin (length text.items)) lines.items },
 }
 
 /// The values of the fields of one name, in their order.
 #[derive(Debug, Drop)]
 pub struct Values<'a> {
-    fields: &'a [Field],
+    fields: &'a Fields,
     name: &'a [u8],
+    /// How many fields are behind it.
+    passed: usize,
 }
 
 impl Fields {
-    /// These fields. It takes no memory.
-    pub fn new(list: Vec<Field>) -> Fields
-        ensures { field_list result ≡ map field_parts list.items }
+    ghost use Rattle.icap_head.specs.Fields.{field_list, name_at, value_at, values_of, first_of, values_left};
+
+    /// No fields. It takes no memory.
+    pub fn new(alloc: Global) -> Fields
+        ensures { field_list result ≡ [] }
     {
-        Fields { list }
+        Fields {
+            text: Vec::new(alloc),
+            lines: Vec::new(alloc),
+        }
     }
 
-    /// The fields as a list again. It takes no memory.
-    pub fn into_vec(self) -> Vec<Field>
-        ensures { map field_parts result.items ≡ field_list self }
+    /// The fields that lie here in the first bytes of a text, with a copy of these bytes.
+    pub(crate) fn of_lines(
+        alloc: Global,
+        text: &[u8],
+        size: usize,
+        lines: &[HeaderSpan],
+    ) -> Result<Fields, NoMemory>
+        requires front { size ≤ length text.now }
+        requires inside { All (IsHeaderWithin size) lines.now }
+        ensures { IfOk result (λ fields. field_list fields ≡ map (header_bytes text.now) lines.now) }
     {
-        self.list
+        let text = text[..size].to_vec(alloc)?;
+        let lines = copy_lines(alloc, lines)?;
+        Ok(Fields { text, lines })
     }
 
-    /// The fields, in their order.
-    pub fn as_slice(&self) -> &[Field]
-        ensures { map field_parts result.now ≡ field_list self.now }
+    /// Adds a field behind the others; where memory runs out, they stay as they are.
+    pub fn push(&mut self, name: &[u8], value: &[u8]) -> Result<(), NoMemory>
+        ensures ok { OnOk result (field_list self.new ≡ field_list self.old ++ (name.now, value.now) ∷ []) }
+        ensures err { OnErr result (field_list self.new ≡ field_list self.old) }
     {
-        &self.list
+        let name = add(&mut self.text, name)?;
+        let value = add(&mut self.text, value)?;
+        self.lines.push(HeaderSpan { name, value })?;
+        Ok(())
+    }
+
+    /// How many there are.
+    pub fn len(&self) -> usize
+        ensures { result ≡ length (field_list self.now) }
+    {
+        self.lines.len()
+    }
+
+    /// The name of the field at this place, as it came. It asks for a place below `len`.
+    pub fn name(&self, at: usize) -> &[u8]
+        requires { at < length (field_list self.now) }
+        ensures { result.now ≡ name_at (field_list self.now) at }
+    {
+        line_at(&self.lines, at).name.of(&self.text)
+    }
+
+    /// The value of the field at this place, without the spaces and tabs around it. It asks for a place below `len`.
+    pub fn value(&self, at: usize) -> &[u8]
+        requires { at < length (field_list self.now) }
+        ensures { result.now ≡ value_at (field_list self.now) at }
+    {
+        line_at(&self.lines, at).value.of(&self.text)
     }
 
     /// The values of all fields of this name, ASCII case ignored, in their order.
@@ -52,8 +94,9 @@ impl Fields {
         ensures { values_left result ≡ values_of name.now (field_list self.now) }
     {
         Values {
-            fields: &self.list,
+            fields: self,
             name,
+            passed: 0,
         }
     }
 
@@ -61,12 +104,28 @@ impl Fields {
     pub fn first(&self, name: &[u8]) -> Option<&[u8]>
         ensures { option_map (λ value. value.now) result ≡ first_of name.now (field_list self.now) }
     {
-        let (value, _) = next_value(&self.list, name)?;
+        let (value, _) = self.next_value(name, 0)?;
         Some(value)
+    }
+
+    /// The value of the first field of this name behind so many fields, and how many it leaves behind.
+    fn next_value(&self, name: &[u8], passed: usize) -> Option<(&[u8], usize)>
+        ensures some { IfSome result (λ r. values_of name.now (drop passed (field_list self.now))
+            ≡ r.0.now ∷ values_of name.now (drop r.1 (field_list self.now))) }
+        ensures none { IfNone result (values_of name.now (drop passed (field_list self.now)) ≡ []) }
+    {
+        for at in passed..self.len() {
+            if same_ascii(self.name(at), name) {
+                return Some((self.value(at), at + 1));
+            }
+        }
+        None
     }
 }
 
 impl<'a> Iterator for Values<'a> {
+    ghost use Rattle.icap_head.specs.Fields.{values_left};
+
     type Item = &'a [u8];
 
     ghost next_gives = { YieldsFirstRef values_left };
@@ -74,22 +133,35 @@ impl<'a> Iterator for Values<'a> {
     ghost remaining = { item_count values_left };
 
     fn next(&mut self) -> Option<&'a [u8]> {
-        let (value, rest) = next_value(self.fields, self.name)?;
-        self.fields = rest;
+        let (value, passed) = self.fields.next_value(self.name, self.passed)?;
+        self.passed = passed;
         Some(value)
     }
 }
 
-/// The value of the first field of this name, and the fields behind it.
-fn next_value<'a>(fields: &'a [Field], name: &[u8]) -> Option<(&'a [u8], &'a [Field])>
-    ensures some { IfSome result (λ r. values_of name.now (map field_parts fields.now)
-        ≡ r.0.now ∷ values_of name.now (map field_parts r.1.now)) }
-    ensures none { IfNone result (values_of name.now (map field_parts fields.now) ≡ []) }
+fn copy_lines(alloc: Global, lines: &[HeaderSpan]) -> Result<Vec<HeaderSpan>, NoMemory>
+    ensures { IfOk result (λ copy. copy.items ≡ lines.now) }
 {
-    for (at, field) in fields.iter().enumerate() {
-        if same_ascii(&field.name, name) {
-            return Some((&field.value, &fields[at + 1..]));
-        }
-    }
-    None
+    lines.to_vec(alloc)
+}
+
+fn line_at(lines: &[HeaderSpan], at: usize) -> HeaderSpan
+    requires { at < length lines.now }
+    ensures { slice_get lines.now at ≡ Some result }
+{
+    lines[at]
+}
+
+/// Adds bytes to a text, and says where they lie.
+fn add(text: &mut Vec<u8>, bytes: &[u8]) -> Result<Span, NoMemory>
+    ensures ok { IfOk result (λ span. (span.start ≡ length text.old.items) × (span.end ≡ length text.new.items)) }
+    ensures text { OnOk result (text.new.items ≡ text.old.items ++ bytes.now) }
+    ensures err { OnErr result (text.new.items ≡ text.old.items) }
+{
+    let start = text.len();
+    text.extend_from_slice(bytes)?;
+    Ok(Span {
+        start,
+        end: text.len(),
+    })
 }

@@ -15,7 +15,7 @@ mod requests;
 mod responses;
 mod start_lines;
 
-pub use field_list::{Field, Fields, Values};
+pub use field_list::{Fields, Values};
 pub use methods::{Method, OtherMethod};
 pub use reading::{Head, HeadFault, MAX_FIELDS, MAX_HEAD};
 pub use requests::{IcapRequest, read_request, write_request};

@@ -35,7 +35,7 @@ impl IcapRequest {
         if self.uri.contains(&b'\n') {
             return Ok(false);
         }
-        if !are_writable(self.fields.as_slice()) {
+        if !are_writable(&self.fields) {
             return Ok(false);
         }
         is_icap_uri(alloc, &self.uri)

@@ -32,7 +32,7 @@ impl IcapResponse {
         if self.phrase.contains(&b'\n') {
             return false;
         }
-        are_writable(self.fields.as_slice())
+        are_writable(&self.fields)
     }
 }
 

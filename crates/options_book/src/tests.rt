@@ -1,7 +1,7 @@
 use crate::laws::{has_a_reading, reads_one_way};
 use crate::{OptFault, Record, Treat, extension, read_record};
 use adapt_bytes::trim;
-use icap_head::{Field, Fields, IcapResponse, NoMemory};
+use icap_head::{Fields, IcapResponse, NoMemory};
 use std::alloc::Global;
 use std::process::Abort;
 use std::test::*;
@@ -11,19 +11,16 @@ const GOOD: &[u8] = b"Methods: RESPMOD\nISTag: \"adapt-1\"\nEncapsulated: null-b
 
 /// An answer with the fields of these lines.
 fn answer(alloc: Global, status: u16, lines: &[u8]) -> Result<IcapResponse, NoMemory> {
-    let mut list = Vec::new(alloc);
+    let mut fields = Fields::new(alloc);
     for line in lines.split(|b| *b == b'\n') {
         if let Some(colon) = line.iter().position(|b| *b == b':') {
-            list.push(Field {
-                name: line[..colon].to_vec(alloc)?,
-                value: trim(&line[colon + 1..]).to_vec(alloc)?,
-            })?;
+            fields.push(&line[..colon], trim(&line[colon + 1..]))?;
         }
     }
     Ok(IcapResponse {
         status,
         phrase: Vec::new(alloc),
-        fields: Fields::new(list),
+        fields,
     })
 }
 

@@ -1,5 +1,5 @@
 //! Whole heads, cut at every byte: `More` until the last one.
-use crate::{Field, HeadFault, Method, NoMemory, Values, read_request, read_response};
+use crate::{Fields, HeadFault, Method, NoMemory, Values, read_request, read_response};
 use std::alloc::Global;
 use std::process::Abort;
 use std::test::Fail;
@@ -20,7 +20,7 @@ fn read_requests(rt: &impl Abort, alloc: Global, cases: &[RequestCase<'_>]) -> R
         assert_eq!(rt; head.length, text.len());
         assert_eq!(rt; head.value.method.name(), *method);
         assert_eq!(rt; head.value.uri.as_slice(), *uri);
-        assert_eq!(rt; head.value.fields.as_slice().len(), *count);
+        assert_eq!(rt; head.value.fields.len(), *count);
         assert!(rt; head.value.fields.first(name) == Some(*value));
         for cut in 0..text.len() {
             let read = read_request(alloc, &text[..cut]);
@@ -37,7 +37,7 @@ fn read_responses(rt: &impl Abort, alloc: Global, cases: &[ResponseCase<'_>]) ->
         assert_eq!(rt; head.length, text.len());
         assert_eq!(rt; head.value.status, *status);
         assert_eq!(rt; head.value.phrase.as_slice(), *phrase);
-        assert_eq!(rt; head.value.fields.as_slice().len(), *count);
+        assert_eq!(rt; head.value.fields.len(), *count);
         assert!(rt; head.value.fields.first(name) == Some(*value));
         for cut in 0..text.len() {
             let read = read_response(alloc, &text[..cut]);
@@ -333,12 +333,12 @@ fn methods_keep_their_names(rt: HostRuntime) -> Result<(), Fail> {
 }
 
 /// The names and values, each with a mark behind it.
-fn listed(alloc: Global, fields: &[Field]) -> Result<Vec<u8>, NoMemory> {
+fn listed(alloc: Global, fields: &Fields) -> Result<Vec<u8>, NoMemory> {
     let mut text = Vec::new(alloc);
-    for field in fields {
-        text.extend_from_slice(&field.name)?;
+    for at in 0..fields.len() {
+        text.extend_from_slice(fields.name(at))?;
         text.push(b'=')?;
-        text.extend_from_slice(&field.value)?;
+        text.extend_from_slice(fields.value(at))?;
         text.push(b'|')?;
     }
     Ok(text)
@@ -358,7 +358,7 @@ fn joined(alloc: Global, values: Values<'_>) -> Result<Vec<u8>, NoMemory> {
 fn fields_keep_names_and_order(rt: HostRuntime) -> Result<(), Fail> {
     let text = b"ICAP/1.0 200 OK\r\nAllow:204\r\nX-A: \t one \t\r\nallow: \r\nALLOW: 206\n\r\n";
     let fields = read_response(rt.alloc(), text)?.value.fields;
-    let all = listed(rt.alloc(), fields.as_slice())?;
+    let all = listed(rt.alloc(), &fields)?;
     assert_eq!(rt;
         all.as_slice(),
         b"Allow=204|X-A=one|allow=|ALLOW=206|".as_slice()
@@ -367,6 +367,5 @@ fn fields_keep_names_and_order(rt: HostRuntime) -> Result<(), Fail> {
     assert_eq!(rt; allowed.as_slice(), b"204||206|".as_slice());
     assert!(rt; fields.first(b"allow") == Some(b"204"));
     assert!(rt; fields.first(b"X-B") == None);
-    assert_eq!(rt; fields.into_vec().len(), 4);
     Ok(())
 }

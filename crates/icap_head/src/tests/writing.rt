@@ -1,6 +1,6 @@
 //! The texts that are written, and which values can be: CRLF, one space behind each colon, three digits.
 use crate::{
-    Field, Fields, IcapRequest, IcapResponse, Method, NoMemory, read_request, read_response,
+    Fields, IcapRequest, IcapResponse, Method, NoMemory, read_request, read_response,
     write_request, write_response,
 };
 use std::alloc::Global;
@@ -55,12 +55,9 @@ fn responses_are_written(rt: HostRuntime) -> Result<(), Fail> {
 
 /// One field.
 fn field(alloc: Global, name: &[u8], value: &[u8]) -> Result<Fields, NoMemory> {
-    let mut list = Vec::new(alloc);
-    list.push(Field {
-        name: name.to_vec(alloc)?,
-        value: value.to_vec(alloc)?,
-    })?;
-    Ok(Fields::new(list))
+    let mut fields = Fields::new(alloc);
+    fields.push(name, value)?;
+    Ok(fields)
 }
 
 #[test]
@@ -99,51 +96,71 @@ fn requests_that_heads_hold_are_writable(rt: HostRuntime) -> Result<(), Fail> {
     Ok(())
 }
 
+/// A response with one field.
+fn response(
+    alloc: Global,
+    status: u16,
+    phrase: &[u8],
+    name: &[u8],
+    value: &[u8],
+) -> Result<IcapResponse, NoMemory> {
+    Ok(IcapResponse {
+        status,
+        phrase: phrase.to_vec(alloc)?,
+        fields: field(alloc, name, value)?,
+    })
+}
+
 #[test]
 fn responses_that_heads_hold_are_writable(rt: HostRuntime) -> Result<(), Fail> {
-    let cases: [(u16, &[u8], &[u8], &[u8], Option<&[u8]>); 11] = [
+    let cases: [(u16, &[u8], &[u8], &[u8], &[u8]); 3] = [
         (
             204,
             b"",
             b"ISTag",
             b"\"x y\"",
-            Some(b"ICAP/1.0 204 \r\nISTag: \"x y\"\r\n\r\n"),
+            b"ICAP/1.0 204 \r\nISTag: \"x y\"\r\n\r\n",
         ),
         (
             5,
             b"in CR\r",
             b"a",
             b"",
-            Some(b"ICAP/1.0 005 in CR\r\r\na: \r\n\r\n"),
+            b"ICAP/1.0 005 in CR\r\r\na: \r\n\r\n",
         ),
         (
             999,
             b"x",
             b"a",
             b"b\tc",
-            Some(b"ICAP/1.0 999 x\r\na: b\tc\r\n\r\n"),
+            b"ICAP/1.0 999 x\r\na: b\tc\r\n\r\n",
         ),
-        (1000, b"x", b"a", b"b", None),
-        (200, b"two\nlines", b"a", b"b", None),
-        (200, b"OK", b"", b"b", None),
-        (200, b"OK", b"a:", b"b", None),
-        (200, b"OK", b"a", b" b", None),
-        (200, b"OK", b"a", b"b\t", None),
-        (200, b"OK", b"a", b"b\r\nc: d", None),
-        (200, b"OK", b"a", b"\x7f", None),
     ];
     for (status, phrase, name, value, wanted) in cases {
-        let response = IcapResponse {
-            status,
-            phrase: phrase.to_vec(rt.alloc())?,
-            fields: field(rt.alloc(), name, value)?,
-        };
-        if response.is_writable() {
-            let written = write_response(rt.alloc(), &response)?;
-            assert!(rt; wanted == Some(written.as_slice()));
-        } else {
-            assert!(rt; wanted == None);
-        }
+        let response = response(rt.alloc(), status, phrase, name, value)?;
+        let writable = response.is_writable();
+        assert!(rt; writable);
+        let written = write_response(rt.alloc(), &response)?;
+        assert_eq!(rt; written.as_slice(), wanted);
+    }
+    Ok(())
+}
+
+#[test]
+fn responses_that_no_head_holds_are_not_writable(rt: HostRuntime) -> Result<(), Fail> {
+    let cases: [(u16, &[u8], &[u8], &[u8]); 8] = [
+        (1000, b"x", b"a", b"b"),
+        (200, b"two\nlines", b"a", b"b"),
+        (200, b"OK", b"", b"b"),
+        (200, b"OK", b"a:", b"b"),
+        (200, b"OK", b"a", b" b"),
+        (200, b"OK", b"a", b"b\t"),
+        (200, b"OK", b"a", b"b\r\nc: d"),
+        (200, b"OK", b"a", b"\x7f"),
+    ];
+    for (status, phrase, name, value) in cases {
+        let response = response(rt.alloc(), status, phrase, name, value)?;
+        assert!(rt; !response.is_writable());
     }
     Ok(())
 }

@@ -1,0 +1,6 @@
+use Rattle.std.proofs.Common.{◌≡◌, drop}
+use Rattle.icap_head.specs.Fields.{field_list, values_of}
+use Rattle.icap_head.proofs.field_list.Fields.next_value.Given as goal
+
+abbrev pub invariant-loop-at : goal.invariant-loop-at
+invariant-loop-at l = values_of l.name (drop l.passed (field_list l.self)) ≡ values_of l.name (drop l.at (field_list l.self))
