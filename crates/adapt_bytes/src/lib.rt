@@ -5,6 +5,7 @@ mod commas;
 mod digits;
 pub mod laws;
 mod limits;
+mod room;
 #[cfg(test)]
 mod tests;
 mod text;
@@ -12,4 +13,5 @@ mod text;
 pub use commas::{CommaItems, CommaParts, comma_items, comma_parts};
 pub use digits::{Small, put_decimal, put_hex, read_decimal, read_hex};
 pub use limits::{COUNT_LIMIT, MAX_CONNECTIONS};
+pub use room::Room;
 pub use text::{is_blank, is_token, same_ascii, trim};

@@ -1,13 +1,14 @@
 -- The fields that go on, one field at a time.
-use Rattle.std.proofs.Common.{◌≡◌, ℕ, ◌+◌, ◌<◌, Bool, true, false, not, ◌||◌, ◌&&◌, List, [], ◌∷◌, ◌++◌, length, map, take, drop, None, refl, sym, ap, ◌∙◌, append_assoc}
+use Rattle.std.proofs.Common.{◌≡◌, ℕ, ◌+◌, ◌<◌, Bool, true, false, not, ◌||◌, ◌&&◌, List, [], ◌∷◌, ◌++◌, ◌≤◌, Option, get_or, length, map, take, drop, None, refl, sym, ap, ◌∙◌, append_assoc}
 use Rattle.std.specs.Prelude.{codes, if◌then◌else◌}
-use Rattle.std.specs.List.{list_any, filter}
+use Rattle.std.specs.List.{list_any, filter, flat_map}
 use Rattle.std.proofs.lemmas.List.{map-append, append-nil}
 use Rattle.std.proofs.lemmas.List.Elements.{filter_more}
 use Rattle.std.proofs.lemmas.List.Concat.{flat_map-append}
+use Rattle.std.proofs.lemmas.List.Folds.{length-flat_map-take}
 use Rattle.http_side.specs.Fields.{same_name, values_of, field_at, name_at, value_at}
 use Rattle.http_side.specs.Items.{has_item}
-use Rattle.http_side.specs.Forward.{is_named_by, stays, is_length, once, hosted, field_line, field_lines}
+use Rattle.http_side.specs.Forward.{is_named_by, stays, is_length, once, hosted, sent_fields, field_line, field_lines}
 use Rattle.http_side.specs.declared.writing.Beside.{Beside}
 use Rattle.http_side.proofs.FieldLemmas.{values-more, values-same, values-front}
 
@@ -133,10 +134,23 @@ pub head_parts : (first : List ℕ) (a b c : List (List ℕ × List ℕ)) (last 
 head_parts first a b c last = simp (lines-append, append_assoc) refl
 
 -- a response's fields go on as they are
-as_they_are : (xs : List (List ℕ × List ℕ)) → map (hosted None) xs ≡ xs
+pub as_they_are : (xs : List (List ℕ × List ℕ)) → map (hosted None) xs ≡ xs
 as_they_are [] = refl
 as_they_are (x ∷ xs) = ap (λ t. x ∷ t) (as_they_are xs)
 
 pub response_parts : (first : List ℕ) (b c : List (List ℕ × List ℕ)) (last : List ℕ)
     → ((([] ++ (first ++ last)) ++ field_lines (map (hosted None) b)) ++ field_lines c) ++ last ≡ ((first ++ last) ++ field_lines (b ++ c)) ++ last
 response_parts first b c last = rw (as_they_are b) (simp (lines-append, append_assoc) refl)
+
+-- the lines of the fields at these places, place by place
+flat : (fields : List (List ℕ × List ℕ)) (authority : Option (List ℕ)) (places : List ℕ)
+    → field_lines (sent_fields fields places authority) ≡ flat_map (λ at. field_line (hosted authority (field_at fields at))) places
+flat fields authority [] = refl
+flat fields authority (at ∷ places) = ap (λ t. field_line (hosted authority (field_at fields at)) ++ t) (flat fields authority places)
+
+-- where there is room for all lines, there is room for the next one
+pub next_fits : (fields : List (List ℕ × List ℕ)) (authority : Option (List ℕ)) (places : List ℕ) (i d : ℕ) → i < length places
+    → length (field_lines (sent_fields fields (take i places) authority)) + length (field_line (hosted authority (field_at fields (get_or places i d))))
+    ≤ length (field_lines (sent_fields fields places authority))
+next_fits fields authority places i d l =
+    rw (flat fields authority (take i places), flat fields authority places) (length-flat_map-take (λ at. field_line (hosted authority (field_at fields at))) places i d l)

@@ -1,15 +1,15 @@
 -- The heads that are written: which fields go on, and the text (RFC 9110, section 7.6; RFC 9112, section 3.2).
-use Rattle.std.specs.Prelude.{◌≡◌, ℕ, ◌+◌, ◌<◌, Bool, true, false, not, ◌||◌, ◌&&◌, List, [], ◌∷◌, ◌++◌, length, slice_index_or, map, Option, Some, None, codes, if◌then◌else◌, ◌==◌, nat_lt, codes, ◌/◌, ◌%◌}
+use Rattle.std.specs.Prelude.{◌≡◌, ℕ, ◌+◌, ◌-◌, ◌^◌, ◌<◌, min, All, Bool, true, false, not, ◌||◌, ◌&&◌, List, [], ◌∷◌, ◌++◌, length, slice_index_or, map, Option, Some, None, codes, if◌then◌else◌, ◌==◌, nat_lt, codes, ◌/◌, ◌%◌}
 use Rattle.std.specs.List.{list_any, flat_map, filter}
 use Rattle.std.specs.Prelude.{◌/◌, ◌%◌, Result, Ok, Err}
 use Rattle.http_side.specs.declared.fault.HttpFault.{HttpFault}
-use Rattle.http_side.specs.Fields.{same_name, values_of, name_at}
+use Rattle.http_side.specs.Fields.{same_name, values_of, field_at, name_at}
 use Rattle.http_side.specs.Items.{has_item}
 use Rattle.http_side.specs.Heads.{RequestParts, ResponseParts, count_of}
 use Rattle.http_side.specs.Lengths.{content_length, coding}
 use Rattle.http_side.specs.Heads.{both_lengths}
 use Rattle.http_side.specs.Framings.{is_bare}
-use Rattle.http_side.specs.Targets.{authority_of, origin_form, absolute_form}
+use Rattle.http_side.specs.Targets.{authority_of, origin_form, absolute_form, rooted}
 use Rattle.http_side.specs.declared.body.Framing.{Framing}
 use Rattle.http_side.specs.declared.body.Framing.TheVariants.{None as NoBody, Length, Chunked, Close}
 use Rattle.http_side.specs.declared.writing.Beside.{Beside}
@@ -71,6 +71,11 @@ stays beside fields f = not (is_removed beside fields f.0)
 abbrev pub kept_fields : Beside → List (List ℕ × List ℕ) → List (List ℕ × List ℕ)
 kept_fields beside fields = once false (filter (stays beside fields) fields)
 
+-- the places of the fields that go on
+pub record AreKept (beside : Beside) (fields : List (List ℕ × List ℕ)) (places : List ℕ) : Type 0 where
+  pub within : All (λ at. at < length fields) places
+  pub kept : map (field_at fields) places ≡ kept_fields beside fields
+
 abbrev pub has_host : List (List ℕ × List ℕ) → Bool
 has_host fields = nat_lt 0 (count_of (codes "host") fields)
 
@@ -81,6 +86,10 @@ host_line authority f = if same_name f.0 (codes "host") then (f.0, authority) el
 abbrev pub hosted : Option (List ℕ) → List ℕ × List ℕ → List ℕ × List ℕ
 hosted None f = f
 hosted (Some authority) f = host_line authority f
+
+-- the fields at these places, as they go on
+abbrev pub sent_fields : List (List ℕ × List ℕ) → List ℕ → Option (List ℕ) → List (List ℕ × List ℕ)
+sent_fields fields places authority = map (hosted authority) (map (field_at fields) places)
 
 abbrev pub when : Bool → List ℕ × List ℕ → List (List ℕ × List ℕ)
 when on field = if on then field ∷ [] else []
@@ -97,7 +106,14 @@ request_fields authority fields =
 abbrev pub via_value : ℕ → List ℕ
 via_value minor = if minor == 0 then codes "1.0 adaptproxy" else codes "1.1 adaptproxy"
 
--- what is added behind them, each where it holds
+-- what is added behind them, each where it holds: how long the body is
+abbrev pub framing_fields : Extra → List (List ℕ × List ℕ)
+framing_fields extra = when extra.empty (codes "Content-Length", codes "0") ++ when extra.chunked (codes "Transfer-Encoding", codes "chunked")
+
+-- and where the connection ends, and who sends it
+abbrev pub ending_fields : Extra → ℕ → List (List ℕ × List ℕ)
+ending_fields extra minor = when extra.close (codes "Connection", codes "close") ++ when extra.via (codes "Via", via_value minor)
+
 abbrev pub added_fields : Extra → ℕ → List (List ℕ × List ℕ)
 added_fields extra minor =
     when extra.empty (codes "Content-Length", codes "0") ++ when extra.chunked (codes "Transfer-Encoding", codes "chunked")
@@ -110,9 +126,12 @@ field_line f = f.0 ++ codes ": " ++ f.1 ++ codes "\r\n"
 abbrev pub field_lines : List (List ℕ × List ℕ) → List ℕ
 field_lines fields = flat_map field_line fields
 
+abbrev pub first_line : List ℕ → List ℕ
+first_line line = line ++ codes "\r\n"
+
 -- a head from its first line and its fields
 abbrev pub head_text : List ℕ → List (List ℕ × List ℕ) → List ℕ
-head_text first fields = first ++ codes "\r\n" ++ field_lines fields ++ codes "\r\n"
+head_text first fields = first_line first ++ field_lines fields ++ codes "\r\n"
 
 abbrev pub request_line : List ℕ → List ℕ → List ℕ
 request_line method target = method ++ codes " " ++ target ++ codes " HTTP/1.1"
@@ -124,6 +143,10 @@ three_digits n = (48 + n / 100) ∷ (48 + n / 10 % 10) ∷ (48 + n % 10) ∷ []
 -- a status line keeps the space behind its status, also before an empty phrase
 abbrev pub status_line : ℕ → List ℕ → List ℕ
 status_line status phrase = codes "HTTP/1.1 " ++ three_digits status ++ codes " " ++ phrase
+
+-- a target of this path and query, in absolute or in origin form
+abbrev pub form_of : Bool → List ℕ → List ℕ → List ℕ
+form_of absolute authority path = if absolute then codes "http://" ++ authority ++ rooted path else rooted path
 
 -- absolute form to a service, origin form to an origin
 abbrev pub target_form : Bool → List ℕ → List ℕ → List ℕ
@@ -137,6 +160,10 @@ request_text r authority absolute extra =
 -- the head of a response
 abbrev pub response_text : ResponseParts → Extra → List ℕ
 response_text r extra = head_text (status_line r.status r.phrase) (response_fields r.fields ++ added_fields extra r.minor)
+
+-- how long the text is, up to the greatest number of 64 bits
+abbrev pub size_of : List ℕ → ℕ
+size_of text = min (length text) (2 ^ 64 - 1)
 
 abbrev pub written_head : Message → List ℕ → Bool → Extra → List ℕ
 written_head (Request r) authority absolute extra = request_text r.now authority absolute extra

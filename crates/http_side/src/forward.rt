@@ -1,6 +1,7 @@
 //! What goes on to the next hop and to a service: the framing, the end of the user's connection, and the heads (RFC 9112,
 //! sections 6 and 9.6; RFC 9110, section 7.6).
-ghost use Rattle.std.specs.Prelude.{◌≡◌, IfOk};
+ghost use Rattle.std.specs.Prelude.{◌≡◌, length, IfOk};
+ghost use Rattle.std.specs.Vec.{vec_capacity};
 ghost use Rattle.http_side.specs.Lengths.{content_length, coding};
 ghost use Rattle.http_side.specs.Forward.{kept_length, has_no_place, is_response, has_body, has_own_body, is_to_old_user, unsized_framing, next_framing, closes, gets_zero, extra_of, forwarded, encapsulated, length_of, is_chunked};
 
@@ -185,7 +186,10 @@ impl<'u, 'm> Forward<'u, 'm> {
 /// The head as the next hop gets it. A request goes in origin form and as HTTP/1.1, with the authority of the user's target
 /// as its Host; fields that end at a proxy, and those that Connection names, stay behind.
 pub fn forward_head(alloc: Global, forward: &Forward<'_, '_>) -> Result<Vec<u8>, AllocError>
-    ensures { IfOk result (λ text. text.items ≡ forwarded forward.now) }
+    ensures text { IfOk result (λ text. text.items ≡ forwarded forward.now) }
+
+    // Its one allocation has just its length.
+    ensures room { IfOk result (λ text. vec_capacity text ≡ length text.items) }
 {
     let authority = authority_of(forward.user.target());
     written_head(alloc, forward.message, authority, false, forward.extra())
@@ -197,7 +201,10 @@ pub fn encapsulated_head(
     user: &HttpRequest,
     message: Message<'_>,
 ) -> Result<Vec<u8>, AllocError>
-    ensures { IfOk result (λ text. text.items ≡ encapsulated user.now message.entry) }
+    ensures text { IfOk result (λ text. text.items ≡ encapsulated user.now message.entry) }
+
+    // Its one allocation has just its length.
+    ensures room { IfOk result (λ text. vec_capacity text ≡ length text.items) }
 {
     let extra = Extra {
         empty: false,

@@ -17,6 +17,7 @@ mod lengths;
 mod refusal;
 mod request;
 mod response;
+mod sizes;
 mod targets;
 mod writing;
 

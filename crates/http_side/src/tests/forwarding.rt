@@ -250,27 +250,3 @@ fn early_answer_ends_the_connection(rt: HostRuntime) -> Result<(), Fail> {
     assert_eq!(rt; head.as_slice(), want);
     Ok(())
 }
-
-/// The room that is asked for at first is all that a head takes: the text that was read, two bytes a field line, two
-/// authorities, and 160 bytes for what is added.
-#[test]
-fn one_allocation_a_head(rt: HostRuntime) -> Result<(), Fail> {
-    let cases: [(&[u8], usize); 2] = [
-        (b"GET http://a HTTP/1.0\n\n", 185),
-        (b"GET http://a HTTP/1.0\nB:c\nD:e\n\n", 197),
-    ];
-    for (text, want) in cases {
-        let user = read_request(rt.alloc(), text, false)?;
-        let forward = Forward {
-            user: &user.value,
-            message: Message::Request(&user.value),
-            part: Part::Body,
-            body_read: true,
-        };
-        let head = forward_head(rt.alloc(), &forward)?;
-        assert_eq!(rt; head.capacity(), want);
-        let head = encapsulated_head(rt.alloc(), &user.value, Message::Request(&user.value))?;
-        assert_eq!(rt; head.capacity(), want);
-    }
-    Ok(())
-}
