@@ -77,7 +77,7 @@ impl Askers {
     /// Takes note of an event of a connection.
     pub(crate) fn note(&mut self, key: usize, readable: bool, writable: bool, closed: bool) {
         if let Some(seat) = self.seats.get_mut(key) {
-            seat.ready.note(readable, writable, closed);
+            let _ = seat.ready.note(readable, writable, closed);
         }
     }
 

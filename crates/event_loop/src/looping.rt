@@ -217,8 +217,11 @@ impl<K: Work> EventLoop<K> {
         }
         match place_of(event.token) {
             Some((key, side)) => {
-                self.work.note(key, side, event.told);
-                self.drive(rt, key)
+                if self.work.note(key, side, event.told) {
+                    self.drive(rt, key)
+                } else {
+                    Ok(())
+                }
             }
             None => {
                 let key = event.token / 4;

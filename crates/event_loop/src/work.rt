@@ -40,8 +40,8 @@ pub trait Work {
         now: u64,
     ) -> Option<usize>;
 
-    /// Takes note of an event of a connection.
-    fn note(&mut self, key: usize, side: Side, told: Told);
+    /// Takes note of an event of a connection. False where it tells nothing new, so that the exchange needn't be driven.
+    fn note(&mut self, key: usize, side: Side, told: Told) -> bool;
 
     /// Drives an exchange until each of its connections waits, or others should get their turn.
     fn drive<R: Wait + Dial + Clock>(

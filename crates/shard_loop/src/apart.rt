@@ -5,6 +5,7 @@ use crate::left::Left;
 use crate::phase::{Line, Phase};
 use crate::pools::Pools;
 use span_bank::{Bank, Ledgers};
+use std::boxed::Box;
 use std::sync::Wait;
 use std::sync::ledger::Ledger;
 
@@ -26,7 +27,7 @@ impl<B: Ledgers, Q: Ledger, A: Ledger> Left<B, Q, A> {
                 self.keep_lease(rt, pools, lease);
             }
             Phase::Moving { tx, lease } => {
-                let stake = stake_of(rt, bank, tx);
+                let stake = stake_of(rt, bank, Box::into_inner(tx));
                 self.keep_stake(rt, bank, stake);
                 if let Some(lease) = lease {
                     self.keep_lease(rt, pools, lease);

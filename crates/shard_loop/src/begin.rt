@@ -18,6 +18,8 @@ use proxy_rules::{
 };
 use socket_wire::{Dial, Side, SocketWire};
 use span_bank::{Ledgers, Pages, Stake};
+use std::alloc::{AllocError, AllocFailed, Global};
+use std::boxed::Box;
 use std::net::SocketAddrV4;
 use std::sync::Wait;
 use std::sync::ledger::Ledger;
@@ -29,7 +31,7 @@ use wire_kit::{Gate, Put, Wire};
 #[derive(Drop)]
 struct Message {
     plan: Plan,
-    side: Option<ServiceSide>,
+    side: Option<Box<ServiceSide>>,
     /// Where a request goes.
     address: Option<SocketAddrV4>,
     /// Whether the user waits to be told to send its body.
@@ -66,6 +68,20 @@ fn go_ahead(user: &mut SocketWire, waits: bool) -> bool {
     }
 }
 
+/// A side that was made, on the heap.
+fn placed(
+    alloc: Global,
+    side: Result<ServiceSide, AllocError>,
+) -> Result<Box<ServiceSide>, Reason> {
+    let Ok(side) = side else {
+        return Err(Reason::NoMemory);
+    };
+    match Box::new(alloc, side) {
+        Ok(side) => Ok(side),
+        Err(_) => Err(Reason::NoMemory),
+    }
+}
+
 impl<'a, B: Ledgers, Q: Ledger, A: Ledger, G: Gate> Desk<'a, B, Q, A, G> {
     /// The plan of a request, what its service is sent, and where it goes.
     fn plan_request(&self, ends: &Ends) -> Result<Message, Reason> {
@@ -80,10 +96,7 @@ impl<'a, B: Ledgers, Q: Ledger, A: Ledger, G: Gate> Desk<'a, B, Q, A, G> {
         let plan = request_plan(record, &self.limits, user);
         let side = match self.service(Point::Reqmod) {
             Some(service) if !plan.kind.is_plain() => {
-                match offer_request(self.alloc, service, &plan, user) {
-                    Ok(side) => Some(side),
-                    Err(_) => return Err(Reason::NoMemory),
-                }
+                Some(placed(self.alloc, offer_request(self.alloc, service, &plan, user))?)
             }
             _ => None,
         };
@@ -110,10 +123,10 @@ impl<'a, B: Ledgers, Q: Ledger, A: Ledger, G: Gate> Desk<'a, B, Q, A, G> {
         let plan = response_plan(record, &self.limits, user, response);
         let side = match self.service(Point::Respmod) {
             Some(service) if !plan.kind.is_plain() => {
-                match offer_response(self.alloc, service, &plan, user, response) {
-                    Ok(side) => Some(side),
-                    Err(_) => return Err(Reason::NoMemory),
-                }
+                Some(placed(
+                    self.alloc,
+                    offer_response(self.alloc, service, &plan, user, response),
+                )?)
             }
             _ => None,
         };
@@ -139,7 +152,7 @@ impl<'a, B: Ledgers, Q: Ledger, A: Ledger, G: Gate> Desk<'a, B, Q, A, G> {
         &mut self,
         rt: &R,
         at: At<'_>,
-        ends: Ends,
+        ends: Box<Ends>,
         point: Point,
         line: Option<Line<Q, A>>,
     ) -> Step<B, Q, A> {
@@ -151,7 +164,7 @@ impl<'a, B: Ledgers, Q: Ledger, A: Ledger, G: Gate> Desk<'a, B, Q, A, G> {
             Ok(message) => self.lease_for(rt, at, ends, message, line),
             Err(reason) => {
                 self.spare(rt, at, line);
-                self.refuse(at, ends.user, reason)
+                self.refuse_user(at, ends, reason)
             }
         }
     }
@@ -161,7 +174,7 @@ impl<'a, B: Ledgers, Q: Ledger, A: Ledger, G: Gate> Desk<'a, B, Q, A, G> {
         &mut self,
         rt: &R,
         at: At<'_>,
-        ends: Ends,
+        ends: Box<Ends>,
         message: Message,
         line: Option<Line<Q, A>>,
     ) -> Step<B, Q, A> {
@@ -179,7 +192,7 @@ impl<'a, B: Ledgers, Q: Ledger, A: Ledger, G: Gate> Desk<'a, B, Q, A, G> {
         };
         match found {
             Ok(line) => self.reserve(rt, at, ends, message, Some(line)),
-            Err(reason) => self.refuse(at, ends.user, reason),
+            Err(reason) => self.refuse_user(at, ends, reason),
         }
     }
 
@@ -188,7 +201,7 @@ impl<'a, B: Ledgers, Q: Ledger, A: Ledger, G: Gate> Desk<'a, B, Q, A, G> {
         &mut self,
         rt: &R,
         at: At<'_>,
-        ends: Ends,
+        ends: Box<Ends>,
         message: Message,
         line: Option<Line<Q, A>>,
     ) -> Step<B, Q, A> {
@@ -201,7 +214,7 @@ impl<'a, B: Ledgers, Q: Ledger, A: Ledger, G: Gate> Desk<'a, B, Q, A, G> {
             Ok(stake) => self.start(rt, at, ends, message, line, stake),
             Err(fault) => {
                 self.spare(rt, at, line);
-                self.refuse(at, ends.user, open_reason(fault))
+                self.refuse_user(at, ends, open_reason(fault))
             }
         }
     }
@@ -211,14 +224,14 @@ impl<'a, B: Ledgers, Q: Ledger, A: Ledger, G: Gate> Desk<'a, B, Q, A, G> {
         &mut self,
         rt: &R,
         at: At<'_>,
-        ends: Ends,
+        ends: Box<Ends>,
         message: &Message,
     ) -> Result<Sides, Unable> {
         let Ends {
             user,
             request,
             origin,
-        } = ends;
+        } = Box::into_inner(ends);
         if let Some(Origin { wire, side }) = origin {
             return Ok(Sides {
                 source: side,
@@ -250,7 +263,7 @@ impl<'a, B: Ledgers, Q: Ledger, A: Ledger, G: Gate> Desk<'a, B, Q, A, G> {
         &mut self,
         rt: &R,
         at: At<'_>,
-        ends: Ends,
+        ends: Box<Ends>,
         message: Message,
         line: Option<Line<Q, A>>,
         stake: Stake<B>,
@@ -291,7 +304,10 @@ impl<'a, B: Ledgers, Q: Ledger, A: Ledger, G: Gate> Desk<'a, B, Q, A, G> {
         let Message { plan, side, .. } = message;
         let (service, lease) = match line {
             Some(Line { wire, lease }) => match side {
-                Some(side) => (Some(ServiceLine { side, wire }), Some(lease)),
+                Some(side) => {
+                    let side = Box::into_inner(side);
+                    (Some(ServiceLine { side, wire }), Some(lease))
+                }
                 None => {
                     self.put_line(rt, at, wire, lease);
                     (None, None)
@@ -326,7 +342,13 @@ impl<'a, B: Ledgers, Q: Ledger, A: Ledger, G: Gate> Desk<'a, B, Q, A, G> {
             reused,
         };
         match Tx::new(self.alloc, start) {
-            Ok(tx) => Step::On(self.pass_gate(rt, at, tx, lease)),
+            Ok(tx) => match Box::new(self.alloc, tx) {
+                Ok(tx) => Step::On(self.pass_gate(rt, at, tx, lease)),
+                Err(AllocFailed { value }) => {
+                    self.end_moving(rt, value, lease);
+                    Step::Over
+                }
+            },
             Err(start) => {
                 self.undo(rt, start, lease);
                 Step::Over
@@ -363,7 +385,7 @@ impl<'a, B: Ledgers, Q: Ledger, A: Ledger, G: Gate> Desk<'a, B, Q, A, G> {
         &mut self,
         rt: &R,
         at: At<'_>,
-        tx: Moving<B>,
+        tx: Box<Moving<B>>,
         lease: Option<Leased<Q, A>>,
     ) -> Phase<B, Q, A> {
         let mut tx = tx;

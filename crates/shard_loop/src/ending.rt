@@ -10,6 +10,7 @@ use icap_client::ServiceSide;
 use proxy_rules::{HeadMaker, is_head, keeps_user};
 use socket_wire::SocketWire;
 use span_bank::{Ledgers, Pages};
+use std::boxed::Box;
 use std::sync::Wait;
 use std::sync::ledger::Ledger;
 use trace_core::{Point, Seen};
@@ -21,12 +22,15 @@ impl<'a, B: Ledgers, Q: Ledger, A: Ledger, G: Gate> Desk<'a, B, Q, A, G> {
         &mut self,
         rt: &R,
         at: At<'_>,
-        tx: Moving<B>,
+        tx: Box<Moving<B>>,
         lease: Option<Leased<Q, A>>,
     ) -> Step<B, Q, A> {
-        let parts = match tx.into_parts() {
+        let parts = match Box::into_inner(tx).into_parts() {
             Ok(parts) => parts,
-            Err(tx) => return Step::Waits(Phase::Moving { tx, lease }),
+            Err(tx) => {
+                self.end_moving(rt, tx, lease);
+                return Step::Over;
+            }
         };
         let Parts {
             stake,
@@ -97,11 +101,15 @@ impl<'a, B: Ledgers, Q: Ledger, A: Ledger, G: Gate> Desk<'a, B, Q, A, G> {
             None => false,
         };
         let side = SourceSide::response(self.alloc, to_head);
-        Step::On(Phase::Answer(Ends {
+        let ends = Ends {
             user,
             request,
             origin: Some(Origin { wire, side }),
-        }))
+        };
+        match Box::new(self.alloc, ends) {
+            Ok(ends) => Step::On(Phase::Answer(ends)),
+            Err(_) => Step::Over,
+        }
     }
 
     /// The user's next request comes on the same connection.
@@ -111,11 +119,15 @@ impl<'a, B: Ledgers, Q: Ledger, A: Ledger, G: Gate> Desk<'a, B, Q, A, G> {
         }
         let mut request = request;
         request.next();
-        Step::On(Phase::Head(Ends {
+        let ends = Ends {
             user,
             request,
             origin: None,
-        }))
+        };
+        match Box::new(self.alloc, ends) {
+            Ok(ends) => Step::On(Phase::Head(ends)),
+            Err(_) => Step::Over,
+        }
     }
 
     /// The response went to the user, or failed.

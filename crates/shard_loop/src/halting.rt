@@ -9,6 +9,7 @@ use adapt_turn::{Line as ServiceLine, Parts};
 use icap_client::ServiceSide;
 use socket_wire::SocketWire;
 use span_bank::{Bank, Ledgers, Pages, Stake};
+use std::boxed::Box;
 use std::sync::Wait;
 use std::sync::ledger::Ledger;
 use wire_kit::Gate;
@@ -57,13 +58,18 @@ impl<'a, B: Ledgers, Q: Ledger, A: Ledger, G: Gate> Desk<'a, B, Q, A, G> {
                 side: _,
             } => self.drop_line(rt, line),
             Phase::Moving { tx, lease } => {
-                let stake = stake_of(rt, self.shared.bank, tx);
-                self.shared.bank.close(rt, stake, Pages::none());
-                self.give_up(rt, lease);
+                self.end_moving(rt, Box::into_inner(tx), lease);
             }
             Phase::Head(_) | Phase::Answer(_) | Phase::Closing(_) => {}
             Phase::Refusing { user: _, rest: _ } => {}
         }
+    }
+
+    /// Ends a transaction: its reservation is closed, and its lease given up.
+    pub fn end_moving<R: Wait>(&mut self, rt: &R, tx: Moving<B>, lease: Option<Leased<Q, A>>) {
+        let stake = stake_of(rt, self.shared.bank, tx);
+        self.shared.bank.close(rt, stake, Pages::none());
+        self.give_up(rt, lease);
     }
 
     /// Gives a lease up, if there is one.

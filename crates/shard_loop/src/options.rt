@@ -14,6 +14,7 @@ use proxy_rules::{
 };
 use socket_wire::{Dial, Side, SocketWire};
 use span_bank::Ledgers;
+use std::boxed::Box;
 use std::net::{SocketAddr, SocketAddrV4};
 use std::sync::Wait;
 use std::sync::ledger::Ledger;
@@ -91,19 +92,22 @@ impl<'a, B: Ledgers, Q: Ledger, A: Ledger, G: Gate> Desk<'a, B, Q, A, G> {
         &mut self,
         rt: &R,
         at: At<'_>,
-        ends: Ends,
+        ends: Box<Ends>,
         point: Point,
         service: &ServicePoint,
     ) -> Step<B, Q, A> {
         let Ok(side) = ask_options(self.alloc, service) else {
-            return self.refuse(at, ends.user, Reason::NoMemory);
+            return self.refuse_user(at, ends, Reason::NoMemory);
+        };
+        let Ok(side) = Box::new(self.alloc, side) else {
+            return self.refuse_user(at, ends, Reason::NoMemory);
         };
         match self.lend(rt, at, point, service.address) {
             Ok(line) => {
                 self.seats.touch(at);
                 Step::On(Phase::Asking { ends, line, side })
             }
-            Err(reason) => self.refuse(at, ends.user, reason),
+            Err(reason) => self.refuse_user(at, ends, reason),
         }
     }
 
@@ -112,9 +116,9 @@ impl<'a, B: Ledgers, Q: Ledger, A: Ledger, G: Gate> Desk<'a, B, Q, A, G> {
         &mut self,
         rt: &R,
         at: At<'_>,
-        ends: Ends,
+        ends: Box<Ends>,
         line: Line<Q, A>,
-        side: OptionsSide,
+        side: Box<OptionsSide>,
     ) -> Step<B, Q, A> {
         let Line { wire, lease } = line;
         let mut wire = wire;
@@ -132,7 +136,7 @@ impl<'a, B: Ledgers, Q: Ledger, A: Ledger, G: Gate> Desk<'a, B, Q, A, G> {
             Ok(None) if !self.is_late(at) => Step::Waits(Phase::Asking { ends, line, side }),
             Ok(None) => {
                 self.drop_line(rt, line);
-                self.refuse(at, ends.user, Reason::Deadline)
+                self.refuse_user(at, ends, Reason::Deadline)
             }
             Err(fault) => self.options_failed(rt, at, ends, line, fault),
         }
@@ -143,7 +147,7 @@ impl<'a, B: Ledgers, Q: Ledger, A: Ledger, G: Gate> Desk<'a, B, Q, A, G> {
         &mut self,
         rt: &R,
         at: At<'_>,
-        ends: Ends,
+        ends: Box<Ends>,
         line: Line<Q, A>,
         fault: ClientFault,
     ) -> Step<B, Q, A> {
@@ -153,7 +157,7 @@ impl<'a, B: Ledgers, Q: Ledger, A: Ledger, G: Gate> Desk<'a, B, Q, A, G> {
         self.drop_line(rt, line);
         match self.service(point) {
             Some(service) if again => self.ask(rt, at, ends, point, service),
-            _ => self.refuse(at, ends.user, options_reason(fault)),
+            _ => self.refuse_user(at, ends, options_reason(fault)),
         }
     }
 
@@ -162,7 +166,7 @@ impl<'a, B: Ledgers, Q: Ledger, A: Ledger, G: Gate> Desk<'a, B, Q, A, G> {
         &mut self,
         rt: &R,
         at: At<'_>,
-        ends: Ends,
+        ends: Box<Ends>,
         line: Line<Q, A>,
         side: &OptionsSide,
         answer: &IcapResponse,
@@ -170,7 +174,7 @@ impl<'a, B: Ledgers, Q: Ledger, A: Ledger, G: Gate> Desk<'a, B, Q, A, G> {
         let point = ends.point();
         if let Err(reason) = self.keep_record(rt, at, point, answer) {
             self.drop_line(rt, line);
-            return self.refuse(at, ends.user, reason);
+            return self.refuse_user(at, ends, reason);
         }
         if is_reusable_after_options(side, answer) {
             self.begin(rt, at, ends, point, Some(line))

@@ -2,13 +2,15 @@
 
 use crate::pools::Leased;
 use adapt_turn::{Start, Tx};
-use http_relay::{NextHop, SourceSide};
+use http_relay::{NextHop, RelayFault, SourceSide};
 use icap_client::{OptionsSide, ServiceSide};
 use proxy_rules::HeadMaker;
 use socket_wire::SocketWire;
 use span_bank::Ledgers;
+use std::boxed::Box;
 use std::sync::ledger::Ledger;
 use trace_core::Point;
+use wire_kit::Wire;
 
 /// A transaction over sockets.
 pub type Moving<B> = Tx<
@@ -56,6 +58,24 @@ pub struct Ends {
 }
 
 impl Ends {
+    /// The user's end alone. All else goes.
+    pub fn into_user(self) -> SocketWire {
+        let Ends {
+            user,
+            request: _,
+            origin: _,
+        } = self;
+        user
+    }
+
+    /// A turn at the head of the user's request, and whether a byte of it came.
+    pub fn read_request(&mut self) -> (Result<bool, RelayFault>, bool) {
+        let (before, _) = self.user.counts();
+        let read = self.request.head_turn(&mut self.user);
+        let (after, _) = self.user.counts();
+        (read, after != before)
+    }
+
     /// Which message waits to be adapted.
     pub fn point(&self) -> Point {
         match self.origin {
@@ -65,23 +85,34 @@ impl Ends {
     }
 }
 
-/// What a user's connection is in the midst of.
+impl Origin {
+    /// A turn at the head of the origin's response, and whether a byte of it came.
+    pub fn read_response(&mut self) -> (Result<bool, RelayFault>, bool) {
+        let (before, _) = self.wire.counts();
+        let read = self.side.head_turn(&mut self.wire);
+        let (after, _) = self.wire.counts();
+        (read, after != before)
+    }
+}
+
+/// What a user's connection is in the midst of. What is large lies on the heap, so that an exchange goes from step to step as
+/// a few words.
 pub enum Phase<B: Ledgers, Q: Ledger, A: Ledger> {
     /// The head of the next request comes.
-    Head(Ends),
+    Head(Box<Ends>),
     /// A message waits for the answer of its service to an OPTIONS request.
     Asking {
-        ends: Ends,
+        ends: Box<Ends>,
         line: Line<Q, A>,
-        side: OptionsSide,
+        side: Box<OptionsSide>,
     },
     /// A message goes on.
     Moving {
-        tx: Moving<B>,
+        tx: Box<Moving<B>>,
         lease: Option<Leased<Q, A>>,
     },
     /// The head of the origin's response comes.
-    Answer(Ends),
+    Answer(Box<Ends>),
     /// The proxy's own refusal goes to the user.
     Refusing {
         user: SocketWire,

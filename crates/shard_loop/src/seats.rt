@@ -96,18 +96,26 @@ impl Seats {
         }
     }
 
-    /// Takes note of an event.
-    pub fn note(&self, key: usize, side: Side, readable: bool, writable: bool, closed: bool) {
+    /// Takes note of an event. False where it tells nothing new.
+    pub fn note(
+        &self,
+        key: usize,
+        side: Side,
+        readable: bool,
+        writable: bool,
+        closed: bool,
+    ) -> bool {
         let Some(seat) = self.all.get(key) else {
-            return;
+            return false;
         };
         let ready = match side {
             Side::User => &seat.user,
             Side::Origin => &seat.origin,
             Side::Service => &seat.service,
         };
-        if let Some(ready) = ready {
-            ready.note(readable, writable, closed);
+        match ready {
+            Some(ready) => ready.note(readable, writable, closed),
+            None => false,
         }
     }
 

@@ -15,6 +15,7 @@ use mio::net::TcpStream;
 use socket_wire::{Dial, Side, SocketWire};
 use span_bank::Ledgers;
 use std::alloc::{AllocError, Global};
+use std::boxed::Box;
 use std::io::Write;
 use std::sync::Wait;
 use std::sync::ledger::Ledger;
@@ -95,9 +96,11 @@ impl<'a, B: Ledgers, Q: Ledger, A: Ledger, G: Gate> Shard<'a, B, Q, A, G> {
                 side: _,
             } => {
                 self.desk.drop_line(rt, line);
-                try_refusal(ends.user, own_refusal(503));
+                try_refusal(Box::into_inner(ends).into_user(), own_refusal(503));
             }
-            Phase::Answer(ends) => try_refusal(ends.user, own_refusal(503)),
+            Phase::Answer(ends) => {
+                try_refusal(Box::into_inner(ends).into_user(), own_refusal(503));
+            }
             Phase::Refusing { user, rest } => try_refusal(user, rest),
             Phase::Head(_) | Phase::Closing(_) => {}
         }
@@ -107,7 +110,7 @@ impl<'a, B: Ledgers, Q: Ledger, A: Ledger, G: Gate> Shard<'a, B, Q, A, G> {
         &mut self,
         rt: &R,
         at: At<'_>,
-        tx: Moving<B>,
+        tx: Box<Moving<B>>,
         lease: Option<Leased<Q, A>>,
     ) {
         let mut tx = tx;
@@ -158,14 +161,18 @@ impl<'a, B: Ledgers, Q: Ledger, A: Ledger, G: Gate> Work for Shard<'a, B, Q, A, 
             request: SourceSide::request(self.desk.alloc),
             origin: None,
         };
+        let Ok(ends) = Box::new(self.desk.alloc, ends) else {
+            self.desk.seats.leave(key);
+            return None;
+        };
         self.keep(rt, key, Phase::Head(ends));
         Some(key)
     }
 
-    fn note(&mut self, key: usize, side: Side, told: Told) {
+    fn note(&mut self, key: usize, side: Side, told: Told) -> bool {
         self.desk
             .seats
-            .note(key, side, told.readable, told.writable, told.closed);
+            .note(key, side, told.readable, told.writable, told.closed)
     }
 
     fn drive<R: Wait + Dial + Clock>(

@@ -8,6 +8,7 @@ use http_side::own_refusal;
 use proxy_rules::{Reason, origin_head_reason, user_head_reason};
 use socket_wire::{Dial, SocketWire};
 use span_bank::Ledgers;
+use std::boxed::Box;
 use std::sync::Wait;
 use std::sync::ledger::Ledger;
 use std::time::Clock;
@@ -42,22 +43,20 @@ impl<'a, B: Ledgers, Q: Ledger, A: Ledger, G: Gate> Desk<'a, B, Q, A, G> {
         &mut self,
         rt: &R,
         at: At<'_>,
-        ends: Ends,
+        ends: Box<Ends>,
     ) -> Step<B, Q, A> {
         let mut ends = ends;
-        let (before, _) = ends.user.counts();
-        let read = ends.request.head_turn(&mut ends.user);
-        let (after, _) = ends.user.counts();
-        if after != before {
+        let (read, moved) = ends.read_request();
+        if moved {
             self.seats.touch(at);
         }
         match read {
             Ok(true) => self.offer(rt, at, ends, Point::Reqmod),
-            Ok(false) if after != before => Step::On(Phase::Head(ends)),
+            Ok(false) if moved => Step::On(Phase::Head(ends)),
             Ok(false) if self.is_late(at) => Step::Over,
             Ok(false) => Step::Waits(Phase::Head(ends)),
             Err(fault) => match user_head_reason(fault, ends.request.head_fault()) {
-                Some(reason) => self.refuse(at, ends.user, reason),
+                Some(reason) => self.refuse_user(at, ends, reason),
                 None => Step::Over,
             },
         }
@@ -68,25 +67,23 @@ impl<'a, B: Ledgers, Q: Ledger, A: Ledger, G: Gate> Desk<'a, B, Q, A, G> {
         &mut self,
         rt: &R,
         at: At<'_>,
-        ends: Ends,
+        ends: Box<Ends>,
     ) -> Step<B, Q, A> {
         let mut ends = ends;
         let Some(origin) = &mut ends.origin else {
             return Step::Over;
         };
-        let (before, _) = origin.wire.counts();
-        let read = origin.side.head_turn(&mut origin.wire);
-        let (after, _) = origin.wire.counts();
+        let (read, moved) = origin.read_response();
         let fault = origin.side.head_fault();
-        if after != before {
+        if moved {
             self.seats.touch(at);
         }
         match read {
             Ok(true) => self.offer(rt, at, ends, Point::Respmod),
-            Ok(false) if after != before => Step::On(Phase::Answer(ends)),
-            Ok(false) if self.is_late(at) => self.refuse(at, ends.user, Reason::Deadline),
+            Ok(false) if moved => Step::On(Phase::Answer(ends)),
+            Ok(false) if self.is_late(at) => self.refuse_user(at, ends, Reason::Deadline),
             Ok(false) => Step::Waits(Phase::Answer(ends)),
-            Err(relay) => self.refuse(at, ends.user, origin_head_reason(relay, fault)),
+            Err(relay) => self.refuse_user(at, ends, origin_head_reason(relay, fault)),
         }
     }
 
@@ -96,7 +93,7 @@ impl<'a, B: Ledgers, Q: Ledger, A: Ledger, G: Gate> Desk<'a, B, Q, A, G> {
         &mut self,
         rt: &R,
         at: At<'_>,
-        ends: Ends,
+        ends: Box<Ends>,
         point: Point,
     ) -> Step<B, Q, A> {
         match self.service(point) {
@@ -114,6 +111,11 @@ impl<'a, B: Ledgers, Q: Ledger, A: Ledger, G: Gate> Desk<'a, B, Q, A, G> {
             user,
             rest: own_refusal(reason.status()),
         })
+    }
+
+    /// The same, to a user whose message goes no further. All else of the exchange goes.
+    pub fn refuse_user(&mut self, at: At<'_>, ends: Box<Ends>, reason: Reason) -> Step<B, Q, A> {
+        self.refuse(at, Box::into_inner(ends).into_user(), reason)
     }
 
     /// Has a connection closed behind all that was said.

@@ -7,6 +7,7 @@ use crate::seats::At;
 use adapt_turn::{Side as Turning, Turned};
 use socket_wire::Dial;
 use span_bank::{Bank, Ledgers};
+use std::boxed::Box;
 use std::sync::Wait;
 use std::sync::ledger::Ledger;
 use std::time::Clock;
@@ -103,7 +104,7 @@ impl<'a, B: Ledgers, Q: Ledger, A: Ledger, G: Gate> Desk<'a, B, Q, A, G> {
         &mut self,
         rt: &R,
         at: At<'_>,
-        tx: Moving<B>,
+        tx: Box<Moving<B>>,
         lease: Option<Leased<Q, A>>,
     ) -> Step<B, Q, A> {
         let mut tx = tx;

@@ -23,17 +23,13 @@ impl Readiness {
     }
 
     /// Takes note of an event: there may be bytes to read, there may be room to write, the other side has ended its
-    /// bytes or the connection has failed.
-    pub fn note(&self, readable: bool, writable: bool, closed: bool) {
-        if readable || closed {
-            self.can_read.store(true, Ordering::Relaxed);
-        }
-        if writable || closed {
-            self.can_write.store(true, Ordering::Relaxed);
-        }
-        if closed {
-            self.closed.store(true, Ordering::Relaxed);
-        }
+    /// bytes or the connection has failed. True where that is news: a read or a write that found nothing to do may find
+    /// something now.
+    pub fn note(&self, readable: bool, writable: bool, closed: bool) -> bool {
+        let reads = (readable || closed) && raise(&self.can_read);
+        let writes = (writable || closed) && raise(&self.can_write);
+        let ends = closed && raise(&self.closed);
+        reads || writes || ends
     }
 
     /// Whether a read may find something.
@@ -60,4 +56,13 @@ impl Readiness {
     pub fn filled(&self) {
         self.can_write.store(false, Ordering::Relaxed);
     }
+}
+
+/// Sets a flag, and says whether it wasn't set.
+fn raise(flag: &AtomicBool) -> bool {
+    if flag.load(Ordering::Relaxed) {
+        return false;
+    }
+    flag.store(true, Ordering::Relaxed);
+    true
 }

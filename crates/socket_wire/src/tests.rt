@@ -30,11 +30,12 @@ fn counts_what_goes_over_loopback(rt: HostRuntime) -> Result<(), Fail> {
         Got::Wait,
         "nobody has told of the bytes"
     );
-    told.note(true, false, false);
+    assert!(rt; told.note(true, false, false));
+    assert!(rt; !told.note(true, true, false), "that is known");
     assert_eq!(rt; theirs.try_read(&mut buf), Got::Bytes(5));
     assert_eq!(rt; theirs.try_read(&mut buf), Got::Wait);
     ours.finish()?;
-    told.note(false, false, true);
+    assert!(rt; told.note(false, false, true));
     assert_eq!(rt; theirs.try_read(&mut buf), Got::Ended);
     assert_eq!(rt; theirs.counts(), (5, 0));
     assert_eq!(rt; ours.counts(), (0, 5));

@@ -65,9 +65,10 @@ impl Work for Echo {
         take_in(self, registry, stream).ok()
     }
 
-    fn note(&mut self, key: usize, _side: Side, told: Told) {
-        if let Some(conn) = self.all.get_mut(key) {
-            conn.ready.note(told.readable, told.writable, told.closed);
+    fn note(&mut self, key: usize, _side: Side, told: Told) -> bool {
+        match self.all.get_mut(key) {
+            Some(conn) => conn.ready.note(told.readable, told.writable, told.closed),
+            None => false,
         }
     }
 
