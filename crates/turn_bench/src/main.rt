@@ -11,7 +11,7 @@ mod tests;
 mod worked;
 
 use adapt_bytes::read_decimal;
-use measured::{Measured, measure};
+use measured::{Measured, is_empty, measure};
 use span_bank::{Bank, Blanks, Four};
 use std::alloc::Global;
 use std::marker::Brand;
@@ -25,7 +25,10 @@ use worked::Moving;
 /// The capacity of the budget.
 const CAPACITY: u64 = 65536;
 
-/// All measurements on one budget.
+/// What is told where a reservation is left: no exchange was whole.
+const LEFT: Measured = Measured { whole: 0, nanos: 0 };
+
+/// All measurements on one budget, which is empty behind them.
 fn run<H: Ledger, F: Ledger, S: Ledger, P: Ledger, R: Wait + Clock>(
     rt: &R,
     alloc: Global,
@@ -38,8 +41,13 @@ fn run<H: Ledger, F: Ledger, S: Ledger, P: Ledger, R: Wait + Clock>(
     requires pages { (blanks.pages.name ≡ P.name) × (blanks.pages.parts ≡ P.parts) × (blanks.pages.parts ≡ 3) }
 {
     let bank: Bank<Four<H, F, S, P>> = Bank::new(alloc, blanks, CAPACITY, 2, 64)?;
-    let measured = measure(rt, alloc, &bank, times)?;
-    Ok((measured, mem::size_of::<Moving<Four<H, F, S, P>>>()))
+    let measured = measure(rt, alloc, &bank, times);
+    let size = mem::size_of::<Moving<Four<H, F, S, P>>>();
+    if is_empty(alloc, bank) {
+        Ok((measured?, size))
+    } else {
+        Ok((LEFT, size))
+    }
 }
 
 fn main(rt: HostRuntime) -> io::Result<()> {

@@ -1,7 +1,7 @@
 //! The time that exchanges take.
 
 use crate::worked::{ADAPTED, ANSWER, GO_ON, Wires, begin, end};
-use adapt_turn::{Outcome, Side};
+use adapt_turn::Side;
 use span_bank::{Bank, Ledgers};
 use std::alloc::{AllocError, Global};
 use std::io;
@@ -26,7 +26,7 @@ pub struct Measured {
 
 /// The wires of an exchange in which each text goes at once, and which answer no more often than that: the origin gives its
 /// answer, the service reads and answers twice, and the user takes the head and then the body.
-pub fn wires(alloc: Global) -> Result<Wires, AllocError> {
+pub fn wires(alloc: Global) -> Result<Wires<MemoryWire>, AllocError> {
     let mut replies = GO_ON.to_vec(alloc)?;
     replies.extend_from_slice(ADAPTED)?;
     let given = vec![in alloc; ReadAnswer::Bytes(64)]?;
@@ -40,7 +40,7 @@ pub fn wires(alloc: Global) -> Result<Wires, AllocError> {
     })
 }
 
-/// The time that the turns of one exchange take, and whether it was whole.
+/// The time that the turns of one exchange take, and whether it was whole. An error where memory was wanted.
 fn one<B: Ledgers, R: Wait + Clock>(
     rt: &R,
     alloc: Global,
@@ -60,7 +60,18 @@ fn one<B: Ledgers, R: Wait + Clock>(
         Err(error) => Err(error),
     };
     let ended = end(rt, alloc, bank, tx)?;
-    Ok((took?, ended.outcome == Outcome::Done))
+    Ok((took?, ended.is_whole()?))
+}
+
+/// Whether no reservation is left of a budget.
+pub fn is_empty<B: Ledgers>(alloc: Global, bank: Bank<B>) -> bool {
+    match bank.audit(Vec::new(alloc)) {
+        Ok(audit) => audit.rows == 0 && audit.held == 0 && audit.claimed == 0,
+        Err((_, stakes, _)) => {
+            stakes.destroy_empty();
+            false
+        }
+    }
 }
 
 /// Runs so many exchanges, one behind the other.

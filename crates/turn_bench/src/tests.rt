@@ -4,17 +4,19 @@ ghost use Rattle.std.specs.Prelude.{◌≡◌};
 mod cases;
 mod cuts;
 mod moments;
+mod threads;
 
 use crate::measured::{ROUND, ROUNDS, wires};
-use crate::worked::{Ended, Moving, Wires, begin, end};
+use crate::worked::{Ended, Moving, TO_USER, Wires, begin, end};
 use adapt_turn::Outcome;
-use cases::{TO_SERVICE, TO_USER};
+use cases::TO_SERVICE;
 use span_bank::{Audit, Bank, Blanks, Four, Ledgers};
 use std::alloc::{AllocError, Global};
 use std::marker::Brand;
 use std::sync::Wait;
 use std::sync::ledger::Ledger;
 use std::test::*;
+use wire_kit::MemoryWire;
 
 /// What happens to a transaction.
 trait Play {
@@ -46,7 +48,7 @@ fn play_on<H: Ledger, F: Ledger, S: Ledger, P: Ledger, Y: Play, R: Wait>(
     rt: &R,
     alloc: Global,
     blanks: Blanks,
-    wires: Wires,
+    wires: Wires<MemoryWire>,
     play: &mut Y,
 ) -> Result<Option<(Ended, Audit)>, AllocError>
     requires held { (blanks.held.name ≡ H.name) × (blanks.held.parts ≡ H.parts) × (blanks.held.parts ≡ 3) }
@@ -73,7 +75,7 @@ fn play_on<H: Ledger, F: Ledger, S: Ledger, P: Ledger, Y: Play, R: Wait>(
 fn ended<Y: Play, R: Wait>(
     rt: &R,
     alloc: Global,
-    wires: Wires,
+    wires: Wires<MemoryWire>,
     play: &mut Y,
 ) -> Result<Option<Ended>, AllocError> {
     let played = play_on::<Brand, Brand, Brand, Brand, Y, R>(

@@ -4,15 +4,15 @@ ghost use Rattle.std.specs.Prelude.{◌≡◌, ◌≤◌, ◌^◌, IfSome};
 ghost use Rattle.plan_rules.specs.Claims.{claim_of};
 
 use adapt_turn::{Line, Outcome, Parts, Start, Tx};
-use http_relay::{NextHop, SourceSide};
+use http_relay::{NextHop, RelayFault, SourceSide};
 use icap_client::ServiceSide;
 use plan_rules::{Limits, claim};
 use proxy_rules::HeadMaker;
 use span_bank::{Bank, Ledgers, Pages, Stake};
 use std::alloc::{AllocError, Global};
 use std::sync::Wait;
-use trace_core::{Kind, Plan, Point};
-use wire_kit::{MemoryWire, ReadAnswer, WriteAnswer};
+use trace_core::{Cause, Kind, Plan, Point};
+use wire_kit::{MemoryWire, ReadAnswer, Wire, WriteAnswer};
 
 /// What the user asks for.
 pub const REQUEST: &[u8] = b"GET http://o.test/a.txt HTTP/1.1\r\nHost: o.test\r\n\r\n";
@@ -30,6 +30,14 @@ pub const GO_ON: &[u8] = b"ICAP/1.0 100 Continue\r\n\r\n";
 pub const ADAPTED: &[u8] =
     b"ICAP/1.0 200 OK\r\nISTag: \"adapt-1\"\r\nEncapsulated: res-hdr=0, res-body=38\r\n\r\nHTTP/1.1 200 OK\r\nContent-Length: 6\r\n\r\n6\r\nABCDEF\r\n0\r\n\r\n";
 
+/// All that the user gets.
+pub const TO_USER: &[u8] =
+    b"HTTP/1.1 200 OK\r\nContent-Length: 6\r\nVia: 1.1 adaptproxy\r\n\r\nABCDEF";
+
+/// The proxy's own answer where no memory was found.
+const UNAVAILABLE: &[u8] =
+    b"HTTP/1.1 503 Service Unavailable\r\nContent-Length: 0\r\nConnection: close\r\n\r\n";
+
 /// Where the service is.
 const HOST: &[u8] = b"127.0.0.1";
 
@@ -43,34 +51,37 @@ pub const DEADLINE: u64 = 60;
 /// The moment at which an exchange begins, in seconds.
 pub const BEGIN: u64 = 100;
 
-/// A transaction over wires in memory.
-pub type Moving<B> = Tx<
+/// A transaction over wires in memory, the origin's being one of these.
+pub type MovingOn<B, A> = Tx<
     B,
     SourceSide,
     ServiceSide,
     NextHop,
     HeadMaker,
-    MemoryWire,
+    A,
     MemoryWire,
     MemoryWire,
 >;
 
-/// What it begins with.
-type Starting<B> = Start<
+/// A transaction whose wires are all of one kind.
+pub type Moving<B> = MovingOn<B, MemoryWire>;
+
+/// What a transaction begins with.
+type Starting<B, A> = Start<
     B,
     SourceSide,
     ServiceSide,
     NextHop,
     HeadMaker,
-    MemoryWire,
+    A,
     MemoryWire,
     MemoryWire,
 >;
 
 /// The wires of an exchange.
 #[derive(Drop)]
-pub struct Wires {
-    pub origin: MemoryWire,
+pub struct Wires<A: Drop> {
+    pub origin: A,
     pub service: MemoryWire,
     pub user: MemoryWire,
 }
@@ -91,14 +102,35 @@ pub struct Ended {
     pub to_user: Vec<u8>,
 }
 
-/// Reads a head, which the wire gives in these many answers at most.
-fn read_head(side: &mut SourceSide, wire: &mut MemoryWire, answers: usize) -> bool {
-    for _ in 0..answers {
-        if let Ok(true) = side.head_turn(wire) {
-            return true;
+impl Ended {
+    /// Whether the user got the whole message, and no other end was told. An error where memory was wanted, and the user
+    /// got the proxy's own answer alone or a front of the message, behind which it is cut.
+    pub fn is_whole(&self) -> Result<bool, AllocError> {
+        let user = self.to_user.as_slice();
+        match self.outcome {
+            Outcome::Done => Ok(user == TO_USER),
+            Outcome::Fail(Cause::Memory) if user == UNAVAILABLE || TO_USER.starts_with(user) => {
+                Err(AllocError)
+            }
+            Outcome::Fail(_) => Ok(false),
         }
     }
-    false
+}
+
+/// Reads a head, which the wire gives in these many answers at most. An error where no memory is found for it.
+fn read_head(
+    side: &mut SourceSide,
+    wire: &mut impl Wire,
+    answers: usize,
+) -> Result<(), AllocError> {
+    for _ in 0..answers {
+        match side.head_turn(wire) {
+            Ok(true) => return Ok(()),
+            Err(RelayFault::NoMemory) => return Err(AllocError),
+            _ => {}
+        }
+    }
+    Ok(())
 }
 
 /// The user's side, whose request was read to its end.
@@ -106,7 +138,7 @@ fn user_side(alloc: Global) -> Result<SourceSide, AllocError> {
     let reads = vec![in alloc; ReadAnswer::Bytes(64)]?;
     let mut wire = MemoryWire::new(alloc, REQUEST.to_vec(alloc)?, reads, Vec::new(alloc))?;
     let mut side = SourceSide::request(alloc);
-    let _ = read_head(&mut side, &mut wire, 1);
+    read_head(&mut side, &mut wire, 1)?;
     let _ = side.read_turn(&mut wire, &mut []);
     Ok(side)
 }
@@ -135,13 +167,13 @@ fn limits_of(retry: bool) -> Limits {
 /// All sides of the exchange. The origin gives its head in these many answers at most.
 fn make_sides(
     alloc: Global,
-    origin: &mut MemoryWire,
+    origin: &mut impl Wire,
     plan: &Plan,
     answers: usize,
 ) -> Result<Sides, AllocError> {
     let user = user_side(alloc)?;
     let mut source = SourceSide::response(alloc, false);
-    let _ = read_head(&mut source, origin, answers);
+    read_head(&mut source, origin, answers)?;
     let service = ServiceSide::new(alloc, plan, HOST, PORT, PATH, REQUEST, RESPONSE)?;
     Ok(Sides {
         source,
@@ -151,13 +183,13 @@ fn make_sides(
 }
 
 /// Begins the exchange over these wires. `None` where it can't begin.
-pub fn begin<B: Ledgers>(
+pub fn begin<B: Ledgers, A: Wire + Drop>(
     rt: &impl Wait,
     alloc: Global,
     bank: &Bank<B>,
-    wires: Wires,
+    wires: Wires<A>,
     retry: bool,
-) -> Result<Option<Moving<B>>, AllocError> {
+) -> Result<Option<MovingOn<B, A>>, AllocError> {
     let mut wires = wires;
     let plan = plan_of(retry);
     let limits = limits_of(retry);
@@ -173,16 +205,16 @@ pub fn begin<B: Ledgers>(
 }
 
 /// Starts the transaction on its reservation.
-fn start<B: Ledgers>(
+fn start<B: Ledgers, A: Wire + Drop>(
     rt: &impl Wait,
     alloc: Global,
     bank: &Bank<B>,
-    wires: Wires,
+    wires: Wires<A>,
     sides: Sides,
     plan: Plan,
     limits: Limits,
     stake: Stake<B>,
-) -> Option<Moving<B>>
+) -> Option<MovingOn<B, A>>
     requires empty { (stake.held ≡ 0) × (stake.pages ≡ 0) }
     requires claim { stake.claim ≡ claim_of plan limits.window }
     requires small { stake.claim ≤ 2 ^ 40 }
@@ -225,7 +257,7 @@ fn start<B: Ledgers>(
 }
 
 /// Takes apart what no transaction began with.
-fn undo<B: Ledgers>(rt: &impl Wait, bank: &Bank<B>, start: Starting<B>)
+fn undo<B: Ledgers, A: Wire + Drop>(rt: &impl Wait, bank: &Bank<B>, start: Starting<B, A>)
     requires { (start.stake.held ≡ 0) × (start.stake.pages ≡ 0) }
 {
     let Start {
@@ -248,11 +280,11 @@ fn undo<B: Ledgers>(rt: &impl Wait, bank: &Bank<B>, start: Starting<B>)
 }
 
 /// Ends the exchange: one that isn't over fails. Its reservation is closed.
-pub fn end<B: Ledgers>(
+pub fn end<B: Ledgers, A: Wire + Drop>(
     rt: &impl Wait,
     alloc: Global,
     bank: &Bank<B>,
-    tx: Moving<B>,
+    tx: MovingOn<B, A>,
 ) -> Result<Ended, AllocError> {
     let mut tx = tx;
     tx.halt(rt, bank);

@@ -12,10 +12,6 @@ pub const TO_SERVICE: &[u8] =
 pub const TO_SERVICE_WITH_ALLOW: &[u8] =
     b"RESPMOD icap://127.0.0.1:1344/respmod/upper ICAP/1.0\r\nHost: 127.0.0.1:1344\r\nAllow: 204\r\nPreview: 4\r\nEncapsulated: req-hdr=0, res-hdr=50, res-body=88\r\n\r\nGET http://o.test/a.txt HTTP/1.1\r\nHost: o.test\r\n\r\nHTTP/1.1 200 OK\r\nContent-Length: 6\r\n\r\n4\r\nabcd\r\n0\r\n\r\n2\r\nef\r\n0\r\n\r\n";
 
-/// All that the user gets.
-pub const TO_USER: &[u8] =
-    b"HTTP/1.1 200 OK\r\nContent-Length: 6\r\nVia: 1.1 adaptproxy\r\n\r\nABCDEF";
-
 /// The proxy's own answer where the service failed.
 pub const BAD_GATEWAY: &[u8] =
     b"HTTP/1.1 502 Bad Gateway\r\nContent-Length: 0\r\nConnection: close\r\n\r\n";
@@ -72,7 +68,7 @@ fn writes_then(
 }
 
 /// The wires of an exchange that go by this pace. The service's 100 comes in reads of its own.
-pub fn paced(alloc: Global, pace: &Pace) -> Result<Wires, AllocError> {
+pub fn paced(alloc: Global, pace: &Pace) -> Result<Wires<MemoryWire>, AllocError> {
     let mut replies = GO_ON.to_vec(alloc)?;
     replies.extend_from_slice(ADAPTED)?;
     let given = reads_then(alloc, pace.origin, pace.size, pace.then)?;

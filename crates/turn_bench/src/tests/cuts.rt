@@ -1,8 +1,8 @@
 //! Wires that move a byte at a time, and wires that end or fail behind each byte.
 
-use super::cases::{BAD_GATEWAY, Pace, TO_SERVICE, TO_USER, paced, whole};
+use super::cases::{BAD_GATEWAY, Pace, TO_SERVICE, paced, whole};
 use super::{Rounds, ended};
-use crate::worked::{ADAPTED, ANSWER, Ended, GO_ON};
+use crate::worked::{ADAPTED, ANSWER, Ended, GO_ON, TO_USER};
 use adapt_turn::Outcome;
 use std::test::Fail;
 use trace_core::Cause;

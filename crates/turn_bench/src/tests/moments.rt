@@ -1,9 +1,9 @@
 //! The deadline, and a request that begins anew on a fresh connection.
 
-use super::cases::{Pace, TO_SERVICE_WITH_ALLOW, TO_USER, paced, whole};
+use super::cases::{Pace, TO_SERVICE_WITH_ALLOW, paced, whole};
 use super::{Play, ended};
 use crate::measured::{ROUND, wires};
-use crate::worked::{BEGIN, DEADLINE, Moving, Wires};
+use crate::worked::{BEGIN, DEADLINE, Moving, TO_USER, Wires};
 use adapt_turn::{Outcome, Side, Turned};
 use span_bank::{Bank, Ledgers};
 use std::sync::Wait;
