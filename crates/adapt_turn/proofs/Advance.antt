@@ -20,8 +20,9 @@ use Rattle.adapt_hold.proofs.Bodies.{ends}
 use Rattle.adapt_hold.proofs.Row.{Ran, ran, all_original, all_adapted}
 use Rattle.adapt_turn.specs.declared.parts.Passed.{Passed}
 use Rattle.adapt_turn.specs.Parts.{SourcePart, SendPart, HearPart, HopPart, stepped}
-use Rattle.adapt_turn.specs.Stands.{Texts, Stands}
+use Rattle.adapt_turn.specs.Stands.{Texts, Stands, IsDone}
 use Rattle.adapt_turn.proofs.Stepped.{part_ran}
+use Rattle.adapt_turn.proofs.Told.{never_done, done_reported}
 use Rattle.adapt_turn.proofs.Carry.{off_source, off_sending, off_replies, off_hop, source_off, sending_off, replies_off, hop_off, all_then, none_original, none_adapted, carry, carry_body, KeepsChosen, carry_chosen, own_then, own_source, own_replies, same_choices}
 
 -- what the sides say of events that aren't theirs
@@ -48,14 +49,15 @@ record Then (x : Seen) (events : List Event) (out original adapted : List ℕ) (
   hops_are : hops (after_all x events) (chosen (after_all x events) (original ++ all_original events out) (adapted ++ all_adapted events out)) t.next_taken t.back_taken
 
 assemble : (h k : Holding) (events : List Event) (out original adapted : List ℕ) (agrees : Seen → Type 0) (read sent heard : Seen → List ℕ → List ℕ → Type 0)
-    (hops : Seen → List ℕ → List ℕ → List ℕ → Type 0) (refuses : Seen → Type 0) (t : Texts)
+    (hops : Seen → List ℕ → List ℕ → List ℕ → Type 0) (refuses : Seen → Type 0) (delivered : List ℕ → List ℕ → List ℕ → Type 0) (t : Texts)
     → Ran h events out → k ≡ moved_all h events out → EndsBody h.original original → EndsBody h.adapted adapted
     → Then (shows h.history) events out original adapted agrees read sent heard hops t → refuses (after_all (shows h.history) events)
-    → Stands k agrees read sent heard hops refuses t
-assemble h k events out original adapted agrees read sent heard hops refuses t r is fo fa w rf =
+    → (IsDone (moved_all h events out).history → delivered (chosen (after_all (shows h.history) events) (original ++ all_original events out) (adapted ++ all_adapted events out)) t.next_taken t.back_taken)
+    → Stands k agrees read sent heard hops refuses delivered t
+assemble h k events out original adapted agrees read sent heard hops refuses delivered t r is fo fa w rf wd =
     let so : List ℕ = original ++ all_original events out in
     let sa : List ℕ = adapted ++ all_adapted events out in
-    subst (λ (y : Holding). Stands y agrees read sent heard hops refuses t) (sym is) (record {
+    subst (λ (y : Holding). Stands y agrees read sent heard hops refuses delivered t) (sym is) (record {
       original = so;
       adapted = sa;
       original_is = r.original original fo;
@@ -66,6 +68,7 @@ assemble h k events out original adapted agrees read sent heard hops refuses t r
       heard_is = subst (λ (y : Seen). heard y sa t.service_read) (sym r.seen) w.heard_is;
       hops_are = subst (λ (y : Seen). hops y (chosen y so sa) t.next_taken t.back_taken) (sym r.seen) w.hops_are;
       refuses_is = subst (λ (y : Seen). refuses y) (sym r.seen) rf;
+      done_is = λ n. subst (λ (y : Seen). delivered (chosen y so sa) t.next_taken t.back_taken) (sym r.seen) (wd n);
     })
 
 -- a relation of the source, or of what the service read, behind events that bring its body nothing
@@ -108,17 +111,17 @@ hops_kept hops h events out original adapted next back law t o m l p =
 
 -- The source's pass.
 
-pub source_stands : (h k : Holding) (ao an : Seen → Type 0) (ro rn sent heard : Seen → List ℕ → List ℕ → Type 0) (hops : Seen → List ℕ → List ℕ → List ℕ → Type 0) (refuses : Seen → Type 0)
+pub source_stands : (h k : Holding) (ao an : Seen → Type 0) (ro rn sent heard : Seen → List ℕ → List ℕ → Type 0) (hops : Seen → List ℕ → List ℕ → List ℕ → Type 0) (refuses : Seen → Type 0) (delivered : List ℕ → List ℕ → List ℕ → Type 0)
     (f0 f1 : Option RelayFault) (rests : Type 0) (before after_ : Past → Type 0) (passed : Passed) (t : Texts)
-    → Others an rn sent heard hops refuses → IsTied h → (d : SourcePart h k ro rn an f0 f1 rests before after_ passed)
-    → Stands h ao ro sent heard hops refuses t → Stands k an rn sent heard hops refuses (record t { source_read = t.source_read ++ d.delta })
-source_stands h k ao an ro rn sent heard hops refuses f0 f1 rests before after_ passed t u tied d s =
+    → Others an rn sent heard hops refuses → IsTied h → (shows h.history).closed ≡ false → (d : SourcePart h k ro rn an f0 f1 rests before after_ passed)
+    → Stands h ao ro sent heard hops refuses delivered t → Stands k an rn sent heard hops refuses delivered (record t { source_read = t.source_read ++ d.delta })
+source_stands h k ao an ro rn sent heard hops refuses delivered f0 f1 rests before after_ passed t u tied c d s =
     let x = shows h.history in
     let events = stepped passed.failed d.reported in
     let l = lengths h s.original s.adapted tied s.original_is s.adapted_is in
     let o = d.part.only in
     let m = d.part.runs in
-    assemble h k events d.out s.original s.adapted an rn sent heard hops refuses (record t { source_read = t.source_read ++ d.delta })
+    assemble h k events d.out s.original s.adapted an rn sent heard hops refuses delivered (record t { source_read = t.source_read ++ d.delta })
     (part_ran _ _ h k is_of_source d.reported d.out _ _ _ _ _ _ _ _ _ passed tied d.part) d.part.is s.original_is s.adapted_is (record {
       agrees_is = λ c. own_then an x passed.failed d.reported (λ cause a. u.agrees_on x (Fail cause) refl a) d.part.quiet d.agrees;
       read_is = own_source (λ y bs. rn y bs (t.source_read ++ d.delta)) x passed.failed d.reported d.out s.original (λ cause bs p. u.read_on x (Fail cause) bs (t.source_read ++ d.delta) refl p) o d.part.quiet
@@ -127,15 +130,17 @@ source_stands h k ao an ro rn sent heard hops refuses f0 f1 rests before after_ 
       heard_is = heard_kept heard x events d.out s.adapted t.service_read u.heard_on (all_then is_of_source off_replies (λ event q. (source_off event q).1) (λ cause. refl) passed.failed d.reported o) s.heard_is;
       hops_are = hops_kept hops h events d.out s.original s.adapted t.next_taken t.back_taken (u.hops_on t.next_taken t.back_taken) tied (all_then is_of_source off_hop (λ event q. (source_off event q).2) (λ cause. refl) passed.failed d.reported o) m l s.hops_are;
     }) (carry_any refuses u.refuses_on events x s.refuses_is)
+    (λ n. absurd (never_done h events d.out c m.may (part_ran _ _ h k is_of_source d.reported d.out _ _ _ _ _ _ _ _ _ passed tied d.part)
+    (all_then is_of_source off_hop (λ event q. (source_off event q).2) (λ cause. refl) passed.failed d.reported o) n))
 
 -- The service's pass that writes.
 
-pub send_stands : (h k : Holding) (agrees : Seen → Type 0) (read so sn ho hn : Seen → List ℕ → List ℕ → Type 0) (hops : Seen → List ℕ → List ℕ → List ℕ → Type 0) (refuses : Seen → Type 0)
+pub send_stands : (h k : Holding) (agrees : Seen → Type 0) (read so sn ho hn : Seen → List ℕ → List ℕ → Type 0) (hops : Seen → List ℕ → List ℕ → List ℕ → Type 0) (refuses : Seen → Type 0) (delivered : List ℕ → List ℕ → List ℕ → Type 0)
     (f0 f1 : Option ClientFault) (rests : Type 0) (before after_ : Past → Type 0) (passed : Passed) (t : Texts)
     → Others agrees read sn hn hops refuses → ((x : Seen) (adapted text : List ℕ) → ho x adapted text → hn x adapted text) → IsTied h
     → (shows h.history).closed ≡ false → (d : SendPart h k so sn f0 f1 rests before after_ passed)
-    → Stands h agrees read so ho hops refuses t → Stands k agrees read sn hn hops refuses (record t { service_taken = t.service_taken ++ d.delta })
-send_stands h k agrees read so sn ho hn hops refuses f0 f1 rests before after_ passed t u same tied c d s =
+    → Stands h agrees read so ho hops refuses delivered t → Stands k agrees read sn hn hops refuses delivered (record t { service_taken = t.service_taken ++ d.delta })
+send_stands h k agrees read so sn ho hn hops refuses delivered f0 f1 rests before after_ passed t u same tied c d s =
     let x = shows h.history in
     let events = stepped passed.failed d.reported in
     let l = lengths h s.original s.adapted tied s.original_is s.adapted_is in
@@ -143,7 +148,7 @@ send_stands h k agrees read so sn ho hn hops refuses f0 f1 rests before after_ p
     let m = d.part.runs in
     let os = all_then is_of_sending off_source (λ event q. (sending_off event q).0) (λ cause. refl) passed.failed d.reported o in
     let none : s.original ++ all_original events [] ≡ s.original = ap (λ (bs : List ℕ). s.original ++ bs) (none_original events [] os) ∙ append-nil s.original in
-    assemble h k events [] s.original s.adapted agrees read sn hn hops refuses (record t { service_taken = t.service_taken ++ d.delta })
+    assemble h k events [] s.original s.adapted agrees read sn hn hops refuses delivered (record t { service_taken = t.service_taken ++ d.delta })
     (part_ran _ _ h k is_of_sending d.reported [] _ _ _ _ _ _ _ _ _ passed tied d.part) d.part.is s.original_is s.adapted_is (record {
       agrees_is = λ w. carry agrees off_source u.agrees_on events x os (s.agrees_is c);
       read_is = read_kept read x events [] s.original t.source_read u.read_on os s.read_is;
@@ -155,22 +160,24 @@ send_stands h k agrees read so sn ho hn hops refuses f0 f1 rests before after_ p
       heard_is = heard_kept hn x events [] s.adapted t.service_read u.heard_on (all_then is_of_sending off_replies (λ event q. (sending_off event q).1) (λ cause. refl) passed.failed d.reported o) (same x s.adapted t.service_read s.heard_is);
       hops_are = hops_kept hops h events [] s.original s.adapted t.next_taken t.back_taken (u.hops_on t.next_taken t.back_taken) tied (all_then is_of_sending off_hop (λ event q. (sending_off event q).2) (λ cause. refl) passed.failed d.reported o) m l s.hops_are;
     }) (carry_any refuses u.refuses_on events x s.refuses_is)
+    (λ n. absurd (never_done h events [] c m.may (part_ran _ _ h k is_of_sending d.reported [] _ _ _ _ _ _ _ _ _ passed tied d.part)
+    (all_then is_of_sending off_hop (λ event q. (sending_off event q).2) (λ cause. refl) passed.failed d.reported o) n))
 
 -- The service's pass that reads.
 
-pub hear_stands : (h k : Holding) (agrees : Seen → Type 0) (read so sn ho hn : Seen → List ℕ → List ℕ → Type 0) (hops : Seen → List ℕ → List ℕ → List ℕ → Type 0) (refuses : Seen → Type 0)
+pub hear_stands : (h k : Holding) (agrees : Seen → Type 0) (read so sn ho hn : Seen → List ℕ → List ℕ → Type 0) (hops : Seen → List ℕ → List ℕ → List ℕ → Type 0) (refuses : Seen → Type 0) (delivered : List ℕ → List ℕ → List ℕ → Type 0)
     (f0 f1 : Option ClientFault) (rests : Type 0) (before after_ : Past → Type 0) (passed : Passed) (t : Texts)
     → Others agrees read sn hn hops refuses → ((x : Seen) (came text : List ℕ) → so x came text → sn x came text) → IsTied h
     → (shows h.history).closed ≡ false → (d : HearPart h k ho hn f0 f1 rests before after_ passed)
-    → Stands h agrees read so ho hops refuses t → Stands k agrees read sn hn hops refuses (record t { service_read = t.service_read ++ d.delta })
-hear_stands h k agrees read so sn ho hn hops refuses f0 f1 rests before after_ passed t u same tied c d s =
+    → Stands h agrees read so ho hops refuses delivered t → Stands k agrees read sn hn hops refuses delivered (record t { service_read = t.service_read ++ d.delta })
+hear_stands h k agrees read so sn ho hn hops refuses delivered f0 f1 rests before after_ passed t u same tied c d s =
     let x = shows h.history in
     let events = stepped passed.failed d.reported in
     let l = lengths h s.original s.adapted tied s.original_is s.adapted_is in
     let o = d.part.only in
     let m = d.part.runs in
     let os = all_then is_of_replies off_source (λ event q. (replies_off event q).0) (λ cause. refl) passed.failed d.reported o in
-    assemble h k events d.out s.original s.adapted agrees read sn hn hops refuses (record t { service_read = t.service_read ++ d.delta })
+    assemble h k events d.out s.original s.adapted agrees read sn hn hops refuses delivered (record t { service_read = t.service_read ++ d.delta })
     (part_ran _ _ h k is_of_replies d.reported d.out _ _ _ _ _ _ _ _ _ passed tied d.part) d.part.is s.original_is s.adapted_is (record {
       agrees_is = λ w. carry agrees off_source u.agrees_on events x os (s.agrees_is c);
       read_is = read_kept read x events d.out s.original t.source_read u.read_on os s.read_is;
@@ -180,6 +187,8 @@ hear_stands h k agrees read so sn ho hn hops refuses f0 f1 rests before after_ p
           (d.goes_on s.adapted t.service_read s.heard_is);
       hops_are = hops_kept hops h events d.out s.original s.adapted t.next_taken t.back_taken (u.hops_on t.next_taken t.back_taken) tied (all_then is_of_replies off_hop (λ event q. (replies_off event q).2) (λ cause. refl) passed.failed d.reported o) m l s.hops_are;
     }) (carry_any refuses u.refuses_on events x s.refuses_is)
+    (λ n. absurd (never_done h events d.out c m.may (part_ran _ _ h k is_of_replies d.reported d.out _ _ _ _ _ _ _ _ _ passed tied d.part)
+    (all_then is_of_replies off_hop (λ event q. (replies_off event q).2) (λ cause. refl) passed.failed d.reported o) n))
 
 -- The writer's pass: on the next hop's wire, or on the source's.
 
@@ -193,15 +202,18 @@ fail_hops hops h original adapted next back cause law t c l p =
     (subst (λ (bs : List ℕ). hops x (chosen x (original ++ []) bs) next back) (append-nil adapted)
     (law h.history.plan h.history.events (Fail cause) original adapted [] [] ((c, tt), t.legal) refl l.original_is l.adapted_is refl refl p))
 
-pub give_stands : (h k : Holding) (agrees : Seen → Type 0) (read sent heard : Seen → List ℕ → List ℕ → Type 0) (hopso hopsn : Seen → List ℕ → List ℕ → List ℕ → Type 0) (refuses : Seen → Type 0)
+pub give_stands : (h k : Holding) (agrees : Seen → Type 0) (read sent heard : Seen → List ℕ → List ℕ → Type 0) (hopso hopsn : Seen → List ℕ → List ℕ → List ℕ → Type 0) (refuses : Seen → Type 0) (before_done delivered : List ℕ → List ℕ → List ℕ → Type 0)
     (go gn : Seen → List ℕ → List ℕ → List ℕ → Type 0) (whole : List ℕ → List ℕ → List ℕ → Type 0) (f0 f1 : Option RelayFault) (rests : Type 0) (before after_ : Past → Type 0) (passed : Passed) (t t' : Texts)
     → Others agrees read sent heard hopsn refuses → IsTied h → (shows h.history).closed ≡ false → (d : HopPart h k go gn whole f0 f1 rests before after_ passed)
     → (t'.source_read ≡ t.source_read) → (t'.service_taken ≡ t.service_taken) → (t'.service_read ≡ t.service_read)
     → ((original adapted : List ℕ) → EndsBody h.original original → EndsBody h.adapted adapted
     → hopso (shows h.history) (chosen (shows h.history) original adapted) t.next_taken t.back_taken
     → hopsn (after_all (shows h.history) d.reported) (chosen (shows h.history) original adapted) t'.next_taken t'.back_taken)
-    → Stands h agrees read sent heard hopso refuses t → Stands k agrees read sent heard hopsn refuses t'
-give_stands h k agrees read sent heard hopso hopsn refuses go gn whole f0 f1 rests before after_ passed t t' u tied c d e1 e2 e3 own s =
+    → ((original adapted : List ℕ) → EndsBody h.original original → EndsBody h.adapted adapted → (after_all (shows h.history) d.reported).closed ≡ true
+    → hopso (shows h.history) (chosen (shows h.history) original adapted) t.next_taken t.back_taken
+    → delivered (chosen (shows h.history) original adapted) t'.next_taken t'.back_taken)
+    → Stands h agrees read sent heard hopso refuses before_done t → Stands k agrees read sent heard hopsn refuses delivered t'
+give_stands h k agrees read sent heard hopso hopsn refuses before_done delivered go gn whole f0 f1 rests before after_ passed t t' u tied c d e1 e2 e3 own whole_then s =
     let x = shows h.history in
     let events = stepped passed.failed d.reported in
     let l = lengths h s.original s.adapted tied s.original_is s.adapted_is in
@@ -213,7 +225,7 @@ give_stands h k agrees read sent heard hopso hopsn refuses go gn whole f0 f1 res
     ap (λ (bs : List ℕ). chosen (after_all x events) bs (s.adapted ++ all_adapted events [])) (ap (λ (bs : List ℕ). s.original ++ bs) (none_original events [] os) ∙ append-nil s.original)
     ∙ ap (λ (bs : List ℕ). chosen (after_all x events) s.original bs) (ap (λ (bs : List ℕ). s.adapted ++ bs) (none_adapted events [] oa) ∙ append-nil s.adapted)
     ∙ same_choices x events s.original s.adapted oa in
-    assemble h k events [] s.original s.adapted agrees read sent heard hopsn refuses t'
+    assemble h k events [] s.original s.adapted agrees read sent heard hopsn refuses delivered t'
     (part_ran _ _ h k is_of_hop d.reported [] _ _ _ _ _ _ _ _ _ passed tied d.part) d.part.is s.original_is s.adapted_is (record {
       agrees_is = λ w. carry agrees off_source u.agrees_on events x os (s.agrees_is c);
       read_is = subst (λ (bs : List ℕ). read (after_all x events) (s.original ++ all_original events []) bs) (sym e1) (read_kept read x events [] s.original t.source_read u.read_on os s.read_is);
@@ -225,17 +237,20 @@ give_stands h k agrees read sent heard hopso hopsn refuses go gn whole f0 f1 res
           (λ cause p. fail_hops hopsn h s.original s.adapted t'.next_taken t'.back_taken cause (u.hops_on t'.next_taken t'.back_taken) tied c l p)
           d.part.quiet (own s.original s.adapted s.original_is s.adapted_is s.hops_are));
     }) (carry_any refuses u.refuses_on events x s.refuses_is)
+    (λ n. subst (λ (bs : List ℕ). delivered bs t'.next_taken t'.back_taken) (sym body)
+    (whole_then s.original s.adapted s.original_is s.adapted_is
+    (done_reported h [] passed.failed d.reported (part_ran _ _ h k is_of_hop d.reported [] _ _ _ _ _ _ _ _ _ passed tied d.part) n) s.hops_are))
 
 -- A failure, and a new beginning, of which every side keeps what it says.
 
-pub fail_stands : (h k : Holding) (cause : Cause) (agrees : Seen → Type 0) (read sent heard : Seen → List ℕ → List ℕ → Type 0) (hops : Seen → List ℕ → List ℕ → List ℕ → Type 0) (refuses : Seen → Type 0) (t : Texts)
+pub fail_stands : (h k : Holding) (cause : Cause) (agrees : Seen → Type 0) (read sent heard : Seen → List ℕ → List ℕ → Type 0) (hops : Seen → List ℕ → List ℕ → List ℕ → Type 0) (refuses : Seen → Type 0) (delivered : List ℕ → List ℕ → List ℕ → Type 0) (t : Texts)
     → Others agrees read sent heard hops refuses → IsTied h → MayRun h (Fail cause ∷ []) [] → (shows h.history).closed ≡ false → k ≡ moved h (Fail cause) []
-    → Stands h agrees read sent heard hops refuses t → Stands k agrees read sent heard hops refuses t
-fail_stands h k cause agrees read sent heard hops refuses t u tied m c is s =
+    → Stands h agrees read sent heard hops refuses delivered t → Stands k agrees read sent heard hops refuses delivered t
+fail_stands h k cause agrees read sent heard hops refuses delivered t u tied m c is s =
     let x = shows h.history in
     let events : List Event = Fail cause ∷ [] in
     let l = lengths h s.original s.adapted tied s.original_is s.adapted_is in
-    assemble h k events [] s.original s.adapted agrees read sent heard hops refuses t
+    assemble h k events [] s.original s.adapted agrees read sent heard hops refuses delivered t
     (ran h events [] tied m.roomy m.may m.carried m.room) is s.original_is s.adapted_is (record {
       agrees_is = λ w. u.agrees_on x (Fail cause) refl (s.agrees_is c);
       read_is = read_kept read x events [] s.original t.source_read u.read_on (refl, tt) s.read_is;
@@ -243,22 +258,23 @@ fail_stands h k cause agrees read sent heard hops refuses t u tied m c is s =
       heard_is = heard_kept heard x events [] s.adapted t.service_read u.heard_on (refl, tt) s.heard_is;
       hops_are = hops_kept hops h events [] s.original s.adapted t.next_taken t.back_taken (u.hops_on t.next_taken t.back_taken) tied (refl, tt) m l s.hops_are;
     }) (carry_any refuses u.refuses_on events x s.refuses_is)
+    (λ n. absurd (never_done h events [] c m.may (ran h events [] tied m.roomy m.may m.carried m.room) (refl, tt) n))
 
 -- The request begins anew: of the replies nothing was read, and nothing of the request is taken yet.
-pub retry_stands : (h k : Holding) (agrees : Seen → Type 0) (read so sn ho hn : Seen → List ℕ → List ℕ → Type 0) (hops : Seen → List ℕ → List ℕ → List ℕ → Type 0) (refuses : Seen → Type 0) (t : Texts)
+pub retry_stands : (h k : Holding) (agrees : Seen → Type 0) (read so sn ho hn : Seen → List ℕ → List ℕ → Type 0) (hops : Seen → List ℕ → List ℕ → List ℕ → Type 0) (refuses : Seen → Type 0) (delivered : List ℕ → List ℕ → List ℕ → Type 0) (t : Texts)
     → Others agrees read sn hn hops refuses → IsTied h → IsRoomy h → MayFollow h.history.plan h.history.events Retry → k ≡ moved h Retry []
     → ((came taken adapted text : List ℕ) → (shows h.history).heard ≡ false → length came ≡ (shows h.history).received → so (shows h.history) came taken → ho (shows h.history) adapted text → sn (after (shows h.history) Retry) came [])
     → ((came taken adapted text : List ℕ) → (shows h.history).heard ≡ false → length came ≡ (shows h.history).received → so (shows h.history) came taken → ho (shows h.history) adapted text → hn (after (shows h.history) Retry) [] [])
     → ((adapted text : List ℕ) → ho (shows h.history) adapted text → (shows h.history).heard ≡ false → (adapted ≡ []) × (text ≡ []))
-    → Stands h agrees read so ho hops refuses t → Stands k agrees read sn hn hops refuses (record t { service_read = []; service_taken = [] })
-retry_stands h k agrees read so sn ho hn hops refuses t u tied roomy f is again_sent again_heard unheard s =
+    → Stands h agrees read so ho hops refuses delivered t → Stands k agrees read sn hn hops refuses delivered (record t { service_read = []; service_taken = [] })
+retry_stands h k agrees read so sn ho hn hops refuses delivered t u tied roomy f is again_sent again_heard unheard s =
     let x = shows h.history in
     let events : List Event = Retry ∷ [] in
     let m : MayRun h events [] = record { may = (f.0, f.1, tt); carried = omega arith; room = (tt, tt); roomy = roomy } in
     let l = lengths h s.original s.adapted tied s.original_is s.adapted_is in
     let quiet = f.1.3 in
     let none : s.adapted ++ [] ≡ [] = append-nil s.adapted ∙ (unheard s.adapted t.service_read s.heard_is quiet).0 in
-    assemble h k events [] s.original s.adapted agrees read sn hn hops refuses (record t { service_read = []; service_taken = [] })
+    assemble h k events [] s.original s.adapted agrees read sn hn hops refuses delivered (record t { service_read = []; service_taken = [] })
     (ran h events [] tied m.roomy m.may m.carried m.room) is s.original_is s.adapted_is (record {
       agrees_is = λ w. u.agrees_on x Retry refl (s.agrees_is f.0);
       read_is = read_kept read x events [] s.original t.source_read u.read_on (refl, tt) s.read_is;
@@ -266,3 +282,4 @@ retry_stands h k agrees read so sn ho hn hops refuses t u tied roomy f is again_
       heard_is = subst (λ (bs : List ℕ). hn (after x Retry) bs []) (sym none) (again_heard s.original t.service_taken s.adapted t.service_read quiet l.original_is s.sent_is s.heard_is);
       hops_are = hops_kept hops h events [] s.original s.adapted t.next_taken t.back_taken (u.hops_on t.next_taken t.back_taken) tied (refl, tt) m l s.hops_are;
     }) (carry_any refuses u.refuses_on events x s.refuses_is)
+    (λ n. absurd (never_done h events [] f.0 m.may (ran h events [] tied m.roomy m.may m.carried m.room) (refl, tt) n))

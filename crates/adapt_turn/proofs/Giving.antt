@@ -14,16 +14,17 @@ use Rattle.adapt_sides.specs.Turns.Gift.{nothing, message, refusal}
 use Rattle.adapt_hold.specs.Holding.{Holding, IsTied, shows}
 use Rattle.adapt_turn.specs.declared.parts.Passed.{Passed}
 use Rattle.adapt_turn.specs.Parts.{HopPart}
-use Rattle.adapt_turn.specs.Stands.{Texts, Stands, Goes, HopsAre, IsRefusing, user_gift, TakesAside}
+use Rattle.adapt_turn.specs.Stands.{Texts, Stands, Goes, HopsAre, IsRefusing, user_gift, TakesAside, IsDone, IsDelivered}
 use Rattle.adapt_turn.proofs.Advance.{Others, give_stands}
-use Rattle.adapt_turn.proofs.Hops.{next_gives, back_gives, next_begins, back_begins, IdleGives, next_refuses, back_refuses, next_refuses_on, back_refuses_on}
+use Rattle.adapt_turn.proofs.Hops.{next_gives, back_gives, next_whole, back_whole, next_begins, back_begins, IdleGives, next_refuses, back_refuses, next_refuses_on, back_refuses_on}
 use Rattle.adapt_turn.proofs.Together.{goes_still, of_five, still}
 
 -- the same, with what the writers say now
-rehop : (h : Holding) (agrees : Seen → Type 0) (read sent heard : Seen → List ℕ → List ℕ → Type 0) (hops hops' : Seen → List ℕ → List ℕ → List ℕ → Type 0) (refuses refuses' : Seen → Type 0) (t : Texts) (n b : List ℕ)
+rehop : (h : Holding) (agrees : Seen → Type 0) (read sent heard : Seen → List ℕ → List ℕ → Type 0) (hops hops' : Seen → List ℕ → List ℕ → List ℕ → Type 0) (refuses refuses' : Seen → Type 0) (done done' : List ℕ → List ℕ → List ℕ → Type 0) (t : Texts) (n b : List ℕ)
     → ((body : List ℕ) → hops (shows h.history) body t.next_taken t.back_taken → hops' (shows h.history) body n b) → (refuses (shows h.history) → refuses' (shows h.history))
-    → Stands h agrees read sent heard hops refuses t → Stands h agrees read sent heard hops' refuses' (record t { next_taken = n; back_taken = b })
-rehop h agrees read sent heard hops hops' refuses refuses' t n b f g s = record {
+    → (IsDone h.history → (body : List ℕ) → done body t.next_taken t.back_taken → done' body n b)
+    → Stands h agrees read sent heard hops refuses done t → Stands h agrees read sent heard hops' refuses' done' (record t { next_taken = n; back_taken = b })
+rehop h agrees read sent heard hops hops' refuses refuses' done done' t n b f g w s = record {
   original = s.original;
   adapted = s.adapted;
   original_is = s.original_is;
@@ -34,47 +35,52 @@ rehop h agrees read sent heard hops hops' refuses refuses' t n b f g s = record 
   heard_is = s.heard_is;
   hops_are = f (chosen (shows h.history) s.original s.adapted) s.hops_are;
   refuses_is = g s.refuses_is;
+  done_is = λ d. w d (chosen (shows h.history) s.original s.adapted) (s.done_is d);
 }
 
 -- More of a message goes out.
 
 pub next_goes : (h k : Holding) (agrees : Seen → Type 0) (read sent heard : Seen → List ℕ → List ℕ → Type 0) (ng ng' bg : Gift) (go gn bgiven : Seen → List ℕ → List ℕ → List ℕ → Type 0) (ao an baside : List ℕ → Type 0) (refusing : Bool)
-    (whole : List ℕ → List ℕ → List ℕ → Type 0) (f0 f1 : Option RelayFault) (rests : Type 0) (source service before after_ : Past → Type 0) (passed : Passed)
+    (whole bwhole before_done : List ℕ → List ℕ → List ℕ → Type 0) (f0 f1 : Option RelayFault) (rests : Type 0) (source service before after_ : Past → Type 0) (passed : Passed)
     → Others agrees read sent heard (HopsAre ng' bg gn an bgiven baside) (IsRefusing refusing ng' bg) → IsTied h → (shows h.history).closed ≡ false → bg ≡ nothing → (ng ≡ nothing → ⊥) → ng' ≡ ng
     → HopPart h k go gn whole f0 f1 rests before after_ passed
-    → Goes (Stands h agrees read sent heard (HopsAre ng bg go ao bgiven baside) (IsRefusing refusing ng bg)) (Stands k agrees read sent heard (HopsAre ng' bg gn an bgiven baside) (IsRefusing refusing ng' bg))
+    → Goes (Stands h agrees read sent heard (HopsAre ng bg go ao bgiven baside) (IsRefusing refusing ng bg) before_done) (Stands k agrees read sent heard (HopsAre ng' bg gn an bgiven baside) (IsRefusing refusing ng' bg) (IsDelivered refusing ng' bg whole an bwhole baside))
     source source service service before after_
-next_goes h k agrees read sent heard ng ng' bg go gn bgiven ao an baside refusing whole f0 f1 rests source service before after_ passed u tied c idle busy same d = record {
+next_goes h k agrees read sent heard ng ng' bg go gn bgiven ao an baside refusing whole bwhole before_done f0 f1 rests source service before after_ passed u tied c idle busy same d = record {
   delta = record { source_read = []; service_read = []; service_taken = []; next_taken = d.delta; back_taken = [] };
-  stands = λ t o. of_five (Stands k agrees read sent heard (HopsAre ng' bg gn an bgiven baside) (IsRefusing refusing ng' bg)) _ _ _ _ _ _ _ _ _ _
+  stands = λ t o. of_five (Stands k agrees read sent heard (HopsAre ng' bg gn an bgiven baside) (IsRefusing refusing ng' bg) (IsDelivered refusing ng' bg whole an bwhole baside)) _ _ _ _ _ _ _ _ _ _
       (sym (append-nil t.source_read)) (sym (append-nil t.service_read)) (sym (append-nil t.service_taken)) refl (sym (append-nil t.back_taken))
-      (give_stands h k agrees read sent heard (HopsAre ng bg go ao bgiven baside) (HopsAre ng' bg gn an bgiven baside) (IsRefusing refusing ng' bg) go gn whole f0 f1 rests before after_ passed t (record t { next_taken = t.next_taken ++ d.delta })
+      (give_stands h k agrees read sent heard (HopsAre ng bg go ao bgiven baside) (HopsAre ng' bg gn an bgiven baside) (IsRefusing refusing ng' bg) before_done (IsDelivered refusing ng' bg whole an bwhole baside) go gn whole f0 f1 rests before after_ passed t (record t { next_taken = t.next_taken ++ d.delta })
       u tied c d refl refl refl
       (λ original adapted f g p. next_gives ng ng' bg go gn bgiven ao an baside (shows h.history) (after_all (shows h.history) d.reported) (chosen (shows h.history) original adapted) t.next_taken t.back_taken d.delta c idle busy same
       (λ head taken q. d.goes_on original adapted head taken f g q) p)
-      (rehop h agrees read sent heard (HopsAre ng bg go ao bgiven baside) (HopsAre ng bg go ao bgiven baside) (IsRefusing refusing ng bg) (IsRefusing refusing ng' bg) t t.next_taken t.back_taken (λ body p. p)
-      (λ r. subst (λ (z : Gift). IsRefusing refusing z bg (shows h.history)) (sym same) r) o));
+      (λ original adapted f g w p. next_whole refusing ng ng' bg go bgiven whole bwhole ao an baside (shows h.history) (chosen (shows h.history) original adapted) t.next_taken t.back_taken d.delta c idle busy same o.refuses_is
+      (λ head taken q. d.done original adapted head taken f g w q) p)
+      (rehop h agrees read sent heard (HopsAre ng bg go ao bgiven baside) (HopsAre ng bg go ao bgiven baside) (IsRefusing refusing ng bg) (IsRefusing refusing ng' bg) before_done before_done t t.next_taken t.back_taken (λ body p. p)
+      (λ r. subst (λ (z : Gift). IsRefusing refusing z bg (shows h.history)) (sym same) r) (λ w body p. p) o));
   source = λ p b. still source p b;
   service = λ p b. still service p b;
   next = λ p b. let w = d.part.wire p b in (w.0, w.1, w.2);
 }
 
 pub back_goes : (h k : Holding) (agrees : Seen → Type 0) (read sent heard : Seen → List ℕ → List ℕ → Type 0) (ng bg bg' : Gift) (go gn ngiven : Seen → List ℕ → List ℕ → List ℕ → Type 0) (ao an naside : List ℕ → Type 0) (refusing : Bool)
-    (whole : List ℕ → List ℕ → List ℕ → Type 0) (f0 f1 : Option RelayFault) (rests : Type 0) (before after_ service next : Past → Type 0) (passed : Passed)
+    (whole nwhole before_done : List ℕ → List ℕ → List ℕ → Type 0) (f0 f1 : Option RelayFault) (rests : Type 0) (before after_ service next : Past → Type 0) (passed : Passed)
     → Others agrees read sent heard (HopsAre ng bg' ngiven naside gn an) (IsRefusing refusing ng bg') → IsTied h → (shows h.history).closed ≡ false → (bg ≡ nothing → ⊥) → bg' ≡ bg
     → HopPart h k go gn whole f0 f1 rests before after_ passed
-    → Goes (Stands h agrees read sent heard (HopsAre ng bg ngiven naside go ao) (IsRefusing refusing ng bg)) (Stands k agrees read sent heard (HopsAre ng bg' ngiven naside gn an) (IsRefusing refusing ng bg'))
+    → Goes (Stands h agrees read sent heard (HopsAre ng bg ngiven naside go ao) (IsRefusing refusing ng bg) before_done) (Stands k agrees read sent heard (HopsAre ng bg' ngiven naside gn an) (IsRefusing refusing ng bg') (IsDelivered refusing ng bg' nwhole naside whole an))
     before after_ service service next next
-back_goes h k agrees read sent heard ng bg bg' go gn ngiven ao an naside refusing whole f0 f1 rests before after_ service next passed u tied c busy same d = record {
+back_goes h k agrees read sent heard ng bg bg' go gn ngiven ao an naside refusing whole nwhole before_done f0 f1 rests before after_ service next passed u tied c busy same d = record {
   delta = record { source_read = []; service_read = []; service_taken = []; next_taken = []; back_taken = d.delta };
-  stands = λ t o. of_five (Stands k agrees read sent heard (HopsAre ng bg' ngiven naside gn an) (IsRefusing refusing ng bg')) _ _ _ _ _ _ _ _ _ _
+  stands = λ t o. of_five (Stands k agrees read sent heard (HopsAre ng bg' ngiven naside gn an) (IsRefusing refusing ng bg') (IsDelivered refusing ng bg' nwhole naside whole an)) _ _ _ _ _ _ _ _ _ _
       (sym (append-nil t.source_read)) (sym (append-nil t.service_read)) (sym (append-nil t.service_taken)) (sym (append-nil t.next_taken)) refl
-      (give_stands h k agrees read sent heard (HopsAre ng bg ngiven naside go ao) (HopsAre ng bg' ngiven naside gn an) (IsRefusing refusing ng bg') go gn whole f0 f1 rests before after_ passed t (record t { back_taken = t.back_taken ++ d.delta })
+      (give_stands h k agrees read sent heard (HopsAre ng bg ngiven naside go ao) (HopsAre ng bg' ngiven naside gn an) (IsRefusing refusing ng bg') before_done (IsDelivered refusing ng bg' nwhole naside whole an) go gn whole f0 f1 rests before after_ passed t (record t { back_taken = t.back_taken ++ d.delta })
       u tied c d refl refl refl
       (λ original adapted f g p. back_gives ng bg bg' go gn ngiven ao an naside (shows h.history) (after_all (shows h.history) d.reported) (chosen (shows h.history) original adapted) t.next_taken t.back_taken d.delta c busy same
       (λ head taken q. d.goes_on original adapted head taken f g q) p)
-      (rehop h agrees read sent heard (HopsAre ng bg ngiven naside go ao) (HopsAre ng bg ngiven naside go ao) (IsRefusing refusing ng bg) (IsRefusing refusing ng bg') t t.next_taken t.back_taken (λ body p. p)
-      (λ r. subst (λ (z : Gift). IsRefusing refusing ng z (shows h.history)) (sym same) r) o));
+      (λ original adapted f g w p. back_whole refusing ng bg bg' go ngiven whole nwhole ao an naside (shows h.history) (chosen (shows h.history) original adapted) t.next_taken t.back_taken d.delta c busy same o.refuses_is
+      (λ head taken q. d.done original adapted head taken f g w q) p)
+      (rehop h agrees read sent heard (HopsAre ng bg ngiven naside go ao) (HopsAre ng bg ngiven naside go ao) (IsRefusing refusing ng bg) (IsRefusing refusing ng bg') before_done before_done t t.next_taken t.back_taken (λ body p. p)
+      (λ r. subst (λ (z : Gift). IsRefusing refusing ng z (shows h.history)) (sym same) r) (λ w body p. p) o));
   source = λ p b. let w = d.part.wire p b in (w.0, w.1, w.2);
   service = λ p b. still service p b;
   next = λ p b. still next p b;
@@ -85,25 +91,25 @@ back_goes h k agrees read sent heard ng bg bg' go gn ngiven ao an naside refusin
 begin_open : (refusing : Bool) (ng ng' bg bg' : Gift) (x : Seen) → x.closed ≡ false → IsRefusing refusing ng bg x → IsRefusing refusing ng' bg' x
 begin_open refusing ng ng' bg bg' x c r = λ e. absurd (false≢true (sym c ∙ (r e).0))
 
-pub next_begin_goes : (h : Holding) (agrees : Seen → Type 0) (read sent heard : Seen → List ℕ → List ℕ → Type 0) (ng ng' bg : Gift) (go gn bgiven : Seen → List ℕ → List ℕ → List ℕ → Type 0) (ao an baside : List ℕ → Type 0) (refusing : Bool) (head : List ℕ) (source service next : Past → Type 0)
+pub next_begin_goes : (h : Holding) (agrees : Seen → Type 0) (read sent heard : Seen → List ℕ → List ℕ → Type 0) (ng ng' bg : Gift) (go gn bgiven : Seen → List ℕ → List ℕ → List ℕ → Type 0) (ao an baside : List ℕ → Type 0) (refusing : Bool) (done done' : List ℕ → List ℕ → List ℕ → Type 0) (head : List ℕ) (source service next : Past → Type 0)
     → (shows h.history).closed ≡ false → ng ≡ nothing → bg ≡ nothing → ng' ≡ message → IdleGives ng go ao
     → ((y : Seen) (none bytes taken : List ℕ) → go y none bytes taken → gn y head bytes taken)
-    → Goes (Stands h agrees read sent heard (HopsAre ng bg go ao bgiven baside) (IsRefusing refusing ng bg)) (Stands h agrees read sent heard (HopsAre ng' bg gn an bgiven baside) (IsRefusing refusing ng' bg))
+    → Goes (Stands h agrees read sent heard (HopsAre ng bg go ao bgiven baside) (IsRefusing refusing ng bg) done) (Stands h agrees read sent heard (HopsAre ng' bg gn an bgiven baside) (IsRefusing refusing ng' bg) done')
     source source service service next next
-next_begin_goes h agrees read sent heard ng ng' bg go gn bgiven ao an baside refusing head source service next c n b m idle begin =
-    goes_still _ _ source service next (λ t o. rehop h agrees read sent heard (HopsAre ng bg go ao bgiven baside) (HopsAre ng' bg gn an bgiven baside) (IsRefusing refusing ng bg) (IsRefusing refusing ng' bg) t t.next_taken t.back_taken
+next_begin_goes h agrees read sent heard ng ng' bg go gn bgiven ao an baside refusing done done' head source service next c n b m idle begin =
+    goes_still _ _ source service next (λ t o. rehop h agrees read sent heard (HopsAre ng bg go ao bgiven baside) (HopsAre ng' bg gn an bgiven baside) (IsRefusing refusing ng bg) (IsRefusing refusing ng' bg) done done' t t.next_taken t.back_taken
     (λ body p. next_begins ng ng' bg go gn bgiven ao an baside (shows h.history) head body t.next_taken t.back_taken c n b m idle begin p)
-    (begin_open refusing ng ng' bg bg (shows h.history) c) o)
+    (begin_open refusing ng ng' bg bg (shows h.history) c) (λ w body p. absurd (false≢true (sym c ∙ w.0))) o)
 
-pub back_begin_goes : (h : Holding) (agrees : Seen → Type 0) (read sent heard : Seen → List ℕ → List ℕ → Type 0) (ng bg bg' : Gift) (go gn ngiven : Seen → List ℕ → List ℕ → List ℕ → Type 0) (ao an naside : List ℕ → Type 0) (refusing : Bool) (head : List ℕ) (source service next : Past → Type 0)
+pub back_begin_goes : (h : Holding) (agrees : Seen → Type 0) (read sent heard : Seen → List ℕ → List ℕ → Type 0) (ng bg bg' : Gift) (go gn ngiven : Seen → List ℕ → List ℕ → List ℕ → Type 0) (ao an naside : List ℕ → Type 0) (refusing : Bool) (done done' : List ℕ → List ℕ → List ℕ → Type 0) (head : List ℕ) (source service next : Past → Type 0)
     → (shows h.history).closed ≡ false → ng ≡ nothing → bg ≡ nothing → bg' ≡ message → IdleGives bg go ao
     → ((y : Seen) (none bytes taken : List ℕ) → go y none bytes taken → gn y head bytes taken)
-    → Goes (Stands h agrees read sent heard (HopsAre ng bg ngiven naside go ao) (IsRefusing refusing ng bg)) (Stands h agrees read sent heard (HopsAre ng bg' ngiven naside gn an) (IsRefusing refusing ng bg'))
+    → Goes (Stands h agrees read sent heard (HopsAre ng bg ngiven naside go ao) (IsRefusing refusing ng bg) done) (Stands h agrees read sent heard (HopsAre ng bg' ngiven naside gn an) (IsRefusing refusing ng bg') done')
     source source service service next next
-back_begin_goes h agrees read sent heard ng bg bg' go gn ngiven ao an naside refusing head source service next c n b m idle begin =
-    goes_still _ _ source service next (λ t o. rehop h agrees read sent heard (HopsAre ng bg ngiven naside go ao) (HopsAre ng bg' ngiven naside gn an) (IsRefusing refusing ng bg) (IsRefusing refusing ng bg') t t.next_taken t.back_taken
+back_begin_goes h agrees read sent heard ng bg bg' go gn ngiven ao an naside refusing done done' head source service next c n b m idle begin =
+    goes_still _ _ source service next (λ t o. rehop h agrees read sent heard (HopsAre ng bg ngiven naside go ao) (HopsAre ng bg' ngiven naside gn an) (IsRefusing refusing ng bg) (IsRefusing refusing ng bg') done done' t t.next_taken t.back_taken
     (λ body p. back_begins ng bg bg' go gn ngiven ao an naside (shows h.history) head body t.next_taken t.back_taken c n b m idle begin p)
-    (begin_open refusing ng ng bg bg' (shows h.history) c) o)
+    (begin_open refusing ng ng bg bg' (shows h.history) c) (λ w body p. absurd (false≢true (sym c ∙ w.0))) o)
 
 -- A refusal takes the message's place.
 
@@ -111,76 +117,79 @@ refusal_no_message : (g : Gift) (status : ℕ) → g ≡ refusal status → g �
 refusal_no_message g status e f = let d : refusal status ≡ message = sym e ∙ f in absurd cc
 
 pub next_refuse_goes : {K : Type 0} (given : Seen → List ℕ → List ℕ → List ℕ → K → Type 0) (aside : List ℕ → K → Type 0) (gift : K → Gift) (untouched : K → Bool)
-    (h : Holding) (agrees : Seen → Type 0) (read sent heard : Seen → List ℕ → List ℕ → Type 0) (next next' back : K) (refusing r : Bool) (status : ℕ) (source service wire : Past → Type 0)
+    (h : Holding) (agrees : Seen → Type 0) (read sent heard : Seen → List ℕ → List ℕ → Type 0) (next next' back : K) (refusing r : Bool) (done done' : List ℕ → List ℕ → List ℕ → Type 0) (status : ℕ) (source service wire : Past → Type 0)
     → ((x : Seen) (head body taken : List ℕ) (s : K) → untouched s ≡ true → given x head body taken s → (taken ≡ []) × (x.original_delivered ≡ 0) × (x.adapted_delivered ≡ 0))
     → ((taken : List ℕ) (s : K) → untouched s ≡ true → aside taken s → taken ≡ [])
-    → (shows h.history).closed ≡ true → (shows h.history).plan.point ≡ Respmod
+    → (shows h.history).closed ≡ true → (IsDone h.history → ⊥) → (shows h.history).plan.point ≡ Respmod
     → (r ≡ true → untouched next ≡ true) → (r ≡ true → gift next' ≡ refusal status) → (r ≡ true → aside [] next') → (r ≡ false → next' ≡ next)
-    → Goes (Stands h agrees read sent heard (HopsAre (gift next) (gift back) (λ x head body taken. given x head body taken next) (λ taken. aside taken next) (λ x head body taken. given x head body taken back) (λ taken. aside taken back)) (IsRefusing refusing (gift next) (gift back)))
-    (Stands h agrees read sent heard (HopsAre (gift next') (gift back) (λ x head body taken. given x head body taken next') (λ taken. aside taken next') (λ x head body taken. given x head body taken back) (λ taken. aside taken back)) (IsRefusing r (gift next') (gift back)))
+    → Goes (Stands h agrees read sent heard (HopsAre (gift next) (gift back) (λ x head body taken. given x head body taken next) (λ taken. aside taken next) (λ x head body taken. given x head body taken back) (λ taken. aside taken back)) (IsRefusing refusing (gift next) (gift back)) done)
+    (Stands h agrees read sent heard (HopsAre (gift next') (gift back) (λ x head body taken. given x head body taken next') (λ taken. aside taken next') (λ x head body taken. given x head body taken back) (λ taken. aside taken back)) (IsRefusing r (gift next') (gift back)) done')
     source source service service wire wire
-next_refuse_goes {K} given aside gift untouched h agrees read sent heard next next' back refusing true status source service wire lg la c point u g a same =
-    goes_still _ _ source service wire (λ t o. rehop h agrees read sent heard _ _ (IsRefusing refusing (gift next) (gift back)) (IsRefusing true (gift next') (gift back)) t t.next_taken t.back_taken
+next_refuse_goes {K} given aside gift untouched h agrees read sent heard next next' back refusing true done done' status source service wire lg la c undone point u g a same =
+    goes_still _ _ source service wire (λ t o. rehop h agrees read sent heard _ _ (IsRefusing refusing (gift next) (gift back)) (IsRefusing true (gift next') (gift back)) done done' t t.next_taken t.back_taken
     (λ body p. next_refuses (gift next) (gift next') (gift back) (λ x head body taken. given x head body taken next) (λ x head body taken. given x head body taken next') (λ x head body taken. given x head body taken back)
     (λ taken. aside taken next) (λ taken. aside taken next') (λ taken. aside taken back) (shows h.history) body t.next_taken t.back_taken c
     (λ x head body taken q. lg x head body taken next (u refl) q) (λ taken q. la taken next (u refl) q) (a refl) p)
-    (λ r e. (c, λ m. refusal_no_message (gift next') status (g refl) (subst (λ (z : Point). user_gift z (gift next') (gift back) ≡ message) point m))) o)
-next_refuse_goes {K} given aside gift untouched h agrees read sent heard next next' back refusing false status source service wire lg la c point u g a same =
+    (λ r e. (c, λ m. refusal_no_message (gift next') status (g refl) (subst (λ (z : Point). user_gift z (gift next') (gift back) ≡ message) point m))) (λ w body p. absurd (undone w)) o)
+next_refuse_goes {K} given aside gift untouched h agrees read sent heard next next' back refusing false done done' status source service wire lg la c undone point u g a same =
     goes_still _ _ source service wire (λ t o.
-    subst (λ (z : K). Stands h agrees read sent heard (HopsAre (gift z) (gift back) (λ x head body taken. given x head body taken z) (λ taken. aside taken z) (λ x head body taken. given x head body taken back) (λ taken. aside taken back)) (IsRefusing false (gift z) (gift back)) t) (sym (same refl))
-    (rehop h agrees read sent heard _ _ (IsRefusing refusing (gift next) (gift back)) (IsRefusing false (gift next) (gift back)) t t.next_taken t.back_taken (λ body p. p) (λ r e. absurd (false≢true e)) o))
+    subst (λ (z : K). Stands h agrees read sent heard (HopsAre (gift z) (gift back) (λ x head body taken. given x head body taken z) (λ taken. aside taken z) (λ x head body taken. given x head body taken back) (λ taken. aside taken back)) (IsRefusing false (gift z) (gift back)) done' t) (sym (same refl))
+    (rehop h agrees read sent heard _ _ (IsRefusing refusing (gift next) (gift back)) (IsRefusing false (gift next) (gift back)) done done' t t.next_taken t.back_taken (λ body p. p) (λ r e. absurd (false≢true e)) (λ w body p. absurd (undone w)) o))
 
 pub back_refuse_goes : {K : Type 0} (given : Seen → List ℕ → List ℕ → List ℕ → K → Type 0) (aside : List ℕ → K → Type 0) (gift : K → Gift) (untouched : K → Bool)
-    (h : Holding) (agrees : Seen → Type 0) (read sent heard : Seen → List ℕ → List ℕ → Type 0) (next back back' : K) (refusing r : Bool) (status : ℕ) (source service wire : Past → Type 0)
+    (h : Holding) (agrees : Seen → Type 0) (read sent heard : Seen → List ℕ → List ℕ → Type 0) (next back back' : K) (refusing r : Bool) (done done' : List ℕ → List ℕ → List ℕ → Type 0) (status : ℕ) (source service wire : Past → Type 0)
     → ((x : Seen) (head body taken : List ℕ) (s : K) → untouched s ≡ true → given x head body taken s → (taken ≡ []) × (x.original_delivered ≡ 0) × (x.adapted_delivered ≡ 0))
     → ((taken : List ℕ) (s : K) → untouched s ≡ true → aside taken s → taken ≡ [])
-    → (shows h.history).closed ≡ true → (shows h.history).plan.point ≡ Reqmod
+    → (shows h.history).closed ≡ true → (IsDone h.history → ⊥) → (shows h.history).plan.point ≡ Reqmod
     → (r ≡ true → untouched back ≡ true) → (r ≡ true → gift back' ≡ refusal status) → (r ≡ true → aside [] back') → (r ≡ false → back' ≡ back)
-    → Goes (Stands h agrees read sent heard (HopsAre (gift next) (gift back) (λ x head body taken. given x head body taken next) (λ taken. aside taken next) (λ x head body taken. given x head body taken back) (λ taken. aside taken back)) (IsRefusing refusing (gift next) (gift back)))
-    (Stands h agrees read sent heard (HopsAre (gift next) (gift back') (λ x head body taken. given x head body taken next) (λ taken. aside taken next) (λ x head body taken. given x head body taken back') (λ taken. aside taken back')) (IsRefusing r (gift next) (gift back')))
+    → Goes (Stands h agrees read sent heard (HopsAre (gift next) (gift back) (λ x head body taken. given x head body taken next) (λ taken. aside taken next) (λ x head body taken. given x head body taken back) (λ taken. aside taken back)) (IsRefusing refusing (gift next) (gift back)) done)
+    (Stands h agrees read sent heard (HopsAre (gift next) (gift back') (λ x head body taken. given x head body taken next) (λ taken. aside taken next) (λ x head body taken. given x head body taken back') (λ taken. aside taken back')) (IsRefusing r (gift next) (gift back')) done')
     source source service service wire wire
-back_refuse_goes {K} given aside gift untouched h agrees read sent heard next back back' refusing true status source service wire lg la c point u g a same =
-    goes_still _ _ source service wire (λ t o. rehop h agrees read sent heard _ _ (IsRefusing refusing (gift next) (gift back)) (IsRefusing true (gift next) (gift back')) t t.next_taken t.back_taken
+back_refuse_goes {K} given aside gift untouched h agrees read sent heard next back back' refusing true done done' status source service wire lg la c undone point u g a same =
+    goes_still _ _ source service wire (λ t o. rehop h agrees read sent heard _ _ (IsRefusing refusing (gift next) (gift back)) (IsRefusing true (gift next) (gift back')) done done' t t.next_taken t.back_taken
     (λ body p. back_refuses (gift next) (gift back) (gift back') (λ x head body taken. given x head body taken back) (λ x head body taken. given x head body taken back') (λ x head body taken. given x head body taken next)
     (λ taken. aside taken back) (λ taken. aside taken back') (λ taken. aside taken next) (shows h.history) body t.next_taken t.back_taken c
     (λ x head body taken q. lg x head body taken back (u refl) q) (λ taken q. la taken back (u refl) q) (a refl) p)
-    (λ r e. (c, λ m. refusal_no_message (gift back') status (g refl) (subst (λ (z : Point). user_gift z (gift next) (gift back') ≡ message) point m))) o)
-back_refuse_goes {K} given aside gift untouched h agrees read sent heard next back back' refusing false status source service wire lg la c point u g a same =
+    (λ r e. (c, λ m. refusal_no_message (gift back') status (g refl) (subst (λ (z : Point). user_gift z (gift next) (gift back') ≡ message) point m))) (λ w body p. absurd (undone w)) o)
+back_refuse_goes {K} given aside gift untouched h agrees read sent heard next back back' refusing false done done' status source service wire lg la c undone point u g a same =
     goes_still _ _ source service wire (λ t o.
-    subst (λ (z : K). Stands h agrees read sent heard (HopsAre (gift next) (gift z) (λ x head body taken. given x head body taken next) (λ taken. aside taken next) (λ x head body taken. given x head body taken z) (λ taken. aside taken z)) (IsRefusing false (gift next) (gift z)) t) (sym (same refl))
-    (rehop h agrees read sent heard _ _ (IsRefusing refusing (gift next) (gift back)) (IsRefusing false (gift next) (gift back)) t t.next_taken t.back_taken (λ body p. p) (λ r e. absurd (false≢true e)) o))
+    subst (λ (z : K). Stands h agrees read sent heard (HopsAre (gift next) (gift z) (λ x head body taken. given x head body taken next) (λ taken. aside taken next) (λ x head body taken. given x head body taken z) (λ taken. aside taken z)) (IsRefusing false (gift next) (gift z)) done' t) (sym (same refl))
+    (rehop h agrees read sent heard _ _ (IsRefusing refusing (gift next) (gift back)) (IsRefusing false (gift next) (gift back)) done done' t t.next_taken t.back_taken (λ body p. p) (λ r e. absurd (false≢true e)) (λ w body p. absurd (undone w)) o))
 
 -- More of a refusal goes out.
 
-pub next_refusal_goes : (h : Holding) (agrees : Seen → Type 0) (read sent heard : Seen → List ℕ → List ℕ → Type 0) (ng ng' bg : Gift) (go gn bgiven : Seen → List ℕ → List ℕ → List ℕ → Type 0) (ao an baside : List ℕ → Type 0) (refusing : Bool) (source service before after_ : Past → Type 0)
-    → refusing ≡ true → (shows h.history).plan.point ≡ Respmod → ng' ≡ ng → TakesAside ao an before after_
-    → Goes (Stands h agrees read sent heard (HopsAre ng bg go ao bgiven baside) (IsRefusing refusing ng bg)) (Stands h agrees read sent heard (HopsAre ng' bg gn an bgiven baside) (IsRefusing refusing ng' bg))
+pub aside_still : (aside : List ℕ → Type 0) (wire : Past → Type 0) → TakesAside aside aside wire wire
+aside_still aside wire = record { delta = []; aside = λ taken a. subst aside (sym (append-nil taken)) a; wire = λ p b. still wire p b }
+
+pub next_refusal_goes : (h : Holding) (agrees : Seen → Type 0) (read sent heard : Seen → List ℕ → List ℕ → Type 0) (ng ng' bg : Gift) (go gn bgiven : Seen → List ℕ → List ℕ → List ℕ → Type 0) (ao an baside : List ℕ → Type 0) (refusing : Bool) (done done' : List ℕ → List ℕ → List ℕ → Type 0) (source service before after_ : Past → Type 0)
+    → refusing ≡ true → ((body next back : List ℕ) → done body next back → refusing ≡ false) → (shows h.history).plan.point ≡ Respmod → ng' ≡ ng → TakesAside ao an before after_
+    → Goes (Stands h agrees read sent heard (HopsAre ng bg go ao bgiven baside) (IsRefusing refusing ng bg) done) (Stands h agrees read sent heard (HopsAre ng' bg gn an bgiven baside) (IsRefusing refusing ng' bg) done')
     source source service service before after_
-next_refusal_goes h agrees read sent heard ng ng' bg go gn bgiven ao an baside refusing source service before after_ due point same d = record {
+next_refusal_goes h agrees read sent heard ng ng' bg go gn bgiven ao an baside refusing done done' source service before after_ due none point same d = record {
   delta = record { source_read = []; service_read = []; service_taken = []; next_taken = d.delta; back_taken = [] };
-  stands = λ t o. of_five (Stands h agrees read sent heard (HopsAre ng' bg gn an bgiven baside) (IsRefusing refusing ng' bg)) _ _ _ _ _ _ _ _ _ _
+  stands = λ t o. of_five (Stands h agrees read sent heard (HopsAre ng' bg gn an bgiven baside) (IsRefusing refusing ng' bg) done') _ _ _ _ _ _ _ _ _ _
       (sym (append-nil t.source_read)) (sym (append-nil t.service_read)) (sym (append-nil t.service_taken)) refl (sym (append-nil t.back_taken))
-      (rehop h agrees read sent heard (HopsAre ng bg go ao bgiven baside) (HopsAre ng' bg gn an bgiven baside) (IsRefusing refusing ng bg) (IsRefusing refusing ng' bg) t (t.next_taken ++ d.delta) t.back_taken
+      (rehop h agrees read sent heard (HopsAre ng bg go ao bgiven baside) (HopsAre ng' bg gn an bgiven baside) (IsRefusing refusing ng bg) (IsRefusing refusing ng' bg) done done' t (t.next_taken ++ d.delta) t.back_taken
       (λ body p. next_refuses_on ng ng' bg go gn bgiven ao an baside (shows h.history) body t.next_taken t.back_taken d.delta
       (λ m. (o.refuses_is due).1 (subst (λ (z : Point). user_gift z ng bg ≡ message) (sym point) m)) same d.aside p)
-      (λ r. subst (λ (z : Gift). IsRefusing refusing z bg (shows h.history)) (sym same) r) o);
+      (λ r. subst (λ (z : Gift). IsRefusing refusing z bg (shows h.history)) (sym same) r) (λ w body p. absurd (false≢true (sym (none body t.next_taken t.back_taken p) ∙ due))) o);
   source = λ p b. still source p b;
   service = λ p b. still service p b;
   next = d.wire;
 }
 
-pub back_refusal_goes : (h : Holding) (agrees : Seen → Type 0) (read sent heard : Seen → List ℕ → List ℕ → Type 0) (ng bg bg' : Gift) (go gn ngiven : Seen → List ℕ → List ℕ → List ℕ → Type 0) (ao an naside : List ℕ → Type 0) (refusing : Bool) (before after_ service next : Past → Type 0)
-    → refusing ≡ true → (shows h.history).plan.point ≡ Reqmod → bg' ≡ bg → TakesAside ao an before after_
-    → Goes (Stands h agrees read sent heard (HopsAre ng bg ngiven naside go ao) (IsRefusing refusing ng bg)) (Stands h agrees read sent heard (HopsAre ng bg' ngiven naside gn an) (IsRefusing refusing ng bg'))
+pub back_refusal_goes : (h : Holding) (agrees : Seen → Type 0) (read sent heard : Seen → List ℕ → List ℕ → Type 0) (ng bg bg' : Gift) (go gn ngiven : Seen → List ℕ → List ℕ → List ℕ → Type 0) (ao an naside : List ℕ → Type 0) (refusing : Bool) (done done' : List ℕ → List ℕ → List ℕ → Type 0) (before after_ service next : Past → Type 0)
+    → refusing ≡ true → ((body next back : List ℕ) → done body next back → refusing ≡ false) → (shows h.history).plan.point ≡ Reqmod → bg' ≡ bg → TakesAside ao an before after_
+    → Goes (Stands h agrees read sent heard (HopsAre ng bg ngiven naside go ao) (IsRefusing refusing ng bg) done) (Stands h agrees read sent heard (HopsAre ng bg' ngiven naside gn an) (IsRefusing refusing ng bg') done')
     before after_ service service next next
-back_refusal_goes h agrees read sent heard ng bg bg' go gn ngiven ao an naside refusing before after_ service next due point same d = record {
+back_refusal_goes h agrees read sent heard ng bg bg' go gn ngiven ao an naside refusing done done' before after_ service next due none point same d = record {
   delta = record { source_read = []; service_read = []; service_taken = []; next_taken = []; back_taken = d.delta };
-  stands = λ t o. of_five (Stands h agrees read sent heard (HopsAre ng bg' ngiven naside gn an) (IsRefusing refusing ng bg')) _ _ _ _ _ _ _ _ _ _
+  stands = λ t o. of_five (Stands h agrees read sent heard (HopsAre ng bg' ngiven naside gn an) (IsRefusing refusing ng bg') done') _ _ _ _ _ _ _ _ _ _
       (sym (append-nil t.source_read)) (sym (append-nil t.service_read)) (sym (append-nil t.service_taken)) (sym (append-nil t.next_taken)) refl
-      (rehop h agrees read sent heard (HopsAre ng bg ngiven naside go ao) (HopsAre ng bg' ngiven naside gn an) (IsRefusing refusing ng bg) (IsRefusing refusing ng bg') t t.next_taken (t.back_taken ++ d.delta)
+      (rehop h agrees read sent heard (HopsAre ng bg ngiven naside go ao) (HopsAre ng bg' ngiven naside gn an) (IsRefusing refusing ng bg) (IsRefusing refusing ng bg') done done' t t.next_taken (t.back_taken ++ d.delta)
       (λ body p. back_refuses_on ng bg bg' go gn ngiven ao an naside (shows h.history) body t.next_taken t.back_taken d.delta
       (λ m. (o.refuses_is due).1 (subst (λ (z : Point). user_gift z ng bg ≡ message) (sym point) m)) same d.aside p)
-      (λ r. subst (λ (z : Gift). IsRefusing refusing ng z (shows h.history)) (sym same) r) o);
+      (λ r. subst (λ (z : Gift). IsRefusing refusing ng z (shows h.history)) (sym same) r) (λ w body p. absurd (false≢true (sym (none body t.next_taken t.back_taken p) ∙ due))) o);
   source = d.wire;
   service = λ p b. still service p b;
   next = λ p b. still next p b;

@@ -13,7 +13,7 @@ use Rattle.trace_core.specs.Turns.{is_of_hop}
 use Rattle.adapt_sides.specs.Tapes.{chosen}
 use Rattle.adapt_sides.specs.Turns.{Gift}
 use Rattle.adapt_sides.specs.Turns.Gift.{nothing, message}
-use Rattle.adapt_turn.specs.Stands.{IsUndelivered, HopsAre}
+use Rattle.adapt_turn.specs.Stands.{IsUndelivered, HopsAre, IsRefusing, IsDelivered}
 use Rattle.adapt_turn.proofs.Carry.{off_hop, not_true, KeepsChosen}
 
 -- what a writer says of the events of others
@@ -102,6 +102,40 @@ back_gives ng bg bg' go gn ngiven ao an naside x y body next back delta c busy s
       })))
       | inr (inr (inr over)) ↦ absurd (false≢true (sym c ∙ over.over))
     ]
+
+-- and where the history is closed by it, the whole message
+
+not_refusing : (refusing : Bool) (ng bg : Gift) (x : Seen) → x.closed ≡ false → IsRefusing refusing ng bg x → refusing ≡ false
+not_refusing true ng bg x c r = absurd (false≢true (sym c ∙ (r refl).0))
+not_refusing false ng bg x c r = refl
+
+pub next_whole : (refusing : Bool) (ng ng' bg : Gift) (go bgiven : Seen → List ℕ → List ℕ → List ℕ → Type 0) (whole bwhole : List ℕ → List ℕ → List ℕ → Type 0) (ao an baside : List ℕ → Type 0) (x : Seen) (body next back delta : List ℕ)
+    → x.closed ≡ false → bg ≡ nothing → (ng ≡ nothing → ⊥) → ng' ≡ ng → IsRefusing refusing ng bg x
+    → ((head taken : List ℕ) → go x head body taken → whole head body (taken ++ delta))
+    → HopsAre ng bg go ao bgiven baside x body next back → IsDelivered refusing ng' bg whole an bwhole baside body (next ++ delta) back
+next_whole refusing ng ng' bg go bgiven whole bwhole ao an baside x body next back delta c idle busy same r on_ p = (
+  not_refusing refusing ng bg x c r,
+  elim p [
+    | inl none ↦ absurd (busy none.next_is)
+    | inr (inl on) ↦ inl (record { begun = same ∙ on.begun; head = on.head; whole_is = on_ on.head next on.given_is; aside_is = on.aside_is })
+    | inr (inr (inl on)) ↦ absurd (let e : nothing ≡ message = sym idle ∙ on.begun in cc)
+    | inr (inr (inr over)) ↦ absurd (false≢true (sym c ∙ over.over))
+  ],
+)
+
+pub back_whole : (refusing : Bool) (ng bg bg' : Gift) (go ngiven : Seen → List ℕ → List ℕ → List ℕ → Type 0) (whole nwhole : List ℕ → List ℕ → List ℕ → Type 0) (ao an naside : List ℕ → Type 0) (x : Seen) (body next back delta : List ℕ)
+    → x.closed ≡ false → (bg ≡ nothing → ⊥) → bg' ≡ bg → IsRefusing refusing ng bg x
+    → ((head taken : List ℕ) → go x head body taken → whole head body (taken ++ delta))
+    → HopsAre ng bg ngiven naside go ao x body next back → IsDelivered refusing ng bg' nwhole naside whole an body next (back ++ delta)
+back_whole refusing ng bg bg' go ngiven whole nwhole ao an naside x body next back delta c busy same r on_ p = (
+  not_refusing refusing ng bg x c r,
+  elim p [
+    | inl none ↦ absurd (busy none.back_is)
+    | inr (inl on) ↦ absurd (busy (on.alone c))
+    | inr (inr (inl on)) ↦ inr (record { begun = same ∙ on.begun; head = on.head; whole_is = on_ on.head back on.given_is; aside_is = on.aside_is })
+    | inr (inr (inr over)) ↦ absurd (false≢true (sym c ∙ over.over))
+  ],
+)
 
 -- a message is begun
 

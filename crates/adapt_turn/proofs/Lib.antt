@@ -1,6 +1,8 @@
 pub mod Passes
 pub mod Stepped
 pub mod Carry
+pub mod Told
+pub mod Moved
 pub mod Advance
 pub mod Hops
 pub mod Together

@@ -1,5 +1,5 @@
 -- Why a pass waits, or fails.
-use Rattle.std.proofs.Common.{◌≡◌, ℕ, ◌<◌, ◌≤◌, ◌⊎◌, inl, inr, Bool, true, List, Option, Some, None, arith, refl, sym, ◌∙◌, ap, subst}
+use Rattle.std.proofs.Common.{◌≡◌, ℕ, ◌<◌, ◌≤◌, ◌⊎◌, inl, inr, Bool, true, List, Option, Some, None, arith, sym, ◌∙◌, ap, subst}
 use Rattle.std.specs.Prelude.{MatchOption, ⊤}
 use Rattle.trace_core.specs.declared.history.Event.{Event}
 use Rattle.trace_core.specs.declared.history.Cause.{Cause}
@@ -11,7 +11,7 @@ use Rattle.adapt_hold.specs.Steps.{moved_all}
 use Rattle.adapt_turn.specs.declared.parts.Passed.{Passed}
 use Rattle.adapt_turn.specs.declared.turned.Outcome.{Outcome}
 use Rattle.adapt_turn.specs.declared.turned.Outcome.TheVariants as outcomes
-use Rattle.adapt_turn.specs.Parts.{Part, stepped}
+use Rattle.adapt_turn.specs.Parts.{Part, stepped, outcome_by}
 use Rattle.adapt_turn.specs.Stands.{Waited, WaitedBeside, WaitedBoth, Blamed, IsCauseOf}
 
 pub part_waits : {F : Type 0} (broken : F) (own : F → Cause) (h k : Holding) (test : Event → Bool) (reported : List Event) (out given taken delta : List ℕ) (f0 f1 : Option F) (rests : Type 0) (waits : Past → ℕ) (before after_ : Past → Type 0) (passed : Passed)
@@ -44,11 +44,10 @@ pub blamed_from : {F A : Type 0} (broken : F) (own : F → Cause) (cause : Cause
 blamed_from {F} {A} broken own cause past after_ f0 f1 f2 a a' e f w =
     subst (λ (z : Option F). Blamed broken own cause z f2 (past a') after_) e (subst (λ (z : A). Blamed broken own cause f0 f2 (past z) after_) f w)
 
--- an outcome that is new says why a pass failed
-pub outcome_fails : (failed : Option Cause) (before r : Outcome) (cause : Cause) → (failed ≡ None → r ≡ before) → ((c : Cause) → failed ≡ Some c → r ≡ outcomes.Fail c)
-    → before ≡ outcomes.Done → r ≡ outcomes.Fail cause → failed ≡ Some cause
-outcome_fails None before r cause none some d e = absurd (let n = none refl in cc)
-outcome_fails (Some c) before r cause none some d e = let s = some c refl in cc
+-- an outcome says why a pass failed
+pub outcome_fails : (failed : Option Cause) (r : Outcome) (cause : Cause) → r ≡ outcome_by failed → r ≡ outcomes.Fail cause → failed ≡ Some cause
+outcome_fails None r cause s e = absurd cc
+outcome_fails (Some c) r cause s e = cc
 
 -- the service's line
 

@@ -23,7 +23,7 @@ use Rattle.adapt_hold.specs.Holding.{Holding, IsTied, IsRoomy, shows, moved}
 use Rattle.adapt_turn.specs.declared.parts.Passed.{Passed}
 use Rattle.adapt_turn.specs.declared.start.Line.{Line}
 use Rattle.adapt_turn.specs.Parts.{SourcePart, SendPart, HearPart}
-use Rattle.adapt_turn.specs.Stands.{Texts, joined, no_texts, Stands, Goes, HopsAre, IsRefusing, IsUndelivered}
+use Rattle.adapt_turn.specs.Stands.{Texts, joined, no_texts, Stands, Goes, HopsAre, IsRefusing, IsUndelivered, IsDelivered}
 use Rattle.adapt_turn.proofs.Carry.{off_sending, off_replies, not_true, both_not}
 use Rattle.adapt_turn.proofs.Passes.{fail_runs}
 use Rattle.adapt_turn.proofs.Advance.{Others, source_stands, send_stands, hear_stands, fail_stands, retry_stands}
@@ -142,32 +142,32 @@ goes_then s0 s1 s2 a0 a1 a2 b0 b1 b2 c0 c1 c2 f g = record {
 
 -- The passes.
 
-pub source_goes : (h k : Holding) (ao an : Seen → Type 0) (ro rn sent heard : Seen → List ℕ → List ℕ → Type 0) (hops : Seen → List ℕ → List ℕ → List ℕ → Type 0) (refuses : Seen → Type 0)
+pub source_goes : (h k : Holding) (ao an : Seen → Type 0) (ro rn sent heard : Seen → List ℕ → List ℕ → Type 0) (hops : Seen → List ℕ → List ℕ → List ℕ → Type 0) (refuses : Seen → Type 0) (delivered : List ℕ → List ℕ → List ℕ → Type 0)
     (f0 f1 : Option RelayFault) (rests : Type 0) (before after_ service next : Past → Type 0) (passed : Passed)
-    → Others an rn sent heard hops refuses → IsTied h → SourcePart h k ro rn an f0 f1 rests before after_ passed
-    → Goes (Stands h ao ro sent heard hops refuses) (Stands k an rn sent heard hops refuses) before after_ service service next next
-source_goes h k ao an ro rn sent heard hops refuses f0 f1 rests before after_ service next passed u tied d = record {
+    → Others an rn sent heard hops refuses → IsTied h → (shows h.history).closed ≡ false → SourcePart h k ro rn an f0 f1 rests before after_ passed
+    → Goes (Stands h ao ro sent heard hops refuses delivered) (Stands k an rn sent heard hops refuses delivered) before after_ service service next next
+source_goes h k ao an ro rn sent heard hops refuses delivered f0 f1 rests before after_ service next passed u tied c d = record {
   delta = record { source_read = d.delta; service_read = []; service_taken = []; next_taken = []; back_taken = [] };
-  stands = λ t o. of_five (Stands k an rn sent heard hops refuses) _ _ _ _ _ _ _ _ _ _ refl (sym (append-nil t.service_read)) (sym (append-nil t.service_taken)) (sym (append-nil t.next_taken)) (sym (append-nil t.back_taken))
-      (source_stands h k ao an ro rn sent heard hops refuses f0 f1 rests before after_ passed t u tied d o);
+  stands = λ t o. of_five (Stands k an rn sent heard hops refuses delivered) _ _ _ _ _ _ _ _ _ _ refl (sym (append-nil t.service_read)) (sym (append-nil t.service_taken)) (sym (append-nil t.next_taken)) (sym (append-nil t.back_taken))
+      (source_stands h k ao an ro rn sent heard hops refuses delivered f0 f1 rests before after_ passed t u tied c d o);
   source = λ p b. let w = d.part.wire p b in (w.0, w.1, w.2);
   service = λ p b. still service p b;
   next = λ p b. still next p b;
 }
 
-pub fail_goes : (h k : Holding) (cause : Cause) (agrees : Seen → Type 0) (read sent heard : Seen → List ℕ → List ℕ → Type 0) (hops : Seen → List ℕ → List ℕ → List ℕ → Type 0) (refuses : Seen → Type 0)
+pub fail_goes : (h k : Holding) (cause : Cause) (agrees : Seen → Type 0) (read sent heard : Seen → List ℕ → List ℕ → Type 0) (hops : Seen → List ℕ → List ℕ → List ℕ → Type 0) (refuses : Seen → Type 0) (delivered : List ℕ → List ℕ → List ℕ → Type 0)
     (source service next : Past → Type 0)
     → Others agrees read sent heard hops refuses → IsTied h → IsRoomy h → (shows h.history).closed ≡ false → k ≡ moved h (Fail cause) []
-    → Goes (Stands h agrees read sent heard hops refuses) (Stands k agrees read sent heard hops refuses) source source service service next next
-fail_goes h k cause agrees read sent heard hops refuses source service next u tied roomy c is =
-    goes_still _ _ source service next (λ t o. fail_stands h k cause agrees read sent heard hops refuses t u tied (fail_runs h cause [] roomy c) c is o)
+    → Goes (Stands h agrees read sent heard hops refuses delivered) (Stands k agrees read sent heard hops refuses delivered) source source service service next next
+fail_goes h k cause agrees read sent heard hops refuses delivered source service next u tied roomy c is =
+    goes_still _ _ source service next (λ t o. fail_stands h k cause agrees read sent heard hops refuses delivered t u tied (fail_runs h cause [] roomy c) c is o)
 
 -- a source that doesn't agree never stood
-pub disagree_goes : (h : Holding) (history : History) (agrees : Seen → Type 0) (read sent heard : Seen → List ℕ → List ℕ → Type 0) (hops : Seen → List ℕ → List ℕ → List ℕ → Type 0) (refuses : Seen → Type 0)
+pub disagree_goes : (h : Holding) (history : History) (agrees : Seen → Type 0) (read sent heard : Seen → List ℕ → List ℕ → Type 0) (hops : Seen → List ℕ → List ℕ → List ℕ → Type 0) (refuses : Seen → Type 0) (delivered : List ℕ → List ℕ → List ℕ → Type 0)
     (new : Texts → Type 0) (source service next : Past → Type 0)
     → (shows h.history).closed ≡ false → history ≡ h.history → (agrees (shows history) → ⊥)
-    → Goes (Stands h agrees read sent heard hops refuses) new source source service service next next
-disagree_goes h history agrees read sent heard hops refuses new source service next c e un =
+    → Goes (Stands h agrees read sent heard hops refuses delivered) new source source service service next next
+disagree_goes h history agrees read sent heard hops refuses delivered new source service next c e un =
     goes_still _ new source service next (λ t o. absurd (un (subst (λ (y : History). agrees (shows y)) (sym e) (o.agrees_is c))))
 
 -- the service's line, where there is one
@@ -182,34 +182,34 @@ abbrev pub past_on : {L : Type 0} → (L → Past → Type 0) → Option L → P
 past_on past line p = MatchOption line ⊥ (λ l. past l p)
 
 pub send_goes : {L : Type 0} (line : Option L) (l m : L) (h k : Holding) (agrees : Seen → Type 0) (read : Seen → List ℕ → List ℕ → Type 0) (said heard : L → Seen → List ℕ → List ℕ → Type 0) (past : L → Past → Type 0)
-    (hops : Seen → List ℕ → List ℕ → List ℕ → Type 0) (refuses : Seen → Type 0) (f0 f1 : Option ClientFault) (rests : Type 0) (source next : Past → Type 0) (passed : Passed)
+    (hops : Seen → List ℕ → List ℕ → List ℕ → Type 0) (refuses : Seen → Type 0) (delivered : List ℕ → List ℕ → List ℕ → Type 0) (f0 f1 : Option ClientFault) (rests : Type 0) (source next : Past → Type 0) (passed : Passed)
     → line ≡ Some l → Others agrees read (said m) (heard m) hops refuses → ((x : Seen) (adapted text : List ℕ) → heard l x adapted text → heard m x adapted text) → IsTied h
     → (shows h.history).closed ≡ false → SendPart h k (said l) (said m) f0 f1 rests (past l) (past m) passed
-    → Goes (Stands h agrees read (on_line said line) (heard_on_line heard line) hops refuses) (Stands k agrees read (on_line said (Some m)) (heard_on_line heard (Some m)) hops refuses)
+    → Goes (Stands h agrees read (on_line said line) (heard_on_line heard line) hops refuses delivered) (Stands k agrees read (on_line said (Some m)) (heard_on_line heard (Some m)) hops refuses delivered)
     source source (past_on past line) (past_on past (Some m)) next next
-send_goes {L} line l m h k agrees read said heard past hops refuses f0 f1 rests source next passed e u same tied c d =
-    subst (λ (z : Option L). Goes (Stands h agrees read (on_line said z) (heard_on_line heard z) hops refuses) (Stands k agrees read (said m) (heard m) hops refuses) source source (past_on past z) (past m) next next) (sym e)
+send_goes {L} line l m h k agrees read said heard past hops refuses delivered f0 f1 rests source next passed e u same tied c d =
+    subst (λ (z : Option L). Goes (Stands h agrees read (on_line said z) (heard_on_line heard z) hops refuses delivered) (Stands k agrees read (said m) (heard m) hops refuses delivered) source source (past_on past z) (past m) next next) (sym e)
     (record {
       delta = record { source_read = []; service_read = []; service_taken = d.delta; next_taken = []; back_taken = [] };
-      stands = λ t o. of_five (Stands k agrees read (said m) (heard m) hops refuses) _ _ _ _ _ _ _ _ _ _ (sym (append-nil t.source_read)) (sym (append-nil t.service_read)) refl (sym (append-nil t.next_taken)) (sym (append-nil t.back_taken))
-          (send_stands h k agrees read (said l) (said m) (heard l) (heard m) hops refuses f0 f1 rests (past l) (past m) passed t u same tied c d o);
+      stands = λ t o. of_five (Stands k agrees read (said m) (heard m) hops refuses delivered) _ _ _ _ _ _ _ _ _ _ (sym (append-nil t.source_read)) (sym (append-nil t.service_read)) refl (sym (append-nil t.next_taken)) (sym (append-nil t.back_taken))
+          (send_stands h k agrees read (said l) (said m) (heard l) (heard m) hops refuses delivered f0 f1 rests (past l) (past m) passed t u same tied c d o);
       source = λ p b. still source p b;
       service = λ p b. let w = d.part.wire p b in (w.0, w.1, w.2);
       next = λ p b. still next p b;
     })
 
 pub hear_goes : {L : Type 0} (line : Option L) (l m : L) (h k : Holding) (agrees : Seen → Type 0) (read : Seen → List ℕ → List ℕ → Type 0) (said heard : L → Seen → List ℕ → List ℕ → Type 0) (past : L → Past → Type 0)
-    (hops : Seen → List ℕ → List ℕ → List ℕ → Type 0) (refuses : Seen → Type 0) (f0 f1 : Option ClientFault) (rests : Type 0) (source next : Past → Type 0) (passed : Passed)
+    (hops : Seen → List ℕ → List ℕ → List ℕ → Type 0) (refuses : Seen → Type 0) (delivered : List ℕ → List ℕ → List ℕ → Type 0) (f0 f1 : Option ClientFault) (rests : Type 0) (source next : Past → Type 0) (passed : Passed)
     → line ≡ Some l → Others agrees read (said m) (heard m) hops refuses → ((x : Seen) (came text : List ℕ) → said l x came text → said m x came text) → IsTied h
     → (shows h.history).closed ≡ false → HearPart h k (heard l) (heard m) f0 f1 rests (past l) (past m) passed
-    → Goes (Stands h agrees read (on_line said line) (heard_on_line heard line) hops refuses) (Stands k agrees read (on_line said (Some m)) (heard_on_line heard (Some m)) hops refuses)
+    → Goes (Stands h agrees read (on_line said line) (heard_on_line heard line) hops refuses delivered) (Stands k agrees read (on_line said (Some m)) (heard_on_line heard (Some m)) hops refuses delivered)
     source source (past_on past line) (past_on past (Some m)) next next
-hear_goes {L} line l m h k agrees read said heard past hops refuses f0 f1 rests source next passed e u same tied c d =
-    subst (λ (z : Option L). Goes (Stands h agrees read (on_line said z) (heard_on_line heard z) hops refuses) (Stands k agrees read (said m) (heard m) hops refuses) source source (past_on past z) (past m) next next) (sym e)
+hear_goes {L} line l m h k agrees read said heard past hops refuses delivered f0 f1 rests source next passed e u same tied c d =
+    subst (λ (z : Option L). Goes (Stands h agrees read (on_line said z) (heard_on_line heard z) hops refuses delivered) (Stands k agrees read (said m) (heard m) hops refuses delivered) source source (past_on past z) (past m) next next) (sym e)
     (record {
       delta = record { source_read = []; service_read = d.delta; service_taken = []; next_taken = []; back_taken = [] };
-      stands = λ t o. of_five (Stands k agrees read (said m) (heard m) hops refuses) _ _ _ _ _ _ _ _ _ _ (sym (append-nil t.source_read)) refl (sym (append-nil t.service_taken)) (sym (append-nil t.next_taken)) (sym (append-nil t.back_taken))
-          (hear_stands h k agrees read (said l) (said m) (heard l) (heard m) hops refuses f0 f1 rests (past l) (past m) passed t u same tied c d o);
+      stands = λ t o. of_five (Stands k agrees read (said m) (heard m) hops refuses delivered) _ _ _ _ _ _ _ _ _ _ (sym (append-nil t.source_read)) refl (sym (append-nil t.service_taken)) (sym (append-nil t.next_taken)) (sym (append-nil t.back_taken))
+          (hear_stands h k agrees read (said l) (said m) (heard l) (heard m) hops refuses delivered f0 f1 rests (past l) (past m) passed t u same tied c d o);
       source = λ p b. still source p b;
       service = λ p b. let w = d.part.wire p b in (w.0, w.1, w.2);
       next = λ p b. still next p b;
@@ -221,29 +221,29 @@ abbrev nil : List ℕ
 nil = []
 
 pub line_again : {V W : Type 0} (has_sent has_heard : Seen → List ℕ → List ℕ → V → Type 0) (line : Option (Line V W)) (l m : Line V W) (h k : Holding)
-    (agrees : Seen → Type 0) (read : Seen → List ℕ → List ℕ → Type 0) (hops : Seen → List ℕ → List ℕ → List ℕ → Type 0) (refuses : Seen → Type 0) (t : Texts)
+    (agrees : Seen → Type 0) (read : Seen → List ℕ → List ℕ → Type 0) (hops : Seen → List ℕ → List ℕ → List ℕ → Type 0) (refuses : Seen → Type 0) (delivered : List ℕ → List ℕ → List ℕ → Type 0) (t : Texts)
     → line ≡ Some l → Others agrees read (λ x came taken. has_sent x came taken m.side) (λ x adapted text. has_heard x adapted text m.side) hops refuses
     → IsTied h → IsRoomy h → MayFollow h.history.plan h.history.events Retry → k ≡ moved h Retry []
     → ((x : Seen) (came taken adapted text : List ℕ) → x.heard ≡ false → length came ≡ x.received → has_sent x came taken l.side → has_heard x adapted text l.side → has_sent (after x Retry) came [] m.side)
     → ((x : Seen) (came taken adapted text : List ℕ) → x.heard ≡ false → length came ≡ x.received → has_sent x came taken l.side → has_heard x adapted text l.side → has_heard (after x Retry) [] [] m.side)
     → ((x : Seen) (adapted text : List ℕ) (s : V) → has_heard x adapted text s → x.heard ≡ false → (adapted ≡ []) × (text ≡ []))
-    → Stands h agrees read (λ x came taken. MatchOption line (taken ≡ []) (λ z. has_sent x came taken z.side)) (λ x adapted text. MatchOption line ((adapted ≡ []) × (text ≡ [])) (λ z. has_heard x adapted text z.side)) hops refuses t
-    → Stands k agrees read (λ x came taken. has_sent x came taken m.side) (λ x adapted text. has_heard x adapted text m.side) hops refuses (record t { service_read = []; service_taken = [] })
-line_again {V} {W} has_sent has_heard line l m h k agrees read hops refuses t e u tied roomy f is again_sent again_heard unheard s =
-    retry_stands h k agrees read (λ x came taken. has_sent x came taken l.side) (λ x came taken. has_sent x came taken m.side) (λ x adapted text. has_heard x adapted text l.side) (λ x adapted text. has_heard x adapted text m.side) hops refuses t
+    → Stands h agrees read (λ x came taken. MatchOption line (taken ≡ []) (λ z. has_sent x came taken z.side)) (λ x adapted text. MatchOption line ((adapted ≡ []) × (text ≡ [])) (λ z. has_heard x adapted text z.side)) hops refuses delivered t
+    → Stands k agrees read (λ x came taken. has_sent x came taken m.side) (λ x adapted text. has_heard x adapted text m.side) hops refuses delivered (record t { service_read = []; service_taken = [] })
+line_again {V} {W} has_sent has_heard line l m h k agrees read hops refuses delivered t e u tied roomy f is again_sent again_heard unheard s =
+    retry_stands h k agrees read (λ x came taken. has_sent x came taken l.side) (λ x came taken. has_sent x came taken m.side) (λ x adapted text. has_heard x adapted text l.side) (λ x adapted text. has_heard x adapted text m.side) hops refuses delivered t
     u tied roomy f is (again_sent (shows h.history)) (again_heard (shows h.history)) (λ adapted text p. unheard (shows h.history) adapted text l.side p)
-    (subst (λ (z : Option (Line V W)). Stands h agrees read (λ x came taken. MatchOption z (taken ≡ []) (λ y. has_sent x came taken y.side)) (λ x adapted text. MatchOption z ((adapted ≡ []) × (text ≡ [])) (λ y. has_heard x adapted text y.side)) hops refuses t) e s)
+    (subst (λ (z : Option (Line V W)). Stands h agrees read (λ x came taken. MatchOption z (taken ≡ []) (λ y. has_sent x came taken y.side)) (λ x adapted text. MatchOption z ((adapted ≡ []) × (text ≡ [])) (λ y. has_heard x adapted text y.side)) hops refuses delivered t) e s)
 
 pub none_again : {V W : Type 0} (has_sent has_heard : Seen → List ℕ → List ℕ → V → Type 0) (line : Option (Line V W)) (h k : Holding)
-    (agrees : Seen → Type 0) (read : Seen → List ℕ → List ℕ → Type 0) (hops : Seen → List ℕ → List ℕ → List ℕ → Type 0) (refuses : Seen → Type 0) (t : Texts)
+    (agrees : Seen → Type 0) (read : Seen → List ℕ → List ℕ → Type 0) (hops : Seen → List ℕ → List ℕ → List ℕ → Type 0) (refuses : Seen → Type 0) (delivered : List ℕ → List ℕ → List ℕ → Type 0) (t : Texts)
     → line ≡ None
     → Others agrees read (λ x came taken. MatchOption line (taken ≡ []) (λ z. has_sent x came taken z.side)) (λ x adapted text. MatchOption line ((adapted ≡ []) × (text ≡ [])) (λ z. has_heard x adapted text z.side)) hops refuses
     → IsTied h → IsRoomy h → MayFollow h.history.plan h.history.events Retry → k ≡ moved h Retry []
-    → Stands h agrees read (λ x came taken. MatchOption line (taken ≡ []) (λ z. has_sent x came taken z.side)) (λ x adapted text. MatchOption line ((adapted ≡ []) × (text ≡ [])) (λ z. has_heard x adapted text z.side)) hops refuses t
-    → Stands k agrees read (λ x came taken. MatchOption line (taken ≡ []) (λ z. has_sent x came taken z.side)) (λ x adapted text. MatchOption line ((adapted ≡ []) × (text ≡ [])) (λ z. has_heard x adapted text z.side)) hops refuses (record t { service_read = []; service_taken = [] })
-none_again {V} {W} has_sent has_heard line h k agrees read hops refuses t e u tied roomy f is s =
+    → Stands h agrees read (λ x came taken. MatchOption line (taken ≡ []) (λ z. has_sent x came taken z.side)) (λ x adapted text. MatchOption line ((adapted ≡ []) × (text ≡ [])) (λ z. has_heard x adapted text z.side)) hops refuses delivered t
+    → Stands k agrees read (λ x came taken. MatchOption line (taken ≡ []) (λ z. has_sent x came taken z.side)) (λ x adapted text. MatchOption line ((adapted ≡ []) × (text ≡ [])) (λ z. has_heard x adapted text z.side)) hops refuses delivered (record t { service_read = []; service_taken = [] })
+none_again {V} {W} has_sent has_heard line h k agrees read hops refuses delivered t e u tied roomy f is s =
     retry_stands h k agrees read (λ x came taken. MatchOption line (taken ≡ []) (λ z. has_sent x came taken z.side)) (λ x came taken. MatchOption line (taken ≡ []) (λ z. has_sent x came taken z.side))
-    (λ x adapted text. MatchOption line ((adapted ≡ []) × (text ≡ [])) (λ z. has_heard x adapted text z.side)) (λ x adapted text. MatchOption line ((adapted ≡ []) × (text ≡ [])) (λ z. has_heard x adapted text z.side)) hops refuses t
+    (λ x adapted text. MatchOption line ((adapted ≡ []) × (text ≡ [])) (λ z. has_heard x adapted text z.side)) (λ x adapted text. MatchOption line ((adapted ≡ []) × (text ≡ [])) (λ z. has_heard x adapted text z.side)) hops refuses delivered t
     u tied roomy f is
     (λ came taken adapted text q n p r. subst (λ (z : Option (Line V W)). MatchOption z (nil ≡ nil) (λ y. has_sent (after (shows h.history) Retry) came [] y.side)) (sym e) refl)
     (λ came taken adapted text q n p r. subst (λ (z : Option (Line V W)). MatchOption z ((nil ≡ nil) × (nil ≡ nil)) (λ y. has_heard (after (shows h.history) Retry) [] [] y.side)) (sym e) (refl, refl))
@@ -252,15 +252,17 @@ none_again {V} {W} has_sent has_heard line h k agrees read hops refuses t e u ti
 
 -- the beginning
 
-pub begins : {V W K : Type 0} (has_sent has_heard : Seen → List ℕ → List ℕ → V → Type 0) (has_given : Seen → List ℕ → List ℕ → List ℕ → K → Type 0) (gift : K → Gift) (aside : List ℕ → K → Type 0)
+pub begins : {V W K : Type 0} (has_sent has_heard : Seen → List ℕ → List ℕ → V → Type 0) (has_given : Seen → List ℕ → List ℕ → List ℕ → K → Type 0) (is_whole : List ℕ → List ℕ → List ℕ → K → Type 0) (gift : K → Gift) (aside : List ℕ → K → Type 0)
     (h : Holding) (plan : Plan) (agrees : Seen → Type 0) (read : Seen → List ℕ → List ℕ → Type 0) (line : Option (Line V W)) (next back : K) (text : List ℕ)
     → h.history ≡ record { plan = plan; events = [] } → h.original ≡ record { base = 0; bytes = [] } → h.adapted ≡ record { base = 0; bytes = [] }
     → agrees (seen plan []) → read (seen plan []) [] text → IfSome line (λ l. has_sent (seen plan []) [] [] l.side × has_heard (seen plan []) [] [] l.side)
     → gift next ≡ nothing → aside [] next → gift back ≡ nothing → aside [] back
     → Stands h agrees read (λ x came taken. MatchOption line (taken ≡ []) (λ l. has_sent x came taken l.side)) (λ x adapted text. MatchOption line ((adapted ≡ []) × (text ≡ [])) (λ l. has_heard x adapted text l.side))
     (HopsAre (gift next) (gift back) (λ x head body taken. has_given x head body taken next) (λ taken. aside taken next) (λ x head body taken. has_given x head body taken back) (λ taken. aside taken back))
-    (IsRefusing false (gift next) (gift back)) (record no_texts { source_read = text })
-begins {V} {W} {K} has_sent has_heard has_given gift aside h plan agrees read line next back text eh eo ea ag re sides ng na bg ba = record {
+    (IsRefusing false (gift next) (gift back))
+    (IsDelivered false (gift next) (gift back) (λ head body taken. is_whole head body taken next) (λ taken. aside taken next) (λ head body taken. is_whole head body taken back) (λ taken. aside taken back))
+    (record no_texts { source_read = text })
+begins {V} {W} {K} has_sent has_heard has_given is_whole gift aside h plan agrees read line next back text eh eo ea ag re sides ng na bg ba = record {
   original = [];
   adapted = [];
   original_is = subst (λ (s : Span). EndsBody s []) (sym eo) empty;
@@ -271,6 +273,7 @@ begins {V} {W} {K} has_sent has_heard has_given gift aside h plan agrees read li
   heard_is = subst (λ (y : History). MatchOption line ((nil ≡ nil) × (nil ≡ nil)) (λ l. has_heard (shows y) [] [] l.side)) (sym eh) (heard line sides);
   hops_are = inl (record { next_is = ng; back_is = bg; none = subst (λ (y : History). IsUndelivered (shows y)) (sym eh) (refl, refl); next_aside_is = na; back_aside_is = ba });
   refuses_is = λ e. absurd (false≢true e);
+  done_is = λ d. absurd (false≢true (subst (λ (y : History). (shows y).closed ≡ true) eh d.0));
 }
   where
     empty : EndsBody (record { base = 0; bytes = [] }) []

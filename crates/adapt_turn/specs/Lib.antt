@@ -1,2 +1,3 @@
+pub mod Moved
 pub mod Parts
 pub mod Stands

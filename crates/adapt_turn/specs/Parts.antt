@@ -16,6 +16,8 @@ use Rattle.adapt_hold.specs.Spans.{EndsBody}
 use Rattle.adapt_hold.specs.Holding.{Holding, shows}
 use Rattle.adapt_hold.specs.Steps.{MayRun, moved_all}
 use Rattle.adapt_turn.specs.declared.parts.Passed.{Passed}
+use Rattle.adapt_turn.specs.declared.turned.Outcome.{Outcome}
+use Rattle.adapt_turn.specs.declared.turned.Outcome.TheVariants as outcomes
 
 -- The cause that each side's fault is: want of memory is a cause of its own, and a body of another length than its head said is
 -- the service's fault.
@@ -32,6 +34,16 @@ abbrev pub hop_cause : RelayFault → Cause
 hop_cause relay.NoMemory = causes.Memory
 hop_cause relay.Length = causes.Service
 hop_cause _ = causes.NextHop
+
+-- how a transaction ends that this failed, if anything did
+abbrev pub outcome_by : Option Cause → Outcome
+outcome_by None = outcomes.Done
+outcome_by (Some cause) = outcomes.Fail cause
+
+-- how a history ended, the newest event first; while it is open, how it ends unless it fails
+abbrev pub outcome_of : List Event → Outcome
+outcome_of (Fail cause ∷ before) = outcomes.Fail cause
+outcome_of _ = outcomes.Done
 
 -- what is stepped: what the side reported, or the failure
 abbrev pub stepped : Option Cause → List Event → List Event

@@ -11,6 +11,9 @@ use Rattle.adapt_sides.specs.Turns.{Gift}
 use Rattle.adapt_sides.specs.Turns.Gift.{nothing, message}
 use Rattle.adapt_hold.specs.Spans.{Span, EndsBody}
 use Rattle.adapt_hold.specs.Holding.{Holding, shows}
+use Rattle.trace_core.specs.History.{History}
+use Rattle.adapt_turn.specs.declared.turned.Outcome.TheVariants as outcomes
+use Rattle.adapt_turn.specs.Parts.{outcome_of}
 
 -- the next hop has a message to get
 abbrev pub IsChosen : Seen → Type 0
@@ -89,10 +92,30 @@ abbrev pub IsRefusing : (refusing : Bool) → (next_gift back_gift : Gift) → S
 IsRefusing refusing next_gift back_gift x =
     refusing ≡ true → (x.closed ≡ true) × (user_gift x.plan.point next_gift back_gift ≡ message → ⊥)
 
+-- Done stands
+abbrev pub IsDone : History → Type 0
+IsDone history = ((shows history).closed ≡ true) × (outcome_of history.events ≡ outcomes.Done)
+
+-- a wire took the whole message with this body, and the other one nothing of a message
+pub record TookWhole (whole : List ℕ → List ℕ → List ℕ → Type 0) (gift : Gift) (aside : List ℕ → Type 0) (body taken elsewhere : List ℕ) : Type 0 where
+  pub begun : gift ≡ message
+  pub head : List ℕ
+  pub whole_is : whole head body taken
+  pub aside_is : aside elsewhere
+
+-- one of the two wires took the whole message, and no refusal is due
+abbrev pub IsDelivered : (refusing : Bool) → (next_gift back_gift : Gift)
+    → (next_whole : List ℕ → List ℕ → List ℕ → Type 0) → (next_aside : List ℕ → Type 0)
+    → (back_whole : List ℕ → List ℕ → List ℕ → Type 0) → (back_aside : List ℕ → Type 0)
+    → List ℕ → List ℕ → List ℕ → Type 0
+IsDelivered refusing next_gift back_gift next_whole next_aside back_whole back_aside body next back =
+    (refusing ≡ false) × (TookWhole next_whole next_gift back_aside body next back ⊎ TookWhole back_whole back_gift next_aside body back next)
+
 -- The source's bytes spell the original, the service's the adapted body, and the tapes keep the ends of both; what the service's
--- wire took is of a request with the original, and what the next hop's took of one message with the chosen body.
+-- wire took is of a request with the original, and what the next hop's took of one message with the chosen body: where Done stands,
+-- it took the whole of it.
 pub record Stands (h : Holding) (agrees : Seen → Type 0) (read sent heard : Seen → List ℕ → List ℕ → Type 0)
-    (hops : Seen → List ℕ → List ℕ → List ℕ → Type 0) (refuses : Seen → Type 0) (t : Texts) : Type 0 where
+    (hops : Seen → List ℕ → List ℕ → List ℕ → Type 0) (refuses : Seen → Type 0) (delivered : List ℕ → List ℕ → List ℕ → Type 0) (t : Texts) : Type 0 where
   pub original : List ℕ
   pub adapted : List ℕ
   pub original_is : EndsBody h.original original
@@ -103,6 +126,7 @@ pub record Stands (h : Holding) (agrees : Seen → Type 0) (read sent heard : Se
   pub heard_is : heard (shows h.history) adapted t.service_read
   pub hops_are : hops (shows h.history) (chosen (shows h.history) original adapted) t.next_taken t.back_taken
   pub refuses_is : refuses (shows h.history)
+  pub done_is : IsDone h.history → delivered (chosen (shows h.history) original adapted) t.next_taken t.back_taken
 
 -- A pass over the three wires: they gave and took these bytes, and what stood before them stands with them.
 pub record Goes (old_stands new_stands : Texts → Type 0) (source_old source_new service_old service_new next_old next_new : Past → Type 0) : Type 0 where

@@ -7,9 +7,10 @@ ghost use Rattle.trace_core.specs.Legal.{MayFollow};
 ghost use Rattle.plan_rules.specs.Room.{original_room, adapted_room};
 ghost use Rattle.adapt_hold.specs.Spans.{span_of};
 ghost use Rattle.adapt_hold.specs.Holding.{shows, moved, IsRoomy, IsTied};
-ghost use Rattle.adapt_turn.specs.Parts.{SourcePart, SendPart, HearPart, HopPart, source_cause, service_cause, hop_cause};
+ghost use Rattle.adapt_turn.specs.Parts.{SourcePart, SendPart, HearPart, HopPart, source_cause, service_cause, hop_cause, outcome_by};
 ghost use Rattle.adapt_turn.specs.Stands.{IsChosen, chosen_span};
 
+use crate::turned::Outcome;
 use adapt_hold::{Hold, fail, step_all};
 use adapt_sides::{ClientFault, Hop, RelayFault, Service, Source};
 use span_bank::{Bank, Ledgers};
@@ -57,6 +58,16 @@ pub(crate) fn hop_cause(fault: RelayFault) -> Cause
         RelayFault::NoMemory => Cause::Memory,
         RelayFault::Length => Cause::Service,
         _ => Cause::NextHop,
+    }
+}
+
+/// How a transaction ends that this failed, if anything did.
+pub(crate) fn outcome_by(failed: Option<Cause>) -> Outcome
+    ensures { result ≡ outcome_by failed }
+{
+    match failed {
+        Some(cause) => Outcome::Fail(cause),
+        None => Outcome::Done,
     }
 }
 

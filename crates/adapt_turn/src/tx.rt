@@ -8,8 +8,10 @@ ghost use Rattle.adapt_hold.specs.Holding.{shows, IsRoomy};
 ghost use Rattle.trace_core.specs.History.{seen};
 ghost use Rattle.adapt_sides.specs.Turns.{Gift};
 ghost use Rattle.adapt_sides.specs.Turns.Gift.{nothing};
+ghost use Rattle.adapt_turn.specs.Parts.{outcome_of};
 ghost use Rattle.adapt_turn.specs.Stands.{Texts, no_texts};
 
+mod counts;
 mod giving;
 mod passes;
 mod refusals;
@@ -38,6 +40,9 @@ pub trait Standing {
 pub trait Going {
     // what stood before it stands behind it, with what its wires gave and took in it
     ghost goes: { Self → Self → Type 0 };
+
+    // so many bytes went over its wires in it
+    ghost moves: { Self → Self → ℕ → Type 0 };
 }
 
 /// One transaction.
@@ -68,6 +73,8 @@ pub struct Tx<
     refusing: bool,
     outcome: Outcome,
     ghost roomy: { IsRoomy hold },
+    // how it ended is what its history says
+    pub ghost told: { outcome ≡ outcome_of hold.history.events },
 }
 
 impl<
@@ -81,25 +88,32 @@ impl<
     C: Wire,
 > Standing for Tx<B, S, V, K, F, A, W, C> {
     ghost use Rattle.std.specs.Prelude.{◌≡◌, [], MatchOption};
-    ghost use Rattle.adapt_turn.specs.Stands.{Stands, HopsAre, IsRefusing};
+    ghost use Rattle.adapt_turn.specs.Stands.{Stands, HopsAre, IsRefusing, IsDelivered};
 
     ghost stands = { λ tx t. Stands tx.hold (λ x. S.agrees x tx.source) (λ x body read. S.has_read x body read tx.source)
         (λ x came taken. MatchOption tx.service (taken ≡ []) (λ line. V.has_sent x came taken line.side))
         (λ x adapted read. MatchOption tx.service ((adapted ≡ []) × (read ≡ [])) (λ line. V.has_heard x adapted read line.side))
         (HopsAre (K.gift tx.next) (K.gift tx.back) (λ x head body taken. K.has_given x head body taken tx.next) (λ taken. K.aside taken tx.next)
         (λ x head body taken. K.has_given x head body taken tx.back) (λ taken. K.aside taken tx.back))
-        (IsRefusing tx.refusing (K.gift tx.next) (K.gift tx.back)) t };
+        (IsRefusing tx.refusing (K.gift tx.next) (K.gift tx.back))
+        (IsDelivered tx.refusing (K.gift tx.next) (K.gift tx.back) (λ head body taken. K.is_whole head body taken tx.next) (λ taken. K.aside taken tx.next)
+        (λ head body taken. K.is_whole head body taken tx.back) (λ taken. K.aside taken tx.back)) t };
 }
 
 impl<B: Ledgers, S: Source, V: Service, K: Hop, F: Forward<S, K>, A: Wire, W: Wire, C: Wire> Going
     for Tx<B, S, V, K, F, A, W, C> {
-    ghost use Rattle.std.specs.Prelude.{MatchOption};
+    ghost use Rattle.std.specs.Prelude.{◌≡◌, MatchOption};
     ghost use Rattle.adapt_turn.specs.Stands.{Goes};
+    ghost use Rattle.adapt_turn.specs.Moved.{SumsBytes, MovesOver};
 
     ghost goes = { λ old new. Goes (⟦<Tx<B, S, V, K, F, A, W, C> as Standing>⟧.stands old) (⟦<Tx<B, S, V, K, F, A, W, C> as Standing>⟧.stands new)
         (A.past old.source_wire) (A.past new.source_wire)
         (λ p. MatchOption old.service ⊥ (λ line. W.past line.wire p)) (λ p. MatchOption new.service ⊥ (λ line. W.past line.wire p))
         (C.past old.next_wire) (C.past new.next_wire) };
+
+    ghost moves = { λ old new n. SumsBytes (MovesOver (A.past old.source_wire) (A.past new.source_wire))
+        (λ k. MatchOption old.service (k ≡ 0) (λ line. MovesOver (W.past line.wire) (λ p. MatchOption new.service ⊥ (λ later. W.past later.wire p)) k))
+        (MovesOver (C.past old.next_wire) (C.past new.next_wire)) n };
 }
 
 impl<B: Ledgers, S: Source, V: Service, K: Hop, F: Forward<S, K>, A: Wire, W: Wire, C: Wire> Tx<

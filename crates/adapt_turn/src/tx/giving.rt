@@ -6,12 +6,13 @@ ghost use Rattle.adapt_sides.specs.declared.fault.RelayFault.TheVariants.{Device
 ghost use Rattle.adapt_sides.specs.Turns.{Gift};
 ghost use Rattle.adapt_sides.specs.Turns.Gift.{nothing};
 ghost use Rattle.adapt_hold.specs.Holding.{shows};
-ghost use Rattle.adapt_turn.specs.Parts.{hop_cause};
+ghost use Rattle.adapt_turn.specs.Parts.{hop_cause, outcome_by};
 ghost use Rattle.adapt_turn.specs.Stands.{IsChosen, Waited, Blamed};
 
 use crate::forward::Forward;
-use crate::parts::{Passed, give};
+use crate::parts::{Passed, give, outcome_by};
 use crate::start::Line;
+use crate::turned::Outcome;
 use crate::tx::passes::idle;
 use crate::tx::{Going, Tx};
 use adapt_hold::{Hold, fail};
@@ -82,7 +83,8 @@ impl<B: Ledgers, S: Source, V: Service, K: Hop, F: Forward<S, K>, A: Wire, W: Wi
         ensures busy { result ≡ None → K.gift self.new.next ≡ nothing → K.gift self.new.back ≡ nothing → ⊥ }
         ensures none { (cause : Cause) → result ≡ Some cause → (K.gift self.old.next ≡ nothing) × (K.gift self.old.back ≡ nothing) }
         ensures kept { (self.new.source_wire ≡ self.old.source_wire) × (self.new.next_wire ≡ self.old.next_wire) × (K.fault self.new.next ≡ K.fault self.old.next) × (K.fault self.new.back ≡ K.fault self.old.back) }
-        ensures outcome { self.new.outcome ≡ self.old.outcome }
+        ensures outcome { self.new.outcome ≡ outcome_by result }
+        ensures served { self.new.service ≡ self.old.service }
     {
         if !self.next.is_idle() {
             return None;
@@ -103,7 +105,8 @@ impl<B: Ledgers, S: Source, V: Service, K: Hop, F: Forward<S, K>, A: Wire, W: Wi
         ensures over { (cause : Cause) → result ≡ Some cause → (shows self.new.hold.history).closed ≡ true }
         ensures busy { result ≡ None → K.gift self.new.next ≡ nothing → K.gift self.new.back ≡ nothing → ⊥ }
         ensures kept { (self.new.source_wire ≡ self.old.source_wire) × (self.new.next_wire ≡ self.old.next_wire) × (K.fault self.new.next ≡ K.fault self.old.next) × (K.fault self.new.back ≡ K.fault self.old.back) }
-        ensures outcome { self.new.outcome ≡ self.old.outcome }
+        ensures outcome { self.new.outcome ≡ outcome_by result }
+        ensures served { self.new.service ≡ self.old.service }
     {
         let _state = self.hold.state();
         let answers = self.answers_user();
@@ -125,6 +128,7 @@ impl<B: Ledgers, S: Source, V: Service, K: Hop, F: Forward<S, K>, A: Wire, W: Wi
             }
             Err(cause) => {
                 fail(rt, bank, &mut self.hold, cause);
+                self.outcome = Outcome::Fail(cause);
                 Some(cause)
             }
         }
@@ -143,25 +147,30 @@ impl<B: Ledgers, S: Source, V: Service, K: Hop, F: Forward<S, K>, A: Wire, W: Wi
             ⊎ Waited (K.rests (shows self.old.hold.history) self.new.back) (λ past. past.write_waits) (A.past self.old.source_wire) (A.past self.new.source_wire)) }
         ensures blames { (cause : Cause) → result.failed ≡ Some cause → (Blamed Device hop_cause cause (K.fault self.old.next) (K.fault self.new.next) (C.past self.old.next_wire) (C.past self.new.next_wire)
             ⊎ Blamed Device hop_cause cause (K.fault self.old.back) (K.fault self.new.back) (A.past self.old.source_wire) (A.past self.new.source_wire)) }
-        ensures outcome { self.new.outcome ≡ self.old.outcome }
+        ensures outcome { self.new.outcome ≡ outcome_by result.failed }
+        ensures served { self.new.service ≡ self.old.service }
     {
         let _state = self.hold.state();
         if self.back.is_idle() {
-            give(
+            let passed = give(
                 rt,
                 bank,
                 &mut self.hold,
                 &mut self.next,
                 &mut self.next_wire,
-            )
+            );
+            self.outcome = outcome_by(passed.failed);
+            passed
         } else {
-            give(
+            let passed = give(
                 rt,
                 bank,
                 &mut self.hold,
                 &mut self.back,
                 &mut self.source_wire,
-            )
+            );
+            self.outcome = outcome_by(passed.failed);
+            passed
         }
     }
 
@@ -176,7 +185,8 @@ impl<B: Ledgers, S: Source, V: Service, K: Hop, F: Forward<S, K>, A: Wire, W: Wi
             ⊎ Waited (K.rests (shows self.old.hold.history) self.new.back) (λ past. past.write_waits) (A.past self.old.source_wire) (A.past self.new.source_wire)) }
         ensures blames { (cause : Cause) → result.failed ≡ Some cause → ((K.gift self.old.next ≡ nothing) × (K.gift self.old.back ≡ nothing)) ⊎ (Blamed Device hop_cause cause (K.fault self.old.next) (K.fault self.new.next) (C.past self.old.next_wire) (C.past self.new.next_wire)
             ⊎ Blamed Device hop_cause cause (K.fault self.old.back) (K.fault self.new.back) (A.past self.old.source_wire) (A.past self.new.source_wire)) }
-        ensures outcome { self.new.outcome ≡ self.old.outcome }
+        ensures outcome { self.new.outcome ≡ outcome_by result.failed }
+        ensures served { self.new.service ≡ self.old.service }
     {
         if !self.is_chosen() {
             return idle();

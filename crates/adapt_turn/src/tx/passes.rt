@@ -9,11 +9,11 @@ ghost use Rattle.adapt_sides.specs.declared.fault.RelayFault.TheVariants.{Device
 ghost use Rattle.adapt_sides.specs.Turns.{Gift};
 ghost use Rattle.adapt_sides.specs.Turns.Gift.{nothing};
 ghost use Rattle.adapt_hold.specs.Holding.{shows};
-ghost use Rattle.adapt_turn.specs.Parts.{source_cause, service_cause, hop_cause};
+ghost use Rattle.adapt_turn.specs.Parts.{source_cause, service_cause, hop_cause, outcome_by};
 ghost use Rattle.adapt_turn.specs.Stands.{IsChosen, Waited, WaitedBeside, WaitedBoth, Blamed, IsCauseOf};
 
 use crate::forward::Forward;
-use crate::parts::{Passed, close, send};
+use crate::parts::{Passed, close, outcome_by, send};
 use crate::turned::Side;
 use crate::turning::{hear, read_source};
 use crate::tx::{Going, Tx};
@@ -59,19 +59,24 @@ impl<B: Ledgers, S: Source, V: Service, K: Hop, F: Forward<S, K>, A: Wire, W: Wi
         ensures idle { result.waiting ≡ true → result.failed ≡ None }
         ensures waits { result.waiting ≡ true → Waited (S.rests (original_room (shows self.old.hold.history) self.old.hold.claim self.old.hold.limits.window) self.new.source) (λ past. past.read_waits) (A.past self.old.source_wire) (A.past self.new.source_wire) }
         ensures blames { (cause : Cause) → result.failed ≡ Some cause → (S.agrees (shows self.old.hold.history) self.old.source → Blamed Device source_cause cause (S.fault self.old.source) (S.fault self.new.source) (A.past self.old.source_wire) (A.past self.new.source_wire)) }
-        ensures outcome { self.new.outcome ≡ self.old.outcome }
+        ensures outcome { self.new.outcome ≡ outcome_by result.failed }
+        ensures served { self.old.service ≡ None → self.new.service ≡ None }
     {
         let state = self.hold.state();
         if self.source.agrees_with(state) {
-            read_source(
+            let passed = read_source(
                 rt,
                 bank,
                 &mut self.hold,
                 &mut self.source,
                 &mut self.source_wire,
-            )
+            );
+            self.outcome = outcome_by(passed.failed);
+            passed
         } else {
-            close(rt, bank, &mut self.hold, Cause::Source)
+            let passed = close(rt, bank, &mut self.hold, Cause::Source);
+            self.outcome = outcome_by(passed.failed);
+            passed
         }
     }
 
@@ -86,19 +91,24 @@ impl<B: Ledgers, S: Source, V: Service, K: Hop, F: Forward<S, K>, A: Wire, W: Wi
             (λ p. MatchOption self.old.service ⊥ (λ line. W.past line.wire p)) (λ p. MatchOption self.new.service ⊥ (λ line. W.past line.wire p)) }
         ensures blames { (cause : Cause) → result.failed ≡ Some cause → ((p : Past) → MatchOption self.old.service ⊥ (λ line. W.past line.wire p) → MatchOption self.new.service ⊥ (λ line. IsCauseOf service_cause cause (V.fault line.side))) }
         ensures whole { result.waiting ≡ true → result.broken ≡ false }
-        ensures outcome { self.new.outcome ≡ self.old.outcome }
+        ensures outcome { self.new.outcome ≡ outcome_by result.failed }
+        ensures served { self.old.service ≡ None → self.new.service ≡ None }
     {
         let _state = self.hold.state();
         let reused = self.reused;
         match &mut self.service {
-            Some(line) => send(
-                rt,
-                bank,
-                &mut self.hold,
-                &mut line.side,
-                &mut line.wire,
-                reused,
-            ),
+            Some(line) => {
+                let passed = send(
+                    rt,
+                    bank,
+                    &mut self.hold,
+                    &mut line.side,
+                    &mut line.wire,
+                    reused,
+                );
+                self.outcome = outcome_by(passed.failed);
+                passed
+            }
             None => idle(),
         }
     }
@@ -113,19 +123,24 @@ impl<B: Ledgers, S: Source, V: Service, K: Hop, F: Forward<S, K>, A: Wire, W: Wi
             (λ p. MatchOption self.old.service ⊥ (λ line. W.past line.wire p)) (λ p. MatchOption self.new.service ⊥ (λ line. W.past line.wire p)) }
         ensures rests { (x : Seen) → MatchOption self.old.service ⊤ (λ line. V.rests_writing x line.side) → MatchOption self.new.service ⊤ (λ line. V.rests_writing x line.side) }
         ensures blames { (cause : Cause) → result.failed ≡ Some cause → ((p : Past) → MatchOption self.old.service ⊥ (λ line. W.past line.wire p) → MatchOption self.new.service ⊥ (λ line. IsCauseOf service_cause cause (V.fault line.side))) }
-        ensures outcome { self.new.outcome ≡ self.old.outcome }
+        ensures outcome { self.new.outcome ≡ outcome_by result.failed }
+        ensures served { self.old.service ≡ None → self.new.service ≡ None }
     {
         let _state = self.hold.state();
         let reused = self.reused;
         match &mut self.service {
-            Some(line) => hear(
-                rt,
-                bank,
-                &mut self.hold,
-                &mut line.side,
-                &mut line.wire,
-                reused,
-            ),
+            Some(line) => {
+                let passed = hear(
+                    rt,
+                    bank,
+                    &mut self.hold,
+                    &mut line.side,
+                    &mut line.wire,
+                    reused,
+                );
+                self.outcome = outcome_by(passed.failed);
+                passed
+            }
             None => idle(),
         }
     }
@@ -139,7 +154,8 @@ impl<B: Ledgers, S: Source, V: Service, K: Hop, F: Forward<S, K>, A: Wire, W: Wi
         ensures waits { result.waiting ≡ true → WaitedBoth (MatchOption self.new.service ⊤ (λ line. V.rests_writing (shows self.old.hold.history) line.side)) (MatchOption self.new.service ⊤ (λ line. V.rests_reading (shows self.old.hold.history) (adapted_room (shows self.old.hold.history) self.old.hold.limits.window) line.side))
             (λ p. MatchOption self.old.service ⊥ (λ line. W.past line.wire p)) (λ p. MatchOption self.new.service ⊥ (λ line. W.past line.wire p)) }
         ensures blames { (cause : Cause) → result.failed ≡ Some cause → ((p : Past) → MatchOption self.old.service ⊥ (λ line. W.past line.wire p) → MatchOption self.new.service ⊥ (λ line. IsCauseOf service_cause cause (V.fault line.side))) }
-        ensures outcome { self.new.outcome ≡ self.old.outcome }
+        ensures outcome { self.new.outcome ≡ outcome_by result.failed }
+        ensures served { self.old.service ≡ None → self.new.service ≡ None }
     {
         let sent = self.send_pass(rt, bank);
         if sent.broken {
@@ -171,26 +187,13 @@ impl<B: Ledgers, S: Source, V: Service, K: Hop, F: Forward<S, K>, A: Wire, W: Wi
         ensures blames_service { side ≡ Side.Service → (cause : Cause) → result.failed ≡ Some cause → ((p : Past) → MatchOption self.old.service ⊥ (λ line. W.past line.wire p) → MatchOption self.new.service ⊥ (λ line. IsCauseOf service_cause cause (V.fault line.side))) }
         ensures blames_next { side ≡ Side.NextHop → (cause : Cause) → result.failed ≡ Some cause → ((K.gift self.old.next ≡ nothing) × (K.gift self.old.back ≡ nothing)) ⊎ (Blamed Device hop_cause cause (K.fault self.old.next) (K.fault self.new.next) (C.past self.old.next_wire) (C.past self.new.next_wire)
             ⊎ Blamed Device hop_cause cause (K.fault self.old.back) (K.fault self.new.back) (A.past self.old.source_wire) (A.past self.new.source_wire)) }
-        ensures outcome { self.new.outcome ≡ self.old.outcome }
+        ensures outcome { self.new.outcome ≡ outcome_by result.failed }
+        ensures served { self.old.service ≡ None → self.new.service ≡ None }
     {
         match side {
             Side::Source => self.source_pass(rt, bank),
             Side::Service => self.service_pass(rt, bank),
             Side::NextHop => self.next_pass(rt, bank),
         }
-    }
-
-    /// The bytes that the wires gave and took so far.
-    pub(crate) fn counts(&self) -> u64 {
-        let (read, back) = self.source_wire.counts();
-        let (_, given) = self.next_wire.counts();
-        let (heard, sent) = match &self.service {
-            Some(line) => line.wire.counts(),
-            None => (0, 0),
-        };
-        read.saturating_add(back)
-            .saturating_add(given)
-            .saturating_add(heard)
-            .saturating_add(sent)
     }
 }

@@ -1,11 +1,12 @@
 //! The proxy's own refusals.
 
-ghost use Rattle.std.specs.Prelude.{◌≡◌, true, false, [], Some, None};
+ghost use Rattle.std.specs.Prelude.{◌≡◌, ℕ, true, false, [], Some, None};
 ghost use Rattle.trace_core.specs.declared.history.Event.TheVariants.{Fail};
 ghost use Rattle.trace_core.specs.declared.history.Cause.{Cause};
 ghost use Rattle.adapt_sides.specs.Turns.{Gift, IsOwnStatus};
 ghost use Rattle.adapt_sides.specs.Turns.Gift.{refusal};
 ghost use Rattle.adapt_hold.specs.Holding.{shows, moved};
+ghost use Rattle.adapt_turn.specs.Parts.{outcome_by};
 ghost use Rattle.adapt_turn.specs.Stands.{TakesAside};
 
 use crate::forward::Forward;
@@ -31,13 +32,12 @@ fn status_of(cause: Cause, point: Point) -> u16
     }
 }
 
-/// Writes what is due of a refusal. `None` where it is out, or its wire has failed.
+/// Writes what is due of a refusal, and says whether it waits. `None` where it is out, or its wire has failed.
 fn refusal_turn<B: Ledgers, K: Hop, C: Wire>(
     hold: &Hold<B>,
     hop: &mut K,
     wire: &mut C,
-) -> Option<Turned>
-    ensures open { (outcome : Outcome) → result ≡ Some (Turned.Finished outcome) → ⊥ }
+) -> Option<bool>
     ensures gift { K.gift hop.new ≡ K.gift hop.old }
     ensures takes { TakesAside (λ taken. K.aside taken hop.old) (λ taken. K.aside taken hop.new) (C.past wire.old) (C.past wire.new) }
 {
@@ -47,18 +47,11 @@ fn refusal_turn<B: Ledgers, K: Hop, C: Wire>(
     if hop.fault().is_some() {
         return None;
     }
-    let (_, before) = wire.counts();
     let state = hold.state();
     let tape = tape_of(hold);
-    let waiting = match hop.write_turn(state, tape, wire) {
-        Ok(turn) => turn.waiting,
-        Err(_) => return None,
-    };
-    let (_, after) = wire.counts();
-    if waiting {
-        Some(Turned::Waiting)
-    } else {
-        Some(Turned::Moved(after.saturating_sub(before)))
+    match hop.write_turn(state, tape, wire) {
+        Ok(turn) => Some(turn.waiting),
+        Err(_) => None,
     }
 }
 
@@ -97,9 +90,9 @@ impl<B: Ledgers, S: Source, V: Service, K: Hop, F: Forward<S, K>, A: Wire, W: Wi
     }
 
     /// Puts the proxy's own refusal on the next hop's wire, where no byte has gone out on it.
-    fn refuse_next(&mut self, status: u16)
-        requires status { IsOwnStatus status }
+    fn refuse_next(&mut self, cause: Cause)
         requires over { (shows self.old.hold.history).closed ≡ true }
+        requires failed { self.old.outcome ≡ Outcome.Fail cause }
         requires point { (shows self.old.hold.history).plan.point ≡ Point.Respmod }
         ensures goes { ⟦<Self as Going>⟧.goes self.old self.new }
         ensures hold { self.new.hold ≡ self.old.hold }
@@ -107,13 +100,14 @@ impl<B: Ledgers, S: Source, V: Service, K: Hop, F: Forward<S, K>, A: Wire, W: Wi
         ensures kept { (self.new.source ≡ self.old.source) × (self.new.source_wire ≡ self.old.source_wire) × (self.new.service ≡ self.old.service) × (self.new.next_wire ≡ self.old.next_wire)
             × (K.fault self.new.next ≡ K.fault self.old.next) × (K.fault self.new.back ≡ K.fault self.old.back) }
     {
+        let status = status_of(cause, Point::Respmod);
         self.refusing = refuse_on(&mut self.next, status);
     }
 
     /// Puts the proxy's own refusal on the source's wire, where no byte has gone out on it.
-    fn refuse_back(&mut self, status: u16)
-        requires status { IsOwnStatus status }
+    fn refuse_back(&mut self, cause: Cause)
         requires over { (shows self.old.hold.history).closed ≡ true }
+        requires failed { self.old.outcome ≡ Outcome.Fail cause }
         requires point { (shows self.old.hold.history).plan.point ≡ Point.Reqmod }
         ensures goes { ⟦<Self as Going>⟧.goes self.old self.new }
         ensures hold { self.new.hold ≡ self.old.hold }
@@ -121,34 +115,33 @@ impl<B: Ledgers, S: Source, V: Service, K: Hop, F: Forward<S, K>, A: Wire, W: Wi
         ensures kept { (self.new.source ≡ self.old.source) × (self.new.source_wire ≡ self.old.source_wire) × (self.new.service ≡ self.old.service) × (self.new.next_wire ≡ self.old.next_wire)
             × (K.fault self.new.next ≡ K.fault self.old.next) × (K.fault self.new.back ≡ K.fault self.old.back) }
     {
+        let status = status_of(cause, Point::Reqmod);
         self.refusing = refuse_on(&mut self.back, status);
     }
 
     /// Puts the proxy's own refusal where no byte has gone to the user.
     pub(crate) fn refuse(&mut self, cause: Cause)
         requires over { (shows self.old.hold.history).closed ≡ true }
+        requires failed { self.old.outcome ≡ Outcome.Fail cause }
         ensures goes { ⟦<Self as Going>⟧.goes self.old self.new }
         ensures hold { self.new.hold ≡ self.old.hold }
-        ensures outcome { self.new.outcome ≡ Outcome.Fail cause }
+        ensures outcome { self.new.outcome ≡ self.old.outcome }
         ensures kept { (self.new.source ≡ self.old.source) × (self.new.source_wire ≡ self.old.source_wire) × (self.new.service ≡ self.old.service) × (self.new.next_wire ≡ self.old.next_wire)
             × (K.fault self.new.next ≡ K.fault self.old.next) × (K.fault self.new.back ≡ K.fault self.old.back) }
     {
-        self.outcome = Outcome::Fail(cause);
-        let point = self.point();
-        let status = status_of(cause, point);
-        match point {
-            Point::Reqmod => self.refuse_back(status),
-            Point::Respmod => self.refuse_next(status),
+        match self.point() {
+            Point::Reqmod => self.refuse_back(cause),
+            Point::Respmod => self.refuse_next(cause),
         }
     }
 
     /// Puts it where a pass has failed.
     pub(crate) fn refuse_failed(&mut self, failed: Option<Cause>)
         requires over { (cause : Cause) → failed ≡ Some cause → (shows self.old.hold.history).closed ≡ true }
+        requires outcome { self.old.outcome ≡ outcome_by failed }
         ensures goes { ⟦<Self as Going>⟧.goes self.old self.new }
         ensures hold { self.new.hold ≡ self.old.hold }
-        ensures none { failed ≡ None → self.new.outcome ≡ self.old.outcome }
-        ensures some { (cause : Cause) → failed ≡ Some cause → self.new.outcome ≡ Outcome.Fail cause }
+        ensures outcome { self.new.outcome ≡ self.old.outcome }
         ensures kept { (self.new.source ≡ self.old.source) × (self.new.source_wire ≡ self.old.source_wire) × (self.new.service ≡ self.old.service) × (self.new.next_wire ≡ self.old.next_wire)
             × (K.fault self.new.next ≡ K.fault self.old.next) × (K.fault self.new.back ≡ K.fault self.old.back) }
         ensures same { failed ≡ None → (self.new.next ≡ self.old.next) × (self.new.back ≡ self.old.back) }
@@ -166,18 +159,20 @@ impl<B: Ledgers, S: Source, V: Service, K: Hop, F: Forward<S, K>, A: Wire, W: Wi
         ensures hold { self.new.hold ≡ moved self.old.hold (Fail cause) [] }
         ensures over { (shows self.new.hold.history).closed ≡ true }
         ensures outcome { self.new.outcome ≡ Outcome.Fail cause }
+        ensures kept { (self.new.source_wire ≡ self.old.source_wire) × (self.new.service ≡ self.old.service) × (self.new.next_wire ≡ self.old.next_wire) }
     {
         let _state = self.hold.state();
         fail(rt, bank, &mut self.hold, cause);
+        self.outcome = Outcome::Fail(cause);
         self.refuse(cause);
     }
 
     /// Writes what is due of a refusal on the next hop's wire.
-    fn refusal_next(&mut self) -> Option<Turned>
+    fn refusal_next(&mut self) -> Option<bool>
         requires due { self.old.refusing ≡ true }
         requires point { (shows self.old.hold.history).plan.point ≡ Point.Respmod }
         ensures goes { ⟦<Self as Going>⟧.goes self.old self.new }
-        ensures open { (outcome : Outcome) → result ≡ Some (Turned.Finished outcome) → ⊥ }
+        ensures served { self.new.service ≡ self.old.service }
         ensures hold { self.new.hold ≡ self.old.hold }
         ensures outcome { self.new.outcome ≡ self.old.outcome }
     {
@@ -185,11 +180,11 @@ impl<B: Ledgers, S: Source, V: Service, K: Hop, F: Forward<S, K>, A: Wire, W: Wi
     }
 
     /// Writes what is due of a refusal on the source's wire.
-    fn refusal_back(&mut self) -> Option<Turned>
+    fn refusal_back(&mut self) -> Option<bool>
         requires due { self.old.refusing ≡ true }
         requires point { (shows self.old.hold.history).plan.point ≡ Point.Reqmod }
         ensures goes { ⟦<Self as Going>⟧.goes self.old self.new }
-        ensures open { (outcome : Outcome) → result ≡ Some (Turned.Finished outcome) → ⊥ }
+        ensures served { self.new.service ≡ self.old.service }
         ensures hold { self.new.hold ≡ self.old.hold }
         ensures outcome { self.new.outcome ≡ self.old.outcome }
     {
@@ -197,10 +192,10 @@ impl<B: Ledgers, S: Source, V: Service, K: Hop, F: Forward<S, K>, A: Wire, W: Wi
     }
 
     /// Writes what is due of a refusal.
-    fn refusal(&mut self) -> Option<Turned>
+    fn refusal(&mut self) -> Option<bool>
         requires due { self.old.refusing ≡ true }
         ensures goes { ⟦<Self as Going>⟧.goes self.old self.new }
-        ensures open { (outcome : Outcome) → result ≡ Some (Turned.Finished outcome) → ⊥ }
+        ensures served { self.new.service ≡ self.old.service }
         ensures hold { self.new.hold ≡ self.old.hold }
         ensures outcome { self.new.outcome ≡ self.old.outcome }
     {
@@ -216,13 +211,16 @@ impl<B: Ledgers, S: Source, V: Service, K: Hop, F: Forward<S, K>, A: Wire, W: Wi
         ensures hold { self.new.hold ≡ self.old.hold }
         ensures outcome { (outcome : Outcome) → result ≡ Turned.Finished outcome → outcome ≡ self.old.outcome }
         ensures same { self.new.outcome ≡ self.old.outcome }
+        ensures moved { (n : ℕ) → result ≡ Turned.Moved n → ⟦<Self as Going>⟧.moves self.old self.new n }
         ensures finished { self.old.refusing ≡ false → result ≡ Turned.Finished self.old.outcome }
     {
         if !self.refusing {
             return Turned::Finished(self.outcome);
         }
+        let before = self.counts();
         match self.refusal() {
-            Some(turned) => turned,
+            Some(true) => Turned::Waiting,
+            Some(false) => Turned::Moved(self.counts().since(before)),
             None => Turned::Finished(self.outcome),
         }
     }

@@ -10,8 +10,8 @@ ghost use Rattle.adapt_sides.specs.declared.fault.RelayFault.TheVariants.{Device
 ghost use Rattle.adapt_sides.specs.Turns.{Gift};
 ghost use Rattle.adapt_sides.specs.Turns.Gift.{nothing};
 ghost use Rattle.adapt_hold.specs.Holding.{shows, moved};
-ghost use Rattle.adapt_turn.specs.Parts.{source_cause, service_cause, hop_cause};
-ghost use Rattle.adapt_turn.specs.Stands.{IsChosen, Waited, WaitedBoth, Blamed, IsCauseOf};
+ghost use Rattle.adapt_turn.specs.Parts.{source_cause, service_cause, hop_cause, outcome_by};
+ghost use Rattle.adapt_turn.specs.Stands.{IsChosen, IsDone, Waited, WaitedBoth, Blamed, IsCauseOf};
 
 use crate::forward::Forward;
 use crate::parts::Passed;
@@ -66,23 +66,26 @@ impl<B: Ledgers, S: Source, V: Service, K: Hop, F: Forward<S, K>, A: Wire, W: Wi
         ensures deadline { (shows self.old.hold.history).closed ≡ false → self.old.last_moved + self.old.deadline ≤ now
             → (self.new.hold ≡ moved self.old.hold (Fail Deadline) []) × (result ≡ Turned.Moved 0) × (self.new.outcome ≡ Outcome.Fail Deadline) }
         ensures closed { (shows self.old.hold.history).closed ≡ true → (self.new.hold ≡ self.old.hold) × (self.new.outcome ≡ self.old.outcome) }
+        ensures moved { (n : ℕ) → result ≡ Turned.Moved n → ⟦<Self as Going>⟧.moves self.old self.new n }
         ensures finished { (outcome : Outcome) → result ≡ Turned.Finished outcome → ((shows self.old.hold.history).closed ≡ true) × (outcome ≡ self.old.outcome) }
+        ensures done { result ≡ Turned.Finished Outcome.Done → IsDone self.new.hold.history }
         ensures waits_source { side ≡ Side.Source → (shows self.old.hold.history).closed ≡ false → result ≡ Turned.Waiting → Waited (S.rests (original_room (shows self.old.hold.history) self.old.hold.claim self.old.hold.limits.window) self.new.source) (λ past. past.read_waits) (A.past self.old.source_wire) (A.past self.new.source_wire) }
         ensures waits_service { side ≡ Side.Service → (shows self.old.hold.history).closed ≡ false → result ≡ Turned.Waiting → WaitedBoth (MatchOption self.new.service ⊤ (λ line. V.rests_writing (shows self.old.hold.history) line.side)) (MatchOption self.new.service ⊤ (λ line. V.rests_reading (shows self.old.hold.history) (adapted_room (shows self.old.hold.history) self.old.hold.limits.window) line.side))
             (λ p. MatchOption self.old.service ⊥ (λ line. W.past line.wire p)) (λ p. MatchOption self.new.service ⊥ (λ line. W.past line.wire p)) }
         ensures waits_next { side ≡ Side.NextHop → (shows self.old.hold.history).closed ≡ false → result ≡ Turned.Waiting → (IsChosen (shows self.old.hold.history) → ⊥) ⊎ (Waited (K.rests (shows self.old.hold.history) self.new.next) (λ past. past.write_waits) (C.past self.old.next_wire) (C.past self.new.next_wire)
             ⊎ Waited (K.rests (shows self.old.hold.history) self.new.back) (λ past. past.write_waits) (A.past self.old.source_wire) (A.past self.new.source_wire)) }
-        ensures fails_source { side ≡ Side.Source → (shows self.old.hold.history).closed ≡ false → self.old.outcome ≡ Outcome.Done → (cause : Cause) → self.new.outcome ≡ Outcome.Fail cause
+        ensures fails_source { side ≡ Side.Source → (shows self.old.hold.history).closed ≡ false → (cause : Cause) → self.new.outcome ≡ Outcome.Fail cause
             → ((cause ≡ Deadline) × (self.old.last_moved + self.old.deadline ≤ now)) ⊎ (S.agrees (shows self.old.hold.history) self.old.source → Blamed Device source_cause cause (S.fault self.old.source) (S.fault self.new.source) (A.past self.old.source_wire) (A.past self.new.source_wire)) }
-        ensures fails_service { side ≡ Side.Service → (shows self.old.hold.history).closed ≡ false → self.old.outcome ≡ Outcome.Done → (cause : Cause) → self.new.outcome ≡ Outcome.Fail cause
+        ensures fails_service { side ≡ Side.Service → (shows self.old.hold.history).closed ≡ false → (cause : Cause) → self.new.outcome ≡ Outcome.Fail cause
             → ((cause ≡ Deadline) × (self.old.last_moved + self.old.deadline ≤ now)) ⊎ ((p : Past) → MatchOption self.old.service ⊥ (λ line. W.past line.wire p) → MatchOption self.new.service ⊥ (λ line. IsCauseOf service_cause cause (V.fault line.side))) }
-        ensures fails_next { side ≡ Side.NextHop → (shows self.old.hold.history).closed ≡ false → self.old.outcome ≡ Outcome.Done → (cause : Cause) → self.new.outcome ≡ Outcome.Fail cause
+        ensures fails_next { side ≡ Side.NextHop → (shows self.old.hold.history).closed ≡ false → (cause : Cause) → self.new.outcome ≡ Outcome.Fail cause
             → ((cause ≡ Deadline) × (self.old.last_moved + self.old.deadline ≤ now)) ⊎ (((K.gift self.old.next ≡ nothing) × (K.gift self.old.back ≡ nothing)) ⊎ (Blamed Device hop_cause cause (K.fault self.old.next) (K.fault self.new.next) (C.past self.old.next_wire) (C.past self.new.next_wire)
             ⊎ Blamed Device hop_cause cause (K.fault self.old.back) (K.fault self.new.back) (A.past self.old.source_wire) (A.past self.new.source_wire))) }
     {
         if self.is_closed() {
             return self.closed_turn();
         }
+        let before = self.counts();
         if now >= self.last_moved && now - self.last_moved >= self.deadline {
             self.fail_by(rt, bank, Cause::Deadline);
             return Turned::Moved(0);
@@ -90,20 +93,20 @@ impl<B: Ledgers, S: Source, V: Service, K: Hop, F: Forward<S, K>, A: Wire, W: Wi
         if matches!(side, Side::Service) && self.is_broken() {
             return Turned::Broken;
         }
-        let before = self.counts();
         let passed = self.pass(rt, bank, side);
-        let moved = self.counts().saturating_sub(before);
+        let moved = self.counts().since(before);
         self.after_pass(passed, moved, now)
     }
 
     /// What a turn answers, by what its pass did.
     fn after_pass(&mut self, passed: Passed, moved: u64, now: u64) -> Turned
         requires over { (cause : Cause) → passed.failed ≡ Some cause → (shows self.old.hold.history).closed ≡ true }
+        requires outcome { self.old.outcome ≡ outcome_by passed.failed }
         ensures goes { ⟦<Self as Going>⟧.goes self.old self.new }
         ensures open { (outcome : Outcome) → result ≡ Turned.Finished outcome → ⊥ }
         ensures waiting { result ≡ Turned.Waiting → passed.waiting ≡ true }
-        ensures none { passed.failed ≡ None → self.new.outcome ≡ self.old.outcome }
-        ensures some { (cause : Cause) → passed.failed ≡ Some cause → self.new.outcome ≡ Outcome.Fail cause }
+        ensures outcome { self.new.outcome ≡ self.old.outcome }
+        ensures moved { (n : ℕ) → result ≡ Turned.Moved n → n ≡ moved }
         ensures kept { (self.new.source ≡ self.old.source) × (self.new.source_wire ≡ self.old.source_wire) × (self.new.service ≡ self.old.service) × (self.new.next_wire ≡ self.old.next_wire)
             × (K.fault self.new.next ≡ K.fault self.old.next) × (K.fault self.new.back ≡ K.fault self.old.back) }
         ensures same { passed.failed ≡ None → (self.new.next ≡ self.old.next) × (self.new.back ≡ self.old.back) }

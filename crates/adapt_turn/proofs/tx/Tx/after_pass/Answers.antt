@@ -8,9 +8,3 @@ returns-clause-kept g c = c.refuse_failed.ensures.kept
 
 pub returns-clause-same : goal.returns-clause-same
 returns-clause-same g c = c.refuse_failed.ensures.same
-
-pub returns-clause-none : goal.returns-clause-none
-returns-clause-none g c = c.refuse_failed.ensures.none
-
-pub returns-clause-some : goal.returns-clause-some
-returns-clause-some g c = c.refuse_failed.ensures.some

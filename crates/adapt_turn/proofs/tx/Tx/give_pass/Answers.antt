@@ -1,35 +1,42 @@
 use Rattle.adapt_turn.proofs.Together.{others_of}
 use Rattle.adapt_turn.proofs.Giving.{next_goes, back_goes}
-use Rattle.std.proofs.Common.{inl, inr}
+use Rattle.std.proofs.Common.{inl, inr, refl, ◌∙◌}
 use Rattle.adapt_turn.proofs.Reasons.{part_idle, part_waits, part_blames}
+use Rattle.adapt_turn.proofs.Told.{part_told}
 use Rattle.adapt_turn.proofs.tx.Tx.give_pass.Goals as goal
 
 pub returns-then-is_idle-clause-goes : goal.returns-then-is_idle-clause-goes
 returns-then-is_idle-clause-goes g c =
-    next_goes c.args.self.now.hold c.give.new.hold _ _ _ _ (g.K.Hop.gift c.args.self.now.next) (g.K.Hop.gift c.give.new.hop) (g.K.Hop.gift c.args.self.now.back) _ _ _ _ _ _ c.args.self.now.refusing _ _ _ _ _ _ _ _ c.give.result
-    (others_of g.S.Source.agrees g.S.Source.has_read g.V.Service.has_sent g.V.Service.has_heard g.K.Hop.has_given g.K.Hop.gift g.K.Hop.aside g.met.S.Source.others_agree g.met.S.Source.others g.met.V.Service.others_sent g.met.V.Service.others_heard g.met.K.Hop.others c.args.self.now.source c.args.self.now.service c.give.new.hop c.args.self.now.back c.args.self.now.refusing)
-    c.state-state.ensures.tied c.requires.running (c.is_idle.ensures.idle c.if-is_idle.true) (λ n. c.requires.begun n (c.is_idle.ensures.idle c.if-is_idle.true)) c.give.ensures.gift c.give.ensures.part
+    next_goes c.args.self.now.hold c.give-passed.new.hold _ _ _ _ (g.K.Hop.gift c.args.self.now.next) (g.K.Hop.gift c.give-passed.new.hop) (g.K.Hop.gift c.args.self.now.back) _ _ _ _ _ _ c.args.self.now.refusing _ (λ head body taken. g.K.Hop.is_whole head body taken c.args.self.now.back) _ _ _ _ _ _ _ _ c.give-passed.result
+    (others_of g.S.Source.agrees g.S.Source.has_read g.V.Service.has_sent g.V.Service.has_heard g.K.Hop.has_given g.K.Hop.gift g.K.Hop.aside g.met.S.Source.others_agree g.met.S.Source.others g.met.V.Service.others_sent g.met.V.Service.others_heard g.met.K.Hop.others c.args.self.now.source c.args.self.now.service c.give-passed.new.hop c.args.self.now.back c.args.self.now.refusing)
+    c.state-state.ensures.tied c.requires.running (c.is_idle.ensures.idle c.if-is_idle.true) (λ n. c.requires.begun n (c.is_idle.ensures.idle c.if-is_idle.true)) c.give-passed.ensures.gift c.give-passed.ensures.part
 
 pub returns-else-is_idle-clause-goes : goal.returns-else-is_idle-clause-goes
 returns-else-is_idle-clause-goes g c =
-    back_goes c.args.self.now.hold c.give-else-is_idle.new.hold _ _ _ _ (g.K.Hop.gift c.args.self.now.next) (g.K.Hop.gift c.args.self.now.back) (g.K.Hop.gift c.give-else-is_idle.new.hop) _ _ _ _ _ _ c.args.self.now.refusing _ _ _ _ _ _ _ _ c.give-else-is_idle.result
-    (others_of g.S.Source.agrees g.S.Source.has_read g.V.Service.has_sent g.V.Service.has_heard g.K.Hop.has_given g.K.Hop.gift g.K.Hop.aside g.met.S.Source.others_agree g.met.S.Source.others g.met.V.Service.others_sent g.met.V.Service.others_heard g.met.K.Hop.others c.args.self.now.source c.args.self.now.service c.args.self.now.next c.give-else-is_idle.new.hop c.args.self.now.refusing)
-    c.state-state.ensures.tied c.requires.running (c.is_idle.ensures.busy c.if-is_idle.false) c.give-else-is_idle.ensures.gift c.give-else-is_idle.ensures.part
+    back_goes c.args.self.now.hold c.give-passed-else-is_idle.new.hold _ _ _ _ (g.K.Hop.gift c.args.self.now.next) (g.K.Hop.gift c.args.self.now.back) (g.K.Hop.gift c.give-passed-else-is_idle.new.hop) _ _ _ _ _ _ c.args.self.now.refusing _ (λ head body taken. g.K.Hop.is_whole head body taken c.args.self.now.next) _ _ _ _ _ _ _ _ c.give-passed-else-is_idle.result
+    (others_of g.S.Source.agrees g.S.Source.has_read g.V.Service.has_sent g.V.Service.has_heard g.K.Hop.has_given g.K.Hop.gift g.K.Hop.aside g.met.S.Source.others_agree g.met.S.Source.others g.met.V.Service.others_sent g.met.V.Service.others_heard g.met.K.Hop.others c.args.self.now.source c.args.self.now.service c.args.self.now.next c.give-passed-else-is_idle.new.hop c.args.self.now.refusing)
+    c.state-state.ensures.tied c.requires.running (c.is_idle.ensures.busy c.if-is_idle.false) c.give-passed-else-is_idle.ensures.gift c.give-passed-else-is_idle.ensures.part
 
 pub returns-then-is_idle-clause-idle : goal.returns-then-is_idle-clause-idle
-returns-then-is_idle-clause-idle g c = λ e. part_idle _ _ _ _ _ _ _ _ _ _ _ _ _ _ _ _ _ c.give.ensures.part.part e
+returns-then-is_idle-clause-idle g c = λ e. part_idle _ _ _ _ _ _ _ _ _ _ _ _ _ _ _ _ _ c.give-passed.ensures.part.part e
 
 pub returns-then-is_idle-clause-waits : goal.returns-then-is_idle-clause-waits
-returns-then-is_idle-clause-waits g c = λ e. inl (part_waits _ _ _ _ _ _ _ _ _ _ _ _ _ _ _ _ _ c.give.ensures.part.part e)
+returns-then-is_idle-clause-waits g c = λ e. inl (part_waits _ _ _ _ _ _ _ _ _ _ _ _ _ _ _ _ _ c.give-passed.ensures.part.part e)
 
 pub returns-then-is_idle-clause-blames : goal.returns-then-is_idle-clause-blames
-returns-then-is_idle-clause-blames g c = λ cause e. inl (part_blames _ _ _ _ _ _ _ _ _ _ _ _ _ _ _ _ _ c.give.ensures.part.part cause e)
+returns-then-is_idle-clause-blames g c = λ cause e. inl (part_blames _ _ _ _ _ _ _ _ _ _ _ _ _ _ _ _ _ c.give-passed.ensures.part.part cause e)
 
 pub returns-else-is_idle-clause-idle : goal.returns-else-is_idle-clause-idle
-returns-else-is_idle-clause-idle g c = λ e. part_idle _ _ _ _ _ _ _ _ _ _ _ _ _ _ _ _ _ c.give-else-is_idle.ensures.part.part e
+returns-else-is_idle-clause-idle g c = λ e. part_idle _ _ _ _ _ _ _ _ _ _ _ _ _ _ _ _ _ c.give-passed-else-is_idle.ensures.part.part e
 
 pub returns-else-is_idle-clause-waits : goal.returns-else-is_idle-clause-waits
-returns-else-is_idle-clause-waits g c = λ e. inr (part_waits _ _ _ _ _ _ _ _ _ _ _ _ _ _ _ _ _ c.give-else-is_idle.ensures.part.part e)
+returns-else-is_idle-clause-waits g c = λ e. inr (part_waits _ _ _ _ _ _ _ _ _ _ _ _ _ _ _ _ _ c.give-passed-else-is_idle.ensures.part.part e)
 
 pub returns-else-is_idle-clause-blames : goal.returns-else-is_idle-clause-blames
-returns-else-is_idle-clause-blames g c = λ cause e. inr (part_blames _ _ _ _ _ _ _ _ _ _ _ _ _ _ _ _ _ c.give-else-is_idle.ensures.part.part cause e)
+returns-else-is_idle-clause-blames g c = λ cause e. inr (part_blames _ _ _ _ _ _ _ _ _ _ _ _ _ _ _ _ _ c.give-passed-else-is_idle.ensures.part.part cause e)
+
+pub invariant_of-self : goal.invariant_of-self
+invariant_of-self g c = record { roomy = c.give-passed.ensures.roomy; told = c.outcome_by-self.ensures ∙ part_told _ _ _ _ _ _ _ _ _ _ _ _ _ _ _ _ _ (λ cause. refl) c.state-state.ensures.tied c.requires.running c.give-passed.ensures.part.part }
+
+pub invariant_of-self-else-is_idle : goal.invariant_of-self-else-is_idle
+invariant_of-self-else-is_idle g c = record { roomy = c.give-passed-else-is_idle.ensures.roomy; told = c.outcome_by-self-else-is_idle.ensures ∙ part_told _ _ _ _ _ _ _ _ _ _ _ _ _ _ _ _ _ (λ cause. refl) c.state-state.ensures.tied c.requires.running c.give-passed-else-is_idle.ensures.part.part }

@@ -1,29 +1,33 @@
 use Rattle.std.proofs.Common.{Some}
 use Rattle.adapt_turn.proofs.Together.{others_of, hear_goes, goes_none}
 use Rattle.adapt_turn.proofs.Reasons.{part_idle, hear_waits, line_blames}
-use Rattle.std.proofs.Common.{Option, subst}
+use Rattle.std.proofs.Common.{Option, refl, ◌∙◌, subst}
 use Rattle.std.specs.Prelude.{MatchOption}
 use Rattle.adapt_turn.specs.declared.start.Line.{Line}
+use Rattle.adapt_turn.proofs.Told.{part_told}
 use Rattle.adapt_turn.proofs.tx.Tx.hear_pass.Goals as goal
 
 pub returns-in-Some-clause-goes : goal.returns-in-Some-clause-goes
 returns-in-Some-clause-goes g c =
-    hear_goes c.args.self.now.service c.in-Some.line (record { side = c.hear.new.service; wire = c.hear.new.wire }) c.args.self.now.hold c.hear.new.hold _ _
-    (λ l x came taken. g.V.Service.has_sent x came taken l.side) (λ l x adapted text. g.V.Service.has_heard x adapted text l.side) (λ l p. g.W.Wire.past l.wire p) _ _ _ _ _ _ _ c.hear.result
-    c.in-Some.is (others_of g.S.Source.agrees g.S.Source.has_read g.V.Service.has_sent g.V.Service.has_heard g.K.Hop.has_given g.K.Hop.gift g.K.Hop.aside g.met.S.Source.others_agree g.met.S.Source.others g.met.V.Service.others_sent g.met.V.Service.others_heard g.met.K.Hop.others c.args.self.now.source (Some (record { side = c.hear.new.service; wire = c.hear.new.wire })) c.args.self.now.next c.args.self.now.back c.args.self.now.refusing)
-    c.hear.ensures.sent c.state-state.ensures.tied c.requires.running c.hear.ensures.part
+    hear_goes c.args.self.now.service c.in-Some.line (record { side = c.hear-passed.new.service; wire = c.hear-passed.new.wire }) c.args.self.now.hold c.hear-passed.new.hold _ _
+    (λ l x came taken. g.V.Service.has_sent x came taken l.side) (λ l x adapted text. g.V.Service.has_heard x adapted text l.side) (λ l p. g.W.Wire.past l.wire p) _ _ _ _ _ _ _ _ c.hear-passed.result
+    c.in-Some.is (others_of g.S.Source.agrees g.S.Source.has_read g.V.Service.has_sent g.V.Service.has_heard g.K.Hop.has_given g.K.Hop.gift g.K.Hop.aside g.met.S.Source.others_agree g.met.S.Source.others g.met.V.Service.others_sent g.met.V.Service.others_heard g.met.K.Hop.others c.args.self.now.source (Some (record { side = c.hear-passed.new.service; wire = c.hear-passed.new.wire })) c.args.self.now.next c.args.self.now.back c.args.self.now.refusing)
+    c.hear-passed.ensures.sent c.state-state.ensures.tied c.requires.running c.hear-passed.ensures.part
 
 pub returns-in-None-clause-goes : goal.returns-in-None-clause-goes
 returns-in-None-clause-goes g c = goes_none _ _ _ _
 
 pub returns-in-Some-clause-idle : goal.returns-in-Some-clause-idle
-returns-in-Some-clause-idle g c = λ e. part_idle _ _ _ _ _ _ _ _ _ _ _ _ _ _ _ _ _ c.hear.ensures.part.part e
+returns-in-Some-clause-idle g c = λ e. part_idle _ _ _ _ _ _ _ _ _ _ _ _ _ _ _ _ _ c.hear-passed.ensures.part.part e
 
 pub returns-in-Some-clause-waits : goal.returns-in-Some-clause-waits
-returns-in-Some-clause-waits g c = λ e. hear_waits c.args.self.now.service c.in-Some.line (λ l p. g.W.Wire.past l.wire p) _ _ _ _ _ _ _ _ _ _ _ _ _ c.hear.result c.in-Some.is c.hear.ensures.part.part e
+returns-in-Some-clause-waits g c = λ e. hear_waits c.args.self.now.service c.in-Some.line (λ l p. g.W.Wire.past l.wire p) _ _ _ _ _ _ _ _ _ _ _ _ _ c.hear-passed.result c.in-Some.is c.hear-passed.ensures.part.part e
 
 pub returns-in-Some-clause-blames : goal.returns-in-Some-clause-blames
-returns-in-Some-clause-blames g c = λ cause e p b. line_blames c.args.self.now.service c.in-Some.line (λ l p. g.W.Wire.past l.wire p) _ _ _ _ _ _ _ _ _ _ _ _ _ _ c.hear.result c.in-Some.is c.hear.ensures.part.part cause e p b
+returns-in-Some-clause-blames g c = λ cause e p b. line_blames c.args.self.now.service c.in-Some.line (λ l p. g.W.Wire.past l.wire p) _ _ _ _ _ _ _ _ _ _ _ _ _ _ c.hear-passed.result c.in-Some.is c.hear-passed.ensures.part.part cause e p b
 
 pub returns-in-None-clause-waits : goal.returns-in-None-clause-waits
 returns-in-None-clause-waits g c = λ e p b. absurd (subst (λ (z : Option (Line g.row.V.Denot g.row.W.Denot)). MatchOption z ⊥ (λ l. g.W.Wire.past l.wire p)) c.in-None.is b)
+
+pub invariant_of-self : goal.invariant_of-self
+invariant_of-self g c = record { roomy = c.hear-passed.ensures.roomy; told = c.outcome_by-self.ensures ∙ part_told _ _ _ _ _ _ _ _ _ _ _ _ _ _ _ _ _ (λ cause. refl) c.state-state.ensures.tied c.requires.running c.hear-passed.ensures.part.part }

@@ -3,5 +3,5 @@ use Rattle.adapt_turn.proofs.tx.Tx.refusal_next.Goals as goal
 
 pub returns-clause-goes : goal.returns-clause-goes
 returns-clause-goes g c =
-    next_refusal_goes c.args.self.now.hold _ _ _ _ (g.K.Hop.gift c.args.self.now.next) (g.K.Hop.gift c.refusal_turn.new.hop) (g.K.Hop.gift c.args.self.now.back) _ _ _ _ _ _ c.args.self.now.refusing _ _ _ _
-    c.requires.due c.requires.point c.refusal_turn.ensures.gift c.refusal_turn.ensures.takes
+    next_refusal_goes c.args.self.now.hold _ _ _ _ (g.K.Hop.gift c.args.self.now.next) (g.K.Hop.gift c.refusal_turn.new.hop) (g.K.Hop.gift c.args.self.now.back) _ _ _ _ _ _ c.args.self.now.refusing _ _ _ _ _ _
+    c.requires.due (λ body next back d. d.0) c.requires.point c.refusal_turn.ensures.gift c.refusal_turn.ensures.takes

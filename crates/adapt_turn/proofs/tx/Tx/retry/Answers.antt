@@ -4,12 +4,12 @@ use Rattle.adapt_turn.proofs.tx.Tx.retry.Goals as goal
 
 pub returns-in-Some-clause-anew : goal.returns-in-Some-clause-anew
 returns-in-Some-clause-anew g c = λ t s.
-    line_again g.V.Service.has_sent g.V.Service.has_heard c.args.self.now.service c.in-Some.line (record { side = c.again.new.self; wire = c.args.wire }) c.args.self.now.hold c.go_on.new.hold _ _ _ _ t
+    line_again g.V.Service.has_sent g.V.Service.has_heard c.args.self.now.service c.in-Some.line (record { side = c.again.new.self; wire = c.args.wire }) c.args.self.now.hold c.go_on.new.hold _ _ _ _ _ t
     c.in-Some.is (others_of g.S.Source.agrees g.S.Source.has_read g.V.Service.has_sent g.V.Service.has_heard g.K.Hop.has_given g.K.Hop.gift g.K.Hop.aside g.met.S.Source.others_agree g.met.S.Source.others g.met.V.Service.others_sent g.met.V.Service.others_heard g.met.K.Hop.others c.args.self.now.source (Some (record { side = c.again.new.self; wire = c.args.wire })) c.args.self.now.next c.args.self.now.back c.args.self.now.refusing)
     c.state-state.ensures.tied c.args.self.now.roomy c.requires c.go_on.ensures.stepped c.again.ensures.sent c.again.ensures.heard g.met.V.Service.unheard s
 
 pub returns-in-None-clause-anew : goal.returns-in-None-clause-anew
 returns-in-None-clause-anew g c = λ t s.
-    none_again g.V.Service.has_sent g.V.Service.has_heard c.args.self.now.service c.args.self.now.hold c.go_on.new.hold _ _ _ _ t
+    none_again g.V.Service.has_sent g.V.Service.has_heard c.args.self.now.service c.args.self.now.hold c.go_on.new.hold _ _ _ _ _ t
     c.in-None.is (others_of g.S.Source.agrees g.S.Source.has_read g.V.Service.has_sent g.V.Service.has_heard g.K.Hop.has_given g.K.Hop.gift g.K.Hop.aside g.met.S.Source.others_agree g.met.S.Source.others g.met.V.Service.others_sent g.met.V.Service.others_heard g.met.K.Hop.others c.args.self.now.source c.args.self.now.service c.args.self.now.next c.args.self.now.back c.args.self.now.refusing)
     c.state-state.ensures.tied c.args.self.now.roomy c.requires c.go_on.ensures.stepped s

@@ -1,32 +1,36 @@
 use Rattle.std.proofs.Common.{Some}
 use Rattle.adapt_turn.proofs.Together.{others_of, send_goes, goes_none}
 use Rattle.adapt_turn.proofs.Reasons.{part_idle, part_still, send_waits, line_blames}
-use Rattle.std.proofs.Common.{Option, subst}
+use Rattle.std.proofs.Common.{Option, refl, ◌∙◌, subst}
 use Rattle.std.specs.Prelude.{MatchOption}
 use Rattle.adapt_turn.specs.declared.start.Line.{Line}
+use Rattle.adapt_turn.proofs.Told.{part_told}
 use Rattle.adapt_turn.proofs.tx.Tx.send_pass.Goals as goal
 
 pub returns-in-Some-clause-goes : goal.returns-in-Some-clause-goes
 returns-in-Some-clause-goes g c =
-    send_goes c.args.self.now.service c.in-Some.line (record { side = c.send.new.service; wire = c.send.new.wire }) c.args.self.now.hold c.send.new.hold _ _
-    (λ l x came taken. g.V.Service.has_sent x came taken l.side) (λ l x adapted text. g.V.Service.has_heard x adapted text l.side) (λ l p. g.W.Wire.past l.wire p) _ _ _ _ _ _ _ c.send.result
-    c.in-Some.is (others_of g.S.Source.agrees g.S.Source.has_read g.V.Service.has_sent g.V.Service.has_heard g.K.Hop.has_given g.K.Hop.gift g.K.Hop.aside g.met.S.Source.others_agree g.met.S.Source.others g.met.V.Service.others_sent g.met.V.Service.others_heard g.met.K.Hop.others c.args.self.now.source (Some (record { side = c.send.new.service; wire = c.send.new.wire })) c.args.self.now.next c.args.self.now.back c.args.self.now.refusing)
-    c.send.ensures.heard c.state-state.ensures.tied c.requires.running c.send.ensures.part
+    send_goes c.args.self.now.service c.in-Some.line (record { side = c.send-passed.new.service; wire = c.send-passed.new.wire }) c.args.self.now.hold c.send-passed.new.hold _ _
+    (λ l x came taken. g.V.Service.has_sent x came taken l.side) (λ l x adapted text. g.V.Service.has_heard x adapted text l.side) (λ l p. g.W.Wire.past l.wire p) _ _ _ _ _ _ _ _ c.send-passed.result
+    c.in-Some.is (others_of g.S.Source.agrees g.S.Source.has_read g.V.Service.has_sent g.V.Service.has_heard g.K.Hop.has_given g.K.Hop.gift g.K.Hop.aside g.met.S.Source.others_agree g.met.S.Source.others g.met.V.Service.others_sent g.met.V.Service.others_heard g.met.K.Hop.others c.args.self.now.source (Some (record { side = c.send-passed.new.service; wire = c.send-passed.new.wire })) c.args.self.now.next c.args.self.now.back c.args.self.now.refusing)
+    c.send-passed.ensures.heard c.state-state.ensures.tied c.requires.running c.send-passed.ensures.part
 
 pub returns-in-None-clause-goes : goal.returns-in-None-clause-goes
 returns-in-None-clause-goes g c = goes_none _ _ _ _
 
 pub returns-in-Some-clause-idle : goal.returns-in-Some-clause-idle
-returns-in-Some-clause-idle g c = λ e. part_idle _ _ _ _ _ _ _ _ _ _ _ _ _ _ _ _ _ c.send.ensures.part.part e
+returns-in-Some-clause-idle g c = λ e. part_idle _ _ _ _ _ _ _ _ _ _ _ _ _ _ _ _ _ c.send-passed.ensures.part.part e
 
 pub returns-in-Some-clause-still : goal.returns-in-Some-clause-still
-returns-in-Some-clause-still g c = λ e. part_still _ _ _ _ _ _ _ _ _ _ _ _ _ _ _ _ _ c.send.ensures.part.part e
+returns-in-Some-clause-still g c = λ e. part_still _ _ _ _ _ _ _ _ _ _ _ _ _ _ _ _ _ c.send-passed.ensures.part.part e
 
 pub returns-in-Some-clause-waits : goal.returns-in-Some-clause-waits
-returns-in-Some-clause-waits g c = λ e. send_waits c.args.self.now.service c.in-Some.line (λ l p. g.W.Wire.past l.wire p) _ _ _ _ _ _ _ _ _ _ _ _ _ c.send.result c.in-Some.is c.send.ensures.part.part e
+returns-in-Some-clause-waits g c = λ e. send_waits c.args.self.now.service c.in-Some.line (λ l p. g.W.Wire.past l.wire p) _ _ _ _ _ _ _ _ _ _ _ _ _ c.send-passed.result c.in-Some.is c.send-passed.ensures.part.part e
 
 pub returns-in-Some-clause-blames : goal.returns-in-Some-clause-blames
-returns-in-Some-clause-blames g c = λ cause e p b. line_blames c.args.self.now.service c.in-Some.line (λ l p. g.W.Wire.past l.wire p) _ _ _ _ _ _ _ _ _ _ _ _ _ _ c.send.result c.in-Some.is c.send.ensures.part.part cause e p b
+returns-in-Some-clause-blames g c = λ cause e p b. line_blames c.args.self.now.service c.in-Some.line (λ l p. g.W.Wire.past l.wire p) _ _ _ _ _ _ _ _ _ _ _ _ _ _ c.send-passed.result c.in-Some.is c.send-passed.ensures.part.part cause e p b
 
 pub returns-in-None-clause-waits : goal.returns-in-None-clause-waits
 returns-in-None-clause-waits g c = λ e p b. absurd (subst (λ (z : Option (Line g.row.V.Denot g.row.W.Denot)). MatchOption z ⊥ (λ l. g.W.Wire.past l.wire p)) c.in-None.is b)
+
+pub invariant_of-self : goal.invariant_of-self
+invariant_of-self g c = record { roomy = c.send-passed.ensures.roomy; told = c.outcome_by-self.ensures ∙ part_told _ _ _ _ _ _ _ _ _ _ _ _ _ _ _ _ _ (λ cause. refl) c.state-state.ensures.tied c.requires.running c.send-passed.ensures.part.part }

@@ -1,29 +1,33 @@
 use Rattle.adapt_turn.proofs.Together.{others_of, source_goes, disagree_goes}
-use Rattle.std.proofs.Common.{sym, subst}
+use Rattle.std.proofs.Common.{refl, sym, ◌∙◌, subst}
 use Rattle.trace_core.specs.History.{History}
 use Rattle.adapt_hold.specs.Holding.{shows}
 use Rattle.adapt_turn.proofs.Reasons.{part_idle, part_waits, part_blames}
+use Rattle.adapt_turn.proofs.Told.{part_told}
 use Rattle.adapt_turn.proofs.tx.Tx.source_pass.Goals as goal
 
 pub returns-then-agrees_with-clause-goes : goal.returns-then-agrees_with-clause-goes
 returns-then-agrees_with-clause-goes g c =
-    source_goes c.args.self.now.hold c.read_source.new.hold _ _ _ _ _ _ _ _ _ _ _ _ _ _ _ c.read_source.result
-    (others_of g.S.Source.agrees g.S.Source.has_read g.V.Service.has_sent g.V.Service.has_heard g.K.Hop.has_given g.K.Hop.gift g.K.Hop.aside g.met.S.Source.others_agree g.met.S.Source.others g.met.V.Service.others_sent g.met.V.Service.others_heard g.met.K.Hop.others c.read_source.new.source c.args.self.now.service c.args.self.now.next c.args.self.now.back c.args.self.now.refusing)
-    c.state-state.ensures.tied c.read_source.ensures.part
+    source_goes c.args.self.now.hold c.read_source-passed.new.hold _ _ _ _ _ _ _ _ _ _ _ _ _ _ _ _ c.read_source-passed.result
+    (others_of g.S.Source.agrees g.S.Source.has_read g.V.Service.has_sent g.V.Service.has_heard g.K.Hop.has_given g.K.Hop.gift g.K.Hop.aside g.met.S.Source.others_agree g.met.S.Source.others g.met.V.Service.others_sent g.met.V.Service.others_heard g.met.K.Hop.others c.read_source-passed.new.source c.args.self.now.service c.args.self.now.next c.args.self.now.back c.args.self.now.refusing)
+    c.state-state.ensures.tied c.requires.running c.read_source-passed.ensures.part
 
 pub returns-else-agrees_with-clause-goes : goal.returns-else-agrees_with-clause-goes
 returns-else-agrees_with-clause-goes g c =
-    disagree_goes c.args.self.now.hold c.state-state.result.now (λ x. g.S.Source.agrees x c.args.self.now.source) _ _ _ _ _ _ _ _ _
+    disagree_goes c.args.self.now.hold c.state-state.result.now (λ x. g.S.Source.agrees x c.args.self.now.source) _ _ _ _ _ _ _ _ _ _
     c.requires.running c.state-state.ensures.state (c.agrees_with.ensures.no c.if-agrees_with.false)
 
 pub returns-then-agrees_with-clause-idle : goal.returns-then-agrees_with-clause-idle
-returns-then-agrees_with-clause-idle g c = λ e. part_idle _ _ _ _ _ _ _ _ _ _ _ _ _ _ _ _ _ c.read_source.ensures.part.part e
+returns-then-agrees_with-clause-idle g c = λ e. part_idle _ _ _ _ _ _ _ _ _ _ _ _ _ _ _ _ _ c.read_source-passed.ensures.part.part e
 
 pub returns-then-agrees_with-clause-waits : goal.returns-then-agrees_with-clause-waits
-returns-then-agrees_with-clause-waits g c = λ e. part_waits _ _ _ _ _ _ _ _ _ _ _ _ _ _ _ _ _ c.read_source.ensures.part.part e
+returns-then-agrees_with-clause-waits g c = λ e. part_waits _ _ _ _ _ _ _ _ _ _ _ _ _ _ _ _ _ c.read_source-passed.ensures.part.part e
 
 pub returns-then-agrees_with-clause-blames : goal.returns-then-agrees_with-clause-blames
-returns-then-agrees_with-clause-blames g c = λ cause e a. part_blames _ _ _ _ _ _ _ _ _ _ _ _ _ _ _ _ _ c.read_source.ensures.part.part cause e
+returns-then-agrees_with-clause-blames g c = λ cause e a. part_blames _ _ _ _ _ _ _ _ _ _ _ _ _ _ _ _ _ c.read_source-passed.ensures.part.part cause e
 
 pub returns-else-agrees_with-clause-blames : goal.returns-else-agrees_with-clause-blames
 returns-else-agrees_with-clause-blames g c = λ cause e a. absurd (c.agrees_with.ensures.no c.if-agrees_with.false (subst (λ (y : History). g.S.Source.agrees (shows y) c.args.self.now.source) (sym c.state-state.ensures.state) a))
+
+pub invariant_of-self : goal.invariant_of-self
+invariant_of-self g c = record { roomy = c.read_source-passed.ensures.roomy; told = c.outcome_by-self.ensures ∙ part_told _ _ _ _ _ _ _ _ _ _ _ _ _ _ _ _ _ (λ cause. refl) c.state-state.ensures.tied c.requires.running c.read_source-passed.ensures.part.part }

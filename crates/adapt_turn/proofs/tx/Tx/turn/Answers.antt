@@ -1,10 +1,13 @@
 use Rattle.adapt_turn.proofs.Together.{goes_none, goes_then}
-use Rattle.std.proofs.Common.{inl, inr, ◌∙◌, ap}
+use Rattle.std.proofs.Common.{inl, inr, sym, ◌∙◌, ap}
 use Rattle.plan_rules.specs.Room.{original_room, adapted_room}
 use Rattle.adapt_hold.specs.Holding.{shows}
 use Rattle.adapt_turn.specs.Parts.{service_cause}
 use Rattle.adapt_turn.specs.Stands.{IsCauseOf}
 use Rattle.adapt_turn.proofs.Reasons.{waits_kept, both_kept, blamed_kept, line_kept, outcome_fails}
+use Rattle.adapt_turn.proofs.Moved.{moves_of, moves_none}
+use Rattle.adapt_turn.specs.declared.turned.Outcome.TheVariants as outcomes
+use Rattle.adapt_turn.proofs.Told.{done_told}
 use Rattle.adapt_turn.proofs.tx.Tx.turn.Goals as goal
 
 pub returns-then-is_broken-clause-goes : goal.returns-then-is_broken-clause-goes
@@ -27,14 +30,28 @@ returns-clause-waits_next g c = λ s o w. elim (c.pass-passed.ensures.waits_next
 ]
 
 pub returns-clause-fails_source : goal.returns-clause-fails_source
-returns-clause-fails_source g c = λ s o d cause e. inr (λ a. blamed_kept _ _ cause g.A.Wire.past _ _ (g.S.Source.fault c.pass-passed.new.self.source) (g.S.Source.fault c.after_pass.new.self.source) c.pass-passed.new.self.source_wire c.after_pass.new.self.source_wire (ap g.S.Source.fault c.after_pass.ensures.kept.0) c.after_pass.ensures.kept.1 (c.pass-passed.ensures.blames_source s cause (outcome_fails c.pass-passed.result.failed c.args.self.now.outcome c.after_pass.new.self.outcome cause (λ n. c.after_pass.ensures.none n ∙ c.pass-passed.ensures.outcome) c.after_pass.ensures.some d e) a))
+returns-clause-fails_source g c = λ s o cause e. inr (λ a. blamed_kept _ _ cause g.A.Wire.past _ _ (g.S.Source.fault c.pass-passed.new.self.source) (g.S.Source.fault c.after_pass.new.self.source) c.pass-passed.new.self.source_wire c.after_pass.new.self.source_wire (ap g.S.Source.fault c.after_pass.ensures.kept.0) c.after_pass.ensures.kept.1 (c.pass-passed.ensures.blames_source s cause (outcome_fails c.pass-passed.result.failed c.after_pass.new.self.outcome cause (c.after_pass.ensures.outcome ∙ c.pass-passed.ensures.outcome) e) a))
 
 pub returns-clause-fails_service : goal.returns-clause-fails_service
-returns-clause-fails_service g c = λ s o d cause e. inr (line_kept (λ l. IsCauseOf service_cause cause (g.V.Service.fault l.side)) _ c.pass-passed.new.self.service c.after_pass.new.self.service c.after_pass.ensures.kept.2 (c.pass-passed.ensures.blames_service s cause (outcome_fails c.pass-passed.result.failed c.args.self.now.outcome c.after_pass.new.self.outcome cause (λ n. c.after_pass.ensures.none n ∙ c.pass-passed.ensures.outcome) c.after_pass.ensures.some d e)))
+returns-clause-fails_service g c = λ s o cause e. inr (line_kept (λ l. IsCauseOf service_cause cause (g.V.Service.fault l.side)) _ c.pass-passed.new.self.service c.after_pass.new.self.service c.after_pass.ensures.kept.2 (c.pass-passed.ensures.blames_service s cause (outcome_fails c.pass-passed.result.failed c.after_pass.new.self.outcome cause (c.after_pass.ensures.outcome ∙ c.pass-passed.ensures.outcome) e)))
 
 pub returns-clause-fails_next : goal.returns-clause-fails_next
-returns-clause-fails_next g c = λ s o d cause e. inr (elim (c.pass-passed.ensures.blames_next s cause (outcome_fails c.pass-passed.result.failed c.args.self.now.outcome c.after_pass.new.self.outcome cause (λ n. c.after_pass.ensures.none n ∙ c.pass-passed.ensures.outcome) c.after_pass.ensures.some d e)) [
+returns-clause-fails_next g c = λ s o cause e. inr (elim (c.pass-passed.ensures.blames_next s cause (outcome_fails c.pass-passed.result.failed c.after_pass.new.self.outcome cause (c.after_pass.ensures.outcome ∙ c.pass-passed.ensures.outcome) e)) [
   | inl u ↦ inl u
   | inr (inl v) ↦ inr (inl (blamed_kept _ _ cause g.C.Wire.past _ _ (g.K.Hop.fault c.pass-passed.new.self.next) (g.K.Hop.fault c.after_pass.new.self.next) c.pass-passed.new.self.next_wire c.after_pass.new.self.next_wire c.after_pass.ensures.kept.4 c.after_pass.ensures.kept.3 v))
   | inr (inr v) ↦ inr (inr (blamed_kept _ _ cause g.A.Wire.past _ _ (g.K.Hop.fault c.pass-passed.new.self.back) (g.K.Hop.fault c.after_pass.new.self.back) c.pass-passed.new.self.source_wire c.after_pass.new.self.source_wire c.after_pass.ensures.kept.5 c.after_pass.ensures.kept.1 v))
 ])
+
+pub returns-clause-moved : goal.returns-clause-moved
+returns-clause-moved g c = λ n e. moves_of g.A.Wire.past (λ l p. g.W.Wire.past l.wire p) g.C.Wire.past c.args.self.now.source_wire c.pass-passed.new.self.source_wire c.after_pass.new.self.source_wire
+    c.args.self.now.service c.pass-passed.new.self.service c.after_pass.new.self.service c.args.self.now.next_wire c.pass-passed.new.self.next_wire c.after_pass.new.self.next_wire _ _ _ _ _ _ n
+    c.counts-before.ensures.source c.counts.ensures.source c.counts-before.ensures.service c.counts.ensures.service c.counts-before.ensures.next c.counts.ensures.next
+    c.pass-passed.ensures.served c.after_pass.ensures.kept.1 c.after_pass.ensures.kept.2 c.after_pass.ensures.kept.3 (c.after_pass.ensures.moved n e ∙ c.since-moved.ensures)
+
+pub returns-then-now-self-2-clause-moved : goal.returns-then-now-self-2-clause-moved
+returns-then-now-self-2-clause-moved g c = λ n e. moves_none g.A.Wire.past (λ l p. g.W.Wire.past l.wire p) g.C.Wire.past c.args.self.now.source_wire c.fail_by.new.self.source_wire
+    c.args.self.now.service c.fail_by.new.self.service c.args.self.now.next_wire c.fail_by.new.self.next_wire _ _ _ n
+    c.counts-before.ensures.source c.counts-before.ensures.service c.counts-before.ensures.next c.fail_by.ensures.kept.0 c.fail_by.ensures.kept.1 c.fail_by.ensures.kept.2 cc
+
+pub returns-then-is_closed-clause-done : goal.returns-then-is_closed-clause-done
+returns-then-is_closed-clause-done g c = λ e. done_told c.args.self.now.hold c.closed_turn.new.self.hold c.args.self.now.outcome c.args.self.now.told c.closed_turn.ensures.hold (sym c.is_closed.ensures ∙ c.if-is_closed.true) (c.closed_turn.ensures.outcome outcomes.Done e)

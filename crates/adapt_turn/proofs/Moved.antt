@@ -1,0 +1,74 @@
+-- How many bytes went over the wires.
+use Rattle.std.proofs.Common.{◌≡◌, ℕ, ◌+◌, ◌-◌, ◌^◌, length, Option, Some, None, arith, refl, sym, ◌∙◌, ap, subst}
+use Rattle.std.specs.Prelude.{MatchOption, min}
+use Rattle.wire_kit.specs.Past.{Past}
+use Rattle.adapt_turn.specs.Moved.{MovesOver, SumsBytes, Counts, counted}
+
+moves_over : (before after_ : Past → Type 0) (c d : ℕ × ℕ) → Counts c before → Counts d after_ → MovesOver before after_ (counted c d)
+moves_over before after_ c d f g = λ p q b a.
+    let u = f p b in
+    let w = g q a in
+    ap (λ (k : ℕ). (length q.read - k) + (length q.taken - length p.taken)) (sym u.0)
+    ∙ ap (λ (k : ℕ). (k - c.0) + (length q.taken - length p.taken)) (sym w.0)
+    ∙ ap (λ (k : ℕ). (d.0 - c.0) + (length q.taken - k)) (sym u.1)
+    ∙ ap (λ (k : ℕ). (d.0 - c.0) + (k - c.1)) (sym w.1)
+
+over_line : {L : Type 0} (past : L → Past → Type 0) (line line' : Option L) (c d : ℕ × ℕ)
+    → MatchOption line ((c.0 ≡ 0) × (c.1 ≡ 0)) (λ l. Counts c (past l)) → MatchOption line' ((d.0 ≡ 0) × (d.1 ≡ 0)) (λ l. Counts d (past l)) → (line ≡ None → line' ≡ None)
+    → MatchOption line (counted c d ≡ 0) (λ l. MovesOver (past l) (λ p. MatchOption line' ⊥ (λ m. past m p)) (counted c d))
+over_line past None None c d f g none = let f0 = f.0 in let f1 = f.1 in let g0 = g.0 in let g1 = g.1 in omega (arith, f0, f1, g0, g1)
+over_line past None (Some m) c d f g none = absurd (let e : Some m ≡ None = none refl in cc)
+over_line past (Some l) None c d f g none = λ p q b a. absurd a
+over_line past (Some l) (Some m) c d f g none = moves_over (past l) (past m) c d f g
+
+-- what the counts before and after a call say
+pub moves_of : {A C L : Type 0} (on_source : A → Past → Type 0) (on_line : L → Past → Type 0) (on_next : C → Past → Type 0) (a a' a2 : A) (line line' line2 : Option L) (x x' x2 : C) (c0 d0 c1 d1 c2 d2 : ℕ × ℕ) (n : ℕ)
+    → Counts c0 (on_source a) → Counts d0 (on_source a')
+    → MatchOption line ((c1.0 ≡ 0) × (c1.1 ≡ 0)) (λ l. Counts c1 (on_line l)) → MatchOption line' ((d1.0 ≡ 0) × (d1.1 ≡ 0)) (λ l. Counts d1 (on_line l))
+    → Counts c2 (on_next x) → Counts d2 (on_next x')
+    → (line ≡ None → line' ≡ None) → a2 ≡ a' → line2 ≡ line' → x2 ≡ x'
+    → n ≡ min (counted c0 d0 + counted c1 d1 + counted c2 d2) (2 ^ 64 - 1)
+    → SumsBytes (MovesOver (on_source a) (on_source a2)) (λ k. MatchOption line (k ≡ 0) (λ l. MovesOver (on_line l) (λ p. MatchOption line2 ⊥ (λ m. on_line m p)) k)) (MovesOver (on_next x) (on_next x2)) n
+moves_of {A} {C} {L} on_source on_line on_next a a' a2 line line' line2 x x' x2 c0 d0 c1 d1 c2 d2 n f0 g0 f1 g1 f2 g2 none ea el ex e =
+    subst (λ (z : A). SumsBytes (MovesOver (on_source a) (on_source z)) (λ k. MatchOption line (k ≡ 0) (λ l. MovesOver (on_line l) (λ p. MatchOption line2 ⊥ (λ m. on_line m p)) k)) (MovesOver (on_next x) (on_next x2)) n) (sym ea)
+    (subst (λ (z : Option L). SumsBytes (MovesOver (on_source a) (on_source a')) (λ k. MatchOption line (k ≡ 0) (λ l. MovesOver (on_line l) (λ p. MatchOption z ⊥ (λ m. on_line m p)) k)) (MovesOver (on_next x) (on_next x2)) n) (sym el)
+    (subst (λ (z : C). SumsBytes (MovesOver (on_source a) (on_source a')) (λ k. MatchOption line (k ≡ 0) (λ l. MovesOver (on_line l) (λ p. MatchOption line' ⊥ (λ m. on_line m p)) k)) (MovesOver (on_next x) (on_next z)) n) (sym ex)
+    (record {
+      source = counted c0 d0;
+      service = counted c1 d1;
+      next = counted c2 d2;
+      source_is = moves_over (on_source a) (on_source a') c0 d0 f0 g0;
+      service_is = over_line on_line line line' c1 d1 f1 g1 none;
+      next_is = moves_over (on_next x) (on_next x') c2 d2 f2 g2;
+      sum = e;
+    })))
+
+-- wires that a call left as they were
+same_over : (past : Past → Type 0) (c : ℕ × ℕ) → Counts c past → MovesOver past past 0
+same_over past c f = λ p q b a. let u = f p b in let w = f q a in let u0 = u.0 in let u1 = u.1 in let w0 = w.0 in let w1 = w.1 in omega (arith, u0, u1, w0, w1)
+
+abbrev none_moved : ℕ
+none_moved = 0
+
+same_line : {L : Type 0} (past : L → Past → Type 0) (line : Option L) (c : ℕ × ℕ) → MatchOption line ((c.0 ≡ 0) × (c.1 ≡ 0)) (λ l. Counts c (past l))
+    → MatchOption line (none_moved ≡ 0) (λ l. MovesOver (past l) (λ p. MatchOption line ⊥ (λ m. past m p)) none_moved)
+same_line past None c f = refl
+same_line past (Some l) c f = same_over (past l) c f
+
+pub moves_none : {A C L : Type 0} (on_source : A → Past → Type 0) (on_line : L → Past → Type 0) (on_next : C → Past → Type 0) (a a' : A) (line line' : Option L) (x x' : C) (c0 c1 c2 : ℕ × ℕ) (n : ℕ)
+    → Counts c0 (on_source a) → MatchOption line ((c1.0 ≡ 0) × (c1.1 ≡ 0)) (λ l. Counts c1 (on_line l)) → Counts c2 (on_next x)
+    → a' ≡ a → line' ≡ line → x' ≡ x → n ≡ 0
+    → SumsBytes (MovesOver (on_source a) (on_source a')) (λ k. MatchOption line (k ≡ 0) (λ l. MovesOver (on_line l) (λ p. MatchOption line' ⊥ (λ m. on_line m p)) k)) (MovesOver (on_next x) (on_next x')) n
+moves_none {A} {C} {L} on_source on_line on_next a a' line line' x x' c0 c1 c2 n f0 f1 f2 ea el ex e =
+    subst (λ (z : A). SumsBytes (MovesOver (on_source a) (on_source z)) (λ k. MatchOption line (k ≡ 0) (λ l. MovesOver (on_line l) (λ p. MatchOption line' ⊥ (λ m. on_line m p)) k)) (MovesOver (on_next x) (on_next x')) n) (sym ea)
+    (subst (λ (z : Option L). SumsBytes (MovesOver (on_source a) (on_source a)) (λ k. MatchOption line (k ≡ 0) (λ l. MovesOver (on_line l) (λ p. MatchOption z ⊥ (λ m. on_line m p)) k)) (MovesOver (on_next x) (on_next x')) n) (sym el)
+    (subst (λ (z : C). SumsBytes (MovesOver (on_source a) (on_source a)) (λ k. MatchOption line (k ≡ 0) (λ l. MovesOver (on_line l) (λ p. MatchOption line ⊥ (λ m. on_line m p)) k)) (MovesOver (on_next x) (on_next z)) n) (sym ex)
+    (record {
+      source = 0;
+      service = 0;
+      next = 0;
+      source_is = same_over (on_source a) c0 f0;
+      service_is = same_line on_line line c1 f1;
+      next_is = same_over (on_next x) c2 f2;
+      sum = e;
+    })))

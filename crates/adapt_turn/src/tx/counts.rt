@@ -1,0 +1,65 @@
+//! The bytes that a transaction's wires gave and took.
+
+ghost use Rattle.std.specs.Prelude.{◌≡◌, ◌+◌, ◌-◌, ◌^◌, min, MatchOption};
+ghost use Rattle.adapt_turn.specs.Moved.{Counts, counted};
+
+use crate::forward::Forward;
+use crate::tx::Tx;
+use adapt_sides::{Hop, Service, Source};
+use span_bank::Ledgers;
+use wire_kit::Wire;
+
+/// Of each wire the bytes that it gave, and those that it took.
+#[derive(Clone, Copy)]
+pub(crate) struct WireCounts {
+    source: (u64, u64),
+    service: (u64, u64),
+    next: (u64, u64),
+}
+
+impl WireCounts {
+    /// The bytes that the wires gave and took since an earlier count, as far as 64 bits count.
+    pub(crate) fn since(self, before: WireCounts) -> u64
+        ensures { result ≡ min (counted before.source self.source + counted before.service self.service + counted before.next self.next) (2 ^ 64 - 1) }
+    {
+        between(before.source, self.source)
+            .saturating_add(between(before.service, self.service))
+            .saturating_add(between(before.next, self.next))
+    }
+}
+
+/// The bytes that went over one wire between two counts, as far as 64 bits count.
+fn between(before: (u64, u64), after: (u64, u64)) -> u64
+    ensures { result ≡ min (counted before after) (2 ^ 64 - 1) }
+{
+    let read = after.0.saturating_sub(before.0);
+    let taken = after.1.saturating_sub(before.1);
+    read.saturating_add(taken)
+}
+
+impl<B: Ledgers, S: Source, V: Service, K: Hop, F: Forward<S, K>, A: Wire, W: Wire, C: Wire> Tx<
+    B,
+    S,
+    V,
+    K,
+    F,
+    A,
+    W,
+    C,
+> {
+    /// The bytes that the wires gave and took so far.
+    pub(crate) fn counts(&self) -> WireCounts
+        ensures source { Counts result.source (A.past self.now.source_wire) }
+        ensures service { MatchOption self.now.service ((result.service.0 ≡ 0) × (result.service.1 ≡ 0)) (λ line. Counts result.service (W.past line.wire)) }
+        ensures next { Counts result.next (C.past self.now.next_wire) }
+    {
+        WireCounts {
+            source: self.source_wire.counts(),
+            service: match &self.service {
+                Some(line) => line.wire.counts(),
+                None => (0, 0),
+            },
+            next: self.next_wire.counts(),
+        }
+    }
+}
