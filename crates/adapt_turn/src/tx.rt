@@ -143,6 +143,9 @@ impl<B: Ledgers, S: Source, V: Service, K: Hop, F: Forward<S, K>, A: Wire, W: Wi
             → ⟦<Self as Standing>⟧.stands tx (record no_texts { source_read = read })) }
         ensures back { IfErr result (λ back. back.stake ≡ start.stake) }
     {
+        if !start.source.begins(&start.plan) {
+            return Err(start);
+        }
         let Start {
             plan,
             limits,
@@ -158,23 +161,6 @@ impl<B: Ledgers, S: Source, V: Service, K: Hop, F: Forward<S, K>, A: Wire, W: Wi
             now,
             reused,
         } = start;
-        if !source.begins(&plan) {
-            return Err(Start {
-                plan,
-                limits,
-                stake,
-                source,
-                source_wire,
-                service,
-                next,
-                next_wire,
-                back,
-                forward,
-                deadline,
-                now,
-                reused,
-            });
-        }
         Ok(Tx {
             alloc,
             hold: begin_hold(plan, limits, stake),

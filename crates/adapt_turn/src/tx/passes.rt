@@ -61,6 +61,7 @@ impl<B: Ledgers, S: Source, V: Service, K: Hop, F: Forward<S, K>, A: Wire, W: Wi
         ensures blames { (cause : Cause) → result.failed ≡ Some cause → (S.agrees (shows self.old.hold.history) self.old.source → Blamed Device source_cause cause (S.fault self.old.source) (S.fault self.new.source) (A.past self.old.source_wire) (A.past self.new.source_wire)) }
         ensures outcome { self.new.outcome ≡ outcome_by result.failed }
         ensures served { self.old.service ≡ None → self.new.service ≡ None }
+        ensures timed { (self.new.last_moved ≡ self.old.last_moved) × (self.new.deadline ≡ self.old.deadline) }
     {
         let state = self.hold.state();
         if self.source.agrees_with(state) {
@@ -93,6 +94,7 @@ impl<B: Ledgers, S: Source, V: Service, K: Hop, F: Forward<S, K>, A: Wire, W: Wi
         ensures whole { result.waiting ≡ true → result.broken ≡ false }
         ensures outcome { self.new.outcome ≡ outcome_by result.failed }
         ensures served { self.old.service ≡ None → self.new.service ≡ None }
+        ensures timed { (self.new.last_moved ≡ self.old.last_moved) × (self.new.deadline ≡ self.old.deadline) }
     {
         let _state = self.hold.state();
         let reused = self.reused;
@@ -125,6 +127,7 @@ impl<B: Ledgers, S: Source, V: Service, K: Hop, F: Forward<S, K>, A: Wire, W: Wi
         ensures blames { (cause : Cause) → result.failed ≡ Some cause → ((p : Past) → MatchOption self.old.service ⊥ (λ line. W.past line.wire p) → MatchOption self.new.service ⊥ (λ line. IsCauseOf service_cause cause (V.fault line.side))) }
         ensures outcome { self.new.outcome ≡ outcome_by result.failed }
         ensures served { self.old.service ≡ None → self.new.service ≡ None }
+        ensures timed { (self.new.last_moved ≡ self.old.last_moved) × (self.new.deadline ≡ self.old.deadline) }
     {
         let _state = self.hold.state();
         let reused = self.reused;
@@ -156,6 +159,7 @@ impl<B: Ledgers, S: Source, V: Service, K: Hop, F: Forward<S, K>, A: Wire, W: Wi
         ensures blames { (cause : Cause) → result.failed ≡ Some cause → ((p : Past) → MatchOption self.old.service ⊥ (λ line. W.past line.wire p) → MatchOption self.new.service ⊥ (λ line. IsCauseOf service_cause cause (V.fault line.side))) }
         ensures outcome { self.new.outcome ≡ outcome_by result.failed }
         ensures served { self.old.service ≡ None → self.new.service ≡ None }
+        ensures timed { (self.new.last_moved ≡ self.old.last_moved) × (self.new.deadline ≡ self.old.deadline) }
     {
         let sent = self.send_pass(rt, bank);
         if sent.broken {
@@ -189,6 +193,7 @@ impl<B: Ledgers, S: Source, V: Service, K: Hop, F: Forward<S, K>, A: Wire, W: Wi
             ⊎ Blamed Device hop_cause cause (K.fault self.old.back) (K.fault self.new.back) (A.past self.old.source_wire) (A.past self.new.source_wire)) }
         ensures outcome { self.new.outcome ≡ outcome_by result.failed }
         ensures served { self.old.service ≡ None → self.new.service ≡ None }
+        ensures timed { (self.new.last_moved ≡ self.old.last_moved) × (self.new.deadline ≡ self.old.deadline) }
     {
         match side {
             Side::Source => self.source_pass(rt, bank),

@@ -95,6 +95,7 @@ impl<B: Ledgers, S: Source, V: Service, K: Hop, F: Forward<S, K>, A: Wire, W: Wi
         requires failed { self.old.outcome ≡ Outcome.Fail cause }
         requires point { (shows self.old.hold.history).plan.point ≡ Point.Respmod }
         ensures goes { ⟦<Self as Going>⟧.goes self.old self.new }
+        ensures timed { (self.new.last_moved ≡ self.old.last_moved) × (self.new.deadline ≡ self.old.deadline) }
         ensures hold { self.new.hold ≡ self.old.hold }
         ensures outcome { self.new.outcome ≡ self.old.outcome }
         ensures kept { (self.new.source ≡ self.old.source) × (self.new.source_wire ≡ self.old.source_wire) × (self.new.service ≡ self.old.service) × (self.new.next_wire ≡ self.old.next_wire)
@@ -110,6 +111,7 @@ impl<B: Ledgers, S: Source, V: Service, K: Hop, F: Forward<S, K>, A: Wire, W: Wi
         requires failed { self.old.outcome ≡ Outcome.Fail cause }
         requires point { (shows self.old.hold.history).plan.point ≡ Point.Reqmod }
         ensures goes { ⟦<Self as Going>⟧.goes self.old self.new }
+        ensures timed { (self.new.last_moved ≡ self.old.last_moved) × (self.new.deadline ≡ self.old.deadline) }
         ensures hold { self.new.hold ≡ self.old.hold }
         ensures outcome { self.new.outcome ≡ self.old.outcome }
         ensures kept { (self.new.source ≡ self.old.source) × (self.new.source_wire ≡ self.old.source_wire) × (self.new.service ≡ self.old.service) × (self.new.next_wire ≡ self.old.next_wire)
@@ -124,6 +126,7 @@ impl<B: Ledgers, S: Source, V: Service, K: Hop, F: Forward<S, K>, A: Wire, W: Wi
         requires over { (shows self.old.hold.history).closed ≡ true }
         requires failed { self.old.outcome ≡ Outcome.Fail cause }
         ensures goes { ⟦<Self as Going>⟧.goes self.old self.new }
+        ensures timed { (self.new.last_moved ≡ self.old.last_moved) × (self.new.deadline ≡ self.old.deadline) }
         ensures hold { self.new.hold ≡ self.old.hold }
         ensures outcome { self.new.outcome ≡ self.old.outcome }
         ensures kept { (self.new.source ≡ self.old.source) × (self.new.source_wire ≡ self.old.source_wire) × (self.new.service ≡ self.old.service) × (self.new.next_wire ≡ self.old.next_wire)
@@ -140,6 +143,7 @@ impl<B: Ledgers, S: Source, V: Service, K: Hop, F: Forward<S, K>, A: Wire, W: Wi
         requires over { (cause : Cause) → failed ≡ Some cause → (shows self.old.hold.history).closed ≡ true }
         requires outcome { self.old.outcome ≡ outcome_by failed }
         ensures goes { ⟦<Self as Going>⟧.goes self.old self.new }
+        ensures timed { (self.new.last_moved ≡ self.old.last_moved) × (self.new.deadline ≡ self.old.deadline) }
         ensures hold { self.new.hold ≡ self.old.hold }
         ensures outcome { self.new.outcome ≡ self.old.outcome }
         ensures kept { (self.new.source ≡ self.old.source) × (self.new.source_wire ≡ self.old.source_wire) × (self.new.service ≡ self.old.service) × (self.new.next_wire ≡ self.old.next_wire)
@@ -156,6 +160,7 @@ impl<B: Ledgers, S: Source, V: Service, K: Hop, F: Forward<S, K>, A: Wire, W: Wi
     pub(crate) fn fail_by(&mut self, rt: &impl Wait, bank: &Bank<B>, cause: Cause)
         requires running { (shows self.old.hold.history).closed ≡ false }
         ensures goes { ⟦<Self as Going>⟧.goes self.old self.new }
+        ensures timed { (self.new.last_moved ≡ self.old.last_moved) × (self.new.deadline ≡ self.old.deadline) }
         ensures hold { self.new.hold ≡ moved self.old.hold (Fail cause) [] }
         ensures over { (shows self.new.hold.history).closed ≡ true }
         ensures outcome { self.new.outcome ≡ Outcome.Fail cause }
@@ -172,6 +177,7 @@ impl<B: Ledgers, S: Source, V: Service, K: Hop, F: Forward<S, K>, A: Wire, W: Wi
         requires due { self.old.refusing ≡ true }
         requires point { (shows self.old.hold.history).plan.point ≡ Point.Respmod }
         ensures goes { ⟦<Self as Going>⟧.goes self.old self.new }
+        ensures timed { (self.new.last_moved ≡ self.old.last_moved) × (self.new.deadline ≡ self.old.deadline) }
         ensures served { self.new.service ≡ self.old.service }
         ensures hold { self.new.hold ≡ self.old.hold }
         ensures outcome { self.new.outcome ≡ self.old.outcome }
@@ -184,6 +190,7 @@ impl<B: Ledgers, S: Source, V: Service, K: Hop, F: Forward<S, K>, A: Wire, W: Wi
         requires due { self.old.refusing ≡ true }
         requires point { (shows self.old.hold.history).plan.point ≡ Point.Reqmod }
         ensures goes { ⟦<Self as Going>⟧.goes self.old self.new }
+        ensures timed { (self.new.last_moved ≡ self.old.last_moved) × (self.new.deadline ≡ self.old.deadline) }
         ensures served { self.new.service ≡ self.old.service }
         ensures hold { self.new.hold ≡ self.old.hold }
         ensures outcome { self.new.outcome ≡ self.old.outcome }
@@ -195,6 +202,7 @@ impl<B: Ledgers, S: Source, V: Service, K: Hop, F: Forward<S, K>, A: Wire, W: Wi
     fn refusal(&mut self) -> Option<bool>
         requires due { self.old.refusing ≡ true }
         ensures goes { ⟦<Self as Going>⟧.goes self.old self.new }
+        ensures timed { (self.new.last_moved ≡ self.old.last_moved) × (self.new.deadline ≡ self.old.deadline) }
         ensures served { self.new.service ≡ self.old.service }
         ensures hold { self.new.hold ≡ self.old.hold }
         ensures outcome { self.new.outcome ≡ self.old.outcome }
@@ -208,6 +216,7 @@ impl<B: Ledgers, S: Source, V: Service, K: Hop, F: Forward<S, K>, A: Wire, W: Wi
     /// A turn of a closed transaction: it writes a refusal that is due.
     pub(crate) fn closed_turn(&mut self) -> Turned
         ensures goes { ⟦<Self as Going>⟧.goes self.old self.new }
+        ensures timed { (self.new.last_moved ≡ self.old.last_moved) × (self.new.deadline ≡ self.old.deadline) }
         ensures hold { self.new.hold ≡ self.old.hold }
         ensures outcome { (outcome : Outcome) → result ≡ Turned.Finished outcome → outcome ≡ self.old.outcome }
         ensures same { self.new.outcome ≡ self.old.outcome }

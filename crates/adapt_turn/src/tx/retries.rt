@@ -36,6 +36,7 @@ impl<B: Ledgers, S: Source, V: Service, K: Hop, F: Forward<S, K>, A: Wire, W: Wi
         ensures fresh { IfSome self.new.service (λ line. line.wire ≡ wire) }
         ensures back { IfSome self.old.service (λ line. result ≡ line.wire) }
         ensures others { (self.new.source_wire ≡ self.old.source_wire) × (self.new.next_wire ≡ self.old.next_wire) }
+        ensures timed { (self.new.last_moved ≡ self.old.last_moved) × (self.new.deadline ≡ self.old.deadline) }
     {
         let _state = self.hold.state();
         go_on(rt, bank, &mut self.hold, Event::Retry);
@@ -54,6 +55,7 @@ impl<B: Ledgers, S: Source, V: Service, K: Hop, F: Forward<S, K>, A: Wire, W: Wi
     pub fn no_retry(&mut self, rt: &impl Wait, bank: &Bank<B>)
         requires { MayFollow self.old.hold.history.plan self.old.hold.history.events Retry }
         ensures goes { ⟦<Self as Going>⟧.goes self.old self.new }
+        ensures timed { (self.new.last_moved ≡ self.old.last_moved) × (self.new.deadline ≡ self.old.deadline) }
         ensures hold { self.new.hold ≡ moved self.old.hold (Fail Service) [] }
         ensures outcome { self.new.outcome ≡ Outcome.Fail Service }
         ensures over { (shows self.new.hold.history).closed ≡ true }

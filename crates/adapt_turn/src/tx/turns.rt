@@ -67,6 +67,8 @@ impl<B: Ledgers, S: Source, V: Service, K: Hop, F: Forward<S, K>, A: Wire, W: Wi
             → (self.new.hold ≡ moved self.old.hold (Fail Deadline) []) × (result ≡ Turned.Moved 0) × (self.new.outcome ≡ Outcome.Fail Deadline) }
         ensures closed { (shows self.old.hold.history).closed ≡ true → (self.new.hold ≡ self.old.hold) × (self.new.outcome ≡ self.old.outcome) }
         ensures moved { (n : ℕ) → result ≡ Turned.Moved n → ⟦<Self as Going>⟧.moves self.old self.new n }
+        ensures clock { (n : ℕ) → result ≡ Turned.Moved n → (shows self.old.hold.history).closed ≡ false → (n ≡ 0 → self.new.last_moved ≡ self.old.last_moved) × (0 < n → self.new.last_moved ≡ now) }
+        ensures limit { self.new.deadline ≡ self.old.deadline }
         ensures finished { (outcome : Outcome) → result ≡ Turned.Finished outcome → ((shows self.old.hold.history).closed ≡ true) × (outcome ≡ self.old.outcome) }
         ensures done { result ≡ Turned.Finished Outcome.Done → IsDone self.new.hold.history }
         ensures waits_source { side ≡ Side.Source → (shows self.old.hold.history).closed ≡ false → result ≡ Turned.Waiting → Waited (S.rests (original_room (shows self.old.hold.history) self.old.hold.claim self.old.hold.limits.window) self.new.source) (λ past. past.read_waits) (A.past self.old.source_wire) (A.past self.new.source_wire) }
@@ -107,6 +109,8 @@ impl<B: Ledgers, S: Source, V: Service, K: Hop, F: Forward<S, K>, A: Wire, W: Wi
         ensures waiting { result ≡ Turned.Waiting → passed.waiting ≡ true }
         ensures outcome { self.new.outcome ≡ self.old.outcome }
         ensures moved { (n : ℕ) → result ≡ Turned.Moved n → n ≡ moved }
+        ensures clock { (moved ≡ 0 → self.new.last_moved ≡ self.old.last_moved) × (0 < moved → self.new.last_moved ≡ now) }
+        ensures limit { self.new.deadline ≡ self.old.deadline }
         ensures kept { (self.new.source ≡ self.old.source) × (self.new.source_wire ≡ self.old.source_wire) × (self.new.service ≡ self.old.service) × (self.new.next_wire ≡ self.old.next_wire)
             × (K.fault self.new.next ≡ K.fault self.old.next) × (K.fault self.new.back ≡ K.fault self.old.back) }
         ensures same { passed.failed ≡ None → (self.new.next ≡ self.old.next) × (self.new.back ≡ self.old.back) }
@@ -134,6 +138,7 @@ impl<B: Ledgers, S: Source, V: Service, K: Hop, F: Forward<S, K>, A: Wire, W: Wi
     /// Fails the transaction, because the proxy is stopping, where it isn't closed. Later turns write a refusal that is due.
     pub fn halt(&mut self, rt: &impl Wait, bank: &Bank<B>)
         ensures goes { ⟦<Self as Going>⟧.goes self.old self.new }
+        ensures timed { (self.new.last_moved ≡ self.old.last_moved) × (self.new.deadline ≡ self.old.deadline) }
         ensures closed { (shows self.old.hold.history).closed ≡ true → (self.new.hold ≡ self.old.hold) × (self.new.outcome ≡ self.old.outcome) }
         ensures halted { (shows self.old.hold.history).closed ≡ false
             → (self.new.hold ≡ moved self.old.hold (Fail Stopping) []) × (self.new.outcome ≡ Outcome.Fail Stopping) }
