@@ -1,5 +1,5 @@
 -- Text that goes out by turns, and what comes next of it.
-use Rattle.std.specs.Prelude.{◌≡◌, ℕ, ◌+◌, ◌-◌, ◌<◌, ◌≤◌, Bool, true, false, List, [], ◌++◌, length, take, drop, if◌then◌else◌, nat_lt, ◌==◌, ◌||◌, ◌&&◌, not}
+use Rattle.std.specs.Prelude.{◌≡◌, ℕ, ◌+◌, ◌-◌, ◌<◌, ◌≤◌, Bool, true, false, List, [], ◌++◌, length, take, drop, if◌then◌else◌, nat_lt, ◌==◌, ◌||◌, ◌&&◌, not, vec_capacity}
 use Rattle.icap_chunks.specs.Grammar.{chunk_head, last_chunk, crlf}
 use Rattle.span_tape.specs.Tape.{Tape}
 use Rattle.chunk_writer.specs.declared.head.HeadText.{HeadText}
@@ -20,6 +20,15 @@ pub record Writer : Type 0 where
 abbrev pub text_of : HeadText → List ℕ
 text_of (Owned text) = text.items
 text_of (Constant text) = text.now
+
+-- the memory that it holds, in bytes
+abbrev pub room_of : HeadText → ℕ
+room_of (Owned text) = vec_capacity text
+room_of (Constant text) = 0
+
+-- an empty text holds no memory
+abbrev pub HoldsNoMore : HeadText → Type 0
+HoldsNoMore text = text_of text ≡ [] → room_of text ≡ 0
 
 -- before its first turn
 abbrev pub fresh : List ℕ → Writer

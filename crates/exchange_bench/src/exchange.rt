@@ -21,36 +21,37 @@ HTTP/1.1 200 OK\r\nContent-Length: 6\r\n\r\n6\r\nABCDEF\r\n0\r\n\r\n";
 /// The length of the 100, which comes in a read of its own.
 const CONTINUE_LEN: usize = 25;
 
-/// A message that is offered: its plan, its body, and the side that offers it.
+/// A message that is offered: its plan, and its body.
 #[derive(Drop)]
 pub struct Offer {
     plan: Plan,
     body: SpanTape,
-    side: ServiceSide,
 }
 
 impl Offer {
     /// A response with a body of six bytes. None where no page is there for them.
-    pub fn new(alloc: Global, pages: Pages) -> Result<Option<Offer>, AllocError> {
+    pub fn new(pages: Pages) -> Option<Offer> {
         let mut pages = pages;
         let mut body = SpanTape::new();
         if body.pages_for(6) > pages.count() {
-            return Ok(None);
+            return None;
         }
         body.append(b"abcdef", &mut pages);
-        let Some(plan) = Plan::new(Kind::Preview(4), false, false, Some(6), Point::Respmod) else {
-            return Ok(None);
-        };
-        let side = ServiceSide::new(
+        let plan = Plan::new(Kind::Preview(4), false, false, Some(6), Point::Respmod)?;
+        Some(Offer { plan, body })
+    }
+
+    /// A side that offers it, with a copy of its heads.
+    fn side(&self, alloc: Global) -> Result<ServiceSide, AllocError> {
+        ServiceSide::new(
             alloc,
-            &plan,
+            &self.plan,
             b"127.0.0.1",
             1344,
             b"/respmod/upper",
             b"GET http://o.test/a.txt HTTP/1.1\r\nHost: o.test\r\n\r\n",
             b"HTTP/1.1 200 OK\r\nContent-Length: 6\r\n\r\n",
-        )?;
-        Ok(Some(Offer { plan, body, side }))
+        )
     }
 }
 
@@ -62,25 +63,26 @@ fn new_wire(alloc: Global) -> Result<Counted<MemoryWire>, AllocError> {
     Ok(Counted::new(wire))
 }
 
-/// Makes so many wires.
-pub fn make_wires(alloc: Global, times: u64) -> Result<u64, AllocError> {
+/// Makes so many wires and sides.
+pub fn make_ends(alloc: Global, offer: &Offer, times: u64) -> Result<u64, AllocError> {
     let mut made: u64 = 0;
     for _ in 0..times {
         let wire = new_wire(alloc)?;
-        made = made.saturating_add(1).saturating_add(wire.calls());
+        let side = offer.side(alloc)?;
+        if !side.request_whole() {
+            made = made.saturating_add(1).saturating_add(wire.calls());
+        }
     }
     Ok(made)
 }
 
 /// Makes so many exchanges, and counts the calls of their wires. None where one wasn't whole.
-pub fn run_exchanges(alloc: Global, offer: Offer, times: u64) -> Result<Option<u64>, AllocError> {
-    let Offer { plan, body, side } = offer;
-    let mut side = side;
+pub fn run_exchanges(alloc: Global, offer: &Offer, times: u64) -> Result<Option<u64>, AllocError> {
     let mut calls: u64 = 0;
     for _ in 0..times {
-        side.again();
         let mut wire = new_wire(alloc)?;
-        if !run_exchange(&mut side, plan, &body, &mut wire) {
+        let mut side = offer.side(alloc)?;
+        if !run_exchange(&mut side, offer.plan, &offer.body, &mut wire) {
             return Ok(None);
         }
         calls = calls.saturating_add(wire.calls());

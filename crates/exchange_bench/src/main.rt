@@ -10,7 +10,7 @@ mod exchange;
 mod page;
 
 use adapt_bytes::read_decimal;
-use exchange::{Offer, make_wires, run_exchanges};
+use exchange::{Offer, make_ends, run_exchanges};
 use page::a_page;
 use std::rt::Runtime;
 use std::time::Instant;
@@ -19,21 +19,21 @@ use std::{env, io};
 fn main(rt: HostRuntime) -> io::Result<()> {
     let times = times(&rt)?;
     let pages = a_page(&rt, rt.alloc())?;
-    let Some(offer) = Offer::new(rt.alloc(), pages)? else {
+    let Some(offer) = Offer::new(pages) else {
         return eprintln!(rt; "exchange_bench: there is no page for the body");
     };
     let start = Instant::now(&rt)?;
-    let made = make_wires(rt.alloc(), times)?;
-    let wires = start.elapsed(&rt)?.as_nanos() / u128::from(times);
+    let made = make_ends(rt.alloc(), &offer, times)?;
+    let ends = start.elapsed(&rt)?.as_nanos() / u128::from(times);
     let start = Instant::now(&rt)?;
-    let Some(calls) = run_exchanges(rt.alloc(), offer, times)? else {
+    let Some(calls) = run_exchanges(rt.alloc(), &offer, times)? else {
         return eprintln!(rt; "exchange_bench: an exchange was not whole");
     };
     let all = start.elapsed(&rt)?.as_nanos() / u128::from(times);
-    let alone = all.saturating_sub(wires);
+    let alone = all.saturating_sub(ends);
     let each = calls / times;
     eprintln!(rt; "an exchange {alone} ns with {each} calls of its wire, of {made} exchanges")?;
-    eprintln!(rt; "making the wire {wires} ns")
+    eprintln!(rt; "making the wire, and the side with its heads, {ends} ns")
 }
 
 /// The argument, or 200,000 where it is missing, zero or no number.

@@ -5,7 +5,7 @@ use Rattle.adapt_sides.specs.declared.fault.ClientFault.{ClientFault}
 use Rattle.icap_head.specs.declared.responses.IcapResponse.{IcapResponse}
 use Rattle.icap_head.specs.Heads.{Response, response_parts}
 use Rattle.icap_client.specs.declared.options.OptionsStage.{OptionsStage}
-use Rattle.icap_client.specs.Asking.{IsOptionsAnswer, Asker, LetsRoomGo, AnsweredTo, HasAnswered, Asks, Answers}
+use Rattle.icap_client.specs.Asking.{IsOptionsAnswer, Asker, LetsRoomGo, AnsweredTo, HasAnswered, Asks, Answers, HasToAsk}
 
 answered_still : (read : List ℕ) (new kept : Asker) → LetsRoomGo new kept → HasAnswered read new → HasAnswered read kept
 answered_still read new kept l h = record {
@@ -36,4 +36,5 @@ asks_let_go old new kept P Q result l a = record {
   sent = a.sent ∙ ap (λ (t : List ℕ). a.taken ++ t) (sym l.waiting);
   first = a.first;
   answers = answers_still old new kept a.given result l a.answers;
+  waits = λ some none. subst (λ (s : OptionsStage). HasToAsk s kept.raw) (sym l.stage) (subst (λ (raw : List ℕ). HasToAsk new.stage raw) (sym l.raw) (a.waits some none));
 }

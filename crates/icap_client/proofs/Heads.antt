@@ -24,7 +24,7 @@ use Rattle.icap_client.specs.Heard.HeardFinal.{changed, unchanged}
 use Rattle.icap_client.specs.Hearing.{Hears, Passes}
 use Rattle.icap_client.specs.Hearing.Passes.{waits, goes_on}
 use Rattle.icap_client.specs.Replies.{IsInterim}
-use Rattle.icap_client.specs.Refused.{RefusesReply, SaysNone, IsMisfit}
+use Rattle.icap_client.specs.Refused.{RefusesReply, RefusesHead, SaysNone, IsMisfit, IsFit}
 use Rattle.icap_client.specs.Refused.IsMisfit.{ends_early, ends_late}
 use Rattle.adapt_sides.specs.declared.fault.ClientFault.{ClientFault}
 use Rattle.adapt_sides.specs.declared.fault.ClientFault.TheVariants as faults
@@ -57,6 +57,15 @@ misfit_early layout raw size l h n =
     let e = length-take layout.offset raw in
     let small : size ≤ layout.offset = omega arith in
     ends_early size (omega arith) (subst IsEncapsulatedHead (take-take size layout.offset raw small) h) n small
+
+-- a head that fits is refused where its response may not come
+pub fit_refused : (fault : ClientFault) (x : Seen) (layout : Layout) (raw head : List ℕ) → head ≡ take layout.offset raw → IsEncapsulatedHead head → length head ≡ layout.offset
+    → (fault ≡ faults.NoMemory) ⊎ ((fault ≡ faults.NotLegal) × (May x (Mod (payload_if (has_body layout.body))) → ⊥)) → RefusesHead fault x layout raw
+fit_refused fault x layout raw head e h l (inl n) = subst (λ (f : ClientFault). RefusesHead f x layout raw) (sym n) tt
+fit_refused fault x layout raw head e h l (inr n) =
+    let long : length head ≡ length (take layout.offset raw) = ap (λ (t : List ℕ). length t) e in
+    let fit : IsFit layout raw = record { there = omega (arith, long, l, length-take layout.offset raw); is = subst IsEncapsulatedHead e h } in
+    subst (λ (f : ClientFault). RefusesHead f x layout raw) (sym n.0) (fit, n.1)
 
 false_is_not_true : false ≡ true → ⊥
 false_is_not_true e = cc

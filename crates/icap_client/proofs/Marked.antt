@@ -12,7 +12,7 @@ use Rattle.wire_kit.specs.Past.{Past}
 use Rattle.adapt_sides.specs.declared.turn.Turn.{Turn}
 use Rattle.adapt_sides.specs.declared.fault.ClientFault.{ClientFault}
 use Rattle.icap_client.specs.Events.{after_all, is_final}
-use Rattle.icap_client.specs.Sending.{HasSent, NothingDue, turn_events, svc_events}
+use Rattle.icap_client.specs.Sending.{IsSent, NothingDue, turn_events, svc_events}
 use Rattle.icap_client.specs.Reading.{Side, SideHeard, NotBegun}
 use Rattle.icap_client.specs.Turns.{Service, ServiceSent, ServiceHeard, Sends, Hears, events_of, is_answered, is_last_at}
 
@@ -125,7 +125,7 @@ last_after x n count from false events i f all = sym (last_still x n (n == 0) re
 
 pub sends_marked : (x : Seen) (tape : Tape) (old new : Service) (fault kept : Option ClientFault) (P Q : Past → Type 0) (result : Result Turn ClientFault)
     → (old.last_stop ≡ x.last_stop → new.last_stop ≡ (after_all x (events_of result)).last_stop)
-    → Sends x tape (λ x came taken. HasSent x came taken old.writer) (λ x came taken. HasSent x came taken new.writer) fault kept (NothingDue x new.writer) P Q result
+    → Sends x tape (λ x came taken. IsSent x came taken old.writer) (λ x came taken. IsSent x came taken new.writer) fault kept (NothingDue x new.writer) P Q result
     → Sends x tape (λ x came taken. ServiceSent x came taken old) (λ x came taken. ServiceSent x came taken new) fault kept (NothingDue x new.writer) P Q result
 sends_marked x tape old new fault kept P Q result mark s = record {
   delta = s.delta;

@@ -16,7 +16,7 @@ use Rattle.icap_chunks.specs.declared.reader.ChunkReader.{ChunkReader}
 use Rattle.icap_chunks.proofs.Readings.{reads_nothing, reads_end}
 use Rattle.icap_client.specs.Hearing.{ReadsOn}
 use Rattle.icap_client.specs.Replies.{IsHead, lists_of}
-use Rattle.icap_client.specs.Asking.{HasOptionsBody, IsOptionsAnswer, IsOptionsFront, Asker, AnsweredTo, HasAnswered, Frames, Asks, Answers}
+use Rattle.icap_client.specs.Asking.{HasOptionsBody, IsOptionsAnswer, IsOptionsFront, Asker, AnsweredTo, HasAnswered, Frames, Asks, Answers, HasToAsk}
 use Rattle.icap_client.specs.declared.options.OptionsStage.{OptionsStage}
 use Rattle.icap_client.specs.declared.options.OptionsStage.TheVariants.{Head, Body, Over}
 use Rattle.icap_client.proofs.Heads.{is_head}
@@ -141,6 +141,17 @@ frames_end old new chunks next used part found s on ended t f r w =
     }
 
 -- nothing more is framed
+pub frames_kept : (old new : Asker) → new.stage ≡ old.stage → new.response ≡ old.response → new.raw ≡ old.raw → new.waiting ≡ old.waiting → Frames old new None
+frames_kept old new s o r w = record {
+  used = [];
+  raw_is = sym r;
+  waiting = w;
+  answered = λ framed a.
+      subst (λ (t : List ℕ). AnsweredTo new.stage new.response t) (sym (append-nil framed))
+      (subst (λ (k : OptionsStage). AnsweredTo k new.response framed) (sym s) (subst (λ (v : Option Response). AnsweredTo old.stage v framed) (sym o) a));
+  answer = λ framed a. tt;
+}
+
 pub frames_same : (old new : Asker) → new ≡ old → Frames old new None
 frames_same old new e = subst (λ (n : Asker). Frames old n None) (sym e) (record {
   used = [];
@@ -175,11 +186,16 @@ ok_of : {A B : Type 0} (r : Result A B) (P Q : A → Type 0) → ((x : A) → P 
 ok_of (Ok x) P Q f h = f x h
 ok_of (Err e) P Q f h = tt
 
+ok_none : {A E : Type 0} (r : Result (Option A) E) (P : Option A → Type 0) → r ≡ Ok None → IfOk r P → P None
+ok_none (Ok None) P e h = h
+ok_none (Ok (Some x)) P e h = cc
+ok_none (Err fault) P e h = cc
+
 -- bytes came
 pub asks_bytes : (old mid new : Asker) (P Q : Past → Type 0) (raw : List ℕ) (result : Result (Option IcapResponse) ClientFault) → old.waiting ≡ [] → new.waiting ≡ old.waiting → IsFilled P Q old.raw raw filled.Bytes
     → mid.stage ≡ old.stage → mid.response ≡ old.response → mid.raw ≡ raw
-    → IfErr result (λ fault. (fault ≡ Closed → ⊥) × (fault ≡ Device → ⊥)) → IfOk result (λ found. Frames mid new (option_map response_parts found)) → Asks old new P Q result
-asks_bytes old mid new P Q raw result out w f s r e b g = record {
+    → IfErr result (λ fault. (fault ≡ Closed → ⊥) × (fault ≡ Device → ⊥)) → IfOk result (λ found. Frames mid new (option_map response_parts found)) → IfOk result (λ found. found ≡ None → HasToAsk new.stage new.raw) → Asks old new P Q result
+asks_bytes old mid new P Q raw result out w f s r e b g t = record {
   given = f.0;
   taken = [];
   wire = λ p h. (
@@ -187,7 +203,7 @@ asks_bytes old mid new P Q raw result out w f s r e b g = record {
     f.3 p h,
     later_given p f.0,
     record {
-      waits = λ i n t. absurd (let z : length f.0 ≡ 0 = ap (λ (l : List ℕ). length l) n in omega (arith, f.1, z));
+      waits = λ i n o. absurd (let z : length f.0 ≡ 0 = ap (λ (l : List ℕ). length l) n in omega (arith, f.1, z));
       closed = λ i. absurd ((subst (λ (r : Result (Option IcapResponse) ClientFault). IfErr r (λ fault. (fault ≡ Closed → ⊥) × (fault ≡ Device → ⊥))) i b).0 refl);
       device = λ i. absurd ((subst (λ (r : Result (Option IcapResponse) ClientFault). IfErr r (λ fault. (fault ≡ Closed → ⊥) × (fault ≡ Device → ⊥))) i b).1 refl);
     },
@@ -195,6 +211,7 @@ asks_bytes old mid new P Q raw result out w f s r e b g = record {
   sent = sym w;
   first = inr out;
   answers = ok_of result _ _ (λ found h. answer_by old mid new f.0 (option_map response_parts found) s r (e ∙ f.2) h) g;
+  waits = λ some none. ok_none result (λ found. found ≡ None → HasToAsk new.stage new.raw) none t refl;
 }
 
 -- nothing was read
@@ -221,6 +238,7 @@ asks_wait old new P Q raw out w f s r e = record {
   sent = sym w;
   first = inl refl;
   answers = answers_same old new s r (e ∙ f.0);
+  waits = λ some none. absurd (omega (arith, some));
 }
 
 pub asks_ended : (old new : Asker) (P Q : Past → Type 0) (raw : List ℕ) → new.waiting ≡ old.waiting → IsFilled P Q old.raw raw filled.Ended → Asks old new P Q (Err Closed)
@@ -236,6 +254,7 @@ asks_ended old new P Q raw w f = record {
   sent = sym w;
   first = inl refl;
   answers = tt;
+  waits = λ some none. absurd (omega (arith, some));
 }
 
 pub asks_failed : (old new : Asker) (P Q : Past → Type 0) (raw : List ℕ) → new.waiting ≡ old.waiting → IsFilled P Q old.raw raw filled.Failed → Asks old new P Q (Err Device)
@@ -251,6 +270,7 @@ asks_failed old new P Q raw w f = record {
   sent = sym w;
   first = inl refl;
   answers = tt;
+  waits = λ some none. absurd (omega (arith, some));
 }
 
 -- the wire wasn't touched
@@ -267,6 +287,7 @@ asks_none old new P fault c d w = record {
   sent = sym w;
   first = inl refl;
   answers = tt;
+  waits = λ some none. absurd (omega (arith, some));
 }
 
 pub asks_full : (old new : Asker) (P Q : Past → Type 0) (raw : List ℕ) → new.waiting ≡ old.waiting → IsFilled P Q old.raw raw filled.NoMemory → Asks old new P Q (Err NoMemory)
@@ -282,6 +303,7 @@ asks_full old new P Q raw w f = record {
   sent = sym w;
   first = inl refl;
   answers = tt;
+  waits = λ some none. absurd (omega (arith, some));
 }
 
 pub asks_over : (old : Asker) (P : Past → Type 0) → old.stage ≡ Over → Asks old old P P (Ok None)
@@ -297,6 +319,7 @@ asks_over old P o = record {
   sent = refl;
   first = inl refl;
   answers = answers_same old old refl refl refl;
+  waits = λ some none. absurd (omega (arith, some));
 }
 
 pub none_left : (n : ℕ) (xs : List ℕ) → length xs ≤ n → drop n xs ≡ []
@@ -320,6 +343,7 @@ asks_took old new P Q bytes n is f q w s r e = record {
   sent = sym is ∙ (sym (take-append-drop n bytes) ∙ ap (λ (t : List ℕ). take n bytes ++ t) (sym w));
   first = inl refl;
   answers = answers_same old new s r e;
+  waits = λ some none. absurd (omega (arith, some));
 }
 
 pub asks_later : (old new : Asker) (P Q : Past → Type 0) (bytes : List ℕ) → ((p : Past) → P p → Q (after_write p bytes put.Wait)) → new.waiting ≡ old.waiting
@@ -336,6 +360,7 @@ asks_later old new P Q bytes q w s r e = record {
   sent = sym w;
   first = inl refl;
   answers = answers_same old new s r e;
+  waits = λ some none. absurd (omega (arith, some));
 }
 
 pub asks_broken : (old new : Asker) (P Q : Past → Type 0) (bytes : List ℕ) → ((p : Past) → P p → Q (after_write p bytes put.Fault)) → new.waiting ≡ old.waiting → Asks old new P Q (Err Device)
@@ -351,8 +376,9 @@ asks_broken old new P Q bytes q w = record {
   sent = sym w;
   first = inl refl;
   answers = tt;
+  waits = λ some none. absurd (omega (arith, some));
 }
 
 -- the fault is kept
 pub asks_kept : (old new kept : Asker) (P Q : Past → Type 0) (fault : ClientFault) → kept.waiting ≡ new.waiting → Asks old new P Q (Err fault) → Asks old kept P Q (Err fault)
-asks_kept old new kept P Q fault w a = record { given = a.given; taken = a.taken; wire = a.wire; sent = a.sent ∙ ap (λ (t : List ℕ). a.taken ++ t) (sym w); first = a.first; answers = tt }
+asks_kept old new kept P Q fault w a = record { given = a.given; taken = a.taken; wire = a.wire; sent = a.sent ∙ ap (λ (t : List ℕ). a.taken ++ t) (sym w); first = a.first; answers = tt; waits = λ some none. cc }

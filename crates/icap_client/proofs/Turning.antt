@@ -110,15 +110,15 @@ part_is tape next came from k e b i l =
     ∙ (ap (λ (xs : List ℕ). take k xs) (drop-drop (next.from - tape.base) tape.base came)
     ∙ ap (λ (m : ℕ). take k (drop m came)) behind_base))
 
-data_by : (x : Seen) (tape : Tape) (next : Next) (came taken : List ℕ) (v : Writer) (k : ℕ) → next.from ≡ x.sent → tape.base ≤ x.sent → Came x tape came → length (bytes_of tape next) ≡ next.count
-    → waiting v ≡ [] → 0 < k → k ≤ next.count → k ≤ v.left → HasSent x came taken v → HasSent (sent_to x k) came (taken ++ take k (bytes_of tape next)) (sent_on v k)
-data_by x tape next came taken v k f b i l o some few within h =
+data_by : (head : List ℕ) (x : Seen) (tape : Tape) (next : Next) (came taken : List ℕ) (v : Writer) (k : ℕ) → next.from ≡ x.sent → tape.base ≤ x.sent → Came x tape came → length (bytes_of tape next) ≡ next.count
+    → waiting v ≡ [] → 0 < k → k ≤ next.count → k ≤ v.left → HasSent head x came taken v → HasSent head (sent_to x k) came (taken ++ take k (bytes_of tape next)) (sent_on v k)
+data_by head x tape next came taken v k f b i l o some few within h =
     let part = take k (bytes_of tape next) in
     let long : length part ≡ k = length-take-le k (bytes_of tape next) (omega arith) in
     let here : part ≡ take k (drop x.sent came) = part_is tape next came x.sent k f b i.bytes few in
     let e : (k == 0) ≡ false = grind (arith, nat_tests) in
-    rw e (subst (λ (n : ℕ). HasSent (after x (Svc n)) came (taken ++ part) (sent_on v n)) long
-    (sent_data x came taken v part o (here ∙ ap (λ (n : ℕ). take n (drop x.sent came)) (sym long)) (omega arith) (omega arith) h))
+    rw e (subst (λ (n : ℕ). HasSent head (after x (Svc n)) came (taken ++ part) (sent_on v n)) long
+    (sent_data head x came taken v part o (here ∙ ap (λ (n : ℕ). take n (drop x.sent came)) (sym long)) (omega arith) (omega arith) h))
 
 chunked_data : (b : Bool) (v : Writer) (k : ℕ) → b ≡ true → after_data b v k ≡ sent_on v k
 chunked_data true v k e = refl
@@ -132,36 +132,36 @@ pub record Given (x : Seen) (tape : Tape) (next : Next) (old : Writer) (came : L
   long : length (bytes_of tape next) ≡ next.count
   came_is : Came x tape came
 
-ended_at : (x : Seen) (tape : Tape) (next : Next) (old v : Writer) (came taken : List ℕ) → Given x tape next old came → waiting v ≡ [] → is_ending next.end ≡ true
-    → HasSent (sent_to x next.count) came taken v → HasSent (after_all x (turn_events next.count true)) came taken (fixed v (end_text next.end))
-ended_at x tape next old v came taken g o i h =
+ended_at : (head : List ℕ) (x : Seen) (tape : Tape) (next : Next) (old v : Writer) (came taken : List ℕ) → Given x tape next old came → waiting v ≡ [] → is_ending next.end ≡ true
+    → HasSent head (sent_to x next.count) came taken v → HasSent head (after_all x (turn_events next.count true)) came taken (fixed v (end_text next.end))
+ended_at head x tape next old v came taken g o i h =
     let y = sent_to x next.count in
     let due = g.decided.stop i in
     let l = leads x tape next.count g.sound (λ some. (g.decided.svc some).1) in
     let text : end_text next.end ≡ stop_text y = g.decided.text i ∙ l.text in
-    subst (λ (z : Seen). HasSent z came taken (fixed v (end_text next.end))) (sym (all_then x next.count (next.count == 0) refl))
-    (subst (λ (xs : List ℕ). HasSent (after y Stop) came taken (fixed v xs)) (sym text)
-    (sent_stopped y came taken v o (l.came came g.came_is).count l.sound (l.stop due.1 due.2) h))
+    subst (λ (z : Seen). HasSent head z came taken (fixed v (end_text next.end))) (sym (all_then x next.count (next.count == 0) refl))
+    (subst (λ (xs : List ℕ). HasSent head (after y Stop) came taken (fixed v xs)) (sym text)
+    (sent_stopped head y came taken v o (l.came came g.came_is).count l.sound (l.stop due.1 due.2) h))
 
-pub carried : (x : Seen) (tape : Tape) (next : Next) (old w : Writer) (came taken : List ℕ) (k : ℕ) (e : Bool) (d : List ℕ) → Given x tape next old came → Moves tape next old k e d w
-    → HasSent x came taken old → HasSent (after_all x (turn_events k e)) came (taken ++ d) w
-carried x tape next old w came taken k e d g start h = subst (λ (xs : List ℕ). HasSent x came xs old) (sym (append-nil taken)) h
-carried x tape next old w came taken k e d g (passed {d = d'} {v = v} m part w' p) h =
-    let before = carried x tape next old v came taken k e d' g m h in
-    subst (λ (xs : List ℕ). HasSent (after_all x (turn_events k e)) came xs w) (append_assoc taken d' part)
-    (sent_taken (after_all x (turn_events k e)) came (taken ++ d') part v w p.rest p.head p.framing p.left before)
-carried x tape next old w came taken k e d g (begun_chunk {v = v} m c o l s) h =
-    sent_begun x came (taken ++ d) v next.count s o l g.sound (g.decided.svc s).1 (carried x tape next old v came taken 0 false d g m h)
-carried x tape next old w came taken k e d g (sent {d = d'} {v = v} m k' o s few within) h =
-    let before = carried x tape next old v came taken 0 false d' g m h in
+pub carried : (head : List ℕ) (x : Seen) (tape : Tape) (next : Next) (old w : Writer) (came taken : List ℕ) (k : ℕ) (e : Bool) (d : List ℕ) → Given x tape next old came → Moves tape next old k e d w
+    → HasSent head x came taken old → HasSent head (after_all x (turn_events k e)) came (taken ++ d) w
+carried head x tape next old w came taken k e d g start h = subst (λ (xs : List ℕ). HasSent head x came xs old) (sym (append-nil taken)) h
+carried head x tape next old w came taken k e d g (passed {d = d'} {v = v} m part w' p) h =
+    let before = carried head x tape next old v came taken k e d' g m h in
+    subst (λ (xs : List ℕ). HasSent head (after_all x (turn_events k e)) came xs w) (append_assoc taken d' part)
+    (sent_taken head (after_all x (turn_events k e)) came (taken ++ d') part v w p.rest p.framing p.left before)
+carried head x tape next old w came taken k e d g (begun_chunk {v = v} m c o l s) h =
+    sent_begun head x came (taken ++ d) v next.count s o l g.sound (g.decided.svc s).1 (carried head x tape next old v came taken 0 false d g m h)
+carried head x tape next old w came taken k e d g (sent {d = d'} {v = v} m k' o s few within) h =
+    let before = carried head x tape next old v came taken 0 false d' g m h in
     let part = take k (bytes_of tape next) in
-    subst (λ (u : Writer). HasSent (sent_to x k) came (taken ++ (d' ++ part)) u) (sym (chunked_data next.chunked v k g.decided.chunked))
-    (subst (λ (xs : List ℕ). HasSent (sent_to x k) came xs (sent_on v k)) (append_assoc taken d' part)
-    (data_by x tape next came (taken ++ d') v k g.decided.from (g.base (omega arith)) g.came_is g.long o s few (within g.decided.chunked) before))
-carried x tape next old w came taken k e d g (ended {v = v} m o a i) h =
-    let before = carried x tape next old v came taken k false d g m h in
-    subst (λ (n : ℕ). HasSent (after_all x (turn_events n true)) came (taken ++ d) (fixed v (end_text next.end))) (sym a)
-    (ended_at x tape next old v came (taken ++ d) g o i (subst (λ (n : ℕ). HasSent (sent_to x n) came (taken ++ d) v) a before))
+    subst (λ (u : Writer). HasSent head (sent_to x k) came (taken ++ (d' ++ part)) u) (sym (chunked_data next.chunked v k g.decided.chunked))
+    (subst (λ (xs : List ℕ). HasSent head (sent_to x k) came xs (sent_on v k)) (append_assoc taken d' part)
+    (data_by head x tape next came (taken ++ d') v k g.decided.from (g.base (omega arith)) g.came_is g.long o s few (within g.decided.chunked) before))
+carried head x tape next old w came taken k e d g (ended {v = v} m o a i) h =
+    let before = carried head x tape next old v came taken k false d g m h in
+    subst (λ (n : ℕ). HasSent head (after_all x (turn_events n true)) came (taken ++ d) (fixed v (end_text next.end))) (sym a)
+    (ended_at head x tape next old v came (taken ++ d) g o i (subst (λ (n : ℕ). HasSent head (sent_to x n) came (taken ++ d) v) a before))
 
 -- The events are legal.
 svc_legal : (x : Seen) (n : ℕ) → (0 < n → (x.closed ≡ false) × Allows x (Svc n)) → (0 < n) ⊎ (n ≤ 0) → MayAllFollow x (svc_events n)
@@ -211,7 +211,7 @@ pub goes_on : (x : Seen) (tape : Tape) (next : Next) (old w : Writer) (k : ℕ) 
 goes_on x tape next old w k e d s u c m = record {
   legal = legal_by x tape next old k e s c (reaches tape next old w k e d m);
   only = only_by k e;
-  sent = λ came taken i h. carried x tape next old w came taken k e d (record {
+  sent = λ head came taken i h. carried head x tape next old w came taken k e d (record {
     sound = s;
     decided = c;
     base = from_base x tape next old u c;
@@ -245,4 +245,4 @@ nothing_due x tape next w new k false d c m i n = record {
 
 -- a turn that does nothing
 pub goes_same : (x : Seen) (tape : Tape) (w : Writer) → GoesOn x tape w w [] []
-goes_same x tape w = record { legal = tt; only = tt; sent = λ came taken i h. subst (λ (xs : List ℕ). HasSent x came xs w) (sym (append-nil taken)) h }
+goes_same x tape w = record { legal = tt; only = tt; sent = λ head came taken i h. subst (λ (xs : List ℕ). HasSent head x came xs w) (sym (append-nil taken)) h }

@@ -10,7 +10,7 @@ use Rattle.trace_core.specs.declared.history.Point.{Point}
 use Rattle.icap_client.specs.Replies.{Final, IsFinal, IsAnswer, IsInterim, IsBareReply, IsMod, IsModHead, IsBody, HasLayout, lists_of, has_body}
 use Rattle.icap_client.specs.Replies.Final.{unchanged, changed}
 
-split_one : (p q r s : List ℕ) → p ++ q ≡ r ++ s → length p ≡ length r → (p ≡ r) × (q ≡ s)
+pub split_one : (p q r s : List ℕ) → p ++ q ≡ r ++ s → length p ≡ length r → (p ≡ r) × (q ≡ s)
 split_one [] q [] s e l = (refl, e)
 split_one [] q (y ∷ r) s e l = absurd (omega arith)
 split_one (x ∷ p) q [] s e l = absurd (omega arith)
@@ -21,16 +21,16 @@ split_one (x ∷ p) q (y ∷ r) s e l =
     (ap (λ (b : ℕ). b ∷ p) first ∙ ap (λ (t : List ℕ). y ∷ t) same.0, same.1)
 
 -- the text begins with the head of a response of this status
-record First (text : List ℕ) (status : ℕ) : Type 0 where
-  value : Response
-  size : ℕ
-  has : HasResponse text value size
-  status_is : value.status ≡ status
+pub record First (text : List ℕ) (status : ℕ) : Type 0 where
+  pub value : Response
+  pub size : ℕ
+  pub has : HasResponse text value size
+  pub status_is : value.status ≡ status
 
-first_bare : (point : Point) (status : ℕ) (text more : List ℕ) → IsBareReply point status text → First (text ++ more) status
+pub first_bare : (point : Point) (status : ℕ) (text more : List ℕ) → IsBareReply point status text → First (text ++ more) status
 first_bare point status text more h = record { value = h.value; size = length text; has = has_head-append (StartsResponse h.value) text more h.value.fields (length text) h.head; status_is = h.status_is }
 
-longer : (text more : List ℕ) (status : ℕ) → First text status → First (text ++ more) status
+pub longer : (text more : List ℕ) (status : ℕ) → First text status → First (text ++ more) status
 longer text more status h = record { value = h.value; size = h.size; has = has_head-append (StartsResponse h.value) text more h.value.fields h.size h.has; status_is = h.status_is }
 
 first_itself : (point : Point) (status : ℕ) (text : List ℕ) → IsBareReply point status text → First text status
@@ -51,17 +51,17 @@ unfolding code
 first_final point unchanged text h = first_itself point 204 text h
 first_final point (changed layout head body) text h = first_mod point layout head body text h
 
-one_status : (text : List ℕ) (a b : ℕ) → First text a → First text b → a ≡ b
+pub one_status : (text : List ℕ) (a b : ℕ) → First text a → First text b → a ≡ b
 one_status text a b f g =
     let same = response_unique text f.value g.value f.size g.size f.has g.has in
     sym f.status_is ∙ (ap (λ (v : Response). v.status) same.0 ∙ g.status_is)
 
-layout_one : (point : Point) (lists : List (List ℕ)) (a b : Layout) → HasLayout point lists a → HasLayout point lists b → a ≡ b
+pub layout_one : (point : Point) (lists : List (List ℕ)) (a b : Layout) → HasLayout point lists a → HasLayout point lists b → a ≡ b
 layout_one point [] a b h i = absurd h
 layout_one point (list ∷ []) a b h i = layout_unique a b (parts_unique list _ _ h.parts i.parts)
 layout_one point (list ∷ other ∷ more) a b h i = absurd h
 
-body_one : (t : Bool) (text a b : List ℕ) → IsBody t text a → IsBody t text b → a ≡ b
+pub body_one : (t : Bool) (text a b : List ℕ) → IsBody t text a → IsBody t text b → a ≡ b
 body_one true text a b h i = (one_reading text a b h.0 i.0 h.1 i.1).0
 body_one false text a b h i = h.1 ∙ sym i.1
 

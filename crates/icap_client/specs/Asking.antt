@@ -11,6 +11,7 @@ use Rattle.encapsulated.specs.declared.offsets.Layout.{Layout}
 use Rattle.encapsulated.specs.declared.message.Method.TheVariants as methods
 use Rattle.encapsulated.specs.declared.message.Direction.TheVariants as directions
 use Rattle.wire_kit.specs.Past.{Past, IsLater}
+use Rattle.icap_client.specs.HeadFront.{IsHeadFront}
 use Rattle.icap_client.specs.Replies.{IsHead, lists_of, has_body}
 use Rattle.icap_client.specs.RequestHead.{joined, host_pieces}
 use Rattle.adapt_sides.specs.declared.fault.ClientFault.{ClientFault}
@@ -73,6 +74,12 @@ pub record LetsRoomGo (old new : Asker) : Type 0 where
   pub fault : new.fault ≡ old.fault
   pub none : new.raw ≡ [] → new.room ≡ 0
 
+-- no more of the raw bytes can be framed: of the head no line has ended since it was judged, and of the body none is left
+abbrev pub HasToAsk : OptionsStage → List ℕ → Type 0
+HasToAsk Head raw = IsHeadFront raw
+HasToAsk (Body chunks) raw = raw ≡ []
+HasToAsk Over raw = Unit {0}
+
 -- this text was framed, by how far the answer is read
 abbrev pub AnsweredTo : OptionsStage → Option Response → List ℕ → Type 0
 AnsweredTo Head response text = text ≡ []
@@ -112,3 +119,4 @@ pub record Asks (old new : Asker) (before after : Past → Type 0) (result : Res
   pub sent : old.waiting ≡ taken ++ new.waiting
   pub first : (given ≡ []) ⊎ (old.waiting ≡ [])
   pub answers : IfOk result (λ found. Answers old new given (option_map response_parts found))
+  pub waits : 0 < length given → result ≡ Ok None → HasToAsk new.stage new.raw

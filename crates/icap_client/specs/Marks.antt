@@ -30,7 +30,7 @@ last_stop_kept x Retry o n = cc
 pub service_others : (x : Seen) (event : Event) (came bytes taken : List ℕ) (s : Service) → is_of_sending event ≡ false → is_retry event ≡ false → length came ≡ x.received → length bytes ≡ in_bytes event
     → ServiceSent x came taken s → ServiceSent (after x event) (came ++ bytes) taken s
 service_others x event came bytes taken s o n l b h = record {
-  sent = others x event came bytes taken s.writer o n l b h.sent;
+  sent = record { head = h.sent.head; sent = others h.sent.head x event came bytes taken s.writer o n l b h.sent.sent };
   last_stop = h.last_stop ∙ last_stop_kept x event o n;
 }
 

@@ -30,7 +30,7 @@ zero_fits : (o : Option ℕ) → IfSome o (λ p. 0 ≤ p)
 zero_fits None = tt
 zero_fits (Some p) = omega arith
 
-pub it_begins : (plan : Plan) (head : List ℕ) → HasSent (seen plan []) [] [] (record { head = head; head_out = 0; framing = []; framing_out = 0; left = 0 })
+pub it_begins : (plan : Plan) (head : List ℕ) → HasSent head (seen plan []) [] [] (record { head = head; head_out = 0; framing = []; framing_out = 0; left = 0 })
 it_begins plan head = record {
   chunks = [];
   fixed = refl;
@@ -64,8 +64,8 @@ preview_moved x y n m h =
     (subst (λ (b : Bool). IfSome (if b then None else preview_size y.plan.kind) (λ p. x.sent + n ≤ p)) (sym m.stopped)
     (subst (λ (p : Plan). IfSome (if x.stopped then None else preview_size p.kind) (λ p. x.sent + n ≤ p)) (sym m.plan) h))
 
-moved : (x y : Seen) (came more taken : List ℕ) (w : Writer) → Same x y → length came ≡ x.received → HasSent x came taken w → HasSent y (came ++ more) taken w
-moved x y came more taken w m l h = record {
+moved : (head : List ℕ) (x y : Seen) (came more taken : List ℕ) (w : Writer) → Same x y → length came ≡ x.received → HasSent head x came taken w → HasSent head y (came ++ more) taken w
+moved head x y came more taken w m l h = record {
   chunks = h.chunks;
   fixed = h.fixed;
   front = subst (λ (body : List ℕ). Front y body h.chunks w.left) (sym (ap (λ (n : ℕ). take n (came ++ more)) m.sent ∙ take-append-le x.sent came more (omega (arith, h.there))))
@@ -94,17 +94,17 @@ kept x Done o n = same_by x _ refl refl refl refl (omega arith) (omega arith)
 kept x (Fail cause) o n = same_by x _ refl refl refl refl (omega arith) (omega arith)
 kept x Retry o n = cc
 
-pub others : (x : Seen) (event : Event) (came bytes taken : List ℕ) (w : Writer) → is_of_sending event ≡ false → is_retry event ≡ false → length came ≡ x.received → length bytes ≡ in_bytes event
-    → HasSent x came taken w → HasSent (after x event) (came ++ bytes) taken w
-others x event came bytes taken w o n l b h = moved x (after x event) came bytes taken w (kept x event o n) l h
+pub others : (head : List ℕ) (x : Seen) (event : Event) (came bytes taken : List ℕ) (w : Writer) → is_of_sending event ≡ false → is_retry event ≡ false → length came ≡ x.received → length bytes ≡ in_bytes event
+    → HasSent head x came taken w → HasSent head (after x event) (came ++ bytes) taken w
+others head x event came bytes taken w o n l b h = moved head x (after x event) came bytes taken w (kept x event o n) l h
 
 again_by : (x : Seen) (b : Bool) → is_null x.plan.len ≡ b → Front (after x Retry) [] [] 0
 again_by x true e = null e refl refl
 again_by x false e = first e refl (between refl no_chunk)
 
 -- the text begins anew
-pub begins_again : (x : Seen) (came : List ℕ) (w : Writer) (head : List ℕ) → w ≡ fresh head → HasSent (after x Retry) came [] w
-begins_again x came w head e = subst (λ (v : Writer). HasSent (after x Retry) came [] v) (sym e) (record {
+pub begins_again : (x : Seen) (came : List ℕ) (w : Writer) (head : List ℕ) → w ≡ fresh head → HasSent head (after x Retry) came [] w
+begins_again x came w head e = subst (λ (v : Writer). HasSent head (after x Retry) came [] v) (sym e) (record {
   chunks = [];
   fixed = refl;
   front = again_by x (is_null x.plan.len) refl;

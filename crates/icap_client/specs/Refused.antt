@@ -59,10 +59,15 @@ pub data IsMisfit (layout : Layout) (raw : List ℕ) : Type 0 where
   ends_early : (size : ℕ) → size ≤ length raw → IsEncapsulatedHead (take size raw) → size ≢ layout.offset → size ≤ layout.offset → IsMisfit layout raw
   ends_late : layout.offset ≤ length raw → HasNoEmptyLine (take layout.offset raw) → IsMisfit layout raw
 
--- why bytes with an adapted message's head first are refused
+-- it ends just there
+pub record IsFit (layout : Layout) (raw : List ℕ) : Type 0 where
+  pub there : layout.offset ≤ length raw
+  pub is : IsEncapsulatedHead (take layout.offset raw)
+
+-- why bytes with an adapted message's head first are refused; one that fits is a response that may not come
 abbrev pub RefusesHead : ClientFault → Seen → Layout → List ℕ → Type 0
 RefusesHead faults.Layout x layout raw = IsMisfit layout raw
-RefusesHead faults.NotLegal x layout raw = ¬ (May x (Mod (payload_if (has_body layout.body))))
+RefusesHead faults.NotLegal x layout raw = IsFit layout raw × ¬ (May x (Mod (payload_if (has_body layout.body))))
 RefusesHead faults.NoMemory x layout raw = Unit {0}
 RefusesHead _ x layout raw = ⊥
 

@@ -18,14 +18,30 @@ use Rattle.icap_client.specs.Front.{Front}
 abbrev pub stop_text : Seen → List ℕ
 stop_text x = if is_null x.plan.len then [] else last_chunk (ieof_now x)
 
--- These bytes were taken on the wire, and the history shows x; `came` are the body bytes that came from the source.
-pub record HasSent (x : Seen) (came taken : List ℕ) (w : Writer) : Type 0 where
+-- Of the request with this head these bytes were taken on the wire, and the history shows x; `came` are the body bytes that came
+-- from the source.
+pub record HasSent (head : List ℕ) (x : Seen) (came taken : List ℕ) (w : Writer) : Type 0 where
   pub chunks : List ℕ
-  pub fixed : taken ++ waiting w ≡ w.head ++ chunks
+  pub fixed : taken ++ waiting w ≡ head ++ chunks
   pub front : Front x (take x.sent came) chunks w.left
   pub there : x.sent + w.left ≤ x.received
   pub in_preview : IfSome (open_preview x) (λ p. x.sent + w.left ≤ p)
   pub framing : IsFraming w.framing
+
+-- the same of a request with some head
+pub record IsSent (x : Seen) (came taken : List ℕ) (w : Writer) : Type 0 where
+  pub head : List ℕ
+  pub sent : HasSent head x came taken w
+
+-- The text of a request's heads, as it is let go once it is out: what waits stays.
+pub record LetsGo (old new : Writer) : Type 0 where
+  pub waiting_is : waiting new ≡ waiting old
+  pub framing : new.framing ≡ old.framing
+  pub left : new.left ≡ old.left
+
+-- no text is kept that is out
+abbrev pub KeepsNoText : Writer → Type 0
+KeepsNoText w = drop w.head_out w.head ≡ [] → w.head ≡ []
 
 -- so many came, and the tape's bytes are the end of them
 pub record Came (x : Seen) (tape : Tape) (came : List ℕ) : Type 0 where

@@ -11,7 +11,7 @@ pub use Rattle.adapt_sides.specs.Turns.{events_of, waits_of, SaysWaiting, Rememb
 use Rattle.wire_kit.specs.declared.wire.Put.{Put}
 use Rattle.wire_kit.specs.declared.wire.Put.TheVariants as put
 use Rattle.chunk_writer.specs.Writer.{Writer, waiting}
-use Rattle.icap_client.specs.Sending.{HasSent, Came, NothingDue}
+use Rattle.icap_client.specs.Sending.{HasSent, IsSent, Came, NothingDue}
 use Rattle.icap_client.specs.Events.{after_all, MayAllFollow, AllAre, is_of_sending}
 use Rattle.icap_client.specs.Reading.{Side, SideHeard, NothingToRead}
 use Rattle.icap_client.specs.Laws.{IsWhole}
@@ -25,7 +25,7 @@ use Rattle.adapt_sides.specs.declared.fault.ClientFault.TheVariants.{Device}
 pub record GoesOn (x : Seen) (tape : Tape) (old new : Writer) (events : List Event) (delta : List ℕ) : Type 0 where
   pub legal : MayAllFollow x events
   pub only : AllAre is_of_sending events
-  pub sent : (came taken : List ℕ) → Came x tape came → HasSent x came taken old → HasSent (after_all x events) came (taken ++ delta) new
+  pub sent : (head came taken : List ℕ) → Came x tape came → HasSent head x came taken old → HasSent head (after_all x events) came (taken ++ delta) new
 
 -- the service's side: what is written, what is read with the fault that stays, and two marks: the Stop was fixed after which
 -- nothing goes to the service; a preview was answered, with no 100 before it
@@ -87,7 +87,7 @@ adapted_head_of s = option_map (λ layout. s.replies.reader.head) s.replies.read
 
 -- of the message these bytes came and these bytes of the request were taken, and the side's mark is the history's
 pub record ServiceSent (x : Seen) (came taken : List ℕ) (s : Service) : Type 0 where
-  pub sent : HasSent x came taken s.writer
+  pub sent : IsSent x came taken s.writer
   pub last_stop : s.last_stop ≡ x.last_stop
 
 -- these adapted bytes came and these bytes were read, and the side's mark is the history's

@@ -1,6 +1,7 @@
 //! One read of the service's wire.
 
-ghost use Rattle.std.specs.Prelude.{◌<◌, ◌≤◌, length};
+ghost use Rattle.std.specs.Prelude.{◌≡◌, ◌-◌, ◌<◌, ◌≤◌, length, take, drop};
+ghost use Rattle.wire_kit.specs.Past.{Past, Fits, after_read};
 ghost use Rattle.icap_client.specs.Reading.{IsFilled};
 
 use bytes::BytesMut;
@@ -27,24 +28,46 @@ pub(crate) enum Filled {
     NoMemory,
 }
 
-/// Reads once behind the raw bytes.
+/// Reads once into the bytes behind the first so many.
+fn read_behind<W: Wire>(bytes: &mut [u8], at: usize, wire: &mut W) -> Got
+    requires { at < length bytes.old }
+    ensures fits { Fits (length bytes.old - at) result }
+    ensures len { length bytes.new ≡ length bytes.old }
+    ensures front { take at bytes.new ≡ take at bytes.old }
+    ensures past { (p : Past) → W.past wire.old p → W.past wire.new (after_read p (drop at bytes.new) result) }
+{
+    wire.try_read(&mut bytes[at..])
+}
+
+/// Reads once behind the raw bytes, into room that is taken for them first.
+#[tactic(auto, using(crate::proofs::Read::same_front))]
 pub(crate) fn fill<W: Wire>(raw: &mut BytesMut, wire: &mut W) -> Filled
     requires { length raw.old.items < 16384 }
     ensures filled { IsFilled (W.past wire.old) (W.past wire.new) raw.old.items raw.new.items result }
     ensures fits { length raw.new.items ≤ 16384 }
 {
-    let most = (MAX_RAW - raw.len()).min(MAX_READ);
+    let len = raw.len();
+    let most = (MAX_RAW - len).min(MAX_READ);
     if raw.reserve(most).is_err() {
         return Filled::NoMemory;
     }
-    let mut buf = [0; 4096];
-    match wire.try_read(&mut buf[..most]) {
+    raw.advance_mut(most);
+    match read_behind(raw.as_mut_slice(), len, wire) {
         Got::Bytes(n) => {
-            raw.extend_reserved(&buf[..n]);
+            raw.truncate(len + n);
             Filled::Bytes
         }
-        Got::Ended => Filled::Ended,
-        Got::Wait => Filled::Wait,
-        Got::Fault => Filled::Failed,
+        Got::Ended => {
+            raw.truncate(len);
+            Filled::Ended
+        }
+        Got::Wait => {
+            raw.truncate(len);
+            Filled::Wait
+        }
+        Got::Fault => {
+            raw.truncate(len);
+            Filled::Failed
+        }
     }
 }

@@ -1,6 +1,6 @@
 //! What holds of all that was heard of a service and sent to it: each law is the contract of a function that does nothing.
 
-ghost use Rattle.std.specs.Prelude.{◌≡◌, ℕ, ◌+◌, ◌<◌, ◌^◌, List, [], ◌++◌, length, true, false, Bool};
+ghost use Rattle.std.specs.Prelude.{◌≡◌, ◌≢◌, ℕ, ◌+◌, ◌<◌, ◌^◌, List, [], ◌++◌, length, true, false, Bool};
 ghost use Rattle.trace_core.specs.declared.history.Plan.{Plan};
 ghost use Rattle.trace_core.specs.declared.history.Point.{Point};
 ghost use Rattle.trace_core.specs.declared.history.Event.{Event};
@@ -8,16 +8,19 @@ ghost use Rattle.trace_core.specs.declared.history.Seen.{Seen};
 ghost use Rattle.trace_core.specs.History.{seen, is_plain, in_bytes, is_retry};
 ghost use Rattle.trace_core.specs.Legal.{IsLegal};
 ghost use Rattle.trace_core.specs.View.{after};
+ghost use Rattle.icap_client.specs.HeadFront.{HasToWait};
 ghost use Rattle.icap_client.specs.Heard.{Reader, HasHeard};
 ghost use Rattle.icap_client.specs.Events.{is_of_replies, is_of_sending};
 ghost use Rattle.icap_client.specs.RequestHead.{IsReadBack};
 ghost use Rattle.icap_client.specs.RequestText.{IsFrontOfRequest, IsRequestText};
 ghost use Rattle.icap_client.specs.Sending.{HasSent};
 ghost use Rattle.chunk_writer.specs.Writer.{Writer, fresh, waiting};
+ghost use Rattle.icap_client.specs.Refused.{Refuses};
 ghost use Rattle.icap_client.specs.Replies.{Final, IsAnswer};
+ghost use Rattle.adapt_sides.specs.declared.fault.ClientFault.{ClientFault};
 ghost use Rattle.icap_client.specs.Reading.{Side, SideHeard};
 ghost use Rattle.icap_client.specs.Turns.{Service, ServiceSent, ServiceHeard, IsClean, is_reusable};
-ghost use Rattle.icap_client.specs.Laws.{first_reader, IsWhole, WasSaid};
+ghost use Rattle.icap_client.specs.Laws.{first_reader, IsWhole, WasSaid, AreSame};
 ghost use Rattle.icap_client.specs.declared.stage.Stage.TheVariants as stages;
 
 /// Nothing was heard before the first byte.
@@ -36,6 +39,21 @@ pub fn an_answer_is_whole()
     ensures { (x : Seen) (adapted read : List ℕ) (r : Reader) → r.stage ≡ stages.Over → HasHeard x adapted read r → IsWhole x adapted read r }
 {}
 
+/// How a service's bytes are cut by the reads doesn't matter: two sides that were given the same bytes, and have room and framed what
+/// may be framed of them, stand for the same.
+pub fn cuts_do_not_matter()
+    ensures { (x y : Seen) (xs ys read : List ℕ) (a b : Side) (room more : ℕ) → b.reader.point ≡ a.reader.point → 0 < room → 0 < more
+        → SideHeard x xs read a → HasToWait a.reader.stage a.raw room → SideHeard y ys read b → HasToWait b.reader.stage b.raw more
+        → AreSame x y xs ys a b }
+{}
+
+/// Bytes are refused with one fault: what refuses them with one fault doesn't refuse them with another. Want of memory, which any
+/// call may meet, is aside.
+pub fn refusals_have_one_fault()
+    ensures { (fault other : ClientFault) (x : Seen) (adapted read raw : List ℕ) (r : Reader) → fault ≢ ClientFault.NoMemory → other ≢ ClientFault.NoMemory
+        → HasHeard x adapted read r → Refuses fault x r.point r.stage raw → Refuses other x r.point r.stage raw → fault ≡ other }
+{}
+
 /// A service's bytes have one reading as a whole answer: the same 100 or none, and the same final response with the same body.
 pub fn answers_have_one_reading()
     ensures { (point : Point) (continued again : Bool) (final other : Final) (text : List ℕ)
@@ -44,22 +62,22 @@ pub fn answers_have_one_reading()
 
 /// What the service's wire took is a front of a whole request for what came of the body.
 pub fn sent_is_a_front()
-    ensures { (plan : Plan) (events : List Event) (came taken : List ℕ) (w : Writer) → IsLegal plan events
+    ensures { (plan : Plan) (events : List Event) (head came taken : List ℕ) (w : Writer) → IsLegal plan events
         → is_plain plan.kind ≡ false → length came ≡ (seen plan events).received
-        → HasSent (seen plan events) came taken w → IsFrontOfRequest (seen plan events) w.head came taken }
+        → HasSent head (seen plan events) came taken w → IsFrontOfRequest (seen plan events) head came taken }
 {}
 
 /// Nothing is sent before the first turn.
 pub fn begins()
-    ensures { (plan : Plan) (head : List ℕ) → HasSent (seen plan []) [] []
+    ensures { (plan : Plan) (head : List ℕ) → HasSent head (seen plan []) [] []
         (fresh head) }
 {}
 
 /// The other sides' events leave what was sent as it is. Body bytes that come stand behind those that came.
 pub fn others_keep()
-    ensures { (x : Seen) (event : Event) (came bytes taken : List ℕ) (w : Writer) → is_of_sending event ≡ false → is_retry event ≡ false
+    ensures { (head : List ℕ) (x : Seen) (event : Event) (came bytes taken : List ℕ) (w : Writer) → is_of_sending event ≡ false → is_retry event ≡ false
         → length came ≡ x.received → length bytes ≡ in_bytes event
-        → HasSent x came taken w → HasSent (after x event) (came ++ bytes) taken w }
+        → HasSent head x came taken w → HasSent head (after x event) (came ++ bytes) taken w }
 {}
 
 /// A fresh side has sent nothing and heard nothing.
@@ -80,9 +98,9 @@ pub fn the_final_head_says()
 
 /// Where the last zero chunk was fixed and nothing waits, the service's wire took just a whole request.
 pub fn a_request_is_whole()
-    ensures { (plan : Plan) (events : List Event) (came taken : List ℕ) (w : Writer) → IsLegal plan events
+    ensures { (plan : Plan) (events : List Event) (head came taken : List ℕ) (w : Writer) → IsLegal plan events
         → (seen plan events).last_stop ≡ true → waiting w ≡ [] → length came ≡ (seen plan events).received
-        → HasSent (seen plan events) came taken w → IsRequestText (seen plan events) w.head came taken }
+        → HasSent head (seen plan events) came taken w → IsRequestText (seen plan events) head came taken }
 {}
 
 /// Where the service's connection may carry another request, all that was due of the request was taken, and just a whole

@@ -12,14 +12,14 @@ ghost use Rattle.wire_kit.specs.Past.{Past};
 use crate::blank_line::behind;
 use crate::body::read_run;
 use crate::events::refusal;
-use crate::filled::{Filled, MAX_RAW, fill};
+use crate::filled::{Filled, MAX_RAW};
+use crate::kept::Kept;
 use crate::lists::has_body;
 use crate::request::options_request;
 use adapt_sides::ClientFault;
-use bytes::BytesMut;
 use encapsulated::{Direction, Method, read};
 use icap_chunks::{ChunkFault, ChunkReader};
-use icap_head::{Fields, IcapResponse, read_response};
+use icap_head::{Fields, HeadFault, IcapResponse, read_response};
 use std::alloc::{AllocError, Global};
 use std::marker::Model;
 use wire_kit::{Put, Wire};
@@ -43,7 +43,7 @@ pub struct OptionsSide {
     out: usize,
     stage: OptionsStage,
     response: Option<IcapResponse>,
-    raw: BytesMut,
+    raw: Kept,
     fault: Option<ClientFault>,
 }
 
@@ -54,14 +54,16 @@ impl Model for OptionsSide {
 
     ghost Value = { Asker };
 
-    ghost view = { λ s. record { waiting = drop s.out s.text.items; stage = s.stage; response = option_map response_parts s.response; raw = s.raw.items; fault = s.fault; room = s.raw.spare } };
+    ghost view = { λ s. record { waiting = drop s.out s.text.items; stage = s.stage; response = option_map response_parts s.response; raw = s.raw.bytes; fault = s.fault; room = s.raw.room } };
 
-    ghost invariant = { λ s. (s.out ≤ length s.text.items) × (length s.raw.items ≤ 16384) };
+    ghost invariant = { λ s. s.out ≤ length s.text.items };
 }
 
 impl OptionsSide {
     ghost use Rattle.icap_head.specs.Heads.{response_parts};
-    ghost use Rattle.icap_client.specs.Asking.{options_request, LetsRoomGo, Frames, Asks};
+    ghost use Rattle.icap_head.specs.Heads.{Stands};
+    ghost use Rattle.icap_head.specs.StartLines.{StatusForm};
+    ghost use Rattle.icap_client.specs.Asking.{options_request, LetsRoomGo, Frames, HasToAsk, Asks};
 
     /// A request to the service at this host, port and path. NoMemory where its text can't be had.
     pub fn new(
@@ -78,7 +80,7 @@ impl OptionsSide {
             out: 0,
             stage: OptionsStage::Head,
             response: None,
-            raw: BytesMut::new(alloc),
+            raw: Kept::new(alloc),
             fault: None,
         })
     }
@@ -130,6 +132,7 @@ impl OptionsSide {
     fn frame_body(&mut self, chunks: ChunkReader) -> Result<Option<IcapResponse>, ClientFault>
         requires { self.old.stage ≡ OptionsStage.Body chunks }
         ensures frames { IfOk result (λ found. Frames self.old self.new (option_map response_parts found)) }
+        ensures waits { IfOk result (λ found. found ≡ None → HasToAsk self.new.stage self.new.raw) }
         ensures fault { self.new.fault ≡ self.old.fault }
         ensures waiting { self.new.waiting ≡ self.old.waiting }
         ensures broken { IfErr result (λ fault. fault ≡ ClientFault.Chunk) }
@@ -137,7 +140,7 @@ impl OptionsSide {
         let mut next = chunks;
         match skip_body(&mut next, self.raw.as_slice()) {
             Ok(skipped) => {
-                self.raw.advance(skipped.used);
+                self.raw.pass(skipped.used, false);
                 if skipped.ended {
                     self.stage = OptionsStage::Over;
                     Ok(self.response.take())
@@ -150,27 +153,47 @@ impl OptionsSide {
         }
     }
 
-    /// Frames the raw bytes, of which the head comes first.
-    fn frame_head(&mut self) -> Result<Option<IcapResponse>, ClientFault>
-        requires { self.old.stage ≡ OptionsStage.Head }
+    /// Refuses the head for this fault, or marks that its front was judged.
+    #[tactic(auto, using(crate::proofs::Skipping::frames_kept, crate::proofs::Sides::has_to_wait))]
+    fn refuse_head(&mut self, fault: HeadFault) -> Result<Option<IcapResponse>, ClientFault>
+        requires stage { self.old.stage ≡ OptionsStage.Head }
+        requires front { fault ≡ HeadFault.More → Stands StatusForm HeadFault.More self.old.raw }
         ensures frames { IfOk result (λ found. Frames self.old self.new (option_map response_parts found)) }
+        ensures waits { IfOk result (λ found. HasToAsk self.new.stage self.new.raw) }
         ensures fault { self.new.fault ≡ self.old.fault }
         ensures waiting { self.new.waiting ≡ self.old.waiting }
         ensures broken { IfErr result (λ fault. (fault ≡ ClientFault.Closed → ⊥) × (fault ≡ ClientFault.Device → ⊥)) }
     {
+        match refusal(fault) {
+            Some(fault) => Err(fault),
+            None => {
+                self.raw.pass(0, true);
+                Ok(None)
+            }
+        }
+    }
+
+    /// Frames the raw bytes, of which the head comes first. It is judged where a line has ended, or where there is no more room.
+    #[tactic(auto, using(crate::proofs::Skipping::frames_same, crate::proofs::Heads::stands_for))]
+    fn frame_head(&mut self) -> Result<Option<IcapResponse>, ClientFault>
+        requires { self.old.stage ≡ OptionsStage.Head }
+        ensures frames { IfOk result (λ found. Frames self.old self.new (option_map response_parts found)) }
+        ensures waits { IfOk result (λ found. found ≡ None → HasToAsk self.new.stage self.new.raw) }
+        ensures fault { self.new.fault ≡ self.old.fault }
+        ensures waiting { self.new.waiting ≡ self.old.waiting }
+        ensures broken { IfErr result (λ fault. (fault ≡ ClientFault.Closed → ⊥) × (fault ≡ ClientFault.Device → ⊥)) }
+    {
+        if self.raw.is_front() {
+            return Ok(None);
+        }
         let head = match read_response(self.alloc, self.raw.as_slice()) {
             Ok(head) => head,
-            Err(fault) => {
-                if let Some(fault) = refusal(fault) {
-                    return Err(fault);
-                }
-                return Ok(None);
-            }
+            Err(fault) => return self.refuse_head(fault),
         };
         let Some(body) = body_of(&head.value.fields) else {
             return Err(ClientFault::Layout);
         };
-        self.raw.advance(head.length);
+        self.raw.pass(head.length, false);
         if !body {
             self.stage = OptionsStage::Over;
             return Ok(Some(head.value));
@@ -184,6 +207,7 @@ impl OptionsSide {
     /// Frames the raw bytes.
     fn frame(&mut self) -> Result<Option<IcapResponse>, ClientFault>
         ensures frames { IfOk result (λ found. Frames self.old self.new (option_map response_parts found)) }
+        ensures waits { IfOk result (λ found. found ≡ None → HasToAsk self.new.stage self.new.raw) }
         ensures fault { self.new.fault ≡ self.old.fault }
         ensures waiting { self.new.waiting ≡ self.old.waiting }
         ensures broken { IfErr result (λ fault. (fault ≡ ClientFault.Closed → ⊥) × (fault ≡ ClientFault.Device → ⊥)) }
@@ -202,7 +226,7 @@ impl OptionsSide {
         ensures asks { Asks self.old self.new (W.past wire.old) (W.past wire.new) result }
         ensures fault { self.new.fault ≡ self.old.fault }
     {
-        match fill(&mut self.raw, wire) {
+        match self.raw.fill(wire) {
             Filled::Bytes => {}
             Filled::Wait => return Ok(None),
             Filled::Ended => return Err(ClientFault::Closed),
@@ -233,9 +257,7 @@ impl OptionsSide {
     fn give_back(&mut self)
         ensures { LetsRoomGo self.old self.new }
     {
-        if self.raw.is_empty() {
-            self.raw = BytesMut::new(self.alloc);
-        }
+        self.raw.give_back(self.alloc);
     }
 
     /// The same, and keeps no empty room.
@@ -293,6 +315,7 @@ fn skip_body(chunks: &mut ChunkReader, raw: &[u8]) -> Result<Skipped, ChunkFault
     ensures within { IfOk result (λ skipped. skipped.used ≤ length raw.now) }
     ensures reads { IfOk result (λ skipped. (part : List ℕ) × ReadsOn chunks.old raw.now skipped.used part chunks.new) }
     ensures ended { IfOk result (λ skipped. skipped.ended ≡ true → is_some (end_of chunks.new) ≡ true) }
+    ensures all { IfOk result (λ skipped. skipped.ended ≡ false → drop skipped.used raw.now ≡ []) }
 {
     let mut scratch = [0; 4096];
     let mut used = 0;

@@ -9,8 +9,8 @@ ghost use Rattle.chunk_writer.specs.Writer.{fresh, waiting};
 ghost use Rattle.icap_client.specs.Heard.{KeepsHead};
 ghost use Rattle.icap_client.specs.Laws.{first_reader};
 ghost use Rattle.icap_client.specs.Reading.{ReadTurn};
-ghost use Rattle.icap_client.specs.Events.{after_all};
-ghost use Rattle.icap_client.specs.Sending.{KeepsUnsent, NothingDue, turn_events};
+ghost use Rattle.icap_client.specs.Events.{after_all, May};
+ghost use Rattle.icap_client.specs.Sending.{KeepsUnsent, NothingDue, turn_events, LetsGo, KeepsNoText};
 ghost use Rattle.icap_client.specs.RequestHead.{request_head};
 ghost use Rattle.icap_client.specs.Turns.{ServiceSent, ServiceHeard, is_whole_request, is_reusable, is_answered, WriteTurn, Sends, Hears, RestsReading, events_of, is_flushed};
 
@@ -40,6 +40,7 @@ fn write_once<W: Wire>(
     requires { KeepsUnsent (seen state.now.plan state.now.events) tape.now }
     ensures turn { WriteTurn (seen state.now.plan state.now.events) tape.now writer.old writer.new (W.past wire.old) (W.past wire.new) result }
     ensures last_stop { last_stop.new ≡ (after_all (seen state.now.plan state.now.events) (events_of result)).last_stop }
+    ensures head { writer.new.head ≡ writer.old.head }
 {
     let _ = state.trace();
     let next = decide(state, writer);
@@ -188,6 +189,27 @@ impl ServiceSide {
         flushed(&self.writer)
     }
 
+    /// The memory that the text of the request's heads holds, in bytes: none once it was let go.
+    pub fn request_room(&self) -> usize
+        ensures { self.now.writer.head ≡ [] → result ≡ 0 }
+    {
+        self.writer.head_room()
+    }
+
+    /// Lets go of the heads' text that is out, unless the request may begin anew.
+    fn let_go(&mut self, may_retry: bool)
+        ensures replies { self.new.replies ≡ self.old.replies }
+        ensures last_stop { self.new.last_stop ≡ self.old.last_stop }
+        ensures answered { self.new.answered ≡ self.old.answered }
+        ensures writer { LetsGo self.old.writer self.new.writer }
+        ensures kept { may_retry ≡ true → self.new.writer.head ≡ self.old.writer.head }
+        ensures gone { may_retry ≡ false → KeepsNoText self.new.writer }
+    {
+        if !may_retry {
+            self.writer.release();
+        }
+    }
+
     /// Writes what is due, with one write at most. The caller steps the events, in their order.
     pub fn write_turn<W: Wire>(
         &mut self,
@@ -206,12 +228,19 @@ impl ServiceSide {
         ensures sends { Sends (seen state.now.plan state.now.events) tape.now
             (λ x came taken. ServiceSent x came taken self.old) (λ x came taken. ServiceSent x came taken self.new)
             self.old.replies.fault self.new.replies.fault (NothingDue (seen state.now.plan state.now.events) self.new.writer) (W.past wire.old) (W.past wire.new) result }
+
+        // The heads' text is kept as long as the request may begin anew; where it may not, what is out is let go.
+        ensures kept { May (seen state.now.plan state.now.events) Event.Retry → self.new.writer.head ≡ self.old.writer.head }
+        ensures gone { IfOk result (λ _. (May (seen state.now.plan state.now.events) Event.Retry → ⊥) → KeepsNoText self.new.writer) }
     {
         if let Some(fault) = self.replies.fault() {
             return Err(fault);
         }
         match write_once(&mut self.writer, &mut self.last_stop, state, tape, wire) {
-            Ok(turn) => Ok(turn),
+            Ok(turn) => {
+                self.let_go(state.may(Event::Retry));
+                Ok(turn)
+            }
             Err(fault) => {
                 self.replies.keep(fault);
                 Err(fault)
@@ -227,7 +256,7 @@ impl ServiceSide {
         wire: &mut W,
         out: &mut [u8],
     ) -> Result<Turn, ClientFault>
-        ensures writer { self.new.writer ≡ self.old.writer }
+        ensures writer { LetsGo self.old.writer self.new.writer }
         ensures last_stop { self.new.last_stop ≡ self.old.last_stop }
         ensures answered { IfOk result (λ turn. self.new.answered ≡ is_answered (after_all (seen state.now.plan state.now.events) turn.events.items)) }
         ensures head { KeepsHead (seen state.now.plan state.now.events) self.old.replies.reader self.new.replies.reader }
@@ -240,16 +269,30 @@ impl ServiceSide {
 
         // No empty room is kept.
         ensures empty { self.old.replies.fault ≡ None → self.new.replies.raw ≡ [] → self.new.replies.room ≡ 0 }
+
+        // The heads' text is kept until a byte of a reply has come, as long as the request may begin anew; from then on what
+        // is out is let go.
+        ensures kept { events_of result ≡ [] → May (seen state.now.plan state.now.events) Event.Retry → self.new.writer.head ≡ self.old.writer.head }
+        ensures gone { IfOk result (λ turn. (turn.events.items ≡ [] → May (seen state.now.plan state.now.events) Event.Retry → ⊥) → KeepsNoText self.new.writer) }
     {
         let all_sent = flushed(&self.writer);
         match self.replies.read_turn(state, all_sent, wire, out) {
             Ok(turn) => {
                 self.answered = is_answered(&state.seen(), turn.events.as_slice());
+                self.let_go(may_begin_anew(state, turn.events.as_slice()));
                 Ok(turn)
             }
             Err(fault) => Err(fault),
         }
     }
+}
+
+/// Whether the request may still begin anew behind a turn that read these events.
+fn may_begin_anew(state: &State, events: &[Event]) -> bool
+    ensures may { result ≡ true → (events.now ≡ []) × May (seen state.now.plan state.now.events) Event.Retry }
+    ensures may_not { result ≡ false → events.now ≡ [] → May (seen state.now.plan state.now.events) Event.Retry → ⊥ }
+{
+    events.is_empty() && state.may(Event::Retry)
 }
 
 /// Whether all text that was fixed is out.

@@ -133,7 +133,7 @@ fn taken(
     if !exchange(&mut side, &mut state, pages, &mut wire, &mut told, pieces)? {
         return Ok(None);
     }
-    let whole = side.request_whole() && side.is_reusable();
+    let whole = side.request_whole() && side.is_reusable() && side.request_room() == 0;
     Ok(Some((wire.taken().to_vec(alloc)?, told.body, whole)))
 }
 
@@ -210,6 +210,7 @@ GET http://o.test/a.txt HTTP/1.1\r\nHost: o.test\r\n\r\n";
     let mut first = wire_of(alloc, b"", 1, ReadAnswer::Ended, 100)?;
     assert!(rt; write(&mut side, &mut state, &tape, &mut first));
     assert_eq!(rt; first.taken(), &want.as_bytes()[..100]);
+    assert!(rt; side.request_room() >= want.len());
     side.again();
     let mut second = wire_of(alloc, b"", 1, ReadAnswer::Wait, 4096)?;
     assert!(rt; state.step(Event::Retry).is_ok());
@@ -218,6 +219,8 @@ GET http://o.test/a.txt HTTP/1.1\r\nHost: o.test\r\n\r\n";
         assert!(rt; write(&mut side, &mut state, &tape, &mut second));
     }
     assert_eq!(rt; second.taken(), want.as_bytes());
+    // A second retry may not come, so the text is gone with its last byte.
+    assert_eq!(rt; side.request_room(), 0);
     assert!(rt; side.request_whole());
     assert!(rt; !side.is_reusable());
     Ok(())

@@ -1,7 +1,6 @@
-use Rattle.std.proofs.Common.{◌≡◌, Bool, not, ◌||◌, ◌&&◌, ap, ◌∙◌}
+use Rattle.std.proofs.Common.{Bool, not, ◌||◌, ◌&&◌, ap, ◌∙◌}
 use Rattle.std.specs.List.{list_any}
 use Rattle.trace_core.specs.History.{is_continue, is_preview}
-use Rattle.icap_client.specs.Events.{is_final}
 use Rattle.icap_client.proofs.Marked.{answered_after}
 use Rattle.icap_client.proofs.answered.is_answered.Goals as goal
 

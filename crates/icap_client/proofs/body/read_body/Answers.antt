@@ -1,5 +1,4 @@
-use Rattle.std.proofs.Common.{◌≡◌, ℕ, ◌+◌, ◌-◌, ◌≤◌, length, take, refl, sym, ap, arith, is_some, None, length-drop}
-use Rattle.icap_chunks.specs.Machine.{end_of}
+use Rattle.std.proofs.Common.{◌-◌, length, ap, arith, length-drop}
 use Rattle.icap_client.proofs.Bodies.{reads_more_runs, reads_kept, reads_none, breaks_behind, not_ended}
 use Rattle.icap_client.proofs.body.read_body.Goals as goal
 

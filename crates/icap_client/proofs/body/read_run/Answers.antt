@@ -1,6 +1,5 @@
-use Rattle.std.proofs.Common.{◌≡◌, ℕ, ◌+◌, ◌-◌, ◌<◌, ◌≤◌, List, length, take, refl, ap, sym, subst, ◌∙◌, arith, slice_range, max}
-use Rattle.icap_chunks.specs.Machine.{HasRead}
-use Rattle.icap_client.specs.Hearing.{ReadsOn, IsBodyNext}
+use Rattle.std.proofs.Common.{◌≡◌, ℕ, ◌<◌, List, length, take, refl, ap, sym, subst, ◌∙◌, arith}
+use Rattle.icap_client.specs.Hearing.{ReadsOn}
 use Rattle.icap_client.proofs.Bodies.{breaks_whole, reads_whole, next_is_body}
 use Rattle.icap_client.proofs.body.read_run.Goals as goal
 

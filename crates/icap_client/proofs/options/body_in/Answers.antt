@@ -1,4 +1,3 @@
-use Rattle.std.proofs.Common.{◌≡◌}
 use Rattle.icap_client.proofs.options.body_in.Goals as goal
 
 pub returns-in-Ok : goal.returns-in-Ok

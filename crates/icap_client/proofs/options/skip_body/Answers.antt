@@ -1,5 +1,4 @@
-use Rattle.std.proofs.Common.{◌≡◌, ℕ, ◌+◌, ◌-◌, ◌≤◌, List, [], ◌++◌, length, take, refl, sym, ap, arith, length-drop, is_some, ◌∙◌}
-use Rattle.icap_chunks.specs.Machine.{end_of}
+use Rattle.std.proofs.Common.{[], ◌++◌, length, ap, arith, length-drop}
 use Rattle.icap_client.proofs.Skipping.{skip_none, skip_more}
 use Rattle.icap_client.proofs.options.skip_body.Goals as goal
 

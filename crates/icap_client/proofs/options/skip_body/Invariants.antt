@@ -1,4 +1,4 @@
-use Rattle.std.proofs.Common.{◌≡◌, ◌≤◌, ◌-◌, ℕ, List, length}
+use Rattle.std.proofs.Common.{◌≤◌, ◌-◌, ℕ, List, length}
 use Rattle.icap_client.specs.Hearing.{ReadsOn}
 use Rattle.icap_client.proofs.options.skip_body.Given as goal
 

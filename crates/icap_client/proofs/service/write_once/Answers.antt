@@ -1,4 +1,4 @@
-use Rattle.std.proofs.Common.{◌≡◌, ◌+◌, ◌&&◌, ◌||◌, ap, sym, subst, ◌∙◌, refl, [], Some, None, Ok, Err, rules}
+use Rattle.std.proofs.Common.{◌≡◌, ◌+◌, ◌&&◌, ◌||◌, subst, ◌∙◌, refl, Some, None, Ok, Err, rules}
 use Rattle.trace_core.specs.declared.history.Seen.{Seen}
 use Rattle.icap_client.specs.Turns.{is_last_at}
 use Rattle.trace_core.specs.History.{seen}
@@ -8,6 +8,7 @@ use Rattle.chunk_writer.specs.Writer.{offered}
 use Rattle.adapt_sides.specs.declared.fault.ClientFault.TheVariants.{Device}
 use Rattle.chunk_writer.proofs.Moving.{reaches}
 use Rattle.icap_client.proofs.Marked.{last_after}
+use Rattle.icap_client.proofs.LetGo.{head_kept}
 use Rattle.icap_client.proofs.Answering.{turned, fits_took, fits_wait, fits_none, none_at_wait, none_at_fault, idle_events}
 use Rattle.icap_client.proofs.service.write_once.Goals as goal
 
@@ -27,6 +28,7 @@ returns-in-Some-Fault g c =
       last_stop = subst (λ (y : Seen). c.has_last_stop.result ≡ ((wrote.ended && is_last_at y (next.from + next.count)) || y.last_stop)) c.seen-seen.ensures c.has_last_stop.ensures
           ∙ last_after x wrote.sent next.count next.from wrote.ended _ (none_at_fault wrote.answer wrote.sent wrote.ended answer o.still) c.decide-next.ensures.from
           (λ e. ((reaches tape next v c.write-wrote.new.self wrote.sent wrote.ended _ o.moves).all e).0);
+      head = head_kept tape next v c.write-wrote.new.self wrote.sent wrote.ended _ o.moves;
     }
 
 pub returns-in-Some-Took : goal.returns-in-Some-Took
@@ -45,6 +47,7 @@ returns-in-Some-Took g c =
       last_stop = subst (λ (y : Seen). c.has_last_stop.result ≡ ((wrote.ended && is_last_at y (next.from + next.count)) || y.last_stop)) c.seen-seen.ensures c.has_last_stop.ensures
           ∙ last_after x wrote.sent next.count next.from wrote.ended _ (c.turn_of.ensures.events) c.decide-next.ensures.from
           (λ e. ((reaches tape next v c.write-wrote.new.self wrote.sent wrote.ended _ o.moves).all e).0);
+      head = head_kept tape next v c.write-wrote.new.self wrote.sent wrote.ended _ o.moves;
     }
 
 pub returns-in-Some-Wait : goal.returns-in-Some-Wait
@@ -65,6 +68,7 @@ returns-in-Some-Wait g c =
       last_stop = subst (λ (y : Seen). c.has_last_stop.result ≡ ((wrote.ended && is_last_at y (next.from + next.count)) || y.last_stop)) c.seen-seen.ensures c.has_last_stop.ensures
           ∙ last_after x wrote.sent next.count next.from wrote.ended _ (turn.ensures.events ∙ none_at_wait wrote.answer wrote.sent wrote.ended answer o.still) c.decide-next.ensures.from
           (λ e. ((reaches tape next v c.write-wrote.new.self wrote.sent wrote.ended _ o.moves).all e).0);
+      head = head_kept tape next v c.write-wrote.new.self wrote.sent wrote.ended _ o.moves;
     }
 
 pub returns-in-None : goal.returns-in-None
@@ -86,4 +90,5 @@ returns-in-None g c =
       last_stop = subst (λ (y : Seen). c.has_last_stop.result ≡ ((wrote.ended && is_last_at y (next.from + next.count)) || y.last_stop)) c.seen-seen.ensures c.has_last_stop.ensures
           ∙ last_after x wrote.sent next.count next.from wrote.ended _ (turn.ensures.events ∙ idle_events next v wrote.sent wrote.ended idle) c.decide-next.ensures.from
           (λ e. ((reaches tape next v c.write-wrote.new.self wrote.sent wrote.ended _ o.moves).all e).0);
+      head = head_kept tape next v c.write-wrote.new.self wrote.sent wrote.ended _ o.moves;
     }

@@ -1,7 +1,17 @@
-use Rattle.std.proofs.Common.{◌≡◌, ◌-◌, true, nat_lt, length, drop, rules}
+use Rattle.std.proofs.Common.{◌≡◌, ◌-◌, ℕ, true, false, [], nat_lt, length, drop, rules, sym, subst}
 use Rattle.wire_kit.specs.Past.{part_taken}
+use Rattle.chunk_writer.specs.Moves.{Moves}
 use Rattle.chunk_writer.specs.Moves.Moves.{start, passed}
 use Rattle.chunk_writer.proofs.writer.ChunkWriter.write.Goals as goal
+
+pub returns-then-is_idle-clause-moves : goal.returns-then-is_idle-clause-moves
+returns-then-is_idle-clause-moves g c =
+    let w = c.args.self.now in
+    let tape = c.args.tape.now in
+    let next = c.args.next.now in
+    let none : next.count ≡ 0 = c.is_idle.ensures.none c.if-is_idle.true in
+    subst (λ (n : ℕ). Moves tape next w n c.finish.result [] c.finish.new.self) none
+    (c.finish.ensures.moves tape w [] (subst (λ (n : ℕ). Moves tape next w n false [] w) (sym none) start))
 
 pub returns-then-as_slice-self-gt-LONG_HEAD-clause-moves :
     goal.returns-then-as_slice-self-gt-LONG_HEAD-clause-moves

@@ -6,7 +6,7 @@ use Rattle.icap_client.proofs.contract.ServiceSideService.again.Goals as goal
 
 pub returns-clause-sent : goal.returns-clause-sent
 returns-clause-sent c = λ x came taken adapted read n l h s. record {
-  sent = begins_again x came c.again.new.self.writer c.args.self.now.writer.head c.again.ensures.writer;
+  sent = record { head = c.args.self.now.writer.head; sent = begins_again x came c.again.new.self.writer c.args.self.now.writer.head c.again.ensures.writer };
   last_stop = c.again.ensures.marks.0;
 }
 

@@ -1,4 +1,4 @@
-use Rattle.std.proofs.Common.{rules, ◌≡◌, ◌<◌, length, drop, true, false, ℕ, List, ap, sym, subst, ◌∙◌}
+use Rattle.std.proofs.Common.{rules, ◌≡◌, ◌<◌, length, drop, false, ℕ, List, ap, sym, subst, ◌∙◌}
 use Rattle.icap_client.specs.HeadFront.{Store, IsHeadFront, has_line}
 use Rattle.icap_client.proofs.Judged.{is_false}
 use Rattle.icap_client.proofs.kept.Kept.is_front.Goals as goal

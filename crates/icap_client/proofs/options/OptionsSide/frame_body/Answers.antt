@@ -1,7 +1,5 @@
-use Rattle.std.proofs.Common.{rules, ◌≡◌, ◌∙◌, ap, sym, subst, true, refl, List, ℕ}
+use Rattle.std.proofs.Common.{rules, ◌≡◌, subst, refl, List, ℕ}
 use Rattle.icap_client.specs.Hearing.{ReadsOn}
-use Rattle.icap_head.specs.Heads.{response_parts}
-use Rattle.icap_client.specs.Asking.{Asker}
 use Rattle.icap_client.proofs.Skipping.{frames_on, frames_end}
 use Rattle.icap_client.proofs.options.OptionsSide.frame_body.Goals as goal
 

@@ -1,9 +1,10 @@
-use Rattle.std.proofs.Common.{rules, ◌≡◌, ◌∙◌, ap, sym, subst, true, false, refl, List, ℕ, Bool, Some, codes}
-use Rattle.icap_head.specs.Heads.{response_parts, HasResponse}
-use Rattle.icap_head.specs.Fields.{field_list, values_of}
-use Rattle.icap_client.specs.Asking.{HasOptionsBody}
-use Rattle.icap_client.proofs.Heads.{ok_map}
-use Rattle.icap_client.proofs.Skipping.{frames_bare, frames_then, frames_same}
+use Rattle.std.proofs.Common.{rules, ◌≡◌, ◌∙◌, sym, subst, refl, List, ℕ}
+use Rattle.icap_head.specs.Heads.{response_parts, HasResponse, Stands}
+use Rattle.icap_head.specs.StartLines.{StatusForm}
+use Rattle.icap_head.specs.declared.reading.HeadFault.{HeadFault}
+use Rattle.icap_head.specs.declared.reading.HeadFault.TheVariants.{More, NoMemory}
+use Rattle.icap_client.proofs.Heads.{ok_map, stands_for}
+use Rattle.icap_client.proofs.Skipping.{frames_bare, frames_then}
 use Rattle.icap_client.proofs.options.OptionsSide.frame_head.Goals as goal
 
 pub returns-then-not-body-clause-frames : goal.returns-then-not-body-clause-frames
@@ -21,5 +22,8 @@ returns-clause-frames c =
     (subst (λ (t : List ℕ). HasResponse t (response_parts c.in-Ok.head.value) c.in-Ok.head.length) raw_is c.in-Ok.ensures.ok)
     (search rules) refl refl (search rules) (search rules) g) c.frame_body.ensures.frames
 
-pub returns-in-Err-clause-frames : goal.returns-in-Err-clause-frames
-returns-in-Err-clause-frames c = frames_same _ _ refl
+pub refuse_head-requires-clause-front : goal.refuse_head-requires-clause-front
+refuse_head-requires-clause-front c = λ more.
+    let raw_is : c.as_slice.result.now ≡ c.args.self.now.raw = search rules in
+    subst (λ (t : List ℕ). Stands StatusForm More t) raw_is
+    (subst (λ (f : HeadFault). Stands StatusForm f c.as_slice.result.now) more (stands_for c.in-Err.fault c.as_slice.result.now (λ m. let odd : More ≡ NoMemory = sym more ∙ m in cc) c.in-Err.ensures.err))

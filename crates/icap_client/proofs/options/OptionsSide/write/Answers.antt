@@ -1,4 +1,4 @@
-use Rattle.std.proofs.Common.{rules, ◌≡◌, ◌∙◌, ap, sym, refl, List, ℕ, drop}
+use Rattle.std.proofs.Common.{◌∙◌, ap, sym, refl, List, ℕ, drop}
 use Rattle.std.proofs.lemmas.List.{drop-drop}
 use Rattle.icap_client.specs.Asking.{Asker}
 use Rattle.icap_client.proofs.Skipping.{asks_took, asks_later, asks_broken}

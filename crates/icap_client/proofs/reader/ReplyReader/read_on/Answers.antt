@@ -1,4 +1,4 @@
-use Rattle.std.proofs.Common.{◌≡◌, ℕ, Bool, List, take, ◌∙◌, ap, sym, subst, refl, arith}
+use Rattle.std.proofs.Common.{ℕ, List, take, ap, sym, subst, refl, arith}
 use Rattle.trace_core.specs.declared.history.Event.{Event}
 use Rattle.trace_core.specs.History.{seen}
 use Rattle.icap_client.specs.Events.{ad_sum, body_events}

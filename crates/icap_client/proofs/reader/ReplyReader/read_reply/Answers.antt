@@ -1,15 +1,15 @@
-use Rattle.std.proofs.Common.{rules, take, [], ◌≡◌, refl, subst, sym, ◌∙◌}
+use Rattle.std.proofs.Common.{rules, take, [], ◌≡◌, subst}
 use Rattle.trace_core.specs.History.{seen}
 use Rattle.icap_head.specs.Heads.{response_parts, Stands}
 use Rattle.icap_head.specs.StartLines.{StatusForm}
 use Rattle.icap_head.specs.declared.reading.HeadFault.{HeadFault}
-use Rattle.icap_head.specs.declared.reading.HeadFault.TheVariants.{More, NoMemory}
+use Rattle.icap_head.specs.declared.reading.HeadFault.TheVariants.{More}
 use Rattle.icap_client.specs.Heard.{Reader, noted}
 use Rattle.icap_client.specs.Hearing.{Hears, Passes}
 use Rattle.icap_client.specs.Events.{listed}
 use Rattle.icap_client.specs.Said.{tag_in, says_close}
 use Rattle.icap_client.specs.Refused.{SaysNone}
-use Rattle.icap_client.proofs.Heads.{refuses_said, refuses_head, stands_for, passes_none, passes_noted, hears_noted, ok_map}
+use Rattle.icap_client.proofs.Heads.{refuses_said, stands_for, passes_none, passes_noted, hears_noted, ok_map}
 use Rattle.icap_client.proofs.reader.ReplyReader.read_reply.Goals as goal
 
 pub returns-in-Ok-clause-refuses : goal.returns-in-Ok-clause-refuses

@@ -1,4 +1,4 @@
-use Rattle.std.proofs.Common.{◌≡◌, Bool, List, ℕ, refl, ap, sym, subst, ◌∙◌, Some, rules}
+use Rattle.std.proofs.Common.{◌≡◌, List, ℕ, ap, ◌∙◌, rules}
 use Rattle.trace_core.specs.History.{seen}
 use Rattle.icap_client.specs.Heard.{Reader, with_head}
 use Rattle.icap_client.specs.declared.stage.Stage.TheVariants.{Body}

@@ -1,4 +1,4 @@
-use Rattle.std.proofs.Common.{rules, ◌≡◌, List, ℕ, [], length, take, drop, ap, sym, subst, ◌∙◌}
+use Rattle.std.proofs.Common.{rules, ◌≡◌, List, ℕ, length, take, drop, ap, sym, subst}
 use Rattle.trace_core.specs.History.{seen}
 use Rattle.icap_client.specs.Events.{ad_sum}
 use Rattle.icap_client.specs.Heard.{Reader}
