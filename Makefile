@@ -56,7 +56,7 @@ bench-chunks: ## chunked bodies: seconds and MB/s for 1 GiB
 	@tools/build_program chunk_bench chunk_bench 1
 	@bin/chunk_bench 1024
 
-bench-heads: ## HTTP heads: nanoseconds to read one and to write two, beside the parser alone
+bench-heads: ## heads: nanoseconds to read an HTTP request and write two, and to read ICAP responses, beside the parser alone
 	cd crates/head_bench && rt run -- 200000
 
 bench-exchange: ## a whole exchange with a service over memory wires: nanoseconds, and calls of its wire

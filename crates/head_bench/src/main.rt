@@ -1,14 +1,18 @@
-//! How long it takes to read a request's head, and to write the heads that an origin and a service get.
+//! How long it takes to read a request's head, to write the heads that an origin and a service get, and to
+//! read the head of a service's response.
 //!
 //! The argument is how many times. The figures go to standard error, since they differ from run to run.
 #![tactic(auto)]
 
 ghost use Rattle.std.specs.Prelude.{◌<◌, IfOk};
 
+mod answers;
 mod measured;
 
 use adapt_bytes::read_decimal;
+use answers::{TEN_FIELDS, THIRTY_FIELDS, as_http, parse_answers, read_answers};
 use measured::{parse_only, read_and_write, read_only};
+use std::alloc::Global;
 use std::rt::Runtime;
 use std::time::Instant;
 use std::{env, io};
@@ -27,7 +31,29 @@ fn main(rt: HostRuntime) -> io::Result<()> {
     eprintln!(rt;
         "httparse alone {parse} ns, read {read} ns, read and both heads written {all} ns"
     )?;
-    eprintln!(rt; "{parsed}, {taken} and {written} bytes of {times} heads")
+    eprintln!(rt; "{parsed}, {taken} and {written} bytes of {times} heads")?;
+    for text in [TEN_FIELDS, THIRTY_FIELDS] {
+        time_answers(&rt, rt.alloc(), text, times)?;
+    }
+    Ok(())
+}
+
+/// Prints the times of a response's head: `httparse` alone on the same text, and the reader.
+fn time_answers(rt: &impl Runtime, alloc: Global, text: &[u8], times: u64) -> io::Result<()>
+    requires { 0 < times }
+{
+    let http = as_http(alloc, text)?;
+    let start = Instant::now(rt)?;
+    let parsed = parse_answers(&http, times);
+    let parse = start.elapsed(rt)?.as_nanos() / u128::from(times);
+    let start = Instant::now(rt)?;
+    let taken = read_answers(alloc, text, times);
+    let read = start.elapsed(rt)?.as_nanos() / u128::from(times);
+    eprintln!(rt;
+        "a service's response of {} bytes: httparse alone {parse} ns, read {read} ns",
+        text.len()
+    )?;
+    eprintln!(rt; "{parsed} and {taken} bytes of {times} heads")
 }
 
 /// The argument, or 200,000 where it is missing, zero or no number.
