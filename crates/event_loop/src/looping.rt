@@ -66,7 +66,8 @@ pub struct EventLoop<K> {
 }
 
 impl<K: Work> EventLoop<K> {
-    /// A loop over this poll, with the ports if it is the one that serves them. `Err` where no memory was found.
+    /// A loop over this poll, with the ports if it is the one that serves them. `Err` with the work where no memory was
+    /// found.
     pub fn new(
         alloc: Global,
         poll: Poll,
@@ -354,8 +355,8 @@ fn loop_of(number: u64, loops: usize) -> usize
     (number % loops as u64) as usize
 }
 
-/// Tells every loop to stop.
-pub(crate) fn stop_all<R: Wait>(rt: &R, inboxes: &[Inbox]) -> io::Result<()> {
+/// Tells every loop to stop. `Err` where no memory was found to tell one.
+pub fn stop_all<R: Wait>(rt: &R, inboxes: &[Inbox]) -> io::Result<()> {
     for inbox in inboxes {
         inbox.hand(rt, Handed::Stop)?;
     }

@@ -1,4 +1,4 @@
-//! A thread a loop.
+//! What a loop is made on, and its run in a thread.
 
 use crate::inbox::Inbox;
 use crate::listening::Listening;
@@ -11,7 +11,6 @@ use std::alloc::Global;
 use std::io;
 use std::net::Net;
 use std::sync::Wait;
-use std::thread::{self, Threads};
 use std::time::Clock;
 
 /// What a loop is made on: its poll, and its ports if it has any.
@@ -40,49 +39,28 @@ pub fn add_loop<R: Net>(
     Ok(Base { poll, ports })
 }
 
-impl Base {
-    /// The loop over this work. The work comes back where no memory was found.
-    pub fn with<K: Work>(self, alloc: Global, work: K) -> Result<EventLoop<K>, K> {
-        let Base { poll, ports } = self;
-        EventLoop::new(alloc, poll, ports, work)
-    }
-}
-
-/// Runs each loop in a thread of its own, until one is told to stop or fails: then all end.
-pub fn run_loops<K: Work + Send, R: Threads + Wait + Dial + Clock + Sync>(
-    rt: &R,
-    alloc: Global,
-    loops: &mut [EventLoop<K>],
-    inboxes: &[Inbox],
-) {
-    let count = loops.len().max(1);
-    thread::for_each_mut(
-        rt,
-        loops,
-        count,
-        &|number, one| run_one(rt, alloc, number, one, inboxes),
-    );
-}
-
-/// Runs one loop in its caller's thread, until it is told to stop or fails.
-pub fn run_alone<K: Work, R: Wait + Dial + Clock>(
-    rt: &R,
-    alloc: Global,
-    one: &mut EventLoop<K>,
-    inboxes: &[Inbox],
-) {
-    run_one(rt, alloc, 0, one, inboxes);
-}
-
-/// Runs one loop. One that fails tells all others to stop.
-fn run_one<K: Work, R: Wait + Dial + Clock>(
+/// Runs a loop on this base over this work, in its caller's thread, until it is told to stop or fails. One that fails, or
+/// for which no memory is found, tells all others to stop. The work comes back: in `Err` where no memory was found.
+pub fn run_loop<K: Work, R: Wait + Dial + Clock>(
     rt: &R,
     alloc: Global,
     number: usize,
-    one: &mut EventLoop<K>,
+    base: Base,
+    work: K,
     inboxes: &[Inbox],
-) {
-    if number < inboxes.len() && one.run(rt, alloc, number, inboxes).is_err() {
-        let _ = stop_all(rt, inboxes);
+) -> Result<K, K> {
+    let Base { poll, ports } = base;
+    match EventLoop::new(alloc, poll, ports, work) {
+        Ok(one) => {
+            let mut one = one;
+            if number < inboxes.len() && one.run(rt, alloc, number, inboxes).is_err() {
+                let _ = stop_all(rt, inboxes);
+            }
+            Ok(one.into_work())
+        }
+        Err(work) => {
+            let _ = stop_all(rt, inboxes);
+            Err(work)
+        }
     }
 }

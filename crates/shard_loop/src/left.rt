@@ -14,8 +14,9 @@ use std::sync::ledger::Ledger;
 /// The most leases of a pool that are out.
 const MAX_LEASES: usize = 1024;
 
-/// The reservations and the leases that are still out.
+/// The reservations and the leases that are still out, and whether a thread found no memory to begin.
 pub struct Left<B: Ledgers, Q: Ledger, A: Ledger> {
+    missed: bool,
     stakes: Vec<Stake<B>>,
     requests: Vec<Lease<Q>>,
     responses: Vec<Lease<A>>,
@@ -74,6 +75,7 @@ impl<B: Ledgers, Q: Ledger, A: Ledger> Left<B, Q, A> {
     /// Nothing yet.
     pub fn new(alloc: Global) -> Left<B, Q, A> {
         Left {
+            missed: false,
             stakes: Vec::new(alloc),
             requests: Vec::new(alloc),
             responses: Vec::new(alloc),
@@ -85,6 +87,11 @@ impl<B: Ledgers, Q: Ledger, A: Ledger> Left<B, Q, A> {
         self.stakes.reserve(rows).is_ok()
             && self.requests.reserve(MAX_LEASES).is_ok()
             && self.responses.reserve(MAX_LEASES).is_ok()
+    }
+
+    /// Takes note of a thread that found no memory to begin.
+    pub fn miss(&mut self) {
+        self.missed = true;
     }
 
     /// Keeps a reservation that is still open.
@@ -120,6 +127,7 @@ impl<B: Ledgers, Q: Ledger, A: Ledger> Left<B, Q, A> {
         response: Pool<Spare, A>,
     ) -> Result<StopAudit, ServeFault> {
         let Left {
+            missed,
             stakes,
             requests,
             responses,
@@ -127,6 +135,7 @@ impl<B: Ledgers, Q: Ledger, A: Ledger> Left<B, Q, A> {
         let requests = audit_pool(rt, request, requests);
         let responses = audit_pool(rt, response, responses);
         match (audit_bank(rt, bank, stakes), requests, responses) {
+            _ if missed => Err(ServeFault::NoMemory),
             (Some(audit), Some(requests), Some(responses)) => Ok(StopAudit {
                 rows: audit.rows,
                 held: audit.held,

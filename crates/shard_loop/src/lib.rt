@@ -10,6 +10,7 @@ mod apart;
 mod audit;
 mod begin;
 mod book;
+mod crew;
 mod desk;
 mod ending;
 mod halting;

@@ -1,6 +1,6 @@
 //! Loops in threads, over loopback: they echo.
 
-use crate::{Driven, EventLoop, Inbox, Request, Told, Work, add_loop, run_loops};
+use crate::{Base, Driven, Inbox, Request, Told, Work, add_loop, run_loop};
 use mio::net::{TcpListener, TcpStream};
 use mio::{Registry, Token};
 use slab::Slab;
@@ -8,7 +8,7 @@ use socket_wire::{Dial, MAX_KEY, Readiness, Side, SocketWire, token_of};
 use std::alloc::{AllocError, Global};
 use std::io::{self, Read, Write};
 use std::net::{Ipv4Addr, SocketAddr, TcpStream as Client};
-use std::sync::{Arc, Wait};
+use std::sync::{Arc, Mutex, Wait};
 use std::test::Fail;
 use std::thread;
 use std::time::Clock;
@@ -132,26 +132,36 @@ fn ask(rt: &HostRuntime, port: SocketAddr, line: &str) -> io::Result<String> {
     String::from_utf8(text).map_err(|_| io::Error::from(io::ErrorKind::InvalidData))
 }
 
+/// Echoes in this thread until it is told to stop.
+fn run_echo<R: Wait + Dial + Clock>(
+    rt: &R,
+    alloc: Global,
+    number: usize,
+    base: &mut Option<Base>,
+    inboxes: &[Inbox],
+    ended: &Mutex<u32>,
+) {
+    let Some(base) = base.take() else {
+        return;
+    };
+    let echo = Echo {
+        alloc,
+        all: Slab::new(alloc),
+    };
+    if run_loop(rt, alloc, number, base, echo, inboxes).is_ok() {
+        let mut ended = ended.lock(rt);
+        *ended = ended.saturating_add(1);
+    }
+}
+
 fn make(
     rt: &HostRuntime,
     listeners: (TcpListener, TcpListener),
     inboxes: &mut Vec<Inbox>,
-) -> io::Result<Vec<EventLoop<Echo>>> {
-    let alloc = rt.alloc();
-    let mut loops = Vec::new(alloc);
-    let first = add_loop(rt, alloc, Some(listeners), inboxes)?;
-    let second = add_loop(rt, alloc, None, inboxes)?;
-    for base in [first, second] {
-        let echo = Echo {
-            alloc,
-            all: Slab::new(alloc),
-        };
-        match base.with(alloc, echo) {
-            Ok(one) => loops.push(one)?,
-            Err(_) => return Err(io::Error::from(io::ErrorKind::OutOfMemory)),
-        }
-    }
-    Ok(loops)
+) -> io::Result<[Option<Base>; 2]> {
+    let first = add_loop(rt, rt.alloc(), Some(listeners), inboxes)?;
+    let second = add_loop(rt, rt.alloc(), None, inboxes)?;
+    Ok([Some(first), Some(second)])
 }
 
 /// Five users, one after another, and the administrator.
@@ -181,14 +191,23 @@ fn two_loops_echo_until_they_are_stopped(rt: HostRuntime) -> Result<(), Fail> {
     let port = listeners.0.local_addr()?;
     let admin = listeners.1.local_addr()?;
     let mut inboxes = Vec::new(alloc);
-    let mut loops = make(&rt, listeners, &mut inboxes)?;
+    let mut bases = make(&rt, listeners, &mut inboxes)?;
+    let ended = Mutex::new(0);
+    let all = inboxes.as_slice();
     let mut right = false;
     thread::join_mut(
         &rt,
-        &mut || run_loops(&rt, alloc, loops.as_mut_slice(), inboxes.as_slice()),
+        &mut || {
+            thread::for_each_mut(
+                &rt,
+                &mut bases,
+                2,
+                &|number, base| run_echo(&rt, alloc, number, base, all, &ended),
+            )
+        },
         &mut || right = users(&rt, port, admin).unwrap_or(false),
     );
     assert!(rt; right);
-    assert_eq!(rt; loops.len(), 2);
+    assert_eq!(rt; ended.into_inner(), 2);
     Ok(())
 }

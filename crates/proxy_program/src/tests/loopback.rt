@@ -12,8 +12,8 @@ use std::io::{self, ErrorKind, Read, Write};
 use std::net::{Ipv4Addr, Net, SocketAddr, TcpListener, TcpStream};
 use std::sync::Wait;
 use std::thread::{self, Threads};
-use std::time::Clock;
-use wire_kit::OpenGate;
+use std::time::{Clock, Duration};
+use wire_kit::HoldGate;
 
 /// What the service says of itself, with the lines that a test adds.
 fn options(alloc: Global, lines: &str) -> io::Result<String> {
@@ -98,6 +98,15 @@ pub fn until(alloc: Global, stream: &TcpStream, end: &[u8]) -> io::Result<Vec<u8
     Ok(text)
 }
 
+/// Whether something comes on a connection, or it ends, before 20 ms have passed.
+pub fn hears(stream: &TcpStream) -> io::Result<bool> {
+    let mut byte = [0u8; 1];
+    stream.set_read_timeout(Some(Duration::from_millis(20)))?;
+    let heard = stream.peek(&mut byte).is_ok();
+    stream.set_read_timeout(None)?;
+    Ok(heard)
+}
+
 /// All that still comes.
 pub fn rest(alloc: Global, stream: &TcpStream) -> io::Result<Vec<u8>> {
     let mut reader = stream;
@@ -116,19 +125,29 @@ pub fn asks<R: Net<Listener = TcpListener, Stream = TcpStream>>(
     Ok(user)
 }
 
+/// The origin answers the request on a connection. Whether it is the wanted one.
+pub fn answers(alloc: Global, stream: &TcpStream) -> io::Result<bool> {
+    let head = until(alloc, stream, b"\r\n\r\n")?;
+    say(stream, RESPONSE)?;
+    Ok(head.as_slice() == TO_ORIGIN)
+}
+
 /// The origin answers the next request. Whether it is the wanted one.
 pub fn responds(alloc: Global, others: &Others) -> io::Result<bool> {
     let (stream, _) = others.origin.accept()?;
-    let head = until(alloc, &stream, b"\r\n\r\n")?;
-    say(&stream, RESPONSE)?;
-    Ok(head.as_slice() == TO_ORIGIN)
+    answers(alloc, &stream)
+}
+
+/// The service, asked for its options on a connection, answers with these lines.
+pub fn says_options(alloc: Global, line: &TcpStream, lines: &str) -> io::Result<()> {
+    until(alloc, line, b"\r\n\r\n")?;
+    say(line, options(alloc, lines)?.as_bytes())
 }
 
 /// A connection to the service, which was asked for its options and has answered with these lines.
 pub fn options_asked(alloc: Global, others: &Others, lines: &str) -> io::Result<TcpStream> {
     let (stream, _) = others.service.accept()?;
-    until(alloc, &stream, b"\r\n\r\n")?;
-    say(&stream, options(alloc, lines)?.as_bytes())?;
+    says_options(alloc, &stream, lines)?;
     Ok(stream)
 }
 
@@ -168,6 +187,10 @@ pub fn goes_well<
     let others = make_others(rt)?;
     let config = configuration(alloc, &others, scene.adapts(), more)?;
     let (made, ports) = listeners(rt)?;
+    let gate = HoldGate::new();
+    if scene != Scene::Held {
+        gate.answered();
+    }
     let mut made = Some(made);
     let mut audit = None;
     let mut right = false;
@@ -175,11 +198,11 @@ pub fn goes_well<
         rt,
         &mut || {
             if let Some((users, admin)) = made.take() {
-                audit = serve_ports(rt, alloc, &config, users, admin, &OpenGate).ok();
+                audit = serve_ports(rt, alloc, &config, users, admin, &gate).ok();
             }
         },
         &mut || {
-            right = play(rt, alloc, scene, ports, &others).unwrap_or(false);
+            right = play(rt, alloc, scene, ports, &others, &gate).unwrap_or(false);
             let _ = stop(rt, ports);
         },
     );

@@ -3,10 +3,13 @@
 use super::loopback::{
     Others, Ports, admin, asks, goes_well, options_asked, responds, rest, say, stop, until,
 };
+use super::shards::{held, many_users, one_connection};
 use std::alloc::Global;
 use std::io;
 use std::net::{Net, TcpListener, TcpStream};
 use std::test::Fail;
+use std::thread::Threads;
+use wire_kit::HoldGate;
 
 pub const REQUEST: &[u8] = b"GET http://o.test/a.txt HTTP/1.1\r\nHost: o.test\r\n\r\n";
 
@@ -15,16 +18,17 @@ pub const TO_ORIGIN: &[u8] =
 
 pub const RESPONSE: &[u8] = b"HTTP/1.1 200 OK\r\nContent-Length: 6\r\n\r\nabcdef";
 
-const FORWARDED: &[u8] =
+pub const FORWARDED: &[u8] =
     b"HTTP/1.1 200 OK\r\nContent-Length: 6\r\nVia: 1.1 adaptproxy\r\n\r\nabcdef";
 
-const ADAPTED: &[u8] = b"HTTP/1.1 200 OK\r\nContent-Length: 6\r\nVia: 1.1 adaptproxy\r\n\r\nABCDEF";
+pub const ADAPTED: &[u8] =
+    b"HTTP/1.1 200 OK\r\nContent-Length: 6\r\nVia: 1.1 adaptproxy\r\n\r\nABCDEF";
 
 const FINAL: &[u8] = b"ICAP/1.0 200 OK\r\nISTag: \"adapt-1\"\r\n\
 Encapsulated: res-hdr=0, res-body=38\r\n\r\n\
 HTTP/1.1 200 OK\r\nContent-Length: 6\r\n\r\n6\r\nABCDEF\r\n0\r\n\r\n";
 
-const UNAVAILABLE: &[u8] =
+pub const UNAVAILABLE: &[u8] =
     b"HTTP/1.1 503 Service Unavailable\r\nContent-Length: 0\r\nConnection: close\r\n\r\n";
 
 const BAD_GATEWAY: &[u8] =
@@ -36,7 +40,7 @@ const UNMODIFIED: &[u8] =
 const TIMEOUT: &[u8] =
     b"HTTP/1.1 504 Gateway Timeout\r\nContent-Length: 0\r\nConnection: close\r\n\r\n";
 
-const PREVIEWS: &str = "Preview: 4\r\nTransfer-Preview: *\r\n";
+pub const PREVIEWS: &str = "Preview: 4\r\nTransfer-Preview: *\r\n";
 
 const OFFERED: &[u8] = b"4\r\nabcd\r\n0\r\n\r\n";
 
@@ -47,34 +51,41 @@ pub enum Scene {
     Worked,
     /// The service takes no connection, as it says.
     NoConnections,
-    /// The service takes one connection: a second user is refused, and the first one served.
+    /// The service takes one connection: a second user is refused, the first one served, and then a third one.
     OneConnection,
     /// The service closes the connection on which it was asked for its options.
     ClosedOptions,
     /// Nothing comes of a request's rest, of an origin's answer, of a service's options.
     Deadlines,
+    /// Nothing comes of a service's reply.
+    SilentService,
     /// The service closes its idle connection, and the next request begins anew.
     Retry,
     /// The capacity changes.
     Capacity,
     /// The proxy stops while the service has a message.
     Stopped,
+    /// The first user's request is held back until the second one is answered.
+    Held,
+    /// More users than the budget has room for, all at once.
+    ManyUsers,
 }
 
 impl Scene {
     /// Whether responses are adapted.
     pub fn adapts(self) -> bool {
-        self != Scene::Capacity
+        self != Scene::Capacity && self != Scene::ManyUsers
     }
 }
 
 /// Plays a scene. Whether all got what they should.
-pub fn play<R: Net<Listener = TcpListener, Stream = TcpStream>>(
+pub fn play<R: Threads + Net<Listener = TcpListener, Stream = TcpStream> + Sync>(
     rt: &R,
     alloc: Global,
     scene: Scene,
     ports: Ports,
     others: &Others,
+    gate: &HoldGate,
 ) -> io::Result<bool> {
     match scene {
         Scene::Worked => worked(rt, alloc, ports, others),
@@ -82,14 +93,17 @@ pub fn play<R: Net<Listener = TcpListener, Stream = TcpStream>>(
         Scene::OneConnection => one_connection(rt, alloc, ports, others),
         Scene::ClosedOptions => closed_options(rt, alloc, ports, others),
         Scene::Deadlines => deadlines(rt, alloc, ports, others),
+        Scene::SilentService => silent_service(rt, alloc, ports, others),
         Scene::Retry => retry(rt, alloc, ports, others),
         Scene::Capacity => capacity(rt, alloc, ports),
         Scene::Stopped => stopped(rt, alloc, ports, others),
+        Scene::Held => held(rt, alloc, ports, others, gate),
+        Scene::ManyUsers => many_users(rt, alloc, ports, others),
     }
 }
 
 /// The service gets a preview, asks for the rest, and answers. Whether it got what it should.
-fn adapts(alloc: Global, line: &TcpStream, others: &Others) -> io::Result<bool> {
+pub fn adapts(alloc: Global, line: &TcpStream, others: &Others) -> io::Result<bool> {
     let offered = until(alloc, line, OFFERED)?;
     say(line, b"ICAP/1.0 100 Continue\r\n\r\n")?;
     let behind = until(alloc, line, b"0\r\n\r\n")?;
@@ -141,30 +155,6 @@ fn no_connections<R: Net<Listener = TcpListener, Stream = TcpStream>>(
     Ok(rest(alloc, &user)?.as_slice() == BAD_GATEWAY)
 }
 
-fn one_connection<R: Net<Listener = TcpListener, Stream = TcpStream>>(
-    rt: &R,
-    alloc: Global,
-    ports: Ports,
-    others: &Others,
-) -> io::Result<bool> {
-    let first = asks(rt, ports)?;
-    responds(alloc, others)?;
-    let lines = "Preview: 4\r\nTransfer-Preview: *\r\nMax-Connections: 1\r\n";
-    let line = options_asked(alloc, others, lines)?;
-    let mut byte = [0u8; 1];
-    line.peek(&mut byte)?;
-    let second = asks(rt, ports)?;
-    responds(alloc, others)?;
-    let refused = rest(alloc, &second)?;
-    let adapted = adapts(alloc, &line, others)?;
-    let served = until(alloc, &first, b"ABCDEF")?;
-    say(&first, REQUEST)?;
-    let again = responds(alloc, others)? && adapts(alloc, &line, others)?;
-    let later = until(alloc, &first, b"ABCDEF")?;
-    let right = served.as_slice() == ADAPTED && later.as_slice() == ADAPTED;
-    Ok(right && adapted && again && refused.as_slice() == UNAVAILABLE)
-}
-
 fn closed_options<R: Net<Listener = TcpListener, Stream = TcpStream>>(
     rt: &R,
     alloc: Global,
@@ -197,6 +187,19 @@ fn deadlines<R: Net<Listener = TcpListener, Stream = TcpStream>>(
     let (_silent, _) = others.service.accept()?;
     let second = rest(alloc, &offered)?;
     Ok(cut.is_empty() && first.as_slice() == TIMEOUT && second.as_slice() == TIMEOUT)
+}
+
+fn silent_service<R: Net<Listener = TcpListener, Stream = TcpStream>>(
+    rt: &R,
+    alloc: Global,
+    ports: Ports,
+    others: &Others,
+) -> io::Result<bool> {
+    let user = asks(rt, ports)?;
+    responds(alloc, others)?;
+    let line = options_asked(alloc, others, PREVIEWS)?;
+    until(alloc, &line, OFFERED)?;
+    Ok(rest(alloc, &user)?.as_slice() == TIMEOUT)
 }
 
 fn retry<R: Net<Listener = TcpListener, Stream = TcpStream>>(
@@ -259,14 +262,15 @@ fn a_service_says_how_many_connections_it_takes(rt: HostRuntime) -> Result<(), F
     let alloc = rt.alloc();
     let lines = "allow_limit = 0\n";
     assert!(rt; goes_well(&rt, alloc, Scene::NoConnections, lines)?);
-    assert!(rt; goes_well(&rt, alloc, Scene::OneConnection, lines)?);
     assert!(rt; goes_well(&rt, alloc, Scene::ClosedOptions, lines)?);
     Ok(())
 }
 
 #[test]
 fn nobody_waits_for_ever(rt: HostRuntime) -> Result<(), Fail> {
-    assert!(rt; goes_well(&rt, rt.alloc(), Scene::Deadlines, "deadline = 1\n")?);
+    let lines = "deadline = 1\nallow_limit = 0\n";
+    assert!(rt; goes_well(&rt, rt.alloc(), Scene::Deadlines, lines)?);
+    assert!(rt; goes_well(&rt, rt.alloc(), Scene::SilentService, lines)?);
     Ok(())
 }
 

@@ -1,0 +1,194 @@
+//! The threads: each makes its work, runs its loop, and hands over what is left.
+
+use crate::audit::ServeFault;
+use crate::desk::Shared;
+use crate::left::Left;
+use crate::pools::{Pools, Spare};
+use crate::shard::Shard;
+use event_loop::{Base, Inbox, add_loop, run_loop, stop_all};
+use mio::net::TcpListener;
+use proxy_config::Config;
+use service_pool::Pool;
+use socket_wire::Dial;
+use span_bank::{Bank, Ledgers};
+use std::alloc::Global;
+use std::net::Net;
+use std::sync::ledger::Ledger;
+use std::sync::{Mutex, Wait};
+use std::thread::{self, Threads};
+use std::time::Clock;
+use wire_kit::Gate;
+
+/// The most threads: as many as can be configured.
+const MAX_THREADS: usize = 64;
+
+/// Makes a base for each thread. The first one has the ports.
+fn make_bases<R: Net>(
+    rt: &R,
+    alloc: Global,
+    count: u64,
+    ports: (TcpListener, TcpListener),
+    inboxes: &mut Vec<Inbox>,
+) -> Result<Vec<Option<Base>>, ServeFault> {
+    let mut bases = Vec::new(alloc);
+    let mut ports = Some(ports);
+    for _ in 0..count {
+        let Ok(base) = add_loop(rt, alloc, ports.take(), inboxes) else {
+            return Err(ServeFault::System);
+        };
+        if bases.push(Some(base)).is_err() {
+            return Err(ServeFault::NoMemory);
+        }
+    }
+    Ok(bases)
+}
+
+/// A place from which a thread takes the base of its loop.
+trait Place {
+    /// The base, once.
+    fn take_base(&mut self) -> Option<Base>;
+}
+
+impl Place for Option<Base> {
+    fn take_base(&mut self) -> Option<Base> {
+        self.take()
+    }
+}
+
+/// Runs a loop on each base, in a thread of its own, until one is told to stop or fails: then all end. What is left comes
+/// together.
+///
+/// What the threads share comes piece by piece, and what a base is made of isn't seen here: with either of them the
+/// toolchain's search doesn't find that threads may share the pieces.
+fn run_on<
+    B: Ledgers + Send + Sync,
+    Q: Ledger + Send + Sync,
+    A: Ledger + Send + Sync,
+    G: Gate + Sync,
+    K: Place + Send,
+    R: Threads + Wait + Dial + Clock + Sync,
+>(
+    rt: &R,
+    alloc: Global,
+    config: &Config,
+    bank: &Bank<B>,
+    request: &Pool<Spare, Q>,
+    response: &Pool<Spare, A>,
+    gate: &G,
+    inboxes: &[Inbox],
+    left: &Mutex<Left<B, Q, A>>,
+    places: &mut [K],
+)
+where
+    B::Held: Send + Sync,
+    B::Free: Send + Sync,
+    B::Slack: Send + Sync,
+    B::Pages: Send + Sync,
+{
+    thread::for_each_mut(
+        rt,
+        places,
+        MAX_THREADS,
+        &|number, place| {
+            run_one(
+                rt, alloc, config, bank, request, response, gate, inboxes, left, number, place,
+            )
+        },
+    );
+}
+
+/// Runs as many loops as are configured, each in a thread of its own, until one is told to stop or fails: then all end.
+/// What is left comes together.
+pub fn run_crew<
+    B: Ledgers + Send + Sync,
+    Q: Ledger + Send + Sync,
+    A: Ledger + Send + Sync,
+    G: Gate + Sync,
+    R: Threads + Wait + Net + Dial + Clock + Sync,
+>(
+    rt: &R,
+    alloc: Global,
+    config: &Config,
+    bank: &Bank<B>,
+    request: &Pool<Spare, Q>,
+    response: &Pool<Spare, A>,
+    gate: &G,
+    ports: (TcpListener, TcpListener),
+    left: &Mutex<Left<B, Q, A>>,
+) -> Result<(), ServeFault>
+where
+    B::Held: Send + Sync,
+    B::Free: Send + Sync,
+    B::Slack: Send + Sync,
+    B::Pages: Send + Sync,
+{
+    let mut inboxes = Vec::new(alloc);
+    let mut bases = make_bases(rt, alloc, config.shards, ports, &mut inboxes)?;
+    run_on(
+        rt,
+        alloc,
+        config,
+        bank,
+        request,
+        response,
+        gate,
+        inboxes.as_slice(),
+        left,
+        bases.as_mut_slice(),
+    );
+    Ok(())
+}
+
+/// Runs a loop on the base in this place, if there is one.
+fn run_one<B: Ledgers, Q: Ledger, A: Ledger, G: Gate, K: Place, R: Wait + Dial + Clock>(
+    rt: &R,
+    alloc: Global,
+    config: &Config,
+    bank: &Bank<B>,
+    request: &Pool<Spare, Q>,
+    response: &Pool<Spare, A>,
+    gate: &G,
+    inboxes: &[Inbox],
+    left: &Mutex<Left<B, Q, A>>,
+    number: usize,
+    place: &mut K,
+) {
+    let pools = Pools { request, response };
+    let shared = Shared {
+        config,
+        bank,
+        pools,
+        gate,
+    };
+    if let Some(base) = place.take_base() {
+        run_base(rt, alloc, shared, number, base, inboxes, left);
+    }
+}
+
+/// Makes a thread's work, and runs its loop over it. One that finds no memory tells all others to stop.
+fn run_base<'a, B: Ledgers, Q: Ledger, A: Ledger, G: Gate, R: Wait + Dial + Clock>(
+    rt: &R,
+    alloc: Global,
+    shared: Shared<'a, B, Q, A, G>,
+    number: usize,
+    base: Base,
+    inboxes: &[Inbox],
+    left: &Mutex<Left<B, Q, A>>,
+) {
+    let bank = shared.bank;
+    let pools = shared.pools.again();
+    let Ok(shard) = Shard::new(alloc, shared) else {
+        let _ = stop_all(rt, inboxes);
+        left.lock(rt).miss();
+        return;
+    };
+    let (shard, missed) = match run_loop(rt, alloc, number, base, shard, inboxes) {
+        Ok(shard) => (shard, false),
+        Err(shard) => (shard, true),
+    };
+    let mut left = left.lock(rt);
+    if missed {
+        left.miss();
+    }
+    left.take_slots(rt, bank, pools, shard.into_slots());
+}
