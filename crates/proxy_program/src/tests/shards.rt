@@ -140,11 +140,11 @@ fn served<R: Net<Listener = TcpListener, Stream = TcpStream>>(
     for _ in 0..USERS {
         users.push(asks(rt, ports)?)?;
     }
-    let mut count = 0;
+    let mut count = 0usize;
     for user in &users {
         let answer = until(alloc, user, b"abcdef")?;
         if answer.as_slice() == FORWARDED {
-            count += 1;
+            count = count.saturating_add(1);
         } else if answer.as_slice() != UNAVAILABLE {
             return Ok(None);
         }
