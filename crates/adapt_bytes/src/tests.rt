@@ -1,8 +1,9 @@
 //! Values from outside: the ends of each range, and lists like those of RFC 9110, section 5.6.1.
 use crate::{
-    Small, comma_items, comma_parts, is_token, put_decimal, put_hex, read_decimal, read_hex,
+    Room, Small, comma_items, comma_parts, is_token, put_decimal, put_hex, read_decimal, read_hex,
     same_ascii, trim,
 };
+use std::alloc::AllocError;
 
 #[test]
 fn decimals_are_read(rt: HostRuntime) {
@@ -90,4 +91,22 @@ fn words_are_told_apart(rt: HostRuntime) {
     assert!(rt; same_ascii(b"Null-Body", b"null-body"));
     assert!(rt; !same_ascii(b"null-body", b"null_body"));
     assert!(rt; !same_ascii(b"@", b"`"));
+}
+
+/// A text is put piece by piece, and may be shorter than its room.
+#[test]
+fn texts_are_put_into_room(rt: HostRuntime) -> Result<(), AllocError> {
+    let mut room = Room::new(rt.alloc(), 7)?;
+    room.put(b"ab");
+    room.put(b"");
+    room.put(b"cdefg");
+    let text = room.into_vec();
+    assert_eq!(rt; text.as_slice(), b"abcdefg".as_slice());
+    let mut room = Room::new(rt.alloc(), 7)?;
+    room.put(b"xyz");
+    let text = room.into_vec();
+    assert_eq!(rt; text.as_slice(), b"xyz".as_slice());
+    let text = Room::new(rt.alloc(), 0)?.into_vec();
+    assert_eq!(rt; text.len(), 0);
+    Ok(())
 }

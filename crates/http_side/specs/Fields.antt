@@ -2,6 +2,8 @@
 use Rattle.std.specs.Prelude.{◌≡◌, ℕ, ◌<◌, Bool, List, [], ◌∷◌, length, map, slice_index_or}
 use Rattle.std.specs.List.{filter}
 use Rattle.std.specs.Str.{str_eq_ignore_ascii_case}
+use Rattle.http_header.specs.Token.{lowercase}
+use Rattle.http_header.specs.HeaderMap.{Entries, append_all}
 use Rattle.http_side.specs.declared.fields.Values.{Values}
 use Rattle.http_side.specs.declared.fields.Values.TheVariants.{None as NoValue, One, Many}
 
@@ -30,3 +32,7 @@ abbrev pub IsValues : List (List ℕ) → Values → Type 0
 IsValues values NoValue = values ≡ []
 IsValues values (One value) = values ≡ value.now ∷ []
 IsValues values Many = 1 < length values
+
+-- the same fields in a header map, which keeps names in lower case
+abbrev pub as_header_map : FieldList → Entries (List ℕ)
+as_header_map fields = append_all [] (map (λ f. (lowercase f.0, f.1)) fields)

@@ -56,9 +56,9 @@ fn targets_to_origins_and_services(rt: HostRuntime) -> Result<(), Fail> {
 
 #[test]
 fn fields_to_origins_and_services(rt: HostRuntime) -> Result<(), Fail> {
-    let cases: [RequestCase<'_>; 2] = [
+    let cases: [RequestCase<'_>; 3] = [
         (
-            b"POST http://o/ HTTP/1.0\r\nConnection: x, keep-alive, Host\r\nX: 1\r\nY:2 \r\nTE: trailers\r\nExpect: 100-continue\r\nContent-Length: 3\r\nContent-Length: 03\r\nEmpty: \r\nConnection: Z\r\nz: 1\r\n\r\n",
+            b"POST http://o/ HTTP/1.0\r\nConnection: x, keep-alive, Host\r\nX: 1\r\nY:2 \r\nTE: trailers\r\nExpect: 100-continue\r\nContent-Length: 3\r\nEmpty: \r\nContent-Length: 03\r\nConnection: Z\r\nz: 1\r\n\r\n",
             b"POST / HTTP/1.1\r\nHost: o\r\nY: 2\r\nContent-Length: 3\r\nEmpty: \r\nConnection: close\r\nVia: 1.0 adaptproxy\r\n\r\n",
             b"POST http://o/ HTTP/1.1\r\nHost: o\r\nY: 2\r\nContent-Length: 3\r\nEmpty: \r\n\r\n",
         ),
@@ -66,6 +66,11 @@ fn fields_to_origins_and_services(rt: HostRuntime) -> Result<(), Fail> {
             b"POST http://o/ HTTP/1.1\r\nHost: o\r\nTransfer-Encoding: chunked\r\nTrailer: A\r\nKeep-Alive: 1\r\nProxy-Authorization: b\r\nUpgrade: c\r\n\r\n",
             b"POST / HTTP/1.1\r\nHost: o\r\nTransfer-Encoding: chunked\r\nConnection: close\r\nVia: 1.1 adaptproxy\r\n\r\n",
             b"POST http://o/ HTTP/1.1\r\nHost: o\r\n\r\n",
+        ),
+        (
+            b"PUT http://o/ HTTP/1.1\r\nA: 1\r\nHost: o\r\nConnection: host, a, content-length\r\nContent-Length: 0\r\n\r\n",
+            b"PUT / HTTP/1.1\r\nHost: o\r\nContent-Length: 0\r\nConnection: close\r\nVia: 1.1 adaptproxy\r\n\r\n",
+            b"PUT http://o/ HTTP/1.1\r\nHost: o\r\nContent-Length: 0\r\n\r\n",
         ),
     ];
     check_requests(&rt, &cases)

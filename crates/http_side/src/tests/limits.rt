@@ -1,6 +1,9 @@
 //! The limits of a head: 16,384 bytes and 100 fields; and heads cut at every byte.
-use crate::{HttpFault, NoMemory, read_request, read_response};
+use crate::{
+    Forward, HttpFault, Message, NoMemory, Part, forward_head, read_request, read_response,
+};
 use std::alloc::Global;
+use std::test::Fail;
 
 /// A request with this many fields beside Host.
 fn many_fields(alloc: Global, count: usize) -> Result<Vec<u8>, NoMemory> {
@@ -34,6 +37,38 @@ fn fields(rt: HostRuntime) -> Result<(), NoMemory> {
     Ok(())
 }
 
+/// The LF of the 101st field line decides, and no byte before it.
+#[test]
+fn one_field_too_many(rt: HostRuntime) -> Result<(), NoMemory> {
+    let mut text = many_fields(rt.alloc(), 100)?;
+    text.truncate(text.len().saturating_sub(2));
+    let found = read_request(rt.alloc(), &text, false).err();
+    assert_eq!(rt; found, Some(HttpFault::TooMany));
+    for _ in 0..6 {
+        text.truncate(text.len().saturating_sub(1));
+        let found = read_request(rt.alloc(), &text, false).err();
+        assert_eq!(rt; found, Some(HttpFault::More));
+    }
+    Ok(())
+}
+
+/// A head that was read within the limits goes on with what is added, and may then have more fields than they allow.
+#[test]
+fn limits_bind_readers_alone(rt: HostRuntime) -> Result<(), Fail> {
+    let text = many_fields(rt.alloc(), 99)?;
+    let user = read_request(rt.alloc(), &text, false)?;
+    let forward = Forward {
+        user: &user.value,
+        message: Message::Request(&user.value),
+        part: Part::Own,
+        body_read: true,
+    };
+    let head = forward_head(rt.alloc(), &forward)?;
+    let found = read_request(rt.alloc(), &head, true).err();
+    assert_eq!(rt; found, Some(HttpFault::TooMany));
+    Ok(())
+}
+
 #[test]
 fn bytes(rt: HostRuntime) -> Result<(), NoMemory> {
     let cases = [(16_384, None), (16_385, Some(HttpFault::TooLong))];
@@ -46,6 +81,21 @@ fn bytes(rt: HostRuntime) -> Result<(), NoMemory> {
     text.truncate(16_383);
     let found = read_request(rt.alloc(), &text, false).err();
     assert_eq!(rt; found, Some(HttpFault::More));
+    Ok(())
+}
+
+/// A line that begins with a blank is refused at that byte, if it is among the first 16,384: no others are judged.
+#[test]
+fn last_byte_that_is_judged(rt: HostRuntime) -> Result<(), NoMemory> {
+    let cases = [(16_384, HttpFault::Bad), (16_385, HttpFault::TooLong)];
+    for (size, want) in cases {
+        let mut text = long_head(rt.alloc(), size)?;
+        text.truncate(text.len().saturating_sub(4));
+        text.extend_from_slice(b"x\r\n ")?;
+        assert_eq!(rt; text.len(), size);
+        let found = read_request(rt.alloc(), &text, false).err();
+        assert_eq!(rt; found, Some(want));
+    }
     Ok(())
 }
 

@@ -51,12 +51,15 @@ fn targets(rt: HostRuntime) {
     }
 }
 
-/// An adapted request may have origin form, and never `*`.
+/// An adapted request may have origin form, and never `*`; in HTTP/1.1 it has Host, as any other.
 #[test]
-fn targets_of_adapted_requests(rt: HostRuntime) {
-    let cases: [(&[u8], Option<HttpFault>); 3] = [
+fn adapted_requests(rt: HostRuntime) {
+    let cases: [(&[u8], Option<HttpFault>); 6] = [
         (b"GET /a?b HTTP/1.0\r\n\r\n", None),
         (b"GET http://o/a HTTP/1.0\r\n\r\n", None),
+        (b"GET /a HTTP/1.1\r\nHost: x\r\n\r\n", None),
+        (b"GET /a HTTP/1.1\r\n\r\n", Some(HttpFault::Bad)),
+        (b"GET http://o/a HTTP/1.1\r\n\r\n", Some(HttpFault::Bad)),
         (b"OPTIONS * HTTP/1.0\r\n\r\n", Some(HttpFault::Target)),
     ];
     for (text, want) in cases {
@@ -71,7 +74,7 @@ fn targets_of_adapted_requests(rt: HostRuntime) {
 /// How long the body is, has to be clear.
 #[test]
 fn lengths(rt: HostRuntime) {
-    let cases: [(&[u8], Option<HttpFault>); 13] = [
+    let cases: [(&[u8], Option<HttpFault>); 14] = [
         (b"Content-Length: 6", None),
         (b"Content-Length: 6\r\ncontent-length: 06", None),
         (b"Content-Length: 4611686018427387903", None),
@@ -99,6 +102,10 @@ fn lengths(rt: HostRuntime) {
             b"Transfer-Encoding: chunked, chunked",
             Some(HttpFault::Coding),
         ),
+        (
+            b"Transfer-Encoding: chunked\r\nTransfer-Encoding: chunked",
+            Some(HttpFault::Coding),
+        ),
         (b"Transfer-Encoding: chunkedx", Some(HttpFault::Coding)),
     ];
     for (fields, want) in cases {
@@ -115,12 +122,25 @@ fn with_fields(alloc: Global, fields: &[u8]) -> Result<Option<HttpFault>, crate:
     Ok(fault(alloc, &text))
 }
 
+/// A target is judged at the space behind it, and what the fields say where the head ends.
+#[test]
+fn waits_for_the_end(rt: HostRuntime) {
+    let cases: [&[u8]; 4] = [
+        b"",
+        b"GET http://o/ HTTP/1.1\r\nHost: o\r\n",
+        b"GET http://o/\xff",
+        b"CONNECT o HTTP/1.0\r\nContent-Length: x\r\n",
+    ];
+    for text in cases {
+        assert_eq!(rt; fault(rt.alloc(), text), Some(HttpFault::More), "{text:?}");
+    }
+}
+
 /// The least number of those that stand is answered, and the grammar goes before all of them.
 #[test]
 fn first_fault(rt: HostRuntime) {
-    let cases: [(&[u8], HttpFault); 15] = [
-        (b"", HttpFault::More),
-        (b"GET http://o/ HTTP/1.1\r\nHost: o\r\n", HttpFault::More),
+    let cases: [(&[u8], HttpFault); 14] = [
+        (b"GET http://o/\xff ", HttpFault::Bad),
         (b"GET http://o/ HTTP/1.1\r\n\r\n", HttpFault::Bad),
         (
             b"GET http://o/ HTTP/1.0\r\nHost: o\r\nHost: o\r\n\r\n",
