@@ -57,7 +57,8 @@ bench-chunks: ## chunked bodies: seconds and MB/s for 1 GiB
 	@bin/chunk_bench 1024
 
 bench-heads: ## heads: nanoseconds to read an HTTP request and write two, and to read ICAP responses, beside the parser alone
-	cd crates/head_bench && rt run -- 200000
+	@tools/build_program head_bench head_bench 1
+	@bin/head_bench 200000
 
 bench-exchange: ## a whole exchange with a service over memory wires: nanoseconds, and calls of its wire
 	@tools/build_program exchange_bench exchange_bench 1
