@@ -1,5 +1,5 @@
 -- What a piece adds to what was read.
-use Rattle.std.proofs.Common.{◌≡◌, ℕ, ◌+◌, ◌-◌, ◌≤◌, min, List, [], ◌++◌, length, take, refl, sym, ap, ◌∙◌, subst, arith, length-append, length-take}
+use Rattle.std.proofs.Common.{◌≡◌, ℕ, ◌+◌, ◌-◌, ◌≤◌, List, [], ◌++◌, length, take, refl, sym, ap, ◌∙◌, subst, arith, length-append, length-take}
 use Rattle.std.proofs.lemmas.Grind.{common_steps}
 use Rattle.std.specs.Prelude.{slice_range, Result, Ok, Err, IfOk, IfErr}
 use Rattle.icap_chunks.specs.declared.reader.Fed.{Fed}
@@ -32,18 +32,15 @@ chunks_open e = cc
 nothing_more : (text piece : List ℕ) (used : ℕ) → text ≡ [] → used ≡ 0 → text ++ take used piece ≡ []
 nothing_more text piece used e z = rw (e, z) refl
 
-left_less : (n k used : ℕ) (a b : ℕ) → a ≡ n - k → used ≡ min a b → a - used ≡ n - (k + used)
-left_less n k used a b e m = omega arith
-
 -- bytes of a counted body
-pub counted : (framing : Framing) (text body piece : List ℕ) (old new : BodyReader) (left used : ℕ) → old.place ≡ Left left → used ≡ min left (length piece)
+pub counted : (framing : Framing) (text body piece : List ℕ) (old new : BodyReader) (left used : ℕ) → old.place ≡ Left left → used ≤ left → used ≤ length piece
     → new.place ≡ Left (left - used) → HasRead framing text body old → HasRead framing (text ++ take used piece) (body ++ slice_range piece 0 used) new
-counted None text body piece old new left used was count is h =
+counted None text body piece old new left used was few there is h =
     let zero : left ≡ 0 = same_left (sym was ∙ h.2) in
     let none : used ≡ 0 = omega arith in
     let range : slice_range piece 0 used ≡ [] = rw none refl in
     (nothing_more text piece used h.0 none, rw (h.1, range) refl, is ∙ ap Left (omega arith))
-counted (Length n) text body piece old new left used was count is h =
+counted (Length n) text body piece old new left used was few there is h =
     let left_is : left ≡ n - length text = same_left (sym was ∙ h.2) in
     let len : length (text ++ take used piece) ≡ length text + used = omega (arith, length-append text (take used piece), length-take used piece) in
     let range : slice_range piece 0 used ≡ take used piece = grind (arith, common_steps) in
@@ -51,8 +48,8 @@ counted (Length n) text body piece old new left used was count is h =
     let low : length (text ++ take used piece) ≤ n = omega arith in
     let rest : left - used ≡ n - length (text ++ take used piece) = omega arith in
     (here, low, is ∙ ap Left rest)
-counted Chunked text body piece old new left used was count is h = absurd (left_chunks (sym was ∙ h.2))
-counted Close text body piece old new left used was count is h = absurd (left_open (sym was ∙ h.1))
+counted Chunked text body piece old new left used was few there is h = absurd (left_chunks (sym was ∙ h.2))
+counted Close text body piece old new left used was few there is h = absurd (left_open (sym was ∙ h.1))
 
 -- a reader of chunks reads a chunked body
 pub chunked : (framing : Framing) (text body : List ℕ) (old : BodyReader) (chunks : ChunkReader) → old.place ≡ Chunks chunks → HasRead framing text body old

@@ -1,5 +1,5 @@
 -- A body by its framing: which texts are whole bodies, and what a reader has read.
-use Rattle.std.specs.Prelude.{◌≡◌, ℕ, ◌-◌, ◌≤◌, Bool, false, is_some, List, [], length, Option, Some, None as Nothing, if◌then◌else◌, ◌==◌}
+use Rattle.std.specs.Prelude.{◌≡◌, ℕ, ◌-◌, ◌≤◌, Bool, true, false, is_some, List, [], length, Option, Some, None as Nothing, if◌then◌else◌, ◌==◌, nat_lt}
 use Rattle.icap_chunks.specs.Grammar.{IsChunked}
 use Rattle.icap_chunks.specs.Machine as chunks
 use Rattle.icap_chunks.specs.declared.reader.ChunkReader.{ChunkReader}
@@ -43,6 +43,15 @@ is_over r = is_over_at r.place
 -- what a feed says of the end
 abbrev pub end_said : BodyReader → Option Bool
 end_said r = if is_over r then Some false else Nothing
+
+-- the next byte is one of the body: of its length, of a chunk's data, or any one up to the close
+abbrev pub is_in_data_at : Place → Bool
+is_in_data_at (Left n) = nat_lt 0 n
+is_in_data_at (Chunks reader) = chunks.is_in_data reader
+is_in_data_at Open = true
+
+abbrev pub is_in_data : BodyReader → Bool
+is_in_data r = is_in_data_at r.place
 
 abbrev pub fault_at : Place → Option ChunkFault
 fault_at (Chunks reader) = chunks.fault_of reader

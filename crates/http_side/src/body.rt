@@ -4,7 +4,7 @@ ghost use Rattle.std.specs.Prelude.{◌≡◌, ℕ, ◌+◌, ◌-◌, ◌<◌, �
 ghost use Rattle.icap_chunks.specs.Faults.{Breaks};
 ghost use Rattle.icap_chunks.specs.Machine.{HasRead as chunks_read, end_of, fault_of as chunk_fault};
 ghost use Rattle.http_side.specs.declared.body.Place.TheVariants.{Left, Chunks};
-ghost use Rattle.http_side.specs.Body.{IsBody, IsClosedBody, HasRead, is_over, fault_of, end_said};
+ghost use Rattle.http_side.specs.Body.{IsBody, IsClosedBody, HasRead, is_over, fault_of, end_said, is_in_data};
 ghost use Rattle.http_side.specs.declared.body.Framing.{Framing as Way};
 ghost use Rattle.http_side.specs.declared.body.Framing.TheVariants.{Chunked};
 ghost use Rattle.http_side.specs.declared.body.BodyReader.{BodyReader as Reader};
@@ -63,10 +63,14 @@ impl BodyReader {
         ensures read { IfOk result (λ fed. (framing : Way) (text body : List ℕ) → HasRead framing text body self.old
             → HasRead framing (text ++ take fed.used piece.now) (body ++ slice_range piece.now fed.part.0 fed.part.1) self.new) }
         ensures ended { IfOk result (λ fed. fed.ended ≡ end_said self.new) }
+        ensures no_fault { OnOk result (fault_of self.new ≡ None) }
 
         // It stops at the end of the body, or behind the whole of a run, and else behind the whole piece.
         ensures stops { IfOk result (λ fed. fed.used < length piece.now → fed.ended ≡ None
-            → (fed.part.0 < fed.part.1) × (fed.used ≡ fed.part.1)) }
+            → (fed.part.0 < fed.part.1) × (fed.used ≡ fed.part.1) × (is_in_data self.new ≡ false)) }
+
+        // The body bytes are the last ones that it used; without any the part is empty, and stands there too.
+        ensures part_end { IfOk result (λ fed. fed.part.1 ≡ fed.used) }
         ensures over { IsTrue (is_over self.old) → (self.new ≡ self.old) × IsOkAnd result (λ fed. (fed.used ≡ 0) × (fed.ended ≡ Some false)) }
 
         // Chunks alone can be broken, by a byte with no byte of the body before it in the piece, or by an earlier one.
@@ -107,8 +111,10 @@ impl BodyReader {
         ensures read { IfOk result (λ fed. (text body : List ℕ) → chunks_read text body chunks
             → HasRead Chunked (text ++ take fed.used piece.now) (body ++ slice_range piece.now fed.part.0 fed.part.1) self.new) }
         ensures ended { IfOk result (λ fed. fed.ended ≡ end_said self.new) }
+        ensures no_fault { OnOk result (fault_of self.new ≡ None) }
         ensures stops { IfOk result (λ fed. fed.used < length piece.now → fed.ended ≡ None
-            → (fed.part.0 < fed.part.1) × (fed.used ≡ fed.part.1)) }
+            → (fed.part.0 < fed.part.1) × (fed.used ≡ fed.part.1) × (is_in_data self.new ≡ false)) }
+        ensures part_end { IfOk result (λ fed. fed.part.1 ≡ fed.used) }
         ensures over { IsTrue (is_some (end_of chunks)) → (self.new.place ≡ Chunks chunks) × IsOkAnd result (λ fed. (fed.used ≡ 0) × (fed.ended ≡ Some false)) }
         ensures fault { IfErr result (λ fault. (text body : List ℕ) → chunks_read text body chunks → Breaks (text ++ piece.now) body fault) }
         ensures stays { IfErr result (λ fault. fault_of self.new ≡ Some fault) }

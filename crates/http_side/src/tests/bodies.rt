@@ -1,5 +1,6 @@
 //! Bodies in pieces, and the proxy's own responses.
 use crate::{BodyReader, Framing, own_refusal};
+use icap_chunks::{ChunkFault, Fed};
 use std::test::Fail;
 
 /// One body byte a chunk, and what belongs to the next message is left.
@@ -19,6 +20,32 @@ fn chunks_in_pieces(rt: HostRuntime) -> Result<(), Fail> {
     assert_eq!(rt; read, text.len() - 2);
     assert_eq!(rt; body, 4);
     assert!(rt; reader.at_close());
+    Ok(())
+}
+
+/// An `X` where the CR LF behind a chunk's three bytes has to stand, fed byte by byte and in one piece: those bytes come
+/// first, then the fault, and then nothing else.
+#[test]
+fn broken_chunk(rt: HostRuntime) -> Result<(), Fail> {
+    let text: &[u8] = b"3\r\nabcX";
+    let mut reader = BodyReader::new(Framing::Chunked);
+    for byte in &text[..6] {
+        let piece = [*byte];
+        assert_eq!(rt; reader.feed(&piece)?.used, 1);
+    }
+    for piece in [b"X".as_slice(), b"", b"\r\n0\r\n\r\n"] {
+        assert_eq!(rt; reader.feed(piece), Err(ChunkFault::Break));
+    }
+    let mut reader = BodyReader::new(Framing::Chunked);
+    let run = Fed {
+        used: 6,
+        part: (3, 6),
+        ended: None,
+    };
+    assert_eq!(rt; reader.feed(text), Ok(run));
+    assert_eq!(rt; reader.feed(&text[6..]), Err(ChunkFault::Break));
+    assert!(rt; !reader.has_ended());
+    assert!(rt; !reader.at_close());
     Ok(())
 }
 
