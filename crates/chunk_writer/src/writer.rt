@@ -1,6 +1,6 @@
 //! The text of one message: what is fixed of it and not yet out.
 
-ghost use Rattle.std.specs.Prelude.{◌≡◌, ℕ, ◌+◌, ◌-◌, ◌<◌, ◌≤◌, ◌++◌, List, [], length, drop, take, true, false, min};
+ghost use Rattle.std.specs.Prelude.{◌≡◌, ℕ, ◌+◌, ◌-◌, ◌<◌, ◌≤◌, ◌++◌, ◌⊎◌, List, [], length, drop, take, true, false, min};
 ghost use Rattle.span_tape.specs.Tape.{Tape};
 ghost use Rattle.chunk_writer.specs.Writer.{Writer, fresh, waiting, begun, fixed, sent_on, after_data, bytes_of, end_text, is_ending, data_text, chunk_text, next_text};
 ghost use Rattle.chunk_writer.specs.Moves.{Moves};
@@ -79,6 +79,7 @@ impl ChunkWriter {
         ensures waiting { waiting self.new ≡ waiting self.old }
         ensures framing { self.new.framing ≡ self.old.framing }
         ensures left { self.new.left ≡ self.old.left }
+        ensures head { (self.new.head ≡ self.old.head) ⊎ (self.new.head ≡ []) }
         ensures released { self.old.head_out ≡ length self.old.head → self.new.head ≡ [] }
         ensures out { drop self.new.head_out self.new.head ≡ [] → self.new.head ≡ [] }
     {

@@ -120,15 +120,15 @@ read_cause : (x : Seen) (a : Bool) (room : ℕ) (new : Side) (p q : Past) (fault
 read_cause x a room new p q fault (Ok turn) r = record { device = λ e n. cc; waiting = λ h. r.waits turn refl h }
 read_cause x a room new p q fault (Err g) r = record { device = λ e n. r.device e; waiting = λ h. cc }
 
-read_says : (x : Seen) (old new : Side) (room : ℕ) (out delta : List ℕ) (result : Result Turn ClientFault) → CameOf x old new room out delta result → SaysWaiting (events_of result) delta result
-read_says x old new room out delta (Ok turn) c = record {
+read_says : (x : Seen) (a : Bool) (old new : Side) (room : ℕ) (out delta : List ℕ) (result : Result Turn ClientFault) → CameOf x a old new room out delta result → SaysWaiting (events_of result) delta result
+read_says x a old new room out delta (Ok turn) c = record {
   idle = λ h. let w = c.2 h in (w.0, w.1);
   waits = λ t e n d.
       let same : turn ≡ t = cc in
       let moved : turn.waiting ≡ false → ⊥ = λ h. let some : 0 < length delta = c.3 h n in let z : length delta ≡ 0 = ap (λ (l : List ℕ). length l) d in absurd (omega (arith, some, z)) in
       subst (λ (u : Turn). u.waiting ≡ true) same (or_true turn.waiting moved);
 }
-read_says x old new room out delta (Err g) c = record { idle = λ h. cc; waits = λ t e n d. cc }
+read_says x a old new room out delta (Err g) c = record { idle = λ h. cc; waits = λ t e n d. cc }
 
 pub hears_by : (x : Seen) (a : Bool) (room : ℕ) (old new : Side) (P Q : Past → Type 0) (out : List ℕ) (result : Result Turn ClientFault) → old.fault ≡ None → room ≡ length out
     → ReadTurn x a room old new P Q out result → ((g : ClientFault) → result ≡ Err g → new.fault ≡ Some g)
@@ -140,7 +140,7 @@ hears_by x a room old new P Q out (Ok turn) none long t stays = record {
   count = omega (arith, t.came.1, long);
   legal = t.came.0.legal;
   goes_on = t.came.0.heard;
-  waiting = read_says x old new room out t.delta (Ok turn) t.came;
+  waiting = read_says x a old new room out t.delta (Ok turn) t.came;
   fault = record { again = λ g e. cc; stays = stays };
 }
 hears_by x a room old new P Q out (Err g) none long t stays = record {
@@ -150,7 +150,7 @@ hears_by x a room old new P Q out (Err g) none long t stays = record {
   count = omega arith;
   legal = tt;
   goes_on = t.came.0.heard;
-  waiting = read_says x old new room out t.delta (Err g) t.came;
+  waiting = read_says x a old new room out t.delta (Err g) t.came;
   fault = record { again = λ f e. cc; stays = stays };
 }
 

@@ -9,7 +9,7 @@ use Rattle.icap_client.specs.Events.{May, ad_sum}
 use Rattle.icap_client.specs.Heard.{Reader}
 use Rattle.icap_client.specs.HeadFront.{HasToWait}
 use Rattle.icap_client.specs.Refused.{Refuses}
-use Rattle.icap_client.specs.Reading.{Side, GivesBack, SideHears, IsFilled, IsLaterRead, NothingToRead, HasReason, IsRefused, IsUnheard, CameOf, ReadTurn}
+use Rattle.icap_client.specs.Reading.{Side, GivesBack, SideHears, IsFilled, IsLaterRead, MayRead, NothingToRead, HasReason, IsRefused, IsUnheard, CameOf, ReadTurn}
 use Rattle.adapt_sides.specs.declared.fault.ClientFault.{ClientFault}
 use Rattle.adapt_sides.specs.declared.fault.ClientFault.TheVariants.{Closed, Device, NoMemory, NotLegal}
 use Rattle.icap_client.specs.declared.filled.Filled.TheVariants as filled
@@ -77,7 +77,7 @@ pub turn_refused : (x : Seen) (a : Bool) (room : ℕ) (old new : Side) (P : Past
 turn_refused x a room old new P out fault h r = record {
   delta = [];
   wire = λ p b. (p, b, later_none p, reasons_refused x a room new.reader.stage p p fault old.reader.point old.reader.stage old.raw r);
-  came = (h, inr (inr (inr (inr (record { at = old; delta = []; hears = filled_more x old old [] (inr refl) refl (sym (append-nil old.raw)); refuses = r })))));
+  came = (h, inr (inr (inr (inr (record { at = old; hears = filled_more x old old [] (inr refl) refl (sym (append-nil old.raw)); refuses = r })))));
 }
 
 -- bytes came, and were framed
@@ -109,7 +109,7 @@ turn_bytes_refused x a room old mid new P Q out fault was e f h r = record {
   );
   came = (
     subst (λ (d : List ℕ). SideHears x old new [] d []) (append-nil f.0) (side_then x old mid new [] f.0 [] [] (filled_more x old mid f.0 (inl was) e f.2) h),
-    inr (inr (inr (inr (record { at = mid; delta = f.0; hears = filled_more x old mid f.0 (inl was) e f.2; refuses = r })))),
+    inr (inr (inr (inr (record { at = mid; hears = filled_more x old mid f.0 (inl was) e f.2; refuses = r })))),
   );
 }
 
@@ -136,11 +136,11 @@ turn_first x a room old new P Q out t may e f is w =
     }
 
 -- no byte of a reply may come
-pub turn_unheard : (x : Seen) (a : Bool) (room : ℕ) (old new : Side) (P : Past → Type 0) (out : List ℕ) → x.heard ≡ false → (May x Heard → ⊥) → SideHears x old new [] [] [] → ReadTurn x a room old new P P out (Err NotLegal)
-turn_unheard x a room old new P out was never h = record {
+pub turn_unheard : (x : Seen) (a : Bool) (room : ℕ) (old new : Side) (P : Past → Type 0) (out : List ℕ) → x.heard ≡ false → MayRead x a → (May x Heard → ⊥) → SideHears x old new [] [] [] → ReadTurn x a room old new P P out (Err NotLegal)
+turn_unheard x a room old new P out was may never h = record {
   delta = [];
   wire = λ p b. (p, b, later_none p, record { waits = λ u i w. cc; closed = λ i. cc; device = λ i. cc });
-  came = (h, inr (inr (inr (inl (refl, was, never)))));
+  came = (h, inr (inr (inr (inl (refl, was, may, never)))));
 }
 
 -- the wire waits
@@ -199,23 +199,23 @@ turn_full x a room old new P Q out e f = record {
   came = (filled_more x old new [] (inr refl) e (f.0 ∙ sym (append-nil old.raw)), inr (inr (inl refl)));
 }
 
-cause_behind : (x : Seen) (old mid : Side) (fault : ClientFault) → SideHears x old mid [] [] [] → (fault ≡ Closed) ⊎ ((fault ≡ Device) ⊎ ((fault ≡ NoMemory) ⊎ (IsUnheard fault x ⊎ IsRefused fault x mid)))
-    → (fault ≡ Closed) ⊎ ((fault ≡ Device) ⊎ ((fault ≡ NoMemory) ⊎ (IsUnheard fault x ⊎ IsRefused fault x old)))
-cause_behind x old mid fault h (inl c) = inl c
-cause_behind x old mid fault h (inr (inl c)) = inr (inl c)
-cause_behind x old mid fault h (inr (inr (inl c))) = inr (inr (inl c))
-cause_behind x old mid fault h (inr (inr (inr (inl c)))) = inr (inr (inr (inl c)))
-cause_behind x old mid fault h (inr (inr (inr (inr c)))) =
-    inr (inr (inr (inr (record { at = c.at; delta = c.delta; hears = side_then x old mid c.at [] [] c.delta [] h c.hears; refuses = c.refuses }))))
+cause_behind : (x : Seen) (a : Bool) (old mid : Side) (delta : List ℕ) (fault : ClientFault) → SideHears x old mid [] [] [] → (fault ≡ Closed) ⊎ ((fault ≡ Device) ⊎ ((fault ≡ NoMemory) ⊎ (IsUnheard fault x a ⊎ IsRefused fault x mid delta)))
+    → (fault ≡ Closed) ⊎ ((fault ≡ Device) ⊎ ((fault ≡ NoMemory) ⊎ (IsUnheard fault x a ⊎ IsRefused fault x old delta)))
+cause_behind x a old mid delta fault h (inl c) = inl c
+cause_behind x a old mid delta fault h (inr (inl c)) = inr (inl c)
+cause_behind x a old mid delta fault h (inr (inr (inl c))) = inr (inr (inl c))
+cause_behind x a old mid delta fault h (inr (inr (inr (inl c)))) = inr (inr (inr (inl c)))
+cause_behind x a old mid delta fault h (inr (inr (inr (inr c)))) =
+    inr (inr (inr (inr (record { at = c.at; hears = side_then x old mid c.at [] [] delta [] h c.hears; refuses = c.refuses }))))
 
-came_behind : (x : Seen) (old mid new : Side) (room : ℕ) (out delta : List ℕ) (result : Result Turn ClientFault) → SideHears x old mid [] [] [] → CameOf x mid new room out delta result → CameOf x old new room out delta result
-came_behind x old mid new room out delta (Ok t) h c = (side_then x old mid new t.events.items [] delta (take (ad_sum t.events.items) out) h c.0, c.1, c.2, c.3)
-came_behind x old mid new room out delta (Err fault) h c = (side_then x old mid new [] [] delta [] h c.0, cause_behind x old mid fault h c.1)
+came_behind : (x : Seen) (a : Bool) (old mid new : Side) (room : ℕ) (out delta : List ℕ) (result : Result Turn ClientFault) → SideHears x old mid [] [] [] → CameOf x a mid new room out delta result → CameOf x a old new room out delta result
+came_behind x a old mid new room out delta (Ok t) h c = (side_then x old mid new t.events.items [] delta (take (ad_sum t.events.items) out) h c.0, c.1, c.2, c.3)
+came_behind x a old mid new room out delta (Err fault) h c = (side_then x old mid new [] [] delta [] h c.0, cause_behind x a old mid delta fault h c.1)
 
 -- raw bytes gave no event, and then the wire was read
 pub turn_behind : (x : Seen) (a : Bool) (room : ℕ) (old mid new : Side) (P Q : Past → Type 0) (out : List ℕ) (result : Result Turn ClientFault) → SideHears x old mid [] [] [] → ReadTurn x a room mid new P Q out result
     → ReadTurn x a room old new P Q out result
-turn_behind x a room old mid new P Q out result h t = record { delta = t.delta; wire = t.wire; came = came_behind x old mid new room out t.delta result h t.came }
+turn_behind x a room old mid new P Q out result h t = record { delta = t.delta; wire = t.wire; came = came_behind x a old mid new room out t.delta result h t.came }
 
 -- the fault is kept
 pub turn_kept : (x : Seen) (a : Bool) (room : ℕ) (old new kept : Side) (P Q : Past → Type 0) (out : List ℕ) (fault : ClientFault) → kept.reader ≡ new.reader → kept.raw ≡ new.raw → ReadTurn x a room old new P Q out (Err fault)
@@ -228,8 +228,8 @@ turn_kept x a room old new kept P Q out fault e r t = record {
   came = (other_fault x old new kept [] t.delta [] e r t.came.0, t.came.1);
 }
 
-came_given_back : (x : Seen) (old new kept : Side) (room : ℕ) (out delta : List ℕ) (result : Result Turn ClientFault) → GivesBack new kept → CameOf x old new room out delta result → CameOf x old kept room out delta result
-came_given_back x old new kept room out delta (Ok t) b c = (
+came_given_back : (x : Seen) (a : Bool) (old new kept : Side) (room : ℕ) (out delta : List ℕ) (result : Result Turn ClientFault) → GivesBack new kept → CameOf x a old new room out delta result → CameOf x a old kept room out delta result
+came_given_back x a old new kept room out delta (Ok t) b c = (
   other_fault x old new kept t.events.items delta (take (ad_sum t.events.items) out) b.reader b.raw c.0,
   c.1,
   (λ w.
@@ -238,7 +238,7 @@ came_given_back x old new kept room out delta (Ok t) b c = (
       (i.0, i.1, subst (λ (raw : List ℕ). HasToWait kept.reader.stage raw room) (sym b.raw) at)),
   c.3,
 )
-came_given_back x old new kept room out delta (Err fault) b c = (other_fault x old new kept [] delta [] b.reader b.raw c.0, c.1)
+came_given_back x a old new kept room out delta (Err fault) b c = (other_fault x old new kept [] delta [] b.reader b.raw c.0, c.1)
 
 -- room that holds no byte is given back
 pub turn_given_back : (x : Seen) (a : Bool) (room : ℕ) (old new kept : Side) (P Q : Past → Type 0) (out : List ℕ) (result : Result Turn ClientFault) → GivesBack new kept → ReadTurn x a room old new P Q out result
@@ -248,5 +248,5 @@ turn_given_back x a room old new kept P Q out result b t = record {
   wire = λ p h.
       let one = t.wire p h in
       (one.0, one.1, one.2, subst (λ (r : Reader). HasReason x a room r.stage p one.0 result) (sym b.reader) one.3);
-  came = came_given_back x old new kept room out t.delta result b t.came;
+  came = came_given_back x a old new kept room out t.delta result b t.came;
 }

@@ -91,30 +91,29 @@ pub record HasReason (x : Seen) (all_sent : Bool) (room : ℕ) (stage : Stage) (
   pub closed : result ≡ Err Closed → p.ends < q.ends
   pub device : result ≡ Err Device → p.faults < q.faults
 
--- the bytes are refused where no event of them came
-pub record IsRefused (fault : ClientFault) (x : Seen) (old : Side) : Type 0 where
+-- with these bytes of the wire behind those that were there, they are refused where no event of them came
+pub record IsRefused (fault : ClientFault) (x : Seen) (old : Side) (delta : List ℕ) : Type 0 where
   pub at : Side
-  pub delta : List ℕ
   pub hears : SideHears x old at [] delta []
   pub refuses : Refuses fault x at.reader.point at.reader.stage at.raw
 
--- no byte of a reply may come
-abbrev pub IsUnheard : ClientFault → Seen → Type 0
-IsUnheard fault x = (fault ≡ NotLegal) × (x.heard ≡ false) × ¬ (May x Heard)
+-- the service may answer now, but no first byte of a reply may come
+abbrev pub IsUnheard : ClientFault → Seen → Bool → Type 0
+IsUnheard fault x all_sent = (fault ≡ NotLegal) × (x.heard ≡ false) × MayRead x all_sent × ¬ (May x Heard)
 
 -- what came of a turn in which the wire gave these bytes, with so much room
-abbrev pub CameOf : Seen → Side → Side → ℕ → List ℕ → List ℕ → Result Turn ClientFault → Type 0
-CameOf x old new room out delta (Ok turn) =
+abbrev pub CameOf : Seen → Bool → Side → Side → ℕ → List ℕ → List ℕ → Result Turn ClientFault → Type 0
+CameOf x all_sent old new room out delta (Ok turn) =
     SideHears x old new turn.events.items delta (take (ad_sum turn.events.items) out)
     × (ad_sum turn.events.items ≤ room)
     × (turn.waiting ≡ true → (turn.events.items ≡ []) × (delta ≡ []) × HasToWait new.reader.stage new.raw room)
     × (turn.waiting ≡ false → turn.events.items ≡ [] → 0 < length delta)
-CameOf x old new room out delta (Err fault) =
+CameOf x all_sent old new room out delta (Err fault) =
     SideHears x old new [] delta []
-    × ((fault ≡ Closed) ⊎ ((fault ≡ Device) ⊎ ((fault ≡ NoMemory) ⊎ (IsUnheard fault x ⊎ IsRefused fault x old))))
+    × ((fault ≡ Closed) ⊎ ((fault ≡ Device) ⊎ ((fault ≡ NoMemory) ⊎ (IsUnheard fault x all_sent ⊎ IsRefused fault x old delta))))
 
 -- a turn of a side without a fault
 pub record ReadTurn (x : Seen) (all_sent : Bool) (room : ℕ) (old new : Side) (before after : Past → Type 0) (out : List ℕ) (result : Result Turn ClientFault) : Type 0 where
   pub delta : List ℕ
   pub wire : (p : Past) → before p → (q : Past) × after q × IsLaterRead p delta q × HasReason x all_sent room new.reader.stage p q result
-  pub came : CameOf x old new room out delta result
+  pub came : CameOf x all_sent old new room out delta result

@@ -39,6 +39,10 @@ pub record LetsGo (old new : Writer) : Type 0 where
   pub framing : new.framing ≡ old.framing
   pub left : new.left ≡ old.left
 
+-- the text of the heads is the one it was, or none
+abbrev pub KeepsOrDrops : Writer → Writer → Type 0
+KeepsOrDrops old new = (new.head ≡ old.head) ⊎ (new.head ≡ [])
+
 -- no text is kept that is out
 abbrev pub KeepsNoText : Writer → Type 0
 KeepsNoText w = drop w.head_out w.head ≡ [] → w.head ≡ []

@@ -10,7 +10,7 @@ ghost use Rattle.icap_client.specs.Heard.{KeepsHead};
 ghost use Rattle.icap_client.specs.Laws.{first_reader};
 ghost use Rattle.icap_client.specs.Reading.{ReadTurn};
 ghost use Rattle.icap_client.specs.Events.{after_all, May};
-ghost use Rattle.icap_client.specs.Sending.{KeepsUnsent, NothingDue, turn_events, LetsGo, KeepsNoText};
+ghost use Rattle.icap_client.specs.Sending.{KeepsUnsent, NothingDue, turn_events, LetsGo, KeepsOrDrops, KeepsNoText};
 ghost use Rattle.icap_client.specs.RequestHead.{request_head};
 ghost use Rattle.icap_client.specs.Turns.{ServiceSent, ServiceHeard, is_whole_request, is_reusable, is_answered, WriteTurn, Sends, Hears, RestsReading, events_of, is_flushed};
 
@@ -202,6 +202,7 @@ impl ServiceSide {
         ensures last_stop { self.new.last_stop ≡ self.old.last_stop }
         ensures answered { self.new.answered ≡ self.old.answered }
         ensures writer { LetsGo self.old.writer self.new.writer }
+        ensures heads { KeepsOrDrops self.old.writer self.new.writer }
         ensures kept { may_retry ≡ true → self.new.writer.head ≡ self.old.writer.head }
         ensures gone { may_retry ≡ false → KeepsNoText self.new.writer }
     {
@@ -229,7 +230,9 @@ impl ServiceSide {
             (λ x came taken. ServiceSent x came taken self.old) (λ x came taken. ServiceSent x came taken self.new)
             self.old.replies.fault self.new.replies.fault (NothingDue (seen state.now.plan state.now.events) self.new.writer) (W.past wire.old) (W.past wire.new) result }
 
-        // The heads' text is kept as long as the request may begin anew; where it may not, what is out is let go.
+        // The heads' text is kept as long as the request may begin anew; where it may not, what is out is let go. No other text
+        // comes in its place.
+        ensures heads { KeepsOrDrops self.old.writer self.new.writer }
         ensures kept { May (seen state.now.plan state.now.events) Event.Retry → self.new.writer.head ≡ self.old.writer.head }
         ensures gone { IfOk result (λ _. (May (seen state.now.plan state.now.events) Event.Retry → ⊥) → KeepsNoText self.new.writer) }
     {
@@ -271,7 +274,8 @@ impl ServiceSide {
         ensures empty { self.old.replies.fault ≡ None → self.new.replies.raw ≡ [] → self.new.replies.room ≡ 0 }
 
         // The heads' text is kept until a byte of a reply has come, as long as the request may begin anew; from then on what
-        // is out is let go.
+        // is out is let go. No other text comes in its place.
+        ensures heads { KeepsOrDrops self.old.writer self.new.writer }
         ensures kept { events_of result ≡ [] → May (seen state.now.plan state.now.events) Event.Retry → self.new.writer.head ≡ self.old.writer.head }
         ensures gone { IfOk result (λ turn. (turn.events.items ≡ [] → May (seen state.now.plan state.now.events) Event.Retry → ⊥) → KeepsNoText self.new.writer) }
     {

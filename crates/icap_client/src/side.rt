@@ -187,6 +187,7 @@ impl ReplySide {
     /// Whether the wire is to be read: the final response isn't whole, there is room, and the service may answer.
     fn is_due(&self, state: &State, all_sent: bool, room: usize) -> bool
         ensures due { IsTrue result → (self.now.reader.stage ≡ Stage.Over → ⊥) × (0 < room) × KeepsLimits self.now.reader.stage }
+        ensures may { result ≡ true → MayRead (seen state.now.plan state.now.events) all_sent }
         ensures not_due { result ≡ false → NothingToRead (seen state.now.plan state.now.events) all_sent room self.now.reader.stage }
     {
         if self.reader.is_over() {

@@ -33,4 +33,4 @@ returns-then-not-may-clause-turn g c =
     let none : c.in-Ok.events.items ≡ [] = search rules in
     let still : SideHears (seen c.args.state.now.plan c.args.state.now.events) c.args.self.now c.frame_raw.new.self [] [] [] =
     subst (λ (es : List Event). SideHears (seen c.args.state.now.plan c.args.state.now.events) c.args.self.now c.frame_raw.new.self es [] (take (ad_sum es) c.frame_raw.new.out)) none c.in-Ok.ensures.hears in
-    turn_unheard (seen c.args.state.now.plan c.args.state.now.events) c.args.all_sent (length c.args.out.now) c.args.self.now c.frame_raw.new.self (g.W.Wire.past c.args.wire.now) c.frame_raw.new.out (search rules) (search rules) still
+    turn_unheard (seen c.args.state.now.plan c.args.state.now.events) c.args.all_sent (length c.args.out.now) c.args.self.now c.frame_raw.new.self (g.W.Wire.past c.args.wire.now) c.frame_raw.new.out (search rules) (search rules) (search rules) still
