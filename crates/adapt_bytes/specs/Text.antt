@@ -22,6 +22,10 @@ SameAscii a b = map to_ascii_lowercase a ≡ map to_ascii_lowercase b
 abbrev pub Lacks : ℕ → List ℕ → Type 0
 Lacks c text = (k : ℕ) → k < length text → slice_index text k ≢ c
 
+-- a line ends in the text
+abbrev pub has_line : List ℕ → Bool
+has_line text = list_any (λ b. b == 10) text
+
 -- a space or a tab
 abbrev pub is_blank : ℕ → Bool
 is_blank b = b == 32 || b == 9

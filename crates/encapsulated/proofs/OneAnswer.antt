@@ -15,7 +15,7 @@ use Rattle.encapsulated.specs.declared.fault.EncFault.TheVariants.{Syntax, Name,
 use Rattle.encapsulated.specs.Rows.{allowed, IsFront}
 use Rattle.encapsulated.specs.Grammar.{name_of, IsItem, IsPart, AreItems, AreParts}
 use Rattle.encapsulated.specs.Layouts.{Rises, names, offsets, parts_of, if_there, IsLayout}
-use Rattle.encapsulated.specs.Faults.{Stands}
+use Rattle.encapsulated.specs.Faults.{RefusesList}
 use Rattle.encapsulated.proofs.ItemLemmas.{item_unique}
 use Rattle.encapsulated.proofs.RowLemmas.{whole_body}
 use Rattle.encapsulated.proofs.ZipLemmas.{AllZip-unique}
@@ -109,7 +109,7 @@ whole_body_at m d text parts others h g whole =
     let has = whole_body m d (names parts) whole in
     (has.0, subst (λ l. Contains (names l) (Body has.0)) (parts_unique text parts others h g) has.1)
 
-pub no_fault : (m : Method) (d : Direction) (text : List ℕ) (l : Layout) (e : EncFault) → IsLayout m d text l → Stands e m d text → ⊥
+pub no_fault : (m : Method) (d : Direction) (text : List ℕ) (l : Layout) (e : EncFault) → IsLayout m d text l → RefusesList e m d text → ⊥
 no_fault m d text l Syntax h s = let items = items_of (comma_parts text) (parts_of l) h.parts in s items.0 items.1
 no_fault m d text l Name h s = s.2 (parts_of l) h.parts
 no_fault m d text l Order h s = s.2 (subst (λ parts. IsFront (allowed m d) (names parts)) (parts_unique text (parts_of l) s.0 h.parts s.1) (front_of_whole (allowed m d) (names (parts_of l)) h.may.whole))
@@ -119,7 +119,7 @@ no_fault m d text l Offset h s = s.2.1 (subst (λ parts. Rises (offsets parts)) 
 parts_excl : (text : List ℕ) (parts : List (Part × ℕ)) → AreParts text parts → ((items : List (List ℕ × ℕ)) → ¬ (AreItems text items)) → ⊥
 parts_excl text parts h s = let items = items_of (comma_parts text) parts h in s items.0 items.1
 
-pub one_fault : (m : Method) (d : Direction) (text : List ℕ) (e f : EncFault) → Stands e m d text → Stands f m d text → e ≡ f
+pub one_fault : (m : Method) (d : Direction) (text : List ℕ) (e f : EncFault) → RefusesList e m d text → RefusesList f m d text → e ≡ f
 one_fault m d text Syntax Syntax x y = refl
 one_fault m d text Syntax Name x y = absurd (x y.0 y.1)
 one_fault m d text Syntax Order x y = absurd (parts_excl text y.0 y.1 x)
@@ -147,14 +147,14 @@ one_fault m d text Offset NoBodyPart x y = let has = whole_body_at m d text x.0 
 one_fault m d text Offset Offset x y = refl
 
 -- an answer that fits is the only one
-pub only_layout : (m : Method) (d : Direction) (text : List ℕ) (r : Result Layout EncFault) → IfOk r (IsLayout m d text) → IfErr r (λ e. Stands e m d text)
+pub only_layout : (m : Method) (d : Direction) (text : List ℕ) (r : Result Layout EncFault) → IfOk r (IsLayout m d text) → IfErr r (λ e. RefusesList e m d text)
     → (l : Layout) → (r ≡ Ok l) ↔ IsLayout m d text l
 only_layout m d text (Ok k) ok err l =
     (λ e. let same : k ≡ l = cc in subst (IsLayout m d text) same ok, λ h. ap Ok (layout_unique k l (parts_unique text (parts_of k) (parts_of l) ok.parts h.parts)))
 only_layout m d text (Err f) ok err l = (λ e. absurd (cc), λ h. absurd (no_fault m d text l f h err))
 
-pub only_fault : (m : Method) (d : Direction) (text : List ℕ) (r : Result Layout EncFault) → IfOk r (IsLayout m d text) → IfErr r (λ e. Stands e m d text)
-    → (f : EncFault) → (r ≡ Err f) ↔ Stands f m d text
+pub only_fault : (m : Method) (d : Direction) (text : List ℕ) (r : Result Layout EncFault) → IfOk r (IsLayout m d text) → IfErr r (λ e. RefusesList e m d text)
+    → (f : EncFault) → (r ≡ Err f) ↔ RefusesList f m d text
 only_fault m d text (Ok k) ok err f = (λ e. absurd (cc), λ s. absurd (no_fault m d text k f ok s))
 only_fault m d text (Err g) ok err f =
-    (λ e. let same : g ≡ f = cc in subst (λ x. Stands x m d text) same err, λ s. ap Err (one_fault m d text g f err s))
+    (λ e. let same : g ≡ f = cc in subst (λ x. RefusesList x m d text) same err, λ s. ap Err (one_fault m d text g f err s))

@@ -13,7 +13,7 @@ use Rattle.encapsulated.specs.declared.parts.Part.TheVariants.{ReqHdr, ResHdr, B
 use Rattle.encapsulated.specs.Grammar.{AreItems, AreParts}
 use Rattle.encapsulated.specs.Rows.{allowed}
 use Rattle.encapsulated.specs.Layouts.{names, offsets, parts_of, Rises, NoneFalls, IsLayout}
-use Rattle.encapsulated.specs.Faults.{Stands}
+use Rattle.encapsulated.specs.Faults.{RefusesList}
 use Rattle.encapsulated.specs.Order.{rises_from, ascends, has_body, any_front}
 use Rattle.encapsulated.proofs.Decisions.{Known, lt_known, items_known, parts_known}
 use Rattle.encapsulated.proofs.RowLemmas.{any_front-sound, any_front-whole, front_ascends, no_body, may_have, whole_layout}
@@ -86,7 +86,7 @@ rises_known (first ∷ numbers) = step (eqb_tells first 0) (none_falls_known fir
 
 -- a layout of the text, or a fault that stands
 abbrev pub Answer : Method → Direction → List ℕ → Type 0
-Answer method direction text = ((layout : Layout) × IsLayout method direction text layout) ⊎ ((fault : EncFault) × Stands fault method direction text)
+Answer method direction text = ((layout : Layout) × IsLayout method direction text layout) ⊎ ((fault : EncFault) × RefusesList fault method direction text)
 
 by_offsets : (m : Method) (d : Direction) (text : List ℕ) (l : Layout) → AreParts text (parts_of l) → any_front (allowed m d) (names (parts_of l)) ≡ true
     → Known (Rises (offsets (parts_of l))) → Answer m d text

@@ -24,12 +24,12 @@ abbrev pub WithParts : List ℕ → (List (Part × ℕ) → Type 0) → Type 0
 WithParts text P = (parts : List (Part × ℕ)) × AreParts text parts × P parts
 
 -- exactly where each fault stands, as the first in the order
-abbrev pub Stands : EncFault → Method → Direction → List ℕ → Type 0
-Stands Syntax method direction text = (items : List (List ℕ × ℕ)) → ¬ (AreItems text items)
-Stands Name method direction text =
+abbrev pub RefusesList : EncFault → Method → Direction → List ℕ → Type 0
+RefusesList Syntax method direction text = (items : List (List ℕ × ℕ)) → ¬ (AreItems text items)
+RefusesList Name method direction text =
     (items : List (List ℕ × ℕ)) × AreItems text items × ((parts : List (Part × ℕ)) → ¬ (AreParts text parts))
-Stands Order method direction text = WithParts text (λ parts. ¬ (IsFront (allowed method direction) (names parts)))
-Stands NoBodyPart method direction text = WithParts text (λ parts.
+RefusesList Order method direction text = WithParts text (λ parts. ¬ (IsFront (allowed method direction) (names parts)))
+RefusesList NoBodyPart method direction text = WithParts text (λ parts.
     IsFront (allowed method direction) (names parts) × ((body : BodyPart) → ¬ (Contains (names parts) (Body body))))
-Stands Offset method direction text = WithParts text (λ parts.
+RefusesList Offset method direction text = WithParts text (λ parts.
     Contains (allowed method direction) (names parts) × ¬ (Rises (offsets parts)))

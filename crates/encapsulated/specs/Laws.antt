@@ -5,14 +5,14 @@ use Rattle.encapsulated.specs.declared.message.Method.{Method}
 use Rattle.encapsulated.specs.declared.message.Direction.{Direction}
 use Rattle.encapsulated.specs.declared.offsets.Layout.{Layout}
 use Rattle.encapsulated.specs.Layouts.{IsLayout}
-use Rattle.encapsulated.specs.Faults.{Stands}
+use Rattle.encapsulated.specs.Faults.{RefusesList}
 
 -- of all layouts and faults, just one fits the text
 pub record HasOneAnswer (method : Method) (direction : Direction) (text : List ℕ) : Type 0 where
-  pub some : ((layout : Layout) × IsLayout method direction text layout) ⊎ ((fault : EncFault) × Stands fault method direction text)
+  pub some : ((layout : Layout) × IsLayout method direction text layout) ⊎ ((fault : EncFault) × RefusesList fault method direction text)
   pub one_layout : (layout other : Layout) → IsLayout method direction text layout → IsLayout method direction text other → layout ≡ other
-  pub one_fault : (fault other : EncFault) → Stands fault method direction text → Stands other method direction text → fault ≡ other
-  pub not_both : (layout : Layout) (fault : EncFault) → IsLayout method direction text layout → ¬ (Stands fault method direction text)
+  pub one_fault : (fault other : EncFault) → RefusesList fault method direction text → RefusesList other method direction text → fault ≡ other
+  pub not_both : (layout : Layout) (fault : EncFault) → IsLayout method direction text layout → ¬ (RefusesList fault method direction text)
 
 -- each offset is a number that a list can say
 pub record Fits (layout : Layout) : Type 0 where

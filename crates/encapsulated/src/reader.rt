@@ -3,7 +3,7 @@ ghost use Rattle.std.specs.Prelude.{◌≡◌, ◌↔◌, IfOk, IfErr};
 ghost use Rattle.encapsulated.specs.Grammar.{AreParts};
 ghost use Rattle.encapsulated.specs.Rows.{allowed};
 ghost use Rattle.encapsulated.specs.Layouts.{IsLayout, names};
-ghost use Rattle.encapsulated.specs.Faults.{Stands};
+ghost use Rattle.encapsulated.specs.Faults.{RefusesList};
 ghost use Rattle.encapsulated.specs.Order.{seen_parts, Unread, any_front};
 
 use crate::fault::EncFault;
@@ -24,7 +24,7 @@ pub fn read(method: Method, direction: Direction, list: &[u8]) -> Result<Layout,
     ensures ok { (layout : Layout) → (result ≡ Ok layout) ↔ IsLayout method direction list.now layout }
 
     // A fault is answered exactly where it stands.
-    ensures err { (fault : EncFault) → (result ≡ Err fault) ↔ Stands fault method direction list.now }
+    ensures err { (fault : EncFault) → (result ≡ Err fault) ↔ RefusesList fault method direction list.now }
 {
     find_layout(method, direction, list)
 }
@@ -32,7 +32,7 @@ pub fn read(method: Method, direction: Direction, list: &[u8]) -> Result<Layout,
 /// The layout, or the first fault that stands.
 fn find_layout(method: Method, direction: Direction, list: &[u8]) -> Result<Layout, EncFault>
     ensures ok { IfOk result (IsLayout method direction list.now) }
-    ensures err { IfErr result (λ fault. Stands fault method direction list.now) }
+    ensures err { IfErr result (λ fault. RefusesList fault method direction list.now) }
 {
     let seen = read_parts(list)?;
     if !is_allowed_front(method, direction, seen) {

@@ -5,10 +5,11 @@ use Rattle.std.proofs.Math.Seq.{take-length, drop-length}
 use Rattle.http_side.specs.declared.fault.HttpFault.{HttpFault}
 use Rattle.http_side.specs.declared.fault.HttpFault.TheVariants.{More, Bad, TooLong, TooMany, BothLengths, Lengths, Coding, Target, Connect}
 use Rattle.http_side.specs.declared.fault.HttpFault.TheVariants as http
-use Rattle.http_relay.specs.Judging.{has_line, RefusesBytes, IsSwitching, IsLooking, HasNoHead, RefusesHead, LacksMemory, Scans, Looks}
+use Rattle.adapt_bytes.specs.Text.{has_line}
+use Rattle.http_relay.specs.Judging.{RefusesBytes, IsSwitching, IsLooking, HasNoHead, RefusesHead, LacksMemory, Scans, Looks}
 use Rattle.wire_kit.specs.Past.{Past}
 use Rattle.wire_kit.specs.Past.{IsLater}
-use Rattle.http_relay.specs.Reading.{AtHead, GivesBack, Begins, SideRead, SideReads, JudgedTo, ScannedTo, HeadReason, HeadTurn, IsFilled, IsBefore}
+use Rattle.http_relay.specs.Reading.{AtHead, GivesBack, Begins, SideRead, SideReads, JudgesHeadTo, ScannedTo, HeadReason, HeadTurn, IsFilled, IsBefore}
 use Rattle.http_relay.specs.Source.{Agrees, known}
 use Rattle.http_relay.specs.declared.source_body.SourceBody.{SourceBody}
 use Rattle.trace_core.specs.declared.history.Seen.{Seen}
@@ -127,7 +128,7 @@ more_is_few (asks.Response to_head) raw h = h.1
 
 -- a refusal leaves the head to come
 pub still_refused : (old new : SourceSide) (result : Result Judged RelayFault) → new.asks ≡ old.asks → new.head ≡ heads.Unread → new.raw.items ≡ old.raw.items → IfOk result (λ j. (j ≡ judged.More) × (length new.raw.items < 16384))
-    → (read : List ℕ) → AtHead read old → JudgedTo result read new
+    → (read : List ℕ) → AtHead read old → JudgesHeadTo result read new
 still_refused old new (Ok judged.More) a u r m read s = still_at_head old new a (u ∙ sym s.unread) r read s
 still_refused old new (Ok judged.Interim) a u r m read s = still_at_head old new a (u ∙ sym s.unread) r read s
 still_refused old new (Ok judged.Taken) a u r m read s = let odd : judged.Taken ≡ judged.More = m.0 in cc

@@ -10,7 +10,8 @@ use Rattle.http_side.specs.Heads.{RequestParts, ResponseParts}
 use Rattle.http_side.specs.Requests.{IsRead}
 use Rattle.http_side.specs.Responses.{IsResponseRead}
 use Rattle.http_side.specs.declared.fault.HttpFault.TheVariants.{More}
-use Rattle.http_relay.specs.Judging.{has_line, HasNoHead, RefusesBytes}
+use Rattle.adapt_bytes.specs.Text.{has_line}
+use Rattle.http_relay.specs.Judging.{HasNoHead, RefusesBytes}
 use Rattle.http_relay.specs.declared.side.SourceSide.{SourceSide}
 use Rattle.http_relay.specs.declared.side.Asks.{Asks}
 use Rattle.http_relay.specs.declared.side.Asks.TheVariants as asks

@@ -1,6 +1,6 @@
 -- When a head is judged, and why one is refused.
 use Rattle.std.specs.Prelude.{◌≡◌, ℕ, ◌<◌, ◌≤◌, ◌⊎◌, ◌==◌, Bool, true, false, List, length, take, drop, Option, Some, None, Result, Ok, Err}
-use Rattle.std.specs.List.{list_any}
+use Rattle.adapt_bytes.specs.Text.{has_line}
 use Rattle.http_side.specs.Heads.{ResponseParts}
 use Rattle.http_side.specs.Requests.{RefusesText}
 use Rattle.http_side.specs.Responses.{RefusesResponse, IsResponseRead}
@@ -14,10 +14,6 @@ use Rattle.http_relay.specs.declared.side.Asks.TheVariants as asks
 use Rattle.http_relay.specs.declared.side.SourceHead.TheVariants as heads
 use Rattle.http_relay.specs.declared.side.head.Judged.{Judged}
 use Rattle.http_relay.specs.declared.side.head.Judged.TheVariants as judged
-
--- a line ends in the bytes
-abbrev pub has_line : List ℕ → Bool
-has_line bytes = list_any (λ byte. byte == 10) bytes
 
 -- the bytes are refused for this, as a request's head or a response's
 abbrev pub RefusesBytes : Asks → List ℕ → HttpFault → Type 0
@@ -60,11 +56,11 @@ IsRefused NoMemory s = LacksMemory s
 IsRefused _ s = ⊥
 
 -- what judging the raw bytes once says of them
-abbrev pub Judges : Result Judged RelayFault → SourceSide → Type 0
-Judges (Ok judged.More) s = HasNoHead s
-Judges (Ok judged.Interim) s = IsLooking s
-Judges (Ok judged.Taken) s = s.head ≡ heads.Unread → ⊥
-Judges (Err fault) s = IsRefused fault s
+abbrev pub JudgesHead : Result Judged RelayFault → SourceSide → Type 0
+JudgesHead (Ok judged.More) s = HasNoHead s
+JudgesHead (Ok judged.Interim) s = IsLooking s
+JudgesHead (Ok judged.Taken) s = s.head ≡ heads.Unread → ⊥
+JudgesHead (Err fault) s = IsRefused fault s
 
 abbrev pub Scans : Result Bool RelayFault → SourceSide → Type 0
 Scans (Ok true) s = s.head ≡ heads.Unread → ⊥

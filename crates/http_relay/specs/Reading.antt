@@ -133,11 +133,11 @@ abbrev pub Begins : List ℕ → SourceSide → Type 0
 Begins read s = (x : Seen) → x.received ≡ 0 → x.ended ≡ false → SideRead x [] read s × (IfSome x.plan.len (λ len. known s.body.framing ≡ Some len) → Agrees x s.body)
 
 -- what judging the raw bytes gives: the message begins, or its head is still to come
-abbrev pub JudgedTo : Result Judged RelayFault → List ℕ → SourceSide → Type 0
-JudgedTo (Ok judged.Taken) read s = Begins read s
-JudgedTo (Ok judged.More) read s = AtHead read s
-JudgedTo (Ok judged.Interim) read s = AtHead read s
-JudgedTo (Err fault) read s = AtHead read s
+abbrev pub JudgesHeadTo : Result Judged RelayFault → List ℕ → SourceSide → Type 0
+JudgesHeadTo (Ok judged.Taken) read s = Begins read s
+JudgesHeadTo (Ok judged.More) read s = AtHead read s
+JudgesHeadTo (Ok judged.Interim) read s = AtHead read s
+JudgesHeadTo (Err fault) read s = AtHead read s
 
 abbrev pub ScannedTo : Result Bool RelayFault → List ℕ → SourceSide → Type 0
 ScannedTo (Ok true) read s = Begins read s

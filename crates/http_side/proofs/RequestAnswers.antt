@@ -10,7 +10,7 @@ use Rattle.http_side.specs.declared.fault.HttpFault.{HttpFault}
 use Rattle.http_side.specs.declared.fault.HttpFault.TheVariants.{More, Bad, TooLong, TooMany, BothLengths, Lengths, Coding, Target, Connect, NoMemory}
 use Rattle.http_side.specs.Heads.{RequestParts, request_parts, judged, unended, request_fault, is_connect, IsRequestAt}
 use Rattle.http_side.specs.Targets.{IsServedIn}
-use Rattle.http_side.specs.Requests.{Refuses, HasRefused, RefusesText, IsTaken, IsRead, IsUnfinished, Stands}
+use Rattle.http_side.specs.Requests.{Refuses, HasRefused, RefusesText, IsTaken, IsRead, IsUnfinished, RefusesRequest}
 
 -- ---- one head
 
@@ -107,7 +107,7 @@ answer_of adapted text NoMemory w = inr (inr (inr w))
 
 -- a head that is there agrees with what stands
 with_head : (adapted : Bool) (text : List ℕ) (h : RequestHead) (rest : List ℕ) → ReadsRequest (judged text) h rest → length h.fields ≤ 100
-    → (g : HttpFault) → Stands adapted text g → (g ≢ NoMemory) × Cause adapted (request_parts h) g
+    → (g : HttpFault) → RefusesRequest adapted text g → (g ≢ NoMemory) × Cause adapted (request_parts h) g
 with_head adapted text h rest reads few g (inl s) = absurd (s.1.0 h rest reads)
 with_head adapted text h rest reads few g (inr (inl s)) = absurd (never_here (judged text) s.1.0 h rest reads)
 with_head adapted text h rest reads few g (inr (inr (inl s))) =
@@ -117,7 +117,7 @@ with_head adapted text h rest reads few g (inr (inr (inr s))) =
     let same = (request_unique (judged text) s.1.0 h s.1.1 rest s.1.2 reads).0 in
     (s.0, subst (λ x. Cause adapted (request_parts x) g) same (cause_of adapted (request_parts s.1.0) g s.1.4))
 
-agrees : (adapted : Bool) (text : List ℕ) (f g : HttpFault) → Answer adapted text f → Stands adapted text g → Allowed f g
+agrees : (adapted : Bool) (text : List ℕ) (f g : HttpFault) → Answer adapted text f → RefusesRequest adapted text g → Allowed f g
 agrees adapted text f g (inl x) (inl y) = inl (x.0 ∙ sym y.0)
 agrees adapted text f g (inl x) (inr (inl y)) = absurd (may x.1.1)
   where
@@ -143,7 +143,7 @@ agrees adapted text f g (inr (inr (inr x))) y =
 pub few_of : (text : List ℕ) (r : RequestParts) (n : ℕ) (at : IsRequestAt text r n) → length r.fields ≤ 100 → length at.head.fields ≤ 100
 few_of text r n at few = omega (arith, length-map at.head.fields name_and_value, ap (λ x. length x.fields) at.parts_are)
 
-not_read : (adapted : Bool) (text : List ℕ) (r : RequestParts) (n : ℕ) (g : HttpFault) → IsRead adapted text r n → Stands adapted text g → ⊥
+not_read : (adapted : Bool) (text : List ℕ) (r : RequestParts) (n : ℕ) (g : HttpFault) → IsRead adapted text r n → RefusesRequest adapted text g → ⊥
 not_read adapted text r n g read stands =
     let at = read.there in
     let it = with_head adapted text at.head (drop n (judged text)) at.reads (few_of (judged text) r n at read.few) g stands in
@@ -155,7 +155,7 @@ abbrev pub Told : Result (Head RequestParts) HttpFault → HttpFault → Type 0
 Told result g = (result ≡ Err g) ⊎ ((g ≡ Target) × (result ≡ Err NoMemory))
 
 pub fault_told : (adapted : Bool) (text : List ℕ) (result : Result (Head RequestParts) HttpFault) → IfOk result (λ head. IsRead adapted text head.value head.length)
-    → IfErr result (RefusesText adapted text) → (g : HttpFault) → Stands adapted text g → Told result g
+    → IfErr result (RefusesText adapted text) → (g : HttpFault) → RefusesRequest adapted text g → Told result g
 fault_told adapted text (Ok head) read refused g stands = absurd (not_read adapted text head.value head.length g read stands)
 fault_told adapted text (Err f) read refused g stands = told (agrees adapted text f g (answer_of adapted text f refused) stands)
   where
@@ -190,14 +190,14 @@ head_told adapted text (Err f) read refused r n there = inl (ap Err (refused_rea
 
 -- ---- one answer
 
-pub head_or_fault : (adapted : Bool) (text : List ℕ) (r : RequestParts) (n : ℕ) (g : HttpFault) → Stands adapted text g → ¬ (IsRead adapted text r n)
+pub head_or_fault : (adapted : Bool) (text : List ℕ) (r : RequestParts) (n : ℕ) (g : HttpFault) → RefusesRequest adapted text g → ¬ (IsRead adapted text r n)
 head_or_fault adapted text r n g stands read = not_read adapted text r n g read stands
 
 same_fault : (f g : HttpFault) → f ≢ NoMemory → Allowed f g → f ≡ g
 same_fault f g other (inl same) = same
 same_fault f g other (inr memory) = absurd (other memory.1)
 
-pub one_fault : (adapted : Bool) (text : List ℕ) (f g : HttpFault) → Stands adapted text f → Stands adapted text g → f ≡ g
+pub one_fault : (adapted : Bool) (text : List ℕ) (f g : HttpFault) → RefusesRequest adapted text f → RefusesRequest adapted text g → f ≡ g
 one_fault adapted text f g (inl x) (inl y) = x.0 ∙ sym y.0
 one_fault adapted text f g (inl x) (inr (inl y)) = absurd (y.1.0 x.1.1.0 x.1.1.1 [] x.1.1.2)
 one_fault adapted text f g (inl x) (inr (inr (inl y))) = absurd (x.1.0 y.1.0 y.1.1 y.1.2)

@@ -7,7 +7,7 @@ use Rattle.httparse.specs.Grammar.{ReadsRequest, ReadsResponse, print_request, p
 use Rattle.httparse.proofs.GrammarLemmas.{request_unique, ReadsRequest-append, response_unique, ReadsResponse-append}
 use Rattle.http_side.specs.declared.fault.HttpFault.TheVariants.{More}
 use Rattle.http_side.specs.Heads.{RequestParts, ResponseParts, judged}
-use Rattle.http_side.specs.Requests.{IsRead, AwaitsRequest, Stands}
+use Rattle.http_side.specs.Requests.{IsRead, AwaitsRequest, RefusesRequest}
 use Rattle.http_side.specs.Responses.{IsResponseRead, AwaitsResponse, StandsInResponse}
 use Rattle.http_side.proofs.RequestAnswers.{few_of, short_is}
 use Rattle.http_side.proofs.ResponseAnswers.{few_of as few_of_response}
@@ -84,7 +84,7 @@ cut_of text p rest cut e l =
       size = size;
     }
 
-pub request_beginning : (adapted : Bool) (text : List ℕ) (r : RequestParts) (n cut : ℕ) → IsRead adapted text r n → cut < n → Stands adapted (take cut text) More
+pub request_beginning : (adapted : Bool) (text : List ℕ) (r : RequestParts) (n cut : ℕ) → IsRead adapted text r n → cut < n → RefusesRequest adapted (take cut text) More
 request_beginning adapted text r n cut read l =
     let at = read.there in
     let p = print_request at.head in

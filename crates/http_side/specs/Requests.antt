@@ -55,8 +55,8 @@ abbrev pub HasLongRequest : List ℕ → Type 0
 HasLongRequest text = (head : RequestHead) × (rest : List ℕ) × ReadsRequest text head rest × (100 < length head.fields)
 
 -- a text has to be refused for this: what its first 16,384 bytes begin with decides
-abbrev pub Stands : Bool → List ℕ → HttpFault → Type 0
-Stands adapted text fault =
+abbrev pub RefusesRequest : Bool → List ℕ → HttpFault → Type 0
+RefusesRequest adapted text fault =
     ((fault ≡ unended (length text)) × AwaitsRequest (judged text))
     ⊎ ((fault ≡ Bad) × IsNoRequest (judged text))
     ⊎ ((fault ≡ TooMany) × HasLongRequest (judged text))

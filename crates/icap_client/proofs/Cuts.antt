@@ -5,7 +5,7 @@ use Rattle.std.proofs.lemmas.Bool.{cases_lt}
 use Rattle.std.proofs.lemmas.List.{take-append-le, drop-append-le, take-append-drop, take-take, length-take, length-take-le}
 use Rattle.std.proofs.Math.Seq.{take-length}
 use Rattle.httparse.specs.Grammar.{LineEnd, crlf, lf, print_end, print_field, print_section}
-use Rattle.icap_head.specs.Heads.{Response, HasResponse, ReadsHead, StartsResponse, Stands}
+use Rattle.icap_head.specs.Heads.{Response, HasResponse, ReadsHead, StartsResponse, RefusesIcapHead}
 use Rattle.icap_head.specs.StartLines.{StatusForm}
 use Rattle.icap_head.specs.declared.reading.HeadFault.TheVariants.{More}
 use Rattle.icap_head.proofs.OneReading.{response_unique, no_response_fault}
@@ -19,7 +19,8 @@ use Rattle.icap_chunks.proofs.Endings.{end_stays, chunked_ends}
 use Rattle.trace_core.specs.declared.history.Point.{Point}
 use Rattle.trace_core.specs.declared.history.Seen.{Seen}
 use Rattle.icap_client.specs.Replies.{IsInterim, IsBareReply, IsModHead, IsModHeads, IsMod, IsBody, HasLayout, lists_of, has_body}
-use Rattle.icap_client.specs.HeadFront.{IsHeadFront, HasToWait, has_line}
+use Rattle.adapt_bytes.specs.Text.{has_line}
+use Rattle.icap_client.specs.HeadFront.{IsHeadFront, HasToWait}
 use Rattle.icap_client.specs.Heard.{Reader, HasHeard, HeardTo, Marks, HeardInterim, HeardModHead, HeardBody, HeardNoMod, HeardMod, HeardFinal}
 use Rattle.icap_client.specs.Heard.HeardFinal.{unchanged as was_unchanged, changed as was_changed}
 use Rattle.icap_client.specs.Reading.{Side, SideHeard}
@@ -81,7 +82,7 @@ behind_judged raw j value size l n h =
     let cut : drop j raw ≡ drop j e.0 ++ 10 ∷ drop size raw = ap (λ (t : List ℕ). drop j t) all ∙ drop-append-le j e.0 (10 ∷ drop size raw) long in
     true_false (sym (has_feed (drop j e.0) (drop size raw)) ∙ (ap has_line (sym cut) ∙ n))
 
-no_head_by : (raw : List ℕ) (f : IsHeadFront raw) (value : Response) (size : ℕ) → (size ≤ f.judged) ⊎ (f.judged < size) → (f.judged ≡ 0) ⊎ Stands StatusForm More (take f.judged raw) → HasResponse raw value size → ⊥
+no_head_by : (raw : List ℕ) (f : IsHeadFront raw) (value : Response) (size : ℕ) → (size ≤ f.judged) ⊎ (f.judged < size) → (f.judged ≡ 0) ⊎ RefusesIcapHead StatusForm More (take f.judged raw) → HasResponse raw value size → ⊥
 no_head_by raw f value size (inl l) (inl z) h = let some = some_size raw value size h in omega (arith, l, z, some)
 no_head_by raw f value size (inl l) (inr s) h = no_response_fault More (take f.judged raw) value size (in_judged raw f.judged value size l h) s
 no_head_by raw f value size (inr m) k h = behind_judged raw f.judged value size m f.no_line h

@@ -1,7 +1,7 @@
 -- Heads of responses: why one is refused, and what the adapted message's makes of what was heard.
 use Rattle.std.proofs.Common.{◌≡◌, ◌≢◌, ℕ, ◌+◌, ◌≤◌, ◌⊎◌, inl, inr, Bool, true, false, List, [], ◌∷◌, ◌++◌, length, take, refl, ap, sym, subst, ◌∙◌, append_assoc, append-nil, arith, length-append, Option, Some, None, Result, Ok, Err, IfOk, is_some, IsTrue}
 use Rattle.std.proofs.lemmas.List.{take-take, length-take-le, length-take}
-use Rattle.icap_head.specs.Heads.{Response, HasResponse, Stands, ReadsHead, StartsResponse}
+use Rattle.icap_head.specs.Heads.{Response, HasResponse, RefusesIcapHead, ReadsHead, StartsResponse}
 use Rattle.icap_head.specs.StartLines.{StatusForm}
 use Rattle.icap_head.specs.declared.reading.HeadFault.{HeadFault}
 use Rattle.icap_head.specs.declared.reading.HeadFault.TheVariants as heads
@@ -24,14 +24,14 @@ use Rattle.icap_client.specs.Heard.HeardFinal.{changed, unchanged}
 use Rattle.icap_client.specs.Hearing.{Hears, Passes}
 use Rattle.icap_client.specs.Hearing.Passes.{waits, goes_on}
 use Rattle.icap_client.specs.Replies.{IsInterim}
-use Rattle.icap_client.specs.Refused.{RefusesReply, RefusesHead, SaysNone, IsMisfit, IsFit}
+use Rattle.icap_client.specs.Refused.{RefusesReply, RefusesHead, SpellsNoReply, IsMisfit, IsFit}
 use Rattle.icap_client.specs.Refused.IsMisfit.{ends_early, ends_late}
 use Rattle.adapt_sides.specs.declared.fault.ClientFault.{ClientFault}
 use Rattle.adapt_sides.specs.declared.fault.ClientFault.TheVariants as faults
 use Rattle.icap_client.specs.declared.stage.Stage.{Stage}
 use Rattle.icap_client.specs.declared.stage.Stage.TheVariants.{Replies, Head, Body, Over}
 
-pub refuses_said : (fault : ClientFault) (x : Seen) (point : Point) (raw : List ℕ) (value : Response) (size : ℕ) → HasResponse raw value size → SaysNone fault point value → RefusesReply fault x point raw
+pub refuses_said : (fault : ClientFault) (x : Seen) (point : Point) (raw : List ℕ) (value : Response) (size : ℕ) → HasResponse raw value size → SpellsNoReply fault point value → RefusesReply fault x point raw
 refuses_said faults.Head x point raw value size h s = absurd s
 refuses_said faults.Layout x point raw value size h s = (value, size, h, s)
 refuses_said faults.Chunk x point raw value size h s = absurd s
@@ -42,13 +42,13 @@ refuses_said faults.Device x point raw value size h s = absurd s
 refuses_said faults.NoMemory x point raw value size h s = absurd s
 
 -- a fault that isn't want of memory stands in the text
-pub stands_for : {A : Type 0} (fault : HeadFault) (text : List ℕ) → fault ≢ heads.NoMemory → ((fault ≡ heads.NoMemory) × A) ⊎ Stands StatusForm fault text → Stands StatusForm fault text
+pub stands_for : {A : Type 0} (fault : HeadFault) (text : List ℕ) → fault ≢ heads.NoMemory → ((fault ≡ heads.NoMemory) × A) ⊎ RefusesIcapHead StatusForm fault text → RefusesIcapHead StatusForm fault text
 stands_for fault text n (inl h) = absurd (n h.0)
 stands_for fault text n (inr s) = s
 
 pub refuses_head : {A : Type 0} (fault : HeadFault) (found : ClientFault) (x : Seen) (point : Point) (raw : List ℕ)
     → (((fault ≡ heads.NoMemory) × (found ≡ faults.NoMemory)) ⊎ ((found ≡ faults.Head) × (fault ≢ heads.NoMemory) × (fault ≢ heads.More)))
-    → ((fault ≡ heads.NoMemory) × A) ⊎ Stands StatusForm fault raw → RefusesReply found x point raw
+    → ((fault ≡ heads.NoMemory) × A) ⊎ RefusesIcapHead StatusForm fault raw → RefusesReply found x point raw
 refuses_head fault found x point raw (inl m) s = subst (λ (f : ClientFault). RefusesReply f x point raw) (sym m.1) tt
 refuses_head fault found x point raw (inr h) s = subst (λ (f : ClientFault). RefusesReply f x point raw) (sym h.0) (fault, h.2, stands_for fault raw h.1 s)
 
@@ -227,7 +227,7 @@ pub passes_head : (r new : Reader) (raw : List ℕ) (value : Response) (size : �
     → (value.status ≡ 200) × HasLayout r.point (lists_of value) layout × HasAdaptedHead layout → Passes r new size raw
 passes_head r new raw value size layout is h s = goes_on layout (ap (λ (r : Reader). r.stage) is) (ap (λ (r : Reader). r.point) is) (is_mod r.point raw value size layout h s)
 
-pub passes_none : (r : Reader) (raw : List ℕ) → Stands StatusForm heads.More raw → Passes r r 0 raw
+pub passes_none : (r : Reader) (raw : List ℕ) → RefusesIcapHead StatusForm heads.More raw → Passes r r 0 raw
 passes_none r raw s = waits refl refl refl s
 
 -- what is noted before a final response is no part of what was heard

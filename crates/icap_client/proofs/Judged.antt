@@ -2,17 +2,18 @@
 use Rattle.std.proofs.Common.{◌≡◌, ℕ, ◌+◌, ◌<◌, ◌≤◌, ◌⊎◌, inl, inr, Bool, true, false, not, List, ◌++◌, length, take, drop, refl, ap, sym, subst, ◌∙◌, arith, length-append}
 use Rattle.std.proofs.lemmas.List.{take-append-le}
 use Rattle.std.proofs.Math.Seq.{take-length}
-use Rattle.icap_head.specs.Heads.{Stands}
+use Rattle.icap_head.specs.Heads.{RefusesIcapHead}
 use Rattle.icap_head.specs.StartLines.{StatusForm}
 use Rattle.icap_head.specs.declared.reading.HeadFault.TheVariants.{More}
 use Rattle.wire_kit.specs.Past.{Past}
-use Rattle.icap_client.specs.HeadFront.{IsJudged, IsHeadFront, has_line}
+use Rattle.adapt_bytes.specs.Text.{has_line}
+use Rattle.icap_client.specs.HeadFront.{IsJudged, IsHeadFront}
 use Rattle.icap_client.specs.Reading.{IsFilled}
 use Rattle.icap_client.specs.declared.filled.Filled.{Filled}
 use Rattle.icap_client.specs.declared.filled.Filled.TheVariants as filled
 
-pub all_judged : (bytes : List ℕ) → Stands StatusForm More bytes → IsJudged (length bytes) bytes
-all_judged bytes s = inr (subst (λ (t : List ℕ). Stands StatusForm More t) (sym (take-length bytes)) s)
+pub all_judged : (bytes : List ℕ) → RefusesIcapHead StatusForm More bytes → IsJudged (length bytes) bytes
+all_judged bytes s = inr (subst (λ (t : List ℕ). RefusesIcapHead StatusForm More t) (sym (take-length bytes)) s)
 
 pub is_false : (b : Bool) → not b ≡ true → b ≡ false
 is_false true e = cc
@@ -20,7 +21,7 @@ is_false false e = refl
 
 more_judged : (judged : ℕ) (bytes delta : List ℕ) → judged ≤ length bytes → IsJudged judged bytes → IsJudged judged (bytes ++ delta)
 more_judged judged bytes delta l (inl e) = inl e
-more_judged judged bytes delta l (inr s) = inr (subst (λ (t : List ℕ). Stands StatusForm More t) (sym (take-append-le judged bytes delta l)) s)
+more_judged judged bytes delta l (inr s) = inr (subst (λ (t : List ℕ). RefusesIcapHead StatusForm More t) (sym (take-append-le judged bytes delta l)) s)
 
 same_judged : (judged : ℕ) (old new : List ℕ) → new ≡ old → judged ≤ length old → IsJudged judged old → (judged ≤ length new) × IsJudged judged new
 same_judged judged old new e l h = subst (λ (t : List ℕ). (judged ≤ length t) × IsJudged judged t) (sym e) (l, h)

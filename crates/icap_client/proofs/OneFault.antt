@@ -2,7 +2,7 @@
 use Rattle.std.proofs.Common.{◌≡◌, ◌≢◌, ℕ, ◌+◌, ◌<◌, ◌≤◌, ◌⊎◌, inl, inr, Bool, true, false, Option, Some, None, List, [], ◌∷◌, ◌++◌, length, take, drop, refl, ap, sym, subst, ◌∙◌, append_assoc, append-nil, arith, length-append}
 use Rattle.std.proofs.lemmas.List.{take-take, take-append-drop, length-take-le}
 use Rattle.std.proofs.Math.Seq.{take-length}
-use Rattle.icap_head.specs.Heads.{Response, HasResponse, StartsResponse, Stands}
+use Rattle.icap_head.specs.Heads.{Response, HasResponse, StartsResponse, RefusesIcapHead}
 use Rattle.icap_head.specs.StartLines.{StatusForm}
 use Rattle.icap_head.specs.declared.reading.HeadFault.{HeadFault}
 use Rattle.icap_head.proofs.OneReading.{response_unique, no_response_fault}
@@ -75,7 +75,7 @@ IsOf : Point → Layout → Response → Type 0
 IsOf point layout value = (value.status ≡ 200) × HasLayout point (lists_of value) layout × HasAdaptedHead layout
 
 data ReplyReason (f : ClientFault) (x : Seen) (point : Point) (raw : List ℕ) : Type 0 where
-  no_head : f ≡ faults.Head → (e : HeadFault) → Stands StatusForm e raw → ReplyReason f x point raw
+  no_head : f ≡ faults.Head → (e : HeadFault) → RefusesIcapHead StatusForm e raw → ReplyReason f x point raw
   bad_list : f ≡ faults.Layout → WithHead raw (HasBadList point) → ReplyReason f x point raw
   too_early : f ≡ faults.NotLegal → WithHead raw (IsUntimely point x) → ReplyReason f x point raw
   other : f ≡ faults.Status → WithHead raw IsOtherStatus → ReplyReason f x point raw
@@ -95,7 +95,7 @@ reply_reason faults.NoMemory x point raw n h = absurd (n refl)
 with_both : (raw : List ℕ) (P Q : Response → Type 0) → WithHead raw P → WithHead raw Q → ((value : Response) → P value → Q value → ⊥) → ⊥
 with_both raw P Q h i odd = odd i.0 (subst P (response_unique raw h.0 i.0 h.1 i.1 h.2 i.2).0 h.3) i.3
 
-without : (raw : List ℕ) (P : Response → Type 0) (e : HeadFault) → WithHead raw P → Stands StatusForm e raw → ⊥
+without : (raw : List ℕ) (P : Response → Type 0) (e : HeadFault) → WithHead raw P → RefusesIcapHead StatusForm e raw → ⊥
 without raw P e h s = no_response_fault e raw h.0 h.1 h.2 s
 
 behind_is : (f : ClientFault) (x : Seen) (point : Point) (raw : List ℕ) (h : RefusesBehind f x point raw) → WithHead raw (IsOf point h.layout)

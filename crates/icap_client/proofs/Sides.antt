@@ -4,8 +4,9 @@ use Rattle.std.proofs.lemmas.Bool.Decides.{nat_tests}
 use Rattle.std.proofs.lemmas.List.{take-append-drop}
 use Rattle.std.proofs.Math.Seq.{take-length}
 use Rattle.std.proofs.Math.ListN.{drop_of_length-le}
-use Rattle.icap_client.specs.HeadFront.{HasToWait, has_line}
-use Rattle.icap_head.specs.Heads.{Stands}
+use Rattle.adapt_bytes.specs.Text.{has_line}
+use Rattle.icap_client.specs.HeadFront.{HasToWait}
+use Rattle.icap_head.specs.Heads.{RefusesIcapHead}
 use Rattle.icap_head.specs.StartLines.{StatusForm}
 use Rattle.icap_head.specs.FieldLines.{unended}
 use Rattle.icap_head.specs.declared.reading.HeadFault.{HeadFault}
@@ -34,7 +35,7 @@ unended_more : (n : ℕ) → More ≡ unended n → n < 16384
 unended_more n h = unended_by (nat_lt n 16384) n refl h
 
 -- a head that isn't whole is short
-pub more_short : (raw : List ℕ) → Stands StatusForm More raw → length raw < 16384
+pub more_short : (raw : List ℕ) → RefusesIcapHead StatusForm More raw → length raw < 16384
 more_short raw (inl h) = unended_more (length raw) h.0
 more_short raw (inr (line, behind, first, inl (inl h))) = let odd = h.0 in cc
 more_short raw (inr (line, behind, first, inl (inr h))) = let odd = h.0 in cc
@@ -57,7 +58,7 @@ none_behind raw = ap has_line (drop_of_length-le raw (omega arith))
 pub has_to_wait : (s : Stage) (raw : List ℕ) (room : ℕ) → MustWait s raw room → HasToWait s raw room
 has_to_wait Replies raw room w = record {
   judged = length raw;
-  more = inr (subst (λ (t : List ℕ). Stands StatusForm More t) (sym (take-length raw)) w);
+  more = inr (subst (λ (t : List ℕ). RefusesIcapHead StatusForm More t) (sym (take-length raw)) w);
   no_line = none_behind raw;
   short = more_short raw w;
 }

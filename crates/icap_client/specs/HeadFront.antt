@@ -1,7 +1,7 @@
 -- The front of a reply's head, which is judged where a line has ended.
 use Rattle.std.specs.Prelude.{◌≡◌, ℕ, ◌<◌, ◌⊎◌, Bool, false, ◌==◌, List, length, take, drop}
-use Rattle.std.specs.List.{list_any}
-use Rattle.icap_head.specs.Heads.{Stands}
+use Rattle.adapt_bytes.specs.Text.{has_line}
+use Rattle.icap_head.specs.Heads.{RefusesIcapHead}
 use Rattle.icap_head.specs.StartLines.{StatusForm}
 use Rattle.icap_head.specs.declared.reading.HeadFault.TheVariants.{More}
 use Rattle.icap_client.specs.Hearing.{MustWait}
@@ -14,13 +14,9 @@ pub record Store : Type 0 where
   pub judged : ℕ
   pub room : ℕ
 
--- a line ends in the bytes
-abbrev pub has_line : List ℕ → Bool
-has_line bytes = list_any (λ byte. byte == 10) bytes
-
 -- so many were judged to be the front of an ICAP head, or none was
 abbrev pub IsJudged : ℕ → List ℕ → Type 0
-IsJudged judged bytes = (judged ≡ 0) ⊎ Stands StatusForm More (take judged bytes)
+IsJudged judged bytes = (judged ≡ 0) ⊎ RefusesIcapHead StatusForm More (take judged bytes)
 
 -- the front of a head: no line has ended behind what was judged so, and there is room for more
 pub record IsHeadFront (bytes : List ℕ) : Type 0 where

@@ -1,6 +1,6 @@
 -- What framing bytes does, and when no more can be framed.
 use Rattle.std.specs.Prelude.{◌≡◌, ℕ, ◌<◌, ◌≤◌, ◌⊎◌, ⊤, Bool, true, false, List, [], ◌∷◌, ◌++◌, length, take}
-use Rattle.icap_head.specs.Heads.{Stands}
+use Rattle.icap_head.specs.Heads.{RefusesIcapHead}
 use Rattle.icap_head.specs.StartLines.{StatusForm}
 use Rattle.icap_head.specs.declared.reading.HeadFault.TheVariants.{More}
 use Rattle.icap_chunks.specs.Machine.{HasRead}
@@ -23,7 +23,7 @@ pub record Hears (x : Seen) (old new : Reader) (events : List Event) (bytes part
 
 -- no event came of the front of these bytes: they are the front of an ICAP head, and none was used; or that of a 200 was
 pub data Passes (old new : Reader) (used : ℕ) (raw : List ℕ) : Type 0 where
-  waits : used ≡ 0 → new.stage ≡ old.stage → new.point ≡ old.point → Stands StatusForm More raw → Passes old new used raw
+  waits : used ≡ 0 → new.stage ≡ old.stage → new.point ≡ old.point → RefusesIcapHead StatusForm More raw → Passes old new used raw
   goes_on : (layout : Layout) → new.stage ≡ Head layout → new.point ≡ old.point → IsModHead old.point layout (take used raw) → Passes old new used raw
 
 -- there is no empty line in the text
@@ -44,7 +44,7 @@ pub record IsBodyNext (chunks : ChunkReader) (raw : List ℕ) : Type 0 where
 -- none of these bytes can be framed yet, with room for so many adapted ones: a head isn't whole, or the next byte is one of
 -- the body and there is no room; behind a whole final response none is framed any more
 abbrev pub MustWait : Stage → List ℕ → ℕ → Type 0
-MustWait Replies raw room = Stands StatusForm More raw
+MustWait Replies raw room = RefusesIcapHead StatusForm More raw
 MustWait (Head layout) raw room = (length raw < layout.offset) × HasNoEmptyLine raw
 MustWait (Body chunks) raw room = (raw ≡ []) ⊎ ((room ≡ 0) × IsBodyNext chunks raw)
 MustWait Over raw room = Unit {0}

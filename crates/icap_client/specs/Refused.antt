@@ -1,6 +1,6 @@
 -- Why the bytes behind those that were framed are refused.
 use Rattle.std.specs.Prelude.{◌≡◌, ◌≢◌, ℕ, ◌<◌, ◌≤◌, ◌⊎◌, ⊤, Bool, Some, List, [], ◌++◌, length, take}
-use Rattle.icap_head.specs.Heads.{Response, HasResponse, Stands}
+use Rattle.icap_head.specs.Heads.{Response, HasResponse, RefusesIcapHead}
 use Rattle.icap_head.specs.StartLines.{StatusForm}
 use Rattle.icap_head.specs.declared.reading.HeadFault.{HeadFault}
 use Rattle.icap_head.specs.declared.reading.HeadFault.TheVariants as heads
@@ -47,7 +47,7 @@ pub record IsOtherStatus (value : Response) : Type 0 where
 
 -- why bytes with an ICAP head first are refused
 abbrev pub RefusesReply : ClientFault → Seen → Point → List ℕ → Type 0
-RefusesReply faults.Head x point raw = (fault : HeadFault) × (fault ≢ heads.More) × Stands StatusForm fault raw
+RefusesReply faults.Head x point raw = (fault : HeadFault) × (fault ≢ heads.More) × RefusesIcapHead StatusForm fault raw
 RefusesReply faults.Layout x point raw = WithHead raw (HasBadList point)
 RefusesReply faults.NotLegal x point raw = WithHead raw (IsUntimely point x)
 RefusesReply faults.Status x point raw = WithHead raw IsOtherStatus
@@ -101,16 +101,16 @@ Refuses fault x point Over raw = ⊥
 -- ---- one response
 
 -- the response's head says that
-abbrev pub Says : Point → Response → Reply → Type 0
-Says point value replies.Continue = (value.status ≡ 100) × HasNothing point (lists_of value)
-Says point value replies.NoMod = (value.status ≡ 204) × HasNothing point (lists_of value)
-Says point value (replies.Mod layout) = (value.status ≡ 200) × HasLayout point (lists_of value) layout × HasAdaptedHead layout
+abbrev pub SpellsReply : Point → Response → Reply → Type 0
+SpellsReply point value replies.Continue = (value.status ≡ 100) × HasNothing point (lists_of value)
+SpellsReply point value replies.NoMod = (value.status ≡ 204) × HasNothing point (lists_of value)
+SpellsReply point value (replies.Mod layout) = (value.status ≡ 200) × HasLayout point (lists_of value) layout × HasAdaptedHead layout
 
 -- no response that is taken has such a head
-abbrev pub SaysNone : ClientFault → Point → Response → Type 0
-SaysNone faults.Layout point value = HasBadList point value
-SaysNone faults.Status point value = IsOtherStatus value
-SaysNone _ point value = ⊥
+abbrev pub SpellsNoReply : ClientFault → Point → Response → Type 0
+SpellsNoReply faults.Layout point value = HasBadList point value
+SpellsNoReply faults.Status point value = IsOtherStatus value
+SpellsNoReply _ point value = ⊥
 
 -- the head that a 200 announces keeps its limits
 abbrev pub LimitsOf : Reply → Type 0

@@ -2,10 +2,11 @@
 
 ghost use Rattle.std.specs.Prelude.{◌≡◌, ◌<◌, ◌≤◌, ◌==◌, [], length, drop, true};
 ghost use Rattle.std.specs.List.{list_any};
-ghost use Rattle.icap_head.specs.Heads.{Stands};
+ghost use Rattle.icap_head.specs.Heads.{RefusesIcapHead};
 ghost use Rattle.icap_head.specs.StartLines.{StatusForm};
 ghost use Rattle.icap_head.specs.declared.reading.HeadFault.TheVariants.{More};
-ghost use Rattle.icap_client.specs.HeadFront.{IsHeadFront, has_line};
+ghost use Rattle.adapt_bytes.specs.Text.{has_line};
+ghost use Rattle.icap_client.specs.HeadFront.{IsHeadFront};
 ghost use Rattle.icap_client.specs.Reading.{IsFilled};
 
 use crate::blank_line::behind;
@@ -74,7 +75,7 @@ impl Kept {
     /// Lets go of the first so many, which were framed. The rest was judged to be the front of a head, or wasn't.
     pub(crate) fn pass(&mut self, used: usize, judged: bool)
         requires within { used ≤ length self.old.bytes }
-        requires front { judged ≡ true → Stands StatusForm More (drop used self.old.bytes) }
+        requires front { judged ≡ true → RefusesIcapHead StatusForm More (drop used self.old.bytes) }
         ensures { self.new.bytes ≡ drop used self.old.bytes }
     {
         self.judged = 0;

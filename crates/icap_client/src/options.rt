@@ -61,7 +61,7 @@ impl Model for OptionsSide {
 
 impl OptionsSide {
     ghost use Rattle.icap_head.specs.Heads.{response_parts};
-    ghost use Rattle.icap_head.specs.Heads.{Stands};
+    ghost use Rattle.icap_head.specs.Heads.{RefusesIcapHead};
     ghost use Rattle.icap_head.specs.StartLines.{StatusForm};
     ghost use Rattle.icap_client.specs.Asking.{options_request, LetsRoomGo, Frames, HasToAsk, Asks};
 
@@ -157,7 +157,7 @@ impl OptionsSide {
     #[tactic(auto, using(crate::proofs::Skipping::frames_kept, crate::proofs::Sides::has_to_wait))]
     fn refuse_head(&mut self, fault: HeadFault) -> Result<Option<IcapResponse>, ClientFault>
         requires stage { self.old.stage ≡ OptionsStage.Head }
-        requires front { fault ≡ HeadFault.More → Stands StatusForm HeadFault.More self.old.raw }
+        requires front { fault ≡ HeadFault.More → RefusesIcapHead StatusForm HeadFault.More self.old.raw }
         ensures frames { IfOk result (λ found. Frames self.old self.new (option_map response_parts found)) }
         ensures waits { IfOk result (λ found. HasToAsk self.new.stage self.new.raw) }
         ensures fault { self.new.fault ≡ self.old.fault }

@@ -1,7 +1,7 @@
 //! Reading a service's responses: bytes in, events out, and nothing of wires (RFC 3507, sections 4.4 to 4.6).
 
 ghost use Rattle.std.specs.Prelude.{◌≡◌, ℕ, ◌<◌, ◌≤◌, ◌⊎◌, List, [], length, take, drop, OnOk, OnErr, option_copied, IfOk, IfErr, IfSome, IfNone, None, true, false, ◌≢◌, IsTrue, Some, ◌↔◌, MatchOption};
-ghost use Rattle.icap_head.specs.Heads.{Response, HasResponse, response_parts, Stands};
+ghost use Rattle.icap_head.specs.Heads.{Response, HasResponse, response_parts, RefusesIcapHead};
 ghost use Rattle.icap_head.specs.StartLines.{StatusForm};
 ghost use Rattle.icap_head.specs.declared.reading.HeadFault.TheVariants as heads;
 ghost use Rattle.trace_core.specs.History.{seen};
@@ -11,7 +11,7 @@ ghost use Rattle.icap_client.specs.Heard.{noted, Reader, in_stage, KeepsLimits, 
 ghost use Rattle.icap_client.specs.Laws.{first_reader};
 ghost use Rattle.icap_client.specs.Hearing.{Hears, Passes, MustWait, HasNoEmptyLine};
 ghost use Rattle.icap_client.specs.Replies.{IsEncapsulatedHead, has_body, payload_if};
-ghost use Rattle.icap_client.specs.Refused.{Refuses, RefusesReply, RefusesHead, RefusesBody, Says, LimitsOf};
+ghost use Rattle.icap_client.specs.Refused.{Refuses, RefusesReply, RefusesHead, RefusesBody, SpellsReply, LimitsOf};
 ghost use Rattle.encapsulated.specs.declared.offsets.Layout.{Layout as Parts};
 
 mod shown;
@@ -113,7 +113,7 @@ impl ReplyReader {
         requires stage { self.old.stage ≡ Stage.Replies }
         requires limits { LimitsOf reply }
         requires head { HasResponse raw.now (response_parts value.now) size }
-        requires says { Says self.old.point (response_parts value.now) reply }
+        requires says { SpellsReply self.old.point (response_parts value.now) reply }
         requires said { (self.old.tag ≡ tag_in (response_parts value.now).fields) × (self.old.closes ≡ says_close (response_parts value.now).fields) }
         ensures within { IfOk result (λ framed. framed.used ≤ length raw.now) }
         ensures silent { IfOk result (λ framed. ad_sum (listed framed.event) ≡ 0) }

@@ -3,7 +3,7 @@
 ghost use Rattle.std.specs.Prelude.{◌≡◌, IfOk, IfErr};
 ghost use Rattle.icap_head.specs.Heads.{response_parts};
 ghost use Rattle.icap_client.specs.Replies.{HasNothing, lists_of};
-ghost use Rattle.icap_client.specs.Refused.{Says, SaysNone};
+ghost use Rattle.icap_client.specs.Refused.{SpellsReply, SpellsNoReply};
 
 use crate::lists::{adapted_layout, has_nothing};
 use adapt_sides::ClientFault;
@@ -24,8 +24,8 @@ pub(crate) enum Reply {
 
 /// The response that has this head.
 pub(crate) fn reply_of(value: &IcapResponse, point: Point) -> Result<Reply, ClientFault>
-    ensures ok { IfOk result (Says point (response_parts value.now)) }
-    ensures err { IfErr result (λ fault. SaysNone fault point (response_parts value.now)) }
+    ensures ok { IfOk result (SpellsReply point (response_parts value.now)) }
+    ensures err { IfErr result (λ fault. SpellsNoReply fault point (response_parts value.now)) }
 {
     match value.status {
         100 => bare(value, point, Reply::Continue),

@@ -6,7 +6,7 @@ use Rattle.httparse.proofs.GrammarLemmas.{ReadsSection-append}
 use Rattle.icap_head.specs.declared.reading.HeadFault.{HeadFault}
 use Rattle.icap_head.specs.declared.reading.HeadFault.TheVariants.{TooMany}
 use Rattle.icap_head.specs.Fields.{FieldList}
-use Rattle.icap_head.specs.FieldLines.{ReadsFields, HasFields, HasTooMany, LinesStand, FieldsStand, unended, line_count}
+use Rattle.icap_head.specs.FieldLines.{ReadsFields, HasFields, HasTooMany, RefusesFieldLines, RefusesFields, unended, line_count}
 use Rattle.icap_head.proofs.Sections.{open_too_many, too_many_count, too_many-append, never_too_many, ends_too_many}
 
 pub err_map : {A E : Type 0} {P Q : E → Type 0} (r : Result A E) → ((e : E) → P e → Q e) → IfErr r P → IfErr r Q
@@ -28,7 +28,7 @@ has_fields-append text more h = (h.0, h.1 ++ more, fields-append text more h.0 h
 
 -- the faults of a text whose 101st line is its last, in a longer text
 pub cut_fault : (fault : HeadFault) (len : ℕ) (text more init : List ℕ) → text ≡ init ++ 10 ∷ [] → line_count text ≡ 101
-    → LinesStand fault TooMany text → FieldsStand fault len (text ++ more)
+    → RefusesFieldLines fault TooMany text → RefusesFields fault len (text ++ more)
 cut_fault fault len text more init ends count (inl h) =
     inl (h.0, never-append text more h.1, never_too_many text more h.1 (ends_too_many text init ends count h.1))
 cut_fault fault len text more init ends count (inr (inl h)) = inr (inl (h.0, too_many-append text more h.1))
@@ -52,14 +52,14 @@ drop_take (b ∷ seen) (suc start) end = let e : suc start + end ≡ suc (start 
 
 pub cut_stands : (fault : HeadFault) (len : ℕ) (seen : List ℕ) (start end : ℕ) → start ≤ length seen → 0 < end → end ≤ length (drop start seen)
     → line_count (take end (drop start seen)) ≡ 101 → get_or (drop start seen) (end - 1) 0 ≡ 10
-    → LinesStand fault TooMany (drop start (take (start + end) seen)) → FieldsStand fault len (drop start seen)
+    → RefusesFieldLines fault TooMany (drop start (take (start + end) seen)) → RefusesFields fault len (drop start seen)
 cut_stands fault len seen start end in_seen pos fits count is h =
     let text = take end (drop start seen) in
     let init = take (end - 1) (drop start seen) in
     let back : end - 1 + 1 ≡ end = omega arith in
     let ends : text ≡ init ++ 10 ∷ [] = ap (λ k. take k (drop start seen)) (sym back) ∙ take_more (drop start seen) (end - 1) 0 (omega arith) ∙ ap (λ b. init ++ b ∷ []) is in
-    subst (FieldsStand fault len) (sym (split seen start end fits in_seen ∙ ap (λ t. t ++ drop (start + end) seen) (drop_take seen start end)))
-    (cut_fault fault len text (drop (start + end) seen) init ends count (subst (LinesStand fault TooMany) (drop_take seen start end) h))
+    subst (RefusesFields fault len) (sym (split seen start end fits in_seen ∙ ap (λ t. t ++ drop (start + end) seen) (drop_take seen start end)))
+    (cut_fault fault len text (drop (start + end) seen) init ends count (subst (RefusesFieldLines fault TooMany) (drop_take seen start end) h))
 
 pub cut_found : (seen : List ℕ) (start end n : ℕ) (fields : FieldList) → start ≤ length seen → end ≤ length (drop start seen) → n ≤ length (take (start + end) seen)
     → ReadsFields (drop start (take (start + end) seen)) fields (drop n (take (start + end) seen)) → (n ≤ length seen) × ReadsFields (drop start seen) fields (drop n seen)
@@ -77,12 +77,12 @@ pub cut_has : (seen : List ℕ) (start end : ℕ) → start ≤ length seen → 
 cut_has seen start end in_seen fits h = subst HasFields (sym (split seen start end fits in_seen)) (has_fields-append (drop start (take (start + end) seen)) (drop (start + end) seen) h)
 
 -- the faults of a text of fewer lines
-pub whole_fault : (fault : HeadFault) (len : ℕ) (text : List ℕ) → line_count text < 101 → LinesStand fault (unended len) text → FieldsStand fault len text
+pub whole_fault : (fault : HeadFault) (len : ℕ) (text : List ℕ) → line_count text < 101 → RefusesFieldLines fault (unended len) text → RefusesFields fault len text
 whole_fault fault len text count h =
     let few : HasTooMany text → ⊥ = λ many. let n = too_many_count text many in omega (arith, n, count) in
     with few h
   where
-    with : (HasTooMany text → ⊥) → LinesStand fault (unended len) text → FieldsStand fault len text
+    with : (HasTooMany text → ⊥) → RefusesFieldLines fault (unended len) text → RefusesFields fault len text
     with few (inl h) = inl (h.0, h.1, few)
     with few (inr (inl h)) = absurd (few h.1)
     with few (inr (inr h)) = inr (inr (h.0, h.1, few))

@@ -8,9 +8,9 @@ use Rattle.httparse.proofs.GrammarLemmas.{section_unique, ReadsSection-append}
 use Rattle.icap_head.specs.declared.reading.HeadFault.{HeadFault}
 use Rattle.icap_head.specs.declared.reading.HeadFault.TheVariants.{More, TooLong}
 use Rattle.icap_head.specs.Fields.{FieldList}
-use Rattle.icap_head.specs.FieldLines.{ReadsFields, FieldsStand, HasTooMany, IsOpen, unended}
-use Rattle.icap_head.specs.Heads.{HasHead, Stands}
-use Rattle.icap_head.specs.StartLines.{IsFirstLine, HasNoLine, LineStands}
+use Rattle.icap_head.specs.FieldLines.{ReadsFields, RefusesFields, HasTooMany, IsOpen, unended}
+use Rattle.icap_head.specs.Heads.{HasHead, RefusesIcapHead}
+use Rattle.icap_head.specs.StartLines.{IsFirstLine, HasNoLine, RefusesStartLine}
 use Rattle.icap_head.proofs.FieldFaults.{never-append}
 use Rattle.icap_head.proofs.Lacking.{lacks_cut}
 use Rattle.icap_head.proofs.Readings.{first-append}
@@ -24,30 +24,30 @@ unended_long len most = let is : nat_lt len 16384 ≡ false = search rules in rw
 
 -- ---- faults
 
-fields_fault_stays : (fault : HeadFault) (len len₂ : ℕ) (behind extra : List ℕ) → len < 16384 → fault ≢ More → FieldsStand fault len behind → FieldsStand fault len₂ (behind ++ extra)
+fields_fault_stays : (fault : HeadFault) (len len₂ : ℕ) (behind extra : List ℕ) → len < 16384 → fault ≢ More → RefusesFields fault len behind → RefusesFields fault len₂ (behind ++ extra)
 fields_fault_stays fault len len₂ behind extra short other (inl s) = inl (s.0, never-append behind extra s.1, never_too_many behind extra s.1 s.2)
 fields_fault_stays fault len len₂ behind extra short other (inr (inl s)) = inr (inl (s.0, too_many-append behind extra s.1))
 fields_fault_stays fault len len₂ behind extra short other (inr (inr s)) = absurd (other (s.0 ∙ unended_short len short))
 
 short_stays : (Form : List ℕ → List ℕ → Type 0) (fault : HeadFault) (text more extra : List ℕ) → length text < 16384 → take 16384 (text ++ more) ≡ take 16384 text ++ extra
-    → fault ≢ More → Stands Form fault text → Stands Form fault (text ++ more)
+    → fault ≢ More → RefusesIcapHead Form fault text → RefusesIcapHead Form fault (text ++ more)
 short_stays Form fault text more extra short e other (inl s) = absurd (other (s.0 ∙ unended_short (length text) short))
 short_stays Form fault text more extra short e other (inr (line, behind, first, s)) =
     inr (line, behind ++ extra, subst (λ t. IsFirstLine t line (behind ++ extra)) (sym e) (first-append (take 16384 text) extra line behind first), with s)
   where
-    with : LineStands Form fault line ⊎ (Form (codes "ICAP/1.0") line × FieldsStand fault (length text) behind)
-        → LineStands Form fault line ⊎ (Form (codes "ICAP/1.0") line × FieldsStand fault (length (text ++ more)) (behind ++ extra))
+    with : RefusesStartLine Form fault line ⊎ (Form (codes "ICAP/1.0") line × RefusesFields fault (length text) behind)
+        → RefusesStartLine Form fault line ⊎ (Form (codes "ICAP/1.0") line × RefusesFields fault (length (text ++ more)) (behind ++ extra))
     with (inl bad) = inl bad
     with (inr bad) = inr (bad.0, fields_fault_stays fault (length text) (length (text ++ more)) behind extra short other bad.1)
 
-long_stays : (Form : List ℕ → List ℕ → Type 0) (fault : HeadFault) (text more : List ℕ) → 16384 ≤ length text → Stands Form fault text → Stands Form fault (text ++ more)
+long_stays : (Form : List ℕ → List ℕ → Type 0) (fault : HeadFault) (text more : List ℕ) → 16384 ≤ length text → RefusesIcapHead Form fault text → RefusesIcapHead Form fault (text ++ more)
 long_stays Form fault text more long s =
     let judged : take 16384 text ≡ take 16384 (text ++ more) = sym (take-append-le 16384 text more long) in
     let len = length-append text more in
     let same : unended (length text) ≡ unended (length (text ++ more)) = unended_long (length text) long ∙ sym (unended_long (length (text ++ more)) (omega (arith, len))) in
     at judged same s
   where
-    at : take 16384 text ≡ take 16384 (text ++ more) → unended (length text) ≡ unended (length (text ++ more)) → Stands Form fault text → Stands Form fault (text ++ more)
+    at : take 16384 text ≡ take 16384 (text ++ more) → unended (length text) ≡ unended (length (text ++ more)) → RefusesIcapHead Form fault text → RefusesIcapHead Form fault (text ++ more)
     at judged same (inl t) = inl (t.0 ∙ same, subst HasNoLine judged t.1)
     at judged same (inr (line, behind, first, inl bad)) = inr (line, behind, subst (λ t. IsFirstLine t line behind) judged first, inl bad)
     at judged same (inr (line, behind, first, inr (form, inl bad))) = inr (line, behind, subst (λ t. IsFirstLine t line behind) judged first, inr (form, inl bad))
@@ -56,7 +56,7 @@ long_stays Form fault text more long s =
         inr (line, behind, subst (λ t. IsFirstLine t line behind) judged first, inr (form, inr (inr (bad.0 ∙ same, bad.1, bad.2))))
 
 -- a fault but More stands whatever follows
-pub fault_stays : (Form : List ℕ → List ℕ → Type 0) (fault : HeadFault) (text more : List ℕ) → fault ≢ More → Stands Form fault text → Stands Form fault (text ++ more)
+pub fault_stays : (Form : List ℕ → List ℕ → Type 0) (fault : HeadFault) (text more : List ℕ) → fault ≢ More → RefusesIcapHead Form fault text → RefusesIcapHead Form fault (text ++ more)
 fault_stays Form fault text more other s =
     elim (cases_lt (length text) 16384) [
       | inl short ↦
@@ -92,7 +92,7 @@ front_of_fields behind tail fields r few pos = (
 
 -- the first n bytes of a head, n being less than its length, are its beginning
 pub front_is_more : (Form : List ℕ → List ℕ → Type 0) (S : List ℕ → Type 0) → ((line : List ℕ) → S line → Form (codes "ICAP/1.0") line)
-    → (text : List ℕ) (fields : FieldList) (size n : ℕ) → HasHead S text fields size → n < size → Stands Form More (take n text)
+    → (text : List ℕ) (fields : FieldList) (size n : ℕ) → HasHead S text fields size → n < size → RefusesIcapHead Form More (take n text)
 front_is_more Form S forms text fields size n h less =
     let inside = h.inside in
     let within = h.within in

@@ -5,7 +5,7 @@ use Rattle.icap_head.specs.declared.responses.IcapResponse.{IcapResponse}
 use Rattle.icap_head.specs.declared.reading.Head.{Head}
 use Rattle.icap_head.specs.declared.reading.HeadFault.{HeadFault}
 use Rattle.icap_head.specs.declared.reading.HeadFault.TheVariants.{NoMemory}
-use Rattle.icap_head.specs.Heads.{Request, Response, StartsRequest, StartsResponse, HasRequest, HasResponse, Stands, request_parts, response_parts}
+use Rattle.icap_head.specs.Heads.{Request, Response, StartsRequest, StartsResponse, HasRequest, HasResponse, RefusesIcapHead, request_parts, response_parts}
 use Rattle.icap_head.specs.StartLines.{RequestForm, StatusForm}
 use Rattle.icap_head.proofs.Readings.{OneVersion, head_unique, no_fault, one_fault}
 use Rattle.icap_head.proofs.Statuses.{status_line_unique}
@@ -35,17 +35,17 @@ response_unique text x y n m h g =
     let words = status_line_unique same.0.0 x.status y.status x.phrase y.phrase (codes "ICAP/1.0") (codes "ICAP/1.0") same.0.1 same.0.2 in
     (same_response x y words.0 words.1 same.1, same.2)
 
-pub no_request_fault : (fault : HeadFault) (text : List ℕ) (value : Request) (n : ℕ) → HasRequest text value n → Stands RequestForm fault text → ⊥
+pub no_request_fault : (fault : HeadFault) (text : List ℕ) (value : Request) (n : ℕ) → HasRequest text value n → RefusesIcapHead RequestForm fault text → ⊥
 no_request_fault fault text value n h s = no_fault RequestForm request_version (StartsRequest value) (λ line l. (value.method, value.uri, l)) fault text value.fields n h s
 
-pub no_response_fault : (fault : HeadFault) (text : List ℕ) (value : Response) (n : ℕ) → HasResponse text value n → Stands StatusForm fault text → ⊥
+pub no_response_fault : (fault : HeadFault) (text : List ℕ) (value : Response) (n : ℕ) → HasResponse text value n → RefusesIcapHead StatusForm fault text → ⊥
 no_response_fault fault text value n h s = no_fault StatusForm status_version (StartsResponse value) (λ line l. (value.status, value.phrase, l)) fault text value.fields n h s
 
 -- from what an answer says where it comes, to where it comes
 
 pub request_found : (M : HeadFault → Type 0) (text : List ℕ) (r : Result (Head IcapRequest) HeadFault)
     → IfOk r (λ head. HasRequest text (request_parts head.value) head.length)
-    → IfErr r (λ fault. ((fault ≡ NoMemory) × M fault) ⊎ Stands RequestForm fault text)
+    → IfErr r (λ fault. ((fault ≡ NoMemory) × M fault) ⊎ RefusesIcapHead RequestForm fault text)
     → (value : Request) (n : ℕ) → HasRequest text value n
     → (r ≡ Err NoMemory) ⊎ IsOkAnd r (λ head. (request_parts head.value ≡ value) × (head.length ≡ n))
 request_found M text (Ok head) ok err value n h = inr (request_unique text (request_parts head.value) value head.length n ok h)
@@ -54,7 +54,7 @@ request_found M text (Err fault) ok (inr err) value n h = absurd (no_request_fau
 
 pub response_found : (M : HeadFault → Type 0) (text : List ℕ) (r : Result (Head IcapResponse) HeadFault)
     → IfOk r (λ head. HasResponse text (response_parts head.value) head.length)
-    → IfErr r (λ fault. ((fault ≡ NoMemory) × M fault) ⊎ Stands StatusForm fault text)
+    → IfErr r (λ fault. ((fault ≡ NoMemory) × M fault) ⊎ RefusesIcapHead StatusForm fault text)
     → (value : Response) (n : ℕ) → HasResponse text value n
     → (r ≡ Err NoMemory) ⊎ IsOkAnd r (λ head. (response_parts head.value ≡ value) × (head.length ≡ n))
 response_found M text (Ok head) ok err value n h = inr (response_unique text (response_parts head.value) value head.length n ok h)
@@ -63,16 +63,16 @@ response_found M text (Err fault) ok (inr err) value n h = absurd (no_response_f
 
 pub request_fault : (M : HeadFault → Type 0) (text : List ℕ) (r : Result (Head IcapRequest) HeadFault)
     → IfOk r (λ head. HasRequest text (request_parts head.value) head.length)
-    → IfErr r (λ fault. ((fault ≡ NoMemory) × M fault) ⊎ Stands RequestForm fault text)
-    → (fault : HeadFault) → Stands RequestForm fault text → (r ≡ Err NoMemory) ⊎ (r ≡ Err fault)
+    → IfErr r (λ fault. ((fault ≡ NoMemory) × M fault) ⊎ RefusesIcapHead RequestForm fault text)
+    → (fault : HeadFault) → RefusesIcapHead RequestForm fault text → (r ≡ Err NoMemory) ⊎ (r ≡ Err fault)
 request_fault M text (Ok head) ok err fault s = absurd (no_request_fault fault text (request_parts head.value) head.length ok s)
 request_fault M text (Err g) ok (inl err) fault s = inl (ap Err err.0)
 request_fault M text (Err g) ok (inr err) fault s = inr (ap Err (one_fault RequestForm request_version g fault text err s))
 
 pub response_fault : (text : List ℕ) (r : Result (Head IcapResponse) HeadFault)
     → IfOk r (λ head. HasResponse text (response_parts head.value) head.length)
-    → IfErr r (λ fault. ((fault ≡ NoMemory) × ((value : Response) × (size : ℕ) × HasResponse text value size)) ⊎ Stands StatusForm fault text)
-    → (fault : HeadFault) → Stands StatusForm fault text → r ≡ Err fault
+    → IfErr r (λ fault. ((fault ≡ NoMemory) × ((value : Response) × (size : ℕ) × HasResponse text value size)) ⊎ RefusesIcapHead StatusForm fault text)
+    → (fault : HeadFault) → RefusesIcapHead StatusForm fault text → r ≡ Err fault
 response_fault text (Ok head) ok err fault s = absurd (no_response_fault fault text (response_parts head.value) head.length ok s)
 response_fault text (Err g) ok (inl err) fault s = absurd (no_response_fault fault text err.1.0 err.1.1 err.1.2 s)
 response_fault text (Err g) ok (inr err) fault s = ap Err (one_fault StatusForm status_version g fault text err s)

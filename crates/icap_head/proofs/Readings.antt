@@ -6,9 +6,9 @@ use Rattle.httparse.specs.Spans.{name_and_value}
 use Rattle.httparse.proofs.GrammarLemmas.{section_unique}
 use Rattle.icap_head.specs.declared.reading.HeadFault.{HeadFault}
 use Rattle.icap_head.specs.Fields.{FieldList}
-use Rattle.icap_head.specs.FieldLines.{ReadsFields, FieldsStand, IsOpen}
-use Rattle.icap_head.specs.Heads.{ReadsHead, HasHead, Stands}
-use Rattle.icap_head.specs.StartLines.{IsFirstLine, LineStands}
+use Rattle.icap_head.specs.FieldLines.{ReadsFields, RefusesFields, IsOpen}
+use Rattle.icap_head.specs.Heads.{ReadsHead, HasHead, RefusesIcapHead}
+use Rattle.icap_head.specs.StartLines.{IsFirstLine, RefusesStartLine}
 use Rattle.icap_head.proofs.FieldFaults.{fields-append}
 use Rattle.icap_head.proofs.Sections.{section_few}
 use Rattle.icap_head.proofs.Words.{first_unique}
@@ -103,7 +103,7 @@ head_unique S T text p q n m h g =
 
 -- ---- faults exclude heads and one another
 
-no_fields_fault : (fault : HeadFault) (len : ℕ) (behind rest : List ℕ) (fields : FieldList) → ReadsFields behind fields rest → length fields ≤ 100 → FieldsStand fault len behind → ⊥
+no_fields_fault : (fault : HeadFault) (len : ℕ) (behind rest : List ℕ) (fields : FieldList) → ReadsFields behind fields rest → length fields ≤ 100 → RefusesFields fault len behind → ⊥
 no_fields_fault fault len behind rest fields h few (inl s) = s.1 [] h.0 h.1 rest (subst (λ t. ReadsSection t h.0 h.1 rest) (sym (append-nil behind)) h.2)
 no_fields_fault fault len behind rest fields h few (inr (inl s)) =
     let n = ap length h.3 in
@@ -114,22 +114,22 @@ no_fields_fault fault len behind rest fields h few (inr (inr s)) = s.1.0 h.0 h.1
 abbrev pub OneVersion : (List ℕ → List ℕ → Type 0) → Type 0
 OneVersion Form = (line v w : List ℕ) → Form v line → Form w line → v ≡ w
 
-no_line_fault : (Form : List ℕ → List ℕ → Type 0) → OneVersion Form → (fault : HeadFault) (line : List ℕ) → Form (codes "ICAP/1.0") line → LineStands Form fault line → ⊥
+no_line_fault : (Form : List ℕ → List ℕ → Type 0) → OneVersion Form → (fault : HeadFault) (line : List ℕ) → Form (codes "ICAP/1.0") line → RefusesStartLine Form fault line → ⊥
 no_line_fault Form one fault line form (inl s) = s.1 (codes "ICAP/1.0") form
 no_line_fault Form one fault line form (inr s) = s.1.2 (one line s.1.0 (codes "ICAP/1.0") s.1.1 form)
 
 pub no_fault : (Form : List ℕ → List ℕ → Type 0) → OneVersion Form → (S : List ℕ → Type 0) → ((line : List ℕ) → S line → Form (codes "ICAP/1.0") line)
-    → (fault : HeadFault) (text : List ℕ) (fields : FieldList) (n : ℕ) → HasHead S text fields n → Stands Form fault text → ⊥
+    → (fault : HeadFault) (text : List ℕ) (fields : FieldList) (n : ℕ) → HasHead S text fields n → RefusesIcapHead Form fault text → ⊥
 no_fault Form one S forms fault text fields n h (inl s) = let x = head_reads S text fields n h in s.1 x.line x.behind x.first
 no_fault Form one S forms fault text fields n h (inr (line, behind, first, s)) =
     let x = head_reads S text fields n h in
     let same = first_unique (take 16384 text) line behind x.line x.behind first x.first in
     elim s [
-      | inl bad ↦ no_line_fault Form one fault x.line (forms x.line x.start) (subst (LineStands Form fault) same.0 bad)
-      | inr bad ↦ no_fields_fault fault (length text) x.behind (drop n (take 16384 text)) fields x.section h.few (subst (FieldsStand fault (length text)) same.1 bad.1)
+      | inl bad ↦ no_line_fault Form one fault x.line (forms x.line x.start) (subst (RefusesStartLine Form fault) same.0 bad)
+      | inr bad ↦ no_fields_fault fault (length text) x.behind (drop n (take 16384 text)) fields x.section h.few (subst (RefusesFields fault (length text)) same.1 bad.1)
     ]
 
-one_line_fault : (Form : List ℕ → List ℕ → Type 0) (f g : HeadFault) (line : List ℕ) → LineStands Form f line → LineStands Form g line → f ≡ g
+one_line_fault : (Form : List ℕ → List ℕ → Type 0) (f g : HeadFault) (line : List ℕ) → RefusesStartLine Form f line → RefusesStartLine Form g line → f ≡ g
 one_line_fault Form f g line (inl a) (inl b) = a.0 ∙ sym b.0
 one_line_fault Form f g line (inl a) (inr b) = absurd (a.1 b.1.0 b.1.1)
 one_line_fault Form f g line (inr a) (inl b) = absurd (b.1 a.1.0 a.1.1)
@@ -138,7 +138,7 @@ one_line_fault Form f g line (inr a) (inr b) = a.0 ∙ sym b.0
 open_or_never : (text : List ℕ) → NeverHasSection text → IsOpen text → ⊥
 open_or_never text never unfinished = never unfinished.1.0 unfinished.1.1 unfinished.1.2 [] unfinished.1.3
 
-one_fields_fault : (f g : HeadFault) (len : ℕ) (text : List ℕ) → FieldsStand f len text → FieldsStand g len text → f ≡ g
+one_fields_fault : (f g : HeadFault) (len : ℕ) (text : List ℕ) → RefusesFields f len text → RefusesFields g len text → f ≡ g
 one_fields_fault f g len text (inl a) (inl b) = a.0 ∙ sym b.0
 one_fields_fault f g len text (inl a) (inr (inl b)) = absurd (a.2 b.1)
 one_fields_fault f g len text (inl a) (inr (inr b)) = absurd (open_or_never text a.1 b.1)
@@ -149,7 +149,7 @@ one_fields_fault f g len text (inr (inr a)) (inl b) = absurd (open_or_never text
 one_fields_fault f g len text (inr (inr a)) (inr (inl b)) = absurd (a.2 b.1)
 one_fields_fault f g len text (inr (inr a)) (inr (inr b)) = a.0 ∙ sym b.0
 
-pub one_fault : (Form : List ℕ → List ℕ → Type 0) → OneVersion Form → (f g : HeadFault) (text : List ℕ) → Stands Form f text → Stands Form g text → f ≡ g
+pub one_fault : (Form : List ℕ → List ℕ → Type 0) → OneVersion Form → (f g : HeadFault) (text : List ℕ) → RefusesIcapHead Form f text → RefusesIcapHead Form g text → f ≡ g
 one_fault Form one f g text (inl a) (inl b) = a.0 ∙ sym b.0
 one_fault Form one f g text (inl a) (inr (line, behind, first, s)) = absurd (a.1 line behind first)
 one_fault Form one f g text (inr (line, behind, first, s)) (inl b) = absurd (b.1 line behind first)
@@ -157,12 +157,12 @@ one_fault Form one f g text (inr (line, behind, first, s)) (inr (line₂, behind
     let same = first_unique (take 16384 text) line behind line₂ behind₂ first first₂ in
     both s s₂ same.0 same.1
   where
-    both : LineStands Form f line ⊎ (Form (codes "ICAP/1.0") line × FieldsStand f (length text) behind)
-        → LineStands Form g line₂ ⊎ (Form (codes "ICAP/1.0") line₂ × FieldsStand g (length text) behind₂) → line ≡ line₂ → behind ≡ behind₂ → f ≡ g
-    both (inl x) (inl y) l r = one_line_fault Form f g line₂ (subst (LineStands Form f) l x) y
-    both (inl x) (inr y) l r = absurd (no_line_fault Form one f line₂ y.0 (subst (LineStands Form f) l x))
+    both : RefusesStartLine Form f line ⊎ (Form (codes "ICAP/1.0") line × RefusesFields f (length text) behind)
+        → RefusesStartLine Form g line₂ ⊎ (Form (codes "ICAP/1.0") line₂ × RefusesFields g (length text) behind₂) → line ≡ line₂ → behind ≡ behind₂ → f ≡ g
+    both (inl x) (inl y) l r = one_line_fault Form f g line₂ (subst (RefusesStartLine Form f) l x) y
+    both (inl x) (inr y) l r = absurd (no_line_fault Form one f line₂ y.0 (subst (RefusesStartLine Form f) l x))
     both (inr x) (inl y) l r = absurd (no_line_fault Form one g line₂ (subst (Form (codes "ICAP/1.0")) l x.0) y)
-    both (inr x) (inr y) l r = one_fields_fault f g (length text) behind₂ (subst (FieldsStand f (length text)) r x.1) y.1
+    both (inr x) (inr y) l r = one_fields_fault f g (length text) behind₂ (subst (RefusesFields f (length text)) r x.1) y.1
 
 -- ---- what follows changes nothing
 

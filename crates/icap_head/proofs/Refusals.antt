@@ -2,18 +2,18 @@
 use Rattle.std.proofs.Common.{◌≡◌, ℕ, ◌≤◌, ◌⊎◌, inl, inr, List, length, take, drop, codes, subst}
 use Rattle.icap_head.specs.declared.reading.HeadFault.{HeadFault}
 use Rattle.icap_head.specs.declared.reading.HeadFault.TheVariants.{NoMemory}
-use Rattle.icap_head.specs.FieldLines.{ReadsFields, HasFields, FieldsStand}
-use Rattle.icap_head.specs.StartLines.{IsFirstLine, IsRequestLine, IsStatusLine, MayBeRequestLine, RequestForm, StatusForm, LineStands}
-use Rattle.icap_head.specs.Heads.{Request, Response, NeedsUri, HasRequest, HasResponse, StartsRequest, StartsResponse, Stands}
+use Rattle.icap_head.specs.FieldLines.{ReadsFields, HasFields, RefusesFields}
+use Rattle.icap_head.specs.StartLines.{IsFirstLine, IsRequestLine, IsStatusLine, MayBeRequestLine, RequestForm, StatusForm, RefusesStartLine}
+use Rattle.icap_head.specs.Heads.{Request, Response, NeedsUri, HasRequest, HasResponse, StartsRequest, StartsResponse, RefusesIcapHead}
 use Rattle.icap_head.proofs.Readings.{has_head, has_some_head}
 
 -- what a reader of requests may answer
 abbrev pub RequestRefused : HeadFault → List ℕ → Type 0
-RequestRefused fault text = ((fault ≡ NoMemory) × NeedsUri text) ⊎ Stands RequestForm fault text
+RequestRefused fault text = ((fault ≡ NoMemory) × NeedsUri text) ⊎ RefusesIcapHead RequestForm fault text
 
 -- what a reader of responses may answer
 abbrev pub ResponseRefused : HeadFault → List ℕ → Type 0
-ResponseRefused fault text = ((fault ≡ NoMemory) × ((value : Response) × (size : ℕ) × HasResponse text value size)) ⊎ Stands StatusForm fault text
+ResponseRefused fault text = ((fault ≡ NoMemory) × ((value : Response) × (size : ℕ) × HasResponse text value size)) ⊎ RefusesIcapHead StatusForm fault text
 
 pub may_be : (line method uri version : List ℕ) → IsRequestLine line method uri version → MayBeRequestLine line
 may_be line method uri version h = record { method = method; word = uri; version = version; line_is = h.line_is; method_is = h.method_is; one_word = h.one_word; version_is = h.version_is }
@@ -22,12 +22,12 @@ pub needs_uri : (text seen line behind method uri : List ℕ) → seen ≡ take 
 needs_uri text seen line behind method uri e first h = (line, behind, subst (λ t. IsFirstLine t line behind) e first, may_be line method uri (codes "ICAP/1.0") h)
 
 pub request_line_refused : (fault : HeadFault) (text seen line behind : List ℕ) → seen ≡ take 16384 text → IsFirstLine seen line behind
-    → ((fault ≡ NoMemory) × MayBeRequestLine line) ⊎ LineStands RequestForm fault line → RequestRefused fault text
+    → ((fault ≡ NoMemory) × MayBeRequestLine line) ⊎ RefusesStartLine RequestForm fault line → RequestRefused fault text
 request_line_refused fault text seen line behind e first (inl h) = inl (h.0, (line, behind, subst (λ t. IsFirstLine t line behind) e first, h.1))
 request_line_refused fault text seen line behind e first (inr h) = inr (inr (line, behind, subst (λ t. IsFirstLine t line behind) e first, inl h))
 
 pub request_fields_refused : (fault : HeadFault) (text seen line behind method uri : List ℕ) → seen ≡ take 16384 text → IsFirstLine seen line behind
-    → IsRequestLine line method uri (codes "ICAP/1.0") → ((fault ≡ NoMemory) × HasFields behind) ⊎ FieldsStand fault (length text) behind → RequestRefused fault text
+    → IsRequestLine line method uri (codes "ICAP/1.0") → ((fault ≡ NoMemory) × HasFields behind) ⊎ RefusesFields fault (length text) behind → RequestRefused fault text
 request_fields_refused fault text seen line behind method uri e first h (inl m) = inl (m.0, needs_uri text seen line behind method uri e first h)
 request_fields_refused fault text seen line behind method uri e first h (inr s) =
     inr (inr (line, behind, subst (λ t. IsFirstLine t line behind) e first, inr ((method, uri, h), s)))
@@ -39,11 +39,11 @@ has_request value text seen line behind n e inside first h few fields =
     (subst (λ t. ReadsFields behind value.fields (drop n t)) e fields) few
 
 pub status_line_refused : (fault : HeadFault) (text seen line behind : List ℕ) → seen ≡ take 16384 text → IsFirstLine seen line behind
-    → LineStands StatusForm fault line → ResponseRefused fault text
+    → RefusesStartLine StatusForm fault line → ResponseRefused fault text
 status_line_refused fault text seen line behind e first h = inr (inr (line, behind, subst (λ t. IsFirstLine t line behind) e first, inl h))
 
 pub response_fields_refused : (fault : HeadFault) (text seen line behind : List ℕ) (status : ℕ) (phrase : List ℕ) → seen ≡ take 16384 text → IsFirstLine seen line behind
-    → IsStatusLine line status phrase (codes "ICAP/1.0") → ((fault ≡ NoMemory) × HasFields behind) ⊎ FieldsStand fault (length text) behind → ResponseRefused fault text
+    → IsStatusLine line status phrase (codes "ICAP/1.0") → ((fault ≡ NoMemory) × HasFields behind) ⊎ RefusesFields fault (length text) behind → ResponseRefused fault text
 response_fields_refused fault text seen line behind status phrase e first h (inl m) =
     let value : Response = record { status = status; phrase = phrase; fields = m.1.0 } in
     let some = has_some_head (StartsResponse value) text line behind m.1.0 m.1.1 (subst (λ t. IsFirstLine t line behind) e first) h m.1.2 m.1.3 in

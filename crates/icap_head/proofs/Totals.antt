@@ -9,8 +9,8 @@ use Rattle.httparse.specs.Spans.{name_and_value}
 use Rattle.icap_head.specs.declared.reading.HeadFault.{HeadFault}
 use Rattle.icap_head.specs.declared.reading.HeadFault.TheVariants.{StartLine, Version, Field, TooMany}
 use Rattle.icap_head.specs.Fields.{FieldList}
-use Rattle.icap_head.specs.FieldLines.{ReadsFields, FieldsStand, HasTooMany, unended}
-use Rattle.icap_head.specs.Heads.{Request, Response, HasHead, HasRequest, HasResponse, StartsRequest, StartsResponse, Stands}
+use Rattle.icap_head.specs.FieldLines.{ReadsFields, RefusesFields, HasTooMany, unended}
+use Rattle.icap_head.specs.Heads.{Request, Response, HasHead, HasRequest, HasResponse, StartsRequest, StartsResponse, RefusesIcapHead}
 use Rattle.icap_head.specs.StartLines.{IsFirstLine, HasNoLine, RequestForm, StatusForm, without_cr}
 use Rattle.icap_head.proofs.Lacking.{lacks_cons, lacks_cut, lacks_nil}
 use Rattle.icap_head.proofs.Readings.{has_some_head}
@@ -85,7 +85,7 @@ many_lines text fields last rest reads many =
 
 -- fields and an empty line, or why there are none
 some_fields : (len : ℕ) (text : List ℕ)
-    → NotNot (((fields : FieldList) × (rest : List ℕ) × ReadsFields text fields rest × (length fields ≤ 100)) ⊎ ((fault : HeadFault) × FieldsStand fault len text))
+    → NotNot (((fields : FieldList) × (rest : List ℕ) × ReadsFields text fields rest × (length fields ≤ 100)) ⊎ ((fault : HeadFault) × RefusesFields fault len text))
 some_fields len text =
     and_so (decided (HasTooMany text)) (λ many. elim many [
       | inl over ↦ surely (inr (TooMany, inr (inl (refl, over))))
@@ -112,7 +112,7 @@ some_fields len text =
 -- a head with a line of the form, or why there is none
 pub some_head : (Form : List ℕ → List ℕ → Type 0) (text : List ℕ)
     → NotNot (((line : List ℕ) × (fields : FieldList) × (size : ℕ) × Form (codes "ICAP/1.0") line × HasHead (λ l. l ≡ line) text fields size)
-    ⊎ ((fault : HeadFault) × Stands Form fault text))
+    ⊎ ((fault : HeadFault) × RefusesIcapHead Form fault text))
 some_head Form text = elim (first_line (take 16384 text)) [
   | inr none ↦ surely (inr (unended (length text), inl (refl, none)))
   | inl found ↦ with found.0 found.1 found.2
@@ -120,7 +120,7 @@ some_head Form text = elim (first_line (take 16384 text)) [
   where
     with : (line behind : List ℕ) → IsFirstLine (take 16384 text) line behind
         → NotNot (((line : List ℕ) × (fields : FieldList) × (size : ℕ) × Form (codes "ICAP/1.0") line × HasHead (λ l. l ≡ line) text fields size)
-        ⊎ ((fault : HeadFault) × Stands Form fault text))
+        ⊎ ((fault : HeadFault) × RefusesIcapHead Form fault text))
     with line behind first = and_so (decided (Form (codes "ICAP/1.0") line)) (λ formed. elim formed [
       | inl form ↦ and_so (some_fields (length text) behind) (λ fields. elim fields [
         | inl h ↦ let n = has_some_head (λ l. l ≡ line) text line behind h.0 h.1 first refl h.2 h.3 in surely (inl (line, h.0, n.0, form, n.1))
@@ -141,7 +141,7 @@ started S T text fields size all h = record {
 }
 
 -- a request's head, or why there is none
-pub some_request : (text : List ℕ) → NotNot (((value : Request) × (size : ℕ) × HasRequest text value size) ⊎ ((fault : HeadFault) × Stands RequestForm fault text))
+pub some_request : (text : List ℕ) → NotNot (((value : Request) × (size : ℕ) × HasRequest text value size) ⊎ ((fault : HeadFault) × RefusesIcapHead RequestForm fault text))
 some_request text = and_so (some_head RequestForm text) (λ found. elim found [
   | inl (line, fields, size, (method, uri, is), has) ↦
       let value : Request = record { method = method; uri = uri; fields = fields } in
@@ -150,7 +150,7 @@ some_request text = and_so (some_head RequestForm text) (λ found. elim found [
 ])
 
 -- a response's head, or why there is none
-pub some_response : (text : List ℕ) → NotNot (((value : Response) × (size : ℕ) × HasResponse text value size) ⊎ ((fault : HeadFault) × Stands StatusForm fault text))
+pub some_response : (text : List ℕ) → NotNot (((value : Response) × (size : ℕ) × HasResponse text value size) ⊎ ((fault : HeadFault) × RefusesIcapHead StatusForm fault text))
 some_response text = and_so (some_head StatusForm text) (λ found. elim found [
   | inl (line, fields, size, (status, phrase, is), has) ↦
       let value : Response = record { status = status; phrase = phrase; fields = fields } in

@@ -29,15 +29,15 @@ abbrev pub unended : ℕ → HeadFault
 unended len = if nat_lt len 16384 then More else TooLong
 
 -- why the fields are refused, in a text of so many bytes
-abbrev pub FieldsStand : HeadFault → ℕ → List ℕ → Type 0
-FieldsStand fault len text =
+abbrev pub RefusesFields : HeadFault → ℕ → List ℕ → Type 0
+RefusesFields fault len text =
     ((fault ≡ Field) × NeverHasSection text × ¬ (HasTooMany text))
     ⊎ ((fault ≡ TooMany) × HasTooMany text)
     ⊎ ((fault ≡ unended len) × IsOpen text × ¬ (HasTooMany text))
 
 -- why lines are refused that have at most 101 ends; the last fault is that of lines without an empty one
-abbrev pub LinesStand : HeadFault → HeadFault → List ℕ → Type 0
-LinesStand fault last text =
+abbrev pub RefusesFieldLines : HeadFault → HeadFault → List ℕ → Type 0
+RefusesFieldLines fault last text =
     ((fault ≡ Field) × NeverHasSection text) ⊎ ((fault ≡ TooMany) × HasTooMany text) ⊎ ((fault ≡ last) × IsOpen text)
 
 -- how many lines end in the text

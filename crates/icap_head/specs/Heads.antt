@@ -1,9 +1,9 @@
 -- Heads of ICAP messages (RFC 3507, section 4.3): a start line, field lines and an empty line.
 use Rattle.std.specs.Prelude.{◌≡◌, ℕ, ◌≤◌, ◌⊎◌, List, [], length, take, codes}
 use Rattle.icap_head.specs.Fields.{FieldList, field_list}
-use Rattle.icap_head.specs.FieldLines.{ReadsFields, FieldsStand, unended}
+use Rattle.icap_head.specs.FieldLines.{ReadsFields, RefusesFields, unended}
 use Rattle.icap_head.specs.Methods.{method_name}
-use Rattle.icap_head.specs.StartLines.{IsFirstLine, HasNoLine, IsRequestLine, IsStatusLine, LineStands, MayBeRequestLine}
+use Rattle.icap_head.specs.StartLines.{IsFirstLine, HasNoLine, IsRequestLine, IsStatusLine, RefusesStartLine, MayBeRequestLine}
 use Rattle.icap_head.specs.declared.reading.HeadFault.{HeadFault}
 use Rattle.icap_head.specs.declared.reading.HeadFault.TheVariants as Faults
 use Rattle.icap_head.specs.declared.requests.IcapRequest.{IcapRequest}
@@ -36,11 +36,11 @@ fault_number Faults.NoMemory = 7
 
 -- why no head is read, of a start line of that form: the first 16,384 bytes have no whole line, or a line that is refused,
 -- or fields that are
-abbrev pub Stands : (List ℕ → List ℕ → Type 0) → HeadFault → List ℕ → Type 0
-Stands Form fault text =
+abbrev pub RefusesIcapHead : (List ℕ → List ℕ → Type 0) → HeadFault → List ℕ → Type 0
+RefusesIcapHead Form fault text =
     ((fault ≡ unended (length text)) × HasNoLine (take 16384 text))
     ⊎ ((line : List ℕ) × (behind : List ℕ) × IsFirstLine (take 16384 text) line behind
-    × (LineStands Form fault line ⊎ (Form (codes "ICAP/1.0") line × FieldsStand fault (length text) behind)))
+    × (RefusesStartLine Form fault line ⊎ (Form (codes "ICAP/1.0") line × RefusesFields fault (length text) behind)))
 
 -- the first line may be that of a request, by its method and its version
 abbrev pub NeedsUri : List ℕ → Type 0

@@ -88,7 +88,7 @@ abbrev pub StatusForm : List ℕ → List ℕ → Type 0
 StatusForm version line = (status : ℕ) × (phrase : List ℕ) × IsStatusLine line status phrase version
 
 -- why a start line of that form is refused: it has the form for no version, or for another than 1.0
-abbrev pub LineStands : (List ℕ → List ℕ → Type 0) → HeadFault → List ℕ → Type 0
-LineStands Form fault line =
+abbrev pub RefusesStartLine : (List ℕ → List ℕ → Type 0) → HeadFault → List ℕ → Type 0
+RefusesStartLine Form fault line =
     ((fault ≡ StartLine) × ((version : List ℕ) → ¬ (Form version line)))
     ⊎ ((fault ≡ Version) × ((version : List ℕ) × Form version line × (version ≢ codes "ICAP/1.0")))

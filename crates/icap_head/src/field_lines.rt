@@ -2,7 +2,7 @@
 ghost use Rattle.std.specs.Prelude.{◌≡◌, ℕ, ◌+◌, ◌-◌, ◌<◌, ◌≤◌, ◌⊎◌, ◌++◌, List, length, map, take, drop, All, IfOk, IfErr, IfSome, IfNone, OnOk, slice_index, IsTrue, ◌↔◌};
 ghost use Rattle.std.specs.List.{AllByRecursion};
 ghost use Rattle.httparse.specs.Grammar.{is_value_byte, AllPass};
-ghost use Rattle.icap_head.specs.FieldLines.{ReadsFields, HasFields, FieldsStand, LinesStand, line_count, unended};
+ghost use Rattle.icap_head.specs.FieldLines.{ReadsFields, HasFields, RefusesFields, RefusesFieldLines, line_count, unended};
 ghost use Rattle.icap_head.specs.Fields.{field_list};
 ghost use Rattle.icap_head.specs.Written.{fields_text, field_text, IsFieldPair};
 
@@ -24,7 +24,7 @@ pub(crate) fn read_fields(
     ensures found { IfOk result (λ r. (start ≤ r.1) × (r.1 ≤ length seen.now) × (length (field_list r.0) ≤ 100)
         × ReadsFields (drop start seen.now) (field_list r.0) (drop r.1 seen.now)) }
     ensures err { IfErr result (λ fault. ((fault ≡ HeadFault.NoMemory) × HasFields (drop start seen.now))
-        ⊎ FieldsStand fault whole (drop start seen.now)) }
+        ⊎ RefusesFields fault whole (drop start seen.now)) }
 {
     let mut headers = [EMPTY_HEADER_SPAN; MAX_FIELDS];
     match parse_headers_from(seen, start, &mut headers) {
@@ -43,8 +43,8 @@ pub(crate) fn read_fields(
 fn first_fault(seen: &[u8], start: usize, fault: HeadFault) -> HeadFault
     requires inside { start ≤ length seen.now }
     requires unread { ¬ (HasFields (drop start seen.now)) }
-    ensures { (len : ℕ) → LinesStand fault (unended len) (drop start seen.now)
-        → FieldsStand result len (drop start seen.now) }
+    ensures { (len : ℕ) → RefusesFieldLines fault (unended len) (drop start seen.now)
+        → RefusesFields result len (drop start seen.now) }
 {
     match lines_end(&seen[start..], MAX_FIELDS + 1) {
         Some(end) => lines_fault(&seen[..start + end], start),
@@ -56,7 +56,7 @@ fn first_fault(seen: &[u8], start: usize, fault: HeadFault) -> HeadFault
 fn lines_fault(lines: &[u8], start: usize) -> HeadFault
     requires inside { start ≤ length lines.now }
     requires unread { ¬ (HasFields (drop start lines.now)) }
-    ensures { LinesStand result HeadFault.TooMany (drop start lines.now) }
+    ensures { RefusesFieldLines result HeadFault.TooMany (drop start lines.now) }
 {
     let mut headers = [EMPTY_HEADER_SPAN; MAX_FIELDS];
     match parse_headers_from(lines, start, &mut headers) {

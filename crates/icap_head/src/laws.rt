@@ -4,7 +4,7 @@ ghost use Rattle.http_header.specs.HeaderMap.{get_all};
 ghost use Rattle.http_header.specs.Token.{lowercase};
 ghost use Rattle.icap_head.specs.declared.reading.HeadFault.{HeadFault};
 ghost use Rattle.icap_head.specs.Fields.{FieldList, as_header_map, values_of};
-ghost use Rattle.icap_head.specs.Heads.{Request, Response, HasRequest, HasResponse, IsRequestHead, IsResponseHead, Stands};
+ghost use Rattle.icap_head.specs.Heads.{Request, Response, HasRequest, HasResponse, IsRequestHead, IsResponseHead, RefusesIcapHead};
 ghost use Rattle.icap_head.specs.StartLines.{RequestForm, StatusForm};
 ghost use Rattle.icap_head.specs.declared.reading.TheConstants.{MAX_FIELDS, MAX_HEAD};
 ghost use Rattle.icap_head.specs.Written.{IsRequest, IsResponse, request_text, response_text};
@@ -20,21 +20,21 @@ pub fn one_head()
 /// Where a fault stands, there is no head and no other fault.
 pub fn one_fault()
     ensures requests { (text : List ℕ) (fault other : HeadFault)
-        → Stands RequestForm fault text → Stands RequestForm other text → fault ≡ other }
+        → RefusesIcapHead RequestForm fault text → RefusesIcapHead RequestForm other text → fault ≡ other }
     ensures responses { (text : List ℕ) (fault other : HeadFault)
-        → Stands StatusForm fault text → Stands StatusForm other text → fault ≡ other }
+        → RefusesIcapHead StatusForm fault text → RefusesIcapHead StatusForm other text → fault ≡ other }
     ensures no_request { (text : List ℕ) (fault : HeadFault) (value : Request) (size : ℕ)
-        → Stands RequestForm fault text → ¬ (HasRequest text value size) }
+        → RefusesIcapHead RequestForm fault text → ¬ (HasRequest text value size) }
     ensures no_response { (text : List ℕ) (fault : HeadFault) (value : Response) (size : ℕ)
-        → Stands StatusForm fault text → ¬ (HasResponse text value size) }
+        → RefusesIcapHead StatusForm fault text → ¬ (HasResponse text value size) }
 {}
 
 /// Each text has an answer: it can't be that no head is at its front and that no fault stands, `More` among them.
 pub fn some_answer()
     ensures requests { (text : List ℕ) → ((value : Request) (size : ℕ) → ¬ (HasRequest text value size))
-        → ((fault : HeadFault) → ¬ (Stands RequestForm fault text)) → ⊥ }
+        → ((fault : HeadFault) → ¬ (RefusesIcapHead RequestForm fault text)) → ⊥ }
     ensures responses { (text : List ℕ) → ((value : Response) (size : ℕ) → ¬ (HasResponse text value size))
-        → ((fault : HeadFault) → ¬ (Stands StatusForm fault text)) → ⊥ }
+        → ((fault : HeadFault) → ¬ (RefusesIcapHead StatusForm fault text)) → ⊥ }
 {}
 
 /// A head stays the same whatever follows.
@@ -48,17 +48,17 @@ pub fn heads_stay()
 /// A fault but `More` stays the same whatever follows.
 pub fn faults_stay()
     ensures requests { (text more : List ℕ) (fault : HeadFault) → fault ≢ HeadFault.More
-        → Stands RequestForm fault text → Stands RequestForm fault (text ++ more) }
+        → RefusesIcapHead RequestForm fault text → RefusesIcapHead RequestForm fault (text ++ more) }
     ensures responses { (text more : List ℕ) (fault : HeadFault) → fault ≢ HeadFault.More
-        → Stands StatusForm fault text → Stands StatusForm fault (text ++ more) }
+        → RefusesIcapHead StatusForm fault text → RefusesIcapHead StatusForm fault (text ++ more) }
 {}
 
 /// A head that was cut anywhere before its last byte is `More`.
 pub fn beginnings_are_more()
     ensures requests { (text : List ℕ) (value : Request) (size cut : ℕ)
-        → HasRequest text value size → cut < size → Stands RequestForm HeadFault.More (take cut text) }
+        → HasRequest text value size → cut < size → RefusesIcapHead RequestForm HeadFault.More (take cut text) }
     ensures responses { (text : List ℕ) (value : Response) (size cut : ℕ)
-        → HasResponse text value size → cut < size → Stands StatusForm HeadFault.More (take cut text) }
+        → HasResponse text value size → cut < size → RefusesIcapHead StatusForm HeadFault.More (take cut text) }
 {}
 
 /// The values that can be written are those that some head holds.

@@ -1,7 +1,7 @@
 //! Heads of ICAP requests (RFC 3507, section 4.3.2).
 ghost use Rattle.std.specs.Prelude.{◌≡◌, ℕ, ◌⊎◌, List, take, IfOk, IfErr, IsOkAnd, IsTrue, ◌↔◌};
 ghost use Rattle.icap_head.specs.StartLines.{RequestForm};
-ghost use Rattle.icap_head.specs.Heads.{Request, HasRequest, IsRequestHead, Stands, NeedsUri, request_parts};
+ghost use Rattle.icap_head.specs.Heads.{Request, HasRequest, IsRequestHead, RefusesIcapHead, NeedsUri, request_parts};
 ghost use Rattle.icap_head.specs.Written.{IsRequest, request_text};
 
 use crate::field_lines::{are_writable, put_fields, read_fields};
@@ -58,8 +58,8 @@ pub fn read_request(alloc: Global, text: &[u8]) -> Result<Head<IcapRequest>, Hea
         ⊎ IsOkAnd result (λ head. (request_parts head.value ≡ value) × (head.length ≡ size)) }
 
     // A fault is answered where it stands, and only there; memory is wanted only to judge a URI, or to keep a head.
-    ensures err { IfErr result (λ fault. ((fault ≡ HeadFault.NoMemory) × NeedsUri text.now) ⊎ Stands RequestForm fault text.now) }
-    ensures fault { (fault : HeadFault) → Stands RequestForm fault text.now
+    ensures err { IfErr result (λ fault. ((fault ≡ HeadFault.NoMemory) × NeedsUri text.now) ⊎ RefusesIcapHead RequestForm fault text.now) }
+    ensures fault { (fault : HeadFault) → RefusesIcapHead RequestForm fault text.now
         → (result ≡ Err HeadFault.NoMemory) ⊎ (result ≡ Err fault) }
 {
     find_request(alloc, text)
@@ -67,7 +67,7 @@ pub fn read_request(alloc: Global, text: &[u8]) -> Result<Head<IcapRequest>, Hea
 
 fn find_request(alloc: Global, text: &[u8]) -> Result<Head<IcapRequest>, HeadFault>
     ensures ok { IfOk result (λ head. HasRequest text.now (request_parts head.value) head.length) }
-    ensures err { IfErr result (λ fault. ((fault ≡ HeadFault.NoMemory) × NeedsUri text.now) ⊎ Stands RequestForm fault text.now) }
+    ensures err { IfErr result (λ fault. ((fault ≡ HeadFault.NoMemory) × NeedsUri text.now) ⊎ RefusesIcapHead RequestForm fault text.now) }
 {
     let seen = judged(text);
     let Some((line, start)) = first_line(seen) else {

@@ -1,7 +1,7 @@
 //! Heads of ICAP responses (RFC 3507, section 4.3.3).
 ghost use Rattle.std.specs.Prelude.{◌≡◌, ℕ, ◌⊎◌, ◌<◌, ◌++◌, ◌+◌, List, take, IfOk, IfErr, IsOkAnd, OnOk, IsTrue, ◌↔◌};
 ghost use Rattle.icap_head.specs.StartLines.{StatusForm};
-ghost use Rattle.icap_head.specs.Heads.{Response, HasResponse, IsResponseHead, Stands, response_parts};
+ghost use Rattle.icap_head.specs.Heads.{Response, HasResponse, IsResponseHead, RefusesIcapHead, response_parts};
 ghost use Rattle.icap_head.specs.Written.{IsResponse, response_text, three_digits};
 
 use crate::field_lines::{are_writable, put_fields, read_fields};
@@ -52,8 +52,8 @@ pub fn read_response(alloc: Global, text: &[u8]) -> Result<Head<IcapResponse>, H
 
     // A fault is answered where it stands, and only there; memory is wanted only to keep a head.
     ensures err { IfErr result (λ fault. ((fault ≡ HeadFault.NoMemory) × ((value : Response) × (size : ℕ) × HasResponse text.now value size))
-        ⊎ Stands StatusForm fault text.now) }
-    ensures fault { (fault : HeadFault) → Stands StatusForm fault text.now → result ≡ Err fault }
+        ⊎ RefusesIcapHead StatusForm fault text.now) }
+    ensures fault { (fault : HeadFault) → RefusesIcapHead StatusForm fault text.now → result ≡ Err fault }
 {
     find_response(alloc, text)
 }
@@ -61,7 +61,7 @@ pub fn read_response(alloc: Global, text: &[u8]) -> Result<Head<IcapResponse>, H
 fn find_response(alloc: Global, text: &[u8]) -> Result<Head<IcapResponse>, HeadFault>
     ensures ok { IfOk result (λ head. HasResponse text.now (response_parts head.value) head.length) }
     ensures err { IfErr result (λ fault. ((fault ≡ HeadFault.NoMemory) × ((value : Response) × (size : ℕ) × HasResponse text.now value size))
-        ⊎ Stands StatusForm fault text.now) }
+        ⊎ RefusesIcapHead StatusForm fault text.now) }
 {
     let seen = judged(text);
     let Some((line, start)) = first_line(seen) else {

@@ -3,7 +3,7 @@ ghost use Rattle.std.specs.Prelude.{◌≡◌, ℕ, ◌+◌, ◌<◌, ◌≤◌,
 ghost use Rattle.std.specs.Str.Parse.{digits_value};
 ghost use Rattle.adapt_bytes.specs.Text.{Lacks, SameAscii};
 ghost use Rattle.http_uri.specs.Uri.{uri_scheme};
-ghost use Rattle.icap_head.specs.StartLines.{IsFirstLine, HasNoLine, without_cr, IsRequestLine, MayBeRequestLine, RequestForm, IsStatus, IsStatusLine, StatusForm, IsVersion, IsIcapUri, LineStands, AreDigits};
+ghost use Rattle.icap_head.specs.StartLines.{IsFirstLine, HasNoLine, without_cr, IsRequestLine, MayBeRequestLine, RequestForm, IsStatus, IsStatusLine, StatusForm, IsVersion, IsIcapUri, RefusesStartLine, AreDigits};
 
 use crate::{HeadFault, NoMemory};
 use adapt_bytes::{is_token, same_ascii};
@@ -42,7 +42,7 @@ fn cut_at_space(text: &[u8]) -> Option<(&[u8], &[u8])>
 pub(crate) fn read_request_line(alloc: Global, line: &[u8]) -> Result<(&[u8], &[u8]), HeadFault>
     ensures ok { IfOk result (λ r. IsRequestLine line.now r.0.now r.1.now (codes "ICAP/1.0")) }
     ensures err { IfErr result (λ fault. ((fault ≡ HeadFault.NoMemory) × MayBeRequestLine line.now)
-        ⊎ LineStands RequestForm fault line.now) }
+        ⊎ RefusesStartLine RequestForm fault line.now) }
 {
     let Some((method, rest)) = cut_at_space(line) else {
         return Err(HeadFault::StartLine);
@@ -112,7 +112,7 @@ fn has_icap_scheme(uri: &Uri) -> bool
 /// The status and the phrase of a status line.
 pub(crate) fn read_status_line(line: &[u8]) -> Result<(u16, &[u8]), HeadFault>
     ensures ok { IfOk result (λ r. IsStatusLine line.now r.0 r.1.now (codes "ICAP/1.0")) }
-    ensures err { IfErr result (λ fault. LineStands StatusForm fault line.now) }
+    ensures err { IfErr result (λ fault. RefusesStartLine StatusForm fault line.now) }
 {
     let Some((version, rest)) = cut_at_space(line) else {
         return Err(HeadFault::StartLine);

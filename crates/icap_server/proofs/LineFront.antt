@@ -10,7 +10,7 @@ use Rattle.httparse.specs.Grammar.{LineEnd, crlf, lf, print_end, Field as Line, 
 use Rattle.httparse.proofs.GrammarLemmas.{section_unique, ReadsSection-append}
 use Rattle.icap_head.specs.declared.reading.HeadFault.TheVariants.{More}
 use Rattle.icap_head.specs.FieldLines.{HasTooMany, IsOpen, line_count}
-use Rattle.icap_head.specs.Heads.{Stands}
+use Rattle.icap_head.specs.Heads.{RefusesIcapHead}
 use Rattle.icap_head.specs.StartLines.{IsFirstLine, RequestForm, without_cr}
 use Rattle.icap_head.proofs.Follows.{unended_short}
 use Rattle.icap_head.proofs.Lacking.{lacks_cut}
@@ -167,7 +167,7 @@ regroup raw lines part = simp append_assoc
 
 -- what is told of a head is told with more behind its last line
 pub still_more : (Form : List ℕ → List ℕ → Type 0) (head new : List ℕ) (start : ℕ) → length (head ++ new) < 16384 → Lacks 10 new
-    → IsLastLine head start → (0 < start → IsLineFront (drop start head ++ new)) → Stands Form More head → Stands Form More (head ++ new)
+    → IsLastLine head start → (0 < start → IsLineFront (drop start head ++ new)) → RefusesIcapHead Form More head → RefusesIcapHead Form More (head ++ new)
 still_more Form head new start short new_lacks last line stands = elim (cases_lt 0 start) [
   | inr first ↦ inl (
     sym (unended_short (length (head ++ new)) short),
@@ -180,7 +180,7 @@ still_more Form head new start short new_lacks last line stands = elim (cases_lt
     head_short : take 16384 head ≡ head
     head_short = short_take head (omega (arith, short, length-append head new))
 
-    with : 0 < start → Stands Form More head → Stands Form More (head ++ new)
+    with : 0 < start → RefusesIcapHead Form More head → RefusesIcapHead Form More (head ++ new)
     with some (inl (e, no_line)) = elim (first_feed head) [
       | inl found ↦ absurd (no_line (without_cr found.0) found.1 (subst (λ t. IsFirstLine t (without_cr found.0) found.1) (sym head_short) (record { raw = found.0; cut = found.2; no_feed = found.3; line_is = refl })))
       | inr lacks ↦ absurd (lacks (start - 1) (let inside = last.inside in omega (arith, some, inside)) (last.feed some))
@@ -237,14 +237,14 @@ more_value line byte (name, raw, token, all, e) good =
 -- the piece ends no line, and the last line goes on with it
 pub goes_on : (head piece rest : List ℕ) (start : ℕ) (place next : Place) → length piece < 16384 - length head → Lacks 10 piece → IsLastLine head start → rest ≡ drop start head
     → ((line : List ℕ) → IsAt Start line → IsAt place (line ++ rest)) → ((line : List ℕ) → IsAt place line → IsAt next (line ++ piece))
-    → Stands RequestForm More head → Stands RequestForm More (head ++ piece)
+    → RefusesIcapHead RequestForm More head → RefusesIcapHead RequestForm More (head ++ piece)
 goes_on head piece rest start place next short lacks last e first second stands =
     still_more RequestForm head piece start (omega (arith, short, length-append head piece)) lacks last
     (λ some. let P : List ℕ → Type 0 = λ t. IsLineFront (t ++ piece) in subst P e (line_front next (rest ++ piece) (second rest (first [] refl)))) stands
 
 -- the piece goes on with the first line
 pub first_goes_on : (head piece : List ℕ) (start : ℕ) → length piece < 16384 - length head → Lacks 10 piece → IsLastLine head start → start ≡ 0
-    → Stands RequestForm More head → Stands RequestForm More (head ++ piece)
+    → RefusesIcapHead RequestForm More head → RefusesIcapHead RequestForm More (head ++ piece)
 first_goes_on head piece start short lacks last none stands =
     still_more RequestForm head piece start (omega (arith, short, length-append head piece)) lacks last (λ some. absurd (omega (arith, some, none))) stands
 

@@ -40,7 +40,7 @@ use Rattle.icap_server.specs.Answers.{First, Opens, IsFirst, Follows, ReadsBody,
 use Rattle.icap_server.specs.Answers.First.{whole, last}
 use Rattle.icap_server.specs.Answers.Leads.{here, behind}
 use Rattle.icap_server.specs.HeadParts.{IsHead, BreaksHead, OpenHead, HeadsWhole, HeadsBroken, HeadsOpen, middle, has_head_sizes}
-use Rattle.icap_server.specs.Judged.{method_text, path_text, HasPath, ListIs, ListBad, ValueBad, PreviewIs, PreviewBad, accepted, allows_204, JudgesPreview, JudgesList, JudgesPoint, JudgesPath, JudgesHost, Judges}
+use Rattle.icap_server.specs.Verdicts.{method_text, path_text, HasPath, ListIs, ListBad, ValueBad, PreviewIs, PreviewBad, accepted, allows_204, JudgesPreview, JudgesList, JudgesPoint, JudgesPath, JudgesHost, JudgesRequest}
 
 false_true : false ≡ true → ⊥
 false_true e = cc
@@ -313,7 +313,7 @@ method_one : (m n : Method) → method_text m ≡ method_text n → m ≡ n
 method_one m n e = sym (named_method m) ∙ ap method_of (letter _ _ 2 e) ∙ named_method n
 
 -- a head asks for one thing
-pub judges_one : (r : Request) (v w : Verdict) → Judges r v → Judges r w → v ≡ w
+pub judges_one : (r : Request) (v w : Verdict) → JudgesRequest r v → JudgesRequest r w → v ≡ w
 judges_one r v w (inl (none, e)) (inl (none', e')) = e ∙ sym e'
 judges_one r v w (inl (none, e)) (inr (m, is, h)) = absurd (none m is)
 judges_one r v w (inr (m, is, h)) (inl (none, e)) = absurd (none m is)
@@ -326,7 +326,7 @@ judges_one r v w (inr (m, is, h)) (inr (n, is', h')) =
 opens_one : (text a b : List ℕ) (v w : Verdict) → Opens text v a → Opens text w b → (v ≡ w) × (a ≡ b)
 opens_one text a b v w (value, size, has, judges, e) (value', size', has', judges', e') =
     let same = request_unique text value value' size size' has has' in
-    let P : Request → Type 0 = λ r. Judges r w in
+    let P : Request → Type 0 = λ r. JudgesRequest r w in
     (judges_one value v w judges (subst P (sym same.0) judges'), e ∙ ap (λ k. drop k text) same.1 ∙ sym e')
 
 -- the first request of a text is answered in one way

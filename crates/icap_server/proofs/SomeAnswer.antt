@@ -30,7 +30,7 @@ use Rattle.icap_server.specs.Answers.{First, IsFirst, Follows, ReadsBody, ReadsC
 use Rattle.icap_server.specs.Answers.First.{whole, last}
 use Rattle.icap_server.specs.Answers.Leads.{here, behind}
 use Rattle.icap_server.specs.HeadParts.{IsHead, BreaksHead, OpenHead, HeadsWhole, HeadsBroken, HeadsOpen, middle, ends_blank, has_head_sizes}
-use Rattle.icap_server.specs.Judged.{method_text, path_text, serves, ListIs, ListBad, ValueBad, PreviewIs, PreviewBad, WriteOne, no_parts, accepted, allows_204, JudgesPreview, JudgesList, JudgesPoint, JudgesPath, JudgesHost, Judges}
+use Rattle.icap_server.specs.Verdicts.{method_text, path_text, serves, ListIs, ListBad, ValueBad, PreviewIs, PreviewBad, WriteOne, no_parts, accepted, allows_204, JudgesPreview, JudgesList, JudgesPoint, JudgesPath, JudgesHost, JudgesRequest}
 
 -- ---- what is left of a text
 
@@ -223,7 +223,7 @@ judged_host method r uri = and_so (decided (values_of (codes "Host") r.fields �
   | inr some ↦ and_so (judged_path method (uri_path uri.uri) r.fields) (λ verdict. surely (verdict.0, inr (some, (uri_path uri.uri, (uri.uri, uri.spells, refl), verdict.1))))
 ])
 
-judged : (r : Request) → IsIcapUri r.uri → NotNot ((verdict : Verdict) × Judges r verdict)
+judged : (r : Request) → IsIcapUri r.uri → NotNot ((verdict : Verdict) × JudgesRequest r verdict)
 judged r uri = and_so (decided ((method : Method) × (r.method ≡ method_text method))) (λ found. elim found [
   | inl (method, is) ↦ and_so (judged_host method r uri) (λ verdict. surely (verdict.0, inr (method, is, verdict.1)))
   | inr none ↦ surely (Refused NotImplemented, inl (λ method is. none (method, is), refl))

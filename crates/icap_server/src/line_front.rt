@@ -1,7 +1,7 @@
 //! A head that comes in small pieces: whether what came last is worth reading the whole again.
 ghost use Rattle.std.specs.Prelude.{◌≡◌, ℕ, ◌++◌, ◌∷◌, [], List, IsTrue, IfSome};
 ghost use Rattle.httparse.specs.Grammar.{is_value_byte};
-ghost use Rattle.icap_head.specs.Heads.{Stands};
+ghost use Rattle.icap_head.specs.Heads.{RefusesIcapHead};
 ghost use Rattle.icap_head.specs.StartLines.{RequestForm};
 ghost use Rattle.icap_head.specs.declared.reading.HeadFault.TheVariants.{More};
 ghost use Rattle.icap_server.specs.LineFront.{IsAt, IsLastLine};
@@ -22,7 +22,7 @@ enum Place {
 /// Whether the front of a head is one still with a piece behind it: the piece ends no line, and the last line may still become
 /// a field line or the empty one. It looks at the piece and at the last line alone.
 pub(crate) fn goes_on(head: &[u8], piece: &[u8]) -> bool
-    ensures { IsTrue result → Stands RequestForm More head.now → Stands RequestForm More (head.now ++ piece.now) }
+    ensures { IsTrue result → RefusesIcapHead RequestForm More head.now → RefusesIcapHead RequestForm More (head.now ++ piece.now) }
 {
     if piece.len() >= MAX_HEAD.saturating_sub(head.len()) {
         return false;

@@ -2,13 +2,13 @@
 use Rattle.std.proofs.Common.{◌≡◌, ◌⊎◌, ℕ, Result, Ok, Err, IfOk, IfErr, inl, inr, refl, ap}
 use Rattle.icap_head.specs.Heads.{Response}
 use Rattle.trace_core.specs.declared.history.Point.{Point}
-use Rattle.options_book.specs.Options.{Says, Options, Stands}
-use Rattle.options_book.specs.Judged.{IsGood, judged_options}
-use Rattle.options_book.specs.declared.judged.Judged.{Judged}
+use Rattle.options_book.specs.Options.{IsRecordOf, Options, RefusesOptions}
+use Rattle.options_book.specs.Verified.{IsGood, judged_options}
+use Rattle.options_book.specs.declared.judged.Verified.{Verified}
 use Rattle.options_book.specs.declared.faults.OptFault.{OptFault}
 use Rattle.options_book.specs.declared.faults.OptFault.TheVariants as Faults
 
-pub not_both : (fault : OptFault) (point : Point) (r : Response) (moment : ℕ) (options : Options) → Says point moment r options → Stands fault point r → ⊥
+pub not_both : (fault : OptFault) (point : Point) (r : Response) (moment : ℕ) (options : Options) → IsRecordOf point moment r options → RefusesOptions fault point r → ⊥
 not_both Faults.Status point r moment options says stands = stands says.success
 not_both Faults.NoMethods point r moment options says stands = stands.1 says.method
 not_both Faults.NoTag point r moment options says stands = stands.2 options.tag says.tag
@@ -16,7 +16,7 @@ not_both Faults.Number point r moment options says stands = stands.3 options.pre
 not_both Faults.Encapsulated point r moment options says stands = stands.4 says.encapsulated
 not_both Faults.NoMemory point r moment options says stands = stands
 
-pub one_fault : (f g : OptFault) (point : Point) (r : Response) → Stands f point r → Stands g point r → f ≡ g
+pub one_fault : (f g : OptFault) (point : Point) (r : Response) → RefusesOptions f point r → RefusesOptions g point r → f ≡ g
 one_fault Faults.Status Faults.Status point r a b = refl
 one_fault Faults.Status Faults.NoMethods point r a b = absurd (a b.0)
 one_fault Faults.Status Faults.NoTag point r a b = absurd (a b.0)
@@ -47,9 +47,9 @@ one_fault f Faults.NoMemory point r a b = absurd b
 
 -- where a fault stands, it is what is answered
 pub only_fault : (point : Point) (r : Response) (moment : ℕ) (result : Result Options OptFault)
-    → IfOk result (Says point moment r)
-    → IfErr result (λ fault. Stands fault point r ⊎ ((fault ≡ Faults.NoMemory) × ((options : Options) × Says point moment r options)))
-    → (fault : OptFault) → Stands fault point r → result ≡ Err fault
+    → IfOk result (IsRecordOf point moment r)
+    → IfErr result (λ fault. RefusesOptions fault point r ⊎ ((fault ≡ Faults.NoMemory) × ((options : Options) × IsRecordOf point moment r options)))
+    → (fault : OptFault) → RefusesOptions fault point r → result ≡ Err fault
 only_fault point r moment (Ok options) says only fault stands = absurd (not_both fault point r moment options says stands)
 only_fault point r moment (Err found) says only fault stands = elim only [
   | inl other ↦ ap (λ (f : OptFault). Err f) (one_fault found fault point r other stands)
@@ -57,10 +57,10 @@ only_fault point r moment (Err found) says only fault stands = elim only [
 ]
 
 -- a judged response is a record, or has the fault that it was judged to have
-pub has_reading : (point : Point) (r : Response) (moment : ℕ) (result : Result Judged OptFault)
+pub has_reading : (point : Point) (r : Response) (moment : ℕ) (result : Result Verified OptFault)
     → IfOk result (λ judged. IsGood point r judged.tag.now judged.numbers)
-    → IfErr result (λ fault. Stands fault point r)
-    → ((options : Options) × Says point moment r options) ⊎ ((fault : OptFault) × Stands fault point r)
+    → IfErr result (λ fault. RefusesOptions fault point r)
+    → ((options : Options) × IsRecordOf point moment r options) ⊎ ((fault : OptFault) × RefusesOptions fault point r)
 has_reading point r moment (Ok judged) good none = inl (
   judged_options judged.tag.now judged.numbers r.fields moment,
   record {

@@ -7,7 +7,7 @@ use Rattle.icap_head.specs.Heads.{Response}
 use Rattle.trace_core.specs.declared.history.Point.{Point}
 use Rattle.options_book.specs.Numbers.{IsNumber}
 use Rattle.options_book.specs.Transfer.{Lists}
-use Rattle.options_book.specs.Options.{Options, Says, HasTag, unquoted}
+use Rattle.options_book.specs.Options.{Options, IsRecordOf, HasTag, unquoted}
 
 one_number : (values : List (List ℕ)) (n m : Option ℕ) → IsNumber values n → IsNumber values m → n ≡ m
 one_number [] n m a b = a ∙ sym b
@@ -34,7 +34,7 @@ of_parts a b t p c l ls r =
     made tag preview connections ttl lists read_at =
         record { tag = tag; preview = preview; connections = connections; ttl = ttl; lists = lists; read_at = read_at }
 
-pub one_record : (point : Point) (moment : ℕ) (response : Response) (a b : Options) → Says point moment response a → Says point moment response b → a ≡ b
+pub one_record : (point : Point) (moment : ℕ) (response : Response) (a b : Options) → IsRecordOf point moment response a → IsRecordOf point moment response b → a ≡ b
 one_record point moment response a b s t = of_parts a b
     (one_tag response.fields a.tag b.tag s.tag t.tag)
     (one_number (values_of (codes "Preview") response.fields) a.preview b.preview s.numbers.preview_is t.numbers.preview_is)

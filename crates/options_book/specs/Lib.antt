@@ -2,4 +2,4 @@ pub mod Extension
 pub mod Transfer
 pub mod Numbers
 pub mod Options
-pub mod Judged
+pub mod Verified

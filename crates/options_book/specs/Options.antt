@@ -92,7 +92,7 @@ options_of tag preview connections ttl lists read_at = record {
 }
 
 -- the response says this of a point's service, read at this moment
-pub record Says (point : Point) (moment : ℕ) (response : Response) (options : Options) : Type 0 where
+pub record IsRecordOf (point : Point) (moment : ℕ) (response : Response) (options : Options) : Type 0 where
   pub success : response.status ≡ 200
   pub method : serves point response.fields ≡ true
   pub tag : HasTag response.fields options.tag
@@ -111,23 +111,23 @@ fault_number Faults.Encapsulated = 5
 fault_number Faults.NoMemory = 6
 
 -- where each fault stands: no earlier one does
-abbrev pub Stands : OptFault → Point → Response → Type 0
-Stands Faults.Status point response = response.status ≢ 200
-Stands Faults.NoMethods point response =
+abbrev pub RefusesOptions : OptFault → Point → Response → Type 0
+RefusesOptions Faults.Status point response = response.status ≢ 200
+RefusesOptions Faults.NoMethods point response =
     (response.status ≡ 200) × (serves point response.fields ≢ true)
-Stands Faults.NoTag point response =
+RefusesOptions Faults.NoTag point response =
     (response.status ≡ 200) × (serves point response.fields ≡ true)
     × ((tag : List ℕ) → ¬ (HasTag response.fields tag))
-Stands Faults.Number point response =
+RefusesOptions Faults.Number point response =
     (response.status ≡ 200) × (serves point response.fields ≡ true)
     × ((tag : List ℕ) × HasTag response.fields tag)
     × ((preview connections ttl : Option ℕ) → ¬ (AreNumbers response.fields preview connections ttl))
-Stands Faults.Encapsulated point response =
+RefusesOptions Faults.Encapsulated point response =
     (response.status ≡ 200) × (serves point response.fields ≡ true)
     × ((tag : List ℕ) × HasTag response.fields tag)
     × ((preview : Option ℕ) × (connections : Option ℕ) × (ttl : Option ℕ) × AreNumbers response.fields preview connections ttl)
     × ¬ (IsEncapsulated response.fields)
-Stands Faults.NoMemory point response = ⊥
+RefusesOptions Faults.NoMemory point response = ⊥
 
 -- the record serves at this moment: fewer seconds than its time to live have passed, and no later answer had another tag
 pub record IsFresh (options : Options) (moment : ℕ) (last : Option (List ℕ)) : Type 0 where

@@ -4,8 +4,8 @@ ghost use Rattle.std.specs.Prelude.{◌≡◌, ◌<◌, ◌↔◌, ℕ, List, Op
 ghost use Rattle.adapt_bytes.specs.declared.limits.TheConstants.{COUNT_LIMIT};
 ghost use Rattle.icap_head.specs.Fields.{field_list};
 ghost use Rattle.icap_head.specs.Heads.{response_parts};
-ghost use Rattle.options_book.specs.Options.{Stands, HasTag, AreNumbers, IsOptionsList, IsEncapsulated};
-ghost use Rattle.options_book.specs.Judged.{IsGood, judged_options};
+ghost use Rattle.options_book.specs.Options.{RefusesOptions, HasTag, AreNumbers, IsOptionsList, IsEncapsulated};
+ghost use Rattle.options_book.specs.Verified.{IsGood, judged_options};
 
 use crate::numbers::number;
 use crate::transfer::TransferLists;
@@ -29,15 +29,15 @@ pub(crate) struct Numbers {
 
 /// What a good response says, but for its lists.
 #[derive(Clone, Copy, Debug)]
-pub(crate) struct Judged<'a> {
+pub(crate) struct Verified<'a> {
     tag: &'a [u8],
     numbers: Numbers,
 }
 
 /// IsGood the response of a point's service.
-pub(crate) fn judge(response: &IcapResponse, point: Point) -> Result<Judged<'_>, OptFault>
+pub(crate) fn judge(response: &IcapResponse, point: Point) -> Result<Verified<'_>, OptFault>
     ensures ok { IfOk result (λ judged. IsGood point (response_parts response.now) judged.tag.now judged.numbers) }
-    ensures err { IfErr result (λ fault. Stands fault point (response_parts response.now)) }
+    ensures err { IfErr result (λ fault. RefusesOptions fault point (response_parts response.now)) }
 {
     let fields = &response.fields;
     if response.status != 200 {
@@ -55,7 +55,7 @@ pub(crate) fn judge(response: &IcapResponse, point: Point) -> Result<Judged<'_>,
     if !is_encapsulated(fields) {
         return Err(OptFault::Encapsulated);
     }
-    Ok(Judged { tag, numbers })
+    Ok(Verified { tag, numbers })
 }
 
 /// The service's tag, without its quotes.
@@ -113,7 +113,7 @@ fn is_options_list(list: &[u8]) -> bool
     read(Method::Options, Direction::Response, list).is_ok()
 }
 
-impl Judged<'_> {
+impl Verified<'_> {
     /// The record, with copies of the tag and the lists.
     pub(crate) fn record(
         self,

@@ -4,7 +4,7 @@ ghost use Rattle.std.specs.Prelude.{◌≡◌, ◌⊎◌, ℕ};
 ghost use Rattle.icap_head.specs.Heads.{Response, response_parts};
 ghost use Rattle.trace_core.specs.declared.history.Point.{Point};
 ghost use Rattle.options_book.specs.declared.faults.OptFault.{OptFault};
-ghost use Rattle.options_book.specs.Options.{Options, Says, Stands};
+ghost use Rattle.options_book.specs.Options.{Options, IsRecordOf, RefusesOptions};
 
 use crate::judged::judge;
 use icap_head::IcapResponse;
@@ -13,17 +13,17 @@ use trace_core::Point;
 /// A response is read in one way: it is one record at most, it has one fault at most, and not both.
 pub fn reads_one_way()
     ensures one_record { (point : Point) (moment : ℕ) (response : Response) (options others : Options)
-        → Says point moment response options → Says point moment response others → options ≡ others }
+        → IsRecordOf point moment response options → IsRecordOf point moment response others → options ≡ others }
     ensures one_fault { (fault other : OptFault) (point : Point) (response : Response)
-        → Stands fault point response → Stands other point response → fault ≡ other }
+        → RefusesOptions fault point response → RefusesOptions other point response → fault ≡ other }
     ensures not_both { (fault : OptFault) (point : Point) (moment : ℕ) (response : Response) (options : Options)
-        → Says point moment response options → Stands fault point response → ⊥ }
+        → IsRecordOf point moment response options → RefusesOptions fault point response → ⊥ }
 {}
 
 /// Each response has a reading: it is a record, or one of the faults stands.
 pub fn has_a_reading(response: &IcapResponse, point: Point)
-    ensures { (moment : ℕ) → ((options : Options) × Says point moment (response_parts response.now) options)
-        ⊎ ((fault : OptFault) × Stands fault point (response_parts response.now)) }
+    ensures { (moment : ℕ) → ((options : Options) × IsRecordOf point moment (response_parts response.now) options)
+        ⊎ ((fault : OptFault) × RefusesOptions fault point (response_parts response.now)) }
 {
     let _judged = judge(response, point);
 }

@@ -2,7 +2,7 @@
 
 ghost use Rattle.std.specs.Prelude.{◌≡◌, ◌⊎◌, IfOk, IfErr};
 ghost use Rattle.icap_head.specs.Heads.{response_parts};
-ghost use Rattle.options_book.specs.Options.{Says, Options, Stands};
+ghost use Rattle.options_book.specs.Options.{IsRecordOf, Options, RefusesOptions};
 
 use crate::judged::judge;
 use crate::{OptFault, Record};
@@ -19,12 +19,12 @@ pub fn read_record(
     point: Point,
     now: u64,
 ) -> Result<Record, OptFault>
-    ensures ok { IfOk result (Says point now (response_parts response.now)) }
+    ensures ok { IfOk result (IsRecordOf point now (response_parts response.now)) }
 
     // A fault is answered exactly where it stands; memory is wanted last, for what the response says.
-    ensures fault { (fault : OptFault) → Stands fault point (response_parts response.now) → result ≡ Err fault }
-    ensures only { IfErr result (λ fault. Stands fault point (response_parts response.now)
-        ⊎ ((fault ≡ OptFault.NoMemory) × ((options : Options) × Says point now (response_parts response.now) options))) }
+    ensures fault { (fault : OptFault) → RefusesOptions fault point (response_parts response.now) → result ≡ Err fault }
+    ensures only { IfErr result (λ fault. RefusesOptions fault point (response_parts response.now)
+        ⊎ ((fault ≡ OptFault.NoMemory) × ((options : Options) × IsRecordOf point now (response_parts response.now) options))) }
 {
     find_record(alloc, response, point, now)
 }
@@ -35,9 +35,9 @@ fn find_record(
     point: Point,
     now: u64,
 ) -> Result<Record, OptFault>
-    ensures ok { IfOk result (Says point now (response_parts response.now)) }
-    ensures only { IfErr result (λ fault. Stands fault point (response_parts response.now)
-        ⊎ ((fault ≡ OptFault.NoMemory) × ((options : Options) × Says point now (response_parts response.now) options))) }
+    ensures ok { IfOk result (IsRecordOf point now (response_parts response.now)) }
+    ensures only { IfErr result (λ fault. RefusesOptions fault point (response_parts response.now)
+        ⊎ ((fault ≡ OptFault.NoMemory) × ((options : Options) × IsRecordOf point now (response_parts response.now) options))) }
 {
     let judged = match judge(response, point) {
         Ok(judged) => judged,

@@ -43,7 +43,7 @@ abbrev pub retry_of : Members → Option Bool
 retry_of document = truth_or true (get_member (codes "retry") document)
 
 -- the document says these values; its hosts aside
-pub record Says (document : Members) (config : Config) : Type 0 where
+pub record IsConfig (document : Members) (config : Config) : Type 0 where
   pub listen : HasAddress (codes "listen") document config.listen
   pub admin : HasAddress (codes "admin") document config.admin
   pub shards : shards_of document ≡ Some config.shards

@@ -21,7 +21,7 @@ pub record IsServicePath (path : List ℕ) : Type 0 where
   pub spells : Spells path uri
 
 -- the table says this service
-pub record SaysService (table : Members) (service : ServicePoint) : Type 0 where
+pub record IsServicePoint (table : Members) (service : ServicePoint) : Type 0 where
   pub host : text_at (codes "host") table ≡ Some (string_bytes service.host)
   pub ip : IsIpv4Text (string_bytes service.host) (v4_ip service.address)
   pub port : number_or 1 65535 1344 (get_member (codes "port") table) ≡ Some (v4_port service.address)
@@ -33,4 +33,4 @@ pub record SaysService (table : Members) (service : ServicePoint) : Type 0 where
 abbrev pub IsServiceOf : List ℕ → Members → Option ServicePoint → Type 0
 IsServiceOf point document found = MatchOption found
     (get_member point document ≡ None)
-    (λ service. (table : Members) × (option_and_then as_table (get_member point document) ≡ Some table) × SaysService table service)
+    (λ service. (table : Members) × (option_and_then as_table (get_member point document) ≡ Some table) × IsServicePoint table service)

@@ -4,7 +4,7 @@ ghost use Rattle.std.specs.Prelude.{◌≡◌, ◌≤◌, IfOk, IfErr, Some, Non
 ghost use Rattle.toml.specs.Data.{Members};
 ghost use Rattle.toml.specs.View.{table_view};
 ghost use Rattle.toml.specs.Parse.{parse_document};
-ghost use Rattle.proxy_config.specs.Config.{Says, IsFirstFault, Refuses, number_at};
+ghost use Rattle.proxy_config.specs.Config.{IsConfig, IsFirstFault, Refuses, number_at};
 ghost use Rattle.proxy_config.specs.Fault.{IsFaultAt, Names};
 
 use crate::config::Config;
@@ -21,7 +21,7 @@ use toml::Table;
 /// `Text` goes before all of them. `NoMemory` where none was found for the configuration.
 pub fn read_config(alloc: Global, text: &[u8]) -> Result<Config, ConfigFault>
     ensures ok { IfOk result (λ config. (document : Members)
-        × (parse_document text.now ≡ Some document) × Says document config) }
+        × (parse_document text.now ≡ Some document) × IsConfig document config) }
     ensures err { IfErr result (Refuses text.now) }
 {
     let Ok(text) = str::from_utf8(text) else {
@@ -36,7 +36,7 @@ pub fn read_config(alloc: Global, text: &[u8]) -> Result<Config, ConfigFault>
 
 /// Reads a configuration out of its document.
 fn read_table(alloc: Global, table: &Table) -> Result<Config, ConfigFault>
-    ensures ok { IfOk result (Says (table_view table.now)) }
+    ensures ok { IfOk result (IsConfig (table_view table.now)) }
     ensures err { IfErr result (IsFirstFault (table_view table.now)) }
     ensures names { IfErr result Names }
 {

@@ -4,7 +4,7 @@ ghost use Rattle.std.specs.Prelude.{◌≡◌, ◌≤◌, IfOk, IfErr, IfSome, O
 ghost use Rattle.std.specs.Net.Grammar.{IsIpv4Text};
 ghost use Rattle.toml.specs.View.{table_view};
 ghost use Rattle.proxy_config.specs.Fault.{Names};
-ghost use Rattle.proxy_config.specs.Services.{text_at, IsServicePath, SaysService, IsServiceOf};
+ghost use Rattle.proxy_config.specs.Services.{text_at, IsServicePath, IsServicePoint, IsServiceOf};
 
 use crate::fault::{ConfigFault, at_key, needed};
 use crate::point::ServicePoint;
@@ -110,7 +110,7 @@ pub(crate) fn read_point(
 
 /// Reads the table of a service.
 fn read_service(alloc: Global, table: &Table, point: &str) -> Result<ServicePoint, ConfigFault>
-    ensures ok { IfOk result (SaysService (table_view table.now)) }
+    ensures ok { IfOk result (IsServicePoint (table_view table.now)) }
     ensures err { IfErr result Names }
 {
     let (ip, host) = of_point(alloc, point, "host", host(table))?;

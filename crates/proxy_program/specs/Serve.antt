@@ -3,7 +3,7 @@ use Rattle.std.specs.Prelude.{◌≡◌, ℕ, ◌≤◌, ◌<◌, List, [], ◌�
 use Rattle.adapt_bytes.specs.Numeral.{numeral}
 use Rattle.toml.specs.Data.{Members}
 use Rattle.toml.specs.Parse.{parse_document}
-use Rattle.proxy_config.specs.Config.{Says, Refuses}
+use Rattle.proxy_config.specs.Config.{IsConfig, Refuses}
 use Rattle.proxy_config.specs.declared.config.Config.{Config as Configuration}
 use Rattle.proxy_config.specs.declared.fault.ConfigFault.{ConfigFault}
 use Rattle.proxy_config.specs.declared.fault.ConfigFault.TheVariants.{Text as NoDocument, Key as AtKey, NoMemory as WithoutMemory}
@@ -27,7 +27,7 @@ pub record IsConfigured (text : List ℕ) (config : Configuration) : Type 0 wher
   pub short : length text ≤ 1048576
   pub document : Members
   pub is_document : parse_document text ≡ Some document
-  pub says : Says document config
+  pub says : IsConfig document config
 
 -- why a text is refused, its length first
 abbrev pub IsUnconfigured : List ℕ → ServeError → Type 0

@@ -1,8 +1,9 @@
 //! The head of a source's message, and the interim responses before it (RFC 9112, sections 2 to 5; RFC 9110, section 15.2).
 
 ghost use Rattle.std.specs.Prelude.{◌≡◌, ◌<◌, ◌≤◌, ◌⊎◌, [], length, drop, IfOk, IfErr, None, true, false, List, ℕ, IfSome, Some, Ok, Err};
-ghost use Rattle.http_relay.specs.Judging.{has_line, RefusesBytes, IsLooking, Judges, Scans};
-ghost use Rattle.http_relay.specs.Reading.{AtHead, HeadTurn, JudgedTo, ScannedTo};
+ghost use Rattle.adapt_bytes.specs.Text.{has_line};
+ghost use Rattle.http_relay.specs.Judging.{RefusesBytes, IsLooking, JudgesHead, Scans};
+ghost use Rattle.http_relay.specs.Reading.{AtHead, HeadTurn, JudgesHeadTo, ScannedTo};
 
 use crate::fill::{Filled, MAX_RAW, fill};
 use crate::pieces::behind;
@@ -52,11 +53,11 @@ impl SourceSide {
         self.raw.len() >= MAX_RAW || self.unjudged().contains(&b'\n')
     }
 
-    /// Judges the raw bytes.
+    /// JudgesHead the raw bytes.
     fn judge(&mut self) -> Result<Judged, RelayFault>
         requires { self.old.head ≡ SourceHead.Unread }
-        ensures heads { (read : List ℕ) → AtHead read self.old → JudgedTo result read self.new }
-        ensures judged { IsLooking self.old → Judges result self.new }
+        ensures heads { (read : List ℕ) → AtHead read self.old → JudgesHeadTo result read self.new }
+        ensures judged { IsLooking self.old → JudgesHead result self.new }
         ensures short { IfOk result (λ judged. judged ≡ Judged.More → length self.new.raw.items < 16384) }
         ensures shrinks { IfOk result (λ judged. judged ≡ Judged.Interim → length self.new.raw.items < length self.old.raw.items) }
         ensures unread { IfOk result (λ judged. (judged ≡ Judged.Taken → ⊥) → self.new.head ≡ SourceHead.Unread) }
@@ -75,8 +76,8 @@ impl SourceSide {
     fn judge_request(&mut self) -> Result<Judged, RelayFault>
         requires unread { self.old.head ≡ SourceHead.Unread }
         requires asks { self.old.asks ≡ Asks.Request }
-        ensures heads { (read : List ℕ) → AtHead read self.old → JudgedTo result read self.new }
-        ensures judged { IsLooking self.old → Judges result self.new }
+        ensures heads { (read : List ℕ) → AtHead read self.old → JudgesHeadTo result read self.new }
+        ensures judged { IsLooking self.old → JudgesHead result self.new }
         ensures short { IfOk result (λ judged. judged ≡ Judged.More → length self.new.raw.items < 16384) }
         ensures unread { IfOk result (λ judged. (judged ≡ Judged.Taken → ⊥) → self.new.head ≡ SourceHead.Unread) }
         ensures never { IfOk result (λ judged. judged ≡ Judged.Interim → ⊥) }
@@ -98,8 +99,8 @@ impl SourceSide {
     fn judge_response(&mut self, to_head: bool) -> Result<Judged, RelayFault>
         requires unread { self.old.head ≡ SourceHead.Unread }
         requires asks { self.old.asks ≡ Asks.Response to_head }
-        ensures heads { (read : List ℕ) → AtHead read self.old → JudgedTo result read self.new }
-        ensures judged { IsLooking self.old → Judges result self.new }
+        ensures heads { (read : List ℕ) → AtHead read self.old → JudgesHeadTo result read self.new }
+        ensures judged { IsLooking self.old → JudgesHead result self.new }
         ensures short { IfOk result (λ judged. judged ≡ Judged.More → length self.new.raw.items < 16384) }
         ensures shrinks { IfOk result (λ judged. judged ≡ Judged.Interim → length self.new.raw.items < length self.old.raw.items) }
         ensures unread { IfOk result (λ judged. (judged ≡ Judged.Taken → ⊥) → self.new.head ≡ SourceHead.Unread) }
@@ -129,7 +130,7 @@ impl SourceSide {
     fn refuse(&mut self, fault: HttpFault) -> Result<Judged, RelayFault>
         requires unread { self.old.head ≡ SourceHead.Unread }
         requires cause { RefusesBytes self.old.asks self.old.raw.items fault }
-        ensures judged { IsLooking self.old → Judges result self.new }
+        ensures judged { IsLooking self.old → JudgesHead result self.new }
         ensures more { IfOk result (λ judged. (judged ≡ Judged.More) × (length self.new.raw.items < 16384)) }
         ensures asks { self.new.asks ≡ self.old.asks }
         ensures raw { self.new.raw.items ≡ self.old.raw.items }
@@ -153,7 +154,7 @@ impl SourceSide {
         }
     }
 
-    /// Judges the raw bytes, and drops interim responses.
+    /// JudgesHead the raw bytes, and drops interim responses.
     fn scan(&mut self) -> Result<bool, RelayFault>
         requires { self.old.head ≡ SourceHead.Unread }
         ensures heads { (read : List ℕ) → AtHead read self.old → ScannedTo result read self.new }
@@ -173,7 +174,7 @@ impl SourceSide {
         }
     }
 
-    /// Judges the raw bytes, and reads the wire once where no head is there.
+    /// JudgesHead the raw bytes, and reads the wire once where no head is there.
     fn scan_or_read<W: Wire>(&mut self, wire: &mut W) -> Result<bool, RelayFault>
         requires { self.old.head ≡ SourceHead.Unread }
         ensures turn { HeadTurn self.old self.new (W.past wire.old) (W.past wire.new) result }

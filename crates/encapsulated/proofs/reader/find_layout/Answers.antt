@@ -6,13 +6,13 @@ use Rattle.encapsulated.specs.declared.fault.EncFault.{EncFault}
 use Rattle.encapsulated.specs.declared.fault.EncFault.TheVariants.{Syntax, Name, Order, NoBodyPart, Offset}
 use Rattle.encapsulated.specs.Rows.{allowed, IsFront}
 use Rattle.encapsulated.specs.Grammar.{AreParts}
-use Rattle.encapsulated.specs.Faults.{Stands}
+use Rattle.encapsulated.specs.Faults.{RefusesList}
 use Rattle.encapsulated.specs.Layouts.{names, parts_of}
 use Rattle.encapsulated.specs.Order.{Unread, any_front, seen_parts}
 use Rattle.encapsulated.proofs.RowLemmas.{no_front, any_front-sound, whole_layout, no_body}
 use Rattle.encapsulated.proofs.reader.find_layout.Goals as goal
 
-unread : (m : Method) (d : Direction) (text : List ℕ) (f : EncFault) → Unread f text → Stands f m d text
+unread : (m : Method) (d : Direction) (text : List ℕ) (f : EncFault) → Unread f text → RefusesList f m d text
 unread m d text Syntax h = h
 unread m d text Name h = h
 unread m d text Order h = (h.0, h.1, no_front m d (names h.0) h.2)

@@ -1,5 +1,5 @@
 use Rattle.std.proofs.Common.{◌≡◌, drop}
-use Rattle.icap_client.specs.HeadFront.{has_line}
+use Rattle.adapt_bytes.specs.Text.{has_line}
 use Rattle.icap_client.proofs.kept.has_line.Given as goal
 
 abbrev pub invariant-loop-byte : goal.invariant-loop-byte

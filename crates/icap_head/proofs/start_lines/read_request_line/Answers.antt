@@ -1,13 +1,13 @@
 use Rattle.std.proofs.Common.{◌≡◌, ◌≢◌, ℕ, List, rules, IsTrue, false, subst, sym, codes, refl, ◌∙◌, inl, inr}
 use Rattle.adapt_bytes.specs.Text.{IsToken}
-use Rattle.icap_head.specs.StartLines.{IsVersion, IsIcapUri, IsRequestLine, RequestForm, LineStands}
+use Rattle.icap_head.specs.StartLines.{IsVersion, IsIcapUri, IsRequestLine, RequestForm, RefusesStartLine}
 use Rattle.icap_head.specs.declared.reading.HeadFault.TheVariants.{StartLine}
 use Rattle.icap_head.proofs.Words.{no_first, no_second, all_words, line_from, words_joined}
 use Rattle.std.proofs.lemmas.Result.{err_from_is_err_and}
 use Rattle.icap_head.proofs.Lacking.{false_true}
 use Rattle.icap_head.proofs.start_lines.read_request_line.Goals as goal
 
-no_form : (line : List ℕ) → ((m u v : List ℕ) → IsRequestLine line m u v → ⊥) → LineStands RequestForm StartLine line
+no_form : (line : List ℕ) → ((m u v : List ℕ) → IsRequestLine line m u v → ⊥) → RefusesStartLine RequestForm StartLine line
 no_form line none = inl (refl, λ v form. none form.0 form.1 v form.2)
 
 pub returns-in_default-clause-err : goal.returns-in_default-clause-err

@@ -1,11 +1,11 @@
 use Rattle.std.proofs.Common.{ℕ, List, inl, IsTrue, false, subst, sym, refl}
-use Rattle.icap_head.specs.StartLines.{IsVersion, IsStatus, IsStatusLine, StatusForm, LineStands}
+use Rattle.icap_head.specs.StartLines.{IsVersion, IsStatus, IsStatusLine, StatusForm, RefusesStartLine}
 use Rattle.icap_head.specs.declared.reading.HeadFault.TheVariants.{StartLine}
 use Rattle.icap_head.proofs.Lacking.{false_true}
 use Rattle.icap_head.proofs.Statuses.{status_words, no_status_word}
 use Rattle.icap_head.proofs.start_lines.read_status_line.Goals as goal
 
-no_form : (line : List ℕ) → ((n : ℕ) (p v : List ℕ) → IsStatusLine line n p v → ⊥) → LineStands StatusForm StartLine line
+no_form : (line : List ℕ) → ((n : ℕ) (p v : List ℕ) → IsStatusLine line n p v → ⊥) → RefusesStartLine StatusForm StartLine line
 no_form line none = inl (refl, λ v form. none form.0 form.1 v form.2)
 
 pub returns-in_default-clause-err : goal.returns-in_default-clause-err

@@ -1,6 +1,6 @@
 use Rattle.std.proofs.Common.{inr, refl}
 use Rattle.icap_head.specs.Heads.{response_parts}
-use Rattle.options_book.specs.Judged.{judged_options}
+use Rattle.options_book.specs.Verified.{judged_options}
 use Rattle.options_book.proofs.reading.find_record.Goals as goal
 
 pub returns-in-Err-record-clause-only : goal.returns-in-Err-record-clause-only

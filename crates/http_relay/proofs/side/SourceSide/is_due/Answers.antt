@@ -1,5 +1,5 @@
 use Rattle.std.proofs.Common.{◌≡◌, true, List, ℕ, ap, sym, ◌∙◌, inr}
-use Rattle.http_relay.specs.Judging.{has_line}
+use Rattle.adapt_bytes.specs.Text.{has_line}
 use Rattle.http_relay.proofs.side.SourceSide.is_due.Goals as goal
 
 pub returns-else-len-ge-MAX_RAW-clause-due : goal.returns-else-len-ge-MAX_RAW-clause-due

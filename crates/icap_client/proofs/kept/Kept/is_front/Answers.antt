@@ -1,5 +1,6 @@
 use Rattle.std.proofs.Common.{rules, ◌≡◌, ◌<◌, length, drop, false, ℕ, List, ap, sym, subst, ◌∙◌}
-use Rattle.icap_client.specs.HeadFront.{Store, IsHeadFront, has_line}
+use Rattle.adapt_bytes.specs.Text.{has_line}
+use Rattle.icap_client.specs.HeadFront.{Store, IsHeadFront}
 use Rattle.icap_client.proofs.Judged.{is_false}
 use Rattle.icap_client.proofs.kept.Kept.is_front.Goals as goal
 

@@ -1,5 +1,5 @@
 use Rattle.std.proofs.Common.{rules, ◌≡◌, ◌≤◌, length, drop, ℕ, List, ap, sym, subst, arith, length-drop}
-use Rattle.icap_head.specs.Heads.{Stands}
+use Rattle.icap_head.specs.Heads.{RefusesIcapHead}
 use Rattle.icap_head.specs.StartLines.{StatusForm}
 use Rattle.icap_head.specs.declared.reading.HeadFault.TheVariants.{More}
 use Rattle.icap_client.specs.HeadFront.{IsJudged}
@@ -12,5 +12,5 @@ invariant_of-self c =
     let text : bytes ≡ drop c.args.used c.args.self.now.bytes = search rules in
     let rest : length bytes ≡ length (drop c.args.used c.self.inside.bytes.items) = ap (λ (t : List ℕ). length t) c.advance.ensures.items in
     let few : length bytes ≤ 16384 = omega (arith, rest, length-drop c.args.used c.self.inside.bytes.items, c.self.invariant.0) in
-    let front : Stands StatusForm More bytes = subst (λ (t : List ℕ). Stands StatusForm More t) (sym text) (c.requires.front c.if-judged.true) in
+    let front : RefusesIcapHead StatusForm More bytes = subst (λ (t : List ℕ). RefusesIcapHead StatusForm More t) (sym text) (c.requires.front c.if-judged.true) in
     (few, omega (arith, c.len-self-inside.ensures.value), subst (λ (n : ℕ). IsJudged n bytes) (sym c.len-self-inside.ensures.value) (all_judged bytes front))

@@ -1,5 +1,5 @@
 use Rattle.std.proofs.Common.{rules, ◌≡◌, ◌∙◌, sym, subst, refl, List, ℕ}
-use Rattle.icap_head.specs.Heads.{response_parts, HasResponse, Stands}
+use Rattle.icap_head.specs.Heads.{response_parts, HasResponse, RefusesIcapHead}
 use Rattle.icap_head.specs.StartLines.{StatusForm}
 use Rattle.icap_head.specs.declared.reading.HeadFault.{HeadFault}
 use Rattle.icap_head.specs.declared.reading.HeadFault.TheVariants.{More, NoMemory}
@@ -25,5 +25,5 @@ returns-clause-frames c =
 pub refuse_head-requires-clause-front : goal.refuse_head-requires-clause-front
 refuse_head-requires-clause-front c = λ more.
     let raw_is : c.as_slice.result.now ≡ c.args.self.now.raw = search rules in
-    subst (λ (t : List ℕ). Stands StatusForm More t) raw_is
-    (subst (λ (f : HeadFault). Stands StatusForm f c.as_slice.result.now) more (stands_for c.in-Err.fault c.as_slice.result.now (λ m. let odd : More ≡ NoMemory = sym more ∙ m in cc) c.in-Err.ensures.err))
+    subst (λ (t : List ℕ). RefusesIcapHead StatusForm More t) raw_is
+    (subst (λ (f : HeadFault). RefusesIcapHead StatusForm f c.as_slice.result.now) more (stands_for c.in-Err.fault c.as_slice.result.now (λ m. let odd : More ≡ NoMemory = sym more ∙ m in cc) c.in-Err.ensures.err))

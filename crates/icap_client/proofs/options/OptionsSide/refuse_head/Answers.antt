@@ -1,5 +1,5 @@
 use Rattle.std.proofs.Common.{◌≡◌, ◌∙◌, ap, sym, subst}
-use Rattle.icap_head.specs.Heads.{Stands}
+use Rattle.icap_head.specs.Heads.{RefusesIcapHead}
 use Rattle.icap_head.specs.StartLines.{StatusForm}
 use Rattle.icap_head.specs.declared.reading.HeadFault.TheVariants.{More}
 use Rattle.icap_client.specs.HeadFront.{IsHeadFront}
@@ -11,7 +11,7 @@ use Rattle.icap_client.proofs.options.OptionsSide.refuse_head.Goals as goal
 
 pub pass-requires-clause-front : goal.pass-requires-clause-front
 pass-requires-clause-front c = λ e.
-    subst (λ (s : Asker). Stands StatusForm More s.raw) (sym c.self.view_is) (c.requires.front c.in-None.ensures.none)
+    subst (λ (s : Asker). RefusesIcapHead StatusForm More s.raw) (sym c.self.view_is) (c.requires.front c.in-None.ensures.none)
 
 pub returns-in-None-clause-waits : goal.returns-in-None-clause-waits
 returns-in-None-clause-waits c =

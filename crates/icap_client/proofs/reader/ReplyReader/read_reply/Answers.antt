@@ -1,6 +1,6 @@
 use Rattle.std.proofs.Common.{rules, take, [], ◌≡◌, subst}
 use Rattle.trace_core.specs.History.{seen}
-use Rattle.icap_head.specs.Heads.{response_parts, Stands}
+use Rattle.icap_head.specs.Heads.{response_parts, RefusesIcapHead}
 use Rattle.icap_head.specs.StartLines.{StatusForm}
 use Rattle.icap_head.specs.declared.reading.HeadFault.{HeadFault}
 use Rattle.icap_head.specs.declared.reading.HeadFault.TheVariants.{More}
@@ -8,19 +8,19 @@ use Rattle.icap_client.specs.Heard.{Reader, noted}
 use Rattle.icap_client.specs.Hearing.{Hears, Passes}
 use Rattle.icap_client.specs.Events.{listed}
 use Rattle.icap_client.specs.Said.{tag_in, says_close}
-use Rattle.icap_client.specs.Refused.{SaysNone}
+use Rattle.icap_client.specs.Refused.{SpellsNoReply}
 use Rattle.icap_client.proofs.Heads.{refuses_said, stands_for, passes_none, passes_noted, hears_noted, ok_map}
 use Rattle.icap_client.proofs.reader.ReplyReader.read_reply.Goals as goal
 
 pub returns-in-Ok-clause-refuses : goal.returns-in-Ok-clause-refuses
 returns-in-Ok-clause-refuses c =
     refuses_said c.in-Err-reply_of.fault (seen c.args.state.now.plan c.args.state.now.events) c.args.self.now.point c.args.raw.now (response_parts c.in-Ok.head.value) c.in-Ok.head.length
-    c.in-Ok.ensures.ok (subst (λ (r : Reader). SaysNone c.in-Err-reply_of.fault r.point (response_parts c.in-Ok.head.value)) c.self.view_is c.in-Err-reply_of.ensures.err)
+    c.in-Ok.ensures.ok (subst (λ (r : Reader). SpellsNoReply c.in-Err-reply_of.fault r.point (response_parts c.in-Ok.head.value)) c.self.view_is c.in-Err-reply_of.ensures.err)
 
 pub returns-clause-passes : goal.returns-clause-passes
 returns-clause-passes c = λ e.
     let more : c.in-Err.fault ≡ More = c.in-None.ensures.none in
-    passes_none c.args.self.now c.args.raw.now (subst (λ (f : HeadFault). Stands StatusForm f c.args.raw.now) more
+    passes_none c.args.self.now c.args.raw.now (subst (λ (f : HeadFault). RefusesIcapHead StatusForm f c.args.raw.now) more
     (stands_for c.in-Err.fault c.args.raw.now (λ m. cc) c.in-Err.ensures.err))
 
 pub returns-in-Ok-reply_of-clause-hears : goal.returns-in-Ok-reply_of-clause-hears
