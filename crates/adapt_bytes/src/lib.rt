@@ -12,6 +12,9 @@ mod text;
 
 pub use commas::{CommaItems, CommaParts, comma_items, comma_parts};
 pub use digits::{Small, put_decimal, put_hex, read_decimal, read_hex};
-pub use limits::{COUNT_LIMIT, MAX_CONNECTIONS};
+pub use limits::{
+    COUNT_LIMIT, MAX_ALLOW_LIMIT, MAX_CAPACITY, MAX_CONNECTIONS, MAX_FIELDS, MAX_HEAD, MAX_INPUT,
+    MAX_PREVIEW, MAX_ROWS, MAX_WINDOW,
+};
 pub use room::Room;
 pub use text::{is_blank, is_token, same_ascii, trim};

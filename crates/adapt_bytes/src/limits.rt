@@ -6,3 +6,28 @@ pub const COUNT_LIMIT: u64 = 1 << 62;
 /// The greatest Max-Connections (RFC 3507, section 4.10.2) that is used or said. Where a service allows more
 /// connections, this many are open at most.
 pub const MAX_CONNECTIONS: u64 = 1024;
+
+/// The bytes of a head that are judged, in HTTP and in ICAP: it has to end within them, its empty line included.
+pub const MAX_HEAD: usize = 16_384;
+
+/// The fields that a head may have, in HTTP and in ICAP.
+pub const MAX_FIELDS: usize = 100;
+
+/// The greatest preview (RFC 3507, section 4.5) that may be configured, in bytes: as the most that the proxy sends, or as
+/// what the ICAP server asks for.
+pub const MAX_PREVIEW: u64 = 65_536;
+
+/// The greatest limit on a body that is kept for a 204 outside a preview (RFC 3507, section 4.6), in bytes.
+pub const MAX_ALLOW_LIMIT: u64 = 1_048_576;
+
+/// The greatest read-ahead window, in bytes.
+pub const MAX_WINDOW: u64 = 65_536;
+
+/// The greatest text that a program takes, in bytes: a configuration, a script of events, chunks to read.
+pub const MAX_INPUT: usize = 1_048_576;
+
+/// The greatest capacity of a buffer budget, in bytes.
+pub const MAX_CAPACITY: u64 = 1 << 40;
+
+/// The most reservations that a buffer budget can have open.
+pub const MAX_ROWS: u64 = 4096;
