@@ -1,6 +1,7 @@
 -- The events that tell what was read of a body.
-use Rattle.std.proofs.Common.{◌≡◌, ℕ, zero, suc, ◌+◌, ◌^◌, ◌<◌, ◌≤◌, ◌⊎◌, inl, inr, Bool, true, false, List, [], ◌∷◌, ◌++◌, length, take, refl, ap, sym, subst, ◌∙◌, arith, length-append, Option, Some, None as Nothing, IfSome}
+use Rattle.std.proofs.Common.{◌≡◌, ℕ, zero, suc, ◌+◌, ◌<◌, ◌≤◌, ◌⊎◌, inl, inr, Bool, true, false, List, [], ◌∷◌, ◌++◌, length, take, refl, ap, sym, subst, ◌∙◌, arith, length-append, Option, Some, None as Nothing, IfSome}
 use Rattle.std.proofs.lemmas.List.{length-take-le}
+use Rattle.adapt_bytes.specs.declared.limits.TheConstants.{COUNT_LIMIT}
 use Rattle.http_side.specs.Body.{HasRead, IsBody, IsClosedBody, is_over}
 use Rattle.http_side.specs.declared.body.Framing.{Framing}
 use Rattle.http_side.specs.declared.body.Framing.TheVariants.{None, Length, Chunked, Close}
@@ -56,7 +57,7 @@ may_tell s zero false x f e a c = tt
 may_tell s (suc n) false x f e a c =
     let now : x.ended ≡ false = a.ended ∙ e in
     let some : 1 ≤ suc n = omega arith in
-    let sum : x.received + suc n < 2 ^ 62 = subst (λ (r : ℕ). r + suc n < 2 ^ 62) (sym a.received) f.sum in
+    let sum : x.received + suc n < COUNT_LIMIT = subst (λ (r : ℕ). r + suc n < COUNT_LIMIT) (sym a.received) f.sum in
     let len : IfSome x.plan.len (λ len. x.received + suc n ≤ len) =
     subst (λ (r : ℕ). IfSome x.plan.len (λ len. r + suc n ≤ len)) (sym a.received) (at_len x.plan.len (known s.framing) (λ len. s.received + suc n ≤ len) a.len f.len) in
     (c, (now, (some, sum), len), tt)
@@ -69,7 +70,7 @@ may_tell s zero true x f e a c =
 may_tell s (suc n) true x f e a c =
     let now : x.ended ≡ false = a.ended ∙ e in
     let some : 1 ≤ suc n = omega arith in
-    let sum : x.received + suc n < 2 ^ 62 = subst (λ (r : ℕ). r + suc n < 2 ^ 62) (sym a.received) f.sum in
+    let sum : x.received + suc n < COUNT_LIMIT = subst (λ (r : ℕ). r + suc n < COUNT_LIMIT) (sym a.received) f.sum in
     let len : IfSome x.plan.len (λ len. x.received + suc n ≤ len) =
     subst (λ (r : ℕ). IfSome x.plan.len (λ len. r + suc n ≤ len)) (sym a.received) (at_len x.plan.len (known s.framing) (λ len. s.received + suc n ≤ len) a.len f.len) in
     let at : IfSome (known s.framing) (λ len. suc n + s.received ≡ len) = if_more (known s.framing) (λ len. s.received + suc n ≡ len) (λ len. suc n + s.received ≡ len) (λ m h. omega (arith, h)) (f.end refl) in

@@ -1,7 +1,8 @@
 -- Which bodies have more bytes than may be told.
-use Rattle.std.proofs.Common.{◌≡◌, ℕ, ◌+◌, ◌^◌, ◌<◌, ◌≤◌, Bool, true, false, List, [], ◌++◌, length, take, refl, ap, sym, subst, ◌∙◌, arith, length-append, append-nil, Option, Some, None as Nothing, IfSome, IsTrue, ◌↔◌}
+use Rattle.std.proofs.Common.{◌≡◌, ℕ, ◌+◌, ◌<◌, ◌≤◌, Bool, true, false, List, [], ◌++◌, length, take, refl, ap, sym, subst, ◌∙◌, arith, length-append, append-nil, Option, Some, None as Nothing, IfSome, IsTrue, ◌↔◌}
 use Rattle.std.proofs.lemmas.List.{length-take-le}
 use Rattle.std.proofs.Math.Nat.{lt_of_not-le}
+use Rattle.adapt_bytes.specs.declared.limits.TheConstants.{COUNT_LIMIT}
 use Rattle.http_side.specs.Body.{HasRead, IsBody, IsClosedBody, is_over}
 use Rattle.http_side.specs.declared.body.Framing.{Framing}
 use Rattle.http_side.specs.declared.body.Framing.TheVariants.{None, Length, Chunked, Close}
@@ -33,12 +34,12 @@ closed_is (Length n) text body h = whole_is (Length n) text body h
 closed_is Chunked text body h = tt
 closed_is Close text body h = tt
 
--- what doesn't fit, although it is within the length, has 2^62 bytes or more
+-- what doesn't fit, although it is within the length, is too long to count
 passes : (s : SourceBody) (n : ℕ) (ended : Bool) → IfSome (known s.framing) (λ len. s.received + n ≤ len) → (ended ≡ true → IfSome (known s.framing) (λ len. s.received + n ≡ len))
-    → (Fits s n ended → ⊥) → (2 ^ 62 ≤ s.received + n) × IfSome (known s.framing) (λ len. 2 ^ 62 ≤ len)
+    → (Fits s n ended → ⊥) → (COUNT_LIMIT ≤ s.received + n) × IfSome (known s.framing) (λ len. COUNT_LIMIT ≤ len)
 passes s n ended within at not =
-    let long : 2 ^ 62 < s.received + n + 1 = lt_of_not-le (λ l. not (record { sum = omega (arith, l); len = within; end = at })) in
-    (omega (arith, long), if_more (known s.framing) (λ len. s.received + n ≤ len) (λ len. 2 ^ 62 ≤ len) (λ len h. omega (arith, long, h)) within)
+    let long : COUNT_LIMIT < s.received + n + 1 = lt_of_not-le (λ l. not (record { sum = omega (arith, l); len = within; end = at })) in
+    (omega (arith, long), if_more (known s.framing) (λ len. s.received + n ≤ len) (λ len. COUNT_LIMIT ≤ len) (λ len h. omega (arith, long, h)) within)
 
 pub too_long : (s : SourceBody) (raw out : List ℕ) (used n : ℕ) (ended : Bool) (new : BodyReader) → ReadsOn s.reader raw used (take n out) new → n ≤ length out → n ≤ length raw → ended ≡ is_over new
     → (Fits s n ended → ⊥) → Refuses faults.Length s raw

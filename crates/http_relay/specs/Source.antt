@@ -1,5 +1,6 @@
 -- A source's body, as far as it was read.
-use Rattle.std.specs.Prelude.{◌≡◌, ℕ, ◌+◌, ◌^◌, ◌<◌, ◌≤◌, ◌⊎◌, Bool, true, false, List, [], ◌∷◌, ◌++◌, length, take, Option, Some, None as Nothing, IfSome}
+use Rattle.std.specs.Prelude.{◌≡◌, ℕ, ◌+◌, ◌<◌, ◌≤◌, ◌⊎◌, Bool, true, false, List, [], ◌∷◌, ◌++◌, length, take, Option, Some, None as Nothing, IfSome}
+use Rattle.adapt_bytes.specs.declared.limits.TheConstants.{COUNT_LIMIT}
 use Rattle.icap_chunks.specs.declared.fault.ChunkFault.{ChunkFault}
 use Rattle.http_side.specs.Body.{HasRead, IsClosedBody}
 use Rattle.http_side.specs.declared.body.Framing.{Framing}
@@ -21,7 +22,7 @@ known Close = Nothing
 
 -- so many more bytes of the body may be told, and then its end
 pub record Fits (s : SourceBody) (count : ℕ) (ended : Bool) : Type 0 where
-  pub sum : s.received + count < 2 ^ 62
+  pub sum : s.received + count < COUNT_LIMIT
   pub len : IfSome (known s.framing) (λ len. s.received + count ≤ len)
   pub end : ended ≡ true → IfSome (known s.framing) (λ len. s.received + count ≡ len)
 
@@ -53,9 +54,9 @@ MustWait s raw room = (s.ended ≡ true) ⊎ ((raw ≡ []) ⊎ ((room ≡ 0) × 
 abbrev pub IsCutShort : SourceBody → Type 0
 IsCutShort s = (way : Framing) (text body : List ℕ) → HasRead way text body s.reader → IsClosedBody way text body → ⊥
 
--- Why bytes of a body are refused. For its length only where there may be 2^62 of them, which no Content-Length allows.
+-- Why bytes of a body are refused. For its length only where there may be too many to count, which no Content-Length allows.
 abbrev pub Refuses : RelayFault → SourceBody → List ℕ → Type 0
 Refuses faults.Chunk s raw = (fault : ChunkFault) × IsBroken s.reader raw fault
 Refuses faults.Length s raw = (x : Seen) (body text : List ℕ) → Agrees x s → BodyRead x body text s
-    → (2 ^ 62 ≤ s.received + length raw) × IfSome (known s.framing) (λ len. 2 ^ 62 ≤ len)
+    → (COUNT_LIMIT ≤ s.received + length raw) × IfSome (known s.framing) (λ len. COUNT_LIMIT ≤ len)
 Refuses _ s raw = ⊥

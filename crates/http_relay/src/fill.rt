@@ -1,6 +1,6 @@
 //! One read of a wire, behind the bytes that are kept.
 
-ghost use Rattle.std.specs.Prelude.{◌<◌, ◌≤◌, length};
+ghost use Rattle.std.specs.Prelude.{◌+◌, ◌<◌, ◌≤◌, length};
 ghost use Rattle.http_relay.specs.Reading.{IsFilled};
 
 use bytes::BytesMut;
@@ -32,6 +32,7 @@ pub(crate) fn fill<W: Wire>(raw: &mut BytesMut, wire: &mut W) -> Filled
     requires { length raw.old.items < 16384 }
     ensures filled { IsFilled (W.past wire.old) (W.past wire.new) raw.old.items raw.new.items result }
     ensures fits { length raw.new.items ≤ 16384 }
+    ensures few { length raw.new.items ≤ length raw.old.items + 4096 }
 {
     let most = (MAX_RAW - raw.len()).min(MAX_READ);
     if raw.reserve(most).is_err() {

@@ -15,11 +15,17 @@ ghost use Rattle.http_side.specs.Responses.{IsResponseRead};
 ghost use Rattle.http_relay.specs.declared.side.SourceSide.{SourceSide};
 ghost use Rattle.http_relay.specs.declared.side.Asks.TheVariants as asks;
 ghost use Rattle.http_relay.specs.Judging.{HasNoHead};
+ghost use Rattle.http_relay.specs.Reading.{Begins, SideRead};
 ghost use Rattle.http_relay.specs.declared.hop.Stage.TheVariants as at;
 ghost use Rattle.trace_core.specs.Turns.{is_of_hop};
 ghost use Rattle.http_relay.specs.Message.{IsFrontOfMessage, IsMessage, length_of};
 ghost use Rattle.adapt_sides.specs.Tapes.{chosen_delivered, chosen_received};
 ghost use Rattle.http_relay.specs.Giving.{Hop, HasGiven, IsAside, IsUndelivered};
+
+/// Where a turn at the head answers that it was read, a message of each plan begins there: nothing of its body was told yet.
+pub fn a_message_begins()
+    ensures { (plan : Plan) (read : List ℕ) (s : SourceSide) → Begins read s → SideRead (seen plan []) [] read s }
+{}
 
 /// What the next hop took is a front of one message with the head that was begun, whose body begins with what came of it;
 /// where the framing gives a length, as long as no more came, and else with what went out. Once the message's end is fixed

@@ -1,6 +1,6 @@
 //! The source's side: a message's head, and its body, over a wire.
 
-ghost use Rattle.std.specs.Prelude.{◌≡◌, ◌≤◌, [], length, take, IfOk, IfErr, OnErr, None, true, false, List, ℕ, ◌↔◌, IsTrue, option_copied};
+ghost use Rattle.std.specs.Prelude.{◌≡◌, ◌<◌, ◌≤◌, [], length, take, IfOk, IfErr, OnErr, None, true, false, List, ℕ, ◌↔◌, IsTrue, option_copied};
 ghost use Rattle.trace_core.specs.History.{seen};
 ghost use Rattle.trace_core.specs.Turns.{in_sum};
 ghost use Rattle.http_relay.specs.Source.{Agrees, MustWait, Refuses};
@@ -58,6 +58,7 @@ impl SourceSide {
         ensures waits { IfOk result (λ events. events.items ≡ [] → MustWait self.new.body self.new.raw.items (length out.old)) }
         ensures refuses { IfErr result (λ fault. Refuses fault self.old.body self.old.raw.items) }
         ensures err { OnErr result (self.new ≡ self.old) }
+        ensures kept { length self.new.raw.items ≤ length self.old.raw.items }
         ensures fault { self.new.fault ≡ self.old.fault }
         ensures head { self.new.head ≡ self.old.head }
     {
@@ -75,6 +76,7 @@ impl SourceSide {
         requires empty { self.old.raw.items ≡ [] }
         requires going_on { self.old.body.ended ≡ false }
         ensures turn { ReadTurn (length out.old) self.old self.new (W.past wire.old) (W.past wire.new) out.new result }
+        ensures kept { length self.new.raw.items ≤ 4096 }
         ensures fault { self.new.fault ≡ self.old.fault }
         ensures head { self.new.head ≡ self.old.head }
     {
@@ -105,6 +107,7 @@ impl SourceSide {
     /// Frames the raw bytes, and reads the wire once where nothing of them can be framed and there is room.
     fn frame_or_read<W: Wire>(&mut self, wire: &mut W, out: &mut [u8]) -> Result<Turn, RelayFault>
         ensures turn { ReadTurn (length out.old) self.old self.new (W.past wire.old) (W.past wire.new) out.new result }
+        ensures kept { length self.old.raw.items < length self.new.raw.items → length self.new.raw.items ≤ 4096 }
         ensures fault { self.new.fault ≡ self.old.fault }
         ensures head { self.new.head ≡ self.old.head }
     {
@@ -130,6 +133,7 @@ impl SourceSide {
     /// The same, and keeps no empty room.
     fn try_turn<W: Wire>(&mut self, wire: &mut W, out: &mut [u8]) -> Result<Turn, RelayFault>
         ensures turn { ReadTurn (length out.old) self.old self.new (W.past wire.old) (W.past wire.new) out.new result }
+        ensures kept { length self.old.raw.items < length self.new.raw.items → length self.new.raw.items ≤ 4096 }
         ensures fault { self.new.fault ≡ self.old.fault }
         ensures head { self.new.head ≡ self.old.head }
         ensures empty { self.new.raw.items ≡ [] → self.new.raw.spare ≡ 0 }
@@ -149,7 +153,8 @@ impl SourceSide {
         ensures turn { self.old.fault ≡ None → ReadTurn (length out.old) self.old self.new (W.past wire.old) (W.past wire.new) out.new result }
         ensures head { self.new.head ≡ self.old.head }
 
-        // No empty room is kept.
+        // Raw bytes that are kept behind a turn are those of before, or of one read; no empty room is kept.
+        ensures kept { length self.old.raw.items < length self.new.raw.items → length self.new.raw.items ≤ 4096 }
         ensures empty { self.old.fault ≡ None → self.new.raw.items ≡ [] → self.new.raw.spare ≡ 0 }
     {
         if let Some(fault) = self.fault {

@@ -7,13 +7,11 @@ ghost use Rattle.http_relay.specs.Events.{body_events};
 ghost use Rattle.http_relay.specs.Source.{Agrees, Fits, BodyReads, IsCutShort, MustWait, Refuses, known};
 
 use crate::body::read_body;
+use adapt_bytes::COUNT_LIMIT;
 use adapt_sides::RelayFault;
 use arrayvec::ArrayVec;
 use http_side::{BodyReader, Framing};
 use trace_core::{Event, Seen};
-
-/// The most body bytes that a message may have.
-const MAX_COUNT: u64 = (1 << 62) - 1;
 
 /// What was framed of the bytes that were offered: so many from the front, and what they tell.
 #[derive(Drop)]
@@ -102,7 +100,7 @@ impl SourceBody {
     fn fits(&self, count: u64, ended: bool) -> bool
         ensures { IsTrue result ↔ Fits self.now count ended }
     {
-        if self.received > MAX_COUNT || count > MAX_COUNT - self.received {
+        if self.received >= COUNT_LIMIT || count >= COUNT_LIMIT - self.received {
             return false;
         }
         let sum = self.received + count;

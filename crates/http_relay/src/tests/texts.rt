@@ -4,7 +4,9 @@ use super::exchange::{Case, End, Input, Passed};
 use super::scenes::{Scene, play};
 use crate::RelayFault;
 use http_side::HttpFault;
+use std::alloc::Global;
 use std::process::Abort;
+use std::sync::Wait;
 use std::test::Fail;
 use wire_kit::{ReadAnswer, WriteAnswer};
 
@@ -44,15 +46,46 @@ pub(super) fn ends_so(rt: &impl Abort, found: Option<Passed>, end: End) {
 /// A name, the user's request, the origin's bytes, and what the user gets.
 type Answered<'a> = (&'a str, &'a [u8], &'a [u8], &'a [u8]);
 
+/// That the user gets each of these answers as it is wanted, whole.
+fn are_answered<R: Wait + Abort>(
+    rt: &R,
+    alloc: Global,
+    cases: &[Answered<'_>],
+) -> Result<(), Fail> {
+    for (name, user, answer, want) in cases {
+        let case = Case {
+            input: Input::Answers(user, answer),
+            reads: AT_ONCE,
+            writes: TAKES_ALL,
+        };
+        let found = play(rt, alloc, Scene::Pass(case, 1))?;
+        is_passed(rt, found, want, End::Done, name);
+    }
+    Ok(())
+}
+
 #[test]
-fn answers_to_the_user(rt: HostRuntime) -> Result<(), Fail> {
-    let cases: [Answered<'_>; 8] = [
+fn answers_with_a_length(rt: HostRuntime) -> Result<(), Fail> {
+    let cases: [Answered<'_>; 2] = [
         (
             "a length",
             GET,
             b"HTTP/1.1 200 OK\r\nContent-Length: 6\r\n\r\nABCDEF",
             b"HTTP/1.1 200 OK\r\nContent-Length: 6\r\nVia: 1.1 adaptproxy\r\n\r\nABCDEF",
         ),
+        (
+            "behind interim answers",
+            GET,
+            b"HTTP/1.1 100 Continue\r\n\r\nHTTP/1.1 103 Early Hints\r\nLink: a\r\n\r\nHTTP/1.1 200 OK\r\nContent-Length: 6\r\n\r\nABCDEF",
+            b"HTTP/1.1 200 OK\r\nContent-Length: 6\r\nVia: 1.1 adaptproxy\r\n\r\nABCDEF",
+        ),
+    ];
+    are_answered(&rt, rt.alloc(), &cases)
+}
+
+#[test]
+fn answers_without_a_body(rt: HostRuntime) -> Result<(), Fail> {
+    let cases: [Answered<'_>; 3] = [
         (
             "to HEAD",
             HEAD,
@@ -71,6 +104,13 @@ fn answers_to_the_user(rt: HostRuntime) -> Result<(), Fail> {
             b"HTTP/1.1 304 Not Modified\r\nContent-Length: 6\r\n\r\nABCDEF",
             b"HTTP/1.1 304 Not Modified\r\nContent-Length: 6\r\nVia: 1.1 adaptproxy\r\n\r\n",
         ),
+    ];
+    are_answered(&rt, rt.alloc(), &cases)
+}
+
+#[test]
+fn answers_without_a_length(rt: HostRuntime) -> Result<(), Fail> {
+    let cases: [Answered<'_>; 3] = [
         (
             "up to the close",
             GET,
@@ -89,23 +129,8 @@ fn answers_to_the_user(rt: HostRuntime) -> Result<(), Fail> {
             b"HTTP/1.1 200 OK\r\nTransfer-Encoding: chunked\r\n\r\n3\r\nABC\r\n3;x=y\r\nDEF\r\n0\r\nA: b\r\n\r\n",
             b"HTTP/1.1 200 OK\r\nConnection: close\r\nVia: 1.1 adaptproxy\r\n\r\nABCDEF",
         ),
-        (
-            "behind interim answers",
-            GET,
-            b"HTTP/1.1 100 Continue\r\n\r\nHTTP/1.1 103 Early Hints\r\nLink: a\r\n\r\nHTTP/1.1 200 OK\r\nContent-Length: 6\r\n\r\nABCDEF",
-            b"HTTP/1.1 200 OK\r\nContent-Length: 6\r\nVia: 1.1 adaptproxy\r\n\r\nABCDEF",
-        ),
     ];
-    for (name, user, answer, want) in cases {
-        let case = Case {
-            input: Input::Answers(user, answer),
-            reads: AT_ONCE,
-            writes: TAKES_ALL,
-        };
-        let found = play(&rt, rt.alloc(), Scene::Pass(case, 1))?;
-        is_passed(&rt, found, want, End::Done, name);
-    }
-    Ok(())
+    are_answered(&rt, rt.alloc(), &cases)
 }
 
 /// A name, the user's bytes, how many requests they are, and what the origin gets.
@@ -151,12 +176,29 @@ fn requests_to_the_origin(rt: HostRuntime) -> Result<(), Fail> {
     Ok(())
 }
 
-/// A name, the user's request, the origin's bytes, how that ends, and the fault of its head.
+/// A name, the origin's bytes, how the message ends, and the fault of its head.
 type Refused<'a> = (&'a str, &'a [u8], RelayFault, Option<HttpFault>);
 
+/// That the source's side refuses each of these answers so, and the user gets nothing.
+fn are_refused<R: Wait + Abort>(rt: &R, alloc: Global, cases: &[Refused<'_>]) -> Result<(), Fail> {
+    for (name, answer, fault, why) in cases {
+        let case = Case {
+            input: Input::Answers(GET, answer),
+            reads: AT_ONCE,
+            writes: &[],
+        };
+        let found = play(rt, alloc, Scene::Pass(case, 1))?;
+        if let Some(passed) = &found {
+            assert_eq!(rt; passed.why, *why, "{name}");
+        }
+        is_passed(rt, found, b"", End::Source(*fault), name);
+    }
+    Ok(())
+}
+
 #[test]
-fn refused_answers(rt: HostRuntime) -> Result<(), Fail> {
-    let cases: [Refused<'_>; 5] = [
+fn refused_heads(rt: HostRuntime) -> Result<(), Fail> {
+    let cases: [Refused<'_>; 3] = [
         (
             "another protocol",
             b"HTTP/1.1 101 Switching Protocols\r\n\r\n",
@@ -175,6 +217,13 @@ fn refused_answers(rt: HostRuntime) -> Result<(), Fail> {
             RelayFault::Head,
             Some(HttpFault::Bad),
         ),
+    ];
+    are_refused(&rt, rt.alloc(), &cases)
+}
+
+#[test]
+fn broken_answers(rt: HostRuntime) -> Result<(), Fail> {
+    let cases: [Refused<'_>; 2] = [
         (
             "a head behind an interim answer that isn't whole",
             b"HTTP/1.1 100 Continue\r\n\r\nHTTP/1.1 200 OK\r\n",
@@ -188,18 +237,5 @@ fn refused_answers(rt: HostRuntime) -> Result<(), Fail> {
             None,
         ),
     ];
-    for (name, answer, fault, why) in cases {
-        let case = Case {
-            input: Input::Answers(GET, answer),
-            reads: AT_ONCE,
-            writes: &[],
-        };
-        let found = play(&rt, rt.alloc(), Scene::Pass(case, 1))?;
-        match &found {
-            Some(passed) => assert_eq!(rt; passed.why, why, "{name}"),
-            None => {}
-        }
-        is_passed(&rt, found, b"", End::Source(fault), name);
-    }
-    Ok(())
+    are_refused(&rt, rt.alloc(), &cases)
 }

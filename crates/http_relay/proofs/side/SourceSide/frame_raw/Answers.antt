@@ -1,4 +1,4 @@
-use Rattle.std.proofs.Common.{◌≡◌, List, ℕ, [], take, refl, sym, ap, subst, ◌∙◌}
+use Rattle.std.proofs.Common.{◌≡◌, List, ℕ, [], take, length, length-drop, refl, sym, ap, subst, ◌∙◌, arith}
 use Rattle.trace_core.specs.Turns.{in_sum}
 use Rattle.http_relay.specs.Source.{BodyReads}
 use Rattle.http_relay.specs.declared.side.SourceSide.{SourceSide}
@@ -12,3 +12,6 @@ returns-in-Ok-clause-reads c =
     (record { asks = refl; head = refl; way = c.in-Ok.ensures.framing })
     (subst (λ (t : List ℕ). BodyReads c.args.self.now.body c.frame.new.self c.in-Ok.framed.events.items (take c.in-Ok.framed.used t) (take (in_sum c.in-Ok.framed.events.items) c.frame.new.out)) c.as_slice.ensures c.in-Ok.ensures.reads)
     c.advance.ensures.items
+
+pub returns-in-Ok-clause-kept : goal.returns-in-Ok-clause-kept
+returns-in-Ok-clause-kept c = omega (arith, ap length c.advance.ensures.items, length-drop c.in-Ok.framed.used c.args.self.now.raw.items)
