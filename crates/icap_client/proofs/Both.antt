@@ -1,26 +1,30 @@
 -- Both halves' turns, as a transaction calls them.
 use Rattle.std.proofs.Common.{◌≡◌, ℕ, ◌+◌, ◌<◌, ◌≤◌, ◌⊎◌, inl, inr, Bool, true, false, List, [], ◌++◌, length, take, refl, ap, sym, subst, ◌∙◌, append-nil, arith, Option, Some, None, IfSome, IfErr, Result, Ok, Err}
 use Rattle.std.proofs.lemmas.List.{length-take-le}
+use Rattle.std.proofs.Math.Seq.{take-length}
 use Rattle.trace_core.specs.declared.history.Event.{Event}
 use Rattle.trace_core.specs.declared.history.Seen.{Seen}
 use Rattle.span_tape.specs.Tape.{Tape}
 use Rattle.wire_kit.specs.Past.{Past, FitsPut, after_offer, delta_of}
+use Rattle.wire_kit.specs.declared.wire.Got.{Got}
+use Rattle.wire_kit.specs.declared.wire.Got.TheVariants as got
 use Rattle.wire_kit.specs.declared.wire.Put.{Put}
 use Rattle.wire_kit.specs.declared.wire.Put.TheVariants as put
 use Rattle.chunk_writer.specs.Writer.{Writer}
 use Rattle.adapt_sides.specs.declared.turn.Turn.{Turn}
 use Rattle.adapt_sides.specs.declared.fault.ClientFault.{ClientFault}
-use Rattle.adapt_sides.specs.declared.fault.ClientFault.TheVariants.{Device}
+use Rattle.adapt_sides.specs.declared.fault.ClientFault.TheVariants.{Closed, Device}
 use Rattle.trace_core.specs.declared.history.Plan.{Plan}
 use Rattle.trace_core.specs.declared.history.Point.{Point}
 use Rattle.trace_core.specs.History.{seen}
 use Rattle.trace_core.specs.View.{after}
 use Rattle.icap_client.specs.Laws.{first_reader}
+use Rattle.icap_client.specs.declared.stage.Stage.{Stage}
 use Rattle.icap_client.specs.Heard.{Reader, HasHeard}
 use Rattle.icap_client.proofs.Whole.{nothing_heard}
 use Rattle.icap_client.specs.Events.{Follows, ad_sum, is_of_replies}
 use Rattle.icap_client.specs.Sending.{HasSent, IsSent, Came, KeepsUnsent, NothingDue}
-use Rattle.icap_client.specs.Reading.{Side, SideHeard, IsLaterRead, NothingToRead, HasReason, CameOf, ReadTurn}
+use Rattle.icap_client.specs.Reading.{Side, SideHeard, NothingToRead, IsGiven, FitsGot, after_ask, CameOf, ReadTurn}
 use Rattle.icap_client.specs.Turns.{WriteTurn, Fits, FitsAnswer, events_of, waits_of, IsLater, SaysWaiting, Remembers, Sends, Hears}
 use Rattle.adapt_sides.specs.Turns.{HasReason as HasCause}
 
@@ -112,13 +116,29 @@ sends_none x tape w fault g P e = record {
 
 -- ---- reading
 
-later_read : (p q : Past) (delta : List ℕ) → IsLaterRead p delta q → IsLater p delta [] q
-later_read p q delta l = record { read = l.read; out = l.taken ∙ sym (append-nil p.taken); ends = l.ends; read_waits = l.read_waits; write_waits = omega (arith, l.write_waits); faults = l.faults }
+later_given : (p : Past) (given : List ℕ) (answer : Option Got) → IsGiven given answer → IsLater p given [] (after_ask p given answer)
+later_given p given None e = subst (λ (t : List ℕ). IsLater p t [] p) (sym e) (later_none p)
+later_given p given (Some (got.Bytes n)) f =
+    let whole : take n given ≡ given = ap (λ (k : ℕ). take k given) f.0 ∙ take-length given in
+    record { read = ap (λ (t : List ℕ). p.read ++ t) whole; out = sym (append-nil p.taken); ends = omega arith; read_waits = omega arith; write_waits = omega arith; faults = omega arith }
+later_given p given (Some got.Ended) e = record { read = sym (ap (λ (t : List ℕ). p.read ++ t) e ∙ append-nil p.read); out = sym (append-nil p.taken); ends = omega arith; read_waits = omega arith; write_waits = omega arith; faults = omega arith }
+later_given p given (Some got.Wait) e = record { read = sym (ap (λ (t : List ℕ). p.read ++ t) e ∙ append-nil p.read); out = sym (append-nil p.taken); ends = omega arith; read_waits = omega arith; write_waits = omega arith; faults = omega arith }
+later_given p given (Some got.Fault) e = record { read = sym (ap (λ (t : List ℕ). p.read ++ t) e ∙ append-nil p.read); out = sym (append-nil p.taken); ends = omega arith; read_waits = omega arith; write_waits = omega arith; faults = omega arith }
 
-read_cause : (x : Seen) (a : Bool) (room : ℕ) (new : Side) (p q : Past) (fault : Option ClientFault) (result : Result Turn ClientFault) → HasReason x a room new.reader.stage p q result
-    → HasCause Device p q fault (NothingToRead x a room new.reader.stage) (λ past. past.read_waits) result
-read_cause x a room new p q fault (Ok turn) r = record { device = λ e n. cc; waiting = λ h. r.waits turn refl h }
-read_cause x a room new p q fault (Err g) r = record { device = λ e n. r.device e; waiting = λ h. cc }
+-- a refusal doesn't wait
+never_waits : (result : Result Turn ClientFault) (g : ClientFault) → result ≡ Err g → waits_of result ≡ true → ⊥
+never_waits result g e h = let odd : false ≡ true = sym (ap (λ (r : Result Turn ClientFault). waits_of r) e) ∙ h in cc
+
+read_cause : (x : Seen) (a : Bool) (room : ℕ) (stage : Stage) (p : Past) (given : List ℕ) (answer : Option Got) (fault : Option ClientFault) (result : Result Turn ClientFault) → FitsGot x a room stage answer result
+    → HasCause Device p (after_ask p given answer) fault (NothingToRead x a room stage) (λ past. past.read_waits) result
+read_cause x a room stage p given None fault (Ok turn) f = record { device = λ e n. cc; waiting = λ h. inl (f h) }
+read_cause x a room stage p given None fault (Err g) f = record { device = λ e n. let is : g ≡ Device = cc in absurd (f.1 is); waiting = λ h. cc }
+read_cause x a room stage p given (Some (got.Bytes n)) fault (Ok turn) f = record { device = λ e n. cc; waiting = λ h. let odd : true ≡ false = sym h ∙ f in cc }
+read_cause x a room stage p given (Some (got.Bytes n)) fault (Err g) f = record { device = λ e n. let is : g ≡ Device = cc in absurd (f.1 is); waiting = λ h. cc }
+read_cause x a room stage p given (Some got.Ended) fault result f = record { device = λ e n. cc; waiting = λ h. absurd (never_waits result Closed f h) }
+read_cause x a room stage p given (Some got.Wait) fault (Ok turn) f = record { device = λ e n. cc; waiting = λ h. inr (omega arith) }
+read_cause x a room stage p given (Some got.Wait) fault (Err g) f = absurd f
+read_cause x a room stage p given (Some got.Fault) fault result f = record { device = λ e n. omega arith; waiting = λ h. absurd (never_waits result Device f h) }
 
 read_says : (x : Seen) (a : Bool) (old new : Side) (room : ℕ) (out delta : List ℕ) (result : Result Turn ClientFault) → CameOf x a old new room out delta result → SaysWaiting (events_of result) delta result
 read_says x a old new room out delta (Ok turn) c = record {
@@ -134,23 +154,23 @@ pub hears_by : (x : Seen) (a : Bool) (room : ℕ) (old new : Side) (P Q : Past �
     → ReadTurn x a room old new P Q out result → ((g : ClientFault) → result ≡ Err g → new.fault ≡ Some g)
     → Hears x (λ x adapted read. SideHeard x adapted read old) (λ x adapted read. SideHeard x adapted read new) old.fault new.fault (NothingToRead x a room new.reader.stage) P Q out result
 hears_by x a room old new P Q out (Ok turn) none long t stays = record {
-  delta = t.delta;
-  wire = λ p b. let q = t.wire p b in (q.0, q.1, later_read p q.0 t.delta q.2, read_cause x a room new p q.0 old.fault (Ok turn) q.3);
+  delta = t.given;
+  wire = λ p b. (after_ask p t.given t.answer, t.wire.each p b, later_given p t.given t.answer t.wire.fits, read_cause x a room new.reader.stage p t.given t.answer old.fault (Ok turn) t.fits);
   only = t.came.0.only;
   count = omega (arith, t.came.1, long);
   legal = t.came.0.legal;
   goes_on = t.came.0.heard;
-  waiting = read_says x a old new room out t.delta (Ok turn) t.came;
+  waiting = read_says x a old new room out t.given (Ok turn) t.came;
   fault = record { again = λ g e. cc; stays = stays };
 }
 hears_by x a room old new P Q out (Err g) none long t stays = record {
-  delta = t.delta;
-  wire = λ p b. let q = t.wire p b in (q.0, q.1, later_read p q.0 t.delta q.2, read_cause x a room new p q.0 old.fault (Err g) q.3);
+  delta = t.given;
+  wire = λ p b. (after_ask p t.given t.answer, t.wire.each p b, later_given p t.given t.answer t.wire.fits, read_cause x a room new.reader.stage p t.given t.answer old.fault (Err g) t.fits);
   only = tt;
   count = omega arith;
   legal = tt;
   goes_on = t.came.0.heard;
-  waiting = read_says x a old new room out t.delta (Err g) t.came;
+  waiting = read_says x a old new room out t.given (Err g) t.came;
   fault = record { again = λ f e. cc; stays = stays };
 }
 
@@ -189,4 +209,4 @@ hears_all x a room old new P Q out result long t s f u = hears_case x a room old
 -- ---- the laws
 
 pub side_begins : (plan : Plan) (point : Point) (s : Side) → s.reader ≡ first_reader point → s.raw ≡ [] → SideHeard (seen plan []) [] [] s
-side_begins plan point s e r = record { framed = []; text_is = sym r; heard = subst (λ (q : Reader). HasHeard (seen plan []) [] [] q) (sym e) (nothing_heard plan point); begun = inr (record { none = refl; unread = refl; marks = record { no_mod_is = refl; modified_is = refl; has_body_is = refl; over_is = refl }; continued = refl; count = refl }) }
+side_begins plan point s e r = record { framed = []; text_is = sym r; heard = subst (λ (q : Reader). HasHeard (seen plan []) [] [] q) (sym e) (nothing_heard plan point); begun = inr (record { unheard = refl; none = refl; unread = refl; marks = record { no_mod_is = refl; modified_is = refl; has_body_is = refl; over_is = refl }; continued = refl; count = refl }) }

@@ -24,10 +24,12 @@ use Rattle.icap_client.specs.Heard.HeardFinal.{changed, unchanged}
 use Rattle.icap_client.specs.Hearing.{Hears, Passes}
 use Rattle.icap_client.specs.Hearing.Passes.{waits, goes_on}
 use Rattle.icap_client.specs.Replies.{IsInterim}
-use Rattle.icap_client.specs.Refused.{RefusesReply, RefusesHead, SpellsNoReply, IsMisfit, IsFit}
+use Rattle.icap_client.specs.Refused.{RefusesReply, RefusesHead, SpellsReply, SpellsNoReply, MayReply, IsMisfit, IsFit}
 use Rattle.icap_client.specs.Refused.IsMisfit.{ends_early, ends_late}
 use Rattle.adapt_sides.specs.declared.fault.ClientFault.{ClientFault}
 use Rattle.adapt_sides.specs.declared.fault.ClientFault.TheVariants as faults
+use Rattle.icap_client.specs.declared.replies.Reply.{Reply}
+use Rattle.icap_client.specs.declared.replies.Reply.TheVariants as replies
 use Rattle.icap_client.specs.declared.stage.Stage.{Stage}
 use Rattle.icap_client.specs.declared.stage.Stage.TheVariants.{Replies, Head, Body, Over}
 
@@ -259,13 +261,19 @@ hears_mod x r new layout head false p stage q e t f is may at ended size =
     (hears_null x r layout head (subst (λ (k : Payload). May x (Mod k)) q may) (sym e) at ended size))
 
 -- a 100 or a 204 that may not come
-pub untimely_continue : (t : Bool) (x : Seen) (point : Point) (raw : List ℕ) (value : Response) (size : ℕ) → t ≡ false → (May x Continue → IsTrue t) → HasResponse raw value size
+untimely_continue : (t : Bool) (x : Seen) (point : Point) (raw : List ℕ) (value : Response) (size : ℕ) → t ≡ false → (May x Continue → IsTrue t) → HasResponse raw value size
     → (value.status ≡ 100) × HasNothing point (lists_of value) → RefusesReply faults.NotLegal x point raw
 untimely_continue t x point raw value size e m h s = (value, size, h, inl (s.0, s.1, λ may. false_is_not_true (sym e ∙ m may)))
 
-pub untimely_no_mod : (t : Bool) (x : Seen) (point : Point) (raw : List ℕ) (value : Response) (size : ℕ) → t ≡ false → (May x NoMod → IsTrue t) → HasResponse raw value size
+untimely_no_mod : (t : Bool) (x : Seen) (point : Point) (raw : List ℕ) (value : Response) (size : ℕ) → t ≡ false → (May x NoMod → IsTrue t) → HasResponse raw value size
     → (value.status ≡ 204) × HasNothing point (lists_of value) → RefusesReply faults.NotLegal x point raw
 untimely_no_mod t x point raw value size e m h s = (value, size, h, inr (s.0, s.1, λ may. false_is_not_true (sym e ∙ m may)))
+
+pub untimely : (t : Bool) (reply : Reply) (x : Seen) (point : Point) (raw : List ℕ) (value : Response) (size : ℕ) → t ≡ false → (MayReply x reply → IsTrue t) → HasResponse raw value size
+    → SpellsReply point value reply → RefusesReply faults.NotLegal x point raw
+untimely t replies.Continue x point raw value size e m h s = untimely_continue t x point raw value size e m h s
+untimely t replies.NoMod x point raw value size e m h s = untimely_no_mod t x point raw value size e m h s
+untimely t (replies.Mod layout) x point raw value size e m h s = absurd (false_is_not_true (sym e ∙ m tt))
 
 -- the limits of the stages behind an adapted message's head
 pub keeps_start : (s : Stage) (chunks : ChunkReader) → s ≡ Body chunks → chunks ≡ start → KeepsLimits s

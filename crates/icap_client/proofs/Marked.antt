@@ -13,7 +13,7 @@ use Rattle.adapt_sides.specs.declared.turn.Turn.{Turn}
 use Rattle.adapt_sides.specs.declared.fault.ClientFault.{ClientFault}
 use Rattle.icap_client.specs.Events.{after_all, is_final}
 use Rattle.icap_client.specs.Sending.{IsSent, NothingDue, turn_events, svc_events}
-use Rattle.icap_client.specs.Reading.{Side, SideHeard, NotBegun}
+use Rattle.icap_client.specs.Reading.{Side, SideHeard, HasBegun, NotBegun}
 use Rattle.icap_client.specs.Turns.{Service, ServiceSent, ServiceHeard, Sends, Hears, events_of, is_answered, is_last_at}
 
 -- ---- a preview that was answered
@@ -74,8 +74,8 @@ and_none true true = refl
 and_none true false = refl
 and_none false b = refl
 
-unheard_marks : (x : Seen) (adapted read : List ℕ) → (x.heard ≡ true) ⊎ NotBegun x adapted read → x.heard ≡ false → (x.no_mod ≡ false) × (x.modified ≡ false)
-unheard_marks x adapted read (inl e) f = let odd : true ≡ false = sym e ∙ f in cc
+unheard_marks : (x : Seen) (adapted read : List ℕ) → HasBegun x read ⊎ NotBegun x adapted read → x.heard ≡ false → (x.no_mod ≡ false) × (x.modified ≡ false)
+unheard_marks x adapted read (inl h) f = let odd : true ≡ false = sym h.0 ∙ f in cc
 unheard_marks x adapted read (inr b) f = (b.marks.no_mod_is, b.marks.modified_is)
 
 -- before the first byte of a reply nothing is answered, and nothing is so behind a Retry

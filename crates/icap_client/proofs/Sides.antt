@@ -23,7 +23,7 @@ use Rattle.icap_client.specs.Heard.Stays.{same, before}
 use Rattle.icap_client.specs.Replies.{IsInterim}
 use Rattle.trace_core.specs.declared.history.Point.{Point}
 use Rattle.icap_client.specs.Hearing.{Hears, MustWait}
-use Rattle.icap_client.specs.Reading.{Side, SideHeard, SideHears, NotBegun}
+use Rattle.icap_client.specs.Reading.{Side, SideHeard, SideHears, HasBegun, NotBegun}
 use Rattle.icap_client.specs.declared.stage.Stage.{Stage}
 use Rattle.icap_client.specs.declared.stage.Stage.TheVariants.{Replies, Head, Body, Over}
 
@@ -77,6 +77,7 @@ heard_on x (event ∷ events) h = heard_on (after x event) events (or_true (is_h
 
 not_begun : (x : Seen) (adapted read more delta : List ℕ) → more ≡ [] → delta ≡ [] → NotBegun x adapted read → NotBegun x (adapted ++ more) (read ++ delta)
 not_begun x adapted read more delta m d n = record {
+  unheard = n.unheard;
   none = ap (λ (t : List ℕ). adapted ++ t) m ∙ (append-nil adapted ∙ n.none);
   unread = ap (λ (t : List ℕ). read ++ t) d ∙ (append-nil read ∙ n.unread);
   marks = n.marks;
@@ -84,10 +85,18 @@ not_begun x adapted read more delta m d n = record {
   count = n.count;
 }
 
-begun_on : (x : Seen) (events : List Event) (adapted read out : List ℕ) → (events ≡ []) ⊎ (x.heard ≡ true) → (x.heard ≡ true) ⊎ NotBegun x adapted read
-    → ((after_all x events).heard ≡ true) ⊎ NotBegun (after_all x events) (adapted ++ take (ad_sum events) out) (read ++ [])
-begun_on x events adapted read out e (inl h) = inl (heard_on x events h)
-begun_on x events adapted read out (inr h) (inr n) = inl (heard_on x events h)
+-- more bytes are more than some
+more_read : (read delta : List ℕ) → 0 < length read → 0 < length (read ++ delta)
+more_read read delta l = omega (arith, l, length-append read delta)
+
+-- a first byte was read before, or wasn't
+both_heard : (x : Seen) → x.heard ≡ true → x.heard ≡ false → ⊥
+both_heard x h n = let odd : true ≡ false = sym h ∙ n in cc
+
+begun_on : (x : Seen) (events : List Event) (adapted read out : List ℕ) → (events ≡ []) ⊎ (x.heard ≡ true) → HasBegun x read ⊎ NotBegun x adapted read
+    → HasBegun (after_all x events) (read ++ []) ⊎ NotBegun (after_all x events) (adapted ++ take (ad_sum events) out) (read ++ [])
+begun_on x events adapted read out e (inl h) = inl (heard_on x events h.0, more_read read [] h.1)
+begun_on x events adapted read out (inr h) (inr n) = absurd (both_heard x h n.unheard)
 begun_on x events adapted read out (inl none) (inr n) =
     inr (subst (λ (es : List Event). NotBegun (after_all x es) (adapted ++ take (ad_sum es) out) (read ++ [])) (sym none) (not_begun x adapted read [] [] refl refl n))
 
@@ -115,13 +124,13 @@ stays_heard x adapted read old new (before o n p) h =
     let now : HeardInterim x adapted read new = record { marks = m.marks; none = m.none; count = m.count; interim = subst (λ (p : Point). IsInterim p x.continued read) (sym p) m.interim } in
     subst (λ (s : Stage). HeardTo s x adapted read new) (sym n) now
 
-begun_none : (x : Seen) (adapted read : List ℕ) → (x.heard ≡ true) ⊎ NotBegun x adapted read → (x.heard ≡ true) ⊎ NotBegun x (adapted ++ []) (read ++ [])
-begun_none x adapted read (inl h) = inl h
+begun_none : (x : Seen) (adapted read : List ℕ) → HasBegun x read ⊎ NotBegun x adapted read → HasBegun x (read ++ []) ⊎ NotBegun x (adapted ++ []) (read ++ [])
+begun_none x adapted read (inl h) = inl (h.0, more_read read [] h.1)
 begun_none x adapted read (inr n) = inr (not_begun x adapted read [] [] refl refl n)
 
-begun_more : (x : Seen) (adapted read delta : List ℕ) → (x.heard ≡ true) ⊎ (delta ≡ []) → (x.heard ≡ true) ⊎ NotBegun x adapted read → (x.heard ≡ true) ⊎ NotBegun x (adapted ++ []) (read ++ delta)
-begun_more x adapted read delta (inl h) b = inl h
-begun_more x adapted read delta (inr n) (inl h) = inl h
+begun_more : (x : Seen) (adapted read delta : List ℕ) → (x.heard ≡ true) ⊎ (delta ≡ []) → HasBegun x read ⊎ NotBegun x adapted read → HasBegun x (read ++ delta) ⊎ NotBegun x (adapted ++ []) (read ++ delta)
+begun_more x adapted read delta was (inl h) = inl (h.0, more_read read delta h.1)
+begun_more x adapted read delta (inl h) (inr b) = absurd (both_heard x h b.unheard)
 begun_more x adapted read delta (inr n) (inr b) = inr (not_begun x adapted read [] delta refl n b)
 
 pub refused_kept : (x : Seen) (old new : Side) → Stays old.reader new.reader → new.raw ≡ old.raw → SideHears x old new [] [] []
@@ -165,8 +174,8 @@ filled_more x old new delta was e r = record {
 }
 
 -- the first bytes of a reply
-pub filled_first : (x : Seen) (old new : Side) (delta out : List ℕ) → May x Heard → new.reader ≡ old.reader → new.raw ≡ old.raw ++ delta → SideHears x old new (Heard ∷ []) delta (take (ad_sum (Heard ∷ [])) out)
-filled_first x old new delta out may e r =
+pub filled_first : (x : Seen) (old new : Side) (delta out : List ℕ) → May x Heard → 0 < length delta → new.reader ≡ old.reader → new.raw ≡ old.raw ++ delta → SideHears x old new (Heard ∷ []) delta (take (ad_sum (Heard ∷ [])) out)
+filled_first x old new delta out may some e r =
     let none : ad_sum (Heard ∷ []) ≡ 0 = omega arith in
     subst (λ (n : ℕ). SideHears x old new (Heard ∷ []) delta (take n out)) (sym none) (record {
       legal = (may.0, may.1, tt);
@@ -176,7 +185,7 @@ filled_first x old new delta out may e r =
         text_is = ap (λ (t : List ℕ). t ++ delta) s.text_is ∙ (append_assoc s.framed old.raw delta ∙ ap (λ (t : List ℕ). s.framed ++ t) (sym r));
         heard = subst (λ (t : List ℕ). HasHeard (after x Heard) t s.framed new.reader) (sym (append-nil adapted))
             (subst (λ (n : Reader). HasHeard (after x Heard) adapted s.framed n) (sym e) (to_same old.reader.stage x (after x Heard) adapted s.framed old.reader (same_heard x) s.heard));
-        begun = inl refl;
+        begun = inl (refl, omega (arith, some, length-append read delta));
       };
     })
 

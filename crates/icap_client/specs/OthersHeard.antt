@@ -1,5 +1,5 @@
 -- The other sides' events leave what was heard.
-use Rattle.std.proofs.Common.{◌≡◌, ℕ, ◌+◌, ◌⊎◌, inl, inr, Bool, true, false, ◌||◌, List, [], ◌++◌, length, refl, ap, sym, subst, ◌∙◌, arith, Some}
+use Rattle.std.proofs.Common.{◌≡◌, ℕ, ◌+◌, ◌<◌, ◌⊎◌, inl, inr, Bool, true, false, ◌||◌, List, [], ◌++◌, length, refl, ap, sym, subst, ◌∙◌, arith, Some}
 use Rattle.icap_chunks.specs.declared.reader.ChunkReader.{ChunkReader}
 use Rattle.encapsulated.specs.declared.offsets.Layout.{Layout}
 use Rattle.trace_core.specs.declared.history.Plan.{Plan}
@@ -17,7 +17,7 @@ use Rattle.icap_client.specs.Laws.{first_reader, IsWhole}
 use Rattle.icap_client.specs.Events.{is_of_replies}
 use Rattle.icap_client.specs.declared.stage.Stage.{Stage}
 use Rattle.icap_client.specs.declared.stage.Stage.TheVariants.{Replies, Head, Body, Over}
-use Rattle.icap_client.specs.Reading.{Side, SideHeard, NotBegun, MayRead, NothingToRead}
+use Rattle.icap_client.specs.Reading.{Side, SideHeard, HasBegun, NotBegun, MayRead, NothingToRead}
 
 -- what was heard depends on this alone
 pub record Same (x y : Seen) : Type 0 where
@@ -113,9 +113,27 @@ or_true : (b : Bool) → b ≡ true → (a : Bool) → (a || b) ≡ true
 or_true b e true = refl
 or_true b e false = e
 
-heard_kept : (x : Seen) (event : Event) (adapted read : List ℕ) → Same x (after x event) → (x.heard ≡ true) ⊎ NotBegun x adapted read → ((after x event).heard ≡ true) ⊎ NotBegun (after x event) adapted read
-heard_kept x event adapted read s (inl h) = inl (or_true x.heard h (is_heard event))
-heard_kept x event adapted read s (inr n) = inr (record {
+-- a first byte of a reply is an event of its own
+heard_still : (x : Seen) (event : Event) → is_of_replies event ≡ false → (after x event).heard ≡ x.heard
+heard_still x (In n) o = refl
+heard_still x End o = refl
+heard_still x (Svc n) o = refl
+heard_still x Stop o = refl
+heard_still x Heard o = cc
+heard_still x Continue o = cc
+heard_still x NoMod o = cc
+heard_still x (Mod payload) o = cc
+heard_still x (Ad n) o = cc
+heard_still x AdEnd o = cc
+heard_still x (Usr n) o = refl
+heard_still x Done o = refl
+heard_still x (Fail cause) o = refl
+heard_still x Retry o = refl
+
+heard_kept : (x : Seen) (event : Event) (adapted read : List ℕ) → is_of_replies event ≡ false → HasBegun x read ⊎ NotBegun x adapted read → HasBegun (after x event) read ⊎ NotBegun (after x event) adapted read
+heard_kept x event adapted read o (inl h) = inl (or_true x.heard h.0 (is_heard event), h.1)
+heard_kept x event adapted read o (inr n) = let s = same_after x event o in inr (record {
+  unheard = heard_still x event o ∙ n.unheard;
   none = n.none;
   unread = n.unread;
   marks = marks_same x (after x event) false false false false s n.marks;
@@ -124,18 +142,29 @@ heard_kept x event adapted read s (inr n) = inr (record {
 })
 
 pub side_keeps : (x : Seen) (event : Event) (adapted read : List ℕ) (s : Side) → is_of_replies event ≡ false → SideHeard x adapted read s → SideHeard (after x event) adapted read s
-side_keeps x event adapted read s o h = record { framed = h.framed; text_is = h.text_is; heard = others_keep x event adapted h.framed s.reader o h.heard; begun = heard_kept x event adapted read (same_after x event o) h.begun }
+side_keeps x event adapted read s o h = record { framed = h.framed; text_is = h.text_is; heard = others_keep x event adapted h.framed s.reader o h.heard; begun = heard_kept x event adapted read o h.begun }
+
+-- Heard stands just where a byte was read
+pub heard_where : (x : Seen) (adapted read : List ℕ) (s : Side) → SideHeard x adapted read s → (x.heard ≡ true → 0 < length read) × (0 < length read → x.heard ≡ true)
+heard_where x adapted read s h = where_by h.begun
+  where
+    where_by : HasBegun x read ⊎ NotBegun x adapted read → (x.heard ≡ true → 0 < length read) × (0 < length read → x.heard ≡ true)
+    where_by (inl b) = ((λ e. b.1), (λ l. b.0))
+    where_by (inr n) = (
+      (λ e. let odd : true ≡ false = sym e ∙ n.unheard in cc),
+      (λ l. let z : length read ≡ 0 = ap (λ (t : List ℕ). length t) n.unread in absurd (omega (arith, l, z))),
+    )
 
 -- before the first byte of a reply nothing was read
 pub unheard_none : (x : Seen) (adapted read : List ℕ) (s : Side) → SideHeard x adapted read s → x.heard ≡ false → (adapted ≡ []) × (read ≡ [])
 unheard_none x adapted read s h n = none_by h.begun n
   where
-    none_by : (x.heard ≡ true) ⊎ NotBegun x adapted read → x.heard ≡ false → (adapted ≡ []) × (read ≡ [])
-    none_by (inl e) f = let odd : true ≡ false = sym e ∙ f in cc
+    none_by : HasBegun x read ⊎ NotBegun x adapted read → x.heard ≡ false → (adapted ≡ []) × (read ≡ [])
+    none_by (inl h) f = let odd : true ≡ false = sym h.0 ∙ f in cc
     none_by (inr b) f = (b.none, b.unread)
 
-fresh_by : (x : Seen) (adapted read : List ℕ) (s : Side) (point : Point) → s.reader ≡ first_reader point → s.raw ≡ [] → (x.heard ≡ true) ⊎ NotBegun x adapted read → x.heard ≡ false → SideHeard (after x Retry) [] [] s
-fresh_by x adapted read s point e r (inl h) n = let odd : true ≡ false = sym h ∙ n in cc
+fresh_by : (x : Seen) (adapted read : List ℕ) (s : Side) (point : Point) → s.reader ≡ first_reader point → s.raw ≡ [] → HasBegun x read ⊎ NotBegun x adapted read → x.heard ≡ false → SideHeard (after x Retry) [] [] s
+fresh_by x adapted read s point e r (inl h) n = let odd : true ≡ false = sym h.0 ∙ n in cc
 fresh_by x adapted read s point e r (inr b) n =
     let same : Same x (after x Retry) = same_after x Retry refl in
     let marks : Marks (after x Retry) false false false false = marks_same x (after x Retry) false false false false same b.marks in
@@ -145,7 +174,7 @@ fresh_by x adapted read s point e r (inr b) n =
       framed = [];
       text_is = sym r;
       heard = subst (λ (q : Reader). HasHeard (after x Retry) [] [] q) (sym e) first;
-      begun = inr (record { none = refl; unread = refl; marks = marks; continued = b.continued; count = count });
+      begun = inr (record { unheard = heard_still x Retry refl ∙ b.unheard; none = refl; unread = refl; marks = marks; continued = b.continued; count = count });
     }
 
 -- a fresh reader after a Retry

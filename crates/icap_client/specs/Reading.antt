@@ -1,10 +1,12 @@
 -- What a read turn of the service's side does, on its wire and by its events.
-use Rattle.std.specs.Prelude.{◌≡◌, ℕ, ◌+◌, ◌<◌, ◌≤◌, ◌⊎◌, Bool, true, false, List, [], ◌++◌, length, take, Option, Some, None, Result, Ok, Err}
+use Rattle.std.specs.Prelude.{◌≡◌, ◌≢◌, ℕ, ◌+◌, ◌<◌, ◌≤◌, ◌⊎◌, Bool, true, false, List, [], ◌++◌, length, take, Option, Some, None, Result, Ok, Err}
 use Rattle.trace_core.specs.declared.history.Event.{Event}
 use Rattle.trace_core.specs.declared.history.Event.TheVariants.{Heard}
 use Rattle.trace_core.specs.declared.history.Seen.{Seen}
 use Rattle.trace_core.specs.History.{is_preview}
-use Rattle.wire_kit.specs.Past.{Past}
+use Rattle.wire_kit.specs.Past.{Past, after_read}
+use Rattle.wire_kit.specs.declared.wire.Got.{Got}
+use Rattle.wire_kit.specs.declared.wire.Got.TheVariants as got
 use Rattle.icap_client.specs.Events.{May, after_all, MayAllFollow, AllAre, is_of_replies, ad_sum}
 use Rattle.icap_client.specs.Heard.{Reader, HasHeard, Marks}
 use Rattle.icap_client.specs.HeadFront.{HasToWait}
@@ -31,26 +33,31 @@ pub record GivesBack (old new : Side) : Type 0 where
   pub fault : new.fault ≡ old.fault
   pub none : new.raw ≡ [] → new.room ≡ 0
 
--- no byte of a reply was read
+-- a byte of a reply was read, and the history says so
+abbrev pub HasBegun : Seen → List ℕ → Type 0
+HasBegun x read = (x.heard ≡ true) × (0 < length read)
+
+-- no byte of a reply was read, and the history has none
 pub record NotBegun (x : Seen) (adapted read : List ℕ) : Type 0 where
+  pub unheard : x.heard ≡ false
   pub none : adapted ≡ []
   pub unread : read ≡ []
   pub marks : Marks x false false false false
   pub continued : x.continued ≡ false
   pub count : x.adapted_received ≡ 0
 
--- of the bytes read those without the raw ones say what was heard; before Heard none was read
+-- of the bytes read those without the raw ones say what was heard; Heard stands where a first one was read
 pub record SideHeard (x : Seen) (adapted read : List ℕ) (s : Side) : Type 0 where
   pub framed : List ℕ
   pub text_is : read ≡ framed ++ s.raw
   pub heard : HasHeard x adapted framed s.reader
-  pub begun : (x.heard ≡ true) ⊎ NotBegun x adapted read
+  pub begun : HasBegun x read ⊎ NotBegun x adapted read
 
 -- the events may come, and say what these further bytes of the wire do, with these adapted ones
-pub record SideHears (x : Seen) (old new : Side) (events : List Event) (delta part : List ℕ) : Type 0 where
+pub record SideHears (x : Seen) (old new : Side) (events : List Event) (given part : List ℕ) : Type 0 where
   pub legal : MayAllFollow x events
   pub only : AllAre is_of_replies events
-  pub heard : (adapted read : List ℕ) → SideHeard x adapted read old → SideHeard (after_all x events) (adapted ++ part) (read ++ delta) new
+  pub heard : (adapted read : List ℕ) → SideHeard x adapted read old → SideHeard (after_all x events) (adapted ++ part) (read ++ given) new
 
 -- the service may answer now: in a preview once its last chunk is out, and behind a 100; elsewhere at any moment
 abbrev pub MayRead : Seen → Bool → Type 0
@@ -60,41 +67,66 @@ MayRead x all_sent = (is_preview x.plan.kind ≡ false) ⊎ ((x.continued ≡ tr
 
 -- after a read that gave these bytes, on a wire that may have had each of these pasts
 abbrev pub Gave : (Past → Type 0) → (Past → Type 0) → List ℕ → Type 0
-Gave before after delta = (p : Past) → before p → after (record { read = p.read ++ delta; taken = p.taken; ends = p.ends; read_waits = p.read_waits; write_waits = p.write_waits; faults = p.faults })
+Gave before after given = (p : Past) → before p → after (record { read = p.read ++ given; taken = p.taken; ends = p.ends; read_waits = p.read_waits; write_waits = p.write_waits; faults = p.faults })
 
 -- bytes came behind the raw ones, or none, with the wire's reason
 abbrev pub IsFilled : (Past → Type 0) → (Past → Type 0) → List ℕ → List ℕ → Filled → Type 0
-IsFilled before after old new filled.Bytes = (delta : List ℕ) × (0 < length delta) × (new ≡ old ++ delta) × Gave before after delta
+IsFilled before after old new filled.Bytes = (given : List ℕ) × (0 < length given) × (new ≡ old ++ given) × Gave before after given
 IsFilled before after old new filled.Ended = (new ≡ old) × ((p : Past) → before p → after (record { read = p.read; taken = p.taken; ends = p.ends + 1; read_waits = p.read_waits; write_waits = p.write_waits; faults = p.faults }))
 IsFilled before after old new filled.Wait = (new ≡ old) × ((p : Past) → before p → after (record { read = p.read; taken = p.taken; ends = p.ends; read_waits = p.read_waits + 1; write_waits = p.write_waits; faults = p.faults }))
 IsFilled before after old new filled.Failed = (new ≡ old) × ((p : Past) → before p → after (record { read = p.read; taken = p.taken; ends = p.ends; read_waits = p.read_waits; write_waits = p.write_waits; faults = p.faults + 1 }))
 IsFilled before after old new filled.NoMemory = (new ≡ old) × ((p : Past) → before p → after p)
 
--- ---- a turn
+-- One read at most: after an answer that gave these bytes, or after none.
+abbrev pub after_ask : Past → List ℕ → Option Got → Past
+after_ask p given None = p
+after_ask p given (Some answer) = after_read p given answer
 
--- on a wire that gave these bytes
-pub record IsLaterRead (p : Past) (delta : List ℕ) (q : Past) : Type 0 where
-  pub read : q.read ≡ p.read ++ delta
-  pub taken : q.taken ≡ p.taken
-  pub write_waits : q.write_waits ≡ p.write_waits
-  pub ends : p.ends ≤ q.ends
-  pub read_waits : p.read_waits ≤ q.read_waits
-  pub faults : p.faults ≤ q.faults
+-- the bytes that such a read gave, at least one; or it gave none
+abbrev pub IsGiven : List ℕ → Option Got → Type 0
+IsGiven given (Some (got.Bytes n)) = (n ≡ length given) × (0 < n)
+IsGiven given _ = given ≡ []
+
+-- a turn on a wire: it read once, and this was the answer, with these bytes; or it didn't read
+pub record Reads (before after : Past → Type 0) (given : List ℕ) (answer : Option Got) : Type 0 where
+  pub each : (p : Past) → before p → after (after_ask p given answer)
+  pub fits : IsGiven given answer
+
+-- ---- a turn
 
 -- nothing is to be read: the response is whole, there is no room, or the preview isn't out
 abbrev pub NothingToRead : Seen → Bool → ℕ → Stage → Type 0
 NothingToRead x all_sent room stage = (stage ≡ Over) ⊎ ((room ≡ 0) ⊎ ¬ (MayRead x all_sent))
 
--- why a turn answers that it waits, or a fault of its wire
-pub record HasReason (x : Seen) (all_sent : Bool) (room : ℕ) (stage : Stage) (p q : Past) (result : Result Turn ClientFault) : Type 0 where
-  pub waits : (turn : Turn) → result ≡ Ok turn → turn.waiting ≡ true → NothingToRead x all_sent room stage ⊎ (p.read_waits < q.read_waits)
-  pub closed : result ≡ Err Closed → p.ends < q.ends
-  pub device : result ≡ Err Device → p.faults < q.faults
+-- A read is due: the response isn't whole, there is room, the service may answer now, and none of the bytes that are kept can
+-- be framed.
+pub record IsReadDue (x : Seen) (all_sent : Bool) (room : ℕ) (s : Side) : Type 0 where
+  pub going_on : ¬ (s.reader.stage ≡ Over)
+  pub some_room : 0 < room
+  pub may : MayRead x all_sent
+  pub waits : HasToWait s.reader.stage s.raw room
+
+-- the wire is read only where that is due once the bytes that are kept were framed, and no event came of them
+abbrev pub ReadsWhereDue : Seen → Bool → ℕ → Side → Option Got → Type 0
+ReadsWhereDue x all_sent room old None = Unit {0}
+ReadsWhereDue x all_sent room old (Some answer) = (framed : Side) × SideHears x old framed [] [] [] × IsReadDue x all_sent room framed
+
+-- What a turn makes of its wire's answer. It waits where the wire says so, or, where it didn't read, where nothing is to be
+-- read; Closed and Device are answered just where the wire ended or failed.
+abbrev pub FitsGot : Seen → Bool → ℕ → Stage → Option Got → Result Turn ClientFault → Type 0
+FitsGot x all_sent room stage None (Ok turn) = turn.waiting ≡ true → NothingToRead x all_sent room stage
+FitsGot x all_sent room stage None (Err fault) = (fault ≢ Closed) × (fault ≢ Device)
+FitsGot x all_sent room stage (Some (got.Bytes n)) (Ok turn) = turn.waiting ≡ false
+FitsGot x all_sent room stage (Some (got.Bytes n)) (Err fault) = (fault ≢ Closed) × (fault ≢ Device)
+FitsGot x all_sent room stage (Some got.Ended) result = result ≡ Err Closed
+FitsGot x all_sent room stage (Some got.Wait) (Ok turn) = turn.waiting ≡ true
+FitsGot x all_sent room stage (Some got.Wait) (Err fault) = ⊥
+FitsGot x all_sent room stage (Some got.Fault) result = result ≡ Err Device
 
 -- with these bytes of the wire behind those that were there, they are refused where no event of them came
-pub record IsRefused (fault : ClientFault) (x : Seen) (old : Side) (delta : List ℕ) : Type 0 where
+pub record IsRefused (fault : ClientFault) (x : Seen) (old : Side) (given : List ℕ) : Type 0 where
   pub at : Side
-  pub hears : SideHears x old at [] delta []
+  pub hears : SideHears x old at [] given []
   pub refuses : Refuses fault x at.reader.point at.reader.stage at.raw
 
 -- the service may answer now, but no first byte of a reply may come
@@ -103,17 +135,20 @@ IsUnheard fault x all_sent = (fault ≡ NotLegal) × (x.heard ≡ false) × MayR
 
 -- what came of a turn in which the wire gave these bytes, with so much room
 abbrev pub CameOf : Seen → Bool → Side → Side → ℕ → List ℕ → List ℕ → Result Turn ClientFault → Type 0
-CameOf x all_sent old new room out delta (Ok turn) =
-    SideHears x old new turn.events.items delta (take (ad_sum turn.events.items) out)
+CameOf x all_sent old new room out given (Ok turn) =
+    SideHears x old new turn.events.items given (take (ad_sum turn.events.items) out)
     × (ad_sum turn.events.items ≤ room)
-    × (turn.waiting ≡ true → (turn.events.items ≡ []) × (delta ≡ []) × HasToWait new.reader.stage new.raw room)
-    × (turn.waiting ≡ false → turn.events.items ≡ [] → 0 < length delta)
-CameOf x all_sent old new room out delta (Err fault) =
-    SideHears x old new [] delta []
-    × ((fault ≡ Closed) ⊎ ((fault ≡ Device) ⊎ ((fault ≡ NoMemory) ⊎ (IsUnheard fault x all_sent ⊎ IsRefused fault x old delta))))
+    × (turn.waiting ≡ true → (turn.events.items ≡ []) × (given ≡ []) × HasToWait new.reader.stage new.raw room)
+    × (turn.waiting ≡ false → turn.events.items ≡ [] → 0 < length given)
+CameOf x all_sent old new room out given (Err fault) =
+    SideHears x old new [] given []
+    × ((fault ≡ Closed) ⊎ ((fault ≡ Device) ⊎ ((fault ≡ NoMemory) ⊎ (IsUnheard fault x all_sent ⊎ IsRefused fault x old given))))
 
--- a turn of a side without a fault
+-- A turn of a side without a fault makes one read at most.
 pub record ReadTurn (x : Seen) (all_sent : Bool) (room : ℕ) (old new : Side) (before after : Past → Type 0) (out : List ℕ) (result : Result Turn ClientFault) : Type 0 where
-  pub delta : List ℕ
-  pub wire : (p : Past) → before p → (q : Past) × after q × IsLaterRead p delta q × HasReason x all_sent room new.reader.stage p q result
-  pub came : CameOf x all_sent old new room out delta result
+  pub given : List ℕ
+  pub answer : Option Got
+  pub wire : Reads before after given answer
+  pub due : ReadsWhereDue x all_sent room old answer
+  pub fits : FitsGot x all_sent room new.reader.stage answer result
+  pub came : CameOf x all_sent old new room out given result

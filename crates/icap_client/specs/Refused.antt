@@ -106,6 +106,12 @@ SpellsReply point value replies.Continue = (value.status ≡ 100) × HasNothing 
 SpellsReply point value replies.NoMod = (value.status ≡ 204) × HasNothing point (lists_of value)
 SpellsReply point value (replies.Mod layout) = (value.status ≡ 200) × HasLayout point (lists_of value) layout × HasAdaptedHead layout
 
+-- the response may come now; of a 200 that is asked where its other head is read
+abbrev pub MayReply : Seen → Reply → Type 0
+MayReply x replies.Continue = May x Continue
+MayReply x replies.NoMod = May x NoMod
+MayReply x (replies.Mod layout) = Unit {0}
+
 -- no response that is taken has such a head
 abbrev pub SpellsNoReply : ClientFault → Point → Response → Type 0
 SpellsNoReply faults.Layout point value = HasBadList point value

@@ -1,6 +1,6 @@
 //! What holds of all that was heard of a service and sent to it: each law is the contract of a function that does nothing.
 
-ghost use Rattle.std.specs.Prelude.{◌≡◌, ◌≢◌, ℕ, ◌+◌, ◌<◌, ◌^◌, List, [], ◌++◌, length, true, false, Bool};
+ghost use Rattle.std.specs.Prelude.{◌≡◌, ◌≢◌, ◌↔◌, ℕ, ◌+◌, ◌<◌, ◌^◌, List, [], ◌++◌, length, true, false, Bool};
 ghost use Rattle.trace_core.specs.declared.history.Plan.{Plan};
 ghost use Rattle.trace_core.specs.declared.history.Point.{Point};
 ghost use Rattle.trace_core.specs.declared.history.Event.{Event};
@@ -89,6 +89,11 @@ pub fn a_side_begins()
 pub fn others_heard()
     ensures { (x : Seen) (event : Event) (adapted read : List ℕ) (s : Side) → is_of_replies event ≡ false
         → SideHeard x adapted read s → SideHeard (after x event) adapted read s }
+{}
+
+/// Heard stands in the history just where a byte of a reply was read on this connection.
+pub fn heard_says_a_byte()
+    ensures { (x : Seen) (adapted read : List ℕ) (s : Side) → SideHeard x adapted read s → ((x.heard ≡ true) ↔ (0 < length read)) }
 {}
 
 /// Where the reader is over, its tag and its word on closing are those of the final response's ICAP head.

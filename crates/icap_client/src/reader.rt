@@ -20,7 +20,7 @@ use crate::blank_line::{behind, front, head_end};
 use crate::body::read_body;
 use crate::events::{Framed, Heard, body_events, event_list, may_all, payload_of, refusal};
 use crate::lists::has_body;
-use crate::replies::{Reply, reply_of};
+use crate::replies::{Reply, may_reply, reply_of};
 use crate::said::says_close;
 use crate::stage::Stage;
 use adapt_sides::ClientFault;
@@ -123,20 +123,15 @@ impl ReplyReader {
         ensures head { KeepsHead (seen state.now.plan state.now.events) self.old self.new }
         ensures stays { IfErr result (λ _. Stays self.old self.new) }
     {
+        if !may_reply(state, reply) {
+            return Err(ClientFault::NotLegal);
+        }
         match reply {
-            Reply::Continue => {
-                if !state.may(Event::Continue) {
-                    return Err(ClientFault::NotLegal);
-                }
-                Ok(Framed {
-                    used: size,
-                    event: Some(Event::Continue),
-                })
-            }
+            Reply::Continue => Ok(Framed {
+                used: size,
+                event: Some(Event::Continue),
+            }),
             Reply::NoMod => {
-                if !state.may(Event::NoMod) {
-                    return Err(ClientFault::NotLegal);
-                }
                 self.stage = Stage::Over;
                 Ok(Framed {
                     used: size,

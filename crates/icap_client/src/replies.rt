@@ -1,15 +1,16 @@
 //! Which response an ICAP head is.
 
-ghost use Rattle.std.specs.Prelude.{◌≡◌, IfOk, IfErr};
+ghost use Rattle.std.specs.Prelude.{◌≡◌, ◌↔◌, IfOk, IfErr, IsTrue};
 ghost use Rattle.icap_head.specs.Heads.{response_parts};
+ghost use Rattle.trace_core.specs.History.{seen};
 ghost use Rattle.icap_client.specs.Replies.{HasNothing, lists_of};
-ghost use Rattle.icap_client.specs.Refused.{SpellsReply, SpellsNoReply};
+ghost use Rattle.icap_client.specs.Refused.{SpellsReply, SpellsNoReply, MayReply};
 
 use crate::lists::{adapted_layout, has_nothing};
 use adapt_sides::ClientFault;
 use encapsulated::Layout;
 use icap_head::IcapResponse;
-use trace_core::Point;
+use trace_core::{Event, Point, State};
 
 /// A response, as its ICAP head says it.
 #[derive(Clone, Copy, Debug, PartialEq, Eq)]
@@ -47,5 +48,17 @@ fn bare(value: &IcapResponse, point: Point, reply: Reply) -> Result<Reply, Clien
         Ok(reply)
     } else {
         Err(ClientFault::Layout)
+    }
+}
+
+/// Whether the response may come now: a second 100 may not, nor a 204 once bytes of the body that it leaves as it was were
+/// dropped. A 200 is judged where its other head is read.
+pub(crate) fn may_reply(state: &State, reply: Reply) -> bool
+    ensures { IsTrue result ↔ MayReply (seen state.now.plan state.now.events) reply }
+{
+    match reply {
+        Reply::Continue => state.may(Event::Continue),
+        Reply::NoMod => state.may(Event::NoMod),
+        Reply::Mod(_) => true,
     }
 }

@@ -208,9 +208,11 @@ impl ReplySide {
     ) -> Result<Turn, ClientFault>
         requires short { length self.old.raw < 16384 }
         requires waits { HasToWait self.old.reader.stage self.old.raw (length out.old) }
+        requires room { 0 < length out.old }
+        requires going_on { self.old.reader.stage ≡ Stage.Over → ⊥ }
         requires may { May (seen state.now.plan state.now.events) Event.Heard }
         ensures fault { self.new.fault ≡ self.old.fault }
-        ensures turn { (all_sent : Bool) → ReadTurn (seen state.now.plan state.now.events) all_sent (length out.old) self.old self.new (W.past wire.old) (W.past wire.new) out.new result }
+        ensures turn { (all_sent : Bool) → MayRead (seen state.now.plan state.now.events) all_sent → ReadTurn (seen state.now.plan state.now.events) all_sent (length out.old) self.old self.new (W.past wire.old) (W.past wire.new) out.new result }
         ensures head { KeepsHead (seen state.now.plan state.now.events) self.old.reader self.new.reader }
     {
         match self.raw.fill(wire) {
@@ -240,9 +242,11 @@ impl ReplySide {
     ) -> Result<Turn, ClientFault>
         requires short { length self.old.raw < 16384 }
         requires waits { HasToWait self.old.reader.stage self.old.raw (length out.old) }
+        requires room { 0 < length out.old }
+        requires going_on { self.old.reader.stage ≡ Stage.Over → ⊥ }
         requires heard { (seen state.now.plan state.now.events).heard ≡ true }
         ensures fault { self.new.fault ≡ self.old.fault }
-        ensures turn { (all_sent : Bool) → ReadTurn (seen state.now.plan state.now.events) all_sent (length out.old) self.old self.new (W.past wire.old) (W.past wire.new) out.new result }
+        ensures turn { (all_sent : Bool) → MayRead (seen state.now.plan state.now.events) all_sent → ReadTurn (seen state.now.plan state.now.events) all_sent (length out.old) self.old self.new (W.past wire.old) (W.past wire.new) out.new result }
         ensures head { KeepsHead (seen state.now.plan state.now.events) self.old.reader self.new.reader }
     {
         match self.raw.fill(wire) {

@@ -2,43 +2,48 @@ use Rattle.std.proofs.Common.{◌≡◌, Bool, true, false, List, ℕ, [], lengt
 use Rattle.trace_core.specs.declared.history.Event.{Event}
 use Rattle.trace_core.specs.History.{seen}
 use Rattle.icap_client.specs.Events.{ad_sum}
-use Rattle.icap_client.specs.Reading.{Side, SideHears, IsFilled, ReadTurn}
+use Rattle.icap_client.specs.Reading.{Side, SideHears, IsFilled, IsReadDue, ReadTurn}
 use Rattle.icap_client.specs.declared.filled.Filled.TheVariants as filled
 use Rattle.adapt_sides.specs.declared.turn.Turn.{Turn}
 use Rattle.icap_client.proofs.ReadTurns.{turn_bytes, turn_bytes_refused, turn_waited, turn_ended, turn_failed, turn_full}
 use Rattle.icap_client.proofs.side.ReplySide.read_wire.Goals as goal
 
 pub returns-in-Ok-clause-turn : goal.returns-in-Ok-clause-turn
-returns-in-Ok-clause-turn g c = λ a.
+returns-in-Ok-clause-turn g c = λ a m.
+    let due : IsReadDue (seen c.args.state.now.plan c.args.state.now.events) a (length c.args.out.now) c.args.self.now = record { going_on = c.requires.going_on; some_room = c.requires.room; may = m; waits = c.requires.waits } in
     let mid : Side = record { reader = c.self.inside.reader; raw = c.fill.new.self.bytes; fault = c.self.inside.fault; room = c.fill.new.self.room } in
     let t : Turn = record { events = c.in-Ok.events; waiting = false } in
-    turn_bytes (seen c.args.state.now.plan c.args.state.now.events) a (length c.args.out.now) c.args.self.now mid c.frame_raw.new.self (g.W.Wire.past c.args.wire.now) (g.W.Wire.past c.fill.new.wire) c.frame_raw.new.out t c.requires.heard
+    turn_bytes (seen c.args.state.now.plan c.args.state.now.events) a (length c.args.out.now) c.args.self.now mid c.frame_raw.new.self (g.W.Wire.past c.args.wire.now) (g.W.Wire.past c.fill.new.wire) c.frame_raw.new.out t c.requires.heard due
     (ap (λ (s : Side). s.reader) c.self.view_is) (subst (λ (s : Side). IsFilled (g.W.Wire.past c.args.wire.now) (g.W.Wire.past c.fill.new.wire) s.raw c.fill.new.self.bytes filled.Bytes) c.self.view_is c.in-Bytes.ensures.filled) c.in-Ok.ensures.hears c.in-Ok.ensures.room refl
 
 pub returns-in-Err-clause-turn : goal.returns-in-Err-clause-turn
-returns-in-Err-clause-turn g c = λ a.
+returns-in-Err-clause-turn g c = λ a m.
+    let due : IsReadDue (seen c.args.state.now.plan c.args.state.now.events) a (length c.args.out.now) c.args.self.now = record { going_on = c.requires.going_on; some_room = c.requires.room; may = m; waits = c.requires.waits } in
     let mid : Side = record { reader = c.self.inside.reader; raw = c.fill.new.self.bytes; fault = c.self.inside.fault; room = c.fill.new.self.room } in
-    turn_bytes_refused (seen c.args.state.now.plan c.args.state.now.events) a (length c.args.out.now) c.args.self.now mid c.frame_raw.new.self (g.W.Wire.past c.args.wire.now) (g.W.Wire.past c.fill.new.wire) c.frame_raw.new.out c.in-Err.fault c.requires.heard
+    turn_bytes_refused (seen c.args.state.now.plan c.args.state.now.events) a (length c.args.out.now) c.args.self.now mid c.frame_raw.new.self (g.W.Wire.past c.args.wire.now) (g.W.Wire.past c.fill.new.wire) c.frame_raw.new.out c.in-Err.fault c.requires.heard due
     (ap (λ (s : Side). s.reader) c.self.view_is) (subst (λ (s : Side). IsFilled (g.W.Wire.past c.args.wire.now) (g.W.Wire.past c.fill.new.wire) s.raw c.fill.new.self.bytes filled.Bytes) c.self.view_is c.in-Bytes.ensures.filled) c.in-Err.ensures.kept c.in-Err.ensures.refuses
 
 pub returns-in-Wait-clause-turn : goal.returns-in-Wait-clause-turn
-returns-in-Wait-clause-turn g c = λ a.
+returns-in-Wait-clause-turn g c = λ a m.
+    let due : IsReadDue (seen c.args.state.now.plan c.args.state.now.events) a (length c.args.out.now) c.args.self.now = record { going_on = c.requires.going_on; some_room = c.requires.room; may = m; waits = c.requires.waits } in
     let mid : Side = record { reader = c.self.inside.reader; raw = c.fill.new.self.bytes; fault = c.self.inside.fault; room = c.fill.new.self.room } in
     let t : Turn = record { events = c.new.result; waiting = true } in
-    turn_waited (seen c.args.state.now.plan c.args.state.now.events) a (length c.args.out.now) c.args.self.now mid (g.W.Wire.past c.args.wire.now) (g.W.Wire.past c.fill.new.wire) c.args.out.now t
-    (ap (λ (s : Side). s.reader) c.self.view_is) (subst (λ (s : Side). IsFilled (g.W.Wire.past c.args.wire.now) (g.W.Wire.past c.fill.new.wire) s.raw c.fill.new.self.bytes filled.Wait) c.self.view_is c.in-Wait.ensures.filled) c.requires.waits c.new.ensures refl
+    turn_waited (seen c.args.state.now.plan c.args.state.now.events) a (length c.args.out.now) c.args.self.now mid (g.W.Wire.past c.args.wire.now) (g.W.Wire.past c.fill.new.wire) c.args.out.now t due
+    (ap (λ (s : Side). s.reader) c.self.view_is) (subst (λ (s : Side). IsFilled (g.W.Wire.past c.args.wire.now) (g.W.Wire.past c.fill.new.wire) s.raw c.fill.new.self.bytes filled.Wait) c.self.view_is c.in-Wait.ensures.filled) c.new.ensures refl
 
 pub returns-in-Ended-clause-turn : goal.returns-in-Ended-clause-turn
-returns-in-Ended-clause-turn g c = λ a.
+returns-in-Ended-clause-turn g c = λ a m.
+    let due : IsReadDue (seen c.args.state.now.plan c.args.state.now.events) a (length c.args.out.now) c.args.self.now = record { going_on = c.requires.going_on; some_room = c.requires.room; may = m; waits = c.requires.waits } in
     let mid : Side = record { reader = c.self.inside.reader; raw = c.fill.new.self.bytes; fault = c.self.inside.fault; room = c.fill.new.self.room } in
-    turn_ended (seen c.args.state.now.plan c.args.state.now.events) a (length c.args.out.now) c.args.self.now mid (g.W.Wire.past c.args.wire.now) (g.W.Wire.past c.fill.new.wire) c.args.out.now (ap (λ (s : Side). s.reader) c.self.view_is) (subst (λ (s : Side). IsFilled (g.W.Wire.past c.args.wire.now) (g.W.Wire.past c.fill.new.wire) s.raw c.fill.new.self.bytes filled.Ended) c.self.view_is c.in-Ended.ensures.filled)
+    turn_ended (seen c.args.state.now.plan c.args.state.now.events) a (length c.args.out.now) c.args.self.now mid (g.W.Wire.past c.args.wire.now) (g.W.Wire.past c.fill.new.wire) c.args.out.now due (ap (λ (s : Side). s.reader) c.self.view_is) (subst (λ (s : Side). IsFilled (g.W.Wire.past c.args.wire.now) (g.W.Wire.past c.fill.new.wire) s.raw c.fill.new.self.bytes filled.Ended) c.self.view_is c.in-Ended.ensures.filled)
 
 pub returns-in-Failed-clause-turn : goal.returns-in-Failed-clause-turn
-returns-in-Failed-clause-turn g c = λ a.
+returns-in-Failed-clause-turn g c = λ a m.
+    let due : IsReadDue (seen c.args.state.now.plan c.args.state.now.events) a (length c.args.out.now) c.args.self.now = record { going_on = c.requires.going_on; some_room = c.requires.room; may = m; waits = c.requires.waits } in
     let mid : Side = record { reader = c.self.inside.reader; raw = c.fill.new.self.bytes; fault = c.self.inside.fault; room = c.fill.new.self.room } in
-    turn_failed (seen c.args.state.now.plan c.args.state.now.events) a (length c.args.out.now) c.args.self.now mid (g.W.Wire.past c.args.wire.now) (g.W.Wire.past c.fill.new.wire) c.args.out.now (ap (λ (s : Side). s.reader) c.self.view_is) (subst (λ (s : Side). IsFilled (g.W.Wire.past c.args.wire.now) (g.W.Wire.past c.fill.new.wire) s.raw c.fill.new.self.bytes filled.Failed) c.self.view_is c.in-Failed.ensures.filled)
+    turn_failed (seen c.args.state.now.plan c.args.state.now.events) a (length c.args.out.now) c.args.self.now mid (g.W.Wire.past c.args.wire.now) (g.W.Wire.past c.fill.new.wire) c.args.out.now due (ap (λ (s : Side). s.reader) c.self.view_is) (subst (λ (s : Side). IsFilled (g.W.Wire.past c.args.wire.now) (g.W.Wire.past c.fill.new.wire) s.raw c.fill.new.self.bytes filled.Failed) c.self.view_is c.in-Failed.ensures.filled)
 
 pub returns-in-NoMemory-clause-turn : goal.returns-in-NoMemory-clause-turn
-returns-in-NoMemory-clause-turn g c = λ a.
+returns-in-NoMemory-clause-turn g c = λ a m.
     let mid : Side = record { reader = c.self.inside.reader; raw = c.fill.new.self.bytes; fault = c.self.inside.fault; room = c.fill.new.self.room } in
     turn_full (seen c.args.state.now.plan c.args.state.now.events) a (length c.args.out.now) c.args.self.now mid (g.W.Wire.past c.args.wire.now) (g.W.Wire.past c.fill.new.wire) c.args.out.now (ap (λ (s : Side). s.reader) c.self.view_is) (subst (λ (s : Side). IsFilled (g.W.Wire.past c.args.wire.now) (g.W.Wire.past c.fill.new.wire) s.raw c.fill.new.self.bytes filled.NoMemory) c.self.view_is c.in-NoMemory.ensures.filled)

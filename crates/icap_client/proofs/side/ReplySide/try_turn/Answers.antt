@@ -2,7 +2,7 @@ use Rattle.std.proofs.Common.{◌≡◌, Bool, true, false, List, ℕ, [], lengt
 use Rattle.trace_core.specs.declared.history.Event.{Event}
 use Rattle.trace_core.specs.History.{seen}
 use Rattle.icap_client.specs.Events.{ad_sum}
-use Rattle.icap_client.specs.Reading.{Side, SideHears, IsFilled, ReadTurn}
+use Rattle.icap_client.specs.Reading.{Side, SideHears, IsFilled, MayRead, ReadTurn}
 use Rattle.icap_client.specs.declared.filled.Filled.TheVariants as filled
 use Rattle.adapt_sides.specs.declared.turn.Turn.{Turn}
 use Rattle.icap_client.proofs.ReadTurns.{turn_refused, turn_behind, turn_unheard}
@@ -14,19 +14,21 @@ returns-in-Err-clause-turn g c =
 
 pub returns-then-seen-clause-turn : goal.returns-then-seen-clause-turn
 returns-then-seen-clause-turn g c =
+    let may : MayRead (seen c.args.state.now.plan c.args.state.now.events) c.args.all_sent = search rules in
     let none : c.in-Ok.events.items ≡ [] = search rules in
     let still : SideHears (seen c.args.state.now.plan c.args.state.now.events) c.args.self.now c.frame_raw.new.self [] [] [] =
     subst (λ (es : List Event). SideHears (seen c.args.state.now.plan c.args.state.now.events) c.args.self.now c.frame_raw.new.self es [] (take (ad_sum es) c.frame_raw.new.out)) none c.in-Ok.ensures.hears in
     turn_behind (seen c.args.state.now.plan c.args.state.now.events) c.args.all_sent (length c.args.out.now) c.args.self.now c.frame_raw.new.self c.read_wire.new.self (g.W.Wire.past c.args.wire.now) (g.W.Wire.past c.read_wire.new.wire) c.read_wire.new.out c.read_wire.result still
-    (subst (λ (n : ℕ). ReadTurn (seen c.args.state.now.plan c.args.state.now.events) c.args.all_sent n c.frame_raw.new.self c.read_wire.new.self (g.W.Wire.past c.args.wire.now) (g.W.Wire.past c.read_wire.new.wire) c.read_wire.new.out c.read_wire.result) c.frame_raw.auto.out (c.read_wire.ensures.turn c.args.all_sent))
+    (subst (λ (n : ℕ). ReadTurn (seen c.args.state.now.plan c.args.state.now.events) c.args.all_sent n c.frame_raw.new.self c.read_wire.new.self (g.W.Wire.past c.args.wire.now) (g.W.Wire.past c.read_wire.new.wire) c.read_wire.new.out c.read_wire.result) c.frame_raw.auto.out (c.read_wire.ensures.turn c.args.all_sent may))
 
 pub returns-clause-turn : goal.returns-clause-turn
 returns-clause-turn g c =
+    let may : MayRead (seen c.args.state.now.plan c.args.state.now.events) c.args.all_sent = search rules in
     let none : c.in-Ok.events.items ≡ [] = search rules in
     let still : SideHears (seen c.args.state.now.plan c.args.state.now.events) c.args.self.now c.frame_raw.new.self [] [] [] =
     subst (λ (es : List Event). SideHears (seen c.args.state.now.plan c.args.state.now.events) c.args.self.now c.frame_raw.new.self es [] (take (ad_sum es) c.frame_raw.new.out)) none c.in-Ok.ensures.hears in
     turn_behind (seen c.args.state.now.plan c.args.state.now.events) c.args.all_sent (length c.args.out.now) c.args.self.now c.frame_raw.new.self c.read_first.new.self (g.W.Wire.past c.args.wire.now) (g.W.Wire.past c.read_first.new.wire) c.read_first.new.out c.read_first.result still
-    (subst (λ (n : ℕ). ReadTurn (seen c.args.state.now.plan c.args.state.now.events) c.args.all_sent n c.frame_raw.new.self c.read_first.new.self (g.W.Wire.past c.args.wire.now) (g.W.Wire.past c.read_first.new.wire) c.read_first.new.out c.read_first.result) c.frame_raw.auto.out (c.read_first.ensures.turn c.args.all_sent))
+    (subst (λ (n : ℕ). ReadTurn (seen c.args.state.now.plan c.args.state.now.events) c.args.all_sent n c.frame_raw.new.self c.read_first.new.self (g.W.Wire.past c.args.wire.now) (g.W.Wire.past c.read_first.new.wire) c.read_first.new.out c.read_first.result) c.frame_raw.auto.out (c.read_first.ensures.turn c.args.all_sent may))
 
 pub returns-then-not-may-clause-turn : goal.returns-then-not-may-clause-turn
 returns-then-not-may-clause-turn g c =
