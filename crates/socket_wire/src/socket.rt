@@ -1,6 +1,7 @@
 //! A socket as a wire: counts, and what its poll has told of it.
 
 ghost use Rattle.std.specs.Prelude.{◌≡◌, []};
+ghost use Rattle.std.specs.Io.{ReadsAtMost, WritesAtMost};
 ghost use Rattle.wire_kit.specs.Past.{Past, nothing_yet, after_read, after_write};
 ghost use Rattle.socket_wire.specs.Socket.{IsPast};
 
@@ -11,6 +12,35 @@ use std::io::{self, ErrorKind, Read, Write};
 use std::net::Shutdown;
 use std::sync::Arc;
 use wire_kit::{Got, Put, Wire};
+
+/// How often a call is made anew that a signal broke off.
+const CALLS: u32 = 16;
+
+/// Reads once, however often a signal breaks the call off: bytes that lie there would be told of by no further event.
+fn read_once(stream: &mut TcpStream, buf: &mut [u8]) -> io::Result<usize>
+    ensures { ReadsAtMost result buf.new }
+{
+    for _ in 0..CALLS {
+        match stream.read(buf) {
+            Err(error) if error.kind() == ErrorKind::Interrupted => {}
+            answer => return answer,
+        }
+    }
+    stream.read(buf)
+}
+
+/// Writes once, however often a signal breaks the call off.
+fn write_once(stream: &mut TcpStream, bytes: &[u8]) -> io::Result<usize>
+    ensures { WritesAtMost result bytes.now }
+{
+    for _ in 0..CALLS {
+        match stream.write(bytes) {
+            Err(error) if error.kind() == ErrorKind::Interrupted => {}
+            answer => return answer,
+        }
+    }
+    stream.write(bytes)
+}
 
 /// A connection that never blocks, with its counts. A call that can give nothing before the next event answers Wait
 /// without asking the system.
@@ -107,7 +137,7 @@ impl Wire for SocketWire {
         if !self.ready.can_read() || buf.len() as u64 > u64::MAX - self.read {
             return self.wait_to_read();
         }
-        match self.stream.read(buf) {
+        match read_once(&mut self.stream, buf) {
             Ok(0) => {
                 self.ends = self.ends.saturating_add(1);
                 Got::Ended
@@ -126,7 +156,6 @@ impl Wire for SocketWire {
                     self.ready.read_out();
                     self.wait_to_read()
                 }
-                ErrorKind::Interrupted => self.wait_to_read(),
                 _ => {
                     self.faults = self.faults.saturating_add(1);
                     Got::Fault
@@ -139,7 +168,7 @@ impl Wire for SocketWire {
         if !self.ready.can_write() || bytes.len() as u64 > u64::MAX - self.taken {
             return self.wait_to_write();
         }
-        match self.stream.write(bytes) {
+        match write_once(&mut self.stream, bytes) {
             Ok(0) => self.wait_to_write(),
             Ok(n) => {
                 self.taken += n as u64;
@@ -153,7 +182,6 @@ impl Wire for SocketWire {
                     self.ready.filled();
                     self.wait_to_write()
                 }
-                ErrorKind::Interrupted => self.wait_to_write(),
                 _ => {
                     self.faults = self.faults.saturating_add(1);
                     Put::Fault
