@@ -2,8 +2,10 @@
 use Rattle.std.specs.Prelude.{◌≡◌, ℕ, ◌+◌, ◌-◌, ◌<◌, ◌≤◌, Bool, true, false, List, [], ◌++◌, length, take, drop, if◌then◌else◌, nat_lt, ◌==◌, ◌||◌, ◌&&◌, not, vec_capacity}
 use Rattle.icap_chunks.specs.Grammar.{chunk_head, last_chunk, crlf}
 use Rattle.span_tape.specs.Tape.{Tape}
+use Rattle.chunk_writer.specs.declared.draft.TheConstants.{LONG_HEAD}
 use Rattle.chunk_writer.specs.declared.head.HeadText.{HeadText}
 use Rattle.chunk_writer.specs.declared.head.HeadText.TheVariants.{Owned, Constant}
+use Rattle.chunk_writer.specs.declared.next.TheConstants.{MAX_CHUNK}
 use Rattle.chunk_writer.specs.declared.next.Next.{Next}
 use Rattle.chunk_writer.specs.declared.next.Ending.{Ending}
 use Rattle.chunk_writer.specs.declared.next.Ending.TheVariants.{NotYet, Silent, LastChunk}
@@ -108,14 +110,18 @@ next_text left tape next =
 -- What a turn offers: a long head alone; else all that waits, and what comes next.
 abbrev pub offered : Writer → Tape → Next → List ℕ
 offered w tape next =
-    if nat_lt 3900 (length w.head - w.head_out) then drop w.head_out w.head
+    if nat_lt LONG_HEAD (length w.head - w.head_out) then drop w.head_out w.head
     else waiting w ++ next_text w.left tape next
+
+-- so many body bytes fit into one turn, and into the chunk that was begun
+abbrev pub FitsTurn : Writer → Bool → ℕ → Type 0
+FitsTurn w chunked n = (n ≤ MAX_CHUNK) × (chunked ≡ true → 0 < w.left → n ≤ w.left)
 
 -- a turn may go on so: the bytes are on the tape, and they fit into one turn and into the chunk that was begun
 pub record MayGoOn (w : Writer) (tape : Tape) (next : Next) : Type 0 where
   pub low : 0 < next.count → tape.base ≤ next.from
   pub there : 0 < next.count → next.from + next.count ≤ tape.base + length tape.bytes
-  pub few : next.count ≤ 4096
+  pub few : next.count ≤ MAX_CHUNK
   pub within : next.chunked ≡ true → 0 < w.left → next.count ≤ w.left
 
 -- nothing waits and no byte comes next; the end, if it may be fixed, is fixed

@@ -2,8 +2,10 @@
 
 ghost use Rattle.std.specs.Prelude.{◌≡◌, ℕ, ◌+◌, ◌-◌, ◌<◌, ◌≤◌, ◌++◌, ◌⊎◌, List, [], length, drop, take, true, false, min};
 ghost use Rattle.span_tape.specs.Tape.{Tape};
-ghost use Rattle.chunk_writer.specs.Writer.{Writer, fresh, waiting, begun, fixed, sent_on, after_data, bytes_of, end_text, is_ending, data_text, chunk_text, next_text};
+ghost use Rattle.chunk_writer.specs.Writer.{Writer, fresh, waiting, begun, fixed, sent_on, after_data, bytes_of, end_text, is_ending, data_text, chunk_text, next_text, FitsTurn};
 ghost use Rattle.chunk_writer.specs.Moves.{Moves};
+ghost use Rattle.adapt_bytes.specs.declared.limits.TheConstants.{COUNT_LIMIT};
+ghost use Rattle.chunk_writer.specs.declared.next.TheConstants.{MAX_CHUNK};
 
 mod offering;
 
@@ -113,12 +115,13 @@ impl ChunkWriter {
         self.left
     }
 
-    /// How many body bytes may go next, of at most so many: no more than fit into a turn, and into the chunk that was begun.
+    /// How many body bytes may go next, of at most so many: all that fit into a turn, and into the chunk that was begun.
     pub fn fit(&self, chunked: bool, most: u64) -> u64
-        ensures few { result ≤ 4096 }
+        ensures few { result ≤ MAX_CHUNK }
         ensures most { result ≤ most }
         ensures within { chunked ≡ true → 0 < self.now.left → result ≤ self.now.left }
         ensures some { 0 < most → 0 < result }
+        ensures greatest { (n : ℕ) → n ≤ most → FitsTurn self.now chunked n → n ≤ result }
     {
         let few = most.min(MAX_CHUNK);
         if chunked && self.left > 0 {
@@ -157,7 +160,7 @@ impl ChunkWriter {
     /// Fixes the size line of a chunk.
     fn begin_chunk(&mut self, n: u64)
         requires some { 0 < n }
-        requires fits { n < 4611686018427387904 }
+        requires fits { n < COUNT_LIMIT }
         ensures { self.new ≡ begun self.old n }
     {
         let mut framing = Small::new();
@@ -258,7 +261,7 @@ impl ChunkWriter {
         requires none { self.old.left ≡ 0 }
         requires chunked { next.now.chunked ≡ true }
         requires more { 0 < next.now.count }
-        requires few { next.now.count ≤ 4096 }
+        requires few { next.now.count ≤ MAX_CHUNK }
         ensures { (tape : Tape) (old : Writer) (d : List ℕ) → length (bytes_of tape next.now) ≡ next.now.count
             → Moves tape next.now old 0 false d self.old
             → Moves tape next.now old result.0 result.1 (d ++ take count (chunk_text tape next.now)) self.new }
@@ -277,7 +280,7 @@ impl ChunkWriter {
     /// What comes next, of which so many bytes went out.
     fn took_next(&mut self, count: usize, next: &Next) -> (u64, bool)
         requires out { waiting self.old ≡ [] }
-        requires few { next.now.count ≤ 4096 }
+        requires few { next.now.count ≤ MAX_CHUNK }
         requires within { next.now.chunked ≡ true → 0 < self.old.left → next.now.count ≤ self.old.left }
         ensures moves { (tape : Tape) (old : Writer) (d : List ℕ) → length (bytes_of tape next.now) ≡ next.now.count
             → Moves tape next.now old 0 false d self.old
@@ -299,7 +302,7 @@ impl ChunkWriter {
 
     /// What waits and what comes next, of which so many bytes went out.
     fn took(&mut self, count: usize, next: &Next) -> (u64, bool)
-        requires few { next.now.count ≤ 4096 }
+        requires few { next.now.count ≤ MAX_CHUNK }
         requires within { next.now.chunked ≡ true → 0 < self.old.left → next.now.count ≤ self.old.left }
         ensures { (tape : Tape) → length (bytes_of tape next.now) ≡ next.now.count
             → Moves tape next.now self.old result.0 result.1 (take count (waiting self.old ++ next_text self.old.left tape next.now)) self.new }

@@ -1,36 +1,54 @@
 //! Composing the text of one write, and offering it.
 
-ghost use Rattle.std.specs.Prelude.{◌≡◌, ◌-◌, ◌<◌, ◌≤◌, ◌++◌, [], length, drop, None, Some, true};
+ghost use Rattle.std.specs.Prelude.{◌≡◌, ◌+◌, ◌-◌, ◌<◌, ◌≤◌, ◌++◌, [], length, drop, None, Some, true};
 ghost use Rattle.wire_kit.specs.Past.{Offers, delta_of, part_taken};
 ghost use Rattle.chunk_writer.specs.Writer.{IsIdle, waiting, data_text, end_text, next_text, offered, MayGoOn};
 ghost use Rattle.chunk_writer.specs.Moves.{Moves, Passes, IsStill};
+ghost use Rattle.chunk_writer.specs.declared.draft.TheConstants.{LONG_HEAD, ROOM};
+ghost use Rattle.chunk_writer.specs.declared.next.TheConstants.{MAX_CHUNK};
 
 use super::{ChunkWriter, Wrote};
-use crate::draft::Draft;
+use crate::draft::{Draft, LONG_HEAD, ROOM, SHORT};
 use crate::next::Next;
 use span_tape::SpanTape;
 use wire_kit::{Put, Wire};
 
-/// A longer head goes out alone, so that a turn's text has room for the rest.
-const LONG_HEAD: usize = 3900;
-
 impl ChunkWriter {
+    /// The most bytes that what waits and what comes next may have.
+    #[tactic(auto, using(crate::proofs::Texts::length_waiting))]
+    fn need(&self, next: &Next) -> usize
+        requires few { next.now.count ≤ MAX_CHUNK }
+        requires fits { length self.now.head - self.now.head_out ≤ LONG_HEAD }
+        ensures need { result ≡ length (waiting self.now) + next.now.count + 130 }
+        ensures room { result ≤ ROOM }
+    {
+        let waiting = self.head.as_slice().len() - self.head_out
+            + (self.framing.as_slice().len() - self.framing_out);
+        waiting + next.count as usize + 130
+    }
+
     /// Composes what waits.
-    fn put_waiting(&self, draft: &mut Draft)
-        requires fits { length self.now.head - self.now.head_out ≤ 3900 }
+    #[tactic(auto, using(crate::proofs::Texts::length_waiting))]
+    fn put_waiting<const N: usize>(&self, draft: &mut Draft<N>)
+        requires room { length (waiting self.now) ≤ N }
         requires empty { draft.old ≡ [] }
-        ensures text { draft.new ≡ waiting self.now }
-        ensures short { length draft.new ≤ 3964 }
+        ensures { draft.new ≡ waiting self.now }
     {
         draft.put(&self.head.as_slice()[self.head_out..]);
         draft.put(&self.framing.as_slice()[self.framing_out..]);
     }
 
     /// Composes the body bytes and what stands behind them.
-    fn put_data(&self, left: u64, next: &Next, tape: &SpanTape, draft: &mut Draft)
+    fn put_data<const N: usize>(
+        &self,
+        left: u64,
+        next: &Next,
+        tape: &SpanTape,
+        draft: &mut Draft<N>,
+    )
         requires next { MayGoOn self.now tape.now next.now }
         requires more { 0 < next.now.count }
-        requires room { length draft.old ≤ 4028 }
+        requires room { length draft.old + next.now.count + 66 ≤ N }
         ensures { draft.new ≡ draft.old ++ data_text left tape.now next.now }
     {
         draft.put_places(tape, next.from, next.count as usize);
@@ -43,9 +61,9 @@ impl ChunkWriter {
     }
 
     /// Composes what comes next.
-    fn put_next(&self, next: &Next, tape: &SpanTape, draft: &mut Draft)
+    fn put_next<const N: usize>(&self, next: &Next, tape: &SpanTape, draft: &mut Draft<N>)
         requires next { MayGoOn self.now tape.now next.now }
-        requires room { length draft.old ≤ 3964 }
+        requires room { length draft.old + next.now.count + 130 ≤ N }
         ensures { draft.new ≡ draft.old ++ next_text self.now.left tape.now next.now }
     {
         if next.count == 0 {
@@ -60,7 +78,7 @@ impl ChunkWriter {
 
     /// Offers a long head.
     fn write_head<W: Wire>(&mut self, wire: &mut W) -> Put
-        requires { 3900 < length self.old.head - self.old.head_out }
+        requires { LONG_HEAD < length self.old.head - self.old.head_out }
         ensures wire { Offers (W.past wire.old) (W.past wire.new) (drop self.old.head_out self.old.head) (Some result) }
         ensures passes { Passes self.old (part_taken result (drop self.old.head_out self.old.head)) self.new }
     {
@@ -71,9 +89,16 @@ impl ChunkWriter {
         answer
     }
 
-    /// Offers what waits and what comes next, in one write.
-    fn write_all<W: Wire>(&mut self, next: &Next, tape: &SpanTape, wire: &mut W) -> Wrote
-        requires fits { length self.old.head - self.old.head_out ≤ 3900 }
+    /// Offers what waits and what comes next, in one write that is composed there.
+    fn offer<const N: usize, W: Wire>(
+        &mut self,
+        draft: &mut Draft<N>,
+        next: &Next,
+        tape: &SpanTape,
+        wire: &mut W,
+    ) -> Wrote
+        requires empty { draft.old ≡ [] }
+        requires room { length (waiting self.old) + next.now.count + 130 ≤ N }
         requires next { MayGoOn self.old tape.now next.now }
         ensures wire { Offers (W.past wire.old) (W.past wire.new) (waiting self.old ++ next_text self.old.left tape.now next.now) result.answer }
         ensures moves { Moves tape.now next.now self.old result.sent result.ended
@@ -81,10 +106,11 @@ impl ChunkWriter {
         ensures idle { result.answer ≡ None → IsIdle self.old next.now result.sent result.ended }
         ensures out { result.answer ≡ None → waiting self.new ≡ [] }
         ensures still { IsStill result.answer result.sent result.ended }
+        ensures silent { result.answer ≡ None → waiting self.old ++ next_text self.old.left tape.now next.now ≡ [] }
+        ensures asks { waiting self.old ++ next_text self.old.left tape.now next.now ≡ [] → result.answer ≡ None }
     {
-        let mut draft = Draft::new();
-        self.put_waiting(&mut draft);
-        self.put_next(next, tape, &mut draft);
+        self.put_waiting(draft);
+        self.put_next(next, tape, draft);
         if draft.is_empty() {
             return Wrote {
                 answer: None,
@@ -114,6 +140,29 @@ impl ChunkWriter {
         }
     }
 
+    /// Offers what waits and what comes next, in one write. Most texts are short, and room for a long one is made for those
+    /// alone that need it.
+    fn write_all<W: Wire>(&mut self, next: &Next, tape: &SpanTape, wire: &mut W) -> Wrote
+        requires fits { length self.old.head - self.old.head_out ≤ LONG_HEAD }
+        requires next { MayGoOn self.old tape.now next.now }
+        ensures wire { Offers (W.past wire.old) (W.past wire.new) (waiting self.old ++ next_text self.old.left tape.now next.now) result.answer }
+        ensures moves { Moves tape.now next.now self.old result.sent result.ended
+            (delta_of (waiting self.old ++ next_text self.old.left tape.now next.now) result.answer) self.new }
+        ensures idle { result.answer ≡ None → IsIdle self.old next.now result.sent result.ended }
+        ensures out { result.answer ≡ None → waiting self.new ≡ [] }
+        ensures still { IsStill result.answer result.sent result.ended }
+        ensures silent { result.answer ≡ None → waiting self.old ++ next_text self.old.left tape.now next.now ≡ [] }
+        ensures asks { waiting self.old ++ next_text self.old.left tape.now next.now ≡ [] → result.answer ≡ None }
+    {
+        if self.need(next) <= SHORT {
+            let mut draft = Draft::<SHORT>::new();
+            self.offer(&mut draft, next, tape, wire)
+        } else {
+            let mut draft = Draft::<ROOM>::new();
+            self.offer(&mut draft, next, tape, wire)
+        }
+    }
+
     /// Whether nothing waits, and no text comes next.
     fn is_idle(&self, next: &Next) -> bool
         ensures out { result ≡ true → waiting self.now ≡ [] }
@@ -136,6 +185,10 @@ impl ChunkWriter {
         ensures idle { result.answer ≡ None → IsIdle self.old next.now result.sent result.ended }
         ensures out { result.answer ≡ None → waiting self.new ≡ [] }
         ensures still { IsStill result.answer result.sent result.ended }
+
+        // The wire is asked exactly where there is a text to offer.
+        ensures silent { result.answer ≡ None → offered self.old tape.now next.now ≡ [] }
+        ensures asks { offered self.old tape.now next.now ≡ [] → result.answer ≡ None }
     {
         if self.is_idle(next) {
             return Wrote {

@@ -1,5 +1,7 @@
 use Rattle.std.proofs.Common.{◌≡◌, ◌-◌, ℕ, true, false, [], nat_lt, length, drop, rules, sym, subst}
 use Rattle.wire_kit.specs.Past.{part_taken}
+use Rattle.chunk_writer.specs.declared.draft.TheConstants.{LONG_HEAD}
+use Rattle.chunk_writer.proofs.Moving.{none_offered}
 use Rattle.chunk_writer.specs.Moves.{Moves}
 use Rattle.chunk_writer.specs.Moves.Moves.{start, passed}
 use Rattle.chunk_writer.proofs.writer.ChunkWriter.write.Goals as goal
@@ -17,5 +19,11 @@ pub returns-then-as_slice-self-gt-LONG_HEAD-clause-moves :
     goal.returns-then-as_slice-self-gt-LONG_HEAD-clause-moves
 returns-then-as_slice-self-gt-LONG_HEAD-clause-moves g c =
     let w = c.args.self.now in
-    let long : nat_lt 3900 (length w.head - w.head_out) ≡ true = search rules in
+    let long : nat_lt LONG_HEAD (length w.head - w.head_out) ≡ true = search rules in
     rw long (passed start (part_taken c.write_head.result (drop w.head_out w.head)) c.write_head.new.self c.write_head.ensures.passes)
+
+pub returns-then-is_idle-clause-silent : goal.returns-then-is_idle-clause-silent
+returns-then-is_idle-clause-silent g c e =
+    let w = c.args.self.now in
+    let next = c.args.next.now in
+    none_offered w c.args.tape.now next (c.is_idle.ensures.out c.if-is_idle.true) (c.is_idle.ensures.none c.if-is_idle.true) (c.is_idle.ensures.silent c.if-is_idle.true)
