@@ -28,6 +28,7 @@ use Rattle.http_relay.specs.Giving.{Hop, LetsGo, GivesMessage, HasGiven, GivenAt
 use Rattle.trace_core.specs.Turns.{after_all, MayAllFollow}
 use Rattle.adapt_sides.specs.Tapes.{Follows, KeepsUndelivered}
 use Rattle.adapt_sides.specs.Turns.{events_of}
+use Rattle.http_relay.proofs.Counted.{took_body}
 use Rattle.http_relay.specs.Writing.{GoesOn, WriteTurn, Fits, FitsAnswer}
 use Rattle.http_relay.proofs.Chosen.{done_means}
 use Rattle.http_relay.proofs.Given.{gives_passed}
@@ -102,6 +103,7 @@ goes_on x tape next old new k e done d s u c m t = record {
   sent = k;
   done = done;
   events_are = refl;
+  counted = took_body x tape next old.writer new.writer k e d c.from m;
   whole = t.done_at;
   framing = t.framing;
   gift = ap gift_of t.stage ∙ gift_then old.stage e (begun_at_end x next old k e c (reaches tape next old.writer new.writer k e d m));
@@ -126,6 +128,7 @@ goes_same x tape old new w f s t = record {
   sent = 0;
   done = false;
   events_are = refl;
+  counted = record { before = []; behind = []; bytes_are = refl };
   whole = λ h. cc;
   framing = f;
   gift = ap gift_of s;
@@ -166,6 +169,7 @@ goes_let_go x tape old mid new events delta l g = record {
   sent = g.sent;
   done = g.done;
   events_are = g.events_are;
+  counted = g.counted;
   whole = λ d. (l.stage ∙ (g.whole d).0, l.waiting_is ∙ (g.whole d).1);
   framing = l.framing ∙ g.framing;
   gift = ap gift_of l.stage ∙ g.gift;

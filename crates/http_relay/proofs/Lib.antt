@@ -12,3 +12,4 @@ pub mod Whole
 pub mod Gives
 pub mod TooLong
 pub mod Missed
+pub mod Counted

@@ -1,5 +1,5 @@
 -- What a write turn of the next hop does.
-use Rattle.std.specs.Prelude.{◌≡◌, ℕ, ◌⊎◌, Bool, true, false, List, [], ◌++◌, Option, Some, None, Result, Ok, Err}
+use Rattle.std.specs.Prelude.{◌≡◌, ℕ, ◌-◌, ◌⊎◌, Bool, true, false, List, [], ◌++◌, take, drop, Option, Some, None, Result, Ok, Err}
 use Rattle.trace_core.specs.declared.history.Event.{Event}
 use Rattle.trace_core.specs.declared.history.Seen.{Seen}
 use Rattle.span_tape.specs.Tape.{Tape}
@@ -12,9 +12,15 @@ use Rattle.adapt_sides.specs.declared.fault.RelayFault.{RelayFault}
 use Rattle.adapt_sides.specs.declared.fault.RelayFault.TheVariants.{Device, Length}
 use Rattle.http_relay.specs.declared.hop.Stage.TheVariants as at
 use Rattle.trace_core.specs.Turns.{after_all, MayAllFollow}
-use Rattle.adapt_sides.specs.Tapes.{Follows}
+use Rattle.adapt_sides.specs.Tapes.{Follows, chosen_delivered}
 use Rattle.adapt_sides.specs.Turns.{events_of}
 use Rattle.http_relay.specs.Giving.{Hop, HasGiven, IsAside, NothingDue, BreaksLength, is_message, turn_events, gift_of}
+
+-- so many bytes of the body, the next ones on its tape, are among those that the wire took
+pub record TookBody (x : Seen) (tape : Tape) (count : ℕ) (delta : List ℕ) : Type 0 where
+  pub before : List ℕ
+  pub behind : List ℕ
+  pub bytes_are : delta ≡ before ++ (take count (drop (chosen_delivered x - tape.base) tape.bytes) ++ behind)
 
 -- The side goes on by these events while its wire takes these bytes; Done stands only where the message's text is out whole.
 pub record GoesOn (x : Seen) (tape : Tape) (old new : Hop) (events : List Event) (delta : List ℕ) : Type 0 where
@@ -24,6 +30,7 @@ pub record GoesOn (x : Seen) (tape : Tape) (old new : Hop) (events : List Event)
   pub sent : ℕ
   pub done : Bool
   pub events_are : events ≡ turn_events sent done
+  pub counted : TookBody x tape sent delta
   pub whole : done ≡ true → (new.stage ≡ at.Whole) × (waiting new.writer ≡ [])
   pub framing : new.framing ≡ old.framing
   pub gift : gift_of new.stage ≡ gift_of old.stage
