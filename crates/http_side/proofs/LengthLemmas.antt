@@ -6,6 +6,7 @@ use Rattle.std.proofs.lemmas.List.Sums.{fold-append}
 use Rattle.std.specs.Char.{digit_value}
 use Rattle.std.specs.Str.Parse.{AllDigits, digits_value}
 use Rattle.adapt_bytes.specs.Numeral.{Writes}
+use Rattle.adapt_bytes.specs.declared.limits.TheConstants.{COUNT_LIMIT}
 use Rattle.http_side.specs.declared.fault.HttpFault.{HttpFault}
 use Rattle.http_side.specs.Fields.{same_name, name_at, value_at, values_of}
 use Rattle.http_side.specs.Lengths.{is_digit, is_numeral, length_value, agreed, content_length}
@@ -26,32 +27,32 @@ all_digits (b ∷ bs) h = let s = by_test (is_digit b) refl h in (s.0, all_digit
 numeral_is : (value : List ℕ) (n : ℕ) → Writes 10 value n → is_numeral value ≡ true
 numeral_is value n w = rw (lt-ltb 0 (length value) w.digits.0, digits_all value w.digits.1) refl
 
-pub length_some : (value : List ℕ) (n : ℕ) → Writes 10 value n → n < 4611686018427387904 → Some n ≡ length_value value
+pub length_some : (value : List ℕ) (n : ℕ) → Writes 10 value n → n < COUNT_LIMIT → Some n ≡ length_value value
 length_some value n w l =
-    let small : digits_value 10 value < 4611686018427387904 = omega (arith, w.value) in
-    rw (numeral_is value n w, lt-ltb (digits_value 10 value) 4611686018427387904 small) (ap Some (sym w.value))
+    let small : digits_value 10 value < COUNT_LIMIT = omega (arith, w.value) in
+    rw (numeral_is value n w, lt-ltb (digits_value 10 value) COUNT_LIMIT small) (ap Some (sym w.value))
 
-pub length_big : (value : List ℕ) (n : ℕ) → Writes 10 value n → 4611686018427387904 ≤ n → None ≡ length_value value
+pub length_big : (value : List ℕ) (n : ℕ) → Writes 10 value n → COUNT_LIMIT ≤ n → None ≡ length_value value
 length_big value n w l =
-    let big : 4611686018427387904 ≤ digits_value 10 value = omega (arith, w.value) in
-    rw (numeral_is value n w, le-ltb (digits_value 10 value) 4611686018427387904 big) refl
+    let big : COUNT_LIMIT ≤ digits_value 10 value = omega (arith, w.value) in
+    rw (numeral_is value n w, le-ltb (digits_value 10 value) COUNT_LIMIT big) refl
 
 pub length_none : (value : List ℕ) → ((n : ℕ) → n < 2 ^ 64 → Writes 10 value n → ⊥) → None ≡ length_value value
-length_none value none = by_test (is_numeral value && nat_lt (digits_value 10 value) 4611686018427387904) refl
+length_none value none = by_test (is_numeral value && nat_lt (digits_value 10 value) COUNT_LIMIT) refl
   where
     parts : (s t : Bool) → (s && t) ≡ true → (s ≡ true) × (t ≡ true)
     parts true true e = (refl, refl)
     parts true false e = absurd (let f : false ≡ true = e in cc)
     parts false t e = absurd (let f : false ≡ true = e in cc)
 
-    writes : (is_numeral value && nat_lt (digits_value 10 value) 4611686018427387904) ≡ true → ⊥
+    writes : (is_numeral value && nat_lt (digits_value 10 value) COUNT_LIMIT) ≡ true → ⊥
     writes e =
-        let both = parts (is_numeral value) (nat_lt (digits_value 10 value) 4611686018427387904) e in
+        let both = parts (is_numeral value) (nat_lt (digits_value 10 value) COUNT_LIMIT) e in
         let digits = parts (nat_lt 0 (length value)) (list_all is_digit value) both.0 in
-        let small = ltb-true (digits_value 10 value) 4611686018427387904 both.1 in
+        let small = ltb-true (digits_value 10 value) COUNT_LIMIT both.1 in
         none (digits_value 10 value) (omega arith) (record { digits = (ltb-true 0 (length value) digits.0, all_digits value digits.1); value = refl })
 
-    by_test : (t : Bool) → (is_numeral value && nat_lt (digits_value 10 value) 4611686018427387904) ≡ t → None ≡ length_value value
+    by_test : (t : Bool) → (is_numeral value && nat_lt (digits_value 10 value) COUNT_LIMIT) ≡ t → None ≡ length_value value
     by_test true e = absurd (writes e)
     by_test false e = rw e refl
 

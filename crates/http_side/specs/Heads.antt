@@ -5,6 +5,7 @@ use Rattle.httparse.specs.Spans.{name_and_value, span_bytes, header_bytes}
 use Rattle.httparse.specs.declared.spans.HeaderSpan.{HeaderSpan}
 use Rattle.httparse.specs.declared.spans.RequestSpans.{RequestSpans}
 use Rattle.httparse.specs.declared.spans.ResponseSpans.{ResponseSpans}
+use Rattle.adapt_bytes.specs.declared.limits.TheConstants.{MAX_HEAD}
 use Rattle.http_side.specs.declared.fault.HttpFault.{HttpFault}
 use Rattle.http_side.specs.declared.fault.HttpFault.TheVariants as Faults
 use Rattle.http_side.specs.declared.fault.HttpFault.TheVariants.{More, TooLong, Bad, BothLengths, Lengths, Coding}
@@ -61,11 +62,11 @@ pub record IsResponseAt (text : List ℕ) (parts : ResponseParts) (len : ℕ) : 
 
 -- what is judged of a text
 abbrev pub judged : List ℕ → List ℕ
-judged text = take 16384 text
+judged text = take MAX_HEAD text
 
 -- a head without an end among so many bytes: more may come, or it is too long
 abbrev pub unended : ℕ → HttpFault
-unended len = if nat_lt len 16384 then More else TooLong
+unended len = if nat_lt len MAX_HEAD then More else TooLong
 
 abbrev pub count_of : List ℕ → List (List ℕ × List ℕ) → ℕ
 count_of name fields = length (values_of name fields)

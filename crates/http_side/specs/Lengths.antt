@@ -7,6 +7,7 @@ use Rattle.http_side.specs.declared.fault.HttpFault.{HttpFault}
 use Rattle.http_side.specs.declared.fault.HttpFault.TheVariants.{Lengths, Coding}
 use Rattle.http_side.specs.Fields.{values_of}
 use Rattle.adapt_bytes.specs.Text.{comma_items}
+use Rattle.adapt_bytes.specs.declared.limits.TheConstants.{COUNT_LIMIT}
 use Rattle.http_side.specs.Items.{is_only}
 
 abbrev pub is_digit : ℕ → Bool
@@ -16,10 +17,10 @@ is_digit b = nat_lt (digit_value b) 10
 abbrev pub is_numeral : List ℕ → Bool
 is_numeral value = nat_lt 0 (length value) && list_all is_digit value
 
--- a decimal of any length up to 2^62 - 1
+-- a decimal, of any number of digits, below the limit of counts
 abbrev pub length_value : List ℕ → Option ℕ
 length_value value =
-    if is_numeral value && nat_lt (digits_value 10 value) 4611686018427387904 then Some (digits_value 10 value) else None
+    if is_numeral value && nat_lt (digits_value 10 value) COUNT_LIMIT then Some (digits_value 10 value) else None
 
 -- the length is the one found, if any was
 abbrev pub same_length : Option ℕ → ℕ → Result (Option ℕ) HttpFault

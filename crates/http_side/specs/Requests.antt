@@ -2,6 +2,7 @@
 use Rattle.std.specs.Prelude.{◌≡◌, ◌≢◌, ℕ, ◌++◌, ◌<◌, ◌≤◌, ◌⊎◌, Bool, true, false, List, [], length, Some, None}
 use Rattle.httparse.specs.Grammar.{RequestHead, ReadsRequest, HasNoRequest, NeverHasRequest, MayBecomeRequest, EndsInTarget}
 use Rattle.httparse.specs.Spans.{RequestOverflows, RequestExceeds}
+use Rattle.adapt_bytes.specs.declared.limits.TheConstants.{MAX_HEAD, MAX_FIELDS}
 use Rattle.http_side.specs.declared.fault.HttpFault.{HttpFault}
 use Rattle.http_side.specs.declared.fault.HttpFault.TheVariants.{More, Bad, TooLong, TooMany, BothLengths, Lengths, Coding, Target, Connect, NoMemory}
 use Rattle.http_side.specs.Heads.{RequestParts, request_parts, IsRequestAt, judged, unended, request_fault, is_connect}
@@ -27,7 +28,7 @@ pub record IsTaken (adapted : Bool) (r : RequestParts) : Type 0 where
 -- the text begins with a head that is refused so
 abbrev pub HasRefused : Bool → List ℕ → HttpFault → Type 0
 HasRefused adapted text fault =
-    (head : RequestHead) × (rest : List ℕ) × ReadsRequest text head rest × (length head.fields ≤ 100) × Refuses adapted (request_parts head) fault
+    (head : RequestHead) × (rest : List ℕ) × ReadsRequest text head rest × (length head.fields ≤ MAX_FIELDS) × Refuses adapted (request_parts head) fault
 
 -- no head is there, and more bytes may make one
 abbrev pub IsUnfinished : List ℕ → Type 0
@@ -35,24 +36,24 @@ IsUnfinished text = HasNoRequest text × MayBecomeRequest text
 
 -- a text is refused for this
 abbrev pub RefusesText : Bool → List ℕ → HttpFault → Type 0
-RefusesText adapted text More = IsUnfinished (judged text) × (length text < 16384)
+RefusesText adapted text More = IsUnfinished (judged text) × (length text < MAX_HEAD)
 RefusesText adapted text Bad = NeverHasRequest (judged text) ⊎ HasRefused adapted (judged text) Bad
-RefusesText adapted text TooLong = IsUnfinished (judged text) × (16384 ≤ length text)
-RefusesText adapted text TooMany = RequestExceeds 100 (judged text) × RequestOverflows 100 (judged text)
+RefusesText adapted text TooLong = IsUnfinished (judged text) × (MAX_HEAD ≤ length text)
+RefusesText adapted text TooMany = RequestExceeds MAX_FIELDS (judged text) × RequestOverflows MAX_FIELDS (judged text)
 RefusesText adapted text fault = HasRefused adapted (judged text) fault
 
 -- no head is there, and some bytes more make one of at most 100 fields
 abbrev pub AwaitsRequest : List ℕ → Type 0
 AwaitsRequest text =
-    HasNoRequest text × ((more : List ℕ) × (head : RequestHead) × ReadsRequest (text ++ more) head [] × (length head.fields ≤ 100))
+    HasNoRequest text × ((more : List ℕ) × (head : RequestHead) × ReadsRequest (text ++ more) head [] × (length head.fields ≤ MAX_FIELDS))
 
 -- no bytes more make a head, neither within a target that has no end yet nor for the number of the fields alone
 abbrev pub IsNoRequest : List ℕ → Type 0
-IsNoRequest text = NeverHasRequest text × ¬ (EndsInTarget text) × ¬ (RequestExceeds 100 text)
+IsNoRequest text = NeverHasRequest text × ¬ (EndsInTarget text) × ¬ (RequestExceeds MAX_FIELDS text)
 
 -- a head of more than 100 fields is there
 abbrev pub HasLongRequest : List ℕ → Type 0
-HasLongRequest text = (head : RequestHead) × (rest : List ℕ) × ReadsRequest text head rest × (100 < length head.fields)
+HasLongRequest text = (head : RequestHead) × (rest : List ℕ) × ReadsRequest text head rest × (MAX_FIELDS < length head.fields)
 
 -- a text has to be refused for this: what its first 16,384 bytes begin with decides
 abbrev pub RefusesRequest : Bool → List ℕ → HttpFault → Type 0
@@ -65,5 +66,5 @@ RefusesRequest adapted text fault =
 -- the head and its length, as they are answered
 pub record IsRead (adapted : Bool) (text : List ℕ) (r : RequestParts) (len : ℕ) : Type 0 where
   pub there : IsRequestAt (judged text) r len
-  pub few : length r.fields ≤ 100
+  pub few : length r.fields ≤ MAX_FIELDS
   pub taken : IsTaken adapted r

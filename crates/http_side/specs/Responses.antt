@@ -2,6 +2,7 @@
 use Rattle.std.specs.Prelude.{◌≡◌, ◌≢◌, ℕ, ◌++◌, ◌<◌, ◌≤◌, ◌⊎◌, Bool, false, List, [], length, Some, None}
 use Rattle.httparse.specs.Grammar.{ResponseHead, ReadsResponse, HasNoResponse, NeverHasResponse, MayBecomeResponse}
 use Rattle.httparse.specs.Spans.{ResponseOverflows, ResponseExceeds}
+use Rattle.adapt_bytes.specs.declared.limits.TheConstants.{MAX_HEAD, MAX_FIELDS}
 use Rattle.http_side.specs.declared.fault.HttpFault.{HttpFault}
 use Rattle.http_side.specs.declared.fault.HttpFault.TheVariants.{More, Bad, TooLong, TooMany, Lengths, Coding, NoMemory}
 use Rattle.http_side.specs.Heads.{ResponseParts, response_parts, IsResponseAt, judged, unended, response_fault}
@@ -16,7 +17,7 @@ RefusesAnswer r _ = ⊥
 -- the text begins with a head that is refused so
 abbrev pub HasRefusedAnswer : List ℕ → HttpFault → Type 0
 HasRefusedAnswer text fault =
-    (head : ResponseHead) × (rest : List ℕ) × ReadsResponse text head rest × (length head.fields ≤ 100) × RefusesAnswer (response_parts head false) fault
+    (head : ResponseHead) × (rest : List ℕ) × ReadsResponse text head rest × (length head.fields ≤ MAX_FIELDS) × RefusesAnswer (response_parts head false) fault
 
 -- no head is there, and more bytes may make one
 abbrev pub IsUnfinishedResponse : List ℕ → Type 0
@@ -24,24 +25,24 @@ IsUnfinishedResponse text = HasNoResponse text × MayBecomeResponse text
 
 -- a text is refused for this
 abbrev pub RefusesResponse : List ℕ → HttpFault → Type 0
-RefusesResponse text More = IsUnfinishedResponse (judged text) × (length text < 16384)
+RefusesResponse text More = IsUnfinishedResponse (judged text) × (length text < MAX_HEAD)
 RefusesResponse text Bad = NeverHasResponse (judged text)
-RefusesResponse text TooLong = IsUnfinishedResponse (judged text) × (16384 ≤ length text)
-RefusesResponse text TooMany = ResponseExceeds 100 (judged text) × ResponseOverflows 100 (judged text)
+RefusesResponse text TooLong = IsUnfinishedResponse (judged text) × (MAX_HEAD ≤ length text)
+RefusesResponse text TooMany = ResponseExceeds MAX_FIELDS (judged text) × ResponseOverflows MAX_FIELDS (judged text)
 RefusesResponse text fault = HasRefusedAnswer (judged text) fault
 
 -- no head is there, and some bytes more make one of at most 100 fields
 abbrev pub AwaitsResponse : List ℕ → Type 0
 AwaitsResponse text =
-    HasNoResponse text × ((more : List ℕ) × (head : ResponseHead) × ReadsResponse (text ++ more) head [] × (length head.fields ≤ 100))
+    HasNoResponse text × ((more : List ℕ) × (head : ResponseHead) × ReadsResponse (text ++ more) head [] × (length head.fields ≤ MAX_FIELDS))
 
 -- no bytes more make a head, and not for the number of the fields alone
 abbrev pub IsNoResponse : List ℕ → Type 0
-IsNoResponse text = NeverHasResponse text × ¬ (ResponseExceeds 100 text)
+IsNoResponse text = NeverHasResponse text × ¬ (ResponseExceeds MAX_FIELDS text)
 
 -- a head of more than 100 fields is there
 abbrev pub HasLongResponse : List ℕ → Type 0
-HasLongResponse text = (head : ResponseHead) × (rest : List ℕ) × ReadsResponse text head rest × (100 < length head.fields)
+HasLongResponse text = (head : ResponseHead) × (rest : List ℕ) × ReadsResponse text head rest × (MAX_FIELDS < length head.fields)
 
 -- a text has to be refused for this: what its first 16,384 bytes begin with decides
 abbrev pub StandsInResponse : List ℕ → HttpFault → Type 0
@@ -54,6 +55,6 @@ StandsInResponse text fault =
 -- the head and its length, as they are answered
 pub record IsResponseRead (to_head : Bool) (text : List ℕ) (r : ResponseParts) (len : ℕ) : Type 0 where
   pub there : IsResponseAt (judged text) r len
-  pub few : length r.fields ≤ 100
+  pub few : length r.fields ≤ MAX_FIELDS
   pub asked : r.to_head ≡ to_head
   pub no_fault : response_fault r ≡ None

@@ -21,9 +21,11 @@ abbrev pub is_port_part : List ℕ → Bool
 is_port_part [] = true
 is_port_part (b ∷ port) = b == 58 && is_port port
 
--- a host and a port, and no user
+-- a host that isn't empty and a port, and no user (RFC 9110, sections 4.2.1 and 4.2.4)
 abbrev pub is_plain_authority : List ℕ → Bool
-is_plain_authority authority = not (list_any (λ b. b == 64) authority) && is_port_part (drop (length (authority_host authority)) authority)
+is_plain_authority authority =
+    not (list_any (λ b. b == 64) authority)
+    && (nat_lt 0 (length (authority_host authority)) && is_port_part (drop (length (authority_host authority)) authority))
 
 -- behind `http://` and the authority stands a path
 abbrev pub has_path_behind : List ℕ → List ℕ → Bool

@@ -25,7 +25,7 @@ pub use body::{BodyReader, Framing, ends_with_the_body};
 pub use fault::HttpFault;
 pub use fields::{Fields, Values};
 pub use forward::{Forward, Message, Part, encapsulated_head, forward_head};
-pub use head::{Head, MAX_FIELDS, MAX_HEAD};
+pub use head::Head;
 pub use refusal::own_refusal;
 pub use request::{HttpRequest, read_request};
 pub use response::{HttpResponse, read_response};

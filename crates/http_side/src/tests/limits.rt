@@ -99,6 +99,35 @@ fn last_byte_that_is_judged(rt: HostRuntime) -> Result<(), NoMemory> {
     Ok(())
 }
 
+/// A front of a head, and a letter for each byte that is left up to this size.
+fn padded(alloc: Global, front: &[u8], size: usize) -> Result<Vec<u8>, NoMemory> {
+    let mut text = front.to_vec(alloc)?;
+    for _ in front.len()..size {
+        text.push(b'x')?;
+    }
+    Ok(text)
+}
+
+/// A start line counts too, and a field too many goes before a head that is too long.
+#[test]
+fn unended_heads(rt: HostRuntime) -> Result<(), NoMemory> {
+    let mut lines = many_fields(rt.alloc(), 100)?;
+    lines.truncate(lines.len().saturating_sub(2));
+    let cases: [(&[u8], HttpFault, HttpFault); 2] = [
+        (b"GET http://o/", HttpFault::More, HttpFault::TooLong),
+        (lines.as_slice(), HttpFault::TooMany, HttpFault::TooMany),
+    ];
+    for (front, within, past) in cases {
+        let mut text = padded(rt.alloc(), front, 16_383)?;
+        assert_eq!(rt; read_request(rt.alloc(), &text, false).err(), Some(within));
+        text.push(b'x')?;
+        assert_eq!(rt; read_request(rt.alloc(), &text, false).err(), Some(past));
+        text.extend_from_slice(b" HTTP/1.0\r\n\r\n")?;
+        assert_eq!(rt; read_request(rt.alloc(), &text, false).err(), Some(past));
+    }
+    Ok(())
+}
+
 /// A head that is cut before its last byte is `More`.
 #[test]
 fn cut_at_every_byte(rt: HostRuntime) {

@@ -9,7 +9,7 @@ fn fault(alloc: Global, text: &[u8]) -> Option<HttpFault> {
 /// A target has `http`, a host, nothing or a port behind it, and no user.
 #[test]
 fn targets(rt: HostRuntime) {
-    let cases: [(&[u8], Option<HttpFault>); 20] = [
+    let cases: [(&[u8], Option<HttpFault>); 24] = [
         (b"GET http://o.test/a.txt HTTP/1.0\r\n\r\n", None),
         (b"GET HTTP://O.test HTTP/1.0\r\n\r\n", None),
         (b"GET http://o:/ HTTP/1.0\r\n\r\n", None),
@@ -34,6 +34,10 @@ fn targets(rt: HostRuntime) {
             Some(HttpFault::Target),
         ),
         (b"GET http://u@o/ HTTP/1.0\r\n\r\n", Some(HttpFault::Target)),
+        (b"GET http:///a HTTP/1.0\r\n\r\n", Some(HttpFault::Target)),
+        (b"GET http://:/a HTTP/1.0\r\n\r\n", Some(HttpFault::Target)),
+        (b"GET http://:80/ HTTP/1.0\r\n\r\n", Some(HttpFault::Target)),
+        (b"GET http://?q HTTP/1.0\r\n\r\n", Some(HttpFault::Target)),
         (b"GET https://o/ HTTP/1.0\r\n\r\n", Some(HttpFault::Target)),
         (b"GET /a.txt HTTP/1.0\r\n\r\n", Some(HttpFault::Target)),
         (
@@ -139,12 +143,24 @@ fn waits_for_the_end(rt: HostRuntime) {
 /// The least number of those that stand is answered, and the grammar goes before all of them.
 #[test]
 fn first_fault(rt: HostRuntime) {
-    let cases: [(&[u8], HttpFault); 14] = [
+    let cases: [(&[u8], HttpFault); 17] = [
         (b"GET http://o/\xff ", HttpFault::Bad),
         (b"GET http://o/ HTTP/1.1\r\n\r\n", HttpFault::Bad),
         (
             b"GET http://o/ HTTP/1.0\r\nHost: o\r\nHost: o\r\n\r\n",
             HttpFault::Bad,
+        ),
+        (
+            b"GET http://o/ HTTP/1.1\r\nHost: o\r\nhOST:\r\nContent-Length: x\r\n\r\n",
+            HttpFault::Bad,
+        ),
+        (
+            b"GET /a HTTP/1.0\r\nContent-Length: 1\r\nTransfer-Encoding: chunked\r\n\r\n",
+            HttpFault::BothLengths,
+        ),
+        (
+            b"GET /a HTTP/1.0\r\nTransfer-Encoding: gzip\r\n\r\n",
+            HttpFault::Coding,
         ),
         (b"GET http://o/ HTTP/1.2\r\n\r\n", HttpFault::Bad),
         (b"GET  http://o/ HTTP/1.1\r\n\r\n", HttpFault::Bad),

@@ -2,6 +2,32 @@
 use crate::{Framing, HttpFault, read_response};
 use std::process::Abort;
 
+/// A status is any three digits; a phrase may be missing or empty; empty lines before a head count in its length.
+#[test]
+fn statuses_phrases_and_lengths(rt: HostRuntime) {
+    let cases: [(&[u8], Result<(u16, &[u8], usize), HttpFault>); 7] = [
+        (
+            b"HTTP/1.1 200 OK\r\nContent-Length: 6\r\n\r\n",
+            Ok((200, b"OK", 38)),
+        ),
+        (b"HTTP/1.0 000 \r\n\r\n", Ok((0, b"", 17))),
+        (b"HTTP/1.1 999\r\n\r\nBODY", Ok((999, b"", 16))),
+        (b"\r\n\nHTTP/1.1 204 a b\n\n", Ok((204, b"a b", 21))),
+        (b"HTTP/1.1 2000\r\n\r\n", Err(HttpFault::Bad)),
+        (b"HTTP/1.1 20a\r\n\r\n", Err(HttpFault::Bad)),
+        (b"HTTP/1.2 200\r\n\r\n", Err(HttpFault::Bad)),
+    ];
+    for (text, want) in cases {
+        match read_response(rt.alloc(), text, false) {
+            Ok(head) => {
+                let found = (head.value.status(), head.value.phrase(), head.length);
+                assert_eq!(rt; Ok(found), want, "{text:?}");
+            }
+            Err(fault) => assert_eq!(rt; Err(fault), want, "{text:?}"),
+        }
+    }
+}
+
 /// A response, whether it answers a HEAD, and where its body ends.
 type FramingCase<'a> = (&'a [u8], bool, Result<Framing, HttpFault>);
 
@@ -65,7 +91,7 @@ fn responses_without_a_body(rt: HostRuntime) {
 
 #[test]
 fn refused_framings(rt: HostRuntime) {
-    let cases: [FramingCase<'_>; 6] = [
+    let cases: [FramingCase<'_>; 9] = [
         (
             b"HTTP/1.1 200 OK\r\nContent-Length: x\r\nTransfer-Encoding: chunked\r\n\r\n",
             false,
@@ -80,6 +106,21 @@ fn refused_framings(rt: HostRuntime) {
             b"HTTP/1.1 204 No\r\nContent-Length: 1, 1\r\n\r\n",
             false,
             Err(HttpFault::Lengths),
+        ),
+        (
+            b"HTTP/1.1 304 No\r\nContent-Length: 1\r\nContent-Length: 2\r\n\r\n",
+            false,
+            Err(HttpFault::Lengths),
+        ),
+        (
+            b"HTTP/1.1 200 OK\r\nTransfer-Encoding: chunked\r\nTransfer-Encoding:\r\n\r\n",
+            false,
+            Err(HttpFault::Coding),
+        ),
+        (
+            b"HTTP/1.1 200 OK\r\nTransfer-Encoding: chunked, chunked\r\n\r\n",
+            true,
+            Err(HttpFault::Coding),
         ),
         (
             b"HTTP/1.1 304 No\r\nTransfer-Encoding: gzip\r\n\r\n",
