@@ -1,5 +1,5 @@
 //! How long it takes to read a request's head, to write the heads that an origin and a service get, and to
-//! read the head of a service's response.
+//! read the head of a service's response; and how long the request's head takes that costs most.
 //!
 //! The argument is how many times. The figures go to standard error, since they differ from run to run.
 #![tactic(auto)]
@@ -7,10 +7,12 @@
 ghost use Rattle.std.specs.Prelude.{◌<◌, IfOk};
 
 mod answers;
+mod hostile;
 mod measured;
 
 use adapt_bytes::read_decimal;
 use answers::{TEN_FIELDS, THIRTY_FIELDS, as_http, parse_answers, read_answers};
+use hostile::{hostile_request, read_and_forward, read_hostile};
 use measured::{parse_only, read_and_write, read_only};
 use std::alloc::Global;
 use std::rt::Runtime;
@@ -35,7 +37,26 @@ fn main(rt: HostRuntime) -> io::Result<()> {
     for text in [TEN_FIELDS, THIRTY_FIELDS] {
         time_answers(&rt, rt.alloc(), text, times)?;
     }
-    Ok(())
+    time_hostile(&rt, rt.alloc(), times / 1000 + 1)
+}
+
+/// Prints the times of the request's head that costs most to write: to read it, and to read it and write the head for an
+/// origin.
+fn time_hostile(rt: &impl Runtime, alloc: Global, times: u64) -> io::Result<()>
+    requires { 0 < times }
+{
+    let text = hostile_request(alloc)?;
+    let start = Instant::now(rt)?;
+    let taken = read_hostile(alloc, &text, times);
+    let read = start.elapsed(rt)?.as_nanos() / u128::from(times);
+    let start = Instant::now(rt)?;
+    let written = read_and_forward(alloc, &text, times);
+    let all = start.elapsed(rt)?.as_nanos() / u128::from(times);
+    eprintln!(rt;
+        "a request of {} bytes whose Connection has 7,974 items: read {read} ns, read and one head written {all} ns",
+        text.len()
+    )?;
+    eprintln!(rt; "{taken} and {written} bytes of {times} heads")
 }
 
 /// Prints the times of a response's head: `httparse` alone on the same text, and the reader.
