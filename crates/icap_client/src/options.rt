@@ -1,9 +1,10 @@
 //! Asking a service what it offers: one OPTIONS request and its answer, over a Wire (RFC 3507, section 4.10).
 
-ghost use Rattle.std.specs.Prelude.{◌≡◌, ℕ, ◌+◌, ◌<◌, ◌≤◌, ◌↔◌, List, [], ◌∷◌, ◌++◌, length, drop, take, OnOk, IfOk, IfErr, IfSome, IfNone, Some, None, Err, is_some, IsTrue, codes, true, false, option_map};
+ghost use Rattle.std.specs.Prelude.{◌≡◌, ℕ, ◌+◌, ◌<◌, ◌≤◌, ◌⊎◌, Bool, List, [], ◌∷◌, ◌++◌, length, drop, take, OnOk, IfOk, IfErr, IfSome, IfNone, Some, None, Err, is_some, codes, true, false, option_map};
 ghost use Rattle.adapt_bytes.specs.Numeral.{numeral};
 ghost use Rattle.encapsulated.specs.declared.message.Method.TheVariants as methods;
-ghost use Rattle.icap_chunks.specs.Machine.{end_of};
+ghost use Rattle.icap_chunks.specs.Faults.{Breaks};
+ghost use Rattle.icap_chunks.specs.Machine.{HasRead, end_of, fault_of};
 ghost use Rattle.icap_head.specs.Fields.{field_list, values_of};
 ghost use Rattle.icap_client.specs.Hearing.{ReadsOn};
 ghost use Rattle.icap_client.specs.Asking.{HasOptionsBody};
@@ -12,7 +13,7 @@ ghost use Rattle.wire_kit.specs.Past.{Past};
 use crate::blank_line::behind;
 use crate::body::read_run;
 use crate::events::refusal;
-use crate::filled::{Filled, MAX_RAW};
+use crate::filled::Filled;
 use crate::kept::Kept;
 use crate::lists::has_body;
 use crate::request::options_request;
@@ -50,20 +51,20 @@ pub struct OptionsSide {
 impl Model for OptionsSide {
     ghost use Rattle.std.specs.Prelude.{◌≤◌, length, drop, option_map};
     ghost use Rattle.icap_head.specs.Heads.{response_parts};
-    ghost use Rattle.icap_client.specs.Asking.{Asker};
+    ghost use Rattle.icap_client.specs.Asking.{Asker, HoldsHead};
 
     ghost Value = { Asker };
 
     ghost view = { λ s. record { waiting = drop s.out s.text.items; stage = s.stage; response = option_map response_parts s.response; raw = s.raw.bytes; fault = s.fault; room = s.raw.room } };
 
-    ghost invariant = { λ s. s.out ≤ length s.text.items };
+    ghost invariant = { λ s. (s.out ≤ length s.text.items) × HoldsHead s.stage s.response };
 }
 
 impl OptionsSide {
     ghost use Rattle.icap_head.specs.Heads.{response_parts};
     ghost use Rattle.icap_head.specs.Heads.{RefusesIcapHead};
     ghost use Rattle.icap_head.specs.StartLines.{StatusForm};
-    ghost use Rattle.icap_client.specs.Asking.{options_request, LetsRoomGo, Frames, HasToAsk, Asks};
+    ghost use Rattle.icap_client.specs.Asking.{options_request, LetsRoomGo, Frames, HasAnyHead, RefusesOptionsHead, RefusesRaw, HasToAsk, Asks};
 
     /// A request to the service at this host, port and path. NoMemory where its text can't be had.
     pub fn new(
@@ -132,10 +133,10 @@ impl OptionsSide {
     fn frame_body(&mut self, chunks: ChunkReader) -> Result<Option<IcapResponse>, ClientFault>
         requires { self.old.stage ≡ OptionsStage.Body chunks }
         ensures frames { IfOk result (λ found. Frames self.old self.new (option_map response_parts found)) }
-        ensures waits { IfOk result (λ found. found ≡ None → HasToAsk self.new.stage self.new.raw) }
+        ensures waits { IfOk result (λ found. IfNone found (HasToAsk self.new.stage self.new.raw)) }
         ensures fault { self.new.fault ≡ self.old.fault }
         ensures waiting { self.new.waiting ≡ self.old.waiting }
-        ensures broken { IfErr result (λ fault. fault ≡ ClientFault.Chunk) }
+        ensures refuses { IfErr result (λ fault. RefusesRaw fault self.old) }
     {
         let mut next = chunks;
         match skip_body(&mut next, self.raw.as_slice()) {
@@ -154,18 +155,18 @@ impl OptionsSide {
     }
 
     /// Refuses the head for this fault, or marks that its front was judged.
-    #[tactic(auto, using(crate::proofs::Skipping::frames_kept, crate::proofs::Sides::has_to_wait))]
+    #[tactic(auto, using(crate::proofs::Skipping::frames_kept))]
     fn refuse_head(&mut self, fault: HeadFault) -> Result<Option<IcapResponse>, ClientFault>
         requires stage { self.old.stage ≡ OptionsStage.Head }
-        requires front { fault ≡ HeadFault.More → RefusesIcapHead StatusForm HeadFault.More self.old.raw }
+        requires stands { ((fault ≡ HeadFault.NoMemory) × HasAnyHead self.old.raw) ⊎ RefusesIcapHead StatusForm fault self.old.raw }
         ensures frames { IfOk result (λ found. Frames self.old self.new (option_map response_parts found)) }
-        ensures waits { IfOk result (λ found. HasToAsk self.new.stage self.new.raw) }
+        ensures waits { IfOk result (λ found. IfNone found (HasToAsk self.new.stage self.new.raw)) }
         ensures fault { self.new.fault ≡ self.old.fault }
         ensures waiting { self.new.waiting ≡ self.old.waiting }
-        ensures broken { IfErr result (λ fault. (fault ≡ ClientFault.Closed → ⊥) × (fault ≡ ClientFault.Device → ⊥)) }
+        ensures refuses { IfErr result (λ fault. RefusesOptionsHead fault self.old.raw) }
     {
         match refusal(fault) {
-            Some(fault) => Err(fault),
+            Some(found) => Err(found),
             None => {
                 self.raw.pass(0, true);
                 Ok(None)
@@ -174,14 +175,14 @@ impl OptionsSide {
     }
 
     /// Frames the raw bytes, of which the head comes first. It is judged where a line has ended, or where there is no more room.
-    #[tactic(auto, using(crate::proofs::Skipping::frames_same, crate::proofs::Heads::stands_for))]
+    #[tactic(auto, using(crate::proofs::Skipping::frames_same, crate::proofs::Skipping::holds_start))]
     fn frame_head(&mut self) -> Result<Option<IcapResponse>, ClientFault>
         requires { self.old.stage ≡ OptionsStage.Head }
         ensures frames { IfOk result (λ found. Frames self.old self.new (option_map response_parts found)) }
-        ensures waits { IfOk result (λ found. found ≡ None → HasToAsk self.new.stage self.new.raw) }
+        ensures waits { IfOk result (λ found. IfNone found (HasToAsk self.new.stage self.new.raw)) }
         ensures fault { self.new.fault ≡ self.old.fault }
         ensures waiting { self.new.waiting ≡ self.old.waiting }
-        ensures broken { IfErr result (λ fault. (fault ≡ ClientFault.Closed → ⊥) × (fault ≡ ClientFault.Device → ⊥)) }
+        ensures refuses { IfErr result (λ fault. RefusesRaw fault self.old) }
     {
         if self.raw.is_front() {
             return Ok(None);
@@ -206,11 +207,12 @@ impl OptionsSide {
 
     /// Frames the raw bytes.
     fn frame(&mut self) -> Result<Option<IcapResponse>, ClientFault>
+        requires { self.old.stage ≡ OptionsStage.Over → ⊥ }
         ensures frames { IfOk result (λ found. Frames self.old self.new (option_map response_parts found)) }
-        ensures waits { IfOk result (λ found. found ≡ None → HasToAsk self.new.stage self.new.raw) }
+        ensures waits { IfOk result (λ found. IfNone found (HasToAsk self.new.stage self.new.raw)) }
         ensures fault { self.new.fault ≡ self.old.fault }
         ensures waiting { self.new.waiting ≡ self.old.waiting }
-        ensures broken { IfErr result (λ fault. (fault ≡ ClientFault.Closed → ⊥) × (fault ≡ ClientFault.Device → ⊥)) }
+        ensures refuses { IfErr result (λ fault. RefusesRaw fault self.old) }
     {
         match self.stage {
             OptionsStage::Head => self.frame_head(),
@@ -219,9 +221,9 @@ impl OptionsSide {
         }
     }
 
-    /// Reads once, and frames what came.
+    /// Reads once, where more bytes are wanted, and frames what came.
     fn read_on<W: Wire>(&mut self, wire: &mut W) -> Result<Option<IcapResponse>, ClientFault>
-        requires short { length self.old.raw < 16384 }
+        requires asks { HasToAsk self.old.stage self.old.raw }
         requires out { self.old.waiting ≡ [] }
         ensures asks { Asks self.old self.new (W.past wire.old) (W.past wire.new) result }
         ensures fault { self.new.fault ≡ self.old.fault }
@@ -247,10 +249,11 @@ impl OptionsSide {
         if let OptionsStage::Over = self.stage {
             return Ok(None);
         }
-        if self.raw.len() >= MAX_RAW {
-            return Err(ClientFault::Head);
+        match self.frame() {
+            Ok(Some(head)) => Ok(Some(head)),
+            Ok(None) => self.read_on(wire),
+            Err(fault) => Err(fault),
         }
-        self.read_on(wire)
     }
 
     /// Gives back the room for raw bytes, where none is there.
@@ -312,10 +315,14 @@ struct Skipped {
 
 /// Reads on up to the end of the body, or of the bytes.
 fn skip_body(chunks: &mut ChunkReader, raw: &[u8]) -> Result<Skipped, ChunkFault>
+    requires going_on { end_of chunks.old ≡ None }
+    requires sound { fault_of chunks.old ≡ None }
     ensures within { IfOk result (λ skipped. skipped.used ≤ length raw.now) }
     ensures reads { IfOk result (λ skipped. (part : List ℕ) × ReadsOn chunks.old raw.now skipped.used part chunks.new) }
-    ensures ended { IfOk result (λ skipped. skipped.ended ≡ true → is_some (end_of chunks.new) ≡ true) }
+    ensures ended { IfOk result (λ skipped. skipped.ended ≡ is_some (end_of chunks.new)) }
+    ensures no_fault { IfOk result (λ skipped. fault_of chunks.new ≡ None) }
     ensures all { IfOk result (λ skipped. skipped.ended ≡ false → drop skipped.used raw.now ≡ []) }
+    ensures fault { IfErr result (λ fault. (part : List ℕ) × ((text body : List ℕ) → HasRead text body chunks.old → Breaks (text ++ raw.now) (body ++ part) fault)) }
 {
     let mut scratch = [0; 4096];
     let mut used = 0;
@@ -336,7 +343,8 @@ fn skip_body(chunks: &mut ChunkReader, raw: &[u8]) -> Result<Skipped, ChunkFault
 
 /// Whether the answer has a body; none where its Encapsulated fields aren't those of an OPTIONS answer.
 fn body_of(fields: &Fields) -> Option<bool>
-    ensures { IfSome result (λ body. HasOptionsBody (values_of (codes "Encapsulated") (field_list fields.now)) body) }
+    ensures some { IfSome result (λ body. HasOptionsBody (values_of (codes "Encapsulated") (field_list fields.now)) body) }
+    ensures none { IfNone result ((body : Bool) → HasOptionsBody (values_of (codes "Encapsulated") (field_list fields.now)) body → ⊥) }
 {
     let mut values = fields.values(b"Encapsulated");
     match (values.next(), values.next()) {
@@ -348,7 +356,8 @@ fn body_of(fields: &Fields) -> Option<bool>
 
 /// Whether this list names a body; none where it isn't one of an OPTIONS answer.
 fn body_in(list: &[u8]) -> Option<bool>
-    ensures { IfSome result (λ body. HasOptionsBody (list.now ∷ []) body) }
+    ensures some { IfSome result (λ body. HasOptionsBody (list.now ∷ []) body) }
+    ensures none { IfNone result ((body : Bool) → HasOptionsBody (list.now ∷ []) body → ⊥) }
 {
     match read(Method::Options, Direction::Response, list) {
         Ok(layout) => Some(has_body(layout.body)),

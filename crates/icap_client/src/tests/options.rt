@@ -60,12 +60,36 @@ fn an_answer_at_every_cut(rt: HostRuntime) -> Result<(), Fail> {
 #[test]
 fn a_body_is_dropped(rt: HostRuntime) -> Result<(), Fail> {
     let alloc = rt.alloc();
-    let mut wire = wire_of(alloc, WITH_BODY.as_bytes(), 4096, ReadAnswer::Wait, 4096)?;
-    let (side, answer, fault) = asked(alloc, &mut wire, 10)?;
-    assert_eq!(rt; fault, None);
-    assert_eq!(rt; side.raw_left(), 1);
-    let head = answer.expect(&rt, "an answer");
-    assert_eq!(rt; head.fields.first(b"Methods"), Some(b"REQMOD".as_slice()));
+    // The answer has 88 bytes; the byte behind it is kept where the last piece has it too.
+    for (piece, left) in [(1, 0), (2, 0), (3, 1), (7, 1), (50, 1), (4096, 1)] {
+        let mut wire = wire_of(alloc, WITH_BODY.as_bytes(), piece, ReadAnswer::Wait, 4096)?;
+        let (side, answer, fault) = asked(alloc, &mut wire, 120)?;
+        assert_eq!(rt; fault, None);
+        assert_eq!(rt; side.raw_left(), left, "in pieces of {piece}");
+        let head = answer.expect(&rt, "an answer");
+        assert_eq!(rt; head.fields.first(b"Methods"), Some(b"REQMOD".as_slice()));
+    }
+    Ok(())
+}
+
+#[test]
+fn wires_that_end_or_fail_behind_every_byte(rt: HostRuntime) -> Result<(), Fail> {
+    let alloc = rt.alloc();
+    let text = WITH_BODY.as_bytes();
+    for len in 0..90 {
+        let front = &text[..len.min(text.len())];
+        for (last, want) in [
+            (ReadAnswer::Ended, ClientFault::Closed),
+            (ReadAnswer::Fault, ClientFault::Device),
+        ] {
+            let mut wire = wire_of(alloc, front, 9, last, 4096)?;
+            let (_, answer, fault) = asked(alloc, &mut wire, 120)?;
+            let whole = len >= 88;
+            assert_eq!(rt; answer.is_some(), whole, "behind {len} bytes");
+            let found = if whole { None } else { Some(want) };
+            assert_eq!(rt; fault, found, "behind {len} bytes");
+        }
+    }
     Ok(())
 }
 

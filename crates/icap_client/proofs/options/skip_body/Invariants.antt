@@ -1,4 +1,5 @@
-use Rattle.std.proofs.Common.{◌≤◌, ◌-◌, ℕ, List, length}
+use Rattle.std.proofs.Common.{◌≡◌, ◌≤◌, ◌-◌, ℕ, List, None, length}
+use Rattle.icap_chunks.specs.Machine.{end_of, fault_of}
 use Rattle.icap_client.specs.Hearing.{ReadsOn}
 use Rattle.icap_client.proofs.options.skip_body.Given as goal
 
@@ -7,6 +8,8 @@ invariant-loop-used l = record {
   within : l.used ≤ length l.raw;
   part : List ℕ;
   reads : ReadsOn l.initial.chunks l.raw l.used part l.chunks;
+  going_on : end_of l.chunks ≡ None;
+  sound : fault_of l.chunks ≡ None;
 }
 
 abbrev pub decreases-loop-used : goal.decreases-loop-used

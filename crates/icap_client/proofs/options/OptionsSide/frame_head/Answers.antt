@@ -1,10 +1,9 @@
 use Rattle.std.proofs.Common.{rules, ◌≡◌, ◌∙◌, sym, subst, refl, List, ℕ}
-use Rattle.icap_head.specs.Heads.{response_parts, HasResponse, RefusesIcapHead}
-use Rattle.icap_head.specs.StartLines.{StatusForm}
-use Rattle.icap_head.specs.declared.reading.HeadFault.{HeadFault}
-use Rattle.icap_head.specs.declared.reading.HeadFault.TheVariants.{More, NoMemory}
-use Rattle.icap_client.proofs.Heads.{ok_map, stands_for}
-use Rattle.icap_client.proofs.Skipping.{frames_bare, frames_then}
+use Rattle.icap_head.specs.Heads.{response_parts, HasResponse}
+use Rattle.icap_client.specs.declared.options.OptionsStage.TheVariants.{Head}
+use Rattle.adapt_sides.specs.declared.fault.ClientFault.TheVariants as faults
+use Rattle.icap_client.proofs.Heads.{ok_map}
+use Rattle.icap_client.proofs.Skipping.{frames_bare, frames_then, refuses_here, refuses_then, head_stands, err_map, both, holds_start}
 use Rattle.icap_client.proofs.options.OptionsSide.frame_head.Goals as goal
 
 pub returns-then-not-body-clause-frames : goal.returns-then-not-body-clause-frames
@@ -22,8 +21,24 @@ returns-clause-frames c =
     (subst (λ (t : List ℕ). HasResponse t (response_parts c.in-Ok.head.value) c.in-Ok.head.length) raw_is c.in-Ok.ensures.ok)
     (search rules) refl refl (search rules) (search rules) g) c.frame_body.ensures.frames
 
-pub refuse_head-requires-clause-front : goal.refuse_head-requires-clause-front
-refuse_head-requires-clause-front c = λ more.
+pub returns-clause-refuses : goal.returns-clause-refuses
+returns-clause-refuses c =
     let raw_is : c.as_slice.result.now ≡ c.args.self.now.raw = search rules in
-    subst (λ (t : List ℕ). RefusesIcapHead StatusForm More t) raw_is
-    (subst (λ (f : HeadFault). RefusesIcapHead StatusForm f c.as_slice.result.now) more (stands_for c.in-Err.fault c.as_slice.result.now (λ m. let odd : More ≡ NoMemory = sym more ∙ m in cc) c.in-Err.ensures.err))
+    err_map c.frame_body.result _ _ (λ fault g.
+    refuses_then c.args.self.now _ (response_parts c.in-Ok.head.value) c.new-start.result c.in-Ok.head.length fault c.new-start.ensures c.requires
+    (subst (λ (t : List ℕ). HasResponse t (response_parts c.in-Ok.head.value) c.in-Ok.head.length) raw_is c.in-Ok.ensures.ok)
+    (search rules) refl refl (search rules) (search rules) g) c.frame_body.ensures.refuses
+
+pub returns-in_default-clause-refuses : goal.returns-in_default-clause-refuses
+returns-in_default-clause-refuses c =
+    let raw_is : c.as_slice.result.now ≡ c.args.self.now.raw = search rules in
+    refuses_here c.args.self.now Head faults.Layout c.requires
+    (response_parts c.in-Ok.head.value, c.in-Ok.head.length, subst (λ (t : List ℕ). HasResponse t (response_parts c.in-Ok.head.value) c.in-Ok.head.length) raw_is c.in-Ok.ensures.ok, c.in_default.ensures.none)
+
+pub refuse_head-requires-clause-stands : goal.refuse_head-requires-clause-stands
+refuse_head-requires-clause-stands c =
+    let raw_is : c.as_slice.result.now ≡ c.args.self.now.raw = search rules in
+    head_stands c.in-Err.fault c.args.self.now.raw c.as_slice.result.now raw_is (λ k. (k.0, k.1, k.2, tt)) c.in-Err.ensures.err
+
+pub invariant_of-self-2 : goal.invariant_of-self-2
+invariant_of-self-2 c = both c.self.invariant.0 (holds_start c.in-Ok.head.value c.new-start.result c.new-start.ensures)

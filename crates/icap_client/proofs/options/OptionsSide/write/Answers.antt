@@ -1,19 +1,19 @@
 use Rattle.std.proofs.Common.{◌∙◌, ap, sym, refl, List, ℕ, drop}
 use Rattle.std.proofs.lemmas.List.{drop-drop}
 use Rattle.icap_client.specs.Asking.{Asker}
-use Rattle.icap_client.proofs.Skipping.{asks_took, asks_later, asks_broken}
+use Rattle.icap_client.proofs.Asked.{asks_took, asks_later, asks_broken}
 use Rattle.icap_client.proofs.options.OptionsSide.write.Goals as goal
 
 pub returns-in-Took-clause-asks : goal.returns-in-Took-clause-asks
 returns-in-Took-clause-asks g c =
-    asks_took c.args.self.now _ (g.W.Wire.past c.args.wire.now) (g.W.Wire.past c.try_write.new.self) c.rest.result.now c.in-Took.count c.rest.ensures c.in-Took.ensures.fits c.in-Took.ensures.past
+    asks_took c.args.self.now _ (g.W.Wire.past c.args.wire.now) (g.W.Wire.past c.try_write.new.self) c.rest.result.now c.in-Took.count c.rest.ensures c.requires c.in-Took.ensures.fits c.in-Took.ensures.past
     (sym (drop-drop c.in-Took.count c.self.inside.out c.self.inside.text.items) ∙ ap (λ (t : List ℕ). drop c.in-Took.count t) (ap (λ (s : Asker). s.waiting) c.self.view_is ∙ sym c.rest.ensures))
     (ap (λ (s : Asker). s.stage) c.self.view_is) (ap (λ (s : Asker). s.response) c.self.view_is) (ap (λ (s : Asker). s.raw) c.self.view_is)
 
 pub returns-in-Wait-clause-asks : goal.returns-in-Wait-clause-asks
 returns-in-Wait-clause-asks g c =
-    asks_later c.args.self.now c.args.self.now (g.W.Wire.past c.args.wire.now) (g.W.Wire.past c.try_write.new.self) c.rest.result.now c.in-Wait.ensures.past refl refl refl refl
+    asks_later c.args.self.now c.args.self.now (g.W.Wire.past c.args.wire.now) (g.W.Wire.past c.try_write.new.self) c.rest.result.now c.rest.ensures c.requires c.in-Wait.ensures.past refl refl refl refl
 
 pub returns-in-Fault-clause-asks : goal.returns-in-Fault-clause-asks
 returns-in-Fault-clause-asks g c =
-    asks_broken c.args.self.now c.args.self.now (g.W.Wire.past c.args.wire.now) (g.W.Wire.past c.try_write.new.self) c.rest.result.now c.in-Fault.ensures.past refl
+    asks_broken c.args.self.now c.args.self.now (g.W.Wire.past c.args.wire.now) (g.W.Wire.past c.try_write.new.self) c.rest.result.now c.rest.ensures c.requires c.in-Fault.ensures.past refl
