@@ -1,11 +1,13 @@
 -- The passes of the two writers: a message is begun, goes on, or gives way to a refusal.
-use Rattle.std.proofs.Common.{◌≡◌, ℕ, Bool, true, false, List, [], ◌++◌, Option, refl, sym, ◌∙◌, subst}
+use Rattle.std.proofs.Common.{◌≡◌, ℕ, Bool, true, false, List, [], ◌++◌, Option, Some, None, refl, sym, ◌∙◌, subst}
 use Rattle.std.proofs.lemmas.Bool.{false≢true}
 use Rattle.std.proofs.lemmas.List.{append-nil}
 use Rattle.trace_core.specs.declared.history.Seen.{Seen}
 use Rattle.trace_core.specs.declared.history.Point.{Point}
 use Rattle.trace_core.specs.declared.history.Point.TheVariants.{Reqmod, Respmod}
-use Rattle.trace_core.specs.Turns.{after_all}
+use Rattle.trace_core.specs.declared.history.Event.{Event}
+use Rattle.trace_core.specs.declared.history.Cause.{Cause}
+use Rattle.trace_core.specs.Turns.{after_all, MayAllFollow, is_of_hop}
 use Rattle.wire_kit.specs.Past.{Past}
 use Rattle.adapt_sides.specs.declared.fault.RelayFault.{RelayFault}
 use Rattle.adapt_sides.specs.Tapes.{chosen}
@@ -13,30 +15,41 @@ use Rattle.adapt_sides.specs.Turns.{Gift}
 use Rattle.adapt_sides.specs.Turns.Gift.{nothing, message, refusal}
 use Rattle.adapt_hold.specs.Holding.{Holding, IsTied, shows}
 use Rattle.adapt_turn.specs.declared.parts.Passed.{Passed}
-use Rattle.adapt_turn.specs.Parts.{HopPart}
+use Rattle.adapt_turn.specs.Parts.{HopPart, stepped}
+use Rattle.adapt_turn.specs.Made.{OfHead, WholeOf}
 use Rattle.adapt_turn.specs.Stands.{Texts, Stands, Goes, HopsAre, IsRefusing, user_gift, TakesAside, IsDone, IsDelivered}
 use Rattle.adapt_turn.proofs.Advance.{Others, give_stands}
-use Rattle.adapt_turn.proofs.Hops.{next_gives, back_gives, next_whole, back_whole, next_begins, back_begins, IdleGives, next_refuses, back_refuses, next_refuses_on, back_refuses_on}
-use Rattle.adapt_turn.proofs.Together.{goes_still, of_five, still}
+use Rattle.adapt_turn.proofs.Stepped.{part_shows}
+use Rattle.adapt_turn.proofs.Made.{KeepsMade, made_all}
+use Rattle.adapt_turn.proofs.Hops.{next_gives, back_gives, next_whole, back_whole, next_begins, back_begins, BeginsWith, next_refuses, back_refuses, next_refuses_on, back_refuses_on}
+use Rattle.adapt_turn.proofs.Together.{goes_still, of_five, still, rehop}
 
--- the same, with what the writers say now
-rehop : (h : Holding) (agrees : Seen → Type 0) (read sent heard : Seen → List ℕ → List ℕ → Type 0) (hops hops' : Seen → List ℕ → List ℕ → List ℕ → Type 0) (refuses refuses' : Seen → Type 0) (done done' : List ℕ → List ℕ → List ℕ → Type 0) (t : Texts) (n b : List ℕ)
-    → ((body : List ℕ) → hops (shows h.history) body t.next_taken t.back_taken → hops' (shows h.history) body n b) → (refuses (shows h.history) → refuses' (shows h.history))
-    → (IsDone h.history → (body : List ℕ) → done body t.next_taken t.back_taken → done' body n b)
-    → Stands h agrees read sent heard hops refuses done t → Stands h agrees read sent heard hops' refuses' done' (record t { next_taken = n; back_taken = b })
-rehop h agrees read sent heard hops hops' refuses refuses' done done' t n b f g w s = record {
-  original = s.original;
-  adapted = s.adapted;
-  original_is = s.original_is;
-  adapted_is = s.adapted_is;
-  agrees_is = s.agrees_is;
-  read_is = s.read_is;
-  sent_is = s.sent_is;
-  heard_is = s.heard_is;
-  hops_are = f (chosen (shows h.history) s.original s.adapted) s.hops_are;
-  refuses_is = g s.refuses_is;
-  done_is = λ d. w d (chosen (shows h.history) s.original s.adapted) (s.done_is d);
-}
+-- What a writer did to a message whose head is a made one.
+
+reported_may : (failed : Option Cause) (reported : List Event) (x : Seen) → ((cause : Cause) → failed ≡ Some cause → reported ≡ []) → MayAllFollow x (stepped failed reported) → MayAllFollow x reported
+reported_may None reported x q m = m
+reported_may (Some cause) reported x q m = subst (λ (es : List Event). MayAllFollow x es) (sym (q cause refl)) tt
+
+pub with_heads : (h k : Holding) (mo mn : Seen → List ℕ → Type 0) (go gn : Seen → List ℕ → List ℕ → List ℕ → Type 0) (whole : List ℕ → List ℕ → List ℕ → Type 0) (f0 f1 : Option RelayFault) (rests : Type 0) (before after_ : Past → Type 0) (passed : Passed)
+    → IsTied h → ((head : List ℕ) → mo (shows h.history) head → mn (shows h.history) head) → KeepsMade mn
+    → HopPart h k go gn whole f0 f1 rests before after_ passed
+    → HopPart h k (OfHead mo go) (OfHead mn gn) (WholeOf (mn (shows k.history)) whole) f0 f1 rests before after_ passed
+with_heads h k mo mn go gn whole f0 f1 rests before after_ passed tied same keep d =
+    let x = shows h.history in
+    let all : shows k.history ≡ after_all x (stepped passed.failed d.reported) = part_shows _ _ h k is_of_hop d.reported [] _ _ _ _ _ _ _ _ _ passed tied d.part in
+    record {
+      delta = d.delta;
+      reported = d.reported;
+      part = d.part;
+      goes_on = λ original adapted head taken f g q. (
+        made_all mn keep d.reported x head (reported_may passed.failed d.reported x d.part.quiet d.part.runs.may) (same head q.0),
+        d.goes_on original adapted head taken f g q.1,
+      );
+      done = λ original adapted head taken f g w q. (
+        subst (λ (y : Seen). mn y head) (sym all) (made_all mn keep (stepped passed.failed d.reported) x head d.part.runs.may (same head q.0)),
+        d.done original adapted head taken f g w q.1,
+      );
+    }
 
 -- More of a message goes out.
 
@@ -91,24 +104,22 @@ back_goes h k agrees read sent heard ng bg bg' go gn ngiven ao an naside refusin
 begin_open : (refusing : Bool) (ng ng' bg bg' : Gift) (x : Seen) → x.closed ≡ false → IsRefusing refusing ng bg x → IsRefusing refusing ng' bg' x
 begin_open refusing ng ng' bg bg' x c r = λ e. absurd (false≢true (sym c ∙ (r e).0))
 
-pub next_begin_goes : (h : Holding) (agrees : Seen → Type 0) (read sent heard : Seen → List ℕ → List ℕ → Type 0) (ng ng' bg : Gift) (go gn bgiven : Seen → List ℕ → List ℕ → List ℕ → Type 0) (ao an baside : List ℕ → Type 0) (refusing : Bool) (done done' : List ℕ → List ℕ → List ℕ → Type 0) (head : List ℕ) (source service next : Past → Type 0)
-    → (shows h.history).closed ≡ false → ng ≡ nothing → bg ≡ nothing → ng' ≡ message → IdleGives ng go ao
-    → ((y : Seen) (none bytes taken : List ℕ) → go y none bytes taken → gn y head bytes taken)
-    → Goes (Stands h agrees read sent heard (HopsAre ng bg go ao bgiven baside) (IsRefusing refusing ng bg) done) (Stands h agrees read sent heard (HopsAre ng' bg gn an bgiven baside) (IsRefusing refusing ng' bg) done')
+pub next_begin_goes : (h : Holding) (agrees : Seen → Type 0) (read sent heard : Seen → List ℕ → List ℕ → Type 0) (ng ng' bg : Gift) (go gn bgo bgn : Seen → List ℕ → List ℕ → List ℕ → Type 0) (ao an baside : List ℕ → Type 0) (refusing : Bool) (done done' : List ℕ → List ℕ → List ℕ → Type 0) (head : List ℕ) (source service next : Past → Type 0)
+    → (shows h.history).closed ≡ false → ng ≡ nothing → bg ≡ nothing → ng' ≡ message → BeginsWith (shows h.history) head ao gn
+    → Goes (Stands h agrees read sent heard (HopsAre ng bg go ao bgo baside) (IsRefusing refusing ng bg) done) (Stands h agrees read sent heard (HopsAre ng' bg gn an bgn baside) (IsRefusing refusing ng' bg) done')
     source source service service next next
-next_begin_goes h agrees read sent heard ng ng' bg go gn bgiven ao an baside refusing done done' head source service next c n b m idle begin =
-    goes_still _ _ source service next (λ t o. rehop h agrees read sent heard (HopsAre ng bg go ao bgiven baside) (HopsAre ng' bg gn an bgiven baside) (IsRefusing refusing ng bg) (IsRefusing refusing ng' bg) done done' t t.next_taken t.back_taken
-    (λ body p. next_begins ng ng' bg go gn bgiven ao an baside (shows h.history) head body t.next_taken t.back_taken c n b m idle begin p)
+next_begin_goes h agrees read sent heard ng ng' bg go gn bgo bgn ao an baside refusing done done' head source service next c n b m begin =
+    goes_still _ _ source service next (λ t o. rehop h agrees read sent heard (HopsAre ng bg go ao bgo baside) (HopsAre ng' bg gn an bgn baside) (IsRefusing refusing ng bg) (IsRefusing refusing ng' bg) done done' t t.next_taken t.back_taken
+    (λ body p. next_begins ng ng' bg go gn bgo bgn ao an baside (shows h.history) head body t.next_taken t.back_taken c n b m begin p)
     (begin_open refusing ng ng' bg bg (shows h.history) c) (λ w body p. absurd (false≢true (sym c ∙ w.0))) o)
 
-pub back_begin_goes : (h : Holding) (agrees : Seen → Type 0) (read sent heard : Seen → List ℕ → List ℕ → Type 0) (ng bg bg' : Gift) (go gn ngiven : Seen → List ℕ → List ℕ → List ℕ → Type 0) (ao an naside : List ℕ → Type 0) (refusing : Bool) (done done' : List ℕ → List ℕ → List ℕ → Type 0) (head : List ℕ) (source service next : Past → Type 0)
-    → (shows h.history).closed ≡ false → ng ≡ nothing → bg ≡ nothing → bg' ≡ message → IdleGives bg go ao
-    → ((y : Seen) (none bytes taken : List ℕ) → go y none bytes taken → gn y head bytes taken)
-    → Goes (Stands h agrees read sent heard (HopsAre ng bg ngiven naside go ao) (IsRefusing refusing ng bg) done) (Stands h agrees read sent heard (HopsAre ng bg' ngiven naside gn an) (IsRefusing refusing ng bg') done')
+pub back_begin_goes : (h : Holding) (agrees : Seen → Type 0) (read sent heard : Seen → List ℕ → List ℕ → Type 0) (ng bg bg' : Gift) (go gn ngo ngn : Seen → List ℕ → List ℕ → List ℕ → Type 0) (ao an naside : List ℕ → Type 0) (refusing : Bool) (done done' : List ℕ → List ℕ → List ℕ → Type 0) (head : List ℕ) (source service next : Past → Type 0)
+    → (shows h.history).closed ≡ false → ng ≡ nothing → bg ≡ nothing → bg' ≡ message → BeginsWith (shows h.history) head ao gn
+    → Goes (Stands h agrees read sent heard (HopsAre ng bg ngo naside go ao) (IsRefusing refusing ng bg) done) (Stands h agrees read sent heard (HopsAre ng bg' ngn naside gn an) (IsRefusing refusing ng bg') done')
     source source service service next next
-back_begin_goes h agrees read sent heard ng bg bg' go gn ngiven ao an naside refusing done done' head source service next c n b m idle begin =
-    goes_still _ _ source service next (λ t o. rehop h agrees read sent heard (HopsAre ng bg ngiven naside go ao) (HopsAre ng bg' ngiven naside gn an) (IsRefusing refusing ng bg) (IsRefusing refusing ng bg') done done' t t.next_taken t.back_taken
-    (λ body p. back_begins ng bg bg' go gn ngiven ao an naside (shows h.history) head body t.next_taken t.back_taken c n b m idle begin p)
+back_begin_goes h agrees read sent heard ng bg bg' go gn ngo ngn ao an naside refusing done done' head source service next c n b m begin =
+    goes_still _ _ source service next (λ t o. rehop h agrees read sent heard (HopsAre ng bg ngo naside go ao) (HopsAre ng bg' ngn naside gn an) (IsRefusing refusing ng bg) (IsRefusing refusing ng bg') done done' t t.next_taken t.back_taken
+    (λ body p. back_begins ng bg bg' go gn ngo ngn ao an naside (shows h.history) head body t.next_taken t.back_taken c n b m begin p)
     (begin_open refusing ng ng bg bg' (shows h.history) c) (λ w body p. absurd (false≢true (sym c ∙ w.0))) o)
 
 -- A refusal takes the message's place.

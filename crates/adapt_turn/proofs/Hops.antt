@@ -139,20 +139,20 @@ back_whole refusing ng bg bg' go ngiven whole nwhole ao an naside x body next ba
 
 -- a message is begun
 
-abbrev pub IdleGives : Gift → (Seen → List ℕ → List ℕ → List ℕ → Type 0) → (List ℕ → Type 0) → Type 0
-IdleGives gift given aside = (x : Seen) (head body taken : List ℕ) → gift ≡ nothing → aside taken → x.original_delivered ≡ 0 → x.adapted_delivered ≡ 0 → given x head body taken
+-- from nothing, a wire took a front of it
+abbrev pub BeginsWith : Seen → List ℕ → (List ℕ → Type 0) → (Seen → List ℕ → List ℕ → List ℕ → Type 0) → Type 0
+BeginsWith x head aside given = (body taken : List ℕ) → aside taken → x.original_delivered ≡ 0 → x.adapted_delivered ≡ 0 → given x head body taken
 
-pub next_begins : (ng ng' bg : Gift) (go gn bgiven : Seen → List ℕ → List ℕ → List ℕ → Type 0) (ao an baside : List ℕ → Type 0) (x : Seen) (head body next back : List ℕ)
-    → x.closed ≡ false → ng ≡ nothing → bg ≡ nothing → ng' ≡ message → IdleGives ng go ao
-    → ((y : Seen) (none bytes taken : List ℕ) → go y none bytes taken → gn y head bytes taken)
-    → HopsAre ng bg go ao bgiven baside x body next back → HopsAre ng' bg gn an bgiven baside x body next back
-next_begins ng ng' bg go gn bgiven ao an baside x head body next back c n b m idle begin p =
+pub next_begins : (ng ng' bg : Gift) (go gn bgo bgn : Seen → List ℕ → List ℕ → List ℕ → Type 0) (ao an baside : List ℕ → Type 0) (x : Seen) (head body next back : List ℕ)
+    → x.closed ≡ false → ng ≡ nothing → bg ≡ nothing → ng' ≡ message → BeginsWith x head ao gn
+    → HopsAre ng bg go ao bgo baside x body next back → HopsAre ng' bg gn an bgn baside x body next back
+next_begins ng ng' bg go gn bgo bgn ao an baside x head body next back c n b m begin p =
     elim p [
       | inl none ↦ inr (inl (record {
         begun = m;
         alone = λ w. b;
         head = head;
-        given_is = begin x [] body next (idle x [] body next n none.next_aside_is none.none.0 none.none.1);
+        given_is = begin body next none.next_aside_is none.none.0 none.none.1;
         aside_is = none.back_aside_is;
       }))
       | inr (inl on) ↦ absurd (let e : nothing ≡ message = sym n ∙ on.begun in cc)
@@ -160,17 +160,16 @@ next_begins ng ng' bg go gn bgiven ao an baside x head body next back c n b m id
       | inr (inr (inr over)) ↦ absurd (false≢true (sym c ∙ over.over))
     ]
 
-pub back_begins : (ng bg bg' : Gift) (go gn ngiven : Seen → List ℕ → List ℕ → List ℕ → Type 0) (ao an naside : List ℕ → Type 0) (x : Seen) (head body next back : List ℕ)
-    → x.closed ≡ false → ng ≡ nothing → bg ≡ nothing → bg' ≡ message → IdleGives bg go ao
-    → ((y : Seen) (none bytes taken : List ℕ) → go y none bytes taken → gn y head bytes taken)
-    → HopsAre ng bg ngiven naside go ao x body next back → HopsAre ng bg' ngiven naside gn an x body next back
-back_begins ng bg bg' go gn ngiven ao an naside x head body next back c n b m idle begin p =
+pub back_begins : (ng bg bg' : Gift) (go gn ngo ngn : Seen → List ℕ → List ℕ → List ℕ → Type 0) (ao an naside : List ℕ → Type 0) (x : Seen) (head body next back : List ℕ)
+    → x.closed ≡ false → ng ≡ nothing → bg ≡ nothing → bg' ≡ message → BeginsWith x head ao gn
+    → HopsAre ng bg ngo naside go ao x body next back → HopsAre ng bg' ngn naside gn an x body next back
+back_begins ng bg bg' go gn ngo ngn ao an naside x head body next back c n b m begin p =
     elim p [
       | inl none ↦ inr (inr (inl (record {
         begun = m;
         alone = λ w. n;
         head = head;
-        given_is = begin x [] body back (idle x [] body back b none.back_aside_is none.none.0 none.none.1);
+        given_is = begin body back none.back_aside_is none.none.0 none.none.1;
         aside_is = none.next_aside_is;
       })))
       | inr (inl on) ↦ absurd (let e : nothing ≡ message = sym n ∙ on.begun in cc)

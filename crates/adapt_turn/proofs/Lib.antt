@@ -5,6 +5,7 @@ pub mod Told
 pub mod Moved
 pub mod Advance
 pub mod Hops
+pub mod Made
 pub mod Together
 pub mod Giving
 pub mod Reasons

@@ -2,9 +2,9 @@
 use Rattle.std.proofs.Common.{◌≡◌, ℕ, ◌+◌, ◌-◌, ◌^◌, length, Option, Some, None, arith, refl, sym, ◌∙◌, ap, subst}
 use Rattle.std.specs.Prelude.{MatchOption, min}
 use Rattle.wire_kit.specs.Past.{Past}
-use Rattle.adapt_turn.specs.Moved.{MovesOver, SumsBytes, Counts, counted}
+use Rattle.adapt_turn.specs.Moved.{MovesOver, SumsBytes, AreCounts, counted}
 
-moves_over : (before after_ : Past → Type 0) (c d : ℕ × ℕ) → Counts c before → Counts d after_ → MovesOver before after_ (counted c d)
+moves_over : (before after_ : Past → Type 0) (c d : ℕ × ℕ) → AreCounts c before → AreCounts d after_ → MovesOver before after_ (counted c d)
 moves_over before after_ c d f g = λ p q b a.
     let u = f p b in
     let w = g q a in
@@ -14,7 +14,7 @@ moves_over before after_ c d f g = λ p q b a.
     ∙ ap (λ (k : ℕ). (d.0 - c.0) + (k - c.1)) (sym w.1)
 
 over_line : {L : Type 0} (past : L → Past → Type 0) (line line' : Option L) (c d : ℕ × ℕ)
-    → MatchOption line ((c.0 ≡ 0) × (c.1 ≡ 0)) (λ l. Counts c (past l)) → MatchOption line' ((d.0 ≡ 0) × (d.1 ≡ 0)) (λ l. Counts d (past l)) → (line ≡ None → line' ≡ None)
+    → MatchOption line ((c.0 ≡ 0) × (c.1 ≡ 0)) (λ l. AreCounts c (past l)) → MatchOption line' ((d.0 ≡ 0) × (d.1 ≡ 0)) (λ l. AreCounts d (past l)) → (line ≡ None → line' ≡ None)
     → MatchOption line (counted c d ≡ 0) (λ l. MovesOver (past l) (λ p. MatchOption line' ⊥ (λ m. past m p)) (counted c d))
 over_line past None None c d f g none = let f0 = f.0 in let f1 = f.1 in let g0 = g.0 in let g1 = g.1 in omega (arith, f0, f1, g0, g1)
 over_line past None (Some m) c d f g none = absurd (let e : Some m ≡ None = none refl in cc)
@@ -23,9 +23,9 @@ over_line past (Some l) (Some m) c d f g none = moves_over (past l) (past m) c d
 
 -- what the counts before and after a call say
 pub moves_of : {A C L : Type 0} (on_source : A → Past → Type 0) (on_line : L → Past → Type 0) (on_next : C → Past → Type 0) (a a' a2 : A) (line line' line2 : Option L) (x x' x2 : C) (c0 d0 c1 d1 c2 d2 : ℕ × ℕ) (n : ℕ)
-    → Counts c0 (on_source a) → Counts d0 (on_source a')
-    → MatchOption line ((c1.0 ≡ 0) × (c1.1 ≡ 0)) (λ l. Counts c1 (on_line l)) → MatchOption line' ((d1.0 ≡ 0) × (d1.1 ≡ 0)) (λ l. Counts d1 (on_line l))
-    → Counts c2 (on_next x) → Counts d2 (on_next x')
+    → AreCounts c0 (on_source a) → AreCounts d0 (on_source a')
+    → MatchOption line ((c1.0 ≡ 0) × (c1.1 ≡ 0)) (λ l. AreCounts c1 (on_line l)) → MatchOption line' ((d1.0 ≡ 0) × (d1.1 ≡ 0)) (λ l. AreCounts d1 (on_line l))
+    → AreCounts c2 (on_next x) → AreCounts d2 (on_next x')
     → (line ≡ None → line' ≡ None) → a2 ≡ a' → line2 ≡ line' → x2 ≡ x'
     → n ≡ min (counted c0 d0 + counted c1 d1 + counted c2 d2) (2 ^ 64 - 1)
     → SumsBytes (MovesOver (on_source a) (on_source a2)) (λ k. MatchOption line (k ≡ 0) (λ l. MovesOver (on_line l) (λ p. MatchOption line2 ⊥ (λ m. on_line m p)) k)) (MovesOver (on_next x) (on_next x2)) n
@@ -44,19 +44,19 @@ moves_of {A} {C} {L} on_source on_line on_next a a' a2 line line' line2 x x' x2 
     })))
 
 -- wires that a call left as they were
-same_over : (past : Past → Type 0) (c : ℕ × ℕ) → Counts c past → MovesOver past past 0
+same_over : (past : Past → Type 0) (c : ℕ × ℕ) → AreCounts c past → MovesOver past past 0
 same_over past c f = λ p q b a. let u = f p b in let w = f q a in let u0 = u.0 in let u1 = u.1 in let w0 = w.0 in let w1 = w.1 in omega (arith, u0, u1, w0, w1)
 
 abbrev none_moved : ℕ
 none_moved = 0
 
-same_line : {L : Type 0} (past : L → Past → Type 0) (line : Option L) (c : ℕ × ℕ) → MatchOption line ((c.0 ≡ 0) × (c.1 ≡ 0)) (λ l. Counts c (past l))
+same_line : {L : Type 0} (past : L → Past → Type 0) (line : Option L) (c : ℕ × ℕ) → MatchOption line ((c.0 ≡ 0) × (c.1 ≡ 0)) (λ l. AreCounts c (past l))
     → MatchOption line (none_moved ≡ 0) (λ l. MovesOver (past l) (λ p. MatchOption line ⊥ (λ m. past m p)) none_moved)
 same_line past None c f = refl
 same_line past (Some l) c f = same_over (past l) c f
 
 pub moves_none : {A C L : Type 0} (on_source : A → Past → Type 0) (on_line : L → Past → Type 0) (on_next : C → Past → Type 0) (a a' : A) (line line' : Option L) (x x' : C) (c0 c1 c2 : ℕ × ℕ) (n : ℕ)
-    → Counts c0 (on_source a) → MatchOption line ((c1.0 ≡ 0) × (c1.1 ≡ 0)) (λ l. Counts c1 (on_line l)) → Counts c2 (on_next x)
+    → AreCounts c0 (on_source a) → MatchOption line ((c1.0 ≡ 0) × (c1.1 ≡ 0)) (λ l. AreCounts c1 (on_line l)) → AreCounts c2 (on_next x)
     → a' ≡ a → line' ≡ line → x' ≡ x → n ≡ 0
     → SumsBytes (MovesOver (on_source a) (on_source a')) (λ k. MatchOption line (k ≡ 0) (λ l. MovesOver (on_line l) (λ p. MatchOption line' ⊥ (λ m. on_line m p)) k)) (MovesOver (on_next x) (on_next x')) n
 moves_none {A} {C} {L} on_source on_line on_next a a' line line' x x' c0 c1 c2 n f0 f1 f2 ea el ex e =

@@ -23,11 +23,13 @@ use Rattle.adapt_hold.specs.Holding.{Holding, IsTied, IsRoomy, shows, moved}
 use Rattle.adapt_turn.specs.declared.parts.Passed.{Passed}
 use Rattle.adapt_turn.specs.declared.start.Line.{Line}
 use Rattle.adapt_turn.specs.Parts.{SourcePart, SendPart, HearPart}
-use Rattle.adapt_turn.specs.Stands.{Texts, joined, no_texts, Stands, Goes, HopsAre, IsRefusing, IsUndelivered, IsDelivered}
+use Rattle.adapt_turn.specs.Stands.{Texts, joined, no_texts, Stands, Goes, HopsAre, IsRefusing, IsUndelivered, IsDelivered, IsDone}
+use Rattle.adapt_turn.specs.Made.{OfHead}
 use Rattle.adapt_turn.proofs.Carry.{off_sending, off_replies, not_true, both_not}
 use Rattle.adapt_turn.proofs.Passes.{fail_runs}
 use Rattle.adapt_turn.proofs.Advance.{Others, source_stands, send_stands, hear_stands, fail_stands, retry_stands}
 use Rattle.adapt_turn.proofs.Hops.{hops_others}
+use Rattle.adapt_turn.proofs.Made.{KeepsMade}
 
 -- The laws of the three sides, together.
 
@@ -53,7 +55,7 @@ heard_line has_heard law (Some l) x event adapted text o p =
     let w = both_not (is_of_replies event) (is_retry event) o in law x event adapted text l.side w.0 w.1 p
 
 pub others_of : {S V W K : Type 0} (agrees : Seen → S → Type 0) (has_read : Seen → List ℕ → List ℕ → S → Type 0) (has_sent has_heard : Seen → List ℕ → List ℕ → V → Type 0)
-    (has_given : Seen → List ℕ → List ℕ → List ℕ → K → Type 0) (gift : K → Gift) (aside : List ℕ → K → Type 0)
+    (has_given : Seen → List ℕ → List ℕ → List ℕ → K → Type 0) (gift : K → Gift) (aside : List ℕ → K → Type 0) (made : K → Seen → List ℕ → Type 0)
     → ((x : Seen) (event : Event) (s : S) → is_of_source event ≡ false → agrees x s → agrees (after x event) s)
     → ((x : Seen) (event : Event) (body text : List ℕ) (s : S) → is_of_source event ≡ false → has_read x body text s → has_read (after x event) body text s)
     → ((x : Seen) (event : Event) (came bytes taken : List ℕ) (s : V) → is_of_sending event ≡ false → is_retry event ≡ false
@@ -65,21 +67,24 @@ pub others_of : {S V W K : Type 0} (agrees : Seen → S → Type 0) (has_read : 
     → length bytes ≡ in_bytes event → length more ≡ ad_bytes event
     → has_given (seen plan before) head (chosen (seen plan before) original adapted) taken s
     → has_given (seen plan (event ∷ before)) head (chosen (seen plan (event ∷ before)) (original ++ bytes) (adapted ++ more)) taken s)
+    → ((s : K) → KeepsMade (made s))
     → (source : S) (line : Option (Line V W)) (next back : K) (refusing : Bool)
     → Others (λ x. agrees x source) (λ x body text. has_read x body text source)
     (λ x came taken. MatchOption line (taken ≡ []) (λ l. has_sent x came taken l.side))
     (λ x adapted text. MatchOption line ((adapted ≡ []) × (text ≡ [])) (λ l. has_heard x adapted text l.side))
-    (HopsAre (gift next) (gift back) (λ x head body taken. has_given x head body taken next) (λ taken. aside taken next)
-    (λ x head body taken. has_given x head body taken back) (λ taken. aside taken back))
+    (HopsAre (gift next) (gift back) (OfHead (made next) (λ x head body taken. has_given x head body taken next)) (λ taken. aside taken next)
+    (OfHead (made back) (λ x head body taken. has_given x head body taken back)) (λ taken. aside taken back))
     (IsRefusing refusing (gift next) (gift back))
-others_of agrees has_read has_sent has_heard has_given gift aside la lr ls lh lg source line next back refusing = record {
+others_of agrees has_read has_sent has_heard has_given gift aside made la lr ls lh lg lm source line next back refusing = record {
   agrees_on = λ x event o a. la x event source (not_true (is_of_source event) o) a;
   read_on = λ x event body text o p. lr x event body text source (not_true (is_of_source event) o) p;
   sent_on = λ x event came bytes taken o n m p. sent_line has_sent ls line x event came bytes taken o n m p;
   heard_on = λ x event adapted text o p. heard_line has_heard lh line x event adapted text o p;
-  hops_on = hops_others (gift next) (gift back) (λ x head body taken. has_given x head body taken next) (λ x head body taken. has_given x head body taken back) (λ taken. aside taken next) (λ taken. aside taken back)
-      (λ plan before event head original adapted bytes more taken l o a b c d p. lg plan before event head original adapted bytes more taken next l o a b c d p)
-      (λ plan before event head original adapted bytes more taken l o a b c d p. lg plan before event head original adapted bytes more taken back l o a b c d p);
+  hops_on = hops_others (gift next) (gift back) (OfHead (made next) (λ x head body taken. has_given x head body taken next)) (OfHead (made back) (λ x head body taken. has_given x head body taken back)) (λ taken. aside taken next) (λ taken. aside taken back)
+      (λ plan before event head original adapted bytes more taken l o a b c d p.
+      (lm next (seen plan before) event head l.0.0 l.0.1 p.0, lg plan before event head original adapted bytes more taken next l o a b c d p.1))
+      (λ plan before event head original adapted bytes more taken l o a b c d p.
+      (lm back (seen plan before) event head l.0.0 l.0.1 p.0, lg plan before event head original adapted bytes more taken back l o a b c d p.1));
   refuses_on = λ x event r e. let w = r e in (stays_closed (is_close event) x.closed w.0, w.1);
 }
 
@@ -142,25 +147,51 @@ goes_then s0 s1 s2 a0 a1 a2 b0 b1 b2 c0 c1 c2 f g = record {
 
 -- The passes.
 
-pub source_goes : (h k : Holding) (ao an : Seen → Type 0) (ro rn sent heard : Seen → List ℕ → List ℕ → Type 0) (hops : Seen → List ℕ → List ℕ → List ℕ → Type 0) (refuses : Seen → Type 0) (delivered : List ℕ → List ℕ → List ℕ → Type 0)
+-- the same, with what the writers say now
+pub rehop : (h : Holding) (agrees : Seen → Type 0) (read sent heard : Seen → List ℕ → List ℕ → Type 0) (hops hops' : Seen → List ℕ → List ℕ → List ℕ → Type 0) (refuses refuses' : Seen → Type 0) (done done' : List ℕ → List ℕ → List ℕ → Type 0) (t : Texts) (n b : List ℕ)
+    → ((body : List ℕ) → hops (shows h.history) body t.next_taken t.back_taken → hops' (shows h.history) body n b) → (refuses (shows h.history) → refuses' (shows h.history))
+    → (IsDone h.history → (body : List ℕ) → done body t.next_taken t.back_taken → done' body n b)
+    → Stands h agrees read sent heard hops refuses done t → Stands h agrees read sent heard hops' refuses' done' (record t { next_taken = n; back_taken = b })
+rehop h agrees read sent heard hops hops' refuses refuses' done done' t n b f g w s = record {
+  original = s.original;
+  adapted = s.adapted;
+  original_is = s.original_is;
+  adapted_is = s.adapted_is;
+  agrees_is = s.agrees_is;
+  read_is = s.read_is;
+  sent_is = s.sent_is;
+  heard_is = s.heard_is;
+  hops_are = f (chosen (shows h.history) s.original s.adapted) s.hops_are;
+  refuses_is = g s.refuses_is;
+  done_is = λ d. w d (chosen (shows h.history) s.original s.adapted) (s.done_is d);
+}
+
+-- the same of an open history, whatever stands where one is done
+pub reopen : (h : Holding) (agrees : Seen → Type 0) (read sent heard : Seen → List ℕ → List ℕ → Type 0) (hopso hops : Seen → List ℕ → List ℕ → List ℕ → Type 0) (refuses : Seen → Type 0) (done delivered : List ℕ → List ℕ → List ℕ → Type 0) (t : Texts)
+    → (shows h.history).closed ≡ false → ((body next back : List ℕ) → hopso (shows h.history) body next back → hops (shows h.history) body next back)
+    → Stands h agrees read sent heard hopso refuses done t → Stands h agrees read sent heard hops refuses delivered t
+reopen h agrees read sent heard hopso hops refuses done delivered t c f s =
+    rehop h agrees read sent heard hopso hops refuses refuses done delivered t t.next_taken t.back_taken (λ body p. f body t.next_taken t.back_taken p) (λ r. r) (λ w body p. absurd (false≢true (sym c ∙ w.0))) s
+
+pub source_goes : (h k : Holding) (ao an : Seen → Type 0) (ro rn sent heard : Seen → List ℕ → List ℕ → Type 0) (hopso hops : Seen → List ℕ → List ℕ → List ℕ → Type 0) (refuses : Seen → Type 0) (done delivered : List ℕ → List ℕ → List ℕ → Type 0)
     (f0 f1 : Option RelayFault) (rests : Type 0) (before after_ service next : Past → Type 0) (passed : Passed)
-    → Others an rn sent heard hops refuses → IsTied h → (shows h.history).closed ≡ false → SourcePart h k ro rn an f0 f1 rests before after_ passed
-    → Goes (Stands h ao ro sent heard hops refuses delivered) (Stands k an rn sent heard hops refuses delivered) before after_ service service next next
-source_goes h k ao an ro rn sent heard hops refuses delivered f0 f1 rests before after_ service next passed u tied c d = record {
+    → ((body next back : List ℕ) → hopso (shows h.history) body next back → hops (shows h.history) body next back) → Others an rn sent heard hops refuses → IsTied h → (shows h.history).closed ≡ false → SourcePart h k ro rn an f0 f1 rests before after_ passed
+    → Goes (Stands h ao ro sent heard hopso refuses done) (Stands k an rn sent heard hops refuses delivered) before after_ service service next next
+source_goes h k ao an ro rn sent heard hopso hops refuses done delivered f0 f1 rests before after_ service next passed conv u tied c d = record {
   delta = record { source_read = d.delta; service_read = []; service_taken = []; next_taken = []; back_taken = [] };
   stands = λ t o. of_five (Stands k an rn sent heard hops refuses delivered) _ _ _ _ _ _ _ _ _ _ refl (sym (append-nil t.service_read)) (sym (append-nil t.service_taken)) (sym (append-nil t.next_taken)) (sym (append-nil t.back_taken))
-      (source_stands h k ao an ro rn sent heard hops refuses delivered f0 f1 rests before after_ passed t u tied c d o);
+      (source_stands h k ao an ro rn sent heard hops refuses delivered f0 f1 rests before after_ passed t u tied c d (reopen h ao ro sent heard hopso hops refuses done delivered t c conv o));
   source = λ p b. let w = d.part.wire p b in (w.0, w.1, w.2);
   service = λ p b. still service p b;
   next = λ p b. still next p b;
 }
 
-pub fail_goes : (h k : Holding) (cause : Cause) (agrees : Seen → Type 0) (read sent heard : Seen → List ℕ → List ℕ → Type 0) (hops : Seen → List ℕ → List ℕ → List ℕ → Type 0) (refuses : Seen → Type 0) (delivered : List ℕ → List ℕ → List ℕ → Type 0)
+pub fail_goes : (h k : Holding) (cause : Cause) (agrees : Seen → Type 0) (read sent heard : Seen → List ℕ → List ℕ → Type 0) (hopso hops : Seen → List ℕ → List ℕ → List ℕ → Type 0) (refuses : Seen → Type 0) (done delivered : List ℕ → List ℕ → List ℕ → Type 0)
     (source service next : Past → Type 0)
-    → Others agrees read sent heard hops refuses → IsTied h → IsRoomy h → (shows h.history).closed ≡ false → k ≡ moved h (Fail cause) []
-    → Goes (Stands h agrees read sent heard hops refuses delivered) (Stands k agrees read sent heard hops refuses delivered) source source service service next next
-fail_goes h k cause agrees read sent heard hops refuses delivered source service next u tied roomy c is =
-    goes_still _ _ source service next (λ t o. fail_stands h k cause agrees read sent heard hops refuses delivered t u tied (fail_runs h cause [] roomy c) c is o)
+    → ((body next back : List ℕ) → hopso (shows h.history) body next back → hops (shows h.history) body next back) → Others agrees read sent heard hops refuses → IsTied h → IsRoomy h → (shows h.history).closed ≡ false → k ≡ moved h (Fail cause) []
+    → Goes (Stands h agrees read sent heard hopso refuses done) (Stands k agrees read sent heard hops refuses delivered) source source service service next next
+fail_goes h k cause agrees read sent heard hopso hops refuses done delivered source service next conv u tied roomy c is =
+    goes_still _ _ source service next (λ t o. fail_stands h k cause agrees read sent heard hops refuses delivered t u tied (fail_runs h cause [] roomy c) c is (reopen h agrees read sent heard hopso hops refuses done delivered t c conv o))
 
 -- a source that doesn't agree never stood
 pub disagree_goes : (h : Holding) (history : History) (agrees : Seen → Type 0) (read sent heard : Seen → List ℕ → List ℕ → Type 0) (hops : Seen → List ℕ → List ℕ → List ℕ → Type 0) (refuses : Seen → Type 0) (delivered : List ℕ → List ℕ → List ℕ → Type 0)
@@ -182,34 +213,34 @@ abbrev pub past_on : {L : Type 0} → (L → Past → Type 0) → Option L → P
 past_on past line p = MatchOption line ⊥ (λ l. past l p)
 
 pub send_goes : {L : Type 0} (line : Option L) (l m : L) (h k : Holding) (agrees : Seen → Type 0) (read : Seen → List ℕ → List ℕ → Type 0) (said heard : L → Seen → List ℕ → List ℕ → Type 0) (past : L → Past → Type 0)
-    (hops : Seen → List ℕ → List ℕ → List ℕ → Type 0) (refuses : Seen → Type 0) (delivered : List ℕ → List ℕ → List ℕ → Type 0) (f0 f1 : Option ClientFault) (rests : Type 0) (source next : Past → Type 0) (passed : Passed)
-    → line ≡ Some l → Others agrees read (said m) (heard m) hops refuses → ((x : Seen) (adapted text : List ℕ) → heard l x adapted text → heard m x adapted text) → IsTied h
+    (hopso hops : Seen → List ℕ → List ℕ → List ℕ → Type 0) (refuses : Seen → Type 0) (done delivered : List ℕ → List ℕ → List ℕ → Type 0) (f0 f1 : Option ClientFault) (rests : Type 0) (source next : Past → Type 0) (passed : Passed)
+    → line ≡ Some l → ((body next back : List ℕ) → hopso (shows h.history) body next back → hops (shows h.history) body next back) → Others agrees read (said m) (heard m) hops refuses → ((x : Seen) (adapted text : List ℕ) → heard l x adapted text → heard m x adapted text) → IsTied h
     → (shows h.history).closed ≡ false → SendPart h k (said l) (said m) f0 f1 rests (past l) (past m) passed
-    → Goes (Stands h agrees read (on_line said line) (heard_on_line heard line) hops refuses delivered) (Stands k agrees read (on_line said (Some m)) (heard_on_line heard (Some m)) hops refuses delivered)
+    → Goes (Stands h agrees read (on_line said line) (heard_on_line heard line) hopso refuses done) (Stands k agrees read (on_line said (Some m)) (heard_on_line heard (Some m)) hops refuses delivered)
     source source (past_on past line) (past_on past (Some m)) next next
-send_goes {L} line l m h k agrees read said heard past hops refuses delivered f0 f1 rests source next passed e u same tied c d =
-    subst (λ (z : Option L). Goes (Stands h agrees read (on_line said z) (heard_on_line heard z) hops refuses delivered) (Stands k agrees read (said m) (heard m) hops refuses delivered) source source (past_on past z) (past m) next next) (sym e)
+send_goes {L} line l m h k agrees read said heard past hopso hops refuses done delivered f0 f1 rests source next passed e conv u same tied c d =
+    subst (λ (z : Option L). Goes (Stands h agrees read (on_line said z) (heard_on_line heard z) hopso refuses done) (Stands k agrees read (said m) (heard m) hops refuses delivered) source source (past_on past z) (past m) next next) (sym e)
     (record {
       delta = record { source_read = []; service_read = []; service_taken = d.delta; next_taken = []; back_taken = [] };
       stands = λ t o. of_five (Stands k agrees read (said m) (heard m) hops refuses delivered) _ _ _ _ _ _ _ _ _ _ (sym (append-nil t.source_read)) (sym (append-nil t.service_read)) refl (sym (append-nil t.next_taken)) (sym (append-nil t.back_taken))
-          (send_stands h k agrees read (said l) (said m) (heard l) (heard m) hops refuses delivered f0 f1 rests (past l) (past m) passed t u same tied c d o);
+          (send_stands h k agrees read (said l) (said m) (heard l) (heard m) hops refuses delivered f0 f1 rests (past l) (past m) passed t u same tied c d (reopen h agrees read (said l) (heard l) hopso hops refuses done delivered t c conv o));
       source = λ p b. still source p b;
       service = λ p b. let w = d.part.wire p b in (w.0, w.1, w.2);
       next = λ p b. still next p b;
     })
 
 pub hear_goes : {L : Type 0} (line : Option L) (l m : L) (h k : Holding) (agrees : Seen → Type 0) (read : Seen → List ℕ → List ℕ → Type 0) (said heard : L → Seen → List ℕ → List ℕ → Type 0) (past : L → Past → Type 0)
-    (hops : Seen → List ℕ → List ℕ → List ℕ → Type 0) (refuses : Seen → Type 0) (delivered : List ℕ → List ℕ → List ℕ → Type 0) (f0 f1 : Option ClientFault) (rests : Type 0) (source next : Past → Type 0) (passed : Passed)
-    → line ≡ Some l → Others agrees read (said m) (heard m) hops refuses → ((x : Seen) (came text : List ℕ) → said l x came text → said m x came text) → IsTied h
+    (hopso hops : Seen → List ℕ → List ℕ → List ℕ → Type 0) (refuses : Seen → Type 0) (done delivered : List ℕ → List ℕ → List ℕ → Type 0) (f0 f1 : Option ClientFault) (rests : Type 0) (source next : Past → Type 0) (passed : Passed)
+    → line ≡ Some l → ((body next back : List ℕ) → hopso (shows h.history) body next back → hops (shows h.history) body next back) → Others agrees read (said m) (heard m) hops refuses → ((x : Seen) (came text : List ℕ) → said l x came text → said m x came text) → IsTied h
     → (shows h.history).closed ≡ false → HearPart h k (heard l) (heard m) f0 f1 rests (past l) (past m) passed
-    → Goes (Stands h agrees read (on_line said line) (heard_on_line heard line) hops refuses delivered) (Stands k agrees read (on_line said (Some m)) (heard_on_line heard (Some m)) hops refuses delivered)
+    → Goes (Stands h agrees read (on_line said line) (heard_on_line heard line) hopso refuses done) (Stands k agrees read (on_line said (Some m)) (heard_on_line heard (Some m)) hops refuses delivered)
     source source (past_on past line) (past_on past (Some m)) next next
-hear_goes {L} line l m h k agrees read said heard past hops refuses delivered f0 f1 rests source next passed e u same tied c d =
-    subst (λ (z : Option L). Goes (Stands h agrees read (on_line said z) (heard_on_line heard z) hops refuses delivered) (Stands k agrees read (said m) (heard m) hops refuses delivered) source source (past_on past z) (past m) next next) (sym e)
+hear_goes {L} line l m h k agrees read said heard past hopso hops refuses done delivered f0 f1 rests source next passed e conv u same tied c d =
+    subst (λ (z : Option L). Goes (Stands h agrees read (on_line said z) (heard_on_line heard z) hopso refuses done) (Stands k agrees read (said m) (heard m) hops refuses delivered) source source (past_on past z) (past m) next next) (sym e)
     (record {
       delta = record { source_read = []; service_read = d.delta; service_taken = []; next_taken = []; back_taken = [] };
       stands = λ t o. of_five (Stands k agrees read (said m) (heard m) hops refuses delivered) _ _ _ _ _ _ _ _ _ _ (sym (append-nil t.source_read)) refl (sym (append-nil t.service_taken)) (sym (append-nil t.next_taken)) (sym (append-nil t.back_taken))
-          (hear_stands h k agrees read (said l) (said m) (heard l) (heard m) hops refuses delivered f0 f1 rests (past l) (past m) passed t u same tied c d o);
+          (hear_stands h k agrees read (said l) (said m) (heard l) (heard m) hops refuses delivered f0 f1 rests (past l) (past m) passed t u same tied c d (reopen h agrees read (said l) (heard l) hopso hops refuses done delivered t c conv o));
       source = λ p b. still source p b;
       service = λ p b. let w = d.part.wire p b in (w.0, w.1, w.2);
       next = λ p b. still next p b;
@@ -221,34 +252,35 @@ abbrev nil : List ℕ
 nil = []
 
 pub line_again : {V W : Type 0} (has_sent has_heard : Seen → List ℕ → List ℕ → V → Type 0) (line : Option (Line V W)) (l m : Line V W) (h k : Holding)
-    (agrees : Seen → Type 0) (read : Seen → List ℕ → List ℕ → Type 0) (hops : Seen → List ℕ → List ℕ → List ℕ → Type 0) (refuses : Seen → Type 0) (delivered : List ℕ → List ℕ → List ℕ → Type 0) (t : Texts)
-    → line ≡ Some l → Others agrees read (λ x came taken. has_sent x came taken m.side) (λ x adapted text. has_heard x adapted text m.side) hops refuses
+    (agrees : Seen → Type 0) (read : Seen → List ℕ → List ℕ → Type 0) (hopso hops : Seen → List ℕ → List ℕ → List ℕ → Type 0) (refuses : Seen → Type 0) (done delivered : List ℕ → List ℕ → List ℕ → Type 0) (t : Texts)
+    → line ≡ Some l → ((body next back : List ℕ) → hopso (shows h.history) body next back → hops (shows h.history) body next back) → Others agrees read (λ x came taken. has_sent x came taken m.side) (λ x adapted text. has_heard x adapted text m.side) hops refuses
     → IsTied h → IsRoomy h → MayFollow h.history.plan h.history.events Retry → k ≡ moved h Retry []
     → ((x : Seen) (came taken adapted text : List ℕ) → x.heard ≡ false → length came ≡ x.received → has_sent x came taken l.side → has_heard x adapted text l.side → has_sent (after x Retry) came [] m.side)
     → ((x : Seen) (came taken adapted text : List ℕ) → x.heard ≡ false → length came ≡ x.received → has_sent x came taken l.side → has_heard x adapted text l.side → has_heard (after x Retry) [] [] m.side)
     → ((x : Seen) (adapted text : List ℕ) (s : V) → has_heard x adapted text s → x.heard ≡ false → (adapted ≡ []) × (text ≡ []))
-    → Stands h agrees read (λ x came taken. MatchOption line (taken ≡ []) (λ z. has_sent x came taken z.side)) (λ x adapted text. MatchOption line ((adapted ≡ []) × (text ≡ [])) (λ z. has_heard x adapted text z.side)) hops refuses delivered t
+    → Stands h agrees read (λ x came taken. MatchOption line (taken ≡ []) (λ z. has_sent x came taken z.side)) (λ x adapted text. MatchOption line ((adapted ≡ []) × (text ≡ [])) (λ z. has_heard x adapted text z.side)) hopso refuses done t
     → Stands k agrees read (λ x came taken. has_sent x came taken m.side) (λ x adapted text. has_heard x adapted text m.side) hops refuses delivered (record t { service_read = []; service_taken = [] })
-line_again {V} {W} has_sent has_heard line l m h k agrees read hops refuses delivered t e u tied roomy f is again_sent again_heard unheard s =
+line_again {V} {W} has_sent has_heard line l m h k agrees read hopso hops refuses done delivered t e conv u tied roomy f is again_sent again_heard unheard s =
     retry_stands h k agrees read (λ x came taken. has_sent x came taken l.side) (λ x came taken. has_sent x came taken m.side) (λ x adapted text. has_heard x adapted text l.side) (λ x adapted text. has_heard x adapted text m.side) hops refuses delivered t
     u tied roomy f is (again_sent (shows h.history)) (again_heard (shows h.history)) (λ adapted text p. unheard (shows h.history) adapted text l.side p)
-    (subst (λ (z : Option (Line V W)). Stands h agrees read (λ x came taken. MatchOption z (taken ≡ []) (λ y. has_sent x came taken y.side)) (λ x adapted text. MatchOption z ((adapted ≡ []) × (text ≡ [])) (λ y. has_heard x adapted text y.side)) hops refuses delivered t) e s)
+    (reopen h agrees read (λ x came taken. has_sent x came taken l.side) (λ x adapted text. has_heard x adapted text l.side) hopso hops refuses done delivered t f.0 conv
+    (subst (λ (z : Option (Line V W)). Stands h agrees read (λ x came taken. MatchOption z (taken ≡ []) (λ y. has_sent x came taken y.side)) (λ x adapted text. MatchOption z ((adapted ≡ []) × (text ≡ [])) (λ y. has_heard x adapted text y.side)) hopso refuses done t) e s))
 
 pub none_again : {V W : Type 0} (has_sent has_heard : Seen → List ℕ → List ℕ → V → Type 0) (line : Option (Line V W)) (h k : Holding)
-    (agrees : Seen → Type 0) (read : Seen → List ℕ → List ℕ → Type 0) (hops : Seen → List ℕ → List ℕ → List ℕ → Type 0) (refuses : Seen → Type 0) (delivered : List ℕ → List ℕ → List ℕ → Type 0) (t : Texts)
+    (agrees : Seen → Type 0) (read : Seen → List ℕ → List ℕ → Type 0) (hops : Seen → List ℕ → List ℕ → List ℕ → Type 0) (refuses : Seen → Type 0) (done delivered : List ℕ → List ℕ → List ℕ → Type 0) (t : Texts)
     → line ≡ None
     → Others agrees read (λ x came taken. MatchOption line (taken ≡ []) (λ z. has_sent x came taken z.side)) (λ x adapted text. MatchOption line ((adapted ≡ []) × (text ≡ [])) (λ z. has_heard x adapted text z.side)) hops refuses
     → IsTied h → IsRoomy h → MayFollow h.history.plan h.history.events Retry → k ≡ moved h Retry []
-    → Stands h agrees read (λ x came taken. MatchOption line (taken ≡ []) (λ z. has_sent x came taken z.side)) (λ x adapted text. MatchOption line ((adapted ≡ []) × (text ≡ [])) (λ z. has_heard x adapted text z.side)) hops refuses delivered t
+    → Stands h agrees read (λ x came taken. MatchOption line (taken ≡ []) (λ z. has_sent x came taken z.side)) (λ x adapted text. MatchOption line ((adapted ≡ []) × (text ≡ [])) (λ z. has_heard x adapted text z.side)) hops refuses done t
     → Stands k agrees read (λ x came taken. MatchOption line (taken ≡ []) (λ z. has_sent x came taken z.side)) (λ x adapted text. MatchOption line ((adapted ≡ []) × (text ≡ [])) (λ z. has_heard x adapted text z.side)) hops refuses delivered (record t { service_read = []; service_taken = [] })
-none_again {V} {W} has_sent has_heard line h k agrees read hops refuses delivered t e u tied roomy f is s =
+none_again {V} {W} has_sent has_heard line h k agrees read hops refuses done delivered t e u tied roomy f is s =
     retry_stands h k agrees read (λ x came taken. MatchOption line (taken ≡ []) (λ z. has_sent x came taken z.side)) (λ x came taken. MatchOption line (taken ≡ []) (λ z. has_sent x came taken z.side))
     (λ x adapted text. MatchOption line ((adapted ≡ []) × (text ≡ [])) (λ z. has_heard x adapted text z.side)) (λ x adapted text. MatchOption line ((adapted ≡ []) × (text ≡ [])) (λ z. has_heard x adapted text z.side)) hops refuses delivered t
     u tied roomy f is
     (λ came taken adapted text q n p r. subst (λ (z : Option (Line V W)). MatchOption z (nil ≡ nil) (λ y. has_sent (after (shows h.history) Retry) came [] y.side)) (sym e) refl)
     (λ came taken adapted text q n p r. subst (λ (z : Option (Line V W)). MatchOption z ((nil ≡ nil) × (nil ≡ nil)) (λ y. has_heard (after (shows h.history) Retry) [] [] y.side)) (sym e) (refl, refl))
     (λ adapted text p q. subst (λ (z : Option (Line V W)). MatchOption z ((adapted ≡ []) × (text ≡ [])) (λ y. has_heard (shows h.history) adapted text y.side)) e p)
-    s
+    (reopen h agrees read (λ x came taken. MatchOption line (taken ≡ []) (λ z. has_sent x came taken z.side)) (λ x adapted text. MatchOption line ((adapted ≡ []) × (text ≡ [])) (λ z. has_heard x adapted text z.side)) hops hops refuses done delivered t f.0 (λ body a b p. p) s)
 
 -- the beginning
 

@@ -1,5 +1,5 @@
 -- How a history ends, told by its newest event.
-use Rattle.std.proofs.Common.{◌≡◌, ℕ, Bool, true, false, ◌||◌, List, [], ◌∷◌, Option, Some, None, refl, sym, ◌∙◌, ap, subst}
+use Rattle.std.proofs.Common.{◌≡◌, ℕ, ◌⊎◌, inl, inr, Bool, true, false, ◌||◌, List, [], ◌∷◌, Option, Some, None, refl, sym, ◌∙◌, ap, subst}
 use Rattle.std.proofs.lemmas.Bool.{false≢true}
 use Rattle.trace_core.specs.declared.history.Seen.{Seen}
 use Rattle.trace_core.specs.declared.history.Plan.{Plan}
@@ -114,3 +114,17 @@ done_told h k outcome told same c e = subst (λ (y : Holding). IsDone y.history)
 
 pub failed_undone : (history : History) (outcome : Outcome) (cause : Cause) → outcome ≡ outcome_of history.events → outcome ≡ outcomes.Fail cause → IsDone history → ⊥
 failed_undone history outcome cause e f d = let g : outcomes.Fail cause ≡ outcomes.Done = sym f ∙ e ∙ d.1 in absurd cc
+
+over_of : (plan : Plan) (events : List Event) (cause : Cause) → outcome_of events ≡ outcomes.Fail cause → (seen plan events).closed ≡ true
+over_of plan (Fail why ∷ before) cause e = refl
+over_of plan [] cause e = let d : outcomes.Done ≡ outcomes.Fail cause = e in absurd cc
+over_of plan (_ ∷ before) cause e = let d : outcomes.Done ≡ outcomes.Fail cause = e in absurd cc
+
+-- one that failed is closed
+pub failed_over : (history : History) (outcome : Outcome) (cause : Cause) → outcome ≡ outcome_of history.events → outcome ≡ outcomes.Fail cause → (shows history).closed ≡ true
+failed_over history outcome cause e f = over_of history.plan history.events cause (sym e ∙ f)
+
+-- a turn at the moment of the last moved byte
+pub same_moment : (new old : ℕ) → (new ≡ old) ⊎ (new ≡ old) → new ≡ old
+same_moment new old (inl e) = e
+same_moment new old (inr e) = e

@@ -1,3 +1,4 @@
+pub mod Made
 pub mod Moved
 pub mod Parts
 pub mod Stands

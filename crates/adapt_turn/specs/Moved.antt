@@ -21,8 +21,8 @@ pub record SumsBytes (over_source over_service over_next : ℕ → Type 0) (n : 
   pub sum : n ≡ min (source + service + next) (2 ^ 64 - 1)
 
 -- these are a wire's counts: the bytes that it gave, and those that it took
-abbrev pub Counts : (ℕ × ℕ) → (Past → Type 0) → Type 0
-Counts counts past = (p : Past) → past p → (counts.0 ≡ length p.read) × (counts.1 ≡ length p.taken)
+abbrev pub AreCounts : (ℕ × ℕ) → (Past → Type 0) → Type 0
+AreCounts counts past = (p : Past) → past p → (counts.0 ≡ length p.read) × (counts.1 ≡ length p.taken)
 
 -- what was counted between two moments
 abbrev pub counted : (before after : ℕ × ℕ) → ℕ

@@ -119,6 +119,7 @@ pub(crate) fn take_source<B: Ledgers, S: Source, A: Wire>(
     ensures part { SourcePart hold.old hold.new (λ x body read. S.has_read x body read source.old) (λ x body read. S.has_read x body read source.new)
         (λ x. S.agrees x source.new) (S.fault source.old) (S.fault source.new) (S.rests (original_room (shows hold.old.history) hold.old.claim hold.old.limits.window) source.new)
         (A.past wire.old) (A.past wire.new) result }
+    ensures head { S.head source.new ≡ S.head source.old }
     ensures whole { result.broken ≡ false }
     ensures roomy { IsRoomy hold.new }
 {
@@ -182,6 +183,7 @@ pub(crate) fn send<B: Ledgers, V: Service, W: Wire>(
         (W.past wire.old) (W.past wire.new) result }
     ensures heard { (x : Seen) (adapted read : List ℕ) → V.has_heard x adapted read service.old → V.has_heard x adapted read service.new }
     ensures head { V.adapted_head service.new ≡ V.adapted_head service.old }
+    ensures response { V.is_response service.new ≡ V.is_response service.old }
     ensures roomy { IsRoomy hold.new }
     ensures whole { result.waiting ≡ true → result.broken ≡ false }
 {
@@ -215,6 +217,7 @@ pub(crate) fn take_service<B: Ledgers, V: Service, W: Wire>(
     ensures sent { (x : Seen) (came taken : List ℕ) → V.has_sent x came taken service.old → V.has_sent x came taken service.new }
     ensures rests { (x : Seen) → V.rests_writing x service.old → V.rests_writing x service.new }
     ensures head { (shows hold.old.history).modified ≡ true → V.adapted_head service.new ≡ V.adapted_head service.old }
+    ensures response { (shows hold.old.history).modified ≡ true → V.is_response service.new ≡ V.is_response service.old }
     ensures roomy { IsRoomy hold.new }
 {
     let state = hold.state();
@@ -254,6 +257,7 @@ pub(crate) fn give<B: Ledgers, K: Hop, W: Wire>(
         (λ head body taken. K.is_whole head body taken hop.new) (K.fault hop.old) (K.fault hop.new) (K.rests (shows hold.old.history) hop.new)
         (W.past wire.old) (W.past wire.new) result }
     ensures gift { K.gift hop.new ≡ K.gift hop.old }
+    ensures framing { K.body_framing hop.new ≡ K.body_framing hop.old }
     ensures whole { result.broken ≡ false }
     ensures roomy { IsRoomy hold.new }
 {

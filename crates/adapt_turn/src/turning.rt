@@ -1,6 +1,6 @@
 //! A pass of a side, with its buffer.
 
-ghost use Rattle.std.specs.Prelude.{◌≡◌, ℕ, false, List};
+ghost use Rattle.std.specs.Prelude.{◌≡◌, ℕ, true, false, List};
 ghost use Rattle.trace_core.specs.declared.history.Seen.{Seen};
 ghost use Rattle.plan_rules.specs.Room.{original_room, adapted_room};
 ghost use Rattle.adapt_hold.specs.Holding.{shows, IsRoomy};
@@ -30,6 +30,7 @@ pub(crate) fn read_source<B: Ledgers, S: Source, A: Wire>(
     ensures part { SourcePart hold.old hold.new (λ x body read. S.has_read x body read source.old) (λ x body read. S.has_read x body read source.new)
         (λ x. S.agrees x source.new) (S.fault source.old) (S.fault source.new) (S.rests (original_room (shows hold.old.history) hold.old.claim hold.old.limits.window) source.new)
         (A.past wire.old) (A.past wire.new) result }
+    ensures head { S.head source.new ≡ S.head source.old }
     ensures whole { result.broken ≡ false }
     ensures roomy { IsRoomy hold.new }
 {
@@ -55,6 +56,8 @@ pub(crate) fn hear<B: Ledgers, V: Service, W: Wire>(
         (W.past wire.old) (W.past wire.new) result }
     ensures sent { (x : Seen) (came taken : List ℕ) → V.has_sent x came taken service.old → V.has_sent x came taken service.new }
     ensures rests { (x : Seen) → V.rests_writing x service.old → V.rests_writing x service.new }
+    ensures head { (shows hold.old.history).modified ≡ true → V.adapted_head service.new ≡ V.adapted_head service.old }
+    ensures response { (shows hold.old.history).modified ≡ true → V.is_response service.new ≡ V.is_response service.old }
     ensures roomy { IsRoomy hold.new }
 {
     let _state = hold.state();

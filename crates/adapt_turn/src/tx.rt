@@ -4,7 +4,7 @@ ghost use Rattle.std.specs.Prelude.{◌≡◌, ℕ, List, ◌≤◌, ◌^◌, �
 ghost use Rattle.trace_core.specs.declared.history.Event.TheVariants.{Retry};
 ghost use Rattle.trace_core.specs.Legal.{MayFollow};
 ghost use Rattle.plan_rules.specs.Claims.{claim_of};
-ghost use Rattle.adapt_hold.specs.Holding.{shows, IsRoomy};
+ghost use Rattle.adapt_hold.specs.Holding.{shows, IsRoomy, IsTied};
 ghost use Rattle.trace_core.specs.History.{seen};
 ghost use Rattle.adapt_sides.specs.Turns.{Gift};
 ghost use Rattle.adapt_sides.specs.Turns.Gift.{nothing};
@@ -26,7 +26,7 @@ use adapt_sides::{Hop, Service, Source};
 use plan_rules::{Limits, Plan};
 use span_bank::{Ledgers, Stake};
 use std::alloc::Global;
-use trace_core::Event;
+use trace_core::{Event, Seen};
 use wire_kit::Wire;
 
 /// What stands between a transaction and its wires.
@@ -88,16 +88,20 @@ impl<
     C: Wire,
 > Standing for Tx<B, S, V, K, F, A, W, C> {
     ghost use Rattle.std.specs.Prelude.{◌≡◌, [], MatchOption};
+    ghost use Rattle.trace_core.specs.declared.history.Seen.{Seen};
     ghost use Rattle.adapt_turn.specs.Stands.{Stands, HopsAre, IsRefusing, IsDelivered};
+    ghost use Rattle.adapt_turn.specs.Made.{IsMade, OfHead, WholeOf, adapted_of, response_of};
 
-    ghost stands = { λ tx t. Stands tx.hold (λ x. S.agrees x tx.source) (λ x body read. S.has_read x body read tx.source)
+    ghost stands = { λ tx t.
+        let made : K → Seen → List ℕ → Type 0 = λ hop x head. IsMade (F.makes tx.forward (S.head tx.source)) (adapted_of V.adapted_head tx.service) (response_of V.is_response tx.service) (K.body_framing hop) x head in
+        Stands tx.hold (λ x. S.agrees x tx.source) (λ x body read. S.has_read x body read tx.source)
         (λ x came taken. MatchOption tx.service (taken ≡ []) (λ line. V.has_sent x came taken line.side))
         (λ x adapted read. MatchOption tx.service ((adapted ≡ []) × (read ≡ [])) (λ line. V.has_heard x adapted read line.side))
-        (HopsAre (K.gift tx.next) (K.gift tx.back) (λ x head body taken. K.has_given x head body taken tx.next) (λ taken. K.aside taken tx.next)
-        (λ x head body taken. K.has_given x head body taken tx.back) (λ taken. K.aside taken tx.back))
+        (HopsAre (K.gift tx.next) (K.gift tx.back) (OfHead (made tx.next) (λ x head body taken. K.has_given x head body taken tx.next)) (λ taken. K.aside taken tx.next)
+        (OfHead (made tx.back) (λ x head body taken. K.has_given x head body taken tx.back)) (λ taken. K.aside taken tx.back))
         (IsRefusing tx.refusing (K.gift tx.next) (K.gift tx.back))
-        (IsDelivered tx.refusing (K.gift tx.next) (K.gift tx.back) (λ head body taken. K.is_whole head body taken tx.next) (λ taken. K.aside taken tx.next)
-        (λ head body taken. K.is_whole head body taken tx.back) (λ taken. K.aside taken tx.back)) t };
+        (IsDelivered tx.refusing (K.gift tx.next) (K.gift tx.back) (WholeOf (made tx.next (shows tx.hold.history)) (λ head body taken. K.is_whole head body taken tx.next)) (λ taken. K.aside taken tx.next)
+        (WholeOf (made tx.back (shows tx.hold.history)) (λ head body taken. K.is_whole head body taken tx.back)) (λ taken. K.aside taken tx.back)) t };
 }
 
 impl<B: Ledgers, S: Source, V: Service, K: Hop, F: Forward<S, K>, A: Wire, W: Wire, C: Wire> Going
@@ -199,6 +203,14 @@ impl<B: Ledgers, S: Source, V: Service, K: Hop, F: Forward<S, K>, A: Wire, W: Wi
         }
     }
 
+    /// What its history shows.
+    pub fn seen(&self) -> Seen
+        ensures seen { result ≡ shows self.now.hold.history }
+        ensures tied { IsTied self.now.hold }
+    {
+        self.hold.state().seen()
+    }
+
     /// What is left of a transaction that is closed; one that isn't comes back whole.
     pub fn into_parts(self) -> Result<Parts<B, S, V, K, F, A, W, C>, Tx<B, S, V, K, F, A, W, C>>
         ensures closed { IsOk result ↔ ((shows self.hold.history).closed ≡ true) }
@@ -209,7 +221,7 @@ impl<B: Ledgers, S: Source, V: Service, K: Hop, F: Forward<S, K>, A: Wire, W: Wi
         if !self.is_closed() {
             return Err(self);
         }
-        let seen = self.hold.state().seen();
+        let seen = self.seen();
         let Tx {
             alloc: _,
             hold,

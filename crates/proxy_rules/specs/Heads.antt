@@ -27,10 +27,10 @@ MakesOf source user body_read None is_response has_body headed = GoesOn user bod
 MakesOf source user body_read (Some text) true has_body headed = GoesOn user body_read (part_of has_body) (IsAdaptedResponse (is_head user) has_body text) headed
 MakesOf source user body_read (Some text) false has_body headed = GoesOn user body_read (part_of has_body) (IsAdaptedRequest text) headed
 
--- the user: the source of a request, or the side whose request is answered
-abbrev pub user_side : Option SourceSide → SourceSide → SourceSide
-user_side None source = source
-user_side (Some user) source = user
+-- what the user's side read: the head of the request, which is the source's own, or of the one that is answered
+abbrev pub user_head : Option SourceSide → SourceHead → SourceHead
+user_head None source = source
+user_head (Some user) source = user.head
 
 -- whether its body was read to its end: as the history shows of the source, or as the side says
 abbrev pub body_read_of : Option SourceSide → Seen → Bool
@@ -38,13 +38,13 @@ body_read_of None x = x.ended
 body_read_of (Some user) x = user.body.ended
 
 -- a message that goes on, of what the transaction has
-pub record Makes (user : Option SourceSide) (source : SourceSide) (x : Seen) (adapted : Option (List ℕ)) (is_response : Bool) (headed : Headed) : Type 0 where
+pub record Makes (user : Option SourceSide) (source : SourceHead) (x : Seen) (adapted : Option (List ℕ)) (is_response : Bool) (headed : Headed) : Type 0 where
   pub asked : RequestParts
-  pub asked_is : request_of (user_side user source).head ≡ Some asked
-  pub makes : MakesOf source.head asked (body_read_of user x) adapted is_response x.has_body headed
+  pub asked_is : request_of (user_head user source) ≡ Some asked
+  pub makes : MakesOf source asked (body_read_of user x) adapted is_response x.has_body headed
 
 -- and what is told of it: its text, how its body goes, and whether the user's connection ends behind it
-pub record Remembers (user : Option SourceSide) (source : SourceSide) (x : Seen) (adapted : Option (List ℕ)) (is_response : Bool) (head : List ℕ) (framing : Framing) (ends : Bool) : Type 0 where
+pub record Remembers (user : Option SourceSide) (source : SourceHead) (x : Seen) (adapted : Option (List ℕ)) (is_response : Bool) (head : List ℕ) (framing : Framing) (ends : Bool) : Type 0 where
   pub headed : Headed
   pub makes : Makes user source x adapted is_response headed
   pub head_is : head ≡ headed.head.items
@@ -58,7 +58,7 @@ MakesNoneOf source user (Some text) true has_body cause = (cause ≡ causes.Memo
 MakesNoneOf source user (Some text) false has_body cause = (cause ≡ causes.Memory) ⊎ ((cause ≡ causes.Service) × NoAdaptedRequest text)
 
 -- why no head is made: the user's wasn't read, or none of the chosen message
-abbrev pub MakesNone : Option SourceSide → SourceSide → Seen → Option (List ℕ) → Bool → Cause → Type 0
+abbrev pub MakesNone : Option SourceSide → SourceHead → Seen → Option (List ℕ) → Bool → Cause → Type 0
 MakesNone user source x adapted is_response cause =
-    ((cause ≡ causes.Source) × (request_of (user_side user source).head ≡ None))
-    ⊎ ((asked : RequestParts) × (request_of (user_side user source).head ≡ Some asked) × MakesNoneOf source.head asked adapted is_response x.has_body cause)
+    ((cause ≡ causes.Source) × (request_of (user_head user source) ≡ None))
+    ⊎ ((asked : RequestParts) × (request_of (user_head user source) ≡ Some asked) × MakesNoneOf source asked adapted is_response x.has_body cause)

@@ -3,7 +3,7 @@
 ghost use Rattle.std.specs.Prelude.{◌≡◌, IfOk, IfErr, IfSome, true, false, Some, None, option_copied};
 ghost use Rattle.trace_core.specs.History.{seen};
 ghost use Rattle.http_relay.specs.Reading.{request_of};
-ghost use Rattle.proxy_rules.specs.Heads.{Makes, MakesNone, Remembers, MakesOf, MakesNoneOf, user_side, body_read_of};
+ghost use Rattle.proxy_rules.specs.Heads.{Makes, MakesNone, Remembers, MakesOf, MakesNoneOf, user_head, body_read_of};
 
 use crate::onward::{
     Asked, Headed, adapted_request, adapted_response, request_onward, response_onward,
@@ -60,7 +60,7 @@ impl HeadMaker {
 
     /// The head of the user's request, once it was read.
     fn asked<'a>(&'a self, source: &'a SourceSide) -> Option<&'a HttpRequest>
-        ensures { option_copied result ≡ request_of (user_side self.now.user source.now).head }
+        ensures { option_copied result ≡ request_of (user_head self.now.user source.now.head) }
     {
         match &self.user {
             Some(side) => side.request_head(),
@@ -87,8 +87,8 @@ impl HeadMaker {
         adapted: Option<&[u8]>,
         is_response: bool,
     ) -> Result<Headed, Cause>
-        ensures ok { IfOk result (Makes self.now.user source.now (seen state.now.plan state.now.events) (option_copied adapted.entry) is_response) }
-        ensures err { IfErr result (MakesNone self.now.user source.now (seen state.now.plan state.now.events) (option_copied adapted.entry) is_response) }
+        ensures ok { IfOk result (Makes self.now.user source.now.head (seen state.now.plan state.now.events) (option_copied adapted.entry) is_response) }
+        ensures err { IfErr result (MakesNone self.now.user source.now.head (seen state.now.plan state.now.events) (option_copied adapted.entry) is_response) }
     {
         let Some(user) = self.asked(source) else {
             return Err(Cause::Source);
@@ -110,8 +110,8 @@ impl HeadMaker {
         adapted: Option<&[u8]>,
         is_response: bool,
     ) -> Result<(Vec<u8>, Framing), Cause>
-        ensures ok { IfOk result (λ made. Remembers self.old.user source.now (seen state.now.plan state.now.events) (option_copied adapted.entry) is_response made.0.items made.1 self.new.closes) }
-        ensures err { IfErr result (MakesNone self.old.user source.now (seen state.now.plan state.now.events) (option_copied adapted.entry) is_response) }
+        ensures ok { IfOk result (λ made. Remembers self.old.user source.now.head (seen state.now.plan state.now.events) (option_copied adapted.entry) is_response made.0.items made.1 self.new.closes) }
+        ensures err { IfErr result (MakesNone self.old.user source.now.head (seen state.now.plan state.now.events) (option_copied adapted.entry) is_response) }
         ensures user { self.new.user ≡ self.old.user }
     {
         let headed = self.make(alloc, state, source, adapted, is_response)?;
@@ -159,6 +159,10 @@ fn chosen(
 }
 
 impl Forward<SourceSide, NextHop> for HeadMaker {
+    ghost makes = { λ maker source x adapted is_response head framing. Remembers maker.user source x adapted is_response head framing maker.closes };
+
+    ghost makes_none = { λ maker source x adapted is_response cause. MakesNone maker.user source x adapted is_response cause };
+
     fn forward(
         &mut self,
         alloc: Global,

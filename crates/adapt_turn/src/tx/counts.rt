@@ -1,7 +1,7 @@
 //! The bytes that a transaction's wires gave and took.
 
 ghost use Rattle.std.specs.Prelude.{◌≡◌, ◌+◌, ◌-◌, ◌^◌, min, MatchOption};
-ghost use Rattle.adapt_turn.specs.Moved.{Counts, counted};
+ghost use Rattle.adapt_turn.specs.Moved.{AreCounts, counted};
 
 use crate::forward::Forward;
 use crate::tx::Tx;
@@ -49,9 +49,9 @@ impl<B: Ledgers, S: Source, V: Service, K: Hop, F: Forward<S, K>, A: Wire, W: Wi
 > {
     /// The bytes that the wires gave and took so far.
     pub(crate) fn counts(&self) -> WireCounts
-        ensures source { Counts result.source (A.past self.now.source_wire) }
-        ensures service { MatchOption self.now.service ((result.service.0 ≡ 0) × (result.service.1 ≡ 0)) (λ line. Counts result.service (W.past line.wire)) }
-        ensures next { Counts result.next (C.past self.now.next_wire) }
+        ensures source { AreCounts result.source (A.past self.now.source_wire) }
+        ensures service { MatchOption self.now.service ((result.service.0 ≡ 0) × (result.service.1 ≡ 0)) (λ line. AreCounts result.service (W.past line.wire)) }
+        ensures next { AreCounts result.next (C.past self.now.next_wire) }
     {
         WireCounts {
             source: self.source_wire.counts(),

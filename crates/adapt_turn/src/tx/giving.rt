@@ -1,11 +1,12 @@
 //! A pass of the side that the chosen message goes to.
 
-ghost use Rattle.std.specs.Prelude.{◌≡◌, ◌⊎◌, true, false, Some, None};
+ghost use Rattle.std.specs.Prelude.{◌≡◌, ◌⊎◌, true, false, Some, None, IfOk, IfErr};
 ghost use Rattle.trace_core.specs.declared.history.Cause.{Cause};
 ghost use Rattle.adapt_sides.specs.declared.fault.RelayFault.TheVariants.{Device};
 ghost use Rattle.adapt_sides.specs.Turns.{Gift};
 ghost use Rattle.adapt_sides.specs.Turns.Gift.{nothing};
-ghost use Rattle.adapt_hold.specs.Holding.{shows};
+ghost use Rattle.adapt_hold.specs.Holding.{shows, IsTied};
+ghost use Rattle.adapt_turn.specs.Made.{MakesAt, MakesNoneAt, adapted_of, response_of};
 ghost use Rattle.adapt_turn.specs.Parts.{hop_cause, outcome_by};
 ghost use Rattle.adapt_turn.specs.Stands.{IsChosen, Waited, Blamed};
 
@@ -30,7 +31,11 @@ fn forwarded<B: Ledgers, S: Source, V: Service, K: Hop, F: Forward<S, K>, W>(
     hold: &Hold<B>,
     source: &S,
     service: &Option<Line<V, W>>,
-) -> Result<(Vec<u8>, K::Framing), Cause> {
+) -> Result<(Vec<u8>, K::Framing), Cause>
+    ensures made { IfOk result (λ made. MakesAt (F.makes forward.new (S.head source.now)) (adapted_of V.adapted_head service.now) (response_of V.is_response service.now) (shows hold.now.history) made.0.items made.1) }
+    ensures none { IfErr result (λ cause. MakesNoneAt (F.makes_none forward.old (S.head source.now)) (adapted_of V.adapted_head service.now) (response_of V.is_response service.now) (shows hold.now.history) cause) }
+    ensures tied { IsTied hold.now }
+{
     let state = hold.state();
     match service {
         Some(line) if state.seen().modified => forward.forward(
@@ -77,11 +82,13 @@ impl<B: Ledgers, S: Source, V: Service, K: Hop, F: Forward<S, K>, A: Wire, W: Wi
     /// Begins the chosen message, where none is begun, or says why the transaction was closed in place of it.
     fn begin(&mut self, rt: &impl Wait, bank: &Bank<B>) -> Option<Cause>
         requires running { (shows self.old.hold.history).closed ≡ false }
+        requires chosen { IsChosen (shows self.old.hold.history) }
         ensures goes { ⟦<Self as Going>⟧.goes self.old self.new }
         ensures begun { result ≡ None → self.new.hold ≡ self.old.hold }
         ensures over { (cause : Cause) → result ≡ Some cause → (shows self.new.hold.history).closed ≡ true }
         ensures busy { result ≡ None → K.gift self.new.next ≡ nothing → K.gift self.new.back ≡ nothing → ⊥ }
-        ensures none { (cause : Cause) → result ≡ Some cause → (K.gift self.old.next ≡ nothing) × (K.gift self.old.back ≡ nothing) }
+        ensures none { (cause : Cause) → result ≡ Some cause → (K.gift self.old.next ≡ nothing) × (K.gift self.old.back ≡ nothing)
+            × MakesNoneAt (F.makes_none self.old.forward (S.head self.old.source)) (adapted_of V.adapted_head self.old.service) (response_of V.is_response self.old.service) (shows self.old.hold.history) cause }
         ensures kept { (self.new.source_wire ≡ self.old.source_wire) × (self.new.next_wire ≡ self.old.next_wire) × (K.fault self.new.next ≡ K.fault self.old.next) × (K.fault self.new.back ≡ K.fault self.old.back) }
         ensures outcome { self.new.outcome ≡ outcome_by result }
         ensures served { self.new.service ≡ self.old.service }
@@ -99,11 +106,14 @@ impl<B: Ledgers, S: Source, V: Service, K: Hop, F: Forward<S, K>, A: Wire, W: Wi
     /// Begins the chosen message.
     fn begin_message(&mut self, rt: &impl Wait, bank: &Bank<B>) -> Option<Cause>
         requires running { (shows self.old.hold.history).closed ≡ false }
+        requires chosen { IsChosen (shows self.old.hold.history) }
         requires next { K.gift self.old.next ≡ nothing }
         requires back { K.gift self.old.back ≡ nothing }
         ensures goes { ⟦<Self as Going>⟧.goes self.old self.new }
         ensures begun { result ≡ None → self.new.hold ≡ self.old.hold }
         ensures over { (cause : Cause) → result ≡ Some cause → (shows self.new.hold.history).closed ≡ true }
+        ensures none { (cause : Cause) → result ≡ Some cause
+            → MakesNoneAt (F.makes_none self.old.forward (S.head self.old.source)) (adapted_of V.adapted_head self.old.service) (response_of V.is_response self.old.service) (shows self.old.hold.history) cause }
         ensures busy { result ≡ None → K.gift self.new.next ≡ nothing → K.gift self.new.back ≡ nothing → ⊥ }
         ensures kept { (self.new.source_wire ≡ self.old.source_wire) × (self.new.next_wire ≡ self.old.next_wire) × (K.fault self.new.next ≡ K.fault self.old.next) × (K.fault self.new.back ≡ K.fault self.old.back) }
         ensures outcome { self.new.outcome ≡ outcome_by result }
@@ -186,7 +196,8 @@ impl<B: Ledgers, S: Source, V: Service, K: Hop, F: Forward<S, K>, A: Wire, W: Wi
         ensures idle { result.waiting ≡ true → result.failed ≡ None }
         ensures waits { result.waiting ≡ true → (IsChosen (shows self.old.hold.history) → ⊥) ⊎ (Waited (K.rests (shows self.old.hold.history) self.new.next) (λ past. past.write_waits) (C.past self.old.next_wire) (C.past self.new.next_wire)
             ⊎ Waited (K.rests (shows self.old.hold.history) self.new.back) (λ past. past.write_waits) (A.past self.old.source_wire) (A.past self.new.source_wire)) }
-        ensures blames { (cause : Cause) → result.failed ≡ Some cause → ((K.gift self.old.next ≡ nothing) × (K.gift self.old.back ≡ nothing)) ⊎ (Blamed Device hop_cause cause (K.fault self.old.next) (K.fault self.new.next) (C.past self.old.next_wire) (C.past self.new.next_wire)
+        ensures blames { (cause : Cause) → result.failed ≡ Some cause → ((K.gift self.old.next ≡ nothing) × (K.gift self.old.back ≡ nothing)
+            × MakesNoneAt (F.makes_none self.old.forward (S.head self.old.source)) (adapted_of V.adapted_head self.old.service) (response_of V.is_response self.old.service) (shows self.old.hold.history) cause) ⊎ (Blamed Device hop_cause cause (K.fault self.old.next) (K.fault self.new.next) (C.past self.old.next_wire) (C.past self.new.next_wire)
             ⊎ Blamed Device hop_cause cause (K.fault self.old.back) (K.fault self.new.back) (A.past self.old.source_wire) (A.past self.new.source_wire)) }
         ensures outcome { self.new.outcome ≡ outcome_by result.failed }
         ensures served { self.new.service ≡ self.old.service }

@@ -9,6 +9,7 @@ ghost use Rattle.adapt_sides.specs.declared.fault.RelayFault.TheVariants.{Device
 ghost use Rattle.adapt_sides.specs.Turns.{Gift};
 ghost use Rattle.adapt_sides.specs.Turns.Gift.{nothing};
 ghost use Rattle.adapt_hold.specs.Holding.{shows};
+ghost use Rattle.adapt_turn.specs.Made.{MakesNoneAt, adapted_of, response_of};
 ghost use Rattle.adapt_turn.specs.Parts.{source_cause, service_cause, hop_cause, outcome_by};
 ghost use Rattle.adapt_turn.specs.Stands.{IsChosen, Waited, WaitedBeside, WaitedBoth, Blamed, IsCauseOf};
 
@@ -189,7 +190,8 @@ impl<B: Ledgers, S: Source, V: Service, K: Hop, F: Forward<S, K>, A: Wire, W: Wi
             ⊎ Waited (K.rests (shows self.old.hold.history) self.new.back) (λ past. past.write_waits) (A.past self.old.source_wire) (A.past self.new.source_wire)) }
         ensures blames_source { side ≡ Side.Source → (cause : Cause) → result.failed ≡ Some cause → (S.agrees (shows self.old.hold.history) self.old.source → Blamed Device source_cause cause (S.fault self.old.source) (S.fault self.new.source) (A.past self.old.source_wire) (A.past self.new.source_wire)) }
         ensures blames_service { side ≡ Side.Service → (cause : Cause) → result.failed ≡ Some cause → ((p : Past) → MatchOption self.old.service ⊥ (λ line. W.past line.wire p) → MatchOption self.new.service ⊥ (λ line. IsCauseOf service_cause cause (V.fault line.side))) }
-        ensures blames_next { side ≡ Side.NextHop → (cause : Cause) → result.failed ≡ Some cause → ((K.gift self.old.next ≡ nothing) × (K.gift self.old.back ≡ nothing)) ⊎ (Blamed Device hop_cause cause (K.fault self.old.next) (K.fault self.new.next) (C.past self.old.next_wire) (C.past self.new.next_wire)
+        ensures blames_next { side ≡ Side.NextHop → (cause : Cause) → result.failed ≡ Some cause → ((K.gift self.old.next ≡ nothing) × (K.gift self.old.back ≡ nothing)
+            × MakesNoneAt (F.makes_none self.old.forward (S.head self.old.source)) (adapted_of V.adapted_head self.old.service) (response_of V.is_response self.old.service) (shows self.old.hold.history) cause) ⊎ (Blamed Device hop_cause cause (K.fault self.old.next) (K.fault self.new.next) (C.past self.old.next_wire) (C.past self.new.next_wire)
             ⊎ Blamed Device hop_cause cause (K.fault self.old.back) (K.fault self.new.back) (A.past self.old.source_wire) (A.past self.new.source_wire)) }
         ensures outcome { self.new.outcome ≡ outcome_by result.failed }
         ensures served { self.old.service ≡ None → self.new.service ≡ None }

@@ -221,15 +221,23 @@ impl<B: Ledgers, S: Source, V: Service, K: Hop, F: Forward<S, K>, A: Wire, W: Wi
         ensures outcome { (outcome : Outcome) → result ≡ Turned.Finished outcome → outcome ≡ self.old.outcome }
         ensures same { self.new.outcome ≡ self.old.outcome }
         ensures moved { (n : ℕ) → result ≡ Turned.Moved n → ⟦<Self as Going>⟧.moves self.old self.new n }
+        ensures idle { result ≡ Turned.Waiting → ⟦<Self as Going>⟧.moves self.old self.new 0 }
         ensures finished { self.old.refusing ≡ false → result ≡ Turned.Finished self.old.outcome }
     {
         if !self.refusing {
             return Turned::Finished(self.outcome);
         }
         let before = self.counts();
-        match self.refusal() {
-            Some(true) => Turned::Waiting,
-            Some(false) => Turned::Moved(self.counts().since(before)),
+        let waits = self.refusal();
+        let moved = self.counts().since(before);
+        match waits {
+            Some(waiting) => {
+                if waiting && moved == 0 {
+                    Turned::Waiting
+                } else {
+                    Turned::Moved(moved)
+                }
+            }
             None => Turned::Finished(self.outcome),
         }
     }

@@ -1,6 +1,6 @@
 //! Turns of a transaction.
 
-ghost use Rattle.std.specs.Prelude.{◌≡◌, ℕ, ◌+◌, ◌<◌, ◌≤◌, ◌⊎◌, true, false, [], Some, None, MatchOption, ⊤};
+ghost use Rattle.std.specs.Prelude.{◌≡◌, ℕ, ◌+◌, ◌<◌, ◌≤◌, ◌⊎◌, true, false, [], Some, None, MatchOption, ⊤, length};
 ghost use Rattle.trace_core.specs.declared.history.Event.TheVariants.{Fail};
 ghost use Rattle.trace_core.specs.declared.history.Cause.{Cause};
 ghost use Rattle.trace_core.specs.declared.history.Cause.TheVariants.{Deadline, Stopping};
@@ -10,6 +10,7 @@ ghost use Rattle.adapt_sides.specs.declared.fault.RelayFault.TheVariants.{Device
 ghost use Rattle.adapt_sides.specs.Turns.{Gift};
 ghost use Rattle.adapt_sides.specs.Turns.Gift.{nothing};
 ghost use Rattle.adapt_hold.specs.Holding.{shows, moved};
+ghost use Rattle.adapt_turn.specs.Made.{MakesNoneAt, adapted_of, response_of};
 ghost use Rattle.adapt_turn.specs.Parts.{source_cause, service_cause, hop_cause, outcome_by};
 ghost use Rattle.adapt_turn.specs.Stands.{IsChosen, IsDone, Waited, WaitedBoth, Blamed, IsCauseOf};
 
@@ -27,20 +28,21 @@ use wire_kit::Wire;
 fn moment_of(moved: u64, now: u64, before: u64) -> u64
     ensures none { moved ≡ 0 → result ≡ before }
     ensures some { 0 < moved → result ≡ now }
+    ensures one { (result ≡ before) ⊎ (result ≡ now) }
 {
     if moved > 0 { now } else { before }
 }
 
 /// What a turn answers, by what its pass did.
 fn answer_of(passed: Passed, moved: u64) -> Turned
-    ensures waiting { result ≡ Turned.Waiting → (passed.waiting ≡ true) × (passed.broken ≡ false) }
+    ensures waiting { result ≡ Turned.Waiting → (passed.waiting ≡ true) × (passed.broken ≡ false) × (moved ≡ 0) }
     ensures broken { result ≡ Turned.Broken → passed.broken ≡ true }
-    ensures moved { (n : ℕ) → result ≡ Turned.Moved n → (n ≡ moved) × (passed.waiting ≡ false) × (passed.broken ≡ false) }
+    ensures moved { (n : ℕ) → result ≡ Turned.Moved n → (n ≡ moved) × (passed.waiting ≡ true → 0 < n) × (passed.broken ≡ false) }
     ensures open { (outcome : Outcome) → result ≡ Turned.Finished outcome → ⊥ }
 {
     if passed.broken {
         Turned::Broken
-    } else if passed.waiting {
+    } else if passed.waiting && moved == 0 {
         Turned::Waiting
     } else {
         Turned::Moved(moved)
@@ -67,6 +69,8 @@ impl<B: Ledgers, S: Source, V: Service, K: Hop, F: Forward<S, K>, A: Wire, W: Wi
             → (self.new.hold ≡ moved self.old.hold (Fail Deadline) []) × (result ≡ Turned.Moved 0) × (self.new.outcome ≡ Outcome.Fail Deadline) }
         ensures closed { (shows self.old.hold.history).closed ≡ true → (self.new.hold ≡ self.old.hold) × (self.new.outcome ≡ self.old.outcome) }
         ensures moved { (n : ℕ) → result ≡ Turned.Moved n → ⟦<Self as Going>⟧.moves self.old self.new n }
+        ensures idle { result ≡ Turned.Waiting → ⟦<Self as Going>⟧.moves self.old self.new 0 }
+        ensures moment { (self.new.last_moved ≡ self.old.last_moved) ⊎ (self.new.last_moved ≡ now) }
         ensures clock { (n : ℕ) → result ≡ Turned.Moved n → (shows self.old.hold.history).closed ≡ false → (n ≡ 0 → self.new.last_moved ≡ self.old.last_moved) × (0 < n → self.new.last_moved ≡ now) }
         ensures limit { self.new.deadline ≡ self.old.deadline }
         ensures finished { (outcome : Outcome) → result ≡ Turned.Finished outcome → ((shows self.old.hold.history).closed ≡ true) × (outcome ≡ self.old.outcome) }
@@ -81,7 +85,8 @@ impl<B: Ledgers, S: Source, V: Service, K: Hop, F: Forward<S, K>, A: Wire, W: Wi
         ensures fails_service { side ≡ Side.Service → (shows self.old.hold.history).closed ≡ false → (cause : Cause) → self.new.outcome ≡ Outcome.Fail cause
             → ((cause ≡ Deadline) × (self.old.last_moved + self.old.deadline ≤ now)) ⊎ ((p : Past) → MatchOption self.old.service ⊥ (λ line. W.past line.wire p) → MatchOption self.new.service ⊥ (λ line. IsCauseOf service_cause cause (V.fault line.side))) }
         ensures fails_next { side ≡ Side.NextHop → (shows self.old.hold.history).closed ≡ false → (cause : Cause) → self.new.outcome ≡ Outcome.Fail cause
-            → ((cause ≡ Deadline) × (self.old.last_moved + self.old.deadline ≤ now)) ⊎ (((K.gift self.old.next ≡ nothing) × (K.gift self.old.back ≡ nothing)) ⊎ (Blamed Device hop_cause cause (K.fault self.old.next) (K.fault self.new.next) (C.past self.old.next_wire) (C.past self.new.next_wire)
+            → ((cause ≡ Deadline) × (self.old.last_moved + self.old.deadline ≤ now)) ⊎ (((K.gift self.old.next ≡ nothing) × (K.gift self.old.back ≡ nothing)
+            × MakesNoneAt (F.makes_none self.old.forward (S.head self.old.source)) (adapted_of V.adapted_head self.old.service) (response_of V.is_response self.old.service) (shows self.old.hold.history) cause) ⊎ (Blamed Device hop_cause cause (K.fault self.old.next) (K.fault self.new.next) (C.past self.old.next_wire) (C.past self.new.next_wire)
             ⊎ Blamed Device hop_cause cause (K.fault self.old.back) (K.fault self.new.back) (A.past self.old.source_wire) (A.past self.new.source_wire))) }
     {
         if self.is_closed() {
@@ -106,9 +111,10 @@ impl<B: Ledgers, S: Source, V: Service, K: Hop, F: Forward<S, K>, A: Wire, W: Wi
         requires outcome { self.old.outcome ≡ outcome_by passed.failed }
         ensures goes { ⟦<Self as Going>⟧.goes self.old self.new }
         ensures open { (outcome : Outcome) → result ≡ Turned.Finished outcome → ⊥ }
-        ensures waiting { result ≡ Turned.Waiting → passed.waiting ≡ true }
+        ensures waiting { result ≡ Turned.Waiting → (passed.waiting ≡ true) × (moved ≡ 0) }
         ensures outcome { self.new.outcome ≡ self.old.outcome }
         ensures moved { (n : ℕ) → result ≡ Turned.Moved n → n ≡ moved }
+        ensures moment { (self.new.last_moved ≡ self.old.last_moved) ⊎ (self.new.last_moved ≡ now) }
         ensures clock { (moved ≡ 0 → self.new.last_moved ≡ self.old.last_moved) × (0 < moved → self.new.last_moved ≡ now) }
         ensures limit { self.new.deadline ≡ self.old.deadline }
         ensures kept { (self.new.source ≡ self.old.source) × (self.new.source_wire ≡ self.old.source_wire) × (self.new.service ≡ self.old.service) × (self.new.next_wire ≡ self.old.next_wire)
@@ -121,9 +127,14 @@ impl<B: Ledgers, S: Source, V: Service, K: Hop, F: Forward<S, K>, A: Wire, W: Wi
         answer_of(passed, moved)
     }
 
-    /// Turns by a schedule, each at the moment of the last moved byte, so that no deadline of at least a second passes.
+    /// Turns by a schedule, each at the moment of the last moved byte, so that no deadline of at least a second passes. One of no
+    /// second passes at once.
     pub fn drive(&mut self, rt: &impl Wait, bank: &Bank<B>, schedule: &[Side])
         ensures goes { ⟦<Self as Going>⟧.goes self.old self.new }
+        ensures timed { (self.new.last_moved ≡ self.old.last_moved) × (self.new.deadline ≡ self.old.deadline) }
+        ensures closed { (shows self.old.hold.history).closed ≡ true → (self.new.hold ≡ self.old.hold) × (self.new.outcome ≡ self.old.outcome) }
+        ensures deadline { (shows self.old.hold.history).closed ≡ false → self.old.deadline ≡ 0 → 0 < length schedule.now
+            → (self.new.hold ≡ moved self.old.hold (Fail Deadline) []) × (self.new.outcome ≡ Outcome.Fail Deadline) }
     {
         match schedule {
             [] => {}

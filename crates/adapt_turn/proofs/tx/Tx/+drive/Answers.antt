@@ -1,8 +1,17 @@
+use Rattle.std.proofs.Common.{◌≡◌, ◌+◌, ◌≤◌, true, arith, refl, sym, ◌∙◌, subst}
+use Rattle.trace_core.specs.declared.history.Cause.TheVariants.{Deadline}
+use Rattle.adapt_hold.specs.Holding.{Holding, shows}
+use Rattle.adapt_turn.proofs.Told.{failed_over, same_moment}
 use Rattle.adapt_turn.proofs.Together.{goes_none, goes_then}
 use Rattle.adapt_turn.proofs.tx.Tx.+drive.Goals as goal
 
-pub returns-in-empty : goal.returns-in-empty
-returns-in-empty g t c = record { goes = goes_none _ _ _ _ }
+pub returns-in-empty-clause-goes : goal.returns-in-empty-clause-goes
+returns-in-empty-clause-goes g t c = goes_none _ _ _ _
 
 pub returns-in-len1-up : goal.returns-in-len1-up
-returns-in-len1-up g t c = record { goes = goes_then _ _ _ _ _ _ _ _ _ _ _ _ c.turn.ensures.goes c.drive.ensures.goes }
+returns-in-len1-up g t c = record {
+  goes = goes_then _ _ _ _ _ _ _ _ _ _ _ _ c.turn.ensures.goes c.drive.ensures.goes;
+  timed = (c.drive.ensures.timed.0 ∙ same_moment _ _ c.turn.ensures.moment, c.drive.ensures.timed.1 ∙ c.turn.ensures.limit);
+  closed = λ e. (let w = c.turn.ensures.closed e in let v = c.drive.ensures.closed (subst (λ (y : Holding). (shows y.history).closed ≡ true) (sym w.0) e) in (v.0 ∙ w.0, v.1 ∙ w.1));
+  deadline = λ o d n. (let w = c.turn.ensures.deadline o (omega (arith, d)) in let v = c.drive.ensures.closed (failed_over c.turn.new.self.hold.history c.turn.new.self.outcome Deadline c.turn.new.self.told w.2) in (v.0 ∙ w.0, v.1 ∙ w.2));
+}

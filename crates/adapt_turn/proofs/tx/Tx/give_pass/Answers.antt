@@ -1,21 +1,32 @@
 use Rattle.adapt_turn.proofs.Together.{others_of}
-use Rattle.adapt_turn.proofs.Giving.{next_goes, back_goes}
-use Rattle.std.proofs.Common.{inl, inr, refl, ◌∙◌}
+use Rattle.adapt_hold.specs.Holding.{shows}
+use Rattle.adapt_turn.specs.Made.{IsMade, WholeOf, adapted_of, response_of}
+use Rattle.adapt_turn.proofs.Made.{made_by, made_on}
+use Rattle.adapt_turn.proofs.Giving.{next_goes, back_goes, with_heads}
+use Rattle.std.proofs.Common.{inl, inr, refl, sym, ◌∙◌, subst}
 use Rattle.adapt_turn.proofs.Reasons.{part_idle, part_waits, part_blames}
 use Rattle.adapt_turn.proofs.Told.{part_told}
 use Rattle.adapt_turn.proofs.tx.Tx.give_pass.Goals as goal
 
 pub returns-then-is_idle-clause-goes : goal.returns-then-is_idle-clause-goes
 returns-then-is_idle-clause-goes g c =
-    next_goes c.args.self.now.hold c.give-passed.new.hold _ _ _ _ (g.K.Hop.gift c.args.self.now.next) (g.K.Hop.gift c.give-passed.new.hop) (g.K.Hop.gift c.args.self.now.back) _ _ _ _ _ _ c.args.self.now.refusing _ (λ head body taken. g.K.Hop.is_whole head body taken c.args.self.now.back) _ _ _ _ _ _ _ _ c.give-passed.result
-    (others_of g.S.Source.agrees g.S.Source.has_read g.V.Service.has_sent g.V.Service.has_heard g.K.Hop.has_given g.K.Hop.gift g.K.Hop.aside g.met.S.Source.others_agree g.met.S.Source.others g.met.V.Service.others_sent g.met.V.Service.others_heard g.met.K.Hop.others c.args.self.now.source c.args.self.now.service c.give-passed.new.hop c.args.self.now.back c.args.self.now.refusing)
-    c.state-state.ensures.tied c.requires.running (c.is_idle.ensures.idle c.if-is_idle.true) (λ n. c.requires.begun n (c.is_idle.ensures.idle c.if-is_idle.true)) c.give-passed.ensures.gift c.give-passed.ensures.part
+    next_goes c.args.self.now.hold c.give-passed.new.hold _ _ _ _ (g.K.Hop.gift c.args.self.now.next) (g.K.Hop.gift c.give-passed.new.hop) (g.K.Hop.gift c.args.self.now.back) _ _ _ _ _ _ c.args.self.now.refusing _ (WholeOf (made_by (g.F.Forward.makes c.args.self.now.forward) g.K.Hop.body_framing g.V.Service.adapted_head g.V.Service.is_response (g.S.Source.head c.args.self.now.source) c.args.self.now.service c.args.self.now.back (shows c.give-passed.new.hold.history)) (λ head body taken. g.K.Hop.is_whole head body taken c.args.self.now.back)) _ _ _ _ _ _ _ _ c.give-passed.result
+    (others_of g.S.Source.agrees g.S.Source.has_read g.V.Service.has_sent g.V.Service.has_heard g.K.Hop.has_given g.K.Hop.gift g.K.Hop.aside (made_by (g.F.Forward.makes c.args.self.now.forward) g.K.Hop.body_framing g.V.Service.adapted_head g.V.Service.is_response (g.S.Source.head c.args.self.now.source) c.args.self.now.service) g.met.S.Source.others_agree g.met.S.Source.others g.met.V.Service.others_sent g.met.V.Service.others_heard g.met.K.Hop.others (λ k. made_on _ _ _ _) c.args.self.now.source c.args.self.now.service c.give-passed.new.hop c.args.self.now.back c.args.self.now.refusing)
+    c.state-state.ensures.tied c.requires.running (c.is_idle.ensures.idle c.if-is_idle.true) (λ n. c.requires.begun n (c.is_idle.ensures.idle c.if-is_idle.true)) c.give-passed.ensures.gift
+    (with_heads c.args.self.now.hold c.give-passed.new.hold (made_by (g.F.Forward.makes c.args.self.now.forward) g.K.Hop.body_framing g.V.Service.adapted_head g.V.Service.is_response (g.S.Source.head c.args.self.now.source) c.args.self.now.service c.args.self.now.next) (made_by (g.F.Forward.makes c.args.self.now.forward) g.K.Hop.body_framing g.V.Service.adapted_head g.V.Service.is_response (g.S.Source.head c.args.self.now.source) c.args.self.now.service c.give-passed.new.hop)
+    (λ x head body taken. g.K.Hop.has_given x head body taken c.args.self.now.next) (λ x head body taken. g.K.Hop.has_given x head body taken c.give-passed.new.hop) (λ head body taken. g.K.Hop.is_whole head body taken c.give-passed.new.hop) _ _ _ _ _ c.give-passed.result
+    c.state-state.ensures.tied (λ head m. subst (λ z. IsMade (g.F.Forward.makes c.args.self.now.forward (g.S.Source.head c.args.self.now.source)) (adapted_of g.V.Service.adapted_head c.args.self.now.service) (response_of g.V.Service.is_response c.args.self.now.service) z (shows c.args.self.now.hold.history) head) (sym c.give-passed.ensures.framing) m)
+    (made_on _ _ _ _) c.give-passed.ensures.part)
 
 pub returns-else-is_idle-clause-goes : goal.returns-else-is_idle-clause-goes
 returns-else-is_idle-clause-goes g c =
-    back_goes c.args.self.now.hold c.give-passed-else-is_idle.new.hold _ _ _ _ (g.K.Hop.gift c.args.self.now.next) (g.K.Hop.gift c.args.self.now.back) (g.K.Hop.gift c.give-passed-else-is_idle.new.hop) _ _ _ _ _ _ c.args.self.now.refusing _ (λ head body taken. g.K.Hop.is_whole head body taken c.args.self.now.next) _ _ _ _ _ _ _ _ c.give-passed-else-is_idle.result
-    (others_of g.S.Source.agrees g.S.Source.has_read g.V.Service.has_sent g.V.Service.has_heard g.K.Hop.has_given g.K.Hop.gift g.K.Hop.aside g.met.S.Source.others_agree g.met.S.Source.others g.met.V.Service.others_sent g.met.V.Service.others_heard g.met.K.Hop.others c.args.self.now.source c.args.self.now.service c.args.self.now.next c.give-passed-else-is_idle.new.hop c.args.self.now.refusing)
-    c.state-state.ensures.tied c.requires.running (c.is_idle.ensures.busy c.if-is_idle.false) c.give-passed-else-is_idle.ensures.gift c.give-passed-else-is_idle.ensures.part
+    back_goes c.args.self.now.hold c.give-passed-else-is_idle.new.hold _ _ _ _ (g.K.Hop.gift c.args.self.now.next) (g.K.Hop.gift c.args.self.now.back) (g.K.Hop.gift c.give-passed-else-is_idle.new.hop) _ _ _ _ _ _ c.args.self.now.refusing _ (WholeOf (made_by (g.F.Forward.makes c.args.self.now.forward) g.K.Hop.body_framing g.V.Service.adapted_head g.V.Service.is_response (g.S.Source.head c.args.self.now.source) c.args.self.now.service c.args.self.now.next (shows c.give-passed-else-is_idle.new.hold.history)) (λ head body taken. g.K.Hop.is_whole head body taken c.args.self.now.next)) _ _ _ _ _ _ _ _ c.give-passed-else-is_idle.result
+    (others_of g.S.Source.agrees g.S.Source.has_read g.V.Service.has_sent g.V.Service.has_heard g.K.Hop.has_given g.K.Hop.gift g.K.Hop.aside (made_by (g.F.Forward.makes c.args.self.now.forward) g.K.Hop.body_framing g.V.Service.adapted_head g.V.Service.is_response (g.S.Source.head c.args.self.now.source) c.args.self.now.service) g.met.S.Source.others_agree g.met.S.Source.others g.met.V.Service.others_sent g.met.V.Service.others_heard g.met.K.Hop.others (λ k. made_on _ _ _ _) c.args.self.now.source c.args.self.now.service c.args.self.now.next c.give-passed-else-is_idle.new.hop c.args.self.now.refusing)
+    c.state-state.ensures.tied c.requires.running (c.is_idle.ensures.busy c.if-is_idle.false) c.give-passed-else-is_idle.ensures.gift
+    (with_heads c.args.self.now.hold c.give-passed-else-is_idle.new.hold (made_by (g.F.Forward.makes c.args.self.now.forward) g.K.Hop.body_framing g.V.Service.adapted_head g.V.Service.is_response (g.S.Source.head c.args.self.now.source) c.args.self.now.service c.args.self.now.back) (made_by (g.F.Forward.makes c.args.self.now.forward) g.K.Hop.body_framing g.V.Service.adapted_head g.V.Service.is_response (g.S.Source.head c.args.self.now.source) c.args.self.now.service c.give-passed-else-is_idle.new.hop)
+    (λ x head body taken. g.K.Hop.has_given x head body taken c.args.self.now.back) (λ x head body taken. g.K.Hop.has_given x head body taken c.give-passed-else-is_idle.new.hop) (λ head body taken. g.K.Hop.is_whole head body taken c.give-passed-else-is_idle.new.hop) _ _ _ _ _ c.give-passed-else-is_idle.result
+    c.state-state.ensures.tied (λ head m. subst (λ z. IsMade (g.F.Forward.makes c.args.self.now.forward (g.S.Source.head c.args.self.now.source)) (adapted_of g.V.Service.adapted_head c.args.self.now.service) (response_of g.V.Service.is_response c.args.self.now.service) z (shows c.args.self.now.hold.history) head) (sym c.give-passed-else-is_idle.ensures.framing) m)
+    (made_on _ _ _ _) c.give-passed-else-is_idle.ensures.part)
 
 pub returns-then-is_idle-clause-idle : goal.returns-then-is_idle-clause-idle
 returns-then-is_idle-clause-idle g c = λ e. part_idle _ _ _ _ _ _ _ _ _ _ _ _ _ _ _ _ _ c.give-passed.ensures.part.part e

@@ -1,4 +1,6 @@
+use Rattle.adapt_hold.specs.Holding.{shows}
 use Rattle.std.proofs.Common.{Some}
+use Rattle.adapt_turn.proofs.Made.{made_by, made_on, heads_then, line_heads}
 use Rattle.adapt_turn.proofs.Together.{others_of, hear_goes, goes_none}
 use Rattle.adapt_turn.proofs.Reasons.{part_idle, hear_waits, line_blames}
 use Rattle.std.proofs.Common.{Option, refl, ◌∙◌, subst}
@@ -10,8 +12,11 @@ use Rattle.adapt_turn.proofs.tx.Tx.hear_pass.Goals as goal
 pub returns-in-Some-clause-goes : goal.returns-in-Some-clause-goes
 returns-in-Some-clause-goes g c =
     hear_goes c.args.self.now.service c.in-Some.line (record { side = c.hear-passed.new.service; wire = c.hear-passed.new.wire }) c.args.self.now.hold c.hear-passed.new.hold _ _
-    (λ l x came taken. g.V.Service.has_sent x came taken l.side) (λ l x adapted text. g.V.Service.has_heard x adapted text l.side) (λ l p. g.W.Wire.past l.wire p) _ _ _ _ _ _ _ _ c.hear-passed.result
-    c.in-Some.is (others_of g.S.Source.agrees g.S.Source.has_read g.V.Service.has_sent g.V.Service.has_heard g.K.Hop.has_given g.K.Hop.gift g.K.Hop.aside g.met.S.Source.others_agree g.met.S.Source.others g.met.V.Service.others_sent g.met.V.Service.others_heard g.met.K.Hop.others c.args.self.now.source (Some (record { side = c.hear-passed.new.service; wire = c.hear-passed.new.wire })) c.args.self.now.next c.args.self.now.back c.args.self.now.refusing)
+    (λ l x came taken. g.V.Service.has_sent x came taken l.side) (λ l x adapted text. g.V.Service.has_heard x adapted text l.side) (λ l p. g.W.Wire.past l.wire p) _ _ _ _ _ _ _ _ _ _ c.hear-passed.result
+    c.in-Some.is
+    (heads_then g.K.Hop.gift g.K.Hop.has_given g.K.Hop.aside (made_by (g.F.Forward.makes c.args.self.now.forward) g.K.Hop.body_framing g.V.Service.adapted_head g.V.Service.is_response (g.S.Source.head c.args.self.now.source) c.args.self.now.service) (made_by (g.F.Forward.makes c.args.self.now.forward) g.K.Hop.body_framing g.V.Service.adapted_head g.V.Service.is_response (g.S.Source.head c.args.self.now.source) (Some (record { side = c.hear-passed.new.service; wire = c.hear-passed.new.wire }))) c.args.self.now.next c.args.self.now.back (shows c.args.self.now.hold.history)
+    (line_heads (g.F.Forward.makes c.args.self.now.forward) g.K.Hop.body_framing g.V.Service.adapted_head g.V.Service.is_response (g.S.Source.head c.args.self.now.source) c.args.self.now.service c.in-Some.line (record { side = c.hear-passed.new.service; wire = c.hear-passed.new.wire }) (shows c.args.self.now.hold.history) c.in-Some.is c.hear-passed.ensures.head c.hear-passed.ensures.response))
+    (others_of g.S.Source.agrees g.S.Source.has_read g.V.Service.has_sent g.V.Service.has_heard g.K.Hop.has_given g.K.Hop.gift g.K.Hop.aside (made_by (g.F.Forward.makes c.args.self.now.forward) g.K.Hop.body_framing g.V.Service.adapted_head g.V.Service.is_response (g.S.Source.head c.args.self.now.source) (Some (record { side = c.hear-passed.new.service; wire = c.hear-passed.new.wire }))) g.met.S.Source.others_agree g.met.S.Source.others g.met.V.Service.others_sent g.met.V.Service.others_heard g.met.K.Hop.others (λ k. made_on _ _ _ _) c.args.self.now.source (Some (record { side = c.hear-passed.new.service; wire = c.hear-passed.new.wire })) c.args.self.now.next c.args.self.now.back c.args.self.now.refusing)
     c.hear-passed.ensures.sent c.state-state.ensures.tied c.requires.running c.hear-passed.ensures.part
 
 pub returns-in-None-clause-goes : goal.returns-in-None-clause-goes

@@ -1,5 +1,5 @@
 use Rattle.adapt_turn.proofs.Together.{goes_none, goes_then}
-use Rattle.std.proofs.Common.{inl, inr}
+use Rattle.std.proofs.Common.{inl, inr, ◌∙◌}
 use Rattle.adapt_hold.specs.Holding.{shows}
 use Rattle.adapt_turn.proofs.Reasons.{waits_moved, blamed_from}
 use Rattle.adapt_turn.proofs.tx.Tx.next_pass.Goals as goal
@@ -14,7 +14,7 @@ pub returns-then-not-is_chosen-clause-waits : goal.returns-then-not-is_chosen-cl
 returns-then-not-is_chosen-clause-waits g c = λ e. inl (c.is_chosen.ensures.unchosen c.if-not-is_chosen.true)
 
 pub returns-in-Some-clause-blames : goal.returns-in-Some-clause-blames
-returns-in-Some-clause-blames g c = λ cause e. inl (c.begin.ensures.none c.in-Some.cause c.in-Some.is)
+returns-in-Some-clause-blames g c = λ cause e. inl (c.begin.ensures.none cause (c.in-Some.is ∙ e))
 
 pub returns-in-None-clause-waits : goal.returns-in-None-clause-waits
 returns-in-None-clause-waits g c = λ e. inr (elim (c.give_pass.ensures.waits e) [

@@ -1,3 +1,4 @@
+use Rattle.adapt_turn.proofs.Made.{made_by, made_on, heads_then, source_heads}
 use Rattle.adapt_turn.proofs.Together.{others_of, source_goes, disagree_goes}
 use Rattle.std.proofs.Common.{refl, sym, ◌∙◌, subst}
 use Rattle.trace_core.specs.History.{History}
@@ -8,8 +9,10 @@ use Rattle.adapt_turn.proofs.tx.Tx.source_pass.Goals as goal
 
 pub returns-then-agrees_with-clause-goes : goal.returns-then-agrees_with-clause-goes
 returns-then-agrees_with-clause-goes g c =
-    source_goes c.args.self.now.hold c.read_source-passed.new.hold _ _ _ _ _ _ _ _ _ _ _ _ _ _ _ _ c.read_source-passed.result
-    (others_of g.S.Source.agrees g.S.Source.has_read g.V.Service.has_sent g.V.Service.has_heard g.K.Hop.has_given g.K.Hop.gift g.K.Hop.aside g.met.S.Source.others_agree g.met.S.Source.others g.met.V.Service.others_sent g.met.V.Service.others_heard g.met.K.Hop.others c.read_source-passed.new.source c.args.self.now.service c.args.self.now.next c.args.self.now.back c.args.self.now.refusing)
+    source_goes c.args.self.now.hold c.read_source-passed.new.hold _ _ _ _ _ _ _ _ _ _ _ _ _ _ _ _ _ _ c.read_source-passed.result
+    (heads_then g.K.Hop.gift g.K.Hop.has_given g.K.Hop.aside (made_by (g.F.Forward.makes c.args.self.now.forward) g.K.Hop.body_framing g.V.Service.adapted_head g.V.Service.is_response (g.S.Source.head c.args.self.now.source) c.args.self.now.service) (made_by (g.F.Forward.makes c.args.self.now.forward) g.K.Hop.body_framing g.V.Service.adapted_head g.V.Service.is_response (g.S.Source.head c.read_source-passed.new.source) c.args.self.now.service) c.args.self.now.next c.args.self.now.back (shows c.args.self.now.hold.history)
+    (source_heads (g.F.Forward.makes c.args.self.now.forward) g.K.Hop.body_framing g.V.Service.adapted_head g.V.Service.is_response (g.S.Source.head c.args.self.now.source) (g.S.Source.head c.read_source-passed.new.source) c.args.self.now.service (shows c.args.self.now.hold.history) c.read_source-passed.ensures.head))
+    (others_of g.S.Source.agrees g.S.Source.has_read g.V.Service.has_sent g.V.Service.has_heard g.K.Hop.has_given g.K.Hop.gift g.K.Hop.aside (made_by (g.F.Forward.makes c.args.self.now.forward) g.K.Hop.body_framing g.V.Service.adapted_head g.V.Service.is_response (g.S.Source.head c.read_source-passed.new.source) c.args.self.now.service) g.met.S.Source.others_agree g.met.S.Source.others g.met.V.Service.others_sent g.met.V.Service.others_heard g.met.K.Hop.others (λ k. made_on _ _ _ _) c.read_source-passed.new.source c.args.self.now.service c.args.self.now.next c.args.self.now.back c.args.self.now.refusing)
     c.state-state.ensures.tied c.requires.running c.read_source-passed.ensures.part
 
 pub returns-else-agrees_with-clause-goes : goal.returns-else-agrees_with-clause-goes

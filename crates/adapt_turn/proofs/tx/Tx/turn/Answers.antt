@@ -17,16 +17,16 @@ pub returns-clause-goes : goal.returns-clause-goes
 returns-clause-goes g c = goes_then _ _ _ _ _ _ _ _ _ _ _ _ c.pass-passed.ensures.goes c.after_pass.ensures.goes
 
 pub returns-clause-waits_source : goal.returns-clause-waits_source
-returns-clause-waits_source g c = λ s o w. waits_kept (λ z. g.S.Source.rests (original_room (shows c.args.self.now.hold.history) c.args.self.now.hold.claim c.args.self.now.hold.limits.window) z) g.A.Wire.past _ _ c.pass-passed.new.self.source c.after_pass.new.self.source c.pass-passed.new.self.source_wire c.after_pass.new.self.source_wire c.after_pass.ensures.kept.0 c.after_pass.ensures.kept.1 (c.pass-passed.ensures.waits_source s (c.after_pass.ensures.waiting w))
+returns-clause-waits_source g c = λ s o w. waits_kept (λ z. g.S.Source.rests (original_room (shows c.args.self.now.hold.history) c.args.self.now.hold.claim c.args.self.now.hold.limits.window) z) g.A.Wire.past _ _ c.pass-passed.new.self.source c.after_pass.new.self.source c.pass-passed.new.self.source_wire c.after_pass.new.self.source_wire c.after_pass.ensures.kept.0 c.after_pass.ensures.kept.1 (c.pass-passed.ensures.waits_source s (c.after_pass.ensures.waiting w).0)
 
 pub returns-clause-waits_service : goal.returns-clause-waits_service
-returns-clause-waits_service g c = λ s o w. both_kept (λ l. g.V.Service.rests_writing (shows c.args.self.now.hold.history) l.side) (λ l. g.V.Service.rests_reading (shows c.args.self.now.hold.history) (adapted_room (shows c.args.self.now.hold.history) c.args.self.now.hold.limits.window) l.side) (λ l p. g.W.Wire.past l.wire p) _ c.pass-passed.new.self.service c.after_pass.new.self.service c.after_pass.ensures.kept.2 (c.pass-passed.ensures.waits_service s (c.after_pass.ensures.waiting w))
+returns-clause-waits_service g c = λ s o w. both_kept (λ l. g.V.Service.rests_writing (shows c.args.self.now.hold.history) l.side) (λ l. g.V.Service.rests_reading (shows c.args.self.now.hold.history) (adapted_room (shows c.args.self.now.hold.history) c.args.self.now.hold.limits.window) l.side) (λ l p. g.W.Wire.past l.wire p) _ c.pass-passed.new.self.service c.after_pass.new.self.service c.after_pass.ensures.kept.2 (c.pass-passed.ensures.waits_service s (c.after_pass.ensures.waiting w).0)
 
 pub returns-clause-waits_next : goal.returns-clause-waits_next
-returns-clause-waits_next g c = λ s o w. elim (c.pass-passed.ensures.waits_next s (c.after_pass.ensures.waiting w)) [
+returns-clause-waits_next g c = λ s o w. elim (c.pass-passed.ensures.waits_next s (c.after_pass.ensures.waiting w).0) [
   | inl u ↦ inl u
-  | inr (inl v) ↦ inr (inl (waits_kept (λ z. g.K.Hop.rests (shows c.args.self.now.hold.history) z) g.C.Wire.past _ _ c.pass-passed.new.self.next c.after_pass.new.self.next c.pass-passed.new.self.next_wire c.after_pass.new.self.next_wire (c.after_pass.ensures.same (c.pass-passed.ensures.idle (c.after_pass.ensures.waiting w))).0 c.after_pass.ensures.kept.3 v))
-  | inr (inr v) ↦ inr (inr (waits_kept (λ z. g.K.Hop.rests (shows c.args.self.now.hold.history) z) g.A.Wire.past _ _ c.pass-passed.new.self.back c.after_pass.new.self.back c.pass-passed.new.self.source_wire c.after_pass.new.self.source_wire (c.after_pass.ensures.same (c.pass-passed.ensures.idle (c.after_pass.ensures.waiting w))).1 c.after_pass.ensures.kept.1 v))
+  | inr (inl v) ↦ inr (inl (waits_kept (λ z. g.K.Hop.rests (shows c.args.self.now.hold.history) z) g.C.Wire.past _ _ c.pass-passed.new.self.next c.after_pass.new.self.next c.pass-passed.new.self.next_wire c.after_pass.new.self.next_wire (c.after_pass.ensures.same (c.pass-passed.ensures.idle (c.after_pass.ensures.waiting w).0)).0 c.after_pass.ensures.kept.3 v))
+  | inr (inr v) ↦ inr (inr (waits_kept (λ z. g.K.Hop.rests (shows c.args.self.now.hold.history) z) g.A.Wire.past _ _ c.pass-passed.new.self.back c.after_pass.new.self.back c.pass-passed.new.self.source_wire c.after_pass.new.self.source_wire (c.after_pass.ensures.same (c.pass-passed.ensures.idle (c.after_pass.ensures.waiting w).0)).1 c.after_pass.ensures.kept.1 v))
 ]
 
 pub returns-clause-fails_source : goal.returns-clause-fails_source
@@ -47,6 +47,18 @@ returns-clause-moved g c = λ n e. moves_of g.A.Wire.past (λ l p. g.W.Wire.past
     c.args.self.now.service c.pass-passed.new.self.service c.after_pass.new.self.service c.args.self.now.next_wire c.pass-passed.new.self.next_wire c.after_pass.new.self.next_wire _ _ _ _ _ _ n
     c.counts-before.ensures.source c.counts.ensures.source c.counts-before.ensures.service c.counts.ensures.service c.counts-before.ensures.next c.counts.ensures.next
     c.pass-passed.ensures.served c.after_pass.ensures.kept.1 c.after_pass.ensures.kept.2 c.after_pass.ensures.kept.3 (c.after_pass.ensures.moved n e ∙ c.since-moved.ensures)
+
+pub returns-clause-idle : goal.returns-clause-idle
+returns-clause-idle g c = λ w. moves_of g.A.Wire.past (λ l p. g.W.Wire.past l.wire p) g.C.Wire.past c.args.self.now.source_wire c.pass-passed.new.self.source_wire c.after_pass.new.self.source_wire
+    c.args.self.now.service c.pass-passed.new.self.service c.after_pass.new.self.service c.args.self.now.next_wire c.pass-passed.new.self.next_wire c.after_pass.new.self.next_wire _ _ _ _ _ _ 0
+    c.counts-before.ensures.source c.counts.ensures.source c.counts-before.ensures.service c.counts.ensures.service c.counts-before.ensures.next c.counts.ensures.next
+    c.pass-passed.ensures.served c.after_pass.ensures.kept.1 c.after_pass.ensures.kept.2 c.after_pass.ensures.kept.3 (sym (c.after_pass.ensures.waiting w).1 ∙ c.since-moved.ensures)
+
+pub returns-clause-moment : goal.returns-clause-moment
+returns-clause-moment g c = elim c.after_pass.ensures.moment [
+  | inl e ↦ inl (e ∙ c.pass-passed.ensures.timed.0)
+  | inr e ↦ inr e
+]
 
 pub returns-then-now-self-2-clause-moved : goal.returns-then-now-self-2-clause-moved
 returns-then-now-self-2-clause-moved g c = λ n e. moves_none g.A.Wire.past (λ l p. g.W.Wire.past l.wire p) g.C.Wire.past c.args.self.now.source_wire c.fail_by.new.self.source_wire

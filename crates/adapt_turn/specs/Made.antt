@@ -1,0 +1,47 @@
+-- The head that a message begins with: made of the heads that were read, as it was chosen.
+use Rattle.std.specs.Prelude.{◌≡◌, ℕ, ◌&&◌, Bool, true, false, List, Option, Some, None, if◌then◌else◌}
+use Rattle.trace_core.specs.declared.history.Seen.{Seen}
+use Rattle.trace_core.specs.declared.history.Event.{Event}
+use Rattle.trace_core.specs.declared.history.Cause.{Cause}
+use Rattle.trace_core.specs.History.{seen}
+use Rattle.trace_core.specs.Legal.{IsLegal}
+use Rattle.trace_core.specs.Turns.{after_all, MayAllFollow}
+use Rattle.adapt_turn.specs.declared.start.Line.{Line}
+use Rattle.adapt_turn.specs.Stands.{IsChosen}
+
+-- the adapted head that a service's side read, where there is a service
+abbrev pub adapted_of : {V W : Type 0} → (V → Option (List ℕ)) → Option (Line V W) → Option (List ℕ)
+adapted_of adapted_head None = None
+adapted_of adapted_head (Some line) = adapted_head line.side
+
+-- whether it is a response's
+abbrev pub response_of : {V W : Type 0} → (V → Bool) → Option (Line V W) → Bool
+response_of is_response None = false
+response_of is_response (Some line) = is_response line.side
+
+-- what a maker of heads is given, where this is seen: the service's head only where its message was chosen
+abbrev pub MakesAt : {Framing : Type 0} → (Seen → Option (List ℕ) → Bool → List ℕ → Framing → Type 0) → Option (List ℕ) → Bool → Seen → List ℕ → Framing → Type 0
+MakesAt makes adapted is_response x head framing = makes x (if x.modified then adapted else None) (x.modified && is_response) head framing
+
+-- and why it makes none
+abbrev pub MakesNoneAt : (Seen → Option (List ℕ) → Bool → Cause → Type 0) → Option (List ℕ) → Bool → Seen → Cause → Type 0
+MakesNoneAt makes_none adapted is_response x cause = makes_none x (if x.modified then adapted else None) (x.modified && is_response) cause
+
+-- The head, and how the body goes with it, were made at a moment of this very history, of the message that was chosen then.
+pub record IsMade {Framing : Type 0} (makes : Seen → Option (List ℕ) → Bool → List ℕ → Framing → Type 0) (adapted : Option (List ℕ)) (is_response : Bool) (framing : Framing) (x : Seen) (head : List ℕ) : Type 0 where
+  -- the events up to that moment, the newest one first, and those since, the newest one last
+  pub before : List Event
+  pub since : List Event
+  pub legal : IsLegal x.plan before
+  pub may : MayAllFollow (seen x.plan before) since
+  pub now : x ≡ after_all (seen x.plan before) since
+  pub chosen : IsChosen (seen x.plan before)
+  pub made : MakesAt makes adapted is_response (seen x.plan before) head framing
+
+-- what was taken is of a message with such a head
+abbrev pub OfHead : (made : Seen → List ℕ → Type 0) → (given : Seen → List ℕ → List ℕ → List ℕ → Type 0) → Seen → List ℕ → List ℕ → List ℕ → Type 0
+OfHead made given x head body taken = made x head × given x head body taken
+
+-- the whole message was taken, and its head is such a one
+abbrev pub WholeOf : (made : List ℕ → Type 0) → (whole : List ℕ → List ℕ → List ℕ → Type 0) → List ℕ → List ℕ → List ℕ → Type 0
+WholeOf made whole head body taken = made head × whole head body taken
