@@ -17,7 +17,7 @@ use Rattle.adapt_hold.specs.Holding.{Holding, IsTied, shows}
 use Rattle.adapt_turn.specs.declared.parts.Passed.{Passed}
 use Rattle.adapt_turn.specs.Parts.{HopPart, stepped}
 use Rattle.adapt_turn.specs.Made.{OfHead, WholeOf}
-use Rattle.adapt_turn.specs.Stands.{Texts, Stands, Goes, HopsAre, IsRefusing, user_gift, TakesAside, IsDone, IsDelivered}
+use Rattle.adapt_turn.specs.Stands.{Stands, Goes, HopsAre, IsRefusing, user_gift, TakesAside, IsDone, IsDelivered}
 use Rattle.adapt_turn.proofs.Advance.{Others, give_stands}
 use Rattle.adapt_turn.proofs.Stepped.{part_shows}
 use Rattle.adapt_turn.proofs.Made.{KeepsMade, made_all}

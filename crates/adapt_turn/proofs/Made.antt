@@ -1,11 +1,10 @@
 -- The head that a message begins with is a made one, through each pass.
 use Rattle.std.proofs.Common.{◌≡◌, ℕ, inl, inr, Bool, true, false, ◌&&◌, ◌||◌, List, [], ◌∷◌, ◌++◌, Option, Some, None, refl, sym, ◌∙◌, ap, subst}
 use Rattle.std.proofs.lemmas.Bool.{false≢true}
-use Rattle.std.specs.Prelude.{Result, Ok, Err, IfOk, IfErr, if◌then◌else◌}
+use Rattle.std.specs.Prelude.{if◌then◌else◌}
 use Rattle.trace_core.specs.declared.history.Seen.{Seen}
 use Rattle.trace_core.specs.declared.history.Event.{Event}
 use Rattle.trace_core.specs.declared.history.Event.TheVariants.{Retry}
-use Rattle.trace_core.specs.declared.history.Cause.{Cause}
 use Rattle.trace_core.specs.History.{History, seen, is_mod}
 use Rattle.trace_core.specs.Legal.{Allows, IsLegal, MayFollow}
 use Rattle.trace_core.specs.View.{after}
@@ -16,7 +15,7 @@ use Rattle.adapt_sides.specs.Turns.Gift.{nothing, message}
 use Rattle.adapt_turn.specs.declared.start.Line.{Line}
 use Rattle.adapt_hold.specs.Holding.{shows}
 use Rattle.adapt_turn.specs.Stands.{HopsAre, IsChosen}
-use Rattle.adapt_turn.specs.Made.{IsMade, OfHead, MakesAt, MakesNoneAt, adapted_of, response_of}
+use Rattle.adapt_turn.specs.Made.{IsMade, OfHead, MakesAt, adapted_of, response_of}
 
 -- it stays so with each event
 abbrev pub KeepsMade : (Seen → List ℕ → Type 0) → Type 0
@@ -153,9 +152,3 @@ pub none_modified_before : (history : History) → IsLegal history.plan history.
 none_modified_before history l m e =
     let x = shows history in
     none_modified x.no_mod x.modified x.continued ((sound history.plan history.events l).unheard m.1.3) e
-
--- what a maker was given, as a clause says it
-
-pub given_service : (P : Option (List ℕ) → Bool → Type 0) (m : Bool) (a a' : Option (List ℕ)) (r r' : Bool) → m ≡ true → a ≡ a' → r ≡ r' → P a r → P (if m then a' else None) (m && r')
-given_service P true a a' r r' e f g p = subst (λ (z : Option (List ℕ)). P z r') f (subst (λ (z : Bool). P a z) g p)
-given_service P false a a' r r' e f g p = absurd (false≢true e)

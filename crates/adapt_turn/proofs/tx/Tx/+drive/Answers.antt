@@ -1,4 +1,4 @@
-use Rattle.std.proofs.Common.{◌≡◌, ◌+◌, ◌≤◌, true, arith, refl, sym, ◌∙◌, subst}
+use Rattle.std.proofs.Common.{◌≡◌, true, arith, sym, ◌∙◌, subst}
 use Rattle.trace_core.specs.declared.history.Cause.TheVariants.{Deadline}
 use Rattle.adapt_hold.specs.Holding.{Holding, shows}
 use Rattle.adapt_turn.proofs.Told.{failed_over, same_moment}
