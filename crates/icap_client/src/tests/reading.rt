@@ -11,7 +11,7 @@ use trace_core::{Event, Kind, Payload, Point, State};
 use wire_kit::ReadAnswer;
 
 /// What turns over a wire tell that gives the text in such pieces and then this answer, with so much room; and the side.
-fn told(
+pub fn told(
     alloc: Global,
     state: State,
     text: &[u8],
@@ -21,7 +21,7 @@ fn told(
 ) -> Result<(Told, ReplySide), AllocError> {
     let mut state = state;
     let mut wire = wire_of(alloc, text, piece, last, 1)?;
-    let mut side = ReplySide::new(alloc, Point::Respmod);
+    let mut side = ReplySide::new(alloc, state.seen().plan.point);
     let mut told = Told::new(alloc);
     for _ in 0..text.len().saturating_add(20) {
         let mut out = [0; ROOM];
@@ -34,7 +34,7 @@ fn told(
 }
 
 /// Both texts, one behind the other.
-fn both(alloc: Global, first: &str, second: &str) -> Result<Vec<u8>, AllocError> {
+pub fn both(alloc: Global, first: &str, second: &str) -> Result<Vec<u8>, AllocError> {
     let mut text = first.as_bytes().to_vec(alloc)?;
     text.extend_from_slice(second.as_bytes())?;
     Ok(text)
@@ -131,11 +131,19 @@ fn a_204_and_bytes_behind_it(rt: HostRuntime) -> Result<(), Fail> {
 }
 
 /// Replies to a preview, and the fault of each.
-const REFUSED: [(&str, ClientFault); 10] = [
+const REFUSED: [(&str, ClientFault); 12] = [
     ("ICAP/1.0 206 Partial Content\r\n\r\n", ClientFault::Status),
     ("ICAP/1.0 205 Reset Content\r\n\r\n", ClientFault::Status),
     ("ICAP/1.1 204 No Modifications\r\n\r\n", ClientFault::Head),
     ("ICAP/1.0 200 OK\r\n\r\n", ClientFault::Layout),
+    (
+        "ICAP/1.0 200 OK\r\nEncapsulated: null-body=0\r\n\r\n",
+        ClientFault::Layout,
+    ),
+    (
+        "ICAP/1.0 200 OK\r\nEncapsulated: req-hdr=0, null-body=18\r\n\r\n",
+        ClientFault::Layout,
+    ),
     (
         "ICAP/1.0 200 OK\r\nEncapsulated: res-body=0\r\n\r\n",
         ClientFault::Layout,
