@@ -1,5 +1,5 @@
 -- What a turn answers, by what its wire answered.
-use Rattle.std.proofs.Common.{◌≡◌, ℕ, Bool, true, false, List, [], refl, ap, sym, subst, ◌∙◌, Option, Some, None, Result, Ok, Err, inl, inr}
+use Rattle.std.proofs.Common.{◌≡◌, ◌↔◌, ℕ, Bool, true, false, List, [], refl, ap, sym, subst, ◌∙◌, Option, Some, None, Result, Ok, Err, inl, inr}
 use Rattle.trace_core.specs.declared.history.Seen.{Seen}
 use Rattle.trace_core.specs.declared.history.Event.{Event}
 use Rattle.trace_core.proofs.Sound.{Sound}
@@ -8,7 +8,7 @@ use Rattle.wire_kit.specs.Past.{Past, Offers, delta_of}
 use Rattle.wire_kit.specs.declared.wire.Put.{Put}
 use Rattle.wire_kit.specs.declared.wire.Put.TheVariants as put
 use Rattle.chunk_writer.specs.declared.next.Next.{Next}
-use Rattle.chunk_writer.specs.Writer.{Writer, IsIdle}
+use Rattle.chunk_writer.specs.Writer.{Writer, IsIdle, offered}
 use Rattle.chunk_writer.specs.Moves.{Moves, IsStill}
 use Rattle.adapt_sides.specs.declared.turn.Turn.{Turn}
 use Rattle.adapt_sides.specs.declared.fault.ClientFault.{ClientFault}
@@ -17,14 +17,16 @@ use Rattle.icap_client.specs.Sending.{KeepsUnsent, Decides, NothingDue, turn_eve
 use Rattle.icap_client.specs.Turns.{GoesOn, WriteTurn, Fits, FitsAnswer, events_of}
 use Rattle.icap_client.proofs.Turning.{goes_on, goes_same, nothing_due}
 
-pub turned : (x : Seen) (tape : Tape) (next : Next) (v w : Writer) (before after : Past → Type 0) (result : Result Turn ClientFault) (text : List ℕ) (answer : Option Put) (k : ℕ) (e : Bool)
-    → Sound x → KeepsUnsent x tape → Decides x v next → Offers before after text answer → Moves tape next v k e (delta_of text answer) w
+pub turned : (x : Seen) (tape : Tape) (next : Next) (v w : Writer) (before after : Past → Type 0) (result : Result Turn ClientFault) (answer : Option Put) (k : ℕ) (e : Bool)
+    → Sound x → KeepsUnsent x tape → Decides x v next → Offers before after (offered v tape next) answer → (answer ≡ None ↔ offered v tape next ≡ []) → Moves tape next v k e (delta_of (offered v tape next) answer) w
     → events_of result ≡ turn_events k e → Fits x w answer result → WriteTurn x tape v w before after result
-turned x tape next v w before after result text answer k e s u c o m h f = record {
-  text = text;
+turned x tape next v w before after result answer k e s u c o a m h f = record {
+  next = next;
   answer = answer;
+  decides = c;
   wire = o;
-  goes_on = subst (λ (events : List Event). GoesOn x tape v w events (delta_of text answer)) (sym h) (goes_on x tape next v w k e (delta_of text answer) s u c m);
+  asks = a;
+  goes_on = subst (λ (events : List Event). GoesOn x tape v w events (delta_of (offered v tape next) answer)) (sym h) (goes_on x tape next v w k e (delta_of (offered v tape next) answer) s u c m);
   fits = f;
 }
 

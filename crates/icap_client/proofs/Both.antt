@@ -10,7 +10,7 @@ use Rattle.wire_kit.specs.declared.wire.Got.{Got}
 use Rattle.wire_kit.specs.declared.wire.Got.TheVariants as got
 use Rattle.wire_kit.specs.declared.wire.Put.{Put}
 use Rattle.wire_kit.specs.declared.wire.Put.TheVariants as put
-use Rattle.chunk_writer.specs.Writer.{Writer}
+use Rattle.chunk_writer.specs.Writer.{Writer, offered}
 use Rattle.adapt_sides.specs.declared.turn.Turn.{Turn}
 use Rattle.adapt_sides.specs.declared.fault.ClientFault.{ClientFault}
 use Rattle.adapt_sides.specs.declared.fault.ClientFault.TheVariants.{Closed, Device}
@@ -91,15 +91,17 @@ says x w bytes answer (Err g) f s = record { idle = λ h. cc; waits = λ t e n d
 pub sends_by : (x : Seen) (tape : Tape) (old new : Writer) (fault kept : Option ClientFault) (P Q : Past → Type 0) (result : Result Turn ClientFault) → fault ≡ None → KeepsUnsent x tape
     → WriteTurn x tape old new P Q result → ((g : ClientFault) → result ≡ Err g → kept ≡ Some g)
     → Sends x tape (λ x came taken. IsSent x came taken old) (λ x came taken. IsSent x came taken new) fault kept (NothingDue x new) P Q result
-sends_by x tape old new fault kept P Q result none k t stays = record {
-  delta = delta_of t.text t.answer;
-  wire = λ p b. (after_offer p t.text t.answer, t.wire.each p b, later_offer p t.text t.answer, cause x new p t.text t.answer fault result t.fits);
-  only = t.goes_on.only;
-  legal = t.goes_on.legal;
-  goes_on = λ came taken f h. record { head = h.head; sent = t.goes_on.sent h.head came taken (came_by x tape came k f) h.sent };
-  waiting = says x new t.text t.answer result t.fits t.wire.fits;
-  fault = record { again = λ g e. cc; stays = stays };
-}
+sends_by x tape old new fault kept P Q result none k t stays =
+    let text = offered old tape t.next in
+    record {
+      delta = delta_of text t.answer;
+      wire = λ p b. (after_offer p text t.answer, t.wire.each p b, later_offer p text t.answer, cause x new p text t.answer fault result t.fits);
+      only = t.goes_on.only;
+      legal = t.goes_on.legal;
+      goes_on = λ came taken f h. record { head = h.head; sent = t.goes_on.sent h.head came taken (came_by x tape came k f) h.sent };
+      waiting = says x new text t.answer result t.fits t.wire.fits;
+      fault = record { again = λ g e. cc; stays = stays };
+    }
 
 -- behind a fault nothing is done
 pub sends_none : (x : Seen) (tape : Tape) (w : Writer) (fault : Option ClientFault) (g : ClientFault) (P : Past → Type 0) → fault ≡ Some g

@@ -47,9 +47,11 @@ fits_still x mid new answer (Err fault) l f = f
 
 pub write_still : (x : Seen) (tape : Tape) (old mid new : Writer) (P Q : Past → Type 0) (result : Result Turn ClientFault) → LetsGo mid new → WriteTurn x tape old mid P Q result → WriteTurn x tape old new P Q result
 write_still x tape old mid new P Q result l t = record {
-  text = t.text;
+  next = t.next;
   answer = t.answer;
+  decides = t.decides;
   wire = t.wire;
+  asks = t.asks;
   goes_on = record {
     legal = t.goes_on.legal;
     only = t.goes_on.only;

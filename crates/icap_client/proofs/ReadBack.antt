@@ -1,5 +1,6 @@
 -- The list of a request is read back by a server.
-use Rattle.std.proofs.Common.{◌≡◌, ℕ, ◌+◌, ◌<◌, ◌≤◌, ◌^◌, Bool, true, false, List, [], ◌∷◌, ◌++◌, refl, ap, sym, subst, ◌∙◌, append_assoc, arith, codes, Some, None}
+use Rattle.std.proofs.Common.{◌≡◌, ℕ, ◌+◌, ◌<◌, ◌≤◌, Bool, true, false, List, [], ◌∷◌, ◌++◌, refl, ap, sym, subst, ◌∙◌, append_assoc, arith, codes, Some, None}
+use Rattle.adapt_bytes.specs.declared.limits.TheConstants.{COUNT_LIMIT}
 use Rattle.adapt_bytes.specs.Numeral.{numeral}
 use Rattle.icap_chunks.specs.Grammar.{crlf}
 use Rattle.encapsulated.specs.declared.offsets.Layout.{Layout}
@@ -70,11 +71,11 @@ may_be Reqmod false req res = record { whole = (0, omega arith, refl); rises = (
 may_be Respmod true req res = record { whole = (1, omega arith, refl); rises = (refl, (omega arith, (omega arith, tt))) }
 may_be Respmod false req res = record { whole = (0, omega arith, refl); rises = (refl, (omega arith, (omega arith, tt))) }
 
-layout_by : (point : Point) (null : Bool) (req res : ℕ) → req + res < 2 ^ 62 → IsLayout (method_of point) Request (written (layout_of point null req res)) (layout_of point null req res)
+layout_by : (point : Point) (null : Bool) (req res : ℕ) → req + res < COUNT_LIMIT → IsLayout (method_of point) Request (written (layout_of point null req res)) (layout_of point null req res)
 layout_by Reqmod null req res small = record { parts = reads_back (layout_of Reqmod null req res) (omega arith) tt (omega (arith, small)); may = may_be Reqmod null req res }
 layout_by Respmod null req res small = record { parts = reads_back (layout_of Respmod null req res) (omega arith) (omega (arith, small)) (omega (arith, small)); may = may_be Respmod null req res }
 
-pub read_back : (point : Point) (null : Bool) (req res : ℕ) → req + res < 2 ^ 62 → IsReadBack point null req res
+pub read_back : (point : Point) (null : Bool) (req res : ℕ) → req + res < COUNT_LIMIT → IsReadBack point null req res
 read_back point null req res small = record {
   list = written (layout_of point null req res);
   lines = lines_are point null req res;

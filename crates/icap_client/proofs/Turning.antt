@@ -190,8 +190,8 @@ pub may_go_on : (x : Seen) (tape : Tape) (next : Next) (old : Writer) → KeepsU
 may_go_on x tape next old k c = record {
   low = λ some. omega (arith, from_base x tape next old k c some, c.from);
   there = λ some. omega (arith, c.from, k.end, (c.svc some).1.2);
-  few = c.few;
-  within = λ h. c.within;
+  few = c.fits.0;
+  within = λ h. c.fits.1 refl;
 }
 
 only_svc : (n : ℕ) (b : Bool) → AllAre is_of_sending (if b then [] else Svc n ∷ [])
@@ -234,13 +234,24 @@ still_out tape next v w k d o c (passed {d = d'} {v = u} m part w' p) = (append_
 still_out tape next v w k d o c (begun_chunk m a b l some) = absurd (omega (arith, c, some))
 still_out tape next v w k d o c (sent m k' a some few inside) = absurd (omega (arith, c, some, few))
 
+-- where no byte comes next, none may follow: one byte fits into each turn
+none_fits : (x : Seen) (w : Writer) (next : Next) → Decides x w next → next.count ≡ 0 → (n : ℕ) → x.closed ≡ false → Allows x (Svc n) → ⊥
+none_fits x w next c z n o a =
+    let one : 1 ≤ next.count = c.greatest 1 (o, fewer x 1 n (omega arith) a.1.0 a) (omega arith, λ b l. l) in
+    omega (arith, one, z)
+
+-- a zero chunk that may follow is due where the body has gone
+stop_from : (x : Seen) (n : ℕ) → n ≡ 0 → Allows x Stop → StopsAt x (x.sent + n)
+stop_from x n z (m, inl h) = inl (h.0, omega (arith, h.1, z))
+stop_from x n z (m, inr h) = inr (moved_preview (open_preview x) x.sent (x.sent + n) (omega (arith, z)) h)
+
 -- nothing was offered, and no event stands: nothing is due
 pub nothing_due : (x : Seen) (tape : Tape) (next : Next) (w new : Writer) (k : ℕ) (e : Bool) (d : List ℕ) → Decides x w next → Moves tape next w k e d new → IsIdle w next k e → turn_events 0 e ≡ [] → NothingDue x new
 nothing_due x tape next w new k true d c m i n = cc
 nothing_due x tape next w new k false d c m i n = record {
   flushed = still_out tape next w new k d i.out i.none m;
-  none = c.no_svc i.none;
-  no_stop = c.no_stop i.none (sym i.end_fixed);
+  none = none_fits x w next c i.none;
+  no_stop = λ o a. c.no_stop (sym i.end_fixed) (o, a.0, stop_from x next.count i.none a);
 }
 
 -- a turn that does nothing

@@ -9,9 +9,10 @@ use Rattle.trace_core.specs.Legal.{Allows, MaySend, open_preview}
 use Rattle.trace_core.specs.View.{after, ieof_now}
 use Rattle.span_tape.specs.Tape.{Tape, end_of}
 pub use Rattle.adapt_sides.specs.Tapes.{KeepsUnsent}
-use Rattle.chunk_writer.specs.Writer.{Writer, waiting, IsFraming, is_ending, end_text}
+use Rattle.chunk_writer.specs.Writer.{Writer, waiting, IsFraming, is_ending, end_text, FitsTurn}
 use Rattle.chunk_writer.specs.declared.next.Next.{Next}
 use Rattle.icap_client.specs.RequestText.{is_null}
+use Rattle.icap_client.specs.Events.{May}
 use Rattle.icap_client.specs.Front.{Front}
 
 -- the text of the next zero chunk: nothing where there is no body
@@ -64,23 +65,27 @@ pub record NothingDue (x : Seen) (w : Writer) : Type 0 where
 abbrev pub StopsAt : Seen → ℕ → Type 0
 StopsAt x place = ((x.ended ≡ true) × (place ≡ x.received)) ⊎ IsSomeAnd (open_preview x) (λ p. place ≡ p)
 
+-- behind so many more bytes, where any may go
+abbrev pub StopsBehind : Seen → ℕ → Type 0
+StopsBehind x n = (x.closed ≡ false) × MaySend x × StopsAt x (x.sent + n)
+
 -- and its text: nothing where there is no body; with ieof where the preview is the whole body
 abbrev pub stop_text_at : Seen → ℕ → List ℕ
 stop_text_at x place =
     if is_null x.plan.len then []
     else last_chunk (is_preview x.plan.kind && not x.stopped && x.ended && (place == x.received))
 
--- what comes next: body bytes that may be sent, and the zero chunk behind them where it is due; nothing only where neither may follow
+-- What comes next: of the body bytes that may be sent all that fit into a turn and into the chunk that was begun, and the zero
+-- chunk behind them where it is due. So there is one such next.
 pub record Decides (x : Seen) (w : Writer) (next : Next) : Type 0 where
   pub chunked : next.chunked ≡ true
   pub from : next.from ≡ x.sent
-  pub few : next.count ≤ 4096
-  pub within : 0 < w.left → next.count ≤ w.left
-  pub svc : 0 < next.count → (x.closed ≡ false) × Allows x (Svc next.count)
-  pub stop : is_ending next.end ≡ true → (x.closed ≡ false) × MaySend x × StopsAt x (x.sent + next.count)
+  pub fits : FitsTurn w true next.count
+  pub svc : 0 < next.count → May x (Svc next.count)
+  pub greatest : (n : ℕ) → May x (Svc n) → FitsTurn w true n → n ≤ next.count
+  pub stop : is_ending next.end ≡ true → StopsBehind x next.count
+  pub no_stop : is_ending next.end ≡ false → StopsBehind x next.count → ⊥
   pub text : is_ending next.end ≡ true → end_text next.end ≡ stop_text_at x (x.sent + next.count)
-  pub no_svc : next.count ≡ 0 → (n : ℕ) → x.closed ≡ false → Allows x (Svc n) → ⊥
-  pub no_stop : next.count ≡ 0 → is_ending next.end ≡ false → x.closed ≡ false → Allows x Stop → ⊥
 
 -- the events of a turn that sent so many bytes of the body, and fixed a zero chunk or not
 abbrev pub svc_events : ℕ → List Event

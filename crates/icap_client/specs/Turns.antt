@@ -1,5 +1,5 @@
 -- What a write turn of the service's side does.
-use Rattle.std.specs.Prelude.{◌&&◌, ◌||◌, not, option_map, is_some, is_none, ◌≡◌, ℕ, ◌<◌, ◌≤◌, ◌⊎◌, ◌==◌, length, take, ⊤, Bool, true, false, List, [], ◌++◌, Option, Some, None, Result, Ok, Err}
+use Rattle.std.specs.Prelude.{◌&&◌, ◌||◌, not, option_map, is_some, is_none, ◌≡◌, ℕ, ◌<◌, ◌≤◌, ◌⊎◌, ◌↔◌, ◌==◌, length, take, ⊤, Bool, true, false, List, [], ◌++◌, Option, Some, None, Result, Ok, Err}
 use Rattle.trace_core.specs.declared.history.Event.{Event}
 use Rattle.trace_core.specs.declared.history.Seen.{Seen}
 use Rattle.trace_core.specs.History.{is_preview, is_whole}
@@ -10,8 +10,9 @@ pub use Rattle.wire_kit.specs.Past.{IsLater}
 pub use Rattle.adapt_sides.specs.Turns.{events_of, waits_of, SaysWaiting, Remembers, Sends, Hears}
 use Rattle.wire_kit.specs.declared.wire.Put.{Put}
 use Rattle.wire_kit.specs.declared.wire.Put.TheVariants as put
-use Rattle.chunk_writer.specs.Writer.{Writer, waiting}
-use Rattle.icap_client.specs.Sending.{HasSent, IsSent, Came, NothingDue}
+use Rattle.chunk_writer.specs.declared.next.Next.{Next}
+use Rattle.chunk_writer.specs.Writer.{Writer, waiting, offered}
+use Rattle.icap_client.specs.Sending.{HasSent, IsSent, Came, NothingDue, Decides}
 use Rattle.icap_client.specs.Events.{after_all, MayAllFollow, AllAre, is_of_sending}
 use Rattle.icap_client.specs.Reading.{Side, SideHeard, NothingToRead}
 use Rattle.icap_client.specs.Laws.{IsWhole}
@@ -62,12 +63,15 @@ abbrev pub Fits : Seen → Writer → Option Put → Result Turn ClientFault →
 Fits x w answer (Ok turn) = FitsAnswer x w answer turn
 Fits x w answer (Err fault) = (fault ≡ Device) × (answer ≡ Some put.Fault)
 
--- A turn of a side without a fault makes one write at most.
+-- A turn of a side without a fault: its wire took a front of all that is due, which is what waits and, unless a long head goes
+-- out alone, what comes next behind it; the wire is asked only where there is such a text.
 pub record WriteTurn (x : Seen) (tape : Tape) (old new : Writer) (before after : Past → Type 0) (result : Result Turn ClientFault) : Type 0 where
-  pub text : List ℕ
+  pub next : Next
   pub answer : Option Put
-  pub wire : Offers before after text answer
-  pub goes_on : GoesOn x tape old new (events_of result) (delta_of text answer)
+  pub decides : Decides x old next
+  pub wire : Offers before after (offered old tape next) answer
+  pub asks : answer ≡ None ↔ offered old tape next ≡ []
+  pub goes_on : GoesOn x tape old new (events_of result) (delta_of (offered old tape next) answer)
   pub fits : Fits x new answer result
 
 -- ---- both halves, as a transaction calls them

@@ -1,6 +1,7 @@
 //! What holds of all that was heard of a service and sent to it: each law is the contract of a function that does nothing.
 
-ghost use Rattle.std.specs.Prelude.{◌≡◌, ◌≢◌, ◌↔◌, ℕ, ◌+◌, ◌<◌, ◌^◌, List, [], ◌++◌, length, true, false, Bool};
+ghost use Rattle.std.specs.Prelude.{◌≡◌, ◌≢◌, ◌↔◌, ℕ, ◌+◌, ◌<◌, List, [], ◌++◌, length, true, false, Bool};
+ghost use Rattle.adapt_bytes.specs.declared.limits.TheConstants.{COUNT_LIMIT};
 ghost use Rattle.trace_core.specs.declared.history.Plan.{Plan};
 ghost use Rattle.trace_core.specs.declared.history.Point.{Point};
 ghost use Rattle.trace_core.specs.declared.history.Event.{Event};
@@ -118,5 +119,5 @@ pub fn a_reusable_connection_is_clean()
 /// The list of a request's heads and body is read back by a server as the layout with each head behind the one before it, and
 /// the body behind them all (RFC 3507, section 4.4.1).
 pub fn a_server_reads_the_list()
-    ensures { (point : Point) (null : Bool) (req res : ℕ) → req + res < 2 ^ 62 → IsReadBack point null req res }
+    ensures { (point : Point) (null : Bool) (req res : ℕ) → req + res < COUNT_LIMIT → IsReadBack point null req res }
 {}

@@ -1,6 +1,7 @@
 //! The text of a request before its chunks.
 
-ghost use Rattle.std.specs.Prelude.{◌≡◌, ◌+◌, ◌<◌, ◌^◌, ◌++◌, length, OnOk, IfOk};
+ghost use Rattle.std.specs.Prelude.{◌≡◌, ◌+◌, ◌<◌, ◌++◌, length, OnOk, IfOk};
+ghost use Rattle.adapt_bytes.specs.declared.limits.TheConstants.{COUNT_LIMIT};
 ghost use Rattle.adapt_bytes.specs.Numeral.{numeral};
 ghost use Rattle.icap_client.specs.RequestHead.{joined, start_pieces, host_pieces, allow_pieces, preview_pieces, body_name, list_pieces, head_pieces, request_head};
 ghost use Rattle.icap_client.specs.RequestText.{is_null};
@@ -22,7 +23,7 @@ pub(crate) fn request_head(
     req: &[u8],
     res: &[u8],
 ) -> Result<Vec<u8>, AllocError>
-    requires { length req.now + length res.now < 2 ^ 62 }
+    requires { length req.now + length res.now < COUNT_LIMIT }
     ensures { IfOk result (λ text. text.items ≡ request_head plan.now host.now port path.now req.now res.now) }
 {
     let mut out = Vec::new(alloc);
@@ -160,7 +161,7 @@ fn put_list(
     req: usize,
     res: usize,
 ) -> Result<(), AllocError>
-    requires { req + res < 2 ^ 62 }
+    requires { req + res < COUNT_LIMIT }
     ensures { OnOk result (out.new.items ≡ joined (list_pieces point null req res) out.old.items) }
 {
     match point {

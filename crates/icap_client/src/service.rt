@@ -1,7 +1,8 @@
 //! The service's end of one transaction: both halves.
 
 ghost use Rattle.arrayvec.specs.ArrayVec.{array_vec_len};
-ghost use Rattle.std.specs.Prelude.{option_copied, ◌≡◌, ℕ, List, ◌+◌, ◌≤◌, ◌++◌, ◌∷◌, ◌↔◌, ◌^◌, IsTrue, IfSome, IfOk, IfErr, Err, true, false, Some, None, ◌⊎◌, [], length, ◌<◌, MatchOption};
+ghost use Rattle.std.specs.Prelude.{option_copied, ◌≡◌, ℕ, List, ◌+◌, ◌≤◌, ◌++◌, ◌∷◌, ◌↔◌, IsTrue, IfSome, IfOk, IfErr, Err, true, false, Some, None, ◌⊎◌, [], length, ◌<◌, MatchOption};
+ghost use Rattle.adapt_bytes.specs.declared.limits.TheConstants.{COUNT_LIMIT};
 ghost use Rattle.trace_core.specs.declared.history.Seen.{Seen};
 ghost use Rattle.trace_core.specs.History.{seen};
 ghost use Rattle.wire_kit.specs.Past.{Past};
@@ -103,7 +104,7 @@ impl ServiceSide {
         req: &[u8],
         res: &[u8],
     ) -> Result<ServiceSide, AllocError>
-        requires { length req.now + length res.now < 2 ^ 62 }
+        requires { length req.now + length res.now < COUNT_LIMIT }
         ensures writer { IfOk result (λ side. side.writer ≡ fresh (request_head plan.now host.now port path.now req.now res.now)) }
         ensures reader { IfOk result (λ side. side.replies.reader ≡ first_reader plan.now.point) }
         ensures raw { IfOk result (λ side. side.replies.raw ≡ []) }
