@@ -1,7 +1,7 @@
 -- The ranges of the settings.
 use Rattle.std.specs.Prelude.{ℕ, ◌≤◌, ◌&&◌, ◌==◌, Bool, not, nat_le, List, length, IsTrue, All}
-use Rattle.adapt_bytes.specs.declared.limits.TheConstants.{MAX_CONNECTIONS}
-use Rattle.icap_services.specs.declared.settings.TheConstants.{MAX_TAG, MAX_TTL, MAX_PREVIEW}
+use Rattle.adapt_bytes.specs.declared.limits.TheConstants.{MAX_CONNECTIONS, MAX_PREVIEW}
+use Rattle.icap_services.specs.declared.settings.TheConstants.{MAX_TAG, MAX_TTL}
 
 -- a byte of an ISTag without its quotes: printable ASCII, but for the quote and the backslash
 abbrev pub is_tag_byte : ℕ → Bool

@@ -3,9 +3,9 @@ ghost use Rattle.std.specs.Prelude.{◌≡◌, ◌↔◌, IsTrue, IsSome, IfSome
 ghost use Rattle.icap_services.specs.Ranges.{IsTag, is_tag_byte, AreInRange};
 ghost use Rattle.icap_services.specs.Texts.{Shown, shown};
 
-use crate::settings::{MAX_PREVIEW, MAX_TAG, MAX_TTL};
+use crate::settings::{MAX_TAG, MAX_TTL};
 use crate::{NoMemory, Settings};
-use adapt_bytes::MAX_CONNECTIONS;
+use adapt_bytes::{MAX_CONNECTIONS, MAX_PREVIEW};
 use std::alloc::Global;
 
 impl Settings {

@@ -7,8 +7,8 @@ ghost use Rattle.icapd_program.specs.Config.{is_at, string_at, integer_at, Liste
 
 use crate::error::{Error, Key};
 use crate::standard_input::MAX_INPUT;
-use adapt_bytes::MAX_CONNECTIONS;
-use icap_services::{MAX_PREVIEW, MAX_TTL, Settings, is_tag};
+use adapt_bytes::{MAX_CONNECTIONS, MAX_PREVIEW};
+use icap_services::{MAX_TTL, Settings, is_tag};
 use std::alloc::Global;
 use std::net::SocketAddrV4;
 use toml::Table;

@@ -6,9 +6,6 @@ use crate::hosts::Hosts;
 use crate::point::ServicePoint;
 use std::net::SocketAddrV4;
 
-/// The most bytes of a configuration, 1,048,576.
-pub const MAX_CONFIG: usize = 1_048_576;
-
 /// What `adaptproxy serve` is told.
 #[derive(Debug, Drop)]
 pub struct Config {

@@ -15,7 +15,7 @@ mod tests;
 mod unknown;
 mod values;
 
-pub use config::{Config, MAX_CONFIG};
+pub use config::Config;
 pub use fault::ConfigFault;
 pub use hosts::Hosts;
 pub use point::ServicePoint;
