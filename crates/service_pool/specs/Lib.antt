@@ -1,3 +1,4 @@
+pub mod Faults
 pub mod History
 pub mod Journal
 pub mod Leased

@@ -1,5 +1,6 @@
 //! The numbers of a pool, the steps that change them, and why a call is refused.
 ghost use Rattle.std.specs.Prelude.{◌≡◌};
+ghost use Rattle.service_pool.specs.Faults.{audit_fault_number};
 ghost use Rattle.service_pool.specs.Replay.{after};
 ghost use Rattle.service_pool.specs.Journal.{IsAllowed, IsBounded};
 
@@ -47,6 +48,15 @@ pub enum AuditFault {
     /// Fewer leases were handed in than are out.
     #[error("a lease is missing")]
     Missing = 1,
+}
+
+impl AuditFault {
+    /// The fault's number, 1.
+    pub fn number(self) -> u64
+        ensures { result ≡ audit_fault_number self }
+    {
+        self as u64
+    }
 }
 
 impl Numbers {

@@ -1,4 +1,5 @@
 pub mod Chain
+pub mod Faults
 pub mod History
 pub mod Journal
 pub mod Ledgers

@@ -1,6 +1,7 @@
 //! The budget, shared by threads. A call with `rt` takes the lock, calls one method of what lies
 //! under it, and lets go.
 ghost use Rattle.std.specs.Prelude.{◌≡◌, ◌+◌, ◌-◌, ◌≤◌, ◌<◌, ℕ, Err, IfOk, IfErr, IfSome, vec_len};
+ghost use Rattle.adapt_bytes.specs.declared.limits.TheConstants.{MAX_CAPACITY, MAX_ROWS};
 ghost use Rattle.span_bank.specs.declared.step.CapacityFault.TheVariants.{TooLow};
 ghost use Rattle.span_bank.specs.Stakes.{held_sum, claim_sum, page_sum, most_pages, CountsIn, lent, given_back};
 
@@ -10,9 +11,7 @@ use crate::locked::{Locked, all_pages};
 use crate::pages::Pages;
 use crate::stake::Stake;
 use crate::state::BankState;
-use crate::step::{
-    Audit, AuditFault, CapacityFault, MAX_CAPACITY, MAX_ROWS, Numbers, OpenFault, Resized, Store,
-};
+use crate::step::{Audit, AuditFault, CapacityFault, Numbers, OpenFault, Resized, Store};
 use std::alloc::Global;
 use std::sync::{Mutex, Wait};
 

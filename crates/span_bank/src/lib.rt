@@ -26,8 +26,8 @@ pub use crate::rebasing::RebasingJournal;
 pub use crate::stake::Stake;
 pub use crate::state::BankState;
 pub use crate::step::{
-    Audit, AuditFault, BankStep, CapacityFault, MAX_CAPACITY, MAX_ROWS, Numbers, OpenFault,
-    PAGE_BYTES, Resized, SPARE_PAGES, Store,
+    Audit, AuditFault, BankStep, CapacityFault, Numbers, OpenFault, PAGE_BYTES, Resized,
+    SPARE_PAGES, Store,
 };
 pub use crate::window::Window;
 pub use std::alloc::AllocError as NoMemory;

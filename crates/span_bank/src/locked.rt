@@ -1,6 +1,7 @@
 //! What lies under the budget's lock: the totals with their journal, the books of the ledgers, and
 //! the store of pages.
 ghost use Rattle.std.specs.Prelude.{◌≡◌, ◌+◌, ◌-◌, ◌*◌, ◌/◌, ◌≤◌, ◌<◌, ◌^◌, ◌↔◌, ℕ, IsOk, IsErr, IfOk, IfErr, OnOk, OnErr, vec_len};
+ghost use Rattle.adapt_bytes.specs.declared.limits.TheConstants.{MAX_CAPACITY, MAX_ROWS};
 ghost use Rattle.span_bank.specs.declared.step.BankStep.TheVariants.{Open, Grow, Shrink, Reclaim, Close, Capacity};
 ghost use Rattle.span_bank.specs.declared.step.Resized.TheVariants.{Done, TooLow, Short};
 ghost use Rattle.span_bank.specs.Journal.{slid};
@@ -13,8 +14,7 @@ use crate::pages::Pages;
 use crate::stake::{Stake, lend};
 use crate::state::BankState;
 use crate::step::{
-    Audit, AuditFault, BankStep, MAX_CAPACITY, MAX_ROWS, Numbers, OpenFault, PAGE_BYTES, Resized,
-    SPARE_PAGES, Store,
+    Audit, AuditFault, BankStep, Numbers, OpenFault, PAGE_BYTES, Resized, SPARE_PAGES, Store,
 };
 use crate::window::Window;
 use std::marker::Model;
