@@ -6,6 +6,7 @@ use Rattle.adapt_bytes.specs.declared.limits.TheConstants.{MAX_CONNECTIONS}
 use Rattle.icap_head.specs.Fields.{FieldList, values_of, first_of}
 use Rattle.icap_head.specs.Heads.{Response}
 use Rattle.encapsulated.specs.Layouts.{IsLayout}
+use Rattle.options_book.specs.declared.judged.TheConstants.{MAX_TAG}
 use Rattle.encapsulated.specs.declared.Layout.{Layout}
 use Rattle.encapsulated.specs.declared.Method.TheVariants as Methods
 use Rattle.encapsulated.specs.declared.Direction.TheVariants as Directions
@@ -44,7 +45,7 @@ pub record HasTag (fields : FieldList) (tag : List ℕ) : Type 0 where
   pub first : first_of (codes "ISTag") fields ≡ Some value
   pub tag_is : tag ≡ unquoted value
   pub some : 1 ≤ length tag
-  pub fits : length tag ≤ 256
+  pub fits : length tag ≤ MAX_TAG
 
 -- the three numbers, in this order: the preview's size, the most connections, and the seconds that the response stays fresh
 pub record AreNumbers (fields : FieldList) (preview connections ttl : Option ℕ) : Type 0 where
