@@ -70,6 +70,22 @@ def expect_is_answered(bench):
 
 
 @case
+def users_that_end_inside_a_head_get_no_answer(bench):
+    origin = bench.origin()
+    proxy = bench.proxy(origin)
+    for before in (b"", get("/bytes/3")):
+        for text in (b"", b"G", get("/bytes/3")[:-2]):
+            user = User(proxy.port)
+            user.send(before)
+            if before:
+                same("the first", user.answer().body, b"the")
+            user.send(text)
+            user.sock.shutdown(socket.SHUT_WR)
+            same(text, user.reader.to_end(), b"")
+    same("audit", proxy.stop(), IDLE)
+
+
+@case
 def faulty_requests_are_refused(bench):
     origin = bench.origin()
     closed = free_port()
