@@ -2,3 +2,5 @@ pub mod UserLemmas
 pub mod OnwardLemmas
 pub mod HeadLemmas
 pub mod CloseLemmas
+pub mod BeginLemmas
+pub mod WireLemmas

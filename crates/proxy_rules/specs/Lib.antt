@@ -7,3 +7,4 @@ pub mod Offers
 pub mod Connections
 pub mod Pools
 pub mod Heads
+pub mod Wires

@@ -1,5 +1,6 @@
 -- The plan of a message (RFC 3507, sections 4.5, 4.6 and 4.10.2).
 use Rattle.std.specs.Prelude.{◌≡◌, ℕ, false, List, nat_lt, Option, Some, None, MatchOption, if◌then◌else◌}
+use Rattle.adapt_bytes.specs.declared.limits.TheConstants.{COUNT_LIMIT}
 use Rattle.trace_core.specs.declared.history.Plan.{Plan}
 use Rattle.trace_core.specs.declared.history.Point.{Point}
 use Rattle.trace_core.specs.declared.history.Kind.TheVariants.{Plain}
@@ -19,10 +20,10 @@ pub record AreLimits (config : Config) (limits : Limits) : Type 0 where
   pub window : limits.window ≡ config.window
   pub retry : limits.retry ≡ config.retry
 
--- the length that a framing tells, below 2^62
+-- the length that a framing tells, where it may be counted
 abbrev pub known_length : Framing → Option ℕ
 known_length by.None = Some 0
-known_length (by.Length n) = if nat_lt n 4611686018427387904 then Some n else None
+known_length (by.Length n) = if nat_lt n COUNT_LIMIT then Some n else None
 known_length by.Chunked = None
 known_length by.Close = None
 

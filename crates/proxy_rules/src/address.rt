@@ -6,7 +6,7 @@ ghost use Rattle.http_side.specs.Targets.{authority_of};
 ghost use Rattle.proxy_rules.specs.Origins.{host_len, host_of, port_in, port_of};
 
 use crate::scan::{authority, behind, count_before, front};
-use adapt_bytes::read_decimal;
+use adapt_bytes::{COUNT_LIMIT, read_decimal};
 use http_side::HttpRequest;
 
 /// The origin that a target names.
@@ -28,12 +28,12 @@ fn host_len(authority: &[u8]) -> usize
     }
 }
 
-/// The number that a text spells, where it is below `2^62`.
+/// The number that a text spells, where it may be counted.
 fn number(digits: &[u8]) -> Option<u64>
     ensures { result ≡ length_value digits.now }
 {
     match read_decimal(digits) {
-        Some(number) if number < 4611686018427387904 => Some(number),
+        Some(number) if number < COUNT_LIMIT => Some(number),
         _ => None,
     }
 }

@@ -1,9 +1,19 @@
 //! What holds of every head that goes on: each law is the contract of a function that does nothing.
 
 ghost use Rattle.std.specs.Prelude.{◌≡◌, true, false, codes};
+ghost use Rattle.adapt_hold.specs.Holding.{IsTied};
+ghost use Rattle.adapt_turn.specs.Stands.{Texts};
 ghost use Rattle.http_side.specs.declared.forward.Forward.{Forward as Sent};
 ghost use Rattle.http_side.specs.Forward.{is_response, is_named_by, closes};
 ghost use Rattle.http_side.specs.Laws.{forwarded_fields};
+ghost use Rattle.proxy_rules.specs.Wires.{WiresTook};
+
+use crate::head_maker::HeadMaker;
+use adapt_turn::{Standing, Tx};
+use http_relay::{NextHop, SourceSide};
+use icap_client::ServiceSide;
+use span_bank::Ledgers;
+use wire_kit::Wire;
 
 /// An answer's head says `close` exactly where the user's connection ends behind it; a request's head says it always, for each
 /// exchange has an origin's connection of its own (RFC 9112, section 9.6).
@@ -11,3 +21,15 @@ pub fn says_close_where_it_ends()
     ensures answer { (f : Sent) → is_response f.message ≡ true → is_named_by (forwarded_fields f) (codes "close") ≡ closes f }
     ensures request { (f : Sent) → is_response f.message ≡ false → is_named_by (forwarded_fields f) (codes "close") ≡ true }
 {}
+
+/// Of a transaction of the proxy's own sides, wherever it stands: its service's wire took a front of one request with the original;
+/// one of the wires to the next hop and to the user took a front of one message with the chosen body, or of a refusal alone, and the
+/// other one nothing of a message. What is held of both bodies is just what the history needs.
+pub fn the_wires_take_one_message<B: Ledgers, A: Wire, W: Wire, C: Wire>(
+    tx: &Tx<B, SourceSide, ServiceSide, NextHop, HeadMaker, A, W, C>,
+)
+    ensures tied { IsTied tx.now.hold }
+    ensures took { (t : Texts) → ⟦<Tx<B, SourceSide, ServiceSide, NextHop, HeadMaker, A, W, C> as Standing>⟧.stands tx.now t → WiresTook tx.now.hold t }
+{
+    let _ = tx.seen();
+}

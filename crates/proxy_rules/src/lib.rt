@@ -17,6 +17,7 @@ mod pools;
 mod reason;
 mod route;
 mod scan;
+mod starting;
 #[cfg(test)]
 mod tests;
 
@@ -32,3 +33,4 @@ pub use reason::{
     Reason, open_reason, options_reason, origin_head_reason, record_reason, user_head_reason,
 };
 pub use route::origin_address;
+pub use starting::{Beginning, begin};

@@ -1,19 +1,17 @@
 //! What a service is asked: its options, and one request for each message (RFC 3507, sections 4.8 to 4.10).
 
-ghost use Rattle.std.specs.Prelude.{◌≡◌, ◌+◌, ◌<◌, ◌^◌, [], length, string_bytes, IfOk};
+ghost use Rattle.std.specs.Prelude.{◌≡◌, ◌+◌, ◌<◌, [], length, string_bytes, IfOk};
 ghost use Rattle.std.specs.Net.Socket.{v4_port};
 ghost use Rattle.chunk_writer.specs.Writer.{fresh};
 ghost use Rattle.icap_client.specs.Asking.{options_request};
-ghost use Rattle.proxy_rules.specs.Offers.{offered_request, offered_response, offered_text};
+ghost use Rattle.proxy_rules.specs.Offers.{IsUnused, offered_request, offered_response, offered_text};
 
+use adapt_bytes::COUNT_LIMIT;
 use http_side::{HttpRequest, HttpResponse, Message, encapsulated_head};
 use icap_client::{OptionsSide, ServiceSide};
 use plan_rules::Plan;
 use proxy_config::ServicePoint;
 use std::alloc::{AllocError, Global};
-
-/// The most bytes of both heads together, plus one.
-const PAST: usize = 4611686018427387904;
 
 /// The side that asks a service for its options.
 pub fn ask_options(alloc: Global, service: &ServicePoint) -> Result<OptionsSide, AllocError>
@@ -35,12 +33,14 @@ fn offer(
     req: &[u8],
     res: &[u8],
 ) -> Result<ServiceSide, AllocError>
-    ensures { IfOk result (λ side. side.writer ≡ fresh (offered_text service.now plan.now req.now res.now)) }
+    ensures text { IfOk result (λ side. side.writer ≡ fresh (offered_text service.now plan.now req.now res.now)) }
+    ensures unused { IfOk result (λ side. IsUnused side) }
 {
-    if req.len() >= PAST || res.len() >= PAST - req.len() {
+    let limit = COUNT_LIMIT as usize;
+    if req.len() >= limit || res.len() >= limit - req.len() {
         return Err(AllocError);
     }
-    ServiceSide::new(
+    let side = ServiceSide::new(
         alloc,
         plan,
         service.host.as_bytes(),
@@ -48,7 +48,8 @@ fn offer(
         service.path.as_bytes(),
         req,
         res,
-    )
+    )?;
+    Ok(side)
 }
 
 /// The side that offers a user's request: its head goes in absolute form.
@@ -58,7 +59,8 @@ pub fn offer_request(
     plan: &Plan,
     user: &HttpRequest,
 ) -> Result<ServiceSide, AllocError>
-    ensures { IfOk result (λ side. side.writer ≡ fresh (offered_text service.now plan.now (offered_request user.now) [])) }
+    ensures text { IfOk result (λ side. side.writer ≡ fresh (offered_text service.now plan.now (offered_request user.now) [])) }
+    ensures unused { IfOk result (λ side. IsUnused side) }
 {
     let req = encapsulated_head(alloc, user, Message::Request(user))?;
     offer(alloc, service, plan, &req, &[])
@@ -73,7 +75,8 @@ pub fn offer_response(
     user: &HttpRequest,
     response: &HttpResponse,
 ) -> Result<ServiceSide, AllocError>
-    ensures { IfOk result (λ side. side.writer ≡ fresh (offered_text service.now plan.now (offered_request user.now) (offered_response response.now))) }
+    ensures text { IfOk result (λ side. side.writer ≡ fresh (offered_text service.now plan.now (offered_request user.now) (offered_response response.now))) }
+    ensures unused { IfOk result (λ side. IsUnused side) }
 {
     let req = encapsulated_head(alloc, user, Message::Request(user))?;
     let res = encapsulated_head(alloc, user, Message::Response(response))?;

@@ -1,20 +1,19 @@
 //! Whether and by which plan a message is offered (RFC 3507, sections 4.5, 4.6 and 4.10.2).
 
-ghost use Rattle.std.specs.Prelude.{◌≡◌, ◌<◌, ◌^◌, IfSome, option_copied};
+ghost use Rattle.std.specs.Prelude.{◌≡◌, ◌<◌, IfSome, option_copied};
+ghost use Rattle.adapt_bytes.specs.declared.limits.TheConstants.{COUNT_LIMIT};
 ghost use Rattle.trace_core.specs.declared.history.Point.TheVariants as points;
 ghost use Rattle.http_side.specs.Framings.{request_framing, response_framing};
 ghost use Rattle.proxy_rules.specs.Origins.{bare_path};
 ghost use Rattle.proxy_rules.specs.Plans.{known_length, IsPlanned, AreLimits};
 
 use crate::scan::bare_path;
+use adapt_bytes::COUNT_LIMIT;
 use http_side::{Framing, HttpRequest, HttpResponse};
 use options_book::{Record, extension};
 use plan_rules::{Limits, Plan, plan};
 use proxy_config::Config;
 use trace_core::{Kind, Point};
-
-/// The greatest length of a body, plus one.
-const PAST: u64 = 4611686018427387904;
 
 /// The limits that the configuration says.
 pub fn limits_of(config: &Config) -> Limits
@@ -31,11 +30,11 @@ pub fn limits_of(config: &Config) -> Limits
 /// The length of a body, where its framing tells it.
 fn known_length(framing: Framing) -> Option<u64>
     ensures length { result ≡ known_length framing }
-    ensures small { IfSome result (λ n. n < 2 ^ 62) }
+    ensures small { IfSome result (λ n. n < COUNT_LIMIT) }
 {
     match framing {
         Framing::None => Some(0),
-        Framing::Length(n) if n < PAST => Some(n),
+        Framing::Length(n) if n < COUNT_LIMIT => Some(n),
         _ => None,
     }
 }

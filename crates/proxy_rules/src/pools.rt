@@ -1,6 +1,7 @@
 //! The connections to a service (RFC 3507, sections 4.10.2 and 4.10.3).
 
 ghost use Rattle.std.specs.Prelude.{◌≡◌, ◌≤◌, option_copied, option_and_then};
+ghost use Rattle.adapt_bytes.specs.declared.limits.TheConstants.{MAX_CONNECTIONS};
 ghost use Rattle.icap_head.specs.Fields.{field_list};
 ghost use Rattle.options_book.specs.Options.{most_connections};
 ghost use Rattle.proxy_rules.specs.Pools.{is_reusable_after, maximum_of};
@@ -20,7 +21,7 @@ pub fn is_reusable_after_options(side: &OptionsSide, answer: &IcapResponse) -> b
 /// The most connections that may be open to a service: what its record says, else what is configured.
 pub fn pool_maximum(options: Option<&Record>, service: &ServicePoint) -> u64
     ensures maximum { result ≡ maximum_of (option_and_then most_connections (option_copied options.entry)) service.now.connections }
-    ensures few { result ≤ 1024 }
+    ensures few { result ≤ MAX_CONNECTIONS }
 {
     let said = match options {
         Some(record) => record.max(),

@@ -1,7 +1,8 @@
 //! Where requests go, and what users wait for.
 use crate::{awaits_continue, interim_continue, is_head, origin_address, origin_of};
-use http_side::read_request;
+use http_side::{HttpRequest, read_request};
 use proxy_config::read_config;
+use std::alloc::Global;
 use std::net::SocketAddrV4;
 use std::process::Abort;
 use std::test::Fail;
@@ -12,10 +13,35 @@ const CONFIG: &[u8] =
 /// A target, its host, its port, and where the request goes.
 type Case<'a> = (&'a [u8], &'a [u8], Option<u16>, Option<&'a [u8]>);
 
+/// A request for this target.
+fn request_for(alloc: Global, target: &[u8]) -> Result<HttpRequest, Fail> {
+    let mut text = Vec::new(alloc);
+    text.extend_from_slice(b"GET ")?;
+    text.extend_from_slice(target)?;
+    text.extend_from_slice(b" HTTP/1.0\r\n\r\n")?;
+    Ok(read_request(alloc, &text, false)?.value)
+}
+
+/// That requests for these targets go there.
+fn they_go_there(rt: &impl Abort, alloc: Global, cases: &[Case<'_>]) -> Result<(), Fail> {
+    let config = read_config(alloc, CONFIG)?;
+    for (target, host, port, address) in cases {
+        let user = request_for(alloc, target)?;
+        let origin = origin_of(&user);
+        assert_eq!(rt; origin.host, *host);
+        assert_eq!(rt; origin.port, *port);
+        let want = match address {
+            Some(address) => SocketAddrV4::parse_ascii(address).ok(),
+            None => None,
+        };
+        assert_eq!(rt; origin_address(&config.hosts, &user), want);
+    }
+    Ok(())
+}
+
 #[test]
-fn origins(rt: HostRuntime) -> Result<(), Fail> {
-    let config = read_config(rt.alloc(), CONFIG)?;
-    let cases: [Case<'_>; 8] = [
+fn hosts_of_the_table(rt: HostRuntime) -> Result<(), Fail> {
+    let cases: [Case<'_>; 5] = [
         (
             b"http://o.test/a.txt",
             b"o.test",
@@ -35,6 +61,14 @@ fn origins(rt: HostRuntime) -> Result<(), Fail> {
             None,
             Some(b"127.0.0.1:8080"),
         ),
+        (b"http://other.test/", b"other.test", None, None),
+    ];
+    they_go_there(&rt, rt.alloc(), &cases)
+}
+
+#[test]
+fn hosts_that_are_addresses(rt: HostRuntime) -> Result<(), Fail> {
+    let cases: [Case<'_>; 3] = [
         (b"http://10.0.0.1/", b"10.0.0.1", None, Some(b"10.0.0.1:80")),
         (
             b"http://10.0.0.1:0008080/",
@@ -43,24 +77,8 @@ fn origins(rt: HostRuntime) -> Result<(), Fail> {
             Some(b"10.0.0.1:8080"),
         ),
         (b"http://[::1]:81/", b"[::1]", Some(81), None),
-        (b"http://other.test/", b"other.test", None, None),
     ];
-    for (target, host, port, address) in cases {
-        let mut text = Vec::new(rt.alloc());
-        text.extend_from_slice(b"GET ")?;
-        text.extend_from_slice(target)?;
-        text.extend_from_slice(b" HTTP/1.0\r\n\r\n")?;
-        let user = read_request(rt.alloc(), &text, false)?;
-        let origin = origin_of(&user.value);
-        assert_eq!(rt; origin.host, host);
-        assert_eq!(rt; origin.port, port);
-        let want = match address {
-            Some(address) => SocketAddrV4::parse_ascii(address).ok(),
-            None => None,
-        };
-        assert_eq!(rt; origin_address(&config.hosts, &user.value), want);
-    }
-    Ok(())
+    they_go_there(&rt, rt.alloc(), &cases)
 }
 
 #[test]

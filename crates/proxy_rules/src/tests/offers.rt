@@ -6,7 +6,7 @@ use crate::{
 use http_side::{read_request, read_response};
 use icap_client::ServiceSide;
 use icap_head::{IcapResponse, read_response as read_answer};
-use options_book::read_record;
+use options_book::{Record, read_record};
 use proxy_config::{ServicePoint, read_config};
 use span_tape::SpanTape;
 use std::alloc::{AllocError, Global};
@@ -34,13 +34,17 @@ fn answer(alloc: Global, further: &[u8]) -> Result<IcapResponse, Fail> {
     Ok(read_answer(alloc, &text)?.value)
 }
 
-#[test]
-fn plans(rt: HostRuntime) -> Result<(), Fail> {
-    let alloc = rt.alloc();
-    let config = read_config(alloc, CONFIG)?;
-    let limits = limits_of(&config);
+/// What a service says that wants previews of four bytes, and no images.
+fn no_images(alloc: Global) -> Result<Record, Fail> {
     let head = answer(alloc, b"Transfer-Preview: *\r\nTransfer-Ignore: gif\r\n")?;
-    let record = read_record(alloc, &head, Point::Respmod, 0)?;
+    Ok(read_record(alloc, &head, Point::Respmod, 0)?)
+}
+
+#[test]
+fn plans_of_responses(rt: HostRuntime) -> Result<(), Fail> {
+    let alloc = rt.alloc();
+    let limits = limits_of(&read_config(alloc, CONFIG)?);
+    let record = no_images(alloc)?;
     let user = read_request(alloc, GET, false)?.value;
     let cases: [(&[u8], Kind, Option<u64>, bool); 4] = [
         (
@@ -66,22 +70,23 @@ fn plans(rt: HostRuntime) -> Result<(), Fail> {
     for (text, kind, len, allow) in cases {
         let response = read_response(alloc, text, false)?.value;
         let plan = response_plan(Some(&record), &limits, &user, &response);
-        assert_eq!(rt; plan.kind, kind);
-        assert_eq!(rt; plan.len, len);
-        assert_eq!(rt; plan.allow, allow);
+        assert_eq!(rt; (plan.kind, plan.len, plan.allow), (kind, len, allow));
         assert_eq!(rt; plan.point, Point::Respmod);
-        assert_eq!(rt;
-            response_plan(None, &limits, &user, &response).kind,
-            Kind::Plain
-        );
     }
-    let image = read_request(
-        alloc,
-        b"GET http://o.test/b.GIF?a.txt HTTP/1.0\r\n\r\n",
-        false,
-    )?
-    .value;
-    let plan = request_plan(Some(&record), &limits, &image);
+    Ok(())
+}
+
+#[test]
+fn plans_of_messages_that_are_not_offered(rt: HostRuntime) -> Result<(), Fail> {
+    let alloc = rt.alloc();
+    let limits = limits_of(&read_config(alloc, CONFIG)?);
+    let user = read_request(alloc, GET, false)?.value;
+    let response = read_response(alloc, b"HTTP/1.1 200 OK\r\n\r\n", false)?.value;
+    let plan = response_plan(None, &limits, &user, &response);
+    assert_eq!(rt; plan.kind, Kind::Plain);
+    let text: &[u8] = b"GET http://o.test/b.GIF?a.txt HTTP/1.0\r\n\r\n";
+    let image = read_request(alloc, text, false)?.value;
+    let plan = request_plan(Some(&no_images(alloc)?), &limits, &image);
     assert_eq!(rt; plan.kind, Kind::Plain);
     assert_eq!(rt; plan.len, Some(0));
     assert_eq!(rt; plan.point, Point::Reqmod);

@@ -1,0 +1,45 @@
+-- A service's side before its first turn.
+use Rattle.std.proofs.Common.{◌≡◌, ℕ, Bool, true, false, not, ◌&&◌, ◌||◌, List, [], Option, Some, None, IfSome, refl, ap, sym, subst, ◌∙◌}
+use Rattle.trace_core.specs.declared.history.Plan.{Plan}
+use Rattle.trace_core.specs.declared.history.Point.{Point}
+use Rattle.trace_core.specs.History.{seen, is_preview}
+use Rattle.chunk_writer.specs.Writer.{Writer, fresh}
+use Rattle.icap_client.specs.Laws.{first_reader}
+use Rattle.icap_client.specs.Sending.{HasSent}
+use Rattle.icap_client.specs.Turns.{Service, ServiceSent, ServiceHeard, is_answered}
+use Rattle.icap_client.specs.OthersSent.{it_begins}
+use Rattle.icap_client.proofs.Both.{side_begins}
+use Rattle.adapt_turn.specs.declared.start.Line.{Line}
+use Rattle.proxy_rules.specs.Offers.{IsUnused}
+
+pub unused : (s : Service) (text : List ℕ) (point : Point) → s.writer ≡ fresh text → s.replies.reader ≡ first_reader point → s.replies.raw ≡ []
+    → (s.last_stop ≡ false) × (s.answered ≡ false) → IsUnused s
+unused s text point w r raw m = record {
+  writer = w ∙ ap fresh (sym (ap (λ (v : Writer). v.head) w));
+  reader = r ∙ ap first_reader (sym (ap (λ q. q.point) r));
+  raw = raw;
+  marks = m;
+}
+
+and_false : (b : Bool) → (b && false) ≡ false
+and_false true = refl
+and_false false = refl
+
+-- nothing was sent and heard of any plan
+pub nothing_sent : (s : Service) (plan : Plan) → IsUnused s → ServiceSent (seen plan []) [] [] s
+nothing_sent s plan u = record {
+  sent = record { head = s.writer.head; sent = subst (λ (w : Writer). HasSent s.writer.head (seen plan []) [] [] w) (sym u.writer) (it_begins plan s.writer.head) };
+  last_stop = u.marks.0;
+}
+
+pub nothing_heard : (s : Service) (plan : Plan) → IsUnused s → ServiceHeard (seen plan []) [] [] s
+nothing_heard s plan u = record {
+  heard = side_begins plan s.replies.reader.point s.replies u.reader u.raw;
+  answered = u.marks.1 ∙ sym (and_false (is_preview plan.kind));
+}
+
+-- the same where there may be no service
+pub nothing_on : {W : Type 0} (plan : Plan) (service : Option (Line Service W)) → IfSome service (λ line. IsUnused line.side)
+    → IfSome service (λ line. ServiceSent (seen plan []) [] [] line.side × ServiceHeard (seen plan []) [] [] line.side)
+nothing_on plan None u = tt
+nothing_on plan (Some line) u = (nothing_sent line.side plan u, nothing_heard line.side plan u)

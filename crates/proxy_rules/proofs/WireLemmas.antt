@@ -1,0 +1,95 @@
+-- What the wires took, by what stands.
+use Rattle.std.proofs.Common.{◌≡◌, ℕ, ◌⊎◌, inl, inr, Bool, true, false, List, [], ◌∷◌, ◌++◌, length, take, Option, Some, None, MatchOption, if◌then◌else◌, refl, ap, sym, subst, ◌∙◌, arith}
+use Rattle.std.proofs.lemmas.List.{take_all}
+use Rattle.trace_core.specs.declared.history.Seen.{Seen}
+use Rattle.trace_core.specs.Faults.{chooses_original}
+use Rattle.trace_core.specs.History.{is_plain}
+use Rattle.trace_core.proofs.Sound.{Sound, sound}
+use Rattle.chunk_writer.specs.Writer.{Writer, waiting}
+use Rattle.chunk_writer.specs.Cut.{IsPrefixOf}
+use Rattle.http_side.specs.Refusals.{refusal}
+use Rattle.http_side.specs.declared.body.Framing.{Framing}
+use Rattle.adapt_sides.specs.Tapes.{chosen, chosen_received, chosen_delivered}
+use Rattle.adapt_sides.specs.Turns.{Gift}
+use Rattle.adapt_sides.specs.Turns.Gift.{message}
+use Rattle.adapt_hold.specs.Spans.{EndsBody}
+use Rattle.adapt_hold.specs.Holding.{Holding, IsTied, shows}
+use Rattle.adapt_turn.specs.declared.start.Line.{Line}
+use Rattle.adapt_turn.specs.Stands.{HopsAre}
+use Rattle.icap_client.specs.Turns.{Service, ServiceSent}
+use Rattle.icap_client.specs.RequestText.{IsFrontOfRequest}
+use Rattle.icap_client.proofs.Prefixes.{sent_is_front_legal}
+use Rattle.http_relay.specs.declared.hop.Stage.{Stage}
+use Rattle.http_relay.specs.declared.hop.Stage.TheVariants as at
+use Rattle.http_relay.specs.Message.{IsFrontOfMessage}
+use Rattle.http_relay.specs.Giving.{Hop, HasGiven, GivenAt, IsAside, AsideAt, gift_of}
+use Rattle.http_relay.proofs.Whole.{out_front_at, whole_front_at}
+use Rattle.proxy_rules.specs.Wires.{TookNoMessage, TookOne}
+
+pub received_is : (h : Holding) (body : List ℕ) → IsTied h → EndsBody h.original body → length body ≡ (shows h.history).received
+received_is h body t e = sym e.end ∙ ap (λ (p : ℕ × ℕ). p.1) t.original
+
+pub adapted_received_is : (h : Holding) (body : List ℕ) → IsTied h → EndsBody h.adapted body → length body ≡ (shows h.history).adapted_received
+adapted_received_is h body t e = sym e.end ∙ ap (λ (p : ℕ × ℕ). p.1) t.adapted
+
+chosen_by : (c m : Bool) (r a : ℕ) (original adapted : List ℕ) → (m ≡ false → a ≡ 0) → length original ≡ r → length adapted ≡ a
+    → length (if c then original else if m then adapted else []) ≡ (if c then r else a)
+chosen_by true m r a original adapted z o b = o
+chosen_by false true r a original adapted z o b = b
+chosen_by false false r a original adapted z o b = sym (z refl)
+
+pub chosen_is : (h : Holding) (original adapted : List ℕ) → IsTied h → EndsBody h.original original → EndsBody h.adapted adapted
+    → length (chosen (shows h.history) original adapted) ≡ chosen_received (shows h.history)
+chosen_is h original adapted t o a =
+    let x : Seen = shows h.history in
+    chosen_by (chooses_original x) x.modified x.received x.adapted_received original adapted (sound h.history.plan h.history.events t.legal).unmodified (received_is h original t o) (adapted_received_is h adapted t a)
+
+pub sent_one : (h : Holding) (original taken : List ℕ) (s : Service) → IsTied h → EndsBody h.original original → is_plain (shows h.history).plan.kind ≡ false
+    → ServiceSent (shows h.history) original taken s → (head : List ℕ) × IsFrontOfRequest (shows h.history) head original taken
+sent_one h original taken s t o n g =
+    (g.sent.head, sent_is_front_legal h.history.plan h.history.events g.sent.head original taken s.writer t.legal n (received_is h original t o) g.sent.sent)
+
+first_none : (xs ys : List ℕ) → xs ++ ys ≡ [] → xs ≡ []
+first_none [] ys e = refl
+first_none (x ∷ xs) ys e = cc
+
+aside_at : (stage : Stage) (taken : List ℕ) (w : Writer) → AsideAt stage taken w → TookNoMessage taken
+aside_at at.Empty taken w a = inl (first_none taken (waiting w) a)
+aside_at at.Message taken w a = absurd a
+aside_at at.Whole taken w a = absurd a
+aside_at (at.Refusal status) taken w a = inr (status, record { rest = waiting w; whole = sym a })
+
+pub aside_none : (taken : List ℕ) (h : Hop) → IsAside taken h → TookNoMessage taken
+aside_none taken h a = aside_at h.stage taken h.writer a.text
+
+given_at : (stage : Stage) (x : Seen) (f : Framing) (head body taken : List ℕ) (w : Writer) → gift_of stage ≡ message → length body ≡ chosen_received x → GivenAt stage x f head body taken w → TookOne body taken
+given_at at.Empty x f head body taken w m l g = cc
+given_at at.Message x f head body taken w m l g = inr (f, head, chosen_delivered x, out_front_at at.Message x f head body taken w refl l g)
+given_at at.Whole x f head body taken w m l g =
+    let all : take (length body) body ≡ body = take_all (length body) body (omega arith) in
+    inr (f, head, length body, subst (λ (b : List ℕ). IsFrontOfMessage f head b taken) (sym all) (whole_front_at at.Whole x f head body taken w refl l g))
+given_at (at.Refusal status) x f head body taken w m l g = cc
+
+pub given_one : (x : Seen) (head body taken : List ℕ) (h : Hop) → gift_of h.stage ≡ message → length body ≡ chosen_received x → HasGiven x head body taken h → TookOne body taken
+given_one x head body taken h m l g = given_at h.stage x h.framing head body taken h.writer m l g.given
+
+pub service_one : {W : Type 0} (h : Holding) (original taken : List ℕ) (service : Option (Line Service W)) → IsTied h → EndsBody h.original original → is_plain (shows h.history).plan.kind ≡ false
+    → MatchOption service (taken ≡ []) (λ line. ServiceSent (shows h.history) original taken line.side) → (taken ≡ []) ⊎ ((head : List ℕ) × IsFrontOfRequest (shows h.history) head original taken)
+service_one h original taken None t o n e = inl e
+service_one h original taken (Some line) t o n g = inr (sent_one h original taken line.side t o n g)
+
+pub hops_one : (h : Holding) (next back : Hop) (next_given back_given : Seen → List ℕ → List ℕ → List ℕ → Type 0) (original adapted to_next to_back : List ℕ)
+    → IsTied h → EndsBody h.original original → EndsBody h.adapted adapted
+    → ((x : Seen) (head body taken : List ℕ) → next_given x head body taken → HasGiven x head body taken next) → ((x : Seen) (head body taken : List ℕ) → back_given x head body taken → HasGiven x head body taken back)
+    → HopsAre (gift_of next.stage) (gift_of back.stage) next_given (λ taken. IsAside taken next) back_given (λ taken. IsAside taken back) (shows h.history) (chosen (shows h.history) original adapted) to_next to_back
+    → (TookOne (chosen (shows h.history) original adapted) to_next × TookNoMessage to_back) ⊎ (TookNoMessage to_next × TookOne (chosen (shows h.history) original adapted) to_back)
+hops_one h next back next_given back_given original adapted to_next to_back t o a as_next as_back (inl m) = inl (inl (aside_none to_next next m.next_aside_is), aside_none to_back back m.back_aside_is)
+hops_one h next back next_given back_given original adapted to_next to_back t o a as_next as_back (inr (inl m)) =
+    let x = shows h.history in
+    let body = chosen x original adapted in
+    inl (given_one x m.head body to_next next m.begun (chosen_is h original adapted t o a) (as_next x m.head body to_next m.given_is), aside_none to_back back m.aside_is)
+hops_one h next back next_given back_given original adapted to_next to_back t o a as_next as_back (inr (inr (inl m))) =
+    let x = shows h.history in
+    let body = chosen x original adapted in
+    inr (aside_none to_next next m.aside_is, given_one x m.head body to_back back m.begun (chosen_is h original adapted t o a) (as_back x m.head body to_back m.given_is))
+hops_one h next back next_given back_given original adapted to_next to_back t o a as_next as_back (inr (inr (inr m))) = inl (inl (aside_none to_next next m.next_aside_is), aside_none to_back back m.back_aside_is)

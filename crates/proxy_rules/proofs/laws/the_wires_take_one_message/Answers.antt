@@ -1,0 +1,15 @@
+use Rattle.std.proofs.Common.{ℕ, List}
+use Rattle.proxy_rules.proofs.WireLemmas.{service_one, hops_one}
+use Rattle.proxy_rules.proofs.laws.the_wires_take_one_message.Goals as goal
+
+pub returns-clause-took : goal.returns-clause-took
+returns-clause-took g c = λ t s. record {
+  original = s.original;
+  adapted = s.adapted;
+  original_is = s.original_is;
+  adapted_is = s.adapted_is;
+  service = λ n. service_one c.args.tx.now.hold s.original t.service_taken c.args.tx.now.service c.seen.ensures.tied s.original_is n s.sent_is;
+  next_and_back =
+      hops_one c.args.tx.now.hold c.args.tx.now.next c.args.tx.now.back _ _ s.original s.adapted t.next_taken t.back_taken c.seen.ensures.tied s.original_is s.adapted_is
+      (λ x head body taken h. h.1) (λ x head body taken h. h.1) s.hops_are;
+}

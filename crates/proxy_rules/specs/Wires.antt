@@ -1,0 +1,32 @@
+-- What the wires of a transaction of the proxy's own sides took.
+use Rattle.std.specs.Prelude.{◌≡◌, ℕ, ◌⊎◌, false, List, [], take}
+use Rattle.trace_core.specs.History.{is_plain}
+use Rattle.chunk_writer.specs.Cut.{IsPrefixOf}
+use Rattle.http_side.specs.Refusals.{refusal}
+use Rattle.http_side.specs.declared.body.Framing.{Framing}
+use Rattle.adapt_sides.specs.Tapes.{chosen}
+use Rattle.adapt_hold.specs.Spans.{EndsBody}
+use Rattle.adapt_hold.specs.Holding.{Holding, shows}
+use Rattle.adapt_turn.specs.Stands.{Texts}
+use Rattle.icap_client.specs.RequestText.{IsFrontOfRequest}
+use Rattle.http_relay.specs.Message.{IsFrontOfMessage}
+
+-- nothing, or a front of one of the proxy's own refusals
+abbrev pub TookNoMessage : List ℕ → Type 0
+TookNoMessage taken = (taken ≡ []) ⊎ ((status : ℕ) × IsPrefixOf taken (refusal status))
+
+-- that, or a front of one message with a front of this body
+abbrev pub TookOne : List ℕ → List ℕ → Type 0
+TookOne body taken = TookNoMessage taken ⊎ ((framing : Framing) × (head : List ℕ) × (count : ℕ) × IsFrontOfMessage framing head (take count body) taken)
+
+-- The service's wire took a front of one request with the original. Of the wires to the next hop and back to the user one took a
+-- front of one message with the chosen body, or of a refusal, and the other one nothing of a message. The tapes have the ends of
+-- both bodies.
+pub record WiresTook (h : Holding) (t : Texts) : Type 0 where
+  pub original : List ℕ
+  pub adapted : List ℕ
+  pub original_is : EndsBody h.original original
+  pub adapted_is : EndsBody h.adapted adapted
+  pub service : is_plain (shows h.history).plan.kind ≡ false → (t.service_taken ≡ []) ⊎ ((head : List ℕ) × IsFrontOfRequest (shows h.history) head original t.service_taken)
+  pub next_and_back : (TookOne (chosen (shows h.history) original adapted) t.next_taken × TookNoMessage t.back_taken)
+      ⊎ (TookNoMessage t.next_taken × TookOne (chosen (shows h.history) original adapted) t.back_taken)

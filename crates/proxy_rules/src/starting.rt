@@ -1,0 +1,92 @@
+//! The beginning of a transaction of the proxy's own sides.
+
+ghost use Rattle.std.specs.Prelude.{◌≡◌, ◌≤◌, ◌^◌, List, ℕ, [], IfOk, IfErr, IfSome};
+ghost use Rattle.plan_rules.specs.Claims.{claim_of};
+ghost use Rattle.http_relay.specs.Reading.{Begins};
+ghost use Rattle.adapt_turn.specs.Stands.{no_texts};
+ghost use Rattle.proxy_rules.specs.Offers.{IsUnused};
+
+use crate::head_maker::HeadMaker;
+use adapt_turn::{Line, Standing, Start, Tx};
+use http_relay::{NextHop, SourceSide};
+use icap_client::ServiceSide;
+use plan_rules::{Limits, Plan};
+use span_bank::{Ledgers, Stake};
+use std::alloc::Global;
+use wire_kit::Wire;
+
+/// What a transaction of the proxy's own sides begins with.
+pub struct Beginning<B: Ledgers, A, W, C> {
+    pub plan: Plan,
+    pub limits: Limits,
+    /// A reservation of just the plan's claim, of which nothing is held.
+    pub stake: Stake<B>,
+    /// The message's source, whose head was read.
+    pub source: SourceSide,
+    pub source_wire: A,
+    /// None where the message isn't offered.
+    pub service: Option<Line<ServiceSide, W>>,
+    pub next_wire: C,
+    pub heads: HeadMaker,
+    /// How many seconds may pass without a moved byte.
+    pub deadline: u64,
+    /// The moment, in seconds.
+    pub now: u64,
+    /// Whether the service's connection was used before.
+    pub reused: bool,
+}
+
+/// Begins a transaction. Where its source's head was read in a turn, and its service's side was made by an offer, what stands
+/// between a transaction and its wires stands from the beginning: of the source's wire the bytes were read that the head was found
+/// in, and nothing else went over a wire.
+///
+/// Everything comes back where the source isn't at the beginning of a body of this plan.
+pub fn begin<B: Ledgers, A: Wire, W: Wire, C: Wire>(
+    alloc: Global,
+    beginning: Beginning<B, A, W, C>,
+) -> Result<
+    Tx<B, SourceSide, ServiceSide, NextHop, HeadMaker, A, W, C>,
+    Start<B, SourceSide, ServiceSide, NextHop, HeadMaker, A, W, C>,
+>
+    requires empty { (beginning.stake.held ≡ 0) × (beginning.stake.pages ≡ 0) }
+    requires claim { beginning.stake.claim ≡ claim_of beginning.plan beginning.limits.window }
+    requires small { beginning.stake.claim ≤ 2 ^ 40 }
+    ensures begun { IfOk result (λ tx. tx.hold.history ≡ record { plan = beginning.plan; events = [] }) }
+    ensures clock { IfOk result (λ tx. (tx.last_moved ≡ beginning.now) × (tx.deadline ≡ beginning.deadline)) }
+    ensures stands { IfOk result (λ tx. (read : List ℕ) → Begins read beginning.source → IfSome beginning.service (λ line. IsUnused line.side)
+        → ⟦<Tx<B, SourceSide, ServiceSide, NextHop, HeadMaker, A, W, C> as Standing>⟧.stands tx (record no_texts { source_read = read })) }
+    ensures back { IfErr result (λ back. back.stake ≡ beginning.stake) }
+{
+    let Beginning {
+        plan,
+        limits,
+        stake,
+        source,
+        source_wire,
+        service,
+        next_wire,
+        heads,
+        deadline,
+        now,
+        reused,
+    } = beginning;
+    let start = Start {
+        plan,
+        limits,
+        stake,
+        source,
+        source_wire,
+        service,
+        next: NextHop::new(alloc),
+        next_wire,
+        back: NextHop::new(alloc),
+        forward: heads,
+        deadline,
+        now,
+        reused,
+    };
+    match Tx::new(alloc, start) {
+        Ok(tx) => Ok(tx),
+        Err(start) => Err(start),
+    }
+}
