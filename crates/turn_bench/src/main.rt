@@ -1,6 +1,7 @@
 //! How long one exchange takes over wires in memory: an answer of six bytes with a preview of four, a 100, and an adapted answer.
 //!
-//! The argument is how many times. The figures go to standard error, since they differ from run to run.
+//! The first argument is how many times, the second how many allocations are made and given back before: so a refused allocation
+//! can be moved along an exchange. The figures go to standard error, since they differ from run to run.
 #![tactic(auto)]
 
 ghost use Rattle.std.specs.Prelude.{◌<◌, ◌≡◌, IfOk};
@@ -13,7 +14,7 @@ mod worked;
 use adapt_bytes::read_decimal;
 use measured::{Measured, is_empty, measure};
 use span_bank::{Bank, Blanks, Four};
-use std::alloc::Global;
+use std::alloc::{AllocError, Global};
 use std::marker::Brand;
 use std::rt::Runtime;
 use std::sync::Wait;
@@ -51,7 +52,8 @@ fn run<H: Ledger, F: Ledger, S: Ledger, P: Ledger, R: Wait + Clock>(
 }
 
 fn main(rt: HostRuntime) -> io::Result<()> {
-    let times = times(&rt)?;
+    let (times, before) = numbers(&rt)?;
+    allocate(rt.alloc(), before)?;
     let blanks = Blanks::new(3);
     let (measured, size) = run::<Brand, Brand, Brand, Brand, HostRuntime>(
         &rt,
@@ -67,12 +69,21 @@ fn main(rt: HostRuntime) -> io::Result<()> {
     println!(rt; "whole {whole}")
 }
 
-/// The argument, or 20,000 where it is missing, zero or no number.
-fn times(rt: &impl Runtime) -> io::Result<u64>
-    ensures { IfOk result (λ times. 0 < times) }
+/// So many allocations, each of which is given back.
+fn allocate(alloc: Global, count: u64) -> Result<(), AllocError> {
+    for _ in 0..count {
+        b"a".to_vec(alloc)?;
+    }
+    Ok(())
+}
+
+/// The arguments: the first one is 20,000 where it is missing, zero or no number, and the second one 0.
+fn numbers(rt: &impl Runtime) -> io::Result<(u64, u64)>
+    ensures { IfOk result (λ numbers. 0 < numbers.0) }
 {
     let mut args = env::args(rt)?;
     let _program = args.next();
-    let given = args.next().and_then(|text| read_decimal(text.as_bytes()));
-    Ok(given.unwrap_or(20_000).max(1))
+    let times = args.next().and_then(|text| read_decimal(text.as_bytes()));
+    let before = args.next().and_then(|text| read_decimal(text.as_bytes()));
+    Ok((times.unwrap_or(20_000).max(1), before.unwrap_or(0)))
 }

@@ -7,7 +7,7 @@ use adapt_turn::{Line, Outcome, Parts, Start, Tx};
 use http_relay::{NextHop, RelayFault, SourceSide};
 use icap_client::ServiceSide;
 use plan_rules::{Limits, claim};
-use proxy_rules::HeadMaker;
+use proxy_rules::{Beginning, HeadMaker};
 use span_bank::{Bank, Ledgers, Pages, Stake};
 use std::alloc::{AllocError, Global};
 use std::sync::Wait;
@@ -229,7 +229,7 @@ fn start<B: Ledgers, A: Wire + Drop>(
         service: service_wire,
         user,
     } = wires;
-    let start = Start {
+    let beginning = Beginning {
         plan,
         limits,
         stake,
@@ -239,15 +239,13 @@ fn start<B: Ledgers, A: Wire + Drop>(
             side: service,
             wire: service_wire,
         }),
-        next: NextHop::new(alloc),
         next_wire: user,
-        back: NextHop::new(alloc),
-        forward: heads,
+        heads,
         deadline: DEADLINE,
         now: BEGIN,
         reused: limits.retry,
     };
-    match Tx::new(alloc, start) {
+    match proxy_rules::begin(alloc, beginning) {
         Ok(tx) => Some(tx),
         Err(start) => {
             undo(rt, bank, start);
