@@ -9,7 +9,7 @@ use span_tape::SpanTape;
 use std::alloc::{AllocError, Global};
 use std::test::Fail;
 use trace_core::{Event, Kind, Plan, Point, State};
-use wire_kit::{MemoryWire, ReadAnswer, WriteAnswer};
+use wire_kit::{MemoryWire, ReadAnswer};
 
 /// The head of the original request.
 const REQUEST: &str = "GET http://o.test/a.txt HTTP/1.1\r\nHost: o.test\r\n\r\n";
@@ -24,22 +24,6 @@ Preview: 4\r\nEncapsulated: req-hdr=0, res-hdr=50, res-body=88\r\n\r\n\
 GET http://o.test/a.txt HTTP/1.1\r\nHost: o.test\r\n\r\n\
 HTTP/1.1 200 OK\r\nContent-Length: 6\r\n\r\n";
 
-/// The same, with a preview of no byte.
-const OFFERED_UNSEEN: &str =
-    "RESPMOD icap://127.0.0.1:1344/respmod/upper ICAP/1.0\r\nHost: 127.0.0.1:1344\r\n\
-Preview: 0\r\nEncapsulated: req-hdr=0, res-hdr=50, res-body=88\r\n\r\n\
-GET http://o.test/a.txt HTTP/1.1\r\nHost: o.test\r\n\r\n\
-HTTP/1.1 200 OK\r\nContent-Length: 6\r\n\r\n";
-
-/// The head of a request with a body.
-const UPLOAD: &str = "POST http://o.test/a HTTP/1.1\r\nHost: o.test\r\n\r\n";
-
-/// Its request up to the body, without a preview.
-const UPLOADED: &str =
-    "REQMOD icap://127.0.0.1:1344/reqmod/pass ICAP/1.0\r\nHost: 127.0.0.1:1344\r\n\
-Encapsulated: req-hdr=0, req-body=47\r\n\r\n\
-POST http://o.test/a HTTP/1.1\r\nHost: o.test\r\n\r\n";
-
 /// A side that offers the original response.
 fn offer(alloc: Global, state: &State) -> Result<ServiceSide, AllocError> {
     ServiceSide::new(
@@ -51,33 +35,6 @@ fn offer(alloc: Global, state: &State) -> Result<ServiceSide, AllocError> {
         REQUEST.as_bytes(),
         RESPONSE.as_bytes(),
     )
-}
-
-/// A side that offers a request with a body, and its history.
-fn upload(alloc: Global) -> Result<Option<(ServiceSide, State)>, AllocError> {
-    let Some(plan) = Plan::new(Kind::Whole, false, false, None, Point::Reqmod) else {
-        return Ok(None);
-    };
-    let side = ServiceSide::new(
-        alloc,
-        &plan,
-        b"127.0.0.1",
-        1344,
-        b"/reqmod/pass",
-        UPLOAD.as_bytes(),
-        b"",
-    )?;
-    Ok(Some((side, State::begin(plan))))
-}
-
-/// A wire that takes at most so many bytes a write, with a Wait before each.
-fn reluctant(alloc: Global, most: usize) -> Result<MemoryWire, AllocError> {
-    let mut writes = Vec::new(alloc);
-    for _ in 0..250 {
-        writes.push(WriteAnswer::Wait)?;
-        writes.push(WriteAnswer::Took(most))?;
-    }
-    MemoryWire::new(alloc, Vec::new(alloc), Vec::new(alloc), writes)
 }
 
 /// A turn of the writing half. False where the tape isn't that of the history, or the side fails.
@@ -215,69 +172,6 @@ fn a_body_in_single_bytes(rt: HostRuntime) -> Result<(), Fail> {
     let (text, _, whole) = found.expect(&rt, "an exchange");
     assert_eq!(rt; text.as_slice(), want.as_slice());
     assert!(rt; whole);
-    Ok(())
-}
-
-#[test]
-fn a_preview_of_no_byte(rt: HostRuntime) -> Result<(), Fail> {
-    let alloc = rt.alloc();
-    let want = both(alloc, OFFERED_UNSEEN, "0\r\n\r\n6\r\nabcdef\r\n0\r\n\r\n")?;
-    let reply = both(alloc, CONTINUE, CHANGED)?;
-    for most in [4096, 5, 1] {
-        let mut pages = a_page(&rt, alloc)?;
-        let found = taken(alloc, &mut pages, 0, &[b"abcdef"], &reply, most)?;
-        let (text, body, whole) = found.expect(&rt, "an exchange");
-        assert_eq!(rt; text.as_slice(), want.as_slice(), "{most} bytes a write");
-        assert_eq!(rt; body.as_slice(), b"ABCDEF".as_slice());
-        assert!(rt; whole);
-    }
-    Ok(())
-}
-
-#[test]
-fn a_wire_that_waits_in_mid_text(rt: HostRuntime) -> Result<(), Fail> {
-    let alloc = rt.alloc();
-    let want = both(alloc, UPLOADED, "6\r\nabcdef\r\n0\r\n\r\n")?;
-    for most in [64, 7, 2, 1] {
-        let (mut side, mut state) = upload(alloc)?.expect(&rt, "a side");
-        let mut tape = SpanTape::new();
-        let mut pages = a_page(&rt, alloc)?;
-        assert!(rt; come(&mut state, &mut tape, &mut pages, b"abcdef"));
-        assert!(rt; state.step(Event::End).is_ok());
-        let mut wire = reluctant(alloc, most)?;
-        while wire.taken().len() < want.len() {
-            let before = wire.taken().len();
-            assert!(rt; write(&mut side, &mut state, &tape, &mut wire));
-            assert_eq!(rt; wire.taken().len(), before, "the wire waits");
-            assert!(rt; write(&mut side, &mut state, &tape, &mut wire));
-            assert_eq!(rt; wire.taken().len(), want.len().min(before + most));
-        }
-        assert_eq!(rt; wire.taken(), want.as_slice(), "{most} bytes a write");
-        assert!(rt; side.request_whole());
-    }
-    Ok(())
-}
-
-#[test]
-fn a_long_body_goes_in_full_chunks(rt: HostRuntime) -> Result<(), Fail> {
-    let alloc = rt.alloc();
-    let (mut side, mut state) = upload(alloc)?.expect(&rt, "a side");
-    let mut tape = SpanTape::new();
-    let mut first = a_page(&rt, alloc)?;
-    let mut second = a_page(&rt, alloc)?;
-    assert!(rt; come(&mut state, &mut tape, &mut first, &[b'x'; 4096]));
-    assert!(rt; come(&mut state, &mut tape, &mut second, b"last"));
-    assert!(rt; state.step(Event::End).is_ok());
-    let mut wire = wire_of(alloc, b"", 1, ReadAnswer::Wait, 8192)?;
-    let mut want = both(alloc, UPLOADED, "1000\r\n")?;
-    want.extend_from_slice(&[b'x'; 4096])?;
-    want.extend_from_slice(b"\r\n")?;
-    assert!(rt; write(&mut side, &mut state, &tape, &mut wire));
-    assert_eq!(rt; wire.taken(), want.as_slice(), "one write");
-    want.extend_from_slice(b"4\r\nlast\r\n0\r\n\r\n")?;
-    assert!(rt; write(&mut side, &mut state, &tape, &mut wire));
-    assert_eq!(rt; wire.taken(), want.as_slice(), "two writes");
-    assert!(rt; side.request_whole());
     Ok(())
 }
 
