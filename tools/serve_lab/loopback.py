@@ -114,10 +114,15 @@ class Answer:
 
 
 class User:
-    """A connection to the proxy."""
+    """A connection to the proxy; a narrow one takes a few kilobytes before they are read."""
 
-    def __init__(self, port):
-        self.sock = socket.create_connection(("127.0.0.1", port), PATIENCE)
+    def __init__(self, port, narrow=False):
+        self.sock = socket.socket()
+        self.sock.settimeout(PATIENCE)
+        if narrow:
+            self.sock.setsockopt(socket.IPPROTO_TCP, socket.TCP_MAXSEG, 536)
+            self.sock.setsockopt(socket.SOL_SOCKET, socket.SO_RCVBUF, 4096)
+        self.sock.connect(("127.0.0.1", port))
         self.sock.setsockopt(socket.IPPROTO_TCP, socket.TCP_NODELAY, 1)
         self.reader = Reader(self.sock)
 

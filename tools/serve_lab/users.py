@@ -1,8 +1,9 @@
 """Configurations, heads, users that do as they like, and the administrator."""
 import socket
+import threading
 import time
 
-from serve_lab.cases import ADAPTPROXY, IDLE, case, get, is_refused, post, refusal, same
+from serve_lab.cases import ADAPTPROXY, IDLE, at_once, case, get, is_refused, post, refusal, same
 from serve_lab.loopback import Program, Reader, Server, User, ask, body_of, fields_of, free_port
 
 
@@ -66,6 +67,34 @@ def expect_is_answered(bench):
         same("not passed on", "expect" in fields_of(origin.heads[-1]), False)
     user.send(get("/bytes/3", "Expect: 100-continue\r\n"))
     same("no body", user.reader.head()[:15], b"HTTP/1.1 200 Fi")
+    same("audit", proxy.stop(), IDLE)
+
+
+@case
+def expect_is_answered_to_users_that_read_slowly(bench):
+    """The interim answer may not fit into the user's socket, whole or in part: it is said once there is room."""
+    origin = bench.origin()
+    proxy = bench.proxy(origin, "deadline = 600")
+    count = 800
+
+    def one(number):
+        user = User(proxy.port, narrow=True)
+        body = b"x" * (number + 1)
+        requests = 3 * get("/bytes/25000") + count * post("/echo", body, "Expect: 100-continue\r\n")
+        threading.Thread(target=user.send, args=(requests,), daemon=True).start()
+        seen = -1
+        while seen != origin.count:
+            seen = origin.count
+            time.sleep(0.5)
+        for _ in range(3):
+            same("filled", user.answer().body, body_of(25000))
+        for _ in range(count):
+            same("interim", user.reader.head(), b"HTTP/1.1 100 Continue\r\n\r\n")
+            answer = user.answer()
+            same("body", (answer.status, answer.body), (200, body))
+        user.close()
+
+    at_once(6, one)
     same("audit", proxy.stop(), IDLE)
 
 

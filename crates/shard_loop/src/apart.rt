@@ -34,6 +34,7 @@ impl<B: Ledgers, Q: Ledger, A: Ledger> Left<B, Q, A> {
                 }
             }
             Phase::Head(_) | Phase::Answer(_) | Phase::Closing(_) => {}
+            Phase::Telling { ends: _, rest: _ } => {}
             Phase::Refusing { user: _, rest: _ } => {}
         }
     }

@@ -8,6 +8,7 @@ use crate::halting::end_service;
 use crate::phase::{Ends, Line, Moving, Origin, Phase, Starting, Step};
 use crate::pools::Leased;
 use crate::seats::At;
+use crate::telling::go_ahead;
 use adapt_turn::{Line as ServiceLine, Start, Tx};
 use http_relay::{NextHop, SourceSide};
 use icap_client::ServiceSide;
@@ -25,7 +26,7 @@ use std::sync::Wait;
 use std::sync::ledger::Ledger;
 use std::time::Clock;
 use trace_core::Point;
-use wire_kit::{Gate, Put, Wire};
+use wire_kit::Gate;
 
 /// A message on its way into a transaction.
 #[derive(Drop)]
@@ -52,20 +53,10 @@ struct Sides {
 enum Unable {
     /// The user gets the proxy's own refusal.
     Refuse(SocketWire, Reason),
+    /// The user has to be told to send its body, and doesn't take the whole text now: this is left of it.
+    Tell(Ends, &'static [u8]),
     /// The user's connection is cut.
     Cut,
-}
-
-/// Tells a user that waits for it to send its body. False where the user can't take it.
-fn go_ahead(user: &mut SocketWire, waits: bool) -> bool {
-    if !waits {
-        return true;
-    }
-    let text = interim_continue();
-    match user.try_write(text) {
-        Put::Took(count) => count >= text.len(),
-        Put::Wait | Put::Fault => false,
-    }
 }
 
 /// A side that was made, on the heap.
@@ -104,7 +95,7 @@ impl<'a, B: Ledgers, Q: Ledger, A: Ledger, G: Gate> Desk<'a, B, Q, A, G> {
             plan,
             side,
             address: Some(address),
-            waits: awaits_continue(user),
+            waits: !ends.told && awaits_continue(user),
         })
     }
 
@@ -231,6 +222,7 @@ impl<'a, B: Ledgers, Q: Ledger, A: Ledger, G: Gate> Desk<'a, B, Q, A, G> {
             user,
             request,
             origin,
+            told: _,
         } = Box::into_inner(ends);
         if let Some(Origin { wire, side }) = origin {
             return Ok(Sides {
@@ -247,8 +239,12 @@ impl<'a, B: Ledgers, Q: Ledger, A: Ledger, G: Gate> Desk<'a, B, Q, A, G> {
             return Err(Unable::Refuse(user, Reason::NoOrigin));
         };
         let mut user = user;
-        if !go_ahead(&mut user, message.waits) {
-            return Err(Unable::Cut);
+        if message.waits {
+            match go_ahead(&mut user, interim_continue()) {
+                Some([]) => {}
+                Some(rest) => return Err(Unable::Tell(Ends::of_user(user, request), rest)),
+                None => return Err(Unable::Cut),
+            }
         }
         Ok(Sides {
             source: request,
@@ -280,6 +276,7 @@ impl<'a, B: Ledgers, Q: Ledger, A: Ledger, G: Gate> Desk<'a, B, Q, A, G> {
                 self.spare(rt, at, line);
                 match unable {
                     Unable::Refuse(user, reason) => self.refuse(at, user, reason),
+                    Unable::Tell(ends, rest) => self.tell(at, ends, rest),
                     Unable::Cut => Step::Over,
                 }
             }

@@ -105,6 +105,7 @@ impl<'a, B: Ledgers, Q: Ledger, A: Ledger, G: Gate> Desk<'a, B, Q, A, G> {
             user,
             request,
             origin: Some(Origin { wire, side }),
+            told: false,
         };
         match Box::new(self.alloc, ends) {
             Ok(ends) => Step::On(Phase::Answer(ends)),
@@ -119,12 +120,7 @@ impl<'a, B: Ledgers, Q: Ledger, A: Ledger, G: Gate> Desk<'a, B, Q, A, G> {
         }
         let mut request = request;
         request.next();
-        let ends = Ends {
-            user,
-            request,
-            origin: None,
-        };
-        match Box::new(self.alloc, ends) {
+        match Box::new(self.alloc, Ends::of_user(user, request)) {
             Ok(ends) => Step::On(Phase::Head(ends)),
             Err(_) => Step::Over,
         }

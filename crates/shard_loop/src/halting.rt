@@ -61,6 +61,7 @@ impl<'a, B: Ledgers, Q: Ledger, A: Ledger, G: Gate> Desk<'a, B, Q, A, G> {
                 self.end_moving(rt, Box::into_inner(tx), lease);
             }
             Phase::Head(_) | Phase::Answer(_) | Phase::Closing(_) => {}
+            Phase::Telling { ends: _, rest: _ } => {}
             Phase::Refusing { user: _, rest: _ } => {}
         }
     }

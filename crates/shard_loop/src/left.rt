@@ -5,14 +5,12 @@ ghost use Rattle.shard_loop.specs.Left.{HoldsNothing};
 
 use crate::audit::{ServeFault, StopAudit};
 use crate::pools::{Leased, Pools, Spare};
+use adapt_bytes::MAX_CONNECTIONS;
 use service_pool::{Lease, Pool};
 use span_bank::{Audit, Bank, Ledgers, Pages, Stake};
 use std::alloc::Global;
 use std::sync::Wait;
 use std::sync::ledger::Ledger;
-
-/// The most leases of a pool that are out.
-const MAX_LEASES: usize = 1024;
 
 /// The reservations and the leases that are still out, and whether a thread found no memory to begin.
 pub struct Left<B: Ledgers, Q: Ledger, A: Ledger> {
@@ -84,9 +82,10 @@ impl<B: Ledgers, Q: Ledger, A: Ledger> Left<B, Q, A> {
 
     /// Makes room for all that can be out. False where no memory was found.
     pub fn reserve(&mut self, rows: usize) -> bool {
+        let leases = MAX_CONNECTIONS as usize;
         self.stakes.reserve(rows).is_ok()
-            && self.requests.reserve(MAX_LEASES).is_ok()
-            && self.responses.reserve(MAX_LEASES).is_ok()
+            && self.requests.reserve(leases).is_ok()
+            && self.responses.reserve(leases).is_ok()
     }
 
     /// Takes note of a thread that found no memory to begin.

@@ -22,6 +22,7 @@ mod running;
 mod seats;
 mod shard;
 mod steps;
+mod telling;
 mod turns;
 
 pub use audit::{ServeFault, StopAudit};

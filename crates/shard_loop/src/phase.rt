@@ -55,15 +55,28 @@ pub struct Ends {
     pub user: SocketWire,
     pub request: SourceSide,
     pub origin: Option<Origin>,
+    /// Whether the user was told to send the body of its request.
+    pub told: bool,
 }
 
 impl Ends {
+    /// A user's end, with its request's head or before it.
+    pub fn of_user(user: SocketWire, request: SourceSide) -> Ends {
+        Ends {
+            user,
+            request,
+            origin: None,
+            told: false,
+        }
+    }
+
     /// The user's end alone. All else goes.
     pub fn into_user(self) -> SocketWire {
         let Ends {
             user,
             request: _,
             origin: _,
+            told: _,
         } = self;
         user
     }
@@ -105,6 +118,11 @@ pub enum Phase<B: Ledgers, Q: Ledger, A: Ledger> {
         ends: Box<Ends>,
         line: Line<Q, A>,
         side: Box<OptionsSide>,
+    },
+    /// A user that waits for it is told to send the body of its request, and this is left of the text.
+    Telling {
+        ends: Box<Ends>,
+        rest: &'static [u8],
     },
     /// A message goes on.
     Moving {

@@ -1,6 +1,7 @@
 //! The pools of both points.
 
 ghost use Rattle.std.specs.Prelude.{◌≤◌};
+ghost use Rattle.adapt_bytes.specs.declared.limits.TheConstants.{MAX_CONNECTIONS};
 
 use service_pool::{Lease, Pool, Taken};
 use socket_wire::{Readiness, SocketWire};
@@ -118,7 +119,7 @@ impl<'a, Q: Ledger, A: Ledger> Pools<'a, Q, A> {
         point: Point,
         maximum: u64,
     ) -> Result<(), AllocError>
-        requires { maximum ≤ 1024 }
+        requires { maximum ≤ MAX_CONNECTIONS }
     {
         let _closed = match point {
             Point::Reqmod => self.request.set_max(rt, alloc, maximum)?,

@@ -1,6 +1,7 @@
 //! The proxy: its budget, its pools, and its threads.
 
 ghost use Rattle.std.specs.Prelude.{◌≡◌, ◌+◌, ◌≤◌};
+ghost use Rattle.adapt_bytes.specs.declared.limits.TheConstants.{MAX_CONNECTIONS};
 ghost use Rattle.service_pool.specs.declared.step.TheConstants.{LEDGER_PARTS};
 
 use crate::audit::{ServeFault, StopAudit};
@@ -22,7 +23,7 @@ use wire_kit::Gate;
 
 /// The most connections of a service before it says another number.
 fn connections(service: &Option<ServicePoint>) -> u64
-    ensures { (1 ≤ result) × (result ≤ 1024) }
+    ensures { (1 ≤ result) × (result ≤ MAX_CONNECTIONS) }
 {
     match service {
         Some(service) => service.connections,

@@ -103,6 +103,7 @@ impl<'a, B: Ledgers, Q: Ledger, A: Ledger, G: Gate> Shard<'a, B, Q, A, G> {
             }
             Phase::Refusing { user, rest } => try_refusal(user, rest),
             Phase::Head(_) | Phase::Closing(_) => {}
+            Phase::Telling { ends: _, rest: _ } => {}
         }
     }
 
@@ -156,11 +157,7 @@ impl<'a, B: Ledgers, Q: Ledger, A: Ledger, G: Gate> Work for Shard<'a, B, Q, A, 
             self.desk.seats.leave(key);
             return None;
         };
-        let ends = Ends {
-            user,
-            request: SourceSide::request(self.desk.alloc),
-            origin: None,
-        };
+        let ends = Ends::of_user(user, SourceSide::request(self.desk.alloc));
         let Ok(ends) = Box::new(self.desk.alloc, ends) else {
             self.desk.seats.leave(key);
             return None;

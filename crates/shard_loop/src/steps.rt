@@ -26,6 +26,7 @@ impl<'a, B: Ledgers, Q: Ledger, A: Ledger, G: Gate> Desk<'a, B, Q, A, G> {
         match phase {
             Phase::Head(ends) => self.head_step(rt, at, ends),
             Phase::Asking { ends, line, side } => self.asking_step(rt, at, ends, line, side),
+            Phase::Telling { ends, rest } => self.telling_step(rt, at, ends, rest),
             Phase::Moving { tx, lease } => self.moving_step(rt, at, tx, lease),
             Phase::Answer(ends) => self.answer_step(rt, at, ends),
             Phase::Refusing { user, rest } => self.refusing_step(at, user, rest),
@@ -89,7 +90,7 @@ impl<'a, B: Ledgers, Q: Ledger, A: Ledger, G: Gate> Desk<'a, B, Q, A, G> {
 
     /// Offers a message whose head was read to its service: the service is asked for its options first, where what it said
     /// of them serves no more.
-    fn offer<R: Wait + Dial + Clock>(
+    pub fn offer<R: Wait + Dial + Clock>(
         &mut self,
         rt: &R,
         at: At<'_>,
