@@ -9,13 +9,13 @@ use crate::phase::{Ends, Line, Moving, Origin, Phase, Starting, Step};
 use crate::pools::Leased;
 use crate::seats::At;
 use crate::telling::go_ahead;
-use adapt_turn::{Line as ServiceLine, Start, Tx};
-use http_relay::{NextHop, SourceSide};
+use adapt_turn::{Line as ServiceLine, Start};
+use http_relay::SourceSide;
 use icap_client::ServiceSide;
 use plan_rules::{Limits, Plan, claim};
 use proxy_rules::{
-    HeadMaker, Reason, awaits_continue, interim_continue, offer_request, offer_response,
-    open_reason, origin_address, request_plan, response_plan,
+    Beginning, HeadMaker, Reason, awaits_continue, begin, interim_continue, offer_request,
+    offer_response, open_reason, origin_address, request_plan, response_plan,
 };
 use socket_wire::{Dial, Side, SocketWire};
 use span_bank::{Ledgers, Pages, Stake};
@@ -323,22 +323,20 @@ impl<'a, B: Ledgers, Q: Ledger, A: Ledger, G: Gate> Desk<'a, B, Q, A, G> {
             next_wire,
             heads,
         } = sides;
-        let start = Start {
+        let beginning = Beginning {
             plan,
             limits,
             stake,
             source,
             source_wire,
             service,
-            next: NextHop::new(self.alloc),
             next_wire,
-            back: NextHop::new(self.alloc),
-            forward: heads,
+            heads,
             deadline: self.shared.config.deadline,
             now: at.now,
             reused,
         };
-        match Tx::new(self.alloc, start) {
+        match begin(self.alloc, beginning) {
             Ok(tx) => match Box::new(self.alloc, tx) {
                 Ok(tx) => Step::On(self.pass_gate(rt, at, tx, lease)),
                 Err(AllocFailed { value }) => {
