@@ -183,7 +183,7 @@ pub head_bytes : (old mid more new : SourceSide) (P Q : Past → Type 0) (result
 head_bytes old mid more new P Q result a m f only h same j on = record {
   delta = f.0;
   wire = λ p b. (
-    record { read = p.read ++ f.0; taken = p.taken; ends = p.ends; read_waits = p.read_waits; write_waits = p.write_waits; faults = p.faults },
+    record { read = p.read ++ f.0; taken = p.taken; ends = p.ends; read_waits = p.read_waits; write_waits = p.write_waits; faults = p.faults; reads = p.reads + 1; writes = p.writes },
     f.3 p b,
     record { read = refl; out = sym (append-nil p.taken); write_waits = omega arith; ends = omega arith; read_waits = omega arith; faults = omega arith },
     record {
@@ -204,7 +204,7 @@ pub head_waited : (old mid new : SourceSide) (P Q : Past → Type 0) → ((read 
 head_waited old mid new P Q a m f same j = record {
   delta = [];
   wire = λ p b. (
-    record { read = p.read; taken = p.taken; ends = p.ends; read_waits = p.read_waits + 1; write_waits = p.write_waits; faults = p.faults },
+    record { read = p.read; taken = p.taken; ends = p.ends; read_waits = p.read_waits + 1; write_waits = p.write_waits; faults = p.faults; reads = p.reads; writes = p.writes },
     f.1 p b,
     record { read = sym (append-nil p.read); out = sym (append-nil p.taken); write_waits = omega arith; ends = omega arith; read_waits = omega arith; faults = omega arith },
     record { waits = λ e. inr (omega arith); closed = λ e. cc; device = λ e. cc },
@@ -218,7 +218,7 @@ pub head_ended : (old mid new : SourceSide) (P Q : Past → Type 0) → ((read :
 head_ended old mid new P Q a m f same j = record {
   delta = [];
   wire = λ p b. (
-    record { read = p.read; taken = p.taken; ends = p.ends + 1; read_waits = p.read_waits; write_waits = p.write_waits; faults = p.faults },
+    record { read = p.read; taken = p.taken; ends = p.ends + 1; read_waits = p.read_waits; write_waits = p.write_waits; faults = p.faults; reads = p.reads; writes = p.writes },
     f.1 p b,
     record { read = sym (append-nil p.read); out = sym (append-nil p.taken); write_waits = omega arith; ends = omega arith; read_waits = omega arith; faults = omega arith },
     record { waits = λ e. cc; closed = λ e. omega arith; device = λ e. cc },
@@ -232,7 +232,7 @@ pub head_failed : (old mid new : SourceSide) (P Q : Past → Type 0) → ((read 
 head_failed old mid new P Q a m f same j = record {
   delta = [];
   wire = λ p b. (
-    record { read = p.read; taken = p.taken; ends = p.ends; read_waits = p.read_waits; write_waits = p.write_waits; faults = p.faults + 1 },
+    record { read = p.read; taken = p.taken; ends = p.ends; read_waits = p.read_waits; write_waits = p.write_waits; faults = p.faults + 1; reads = p.reads; writes = p.writes },
     f.1 p b,
     record { read = sym (append-nil p.read); out = sym (append-nil p.taken); write_waits = omega arith; ends = omega arith; read_waits = omega arith; faults = omega arith },
     record { waits = λ e. cc; closed = λ e. cc; device = λ e. omega arith },

@@ -111,7 +111,7 @@ turn_bytes room old mid new P Q out t m f h l w =
     record {
       delta = f.0;
       wire = λ p b. (
-        record { read = p.read ++ f.0; taken = p.taken; ends = p.ends; read_waits = p.read_waits; write_waits = p.write_waits; faults = p.faults },
+        record { read = p.read ++ f.0; taken = p.taken; ends = p.ends; read_waits = p.read_waits; write_waits = p.write_waits; faults = p.faults; reads = p.reads + 1; writes = p.writes },
         f.3 p b,
         record { read = refl; out = sym (append-nil p.taken); write_waits = omega arith; ends = omega arith; read_waits = omega arith; faults = omega arith },
         reasons_ok p _ old.fault (Rests room new) t w,
@@ -131,7 +131,7 @@ turn_bytes_refused room old mid new P Q out fault m e f r =
     record {
       delta = f.0;
       wire = λ p b. (
-        record { read = p.read ++ f.0; taken = p.taken; ends = p.ends; read_waits = p.read_waits; write_waits = p.write_waits; faults = p.faults },
+        record { read = p.read ++ f.0; taken = p.taken; ends = p.ends; read_waits = p.read_waits; write_waits = p.write_waits; faults = p.faults; reads = p.reads + 1; writes = p.writes },
         f.3 p b,
         record { read = refl; out = sym (append-nil p.taken); write_waits = omega arith; ends = omega arith; read_waits = omega arith; faults = omega arith },
         reasons_refused p _ old.fault (Rests room new) fault mid.body mid.raw.items r,
@@ -151,7 +151,7 @@ turn_waited room old new P Q out t m empty f none w =
     record {
       delta = [];
       wire = λ p b. (
-        record { read = p.read; taken = p.taken; ends = p.ends; read_waits = p.read_waits + 1; write_waits = p.write_waits; faults = p.faults },
+        record { read = p.read; taken = p.taken; ends = p.ends; read_waits = p.read_waits + 1; write_waits = p.write_waits; faults = p.faults; reads = p.reads; writes = p.writes },
         f.1 p b,
         record { read = sym (append-nil p.read); out = sym (append-nil p.taken); write_waits = omega arith; ends = omega arith; read_waits = omega arith; faults = omega arith },
         record { device = λ e n. cc; closed = λ e n. cc; waiting = λ i. inr (omega arith) },
@@ -171,7 +171,7 @@ turn_end room old new P Q out t m f b zero some w =
     record {
       delta = [];
       wire = λ p a. (
-        record { read = p.read; taken = p.taken; ends = p.ends + 1; read_waits = p.read_waits; write_waits = p.write_waits; faults = p.faults },
+        record { read = p.read; taken = p.taken; ends = p.ends + 1; read_waits = p.read_waits; write_waits = p.write_waits; faults = p.faults; reads = p.reads; writes = p.writes },
         f.1 p a,
         record { read = sym (append-nil p.read); out = sym (append-nil p.taken); write_waits = omega arith; ends = omega arith; read_waits = omega arith; faults = omega arith },
         reasons_ok p _ old.fault (Rests room new) t w,
@@ -195,7 +195,7 @@ turn_ended room old new P Q out fault m empty f r =
     record {
       delta = [];
       wire = λ p a. (
-        record { read = p.read; taken = p.taken; ends = p.ends + 1; read_waits = p.read_waits; write_waits = p.write_waits; faults = p.faults },
+        record { read = p.read; taken = p.taken; ends = p.ends + 1; read_waits = p.read_waits; write_waits = p.write_waits; faults = p.faults; reads = p.reads; writes = p.writes },
         f.1 p a,
         record { read = sym (append-nil p.read); out = sym (append-nil p.taken); write_waits = omega arith; ends = omega arith; read_waits = omega arith; faults = omega arith },
         record { device = λ e n. (let is : fault ≡ Device = cc in absurd (not_device is)); closed = λ e n. omega arith; waiting = λ i. cc },
@@ -212,7 +212,7 @@ pub turn_failed : (room : ℕ) (old new : SourceSide) (P Q : Past → Type 0) (o
 turn_failed room old new P Q out m f = record {
   delta = [];
   wire = λ p a. (
-    record { read = p.read; taken = p.taken; ends = p.ends; read_waits = p.read_waits; write_waits = p.write_waits; faults = p.faults + 1 },
+    record { read = p.read; taken = p.taken; ends = p.ends; read_waits = p.read_waits; write_waits = p.write_waits; faults = p.faults + 1; reads = p.reads; writes = p.writes },
     f.1 p a,
     record { read = sym (append-nil p.read); out = sym (append-nil p.taken); write_waits = omega arith; ends = omega arith; read_waits = omega arith; faults = omega arith },
     record { device = λ e n. omega arith; closed = λ e n. cc; waiting = λ i. cc },

@@ -101,14 +101,14 @@ Rests room s = (s.body.ended ≡ true) ⊎ (room ≡ 0)
 
 -- after a read that gave these bytes, on a wire that may have had each of these pasts
 abbrev pub Gave : (Past → Type 0) → (Past → Type 0) → List ℕ → Type 0
-Gave before after delta = (p : Past) → before p → after (record { read = p.read ++ delta; taken = p.taken; ends = p.ends; read_waits = p.read_waits; write_waits = p.write_waits; faults = p.faults })
+Gave before after delta = (p : Past) → before p → after (record { read = p.read ++ delta; taken = p.taken; ends = p.ends; read_waits = p.read_waits; write_waits = p.write_waits; faults = p.faults; reads = p.reads + 1; writes = p.writes })
 
 -- bytes came behind the raw ones, or none, with the wire's reason
 abbrev pub IsFilled : (Past → Type 0) → (Past → Type 0) → List ℕ → List ℕ → Filled → Type 0
 IsFilled before after old new filled.Bytes = (delta : List ℕ) × (0 < length delta) × (new ≡ old ++ delta) × Gave before after delta
-IsFilled before after old new filled.Ended = (new ≡ old) × ((p : Past) → before p → after (record { read = p.read; taken = p.taken; ends = p.ends + 1; read_waits = p.read_waits; write_waits = p.write_waits; faults = p.faults }))
-IsFilled before after old new filled.Wait = (new ≡ old) × ((p : Past) → before p → after (record { read = p.read; taken = p.taken; ends = p.ends; read_waits = p.read_waits + 1; write_waits = p.write_waits; faults = p.faults }))
-IsFilled before after old new filled.Failed = (new ≡ old) × ((p : Past) → before p → after (record { read = p.read; taken = p.taken; ends = p.ends; read_waits = p.read_waits; write_waits = p.write_waits; faults = p.faults + 1 }))
+IsFilled before after old new filled.Ended = (new ≡ old) × ((p : Past) → before p → after (record { read = p.read; taken = p.taken; ends = p.ends + 1; read_waits = p.read_waits; write_waits = p.write_waits; faults = p.faults; reads = p.reads; writes = p.writes }))
+IsFilled before after old new filled.Wait = (new ≡ old) × ((p : Past) → before p → after (record { read = p.read; taken = p.taken; ends = p.ends; read_waits = p.read_waits + 1; write_waits = p.write_waits; faults = p.faults; reads = p.reads; writes = p.writes }))
+IsFilled before after old new filled.Failed = (new ≡ old) × ((p : Past) → before p → after (record { read = p.read; taken = p.taken; ends = p.ends; read_waits = p.read_waits; write_waits = p.write_waits; faults = p.faults + 1; reads = p.reads; writes = p.writes }))
 IsFilled before after old new filled.NoMemory = (new ≡ old) × ((p : Past) → before p → after p)
 
 -- ---- a turn of a side without a fault

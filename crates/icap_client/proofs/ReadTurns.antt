@@ -52,7 +52,7 @@ none_read P = record { each = λ p b. b; fits = refl }
 bytes_read : (P Q : Past → Type 0) (given : List ℕ) → 0 < length given → Gave P Q given → Reads P Q given (Some (got.Bytes (length given)))
 bytes_read P Q given some g = record {
   each = λ p b.
-      subst (λ (t : List ℕ). Q (record { read = p.read ++ t; taken = p.taken; ends = p.ends; read_waits = p.read_waits; write_waits = p.write_waits; faults = p.faults })) (sym (take-length given)) (g p b);
+      subst (λ (t : List ℕ). Q (record { read = p.read ++ t; taken = p.taken; ends = p.ends; read_waits = p.read_waits; write_waits = p.write_waits; faults = p.faults; reads = p.reads + 1; writes = p.writes })) (sym (take-length given)) (g p b);
   fits = (refl, some);
 }
 

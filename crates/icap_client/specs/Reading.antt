@@ -67,14 +67,14 @@ MayRead x all_sent = (is_preview x.plan.kind ≡ false) ⊎ ((x.continued ≡ tr
 
 -- after a read that gave these bytes, on a wire that may have had each of these pasts
 abbrev pub Gave : (Past → Type 0) → (Past → Type 0) → List ℕ → Type 0
-Gave before after given = (p : Past) → before p → after (record { read = p.read ++ given; taken = p.taken; ends = p.ends; read_waits = p.read_waits; write_waits = p.write_waits; faults = p.faults })
+Gave before after given = (p : Past) → before p → after (record { read = p.read ++ given; taken = p.taken; ends = p.ends; read_waits = p.read_waits; write_waits = p.write_waits; faults = p.faults; reads = p.reads + 1; writes = p.writes })
 
 -- bytes came behind the raw ones, or none, with the wire's reason
 abbrev pub IsFilled : (Past → Type 0) → (Past → Type 0) → List ℕ → List ℕ → Filled → Type 0
 IsFilled before after old new filled.Bytes = (given : List ℕ) × (0 < length given) × (new ≡ old ++ given) × Gave before after given
-IsFilled before after old new filled.Ended = (new ≡ old) × ((p : Past) → before p → after (record { read = p.read; taken = p.taken; ends = p.ends + 1; read_waits = p.read_waits; write_waits = p.write_waits; faults = p.faults }))
-IsFilled before after old new filled.Wait = (new ≡ old) × ((p : Past) → before p → after (record { read = p.read; taken = p.taken; ends = p.ends; read_waits = p.read_waits + 1; write_waits = p.write_waits; faults = p.faults }))
-IsFilled before after old new filled.Failed = (new ≡ old) × ((p : Past) → before p → after (record { read = p.read; taken = p.taken; ends = p.ends; read_waits = p.read_waits; write_waits = p.write_waits; faults = p.faults + 1 }))
+IsFilled before after old new filled.Ended = (new ≡ old) × ((p : Past) → before p → after (record { read = p.read; taken = p.taken; ends = p.ends + 1; read_waits = p.read_waits; write_waits = p.write_waits; faults = p.faults; reads = p.reads; writes = p.writes }))
+IsFilled before after old new filled.Wait = (new ≡ old) × ((p : Past) → before p → after (record { read = p.read; taken = p.taken; ends = p.ends; read_waits = p.read_waits + 1; write_waits = p.write_waits; faults = p.faults; reads = p.reads; writes = p.writes }))
+IsFilled before after old new filled.Failed = (new ≡ old) × ((p : Past) → before p → after (record { read = p.read; taken = p.taken; ends = p.ends; read_waits = p.read_waits; write_waits = p.write_waits; faults = p.faults + 1; reads = p.reads; writes = p.writes }))
 IsFilled before after old new filled.NoMemory = (new ≡ old) × ((p : Past) → before p → after p)
 
 -- One read at most: after an answer that gave these bytes, or after none.

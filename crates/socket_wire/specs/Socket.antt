@@ -11,3 +11,5 @@ pub record IsPast (wire : SocketWire) (p : Past) : Type 0 where
   pub read_waits : Counts wire.read_waits p.read_waits
   pub write_waits : Counts wire.write_waits p.write_waits
   pub faults : Counts wire.faults p.faults
+  pub reads : Counts wire.reads p.reads
+  pub writes : Counts wire.writes p.writes

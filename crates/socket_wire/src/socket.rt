@@ -54,6 +54,8 @@ pub struct SocketWire {
     read_waits: u64,
     write_waits: u64,
     faults: u64,
+    reads: u64,
+    writes: u64,
 }
 
 impl SocketWire {
@@ -70,6 +72,8 @@ impl SocketWire {
             read_waits: 0,
             write_waits: 0,
             faults: 0,
+            reads: 0,
+            writes: 0,
         }
     }
 
@@ -109,6 +113,8 @@ impl SocketWire {
             read_waits: _,
             write_waits: _,
             faults: _,
+            reads: _,
+            writes: _,
         } = self;
         stream
     }
@@ -144,6 +150,7 @@ impl Wire for SocketWire {
             }
             Ok(n) => {
                 self.read += n as u64;
+                self.reads = self.reads.saturating_add(1);
 
                 // A short read is the last one, unless an end stands behind it.
                 if n < buf.len() && !self.ready.is_closed() {
@@ -172,6 +179,7 @@ impl Wire for SocketWire {
             Ok(0) => self.wait_to_write(),
             Ok(n) => {
                 self.taken += n as u64;
+                self.writes = self.writes.saturating_add(1);
                 if n < bytes.len() {
                     self.ready.filled();
                 }

@@ -18,6 +18,8 @@ pub record StreamPast (s : Stream) (p : Past) : Type 0 where
   pub read_waits : Counts s.read_waits p.read_waits
   pub write_waits : Counts s.write_waits p.write_waits
   pub faults : Counts s.faults p.faults
+  pub reads : Counts s.reads p.reads
+  pub writes : Counts s.writes p.writes
 
 -- a memory wire's past is its stream's
 abbrev pub IsPast : MemoryWire → Past → Type 0

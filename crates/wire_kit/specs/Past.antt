@@ -1,11 +1,12 @@
--- What has happened on a wire: the bytes that it gave and took, and how often it answered otherwise.
+-- What has happened on a wire: the bytes that it gave and took, and how often it gave each answer.
 use Rattle.std.specs.Prelude.{◌≡◌, ℕ, ◌+◌, ◌≤◌, ⊤, List, [], ◌++◌, take, length, Option, Some, None, IfSome}
 use Rattle.wire_kit.specs.declared.wire.Got.{Got}
 use Rattle.wire_kit.specs.declared.wire.Got.TheVariants as got
 use Rattle.wire_kit.specs.declared.wire.Put.{Put}
 use Rattle.wire_kit.specs.declared.wire.Put.TheVariants as put
 
--- the bytes read and taken so far, and how often the wire answered that the other side has ended, Wait and Fault
+-- the bytes read and taken so far; how often the wire answered that the other side has ended, Wait and Fault; and in how
+-- many reads and writes the bytes went over
 pub record Past : Type 0 where
   pub read : List ℕ
   pub taken : List ℕ
@@ -13,10 +14,12 @@ pub record Past : Type 0 where
   pub read_waits : ℕ
   pub write_waits : ℕ
   pub faults : ℕ
+  pub reads : ℕ
+  pub writes : ℕ
 
 -- before the first call
 abbrev pub nothing_yet : Past
-nothing_yet = record { read = []; taken = []; ends = 0; read_waits = 0; write_waits = 0; faults = 0 }
+nothing_yet = record { read = []; taken = []; ends = 0; read_waits = 0; write_waits = 0; faults = 0; reads = 0; writes = 0 }
 
 -- what a read gave: from 1 to as many bytes as there is room for
 abbrev pub Fits : ℕ → Got → Type 0
@@ -30,16 +33,16 @@ FitsPut len _ = ⊤
 
 -- after a read that left these bytes in its buffer
 abbrev pub after_read : Past → List ℕ → Got → Past
-after_read p buf (got.Bytes n) = record { read = p.read ++ take n buf; taken = p.taken; ends = p.ends; read_waits = p.read_waits; write_waits = p.write_waits; faults = p.faults }
-after_read p buf got.Ended = record { read = p.read; taken = p.taken; ends = p.ends + 1; read_waits = p.read_waits; write_waits = p.write_waits; faults = p.faults }
-after_read p buf got.Wait = record { read = p.read; taken = p.taken; ends = p.ends; read_waits = p.read_waits + 1; write_waits = p.write_waits; faults = p.faults }
-after_read p buf got.Fault = record { read = p.read; taken = p.taken; ends = p.ends; read_waits = p.read_waits; write_waits = p.write_waits; faults = p.faults + 1 }
+after_read p buf (got.Bytes n) = record { read = p.read ++ take n buf; taken = p.taken; ends = p.ends; read_waits = p.read_waits; write_waits = p.write_waits; faults = p.faults; reads = p.reads + 1; writes = p.writes }
+after_read p buf got.Ended = record { read = p.read; taken = p.taken; ends = p.ends + 1; read_waits = p.read_waits; write_waits = p.write_waits; faults = p.faults; reads = p.reads; writes = p.writes }
+after_read p buf got.Wait = record { read = p.read; taken = p.taken; ends = p.ends; read_waits = p.read_waits + 1; write_waits = p.write_waits; faults = p.faults; reads = p.reads; writes = p.writes }
+after_read p buf got.Fault = record { read = p.read; taken = p.taken; ends = p.ends; read_waits = p.read_waits; write_waits = p.write_waits; faults = p.faults + 1; reads = p.reads; writes = p.writes }
 
 -- after these bytes were offered
 abbrev pub after_write : Past → List ℕ → Put → Past
-after_write p bytes (put.Took n) = record { read = p.read; taken = p.taken ++ take n bytes; ends = p.ends; read_waits = p.read_waits; write_waits = p.write_waits; faults = p.faults }
-after_write p bytes put.Wait = record { read = p.read; taken = p.taken; ends = p.ends; read_waits = p.read_waits; write_waits = p.write_waits + 1; faults = p.faults }
-after_write p bytes put.Fault = record { read = p.read; taken = p.taken; ends = p.ends; read_waits = p.read_waits; write_waits = p.write_waits; faults = p.faults + 1 }
+after_write p bytes (put.Took n) = record { read = p.read; taken = p.taken ++ take n bytes; ends = p.ends; read_waits = p.read_waits; write_waits = p.write_waits; faults = p.faults; reads = p.reads; writes = p.writes + 1 }
+after_write p bytes put.Wait = record { read = p.read; taken = p.taken; ends = p.ends; read_waits = p.read_waits; write_waits = p.write_waits + 1; faults = p.faults; reads = p.reads; writes = p.writes }
+after_write p bytes put.Fault = record { read = p.read; taken = p.taken; ends = p.ends; read_waits = p.read_waits; write_waits = p.write_waits; faults = p.faults + 1; reads = p.reads; writes = p.writes }
 
 -- the part of the offered bytes that was taken
 abbrev pub part_taken : Put → List ℕ → List ℕ

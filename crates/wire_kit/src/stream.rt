@@ -25,7 +25,8 @@ pub enum WriteAnswer {
     Fault,
 }
 
-/// The bytes that are given, how many of them were read, the bytes that were taken, and how often it was otherwise.
+/// The bytes that are given, how many of them were read, the bytes that were taken, and how often each answer
+/// came.
 #[derive(Drop)]
 pub(crate) struct Stream {
     input: Vec<u8>,
@@ -35,6 +36,8 @@ pub(crate) struct Stream {
     read_waits: u64,
     write_waits: u64,
     faults: u64,
+    reads: u64,
+    writes: u64,
     ghost read_in: { read_len ≤ length input.items },
 }
 
@@ -54,6 +57,8 @@ impl Stream {
             read_waits: 0,
             write_waits: 0,
             faults: 0,
+            reads: 0,
+            writes: 0,
         })
     }
 
@@ -86,6 +91,7 @@ impl Stream {
                 }
                 n => {
                     self.read_len += n;
+                    self.reads = self.reads.saturating_add(1);
                     Got::Bytes(n)
                 }
             },
@@ -116,7 +122,10 @@ impl Stream {
                     self.write_waits = self.write_waits.saturating_add(1);
                     Put::Wait
                 }
-                n => Put::Took(n),
+                n => {
+                    self.writes = self.writes.saturating_add(1);
+                    Put::Took(n)
+                }
             },
             WriteAnswer::Wait => {
                 self.write_waits = self.write_waits.saturating_add(1);

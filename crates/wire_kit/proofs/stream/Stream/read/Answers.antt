@@ -1,4 +1,4 @@
-use Rattle.std.proofs.Common.{◌≡◌, ◌++◌, ap, sym, ◌∙◌, take, drop, List, ℕ}
+use Rattle.std.proofs.Common.{arith, ◌≡◌, ◌++◌, ap, sym, ◌∙◌, take, drop, List, ℕ}
 use Rattle.std.proofs.lemmas.List.{take_rest}
 use Rattle.wire_kit.proofs.Pieces.{one_more_piece}
 use Rattle.wire_kit.proofs.stream.Stream.read.Goals as goal
@@ -13,4 +13,6 @@ returns-in_default-clause-past c p h =
       read_waits = h.read_waits;
       write_waits = h.write_waits;
       faults = h.faults;
+      reads = λ b. let v = c.saturating_add-self-in_default.ensures in let e = h.reads in omega arith;
+      writes = h.writes;
     }
