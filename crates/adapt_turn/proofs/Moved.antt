@@ -1,5 +1,5 @@
 -- How many bytes went over the wires.
-use Rattle.std.proofs.Common.{◌≡◌, ℕ, ◌+◌, ◌-◌, ◌^◌, length, Option, Some, None, arith, refl, sym, ◌∙◌, ap, subst}
+use Rattle.std.proofs.Common.{◌≡◌, ℕ, zero, suc, ◌+◌, ◌-◌, ◌<◌, ◌^◌, ◌⊎◌, inl, inr, length, Option, Some, None, arith, refl, sym, ◌∙◌, ap, subst}
 use Rattle.std.specs.Prelude.{MatchOption, min}
 use Rattle.wire_kit.specs.Past.{Past}
 use Rattle.adapt_turn.specs.Moved.{MovesOver, SumsBytes, AreCounts, counted}
@@ -72,3 +72,8 @@ moves_none {A} {C} {L} on_source on_line on_next a a' line line' x x' c0 c1 c2 n
       next_is = same_over (on_next x) c2 f2;
       sum = e;
     })))
+
+-- the moment stays, or a byte moved
+pub refreshed_by : (n : ℕ) (now before : ℕ) (moves : ℕ → Type 0) → (n ≡ 0 → now ≡ before) → moves n → (now ≡ before) ⊎ ((k : ℕ) × (0 < k) × moves k)
+refreshed_by zero now before moves same m = inl (same refl)
+refreshed_by (suc n) now before moves same m = inr (suc n, omega arith, m)

@@ -279,6 +279,7 @@ took_part {F} broken own h k test turn out given taken delta f0 f1 rests waits b
       runs = runs;
       is = is;
       quiet = λ cause n. cc;
+      blamed = λ cause n. cc;
       tells = record {
         idle = λ w. let i = says.idle w in (i.1, i.0, refl);
         active = λ w b d r n. false≢true (sym w ∙ says.waits turn refl r d);
@@ -306,6 +307,7 @@ failed_part {F} broken own h k test fault out given taken delta f0 f1 rests wait
       runs = fail_runs h (own fault) [] r c;
       is = is;
       quiet = λ cause n. refl;
+      blamed = λ cause n. (fault, stays, (let same : Some (own fault) ≡ Some cause = n in cc));
       tells = record { idle = λ n. absurd (false≢true n); active = λ w b d z n. cc };
     })
 
@@ -322,6 +324,7 @@ broken_part {F} broken own h k test fault given taken delta f0 f1 rests waits be
       runs = record { may = tt; carried = omega arith; room = tt; roomy = r };
       is = is;
       quiet = λ cause n. refl;
+      blamed = λ cause n. cc;
       tells = record { idle = λ n. absurd (false≢true n); active = λ w b d z n. absurd (false≢true (sym b)) };
     })
 

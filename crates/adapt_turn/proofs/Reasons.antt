@@ -3,6 +3,8 @@ use Rattle.std.proofs.Common.{◌≡◌, ℕ, ◌<◌, ◌≤◌, ◌⊎◌, inl
 use Rattle.std.specs.Prelude.{MatchOption, ⊤}
 use Rattle.trace_core.specs.declared.history.Event.{Event}
 use Rattle.trace_core.specs.declared.history.Cause.{Cause}
+use Rattle.trace_core.specs.declared.history.Event.TheVariants.{Retry}
+use Rattle.trace_core.specs.Legal.{MayFollow}
 use Rattle.wire_kit.specs.Past.{Past}
 use Rattle.adapt_sides.specs.declared.fault.ClientFault.{ClientFault}
 use Rattle.adapt_sides.specs.declared.fault.ClientFault.TheVariants as client
@@ -11,7 +13,7 @@ use Rattle.adapt_hold.specs.Steps.{moved_all}
 use Rattle.adapt_turn.specs.declared.parts.Passed.{Passed}
 use Rattle.adapt_turn.specs.declared.turned.Outcome.{Outcome}
 use Rattle.adapt_turn.specs.declared.turned.Outcome.TheVariants as outcomes
-use Rattle.adapt_turn.specs.Parts.{Part, stepped, outcome_by}
+use Rattle.adapt_turn.specs.Parts.{Breaks, Part, stepped, outcome_by}
 use Rattle.adapt_turn.specs.Stands.{Waited, WaitedBeside, WaitedBoth, Blamed, IsCauseOf}
 
 pub part_waits : {F : Type 0} (broken : F) (own : F → Cause) (h k : Holding) (test : Event → Bool) (reported : List Event) (out given taken delta : List ℕ) (f0 f1 : Option F) (rests : Type 0) (waits : Past → ℕ) (before after_ : Past → Type 0) (passed : Passed)
@@ -106,3 +108,13 @@ both_kept {L} w r past before l l' e t = subst (λ (y : Option L). WaitedBoth (M
 
 pub line_kept : {L : Type 0} (told : L → Type 0) (before : Past → Type 0) (l l' : Option L) → l' ≡ l → ((p : Past) → before p → MatchOption l ⊥ told) → (p : Past) → before p → MatchOption l' ⊥ told
 line_kept {L} told before l l' e t p b = subst (λ (y : Option L). MatchOption y ⊥ told) (sym e) (t p b)
+
+pub breaks_kept : {L : Type 0} (fault : L → Option ClientFault) (reused : Bool) (h h' : Holding) (l l' : Option L) → l' ≡ l → h' ≡ h
+    → MatchOption l ⊥ (λ z. Breaks h.history reused (fault z)) → MayFollow h'.history.plan h'.history.events Retry × MatchOption l' ⊥ (λ z. Breaks h'.history reused (fault z))
+breaks_kept {L} fault reused h h' l l' e f b =
+    subst (λ (k : Holding). MayFollow k.history.plan k.history.events Retry × MatchOption l' ⊥ (λ z. Breaks k.history reused (fault z))) (sym f)
+    (subst (λ (y : Option L). MayFollow h.history.plan h.history.events Retry × MatchOption y ⊥ (λ z. Breaks h.history reused (fault z))) (sym e) (may_of l b, b))
+  where
+    may_of : (line : Option L) → MatchOption line ⊥ (λ z. Breaks h.history reused (fault z)) → MayFollow h.history.plan h.history.events Retry
+    may_of None w = absurd w
+    may_of (Some z) w = w.may

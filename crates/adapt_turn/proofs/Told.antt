@@ -6,6 +6,7 @@ use Rattle.trace_core.specs.declared.history.Plan.{Plan}
 use Rattle.trace_core.specs.declared.history.Event.{Event}
 use Rattle.trace_core.specs.declared.history.Event.TheVariants.{Done, Fail}
 use Rattle.trace_core.specs.declared.history.Cause.{Cause}
+use Rattle.trace_core.specs.declared.history.Cause.TheVariants.{Deadline}
 use Rattle.trace_core.specs.History.{History, seen, is_close}
 use Rattle.trace_core.specs.Norm.{norm}
 use Rattle.trace_core.specs.View.{after}
@@ -128,3 +129,9 @@ failed_over history outcome cause e f = over_of history.plan history.events caus
 pub same_moment : (new old : ℕ) → (new ≡ old) ⊎ (new ≡ old) → new ≡ old
 same_moment new old (inl e) = e
 same_moment new old (inr e) = e
+
+-- a schedule that ended by the deadline did so at its first turn, or at a later one
+pub timely_then : (closed : Bool) (seconds : ℕ) (mid new : Outcome) → (mid ≡ outcomes.Fail Deadline → seconds ≡ 0) → (closed ≡ true → new ≡ mid) → (closed ≡ false → seconds ≡ 0)
+    → new ≡ outcomes.Fail Deadline → seconds ≡ 0
+timely_then true seconds mid new first same later e = first (sym (same refl) ∙ e)
+timely_then false seconds mid new first same later e = later refl

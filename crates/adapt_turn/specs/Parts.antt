@@ -1,10 +1,12 @@
 -- What the pass of one side does to a transaction.
-use Rattle.std.specs.Prelude.{◌≡◌, ℕ, ◌<◌, ◌⊎◌, Bool, true, false, List, [], ◌∷◌, ◌++◌, take, Option, Some, None}
+use Rattle.std.specs.Prelude.{◌≡◌, ℕ, ◌<◌, ◌⊎◌, ⊤, Bool, true, false, List, [], ◌∷◌, ◌++◌, take, Option, Some, None}
 use Rattle.trace_core.specs.declared.history.Event.{Event}
-use Rattle.trace_core.specs.declared.history.Event.TheVariants.{Fail}
+use Rattle.trace_core.specs.declared.history.Event.TheVariants.{Fail, Retry}
 use Rattle.trace_core.specs.declared.history.Cause.{Cause}
 use Rattle.trace_core.specs.declared.history.Cause.TheVariants as causes
 use Rattle.trace_core.specs.declared.history.Seen.{Seen}
+use Rattle.trace_core.specs.History.{History}
+use Rattle.trace_core.specs.Legal.{MayFollow}
 use Rattle.trace_core.specs.Turns.{after_all, AllAre, in_sum, ad_sum, is_of_source, is_of_sending, is_of_replies, is_of_hop}
 use Rattle.wire_kit.specs.Past.{Past, IsLater}
 use Rattle.adapt_sides.specs.declared.fault.ClientFault.{ClientFault}
@@ -34,6 +36,18 @@ abbrev pub hop_cause : RelayFault → Cause
 hop_cause relay.NoMemory = causes.Memory
 hop_cause relay.Length = causes.Service
 hop_cause _ = causes.NextHop
+
+-- a cause that lies with a side, or with memory: neither the deadline nor a stop
+abbrev pub IsOfSide : Cause → Type 0
+IsOfSide causes.Deadline = ⊥
+IsOfSide causes.Stopping = ⊥
+IsOfSide _ = ⊤
+
+-- The service's connection broke where the request may begin anew: it was used before, and ended or failed.
+pub record Breaks (history : History) (reused : Bool) (fault : Option ClientFault) : Type 0 where
+  pub used : reused ≡ true
+  pub broke : (fault ≡ Some client.Closed) ⊎ (fault ≡ Some client.Device)
+  pub may : MayFollow history.plan history.events Retry
 
 -- how a transaction ends that this failed, if anything did
 abbrev pub outcome_by : Option Cause → Outcome
@@ -69,6 +83,7 @@ pub record Part {F : Type 0} (broken : F) (own : F → Cause) (old new : Holding
   pub runs : MayRun old (stepped passed.failed reported) out
   pub is : new ≡ moved_all old (stepped passed.failed reported) out
   pub quiet : (cause : Cause) → passed.failed ≡ Some cause → reported ≡ []
+  pub blamed : (cause : Cause) → passed.failed ≡ Some cause → (fault : F) × (new_fault ≡ Some fault) × (cause ≡ own fault)
   pub tells : Tells delta reported passed
 
 -- the source's wire gave these bytes

@@ -2,12 +2,11 @@
 
 ghost use Rattle.std.specs.Prelude.{◌≡◌, ℕ, ◌≤◌, ◌⊎◌, true, false, List, [], length, Some, None};
 ghost use Rattle.trace_core.specs.declared.history.Seen.{Seen};
-ghost use Rattle.trace_core.specs.declared.history.Event.TheVariants.{Fail, Retry};
-ghost use Rattle.trace_core.specs.Legal.{MayFollow};
+ghost use Rattle.trace_core.specs.declared.history.Event.TheVariants.{Fail};
 ghost use Rattle.plan_rules.specs.Room.{original_room, adapted_room};
 ghost use Rattle.adapt_hold.specs.Spans.{span_of};
 ghost use Rattle.adapt_hold.specs.Holding.{shows, moved, IsRoomy, IsTied};
-ghost use Rattle.adapt_turn.specs.Parts.{SourcePart, SendPart, HearPart, HopPart, source_cause, service_cause, hop_cause, outcome_by};
+ghost use Rattle.adapt_turn.specs.Parts.{Breaks, SourcePart, SendPart, HearPart, HopPart, source_cause, service_cause, hop_cause, outcome_by};
 ghost use Rattle.adapt_turn.specs.Stands.{IsChosen, chosen_span};
 
 use crate::turned::Outcome;
@@ -135,7 +134,7 @@ pub(crate) fn take_source<B: Ledgers, S: Source, A: Wire>(
 
 /// Whether the request may begin anew on a fresh connection, where this fault broke the one.
 fn may_begin_anew<B: Ledgers>(hold: &Hold<B>, fault: ClientFault, reused: bool) -> bool
-    ensures may { result ≡ true → MayFollow hold.now.history.plan hold.now.history.events Retry }
+    ensures may { result ≡ true → Breaks hold.now.history reused (Some fault) }
 {
     matches!(fault, ClientFault::Closed | ClientFault::Device)
         && reused
@@ -153,6 +152,7 @@ fn service_failed<B: Ledgers>(
     requires running { (shows hold.old.history).closed ≡ false }
     requires roomy { IsRoomy hold.old }
     ensures broken { result.broken ≡ true → (hold.new ≡ hold.old) × (result ≡ record { waiting = false; failed = None; broken = true }) }
+    ensures breaks { result.broken ≡ true → Breaks hold.new.history reused (Some fault) }
     ensures closed { result.broken ≡ false → (hold.new ≡ moved hold.old (Fail (service_cause fault)) []) × (result ≡ record { waiting = false; failed = Some (service_cause fault); broken = false }) }
     ensures roomy { IsRoomy hold.new }
 {
@@ -186,6 +186,7 @@ pub(crate) fn send<B: Ledgers, V: Service, W: Wire>(
     ensures response { V.is_response service.new ≡ V.is_response service.old }
     ensures roomy { IsRoomy hold.new }
     ensures whole { result.waiting ≡ true → result.broken ≡ false }
+    ensures breaks { result.broken ≡ true → Breaks hold.new.history reused (V.fault service.new) }
 {
     let state = hold.state();
     let tape = hold.original();
@@ -219,6 +220,7 @@ pub(crate) fn take_service<B: Ledgers, V: Service, W: Wire>(
     ensures head { (shows hold.old.history).modified ≡ true → V.adapted_head service.new ≡ V.adapted_head service.old }
     ensures response { (shows hold.old.history).modified ≡ true → V.is_response service.new ≡ V.is_response service.old }
     ensures roomy { IsRoomy hold.new }
+    ensures breaks { result.broken ≡ true → Breaks hold.new.history reused (V.fault service.new) }
 {
     let state = hold.state();
     match service.read_turn(state, wire, out) {

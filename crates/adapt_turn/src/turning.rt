@@ -4,7 +4,7 @@ ghost use Rattle.std.specs.Prelude.{◌≡◌, ℕ, true, false, List};
 ghost use Rattle.trace_core.specs.declared.history.Seen.{Seen};
 ghost use Rattle.plan_rules.specs.Room.{original_room, adapted_room};
 ghost use Rattle.adapt_hold.specs.Holding.{shows, IsRoomy};
-ghost use Rattle.adapt_turn.specs.Parts.{SourcePart, HearPart};
+ghost use Rattle.adapt_turn.specs.Parts.{Breaks, SourcePart, HearPart};
 
 use crate::parts::{Passed, take_service, take_source};
 use adapt_hold::Hold;
@@ -59,6 +59,7 @@ pub(crate) fn hear<B: Ledgers, V: Service, W: Wire>(
     ensures head { (shows hold.old.history).modified ≡ true → V.adapted_head service.new ≡ V.adapted_head service.old }
     ensures response { (shows hold.old.history).modified ≡ true → V.is_response service.new ≡ V.is_response service.old }
     ensures roomy { IsRoomy hold.new }
+    ensures breaks { result.broken ≡ true → Breaks hold.new.history reused (V.fault service.new) }
 {
     let _state = hold.state();
     let mut buf = [0; PASS_BYTES];

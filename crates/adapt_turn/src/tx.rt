@@ -141,6 +141,7 @@ impl<B: Ledgers, S: Source, V: Service, K: Hop, F: Forward<S, K>, A: Wire, W: Wi
         requires small { start.stake.claim ≤ 2 ^ 40 }
         ensures begun { IfOk result (λ tx. tx.hold.history ≡ record { plan = start.plan; events = [] }) }
         ensures clock { IfOk result (λ tx. (tx.last_moved ≡ start.now) × (tx.deadline ≡ start.deadline)) }
+        ensures line { IfOk result (λ tx. (tx.broken ≡ false) × (tx.reused ≡ start.reused)) }
         ensures stands { IfOk result (λ tx. (read : List ℕ) → S.has_read (seen start.plan []) [] read start.source
             → IfSome start.service (λ line. V.has_sent (seen start.plan []) [] [] line.side × V.has_heard (seen start.plan []) [] [] line.side)
             → K.gift start.next ≡ nothing → K.aside [] start.next → K.gift start.back ≡ nothing → K.aside [] start.back
@@ -186,7 +187,8 @@ impl<B: Ledgers, S: Source, V: Service, K: Hop, F: Forward<S, K>, A: Wire, W: Wi
 
     /// Whether the service's connection broke before a byte of a reply, and the request may begin anew on a fresh one.
     pub fn is_broken(&self) -> bool
-        ensures { result ≡ true → MayFollow self.now.hold.history.plan self.now.hold.history.events Retry }
+        ensures may { result ≡ true → MayFollow self.now.hold.history.plan self.now.hold.history.events Retry }
+        ensures told { result ≡ true → self.now.broken ≡ true }
     {
         self.broken && self.hold.state().may(Event::Retry)
     }

@@ -10,7 +10,7 @@ ghost use Rattle.adapt_sides.specs.Turns.{Gift};
 ghost use Rattle.adapt_sides.specs.Turns.Gift.{nothing};
 ghost use Rattle.adapt_hold.specs.Holding.{shows};
 ghost use Rattle.adapt_turn.specs.Made.{MakesNoneAt, adapted_of, response_of};
-ghost use Rattle.adapt_turn.specs.Parts.{source_cause, service_cause, hop_cause, outcome_by};
+ghost use Rattle.adapt_turn.specs.Parts.{Breaks, IsOfSide, source_cause, service_cause, hop_cause, outcome_by};
 ghost use Rattle.adapt_turn.specs.Stands.{IsChosen, Waited, WaitedBeside, WaitedBoth, Blamed, IsCauseOf};
 
 use crate::forward::Forward;
@@ -60,9 +60,12 @@ impl<B: Ledgers, S: Source, V: Service, K: Hop, F: Forward<S, K>, A: Wire, W: Wi
         ensures idle { result.waiting ≡ true → result.failed ≡ None }
         ensures waits { result.waiting ≡ true → Waited (S.rests (original_room (shows self.old.hold.history) self.old.hold.claim self.old.hold.limits.window) self.new.source) (λ past. past.read_waits) (A.past self.old.source_wire) (A.past self.new.source_wire) }
         ensures blames { (cause : Cause) → result.failed ≡ Some cause → (S.agrees (shows self.old.hold.history) self.old.source → Blamed Device source_cause cause (S.fault self.old.source) (S.fault self.new.source) (A.past self.old.source_wire) (A.past self.new.source_wire)) }
+        ensures of_side { (cause : Cause) → result.failed ≡ Some cause → IsOfSide cause }
+        ensures whole { result.broken ≡ false }
         ensures outcome { self.new.outcome ≡ outcome_by result.failed }
         ensures served { self.old.service ≡ None → self.new.service ≡ None }
         ensures timed { (self.new.last_moved ≡ self.old.last_moved) × (self.new.deadline ≡ self.old.deadline) }
+        ensures marked { (self.new.broken ≡ self.old.broken) × (self.new.reused ≡ self.old.reused) }
     {
         let state = self.hold.state();
         if self.source.agrees_with(state) {
@@ -93,9 +96,12 @@ impl<B: Ledgers, S: Source, V: Service, K: Hop, F: Forward<S, K>, A: Wire, W: Wi
             (λ p. MatchOption self.old.service ⊥ (λ line. W.past line.wire p)) (λ p. MatchOption self.new.service ⊥ (λ line. W.past line.wire p)) }
         ensures blames { (cause : Cause) → result.failed ≡ Some cause → ((p : Past) → MatchOption self.old.service ⊥ (λ line. W.past line.wire p) → MatchOption self.new.service ⊥ (λ line. IsCauseOf service_cause cause (V.fault line.side))) }
         ensures whole { result.waiting ≡ true → result.broken ≡ false }
+        ensures of_side { (cause : Cause) → result.failed ≡ Some cause → IsOfSide cause }
+        ensures breaks { result.broken ≡ true → MatchOption self.new.service ⊥ (λ line. Breaks self.new.hold.history self.old.reused (V.fault line.side)) }
         ensures outcome { self.new.outcome ≡ outcome_by result.failed }
         ensures served { self.old.service ≡ None → self.new.service ≡ None }
         ensures timed { (self.new.last_moved ≡ self.old.last_moved) × (self.new.deadline ≡ self.old.deadline) }
+        ensures marked { (self.new.broken ≡ self.old.broken) × (self.new.reused ≡ self.old.reused) }
     {
         let _state = self.hold.state();
         let reused = self.reused;
@@ -126,9 +132,12 @@ impl<B: Ledgers, S: Source, V: Service, K: Hop, F: Forward<S, K>, A: Wire, W: Wi
             (λ p. MatchOption self.old.service ⊥ (λ line. W.past line.wire p)) (λ p. MatchOption self.new.service ⊥ (λ line. W.past line.wire p)) }
         ensures rests { (x : Seen) → MatchOption self.old.service ⊤ (λ line. V.rests_writing x line.side) → MatchOption self.new.service ⊤ (λ line. V.rests_writing x line.side) }
         ensures blames { (cause : Cause) → result.failed ≡ Some cause → ((p : Past) → MatchOption self.old.service ⊥ (λ line. W.past line.wire p) → MatchOption self.new.service ⊥ (λ line. IsCauseOf service_cause cause (V.fault line.side))) }
+        ensures of_side { (cause : Cause) → result.failed ≡ Some cause → IsOfSide cause }
+        ensures breaks { result.broken ≡ true → MatchOption self.new.service ⊥ (λ line. Breaks self.new.hold.history self.old.reused (V.fault line.side)) }
         ensures outcome { self.new.outcome ≡ outcome_by result.failed }
         ensures served { self.old.service ≡ None → self.new.service ≡ None }
         ensures timed { (self.new.last_moved ≡ self.old.last_moved) × (self.new.deadline ≡ self.old.deadline) }
+        ensures marked { (self.new.broken ≡ self.old.broken) × (self.new.reused ≡ self.old.reused) }
     {
         let _state = self.hold.state();
         let reused = self.reused;
@@ -158,9 +167,12 @@ impl<B: Ledgers, S: Source, V: Service, K: Hop, F: Forward<S, K>, A: Wire, W: Wi
         ensures waits { result.waiting ≡ true → WaitedBoth (MatchOption self.new.service ⊤ (λ line. V.rests_writing (shows self.old.hold.history) line.side)) (MatchOption self.new.service ⊤ (λ line. V.rests_reading (shows self.old.hold.history) (adapted_room (shows self.old.hold.history) self.old.hold.limits.window) line.side))
             (λ p. MatchOption self.old.service ⊥ (λ line. W.past line.wire p)) (λ p. MatchOption self.new.service ⊥ (λ line. W.past line.wire p)) }
         ensures blames { (cause : Cause) → result.failed ≡ Some cause → ((p : Past) → MatchOption self.old.service ⊥ (λ line. W.past line.wire p) → MatchOption self.new.service ⊥ (λ line. IsCauseOf service_cause cause (V.fault line.side))) }
+        ensures of_side { (cause : Cause) → result.failed ≡ Some cause → IsOfSide cause }
+        ensures breaks { result.broken ≡ true → MatchOption self.new.service ⊥ (λ line. Breaks self.new.hold.history self.old.reused (V.fault line.side)) }
         ensures outcome { self.new.outcome ≡ outcome_by result.failed }
         ensures served { self.old.service ≡ None → self.new.service ≡ None }
         ensures timed { (self.new.last_moved ≡ self.old.last_moved) × (self.new.deadline ≡ self.old.deadline) }
+        ensures marked { (self.new.broken ≡ self.old.broken) × (self.new.reused ≡ self.old.reused) }
     {
         let sent = self.send_pass(rt, bank);
         if sent.broken {
@@ -193,9 +205,12 @@ impl<B: Ledgers, S: Source, V: Service, K: Hop, F: Forward<S, K>, A: Wire, W: Wi
         ensures blames_next { side ≡ Side.NextHop → (cause : Cause) → result.failed ≡ Some cause → ((K.gift self.old.next ≡ nothing) × (K.gift self.old.back ≡ nothing)
             × MakesNoneAt (F.makes_none self.old.forward (S.head self.old.source)) (adapted_of V.adapted_head self.old.service) (response_of V.is_response self.old.service) (shows self.old.hold.history) cause) ⊎ (Blamed Device hop_cause cause (K.fault self.old.next) (K.fault self.new.next) (C.past self.old.next_wire) (C.past self.new.next_wire)
             ⊎ Blamed Device hop_cause cause (K.fault self.old.back) (K.fault self.new.back) (A.past self.old.source_wire) (A.past self.new.source_wire)) }
+        ensures of_side { (cause : Cause) → result.failed ≡ Some cause → IsOfSide cause ⊎ ((side ≡ Side.NextHop) × MakesNoneAt (F.makes_none self.old.forward (S.head self.old.source)) (adapted_of V.adapted_head self.old.service) (response_of V.is_response self.old.service) (shows self.old.hold.history) cause) }
+        ensures breaks { result.broken ≡ true → (side ≡ Side.Service) × (result.failed ≡ None) × MatchOption self.new.service ⊥ (λ line. Breaks self.new.hold.history self.old.reused (V.fault line.side)) }
         ensures outcome { self.new.outcome ≡ outcome_by result.failed }
         ensures served { self.old.service ≡ None → self.new.service ≡ None }
         ensures timed { (self.new.last_moved ≡ self.old.last_moved) × (self.new.deadline ≡ self.old.deadline) }
+        ensures marked { (self.new.broken ≡ self.old.broken) × (self.new.reused ≡ self.old.reused) }
     {
         match side {
             Side::Source => self.source_pass(rt, bank),

@@ -1,6 +1,6 @@
 //! One more try of a request whose connection broke.
 
-ghost use Rattle.std.specs.Prelude.{◌≡◌, true, [], IfSome};
+ghost use Rattle.std.specs.Prelude.{◌≡◌, true, false, [], IfSome};
 ghost use Rattle.trace_core.specs.declared.history.Event.TheVariants.{Fail, Retry};
 ghost use Rattle.trace_core.specs.declared.history.Cause.TheVariants.{Service};
 ghost use Rattle.trace_core.specs.Legal.{MayFollow};
@@ -36,6 +36,7 @@ impl<B: Ledgers, S: Source, V: Service, K: Hop, F: Forward<S, K>, A: Wire, W: Wi
         ensures fresh { IfSome self.new.service (λ line. line.wire ≡ wire) }
         ensures back { IfSome self.old.service (λ line. result ≡ line.wire) }
         ensures others { (self.new.source_wire ≡ self.old.source_wire) × (self.new.next_wire ≡ self.old.next_wire) }
+        ensures unused { (self.new.broken ≡ false) × (self.new.reused ≡ false) }
         ensures timed { (self.new.last_moved ≡ self.old.last_moved) × (self.new.deadline ≡ self.old.deadline) }
     {
         let _state = self.hold.state();

@@ -1,9 +1,11 @@
 //! Turns of a transaction.
 
-ghost use Rattle.std.specs.Prelude.{◌≡◌, ℕ, ◌+◌, ◌<◌, ◌≤◌, ◌⊎◌, true, false, [], Some, None, MatchOption, ⊤, length};
-ghost use Rattle.trace_core.specs.declared.history.Event.TheVariants.{Fail};
+ghost use Rattle.std.specs.Prelude.{◌≡◌, ℕ, ◌+◌, ◌<◌, ◌≤◌, ◌⊎◌, Bool, true, false, List, [], Option, Some, None, MatchOption, ⊤, length};
+ghost use Rattle.trace_core.specs.declared.history.Event.TheVariants.{Fail, Retry};
 ghost use Rattle.trace_core.specs.declared.history.Cause.{Cause};
 ghost use Rattle.trace_core.specs.declared.history.Cause.TheVariants.{Deadline, Stopping};
+ghost use Rattle.trace_core.specs.declared.history.Seen.{Seen};
+ghost use Rattle.trace_core.specs.Legal.{MayFollow};
 ghost use Rattle.plan_rules.specs.Room.{original_room, adapted_room};
 ghost use Rattle.wire_kit.specs.Past.{Past};
 ghost use Rattle.adapt_sides.specs.declared.fault.RelayFault.TheVariants.{Device};
@@ -11,7 +13,7 @@ ghost use Rattle.adapt_sides.specs.Turns.{Gift};
 ghost use Rattle.adapt_sides.specs.Turns.Gift.{nothing};
 ghost use Rattle.adapt_hold.specs.Holding.{shows, moved};
 ghost use Rattle.adapt_turn.specs.Made.{MakesNoneAt, adapted_of, response_of};
-ghost use Rattle.adapt_turn.specs.Parts.{source_cause, service_cause, hop_cause, outcome_by};
+ghost use Rattle.adapt_turn.specs.Parts.{Breaks, source_cause, service_cause, hop_cause, outcome_by};
 ghost use Rattle.adapt_turn.specs.Stands.{IsChosen, IsDone, Waited, WaitedBoth, Blamed, IsCauseOf};
 
 use crate::forward::Forward;
@@ -37,6 +39,7 @@ fn moment_of(moved: u64, now: u64, before: u64) -> u64
 fn answer_of(passed: Passed, moved: u64) -> Turned
     ensures waiting { result ≡ Turned.Waiting → (passed.waiting ≡ true) × (passed.broken ≡ false) × (moved ≡ 0) }
     ensures broken { result ≡ Turned.Broken → passed.broken ≡ true }
+    ensures breaks { passed.broken ≡ true → result ≡ Turned.Broken }
     ensures moved { (n : ℕ) → result ≡ Turned.Moved n → (n ≡ moved) × (passed.waiting ≡ true → 0 < n) × (passed.broken ≡ false) }
     ensures open { (outcome : Outcome) → result ≡ Turned.Finished outcome → ⊥ }
 {
@@ -72,7 +75,12 @@ impl<B: Ledgers, S: Source, V: Service, K: Hop, F: Forward<S, K>, A: Wire, W: Wi
         ensures idle { result ≡ Turned.Waiting → ⟦<Self as Going>⟧.moves self.old self.new 0 }
         ensures moment { (self.new.last_moved ≡ self.old.last_moved) ⊎ (self.new.last_moved ≡ now) }
         ensures clock { (n : ℕ) → result ≡ Turned.Moved n → (shows self.old.hold.history).closed ≡ false → (n ≡ 0 → self.new.last_moved ≡ self.old.last_moved) × (0 < n → self.new.last_moved ≡ now) }
+        ensures still { result ≡ Turned.Waiting → self.new.last_moved ≡ self.old.last_moved }
+        ensures refreshed { (self.new.last_moved ≡ self.old.last_moved) ⊎ ((n : ℕ) × (0 < n) × ⟦<Self as Going>⟧.moves self.old self.new n) }
         ensures limit { self.new.deadline ≡ self.old.deadline }
+        ensures broken { result ≡ Turned.Broken → (side ≡ Side.Service) × ((shows self.old.hold.history).closed ≡ false) × MayFollow self.new.hold.history.plan self.new.hold.history.events Retry
+            × ((self.old.broken ≡ true) ⊎ MatchOption self.new.service ⊥ (λ line. Breaks self.new.hold.history self.old.reused (V.fault line.side))) }
+        ensures marked { (self.new.broken ≡ true → (self.old.broken ≡ true) ⊎ (result ≡ Turned.Broken)) × (self.new.reused ≡ self.old.reused) }
         ensures finished { (outcome : Outcome) → result ≡ Turned.Finished outcome → ((shows self.old.hold.history).closed ≡ true) × (outcome ≡ self.old.outcome) }
         ensures done { result ≡ Turned.Finished Outcome.Done → IsDone self.new.hold.history }
         ensures waits_source { side ≡ Side.Source → (shows self.old.hold.history).closed ≡ false → result ≡ Turned.Waiting → Waited (S.rests (original_room (shows self.old.hold.history) self.old.hold.claim self.old.hold.limits.window) self.new.source) (λ past. past.read_waits) (A.past self.old.source_wire) (A.past self.new.source_wire) }
@@ -88,6 +96,9 @@ impl<B: Ledgers, S: Source, V: Service, K: Hop, F: Forward<S, K>, A: Wire, W: Wi
             → ((cause ≡ Deadline) × (self.old.last_moved + self.old.deadline ≤ now)) ⊎ (((K.gift self.old.next ≡ nothing) × (K.gift self.old.back ≡ nothing)
             × MakesNoneAt (F.makes_none self.old.forward (S.head self.old.source)) (adapted_of V.adapted_head self.old.service) (response_of V.is_response self.old.service) (shows self.old.hold.history) cause) ⊎ (Blamed Device hop_cause cause (K.fault self.old.next) (K.fault self.new.next) (C.past self.old.next_wire) (C.past self.new.next_wire)
             ⊎ Blamed Device hop_cause cause (K.fault self.old.back) (K.fault self.new.back) (A.past self.old.source_wire) (A.past self.new.source_wire))) }
+        ensures timely { (shows self.old.hold.history).closed ≡ false → self.new.outcome ≡ Outcome.Fail Deadline
+            → (self.old.last_moved + self.old.deadline ≤ now) ⊎ ((side ≡ Side.NextHop) × MakesNoneAt (F.makes_none self.old.forward (S.head self.old.source)) (adapted_of V.adapted_head self.old.service) (response_of V.is_response self.old.service) (shows self.old.hold.history) Deadline) }
+        ensures unstopped { (shows self.old.hold.history).closed ≡ false → self.new.outcome ≡ Outcome.Fail Stopping → (side ≡ Side.NextHop) × MakesNoneAt (F.makes_none self.old.forward (S.head self.old.source)) (adapted_of V.adapted_head self.old.service) (response_of V.is_response self.old.service) (shows self.old.hold.history) Stopping }
     {
         if self.is_closed() {
             return self.closed_turn();
@@ -112,6 +123,9 @@ impl<B: Ledgers, S: Source, V: Service, K: Hop, F: Forward<S, K>, A: Wire, W: Wi
         ensures goes { ⟦<Self as Going>⟧.goes self.old self.new }
         ensures open { (outcome : Outcome) → result ≡ Turned.Finished outcome → ⊥ }
         ensures waiting { result ≡ Turned.Waiting → (passed.waiting ≡ true) × (moved ≡ 0) }
+        ensures broken { result ≡ Turned.Broken → passed.broken ≡ true }
+        ensures marked { (self.new.broken ≡ true → (self.old.broken ≡ true) ⊎ (result ≡ Turned.Broken)) × (self.new.reused ≡ self.old.reused) }
+        ensures hold { self.new.hold ≡ self.old.hold }
         ensures outcome { self.new.outcome ≡ self.old.outcome }
         ensures moved { (n : ℕ) → result ≡ Turned.Moved n → n ≡ moved }
         ensures moment { (self.new.last_moved ≡ self.old.last_moved) ⊎ (self.new.last_moved ≡ now) }
@@ -135,6 +149,8 @@ impl<B: Ledgers, S: Source, V: Service, K: Hop, F: Forward<S, K>, A: Wire, W: Wi
         ensures closed { (shows self.old.hold.history).closed ≡ true → (self.new.hold ≡ self.old.hold) × (self.new.outcome ≡ self.old.outcome) }
         ensures deadline { (shows self.old.hold.history).closed ≡ false → self.old.deadline ≡ 0 → 0 < length schedule.now
             → (self.new.hold ≡ moved self.old.hold (Fail Deadline) []) × (self.new.outcome ≡ Outcome.Fail Deadline) }
+        ensures timely { ((maker : F) (head : S.Head) (x : Seen) (adapted : Option (List ℕ)) (is_response : Bool) → F.makes_none maker head x adapted is_response Deadline → ⊥)
+            → (shows self.old.hold.history).closed ≡ false → self.new.outcome ≡ Outcome.Fail Deadline → self.old.deadline ≡ 0 }
     {
         match schedule {
             [] => {}

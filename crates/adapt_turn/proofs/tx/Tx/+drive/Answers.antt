@@ -1,7 +1,7 @@
-use Rattle.std.proofs.Common.{◌≡◌, true, arith, sym, ◌∙◌, subst}
+use Rattle.std.proofs.Common.{◌≡◌, inl, inr, true, arith, sym, ◌∙◌, subst}
 use Rattle.trace_core.specs.declared.history.Cause.TheVariants.{Deadline}
 use Rattle.adapt_hold.specs.Holding.{Holding, shows}
-use Rattle.adapt_turn.proofs.Told.{failed_over, same_moment}
+use Rattle.adapt_turn.proofs.Told.{failed_over, same_moment, timely_then}
 use Rattle.adapt_turn.proofs.Together.{goes_none, goes_then}
 use Rattle.adapt_turn.proofs.tx.Tx.+drive.Goals as goal
 
@@ -14,4 +14,10 @@ returns-in-len1-up g t c = record {
   timed = (c.drive.ensures.timed.0 ∙ same_moment _ _ c.turn.ensures.moment, c.drive.ensures.timed.1 ∙ c.turn.ensures.limit);
   closed = λ e. (let w = c.turn.ensures.closed e in let v = c.drive.ensures.closed (subst (λ (y : Holding). (shows y.history).closed ≡ true) (sym w.0) e) in (v.0 ∙ w.0, v.1 ∙ w.1));
   deadline = λ o d n. (let w = c.turn.ensures.deadline o (omega (arith, d)) in let v = c.drive.ensures.closed (failed_over c.turn.new.self.hold.history c.turn.new.self.outcome Deadline c.turn.new.self.told w.2) in (v.0 ∙ w.0, v.1 ∙ w.2));
+  timely = λ clean o e. timely_then (shows c.turn.new.self.hold.history).closed _ c.turn.new.self.outcome c.drive.new.self.outcome
+      (λ f. elim (c.turn.ensures.timely o f) [
+        | inl l ↦ omega (arith, l)
+        | inr m ↦ absurd (clean _ _ _ _ _ m.1)
+      ])
+      (λ f. (c.drive.ensures.closed f).1) (λ f. sym c.turn.ensures.limit ∙ c.drive.ensures.timely clean f e) e;
 }

@@ -1,11 +1,12 @@
 use Rattle.adapt_turn.proofs.Together.{goes_none, goes_then}
 use Rattle.std.proofs.Common.{inl, inr, sym, ◌∙◌, ap}
+use Rattle.trace_core.specs.declared.history.Cause.TheVariants.{Deadline, Stopping}
 use Rattle.plan_rules.specs.Room.{original_room, adapted_room}
 use Rattle.adapt_hold.specs.Holding.{shows}
 use Rattle.adapt_turn.specs.Parts.{service_cause}
 use Rattle.adapt_turn.specs.Stands.{IsCauseOf}
-use Rattle.adapt_turn.proofs.Reasons.{waits_kept, both_kept, blamed_kept, line_kept, outcome_fails}
-use Rattle.adapt_turn.proofs.Moved.{moves_of, moves_none}
+use Rattle.adapt_turn.proofs.Reasons.{waits_kept, both_kept, blamed_kept, line_kept, breaks_kept, outcome_fails}
+use Rattle.adapt_turn.proofs.Moved.{moves_of, moves_none, refreshed_by}
 use Rattle.adapt_turn.specs.declared.turned.Outcome.TheVariants as outcomes
 use Rattle.adapt_turn.proofs.Told.{done_told}
 use Rattle.adapt_turn.proofs.tx.Tx.turn.Goals as goal
@@ -53,6 +54,30 @@ returns-clause-idle g c = λ w. moves_of g.A.Wire.past (λ l p. g.W.Wire.past l.
     c.args.self.now.service c.pass-passed.new.self.service c.after_pass.new.self.service c.args.self.now.next_wire c.pass-passed.new.self.next_wire c.after_pass.new.self.next_wire _ _ _ _ _ _ 0
     c.counts-before.ensures.source c.counts.ensures.source c.counts-before.ensures.service c.counts.ensures.service c.counts-before.ensures.next c.counts.ensures.next
     c.pass-passed.ensures.served c.after_pass.ensures.kept.1 c.after_pass.ensures.kept.2 c.after_pass.ensures.kept.3 (sym (c.after_pass.ensures.waiting w).1 ∙ c.since-moved.ensures)
+
+pub returns-clause-refreshed : goal.returns-clause-refreshed
+returns-clause-refreshed g c = refreshed_by c.since-moved.result _ _ _ (λ z. c.after_pass.ensures.clock.0 z ∙ c.pass-passed.ensures.timed.0)
+    (moves_of g.A.Wire.past (λ l p. g.W.Wire.past l.wire p) g.C.Wire.past c.args.self.now.source_wire c.pass-passed.new.self.source_wire c.after_pass.new.self.source_wire
+    c.args.self.now.service c.pass-passed.new.self.service c.after_pass.new.self.service c.args.self.now.next_wire c.pass-passed.new.self.next_wire c.after_pass.new.self.next_wire _ _ _ _ _ _ c.since-moved.result
+    c.counts-before.ensures.source c.counts.ensures.source c.counts-before.ensures.service c.counts.ensures.service c.counts-before.ensures.next c.counts.ensures.next
+    c.pass-passed.ensures.served c.after_pass.ensures.kept.1 c.after_pass.ensures.kept.2 c.after_pass.ensures.kept.3 c.since-moved.ensures)
+
+pub returns-clause-broken : goal.returns-clause-broken
+returns-clause-broken g c = λ b. let w = c.pass-passed.ensures.breaks (c.after_pass.ensures.broken b) in
+    let k = breaks_kept (λ l. g.V.Service.fault l.side) c.args.self.now.reused c.pass-passed.new.self.hold c.after_pass.new.self.hold c.pass-passed.new.self.service c.after_pass.new.self.service c.after_pass.ensures.kept.2 c.after_pass.ensures.hold w.2 in
+    (w.0, sym c.is_closed.ensures ∙ c.if-is_closed.false, k.0, inr k.1)
+
+pub returns-clause-timely : goal.returns-clause-timely
+returns-clause-timely g c = λ o e. elim (c.pass-passed.ensures.of_side Deadline (outcome_fails c.pass-passed.result.failed c.after_pass.new.self.outcome Deadline (c.after_pass.ensures.outcome ∙ c.pass-passed.ensures.outcome) e)) [
+  | inl b ↦ absurd b
+  | inr m ↦ inr m
+]
+
+pub returns-clause-unstopped : goal.returns-clause-unstopped
+returns-clause-unstopped g c = λ o e. elim (c.pass-passed.ensures.of_side Stopping (outcome_fails c.pass-passed.result.failed c.after_pass.new.self.outcome Stopping (c.after_pass.ensures.outcome ∙ c.pass-passed.ensures.outcome) e)) [
+  | inl b ↦ absurd b
+  | inr m ↦ m
+]
 
 pub returns-clause-moment : goal.returns-clause-moment
 returns-clause-moment g c = elim c.after_pass.ensures.moment [
