@@ -8,8 +8,9 @@ use Rattle.http_side.specs.declared.fault.HttpFault.TheVariants as http
 use Rattle.adapt_bytes.specs.Text.{has_line}
 use Rattle.http_relay.specs.Judging.{RefusesBytes, IsSwitching, IsLooking, HasNoHead, RefusesHead, LacksMemory, Scans, Looks}
 use Rattle.wire_kit.specs.Past.{Past}
-use Rattle.wire_kit.specs.Past.{IsLater}
-use Rattle.http_relay.specs.Reading.{AtHead, GivesBack, Begins, SideRead, SideReads, JudgesHeadTo, ScannedTo, HeadReason, HeadTurn, IsFilled, IsBefore}
+use Rattle.wire_kit.specs.declared.wire.Got.{Got}
+use Rattle.wire_kit.specs.declared.wire.Got.TheVariants as got
+use Rattle.http_relay.specs.Reading.{AtHead, GivesBack, Begins, SideRead, SideReads, JudgesHeadTo, ScannedTo, ReadsForHead, FitsHead, HeadTurn, IsFilled, IsBefore}
 use Rattle.http_relay.specs.Source.{Agrees, known}
 use Rattle.http_relay.specs.declared.source_body.SourceBody.{SourceBody}
 use Rattle.trace_core.specs.declared.history.Seen.{Seen}
@@ -24,10 +25,7 @@ use Rattle.http_relay.specs.declared.side.head.Judged.TheVariants as judged
 use Rattle.http_relay.specs.declared.fill.Filled.TheVariants as filled
 use Rattle.http_relay.specs.declared.side.SourceSide.{SourceSide}
 use Rattle.http_relay.proofs.Beginning.{still_at_head}
-use Rattle.http_relay.proofs.Turning.{SameSide}
-
-later_none : (p : Past) → IsLater p [] [] p
-later_none p = record { read = sym (append-nil p.read); out = sym (append-nil p.taken); write_waits = omega arith; ends = omega arith; read_waits = omega arith; faults = omega arith }
+use Rattle.http_relay.proofs.Turning.{SameSide, none_read, bytes_read}
 
 filled_at_head : (old new : SourceSide) (delta : List ℕ) → SameSide old new → new.raw.items ≡ old.raw.items ++ delta → (read : List ℕ) → AtHead read old → AtHead (read ++ delta) new
 filled_at_head old new delta m r read s = record {
@@ -152,26 +150,29 @@ judged_all old new a f r n few h l =
 
 -- ---- turns
 
--- the raw bytes decided
 -- a fault of judging is none of the wire's
 no_wire_fault : (f : RelayFault) → (f ≡ Head) ⊎ (f ≡ NoMemory) → (f ≡ Closed → ⊥) × (f ≡ Device → ⊥)
 no_wire_fault f (inl e) = (λ c. let odd : Closed ≡ Head = sym c ∙ e in cc, λ c. let odd : Device ≡ Head = sym c ∙ e in cc)
 no_wire_fault f (inr e) = (λ c. let odd : Closed ≡ NoMemory = sym c ∙ e in cc, λ c. let odd : Device ≡ NoMemory = sym c ∙ e in cc)
 
+none_fits : (result : Result Bool RelayFault) → (result ≡ Ok false → ⊥) → ((f : RelayFault) → result ≡ Err f → (f ≡ Head) ⊎ (f ≡ NoMemory)) → FitsHead None result
+none_fits (Ok true) not only = refl
+none_fits (Ok false) not only = absurd (not refl)
+none_fits (Err f) not only = no_wire_fault f (only f refl)
+
+bytes_fit : (n : ℕ) (result : Result Bool RelayFault) → ((f : RelayFault) → result ≡ Err f → (f ≡ Head) ⊎ (f ≡ NoMemory)) → FitsHead (Some (got.Bytes n)) result
+bytes_fit n (Ok found) only = tt
+bytes_fit n (Err f) only = no_wire_fault f (only f refl)
+
+-- the raw bytes decided
 pub head_scanned : (old new : SourceSide) (P : Past → Type 0) (result : Result Bool RelayFault) → (result ≡ Ok false → ⊥) → ((f : RelayFault) → result ≡ Err f → (f ≡ Head) ⊎ (f ≡ NoMemory))
     → ((read : List ℕ) → AtHead read old → ScannedTo result read new) → (IsLooking old → Scans result new) → HeadTurn old new P P result
 head_scanned old new P result not only h j = record {
   delta = [];
-  wire = λ p b. (
-    p,
-    b,
-    later_none p,
-    record {
-      waits = λ e. absurd (not e);
-      closed = λ e. absurd ((no_wire_fault Closed (only Closed e)).0 refl);
-      device = λ e. absurd ((no_wire_fault Device (only Device e)).1 refl);
-    },
-  );
+  answer = None;
+  wire = none_read P;
+  due = tt;
+  fits = none_fits result not only;
   heads = λ read s. subst (λ (t : List ℕ). ScannedTo result t new) (sym (append-nil read)) (h read s);
   looks = λ l. scans_looks result new (j l);
 }
@@ -182,16 +183,10 @@ pub head_bytes : (old mid more new : SourceSide) (P Q : Past → Type 0) (result
     → SameLook mid more → (IsLooking old → HasNoHead mid) → (IsLooking more → Scans result new) → HeadTurn old new P Q result
 head_bytes old mid more new P Q result a m f only h same j on = record {
   delta = f.0;
-  wire = λ p b. (
-    record { read = p.read ++ f.0; taken = p.taken; ends = p.ends; read_waits = p.read_waits; write_waits = p.write_waits; faults = p.faults; reads = p.reads + 1; writes = p.writes },
-    f.3 p b,
-    record { read = refl; out = sym (append-nil p.taken); write_waits = omega arith; ends = omega arith; read_waits = omega arith; faults = omega arith },
-    record {
-      waits = λ e. inl f.1;
-      closed = λ e. absurd ((no_wire_fault Closed (only Closed e)).0 refl);
-      device = λ e. absurd ((no_wire_fault Device (only Device e)).1 refl);
-    },
-  );
+  answer = Some (got.Bytes (length f.0));
+  wire = bytes_read P Q f.0 f.1 f.3;
+  due = (mid, a, j);
+  fits = bytes_fit (length f.0) result only;
   heads = λ read s. h (read ++ f.0) (filled_at_head mid more f.0 m f.2 read (a read s));
   looks = λ l. scans_looks result new (on (looks_on mid more f.0 m.asks same f.2 (j l).looking));
 }
@@ -203,12 +198,10 @@ pub head_waited : (old mid new : SourceSide) (P Q : Past → Type 0) → ((read 
     → SameLook mid new → (IsLooking old → HasNoHead mid) → HeadTurn old new P Q (Ok false)
 head_waited old mid new P Q a m f same j = record {
   delta = [];
-  wire = λ p b. (
-    record { read = p.read; taken = p.taken; ends = p.ends; read_waits = p.read_waits + 1; write_waits = p.write_waits; faults = p.faults; reads = p.reads; writes = p.writes },
-    f.1 p b,
-    record { read = sym (append-nil p.read); out = sym (append-nil p.taken); write_waits = omega arith; ends = omega arith; read_waits = omega arith; faults = omega arith },
-    record { waits = λ e. inr (omega arith); closed = λ e. cc; device = λ e. cc },
-  );
+  answer = Some got.Wait;
+  wire = record { each = f.1; fits = refl };
+  due = (mid, a, j);
+  fits = refl;
   heads = stays_at_head old mid new a m f.0;
   looks = λ l. none_on mid new m.asks same f.0 (j l);
 }
@@ -217,12 +210,10 @@ pub head_ended : (old mid new : SourceSide) (P Q : Past → Type 0) → ((read :
     → SameLook mid new → (IsLooking old → HasNoHead mid) → HeadTurn old new P Q (Err Closed)
 head_ended old mid new P Q a m f same j = record {
   delta = [];
-  wire = λ p b. (
-    record { read = p.read; taken = p.taken; ends = p.ends + 1; read_waits = p.read_waits; write_waits = p.write_waits; faults = p.faults; reads = p.reads; writes = p.writes },
-    f.1 p b,
-    record { read = sym (append-nil p.read); out = sym (append-nil p.taken); write_waits = omega arith; ends = omega arith; read_waits = omega arith; faults = omega arith },
-    record { waits = λ e. cc; closed = λ e. omega arith; device = λ e. cc },
-  );
+  answer = Some got.Ended;
+  wire = record { each = f.1; fits = refl };
+  due = (mid, a, j);
+  fits = refl;
   heads = stays_at_head old mid new a m f.0;
   looks = λ l. none_on mid new m.asks same f.0 (j l);
 }
@@ -231,12 +222,10 @@ pub head_failed : (old mid new : SourceSide) (P Q : Past → Type 0) → ((read 
     → SameLook mid new → (IsLooking old → HasNoHead mid) → HeadTurn old new P Q (Err Device)
 head_failed old mid new P Q a m f same j = record {
   delta = [];
-  wire = λ p b. (
-    record { read = p.read; taken = p.taken; ends = p.ends; read_waits = p.read_waits; write_waits = p.write_waits; faults = p.faults + 1; reads = p.reads; writes = p.writes },
-    f.1 p b,
-    record { read = sym (append-nil p.read); out = sym (append-nil p.taken); write_waits = omega arith; ends = omega arith; read_waits = omega arith; faults = omega arith },
-    record { waits = λ e. cc; closed = λ e. cc; device = λ e. omega arith },
-  );
+  answer = Some got.Fault;
+  wire = record { each = f.1; fits = refl };
+  due = (mid, a, j);
+  fits = refl;
   heads = stays_at_head old mid new a m f.0;
   looks = λ l. none_on mid new m.asks same f.0 (j l);
 }
@@ -245,7 +234,10 @@ pub head_full : (old mid new : SourceSide) (P Q : Past → Type 0) → ((read : 
     → SameLook mid new → (IsLooking old → HasNoHead mid) → HeadTurn old new P Q (Err NoMemory)
 head_full old mid new P Q a m f same j = record {
   delta = [];
-  wire = λ p b. (p, f.1 p b, later_none p, record { waits = λ e. cc; closed = λ e. cc; device = λ e. cc });
+  answer = None;
+  wire = record { each = f.1; fits = refl };
+  due = tt;
+  fits = ((λ e. cc), (λ e. cc));
   heads = stays_at_head old mid new a m f.0;
   looks = λ l. inr (none_on mid new m.asks same f.0 (j l));
 }
@@ -254,7 +246,10 @@ head_full old mid new P Q a m f same j = record {
 pub head_kept : (old mid new : SourceSide) (P Q : Past → Type 0) (fault : RelayFault) → SameSide mid new → SameLook mid new → new.raw.items ≡ mid.raw.items → HeadTurn old mid P Q (Err fault) → HeadTurn old new P Q (Err fault)
 head_kept old mid new P Q fault m same r t = record {
   delta = t.delta;
+  answer = t.answer;
   wire = t.wire;
+  due = t.due;
+  fits = t.fits;
   heads = λ read s. still_at_head mid new m.asks m.head r (read ++ t.delta) (t.heads read s);
   looks = λ l. looks_same mid new (Err fault) m.asks m.head same r (t.looks l);
 }
@@ -276,7 +271,10 @@ scanned_given_back old new read (Err fault) b s = still_at_head old new b.asks b
 pub head_given_back : (old mid new : SourceSide) (P Q : Past → Type 0) (result : Result Bool RelayFault) → GivesBack mid new → HeadTurn old mid P Q result → HeadTurn old new P Q result
 head_given_back old mid new P Q result b t = record {
   delta = t.delta;
+  answer = t.answer;
   wire = t.wire;
+  due = t.due;
+  fits = t.fits;
   heads = λ read s. scanned_given_back mid new (read ++ t.delta) result b (t.heads read s);
   looks = λ l. looks_same mid new result b.asks b.head (record { judged = b.judged; head_fault = b.head_fault }) b.raw (t.looks l);
 }

@@ -1,14 +1,17 @@
 -- Read turns, by what the wire gave.
-use Rattle.std.proofs.Common.{◌≡◌, ℕ, ◌+◌, ◌<◌, ◌≤◌, ◌⊎◌, inl, inr, Bool, true, false, List, [], ◌++◌, length, take, refl, ap, sym, subst, ◌∙◌, append-nil, arith, Option, Some, None, Result, Ok, Err}
+use Rattle.std.proofs.Common.{◌≡◌, ◌≢◌, ℕ, ◌+◌, ◌<◌, ◌≤◌, ◌⊎◌, inl, inr, Bool, true, false, List, [], ◌++◌, length, take, refl, ap, sym, subst, ◌∙◌, append-nil, arith, Option, Some, None, Result, Ok, Err}
+use Rattle.std.proofs.Math.Seq.{take-length}
 use Rattle.trace_core.specs.declared.history.Event.{Event}
 use Rattle.trace_core.specs.declared.history.Seen.{Seen}
 use Rattle.wire_kit.specs.Past.{Past}
 use Rattle.trace_core.specs.Turns.{in_sum, after_all}
 use Rattle.http_relay.specs.Source.{Agrees, BodyReads, IsCutShort, MustWait, Refuses}
 use Rattle.wire_kit.specs.Past.{IsLater}
-use Rattle.http_relay.specs.Reasons.{IsExplained}
-use Rattle.adapt_sides.specs.Turns.{SaysWaiting, Remembers, ReadsBody, events_of, waits_of}
-use Rattle.http_relay.specs.Reading.{SideRead, SideReads, Rests, IsFilled, IsCause, ReadTurn}
+use Rattle.wire_kit.specs.declared.wire.Got.{Got}
+use Rattle.wire_kit.specs.declared.wire.Got.TheVariants as got
+use Rattle.http_relay.specs.Asking.{IsGiven, Reads, after_ask}
+use Rattle.adapt_sides.specs.Turns.{HasReason, SaysWaiting, Remembers, ReadsBody, events_of, waits_of}
+use Rattle.http_relay.specs.Reading.{SideRead, SideReads, Rests, Gave, IsFilled, IsCause, IsReadDue, ReadsWhereDue, FitsGot, ReadTurn}
 use Rattle.adapt_sides.specs.declared.fault.RelayFault.{RelayFault}
 use Rattle.adapt_sides.specs.declared.fault.RelayFault.TheVariants.{Closed, Device, NoMemory}
 use Rattle.http_relay.specs.declared.fill.Filled.TheVariants as filled
@@ -26,24 +29,25 @@ pub record SameSide (old new : SourceSide) : Type 0 where
 later_none : (p : Past) → IsLater p [] [] p
 later_none p = record { read = sym (append-nil p.read); out = sym (append-nil p.taken); write_waits = omega arith; ends = omega arith; read_waits = omega arith; faults = omega arith }
 
-not_wire : (fault : RelayFault) (s : SourceBody) (raw : List ℕ) → Refuses fault s raw → (fault ≡ Closed → ⊥) × (fault ≡ Device → ⊥)
+-- a turn that doesn't read
+pub none_read : (P : Past → Type 0) → Reads P P [] None
+none_read P = record { each = λ p b. b; fits = refl }
+
+-- a turn that reads once, and gets bytes
+pub bytes_read : (P Q : Past → Type 0) (given : List ℕ) → 0 < length given → Gave P Q given → Reads P Q given (Some (got.Bytes (length given)))
+bytes_read P Q given some g = record {
+  each = λ p b.
+      subst (λ (t : List ℕ). Q (record { read = p.read ++ t; taken = p.taken; ends = p.ends; read_waits = p.read_waits; write_waits = p.write_waits; faults = p.faults; reads = p.reads + 1; writes = p.writes })) (sym (take-length given)) (g p b);
+  fits = (refl, some);
+}
+
+-- nothing was framed before the read
+at_once : (room : ℕ) (old : SourceSide) (answer : Got) → IsReadDue room old → ReadsWhereDue room old (Some answer)
+at_once room old answer d = (old, filled_more old old [] refl refl refl (sym (append-nil old.raw.items)), d)
+
+-- a fault of the bytes is none of the wire
+not_wire : (fault : RelayFault) (s : SourceBody) (raw : List ℕ) → Refuses fault s raw → (fault ≢ Closed) × (fault ≢ Device)
 not_wire fault s raw r = ((λ e. subst (λ (f : RelayFault). Refuses f s raw) e r), (λ e. subst (λ (f : RelayFault). Refuses f s raw) e r))
-
--- a fault of the bytes
-reasons_refused : (p q : Past) (o : Option RelayFault) (rests : Type 0) (fault : RelayFault) (s : SourceBody) (raw : List ℕ) → Refuses fault s raw → IsExplained p q o rests (λ past. past.read_waits) (Err fault)
-reasons_refused p q o rests fault s raw r = record {
-  device = λ e n. let is : fault ≡ Device = cc in absurd ((not_wire fault s raw r).1 is);
-  closed = λ e n. let is : fault ≡ Closed = cc in absurd ((not_wire fault s raw r).0 is);
-  waiting = λ w. cc;
-}
-
--- an answer that doesn't wait
-reasons_ok : (p q : Past) (o : Option RelayFault) (rests : Type 0) (t : Turn) → t.waiting ≡ false → IsExplained p q o rests (λ past. past.read_waits) (Ok t)
-reasons_ok p q o rests t w = record {
-  device = λ e n. cc;
-  closed = λ e n. cc;
-  waiting = λ h. let odd : true ≡ false = sym h ∙ w in cc;
-}
 
 says_spoke : (t : Turn) (delta : List ℕ) → t.waiting ≡ false → (t.events.items ≡ [] → delta ≡ [] → ⊥) → SaysWaiting {F = RelayFault} t.events.items delta (Ok t)
 says_spoke t delta w some = record {
@@ -68,7 +72,10 @@ pub turn_spoke : (room : ℕ) (old new : SourceSide) (P : Past → Type 0) (out 
     → t.waiting ≡ false → (t.events.items ≡ [] → ⊥) → ReadTurn room old new P P out (Ok t)
 turn_spoke room old new P out t h l w some = record {
   delta = [];
-  wire = λ p b. (p, b, later_none p, reasons_ok p p old.fault (Rests room new) t w);
+  answer = None;
+  wire = none_read P;
+  due = tt;
+  fits = λ i. let odd : true ≡ false = sym i ∙ w in cc;
   count = l;
   reads = h;
   waiting = says_spoke t [] w (λ none d. some none);
@@ -81,7 +88,10 @@ pub turn_idle : (room : ℕ) (old new : SourceSide) (P : Past → Type 0) (out :
     → t.waiting ≡ true → t.events.items ≡ [] → MustWait new.body new.raw.items room → Rests room new → ReadTurn room old new P P out (Ok t)
 turn_idle room old new P out t h l w none m rests = record {
   delta = [];
-  wire = λ p b. (p, b, later_none p, record { device = λ e n. cc; closed = λ e n. cc; waiting = λ i. inl rests });
+  answer = None;
+  wire = none_read P;
+  due = tt;
+  fits = λ i. rests;
   count = l;
   reads = h;
   waiting = says_idle t w none;
@@ -95,7 +105,10 @@ turn_refused room old new P out fault e r =
     let here : Refuses fault new.body new.raw.items = subst (λ (s : SourceSide). Refuses fault s.body s.raw.items) (sym e) r in
     record {
       delta = [];
-      wire = λ p b. (p, b, later_none p, reasons_refused p p old.fault (Rests room new) fault old.body old.raw.items r);
+      answer = None;
+      wire = none_read P;
+      due = tt;
+      fits = not_wire fault old.body old.raw.items r;
       count = zero_le room;
       reads = filled_more old new [] (ap (λ (s : SourceSide). s.asks) e) (ap (λ (s : SourceSide). s.head) e) (ap (λ (s : SourceSide). s.body) e) (ap (λ (s : SourceSide). s.raw.items) e ∙ sym (append-nil old.raw.items));
       waiting = says_err fault [];
@@ -104,18 +117,16 @@ turn_refused room old new P out fault e r =
     }
 
 -- bytes came, and were framed
-pub turn_bytes : (room : ℕ) (old mid new : SourceSide) (P Q : Past → Type 0) (out : List ℕ) (t : Turn) → SameSide old mid → IsFilled P Q old.raw.items mid.raw.items filled.Bytes
+pub turn_bytes : (room : ℕ) (old mid new : SourceSide) (P Q : Past → Type 0) (out : List ℕ) (t : Turn) → SameSide old mid → IsReadDue room old → IsFilled P Q old.raw.items mid.raw.items filled.Bytes
     → SideReads mid new t.events.items [] (take (in_sum t.events.items) out) → in_sum t.events.items ≤ room → t.waiting ≡ false → ReadTurn room old new P Q out (Ok t)
-turn_bytes room old mid new P Q out t m f h l w =
+turn_bytes room old mid new P Q out t m d f h l w =
     let both : SideReads old new t.events.items (f.0 ++ []) (take (in_sum t.events.items) out) = side_then old mid new t.events.items f.0 [] (take (in_sum t.events.items) out) (filled_more old mid f.0 m.asks m.head m.body f.2) h in
     record {
       delta = f.0;
-      wire = λ p b. (
-        record { read = p.read ++ f.0; taken = p.taken; ends = p.ends; read_waits = p.read_waits; write_waits = p.write_waits; faults = p.faults; reads = p.reads + 1; writes = p.writes },
-        f.3 p b,
-        record { read = refl; out = sym (append-nil p.taken); write_waits = omega arith; ends = omega arith; read_waits = omega arith; faults = omega arith },
-        reasons_ok p _ old.fault (Rests room new) t w,
-      );
+      answer = Some (got.Bytes (length f.0));
+      wire = bytes_read P Q f.0 f.1 f.3;
+      due = at_once room old (got.Bytes (length f.0)) d;
+      fits = w;
       count = l;
       reads = subst (λ (d : List ℕ). SideReads old new t.events.items d (take (in_sum t.events.items) out)) (append-nil f.0) both;
       waiting = says_spoke t f.0 w (λ none d. let some = f.1 in absurd (omega (arith, some, ap (λ (x : List ℕ). length x) d)));
@@ -124,18 +135,16 @@ turn_bytes room old mid new P Q out t m f h l w =
     }
 
 -- bytes came, and are refused
-pub turn_bytes_refused : (room : ℕ) (old mid new : SourceSide) (P Q : Past → Type 0) (out : List ℕ) (fault : RelayFault) → SameSide old mid → new ≡ mid → IsFilled P Q old.raw.items mid.raw.items filled.Bytes
+pub turn_bytes_refused : (room : ℕ) (old mid new : SourceSide) (P Q : Past → Type 0) (out : List ℕ) (fault : RelayFault) → SameSide old mid → new ≡ mid → IsReadDue room old → IsFilled P Q old.raw.items mid.raw.items filled.Bytes
     → Refuses fault mid.body mid.raw.items → ReadTurn room old new P Q out (Err fault)
-turn_bytes_refused room old mid new P Q out fault m e f r =
+turn_bytes_refused room old mid new P Q out fault m e d f r =
     let here : Refuses fault new.body new.raw.items = subst (λ (s : SourceSide). Refuses fault s.body s.raw.items) (sym e) r in
     record {
       delta = f.0;
-      wire = λ p b. (
-        record { read = p.read ++ f.0; taken = p.taken; ends = p.ends; read_waits = p.read_waits; write_waits = p.write_waits; faults = p.faults; reads = p.reads + 1; writes = p.writes },
-        f.3 p b,
-        record { read = refl; out = sym (append-nil p.taken); write_waits = omega arith; ends = omega arith; read_waits = omega arith; faults = omega arith },
-        reasons_refused p _ old.fault (Rests room new) fault mid.body mid.raw.items r,
-      );
+      answer = Some (got.Bytes (length f.0));
+      wire = bytes_read P Q f.0 f.1 f.3;
+      due = at_once room old (got.Bytes (length f.0)) d;
+      fits = not_wire fault mid.body mid.raw.items r;
       count = zero_le room;
       reads = subst (λ (s : SourceSide). SideReads old s [] f.0 []) (sym e) (filled_more old mid f.0 m.asks m.head m.body f.2);
       waiting = says_err fault f.0;
@@ -144,38 +153,34 @@ turn_bytes_refused room old mid new P Q out fault m e f r =
     }
 
 -- the wire waits
-pub turn_waited : (room : ℕ) (old new : SourceSide) (P Q : Past → Type 0) (out : List ℕ) (t : Turn) → SameSide old new → old.raw.items ≡ [] → IsFilled P Q old.raw.items new.raw.items filled.Wait
+pub turn_waited : (room : ℕ) (old new : SourceSide) (P Q : Past → Type 0) (out : List ℕ) (t : Turn) → SameSide old new → IsReadDue room old → IsFilled P Q old.raw.items new.raw.items filled.Wait
     → t.events.items ≡ [] → t.waiting ≡ true → ReadTurn room old new P Q out (Ok t)
-turn_waited room old new P Q out t m empty f none w =
+turn_waited room old new P Q out t m d f none w =
     let still : SideReads old new [] [] [] = filled_more old new [] m.asks m.head m.body (f.0 ∙ sym (append-nil old.raw.items)) in
     record {
       delta = [];
-      wire = λ p b. (
-        record { read = p.read; taken = p.taken; ends = p.ends; read_waits = p.read_waits + 1; write_waits = p.write_waits; faults = p.faults; reads = p.reads; writes = p.writes },
-        f.1 p b,
-        record { read = sym (append-nil p.read); out = sym (append-nil p.taken); write_waits = omega arith; ends = omega arith; read_waits = omega arith; faults = omega arith },
-        record { device = λ e n. cc; closed = λ e n. cc; waiting = λ i. inr (omega arith) },
-      );
+      answer = Some got.Wait;
+      wire = record { each = f.1; fits = refl };
+      due = at_once room old got.Wait d;
+      fits = w;
       count = subst (λ (es : List Event). in_sum es ≤ room) (sym none) (zero_le room);
       reads = subst (λ (es : List Event). SideReads old new es [] (take (in_sum es) out)) (sym none) still;
       waiting = says_idle t w none;
-      waits = λ i. inr (inl (f.0 ∙ empty));
+      waits = λ i. inr (inl (f.0 ∙ d.none_kept));
       cause = λ g e. cc;
     }
 
 -- the connection was closed at the end of the body
-pub turn_end : (room : ℕ) (old new : SourceSide) (P Q : Past → Type 0) (out : List ℕ) (t : Turn) → SameMessage old new → IsFilled P Q old.raw.items new.raw.items filled.Ended
+pub turn_end : (room : ℕ) (old new : SourceSide) (P Q : Past → Type 0) (out : List ℕ) (t : Turn) → SameMessage old new → IsReadDue room old → IsFilled P Q old.raw.items new.raw.items filled.Ended
     → BodyReads old.body new.body t.events.items [] [] → in_sum t.events.items ≡ 0 → (t.events.items ≡ [] → ⊥) → t.waiting ≡ false → ReadTurn room old new P Q out (Ok t)
-turn_end room old new P Q out t m f b zero some w =
+turn_end room old new P Q out t m d f b zero some w =
     let heard : SideReads old new t.events.items [] [] = framed_raw old new t.events.items 0 [] m b f.0 in
     record {
       delta = [];
-      wire = λ p a. (
-        record { read = p.read; taken = p.taken; ends = p.ends + 1; read_waits = p.read_waits; write_waits = p.write_waits; faults = p.faults; reads = p.reads; writes = p.writes },
-        f.1 p a,
-        record { read = sym (append-nil p.read); out = sym (append-nil p.taken); write_waits = omega arith; ends = omega arith; read_waits = omega arith; faults = omega arith },
-        reasons_ok p _ old.fault (Rests room new) t w,
-      );
+      answer = Some got.Ended;
+      wire = record { each = f.1; fits = refl };
+      due = at_once room old got.Ended d;
+      fits = w;
       count = omega (arith, zero);
       reads = subst (λ (k : ℕ). SideReads old new t.events.items [] (take k out)) (sym zero) heard;
       waiting = says_spoke t [] w (λ none d. some none);
@@ -184,22 +189,20 @@ turn_end room old new P Q out t m f b zero some w =
     }
 
 -- the connection was closed within the message
-pub turn_ended : (room : ℕ) (old new : SourceSide) (P Q : Past → Type 0) (out : List ℕ) (fault : RelayFault) → SameSide old new → old.raw.items ≡ [] → IsFilled P Q old.raw.items new.raw.items filled.Ended
+pub turn_ended : (room : ℕ) (old new : SourceSide) (P Q : Past → Type 0) (out : List ℕ) (fault : RelayFault) → SameSide old new → IsReadDue room old → IsFilled P Q old.raw.items new.raw.items filled.Ended
     → Refuses fault old.body [] ⊎ ((fault ≡ Closed) × IsCutShort old.body) → ReadTurn room old new P Q out (Err fault)
-turn_ended room old new P Q out fault m empty f r =
+turn_ended room old new P Q out fault m d f r =
     let not_device : fault ≡ Device → ⊥ = λ e. elim r [ inl h ↦ (not_wire fault old.body [] h).1 e | inr h ↦ (let odd : Closed ≡ Device = sym h.0 ∙ e in cc) ] in
     let here : IsCause fault new = elim r [
-      | inl h ↦ inr (inr (inr (subst (λ (t : List ℕ). Refuses fault new.body t) (sym (f.0 ∙ empty)) (subst (λ (b : SourceBody). Refuses fault b []) (sym m.body) h))))
+      | inl h ↦ inr (inr (inr (subst (λ (t : List ℕ). Refuses fault new.body t) (sym (f.0 ∙ d.none_kept)) (subst (λ (b : SourceBody). Refuses fault b []) (sym m.body) h))))
       | inr h ↦ inl (h.0, subst (λ (b : SourceBody). IsCutShort b) (sym m.body) h.1)
     ] in
     record {
       delta = [];
-      wire = λ p a. (
-        record { read = p.read; taken = p.taken; ends = p.ends + 1; read_waits = p.read_waits; write_waits = p.write_waits; faults = p.faults; reads = p.reads; writes = p.writes },
-        f.1 p a,
-        record { read = sym (append-nil p.read); out = sym (append-nil p.taken); write_waits = omega arith; ends = omega arith; read_waits = omega arith; faults = omega arith },
-        record { device = λ e n. (let is : fault ≡ Device = cc in absurd (not_device is)); closed = λ e n. omega arith; waiting = λ i. cc },
-      );
+      answer = Some got.Ended;
+      wire = record { each = f.1; fits = refl };
+      due = at_once room old got.Ended d;
+      fits = not_device;
       count = zero_le room;
       reads = filled_more old new [] m.asks m.head m.body (f.0 ∙ sym (append-nil old.raw.items));
       waiting = says_err fault [];
@@ -208,15 +211,13 @@ turn_ended room old new P Q out fault m empty f r =
     }
 
 -- the wire failed
-pub turn_failed : (room : ℕ) (old new : SourceSide) (P Q : Past → Type 0) (out : List ℕ) → SameSide old new → IsFilled P Q old.raw.items new.raw.items filled.Failed → ReadTurn room old new P Q out (Err Device)
-turn_failed room old new P Q out m f = record {
+pub turn_failed : (room : ℕ) (old new : SourceSide) (P Q : Past → Type 0) (out : List ℕ) → SameSide old new → IsReadDue room old → IsFilled P Q old.raw.items new.raw.items filled.Failed → ReadTurn room old new P Q out (Err Device)
+turn_failed room old new P Q out m d f = record {
   delta = [];
-  wire = λ p a. (
-    record { read = p.read; taken = p.taken; ends = p.ends; read_waits = p.read_waits; write_waits = p.write_waits; faults = p.faults + 1; reads = p.reads; writes = p.writes },
-    f.1 p a,
-    record { read = sym (append-nil p.read); out = sym (append-nil p.taken); write_waits = omega arith; ends = omega arith; read_waits = omega arith; faults = omega arith },
-    record { device = λ e n. omega arith; closed = λ e n. cc; waiting = λ i. cc },
-  );
+  answer = Some got.Fault;
+  wire = record { each = f.1; fits = refl };
+  due = at_once room old got.Fault d;
+  fits = refl;
   count = zero_le room;
   reads = filled_more old new [] m.asks m.head m.body (f.0 ∙ sym (append-nil old.raw.items));
   waiting = says_err Device [];
@@ -228,7 +229,10 @@ turn_failed room old new P Q out m f = record {
 pub turn_full : (room : ℕ) (old new : SourceSide) (P Q : Past → Type 0) (out : List ℕ) → SameSide old new → IsFilled P Q old.raw.items new.raw.items filled.NoMemory → ReadTurn room old new P Q out (Err NoMemory)
 turn_full room old new P Q out m f = record {
   delta = [];
-  wire = λ p a. (p, f.1 p a, later_none p, record { device = λ e n. cc; closed = λ e n. cc; waiting = λ i. cc });
+  answer = None;
+  wire = record { each = f.1; fits = refl };
+  due = tt;
+  fits = ((λ e. cc), (λ e. cc));
   count = zero_le room;
   reads = filled_more old new [] m.asks m.head m.body (f.0 ∙ sym (append-nil old.raw.items));
   waiting = says_err NoMemory [];
@@ -236,20 +240,36 @@ turn_full room old new P Q out m f = record {
   cause = λ g i. let is : NoMemory ≡ g = cc in inr (inr (inl (sym is)));
 }
 
+due_behind : (room : ℕ) (old mid : SourceSide) (answer : Option Got) → SideReads old mid [] [] [] → ReadsWhereDue room mid answer → ReadsWhereDue room old answer
+due_behind room old mid None h d = tt
+due_behind room old mid (Some answer) h d = (d.0, side_then old mid d.0 [] [] [] [] h d.1, d.2)
+
 -- raw bytes gave no event, and then the wire was read
-pub turn_behind : (room : ℕ) (old mid new : SourceSide) (P Q : Past → Type 0) (out : List ℕ) (result : Result Turn RelayFault) → mid.fault ≡ old.fault → SideReads old mid [] [] [] → ReadTurn room mid new P Q out result
+pub turn_behind : (room : ℕ) (old mid new : SourceSide) (P Q : Past → Type 0) (out : List ℕ) (result : Result Turn RelayFault) → SideReads old mid [] [] [] → ReadTurn room mid new P Q out result
     → ReadTurn room old new P Q out result
-turn_behind room old mid new P Q out result e h t = record {
+turn_behind room old mid new P Q out result h t = record {
   delta = t.delta;
-  wire = λ p b.
-      let one = t.wire p b in
-      (one.0, one.1, one.2, subst (λ (o : Option RelayFault). IsExplained p one.0 o (Rests room new) (λ past. past.read_waits) result) e one.3);
+  answer = t.answer;
+  wire = t.wire;
+  due = due_behind room old mid t.answer h t.due;
+  fits = t.fits;
   count = t.count;
   reads = side_then old mid new (events_of result) [] t.delta (take (in_sum (events_of result)) out) h t.reads;
   waiting = t.waiting;
   waits = t.waits;
   cause = t.cause;
 }
+
+fits_same : (room : ℕ) (mid new : SourceSide) (answer : Option Got) (result : Result Turn RelayFault) → new.body ≡ mid.body → FitsGot room mid answer result → FitsGot room new answer result
+fits_same room mid new None (Ok turn) e f = λ w. subst (λ (b : SourceBody). (b.ended ≡ true) ⊎ (room ≡ 0)) (sym e) (f w)
+fits_same room mid new None (Err fault) e f = f
+fits_same room mid new (Some (got.Bytes n)) (Ok turn) e f = f
+fits_same room mid new (Some (got.Bytes n)) (Err fault) e f = f
+fits_same room mid new (Some got.Ended) (Ok turn) e f = f
+fits_same room mid new (Some got.Ended) (Err fault) e f = f
+fits_same room mid new (Some got.Wait) (Ok turn) e f = f
+fits_same room mid new (Some got.Wait) (Err fault) e f = f
+fits_same room mid new (Some got.Fault) result e f = f
 
 -- the same, but for the fault that is kept
 pub turn_kept : (room : ℕ) (old mid new : SourceSide) (P Q : Past → Type 0) (out : List ℕ) (result : Result Turn RelayFault) → SameSide mid new → new.raw.items ≡ mid.raw.items → ReadTurn room old mid P Q out result
@@ -260,10 +280,10 @@ turn_kept room old mid new P Q out result m r t =
     let part = take (in_sum (events_of result)) out in
     record {
       delta = t.delta;
-      wire = λ p b.
-          let one = t.wire p b in
-          let why = one.3 in
-          (one.0, one.1, one.2, record { device = why.device; closed = why.closed; waiting = λ w. subst (λ (b : SourceBody). ((b.ended ≡ true) ⊎ (room ≡ 0)) ⊎ (p.read_waits < one.0.read_waits)) (sym m.body) (why.waiting w) });
+      answer = t.answer;
+      wire = t.wire;
+      due = t.due;
+      fits = fits_same room mid new t.answer result m.body t.fits;
       count = t.count;
       reads = record {
         only = t.reads.only;
@@ -278,14 +298,39 @@ turn_kept room old mid new P Q out result m r t =
       cause = λ f e. subst (λ (b : SourceBody). ((f ≡ Closed) × IsCutShort b) ⊎ ((f ≡ Device) ⊎ ((f ≡ NoMemory) ⊎ Refuses f b new.raw.items))) (sym m.body) (subst (λ (i : List ℕ). ((f ≡ Closed) × IsCutShort mid.body) ⊎ ((f ≡ Device) ⊎ ((f ≡ NoMemory) ⊎ Refuses f mid.body i))) (sym r) (t.cause f e));
     }
 
+-- the wire has given these bytes since
+later_given : (p : Past) (given : List ℕ) (answer : Option Got) → IsGiven given answer → IsLater p given [] (after_ask p given answer)
+later_given p given None e = subst (λ (t : List ℕ). IsLater p t [] p) (sym e) (later_none p)
+later_given p given (Some (got.Bytes n)) f =
+    let whole : take n given ≡ given = ap (λ (k : ℕ). take k given) f.0 ∙ take-length given in
+    record { read = ap (λ (t : List ℕ). p.read ++ t) whole; out = sym (append-nil p.taken); ends = omega arith; read_waits = omega arith; write_waits = omega arith; faults = omega arith }
+later_given p given (Some got.Ended) e = record { read = sym (ap (λ (t : List ℕ). p.read ++ t) e ∙ append-nil p.read); out = sym (append-nil p.taken); ends = omega arith; read_waits = omega arith; write_waits = omega arith; faults = omega arith }
+later_given p given (Some got.Wait) e = record { read = sym (ap (λ (t : List ℕ). p.read ++ t) e ∙ append-nil p.read); out = sym (append-nil p.taken); ends = omega arith; read_waits = omega arith; write_waits = omega arith; faults = omega arith }
+later_given p given (Some got.Fault) e = record { read = sym (ap (λ (t : List ℕ). p.read ++ t) e ∙ append-nil p.read); out = sym (append-nil p.taken); ends = omega arith; read_waits = omega arith; write_waits = omega arith; faults = omega arith }
+
+-- a refusal doesn't wait
+never_waits : (result : Result Turn RelayFault) (g : RelayFault) → result ≡ Err g → waits_of result ≡ true → ⊥
+never_waits result g e h = let odd : false ≡ true = sym (ap (λ (r : Result Turn RelayFault). waits_of r) e) ∙ h in cc
+
+-- why it waits, or failed
+reason : (room : ℕ) (new : SourceSide) (p : Past) (given : List ℕ) (answer : Option Got) (fault : Option RelayFault) (result : Result Turn RelayFault) → FitsGot room new answer result
+    → HasReason Device p (after_ask p given answer) fault (Rests room new) (λ past. past.read_waits) result
+reason room new p given None fault (Ok turn) f = record { device = λ e n. cc; waiting = λ h. inl (f h) }
+reason room new p given None fault (Err g) f = record { device = λ e n. let is : g ≡ Device = cc in absurd (f.1 is); waiting = λ h. cc }
+reason room new p given (Some (got.Bytes n)) fault (Ok turn) f = record { device = λ e n. cc; waiting = λ h. let odd : true ≡ false = sym h ∙ f in cc }
+reason room new p given (Some (got.Bytes n)) fault (Err g) f = record { device = λ e n. let is : g ≡ Device = cc in absurd (f.1 is); waiting = λ h. cc }
+reason room new p given (Some got.Ended) fault (Ok turn) f = record { device = λ e n. cc; waiting = λ h. let odd : true ≡ false = sym h ∙ f in cc }
+reason room new p given (Some got.Ended) fault (Err g) f = record { device = λ e n. let is : g ≡ Device = cc in absurd (f is); waiting = λ h. cc }
+reason room new p given (Some got.Wait) fault (Ok turn) f = record { device = λ e n. cc; waiting = λ h. inr (omega arith) }
+reason room new p given (Some got.Wait) fault (Err g) f = absurd f
+reason room new p given (Some got.Fault) fault result f = record { device = λ e n. omega arith; waiting = λ h. absurd (never_waits result Device f h) }
+
 -- so it is what a transaction asks of a source
 pub as_source : (room : ℕ) (old new : SourceSide) (P Q : Past → Type 0) (out : List ℕ) (result : Result Turn RelayFault) → length out ≡ room → Remembers old.fault new.fault result → ReadTurn room old new P Q out result
     → ReadsBody (λ x body read. SideRead x body read old) (λ x body read. SideRead x body read new) (λ x. Agrees x old.body) (λ x. Agrees x new.body) old.fault new.fault (Rests room new) P Q out result
 as_source room old new P Q out result l k t = record {
   delta = t.delta;
-  wire = λ p b.
-      let one = t.wire p b in
-      (one.0, one.1, one.2, record { device = one.3.device; waiting = one.3.waiting });
+  wire = λ p b. (after_ask p t.delta t.answer, t.wire.each p b, later_given p t.delta t.answer t.wire.fits, reason room new p t.delta t.answer old.fault result t.fits);
   only = t.reads.only;
   count = omega (arith, l, t.count);
   legal = t.reads.legal;

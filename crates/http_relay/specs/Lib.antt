@@ -1,7 +1,7 @@
 pub mod Body
 pub mod Events
 pub mod Source
-pub mod Reasons
+pub mod Asking
 pub mod Reading
 pub mod Message
 pub mod Giving

@@ -11,8 +11,9 @@ use Rattle.trace_core.specs.declared.history.Seen.{Seen}
 use Rattle.wire_kit.specs.Past.{Past}
 use Rattle.trace_core.specs.Turns.{after_all, MayAllFollow, AllAre, in_sum, is_of_source}
 use Rattle.http_relay.specs.Source.{known, Agrees, BodyRead, IsCutShort, MustWait, Refuses}
-use Rattle.wire_kit.specs.Past.{IsLater}
-use Rattle.http_relay.specs.Reasons.{IsExplained}
+use Rattle.wire_kit.specs.declared.wire.Got.{Got}
+use Rattle.wire_kit.specs.declared.wire.Got.TheVariants as got
+use Rattle.http_relay.specs.Asking.{Reads}
 use Rattle.adapt_sides.specs.Turns.{SaysWaiting, events_of, waits_of}
 use Rattle.adapt_sides.specs.declared.fault.RelayFault.{RelayFault}
 use Rattle.adapt_sides.specs.declared.fault.RelayFault.TheVariants.{Closed, Device, NoMemory}
@@ -25,7 +26,7 @@ use Rattle.http_relay.specs.declared.side.head.Judged.{Judged}
 use Rattle.http_relay.specs.declared.side.head.Judged.TheVariants as judged
 use Rattle.http_relay.specs.declared.fill.Filled.{Filled}
 use Rattle.http_relay.specs.declared.fill.Filled.TheVariants as filled
-use Rattle.http_relay.specs.Judging.{IsLooking, Looks}
+use Rattle.http_relay.specs.Judging.{IsLooking, HasNoHead, Looks}
 use Rattle.adapt_sides.specs.declared.turn.Turn.{Turn}
 
 -- an interim response other than 101
@@ -117,9 +118,37 @@ IsFilled before after old new filled.NoMemory = (new ≡ old) × ((p : Past) →
 abbrev pub IsCause : RelayFault → SourceSide → Type 0
 IsCause fault s = ((fault ≡ Closed) × IsCutShort s.body) ⊎ ((fault ≡ Device) ⊎ ((fault ≡ NoMemory) ⊎ Refuses fault s.body s.raw.items))
 
+-- A read is due: the body goes on, there is room, and all bytes that were kept are framed.
+pub record IsReadDue (room : ℕ) (s : SourceSide) : Type 0 where
+  pub going_on : s.body.ended ≡ false
+  pub some_room : 0 < room
+  pub none_kept : s.raw.items ≡ []
+
+-- the wire is read only where that is due once the bytes that are kept were framed, and no event came of them
+abbrev pub ReadsWhereDue : ℕ → SourceSide → Option Got → Type 0
+ReadsWhereDue room old Nothing = Unit {0}
+ReadsWhereDue room old (Some answer) = (framed : SourceSide) × SideReads old framed [] [] [] × IsReadDue room framed
+
+-- What a turn makes of its wire's answer. It waits where the wire says so, or, where it didn't read, where nothing is to be
+-- read; Closed is answered only where the wire ended, and Device just where it failed.
+abbrev pub FitsGot : ℕ → SourceSide → Option Got → Result Turn RelayFault → Type 0
+FitsGot room new Nothing (Ok turn) = turn.waiting ≡ true → Rests room new
+FitsGot room new Nothing (Err fault) = (fault ≢ Closed) × (fault ≢ Device)
+FitsGot room new (Some (got.Bytes n)) (Ok turn) = turn.waiting ≡ false
+FitsGot room new (Some (got.Bytes n)) (Err fault) = (fault ≢ Closed) × (fault ≢ Device)
+FitsGot room new (Some got.Ended) (Ok turn) = turn.waiting ≡ false
+FitsGot room new (Some got.Ended) (Err fault) = fault ≢ Device
+FitsGot room new (Some got.Wait) (Ok turn) = turn.waiting ≡ true
+FitsGot room new (Some got.Wait) (Err fault) = ⊥
+FitsGot room new (Some got.Fault) result = result ≡ Err Device
+
+-- A turn of a side without a fault makes one read at most.
 pub record ReadTurn (room : ℕ) (old new : SourceSide) (before after : Past → Type 0) (out : List ℕ) (result : Result Turn RelayFault) : Type 0 where
   pub delta : List ℕ
-  pub wire : (p : Past) → before p → (q : Past) × after q × IsLater p delta [] q × IsExplained p q old.fault (Rests room new) (λ past. past.read_waits) result
+  pub answer : Option Got
+  pub wire : Reads before after delta answer
+  pub due : ReadsWhereDue room old answer
+  pub fits : FitsGot room new answer result
   pub count : in_sum (events_of result) ≤ room
   pub reads : SideReads old new (events_of result) delta (take (in_sum (events_of result)) out)
   pub waiting : SaysWaiting (events_of result) delta result
@@ -144,16 +173,29 @@ ScannedTo (Ok true) read s = Begins read s
 ScannedTo (Ok false) read s = AtHead read s
 ScannedTo (Err fault) read s = AtHead read s
 
--- why a turn at the head answers that more is to come, or a fault of its wire
-pub record HeadReason (p q : Past) (delta : List ℕ) (result : Result Bool RelayFault) : Type 0 where
-  pub waits : result ≡ Ok false → (0 < length delta) ⊎ (p.read_waits < q.read_waits)
-  pub closed : result ≡ Err Closed → p.ends < q.ends
-  pub device : result ≡ Err Device → p.faults < q.faults
+-- the wire is read only where no head is among the bytes that are kept
+abbrev pub ReadsForHead : SourceSide → Option Got → Type 0
+ReadsForHead old Nothing = Unit {0}
+ReadsForHead old (Some answer) = (judged : SourceSide) × ((read : List ℕ) → AtHead read old → AtHead read judged) × (IsLooking old → HasNoHead judged)
 
--- a turn at the head, in which the wire gave these bytes
+-- What a turn at the head makes of its wire's answer. That more is to come it says where the wire gave bytes or none now;
+-- Closed and Device are answered just where the wire ended or failed.
+abbrev pub FitsHead : Option Got → Result Bool RelayFault → Type 0
+FitsHead Nothing (Ok found) = found ≡ true
+FitsHead Nothing (Err fault) = (fault ≢ Closed) × (fault ≢ Device)
+FitsHead (Some (got.Bytes n)) (Ok found) = Unit {0}
+FitsHead (Some (got.Bytes n)) (Err fault) = (fault ≢ Closed) × (fault ≢ Device)
+FitsHead (Some got.Ended) result = result ≡ Err Closed
+FitsHead (Some got.Wait) result = result ≡ Ok false
+FitsHead (Some got.Fault) result = result ≡ Err Device
+
+-- A turn at the head, in which the wire gave these bytes. It makes one read at most.
 pub record HeadTurn (old new : SourceSide) (before after : Past → Type 0) (result : Result Bool RelayFault) : Type 0 where
   pub delta : List ℕ
-  pub wire : (p : Past) → before p → (q : Past) × after q × IsLater p delta [] q × HeadReason p q delta result
+  pub answer : Option Got
+  pub wire : Reads before after delta answer
+  pub due : ReadsForHead old answer
+  pub fits : FitsHead answer result
   pub heads : (read : List ℕ) → AtHead read old → ScannedTo result (read ++ delta) new
   pub looks : IsLooking old → Looks result new
 

@@ -75,6 +75,7 @@ impl SourceSide {
     fn read_wire<W: Wire>(&mut self, wire: &mut W, out: &mut [u8]) -> Result<Turn, RelayFault>
         requires empty { self.old.raw.items ≡ [] }
         requires going_on { self.old.body.ended ≡ false }
+        requires some_room { 0 < length out.old }
         ensures turn { ReadTurn (length out.old) self.old self.new (W.past wire.old) (W.past wire.new) out.new result }
         ensures kept { length self.new.raw.items ≤ 4096 }
         ensures fault { self.new.fault ≡ self.old.fault }

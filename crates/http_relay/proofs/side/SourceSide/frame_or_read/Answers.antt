@@ -33,5 +33,5 @@ returns-clause-turn g c =
     let none : c.in-Ok.events.items ≡ [] = search rules in
     let still : SideReads c.args.self.now c.frame_raw.new.self [] [] [] =
     subst (λ (es : List Event). SideReads c.args.self.now c.frame_raw.new.self es [] (take (in_sum es) c.frame_raw.new.out)) none c.in-Ok.ensures.reads in
-    turn_behind (length c.args.out.now) c.args.self.now c.frame_raw.new.self c.read_wire.new.self (g.W.Wire.past c.args.wire.now) (g.W.Wire.past c.read_wire.new.wire) c.read_wire.new.out c.read_wire.result c.in-Ok.ensures.fault still
+    turn_behind (length c.args.out.now) c.args.self.now c.frame_raw.new.self c.read_wire.new.self (g.W.Wire.past c.args.wire.now) (g.W.Wire.past c.read_wire.new.wire) c.read_wire.new.out c.read_wire.result still
     (subst (λ (n : ℕ). ReadTurn n c.frame_raw.new.self c.read_wire.new.self (g.W.Wire.past c.args.wire.now) (g.W.Wire.past c.read_wire.new.wire) c.read_wire.new.out c.read_wire.result) c.frame_raw.auto.out c.read_wire.ensures.turn)
