@@ -1,5 +1,5 @@
 -- What a turn answers, by what its wire answered.
-use Rattle.std.proofs.Common.{◌≡◌, ℕ, arith, Bool, true, false, ◌||◌, List, [], ◌∷◌, ◌++◌, refl, ap, sym, subst, ◌∙◌, append-nil, Option, Some, None, Result, Ok, Err, ◌⊎◌, inl, inr, ◌==◌}
+use Rattle.std.proofs.Common.{◌≡◌, ℕ, ◌+◌, ◌≤◌, arith, Bool, true, false, ◌||◌, List, [], ◌∷◌, ◌++◌, refl, ap, sym, subst, ◌∙◌, append-nil, Option, Some, None, Result, Ok, Err, ◌⊎◌, inl, inr, ◌==◌}
 use Rattle.std.proofs.lemmas.Bool.Decides.{nat_tests}
 use Rattle.trace_core.specs.declared.history.Seen.{Seen}
 use Rattle.trace_core.specs.declared.history.Event.{Event}
@@ -14,7 +14,7 @@ use Rattle.wire_kit.specs.Past.{Past, Offers, delta_of}
 use Rattle.wire_kit.specs.declared.wire.Put.{Put}
 use Rattle.wire_kit.specs.declared.wire.Put.TheVariants as put
 use Rattle.chunk_writer.specs.declared.next.Next.{Next}
-use Rattle.chunk_writer.specs.Writer.{Writer, waiting, is_ending, IsIdle}
+use Rattle.chunk_writer.specs.Writer.{Writer, waiting, is_ending, offered, IsIdle}
 use Rattle.chunk_writer.specs.Moves.{Moves, IsStill}
 use Rattle.chunk_writer.proofs.Moving.{Reaches, reaches}
 use Rattle.adapt_sides.specs.declared.turn.Turn.{Turn}
@@ -29,8 +29,8 @@ use Rattle.trace_core.specs.Turns.{after_all, MayAllFollow}
 use Rattle.adapt_sides.specs.Tapes.{Follows, KeepsUndelivered}
 use Rattle.adapt_sides.specs.Turns.{events_of}
 use Rattle.http_relay.proofs.Counted.{took_body}
-use Rattle.http_relay.specs.Writing.{GoesOn, WriteTurn, Fits, FitsAnswer}
-use Rattle.http_relay.proofs.Chosen.{done_means}
+use Rattle.http_relay.specs.Writing.{GoesOn, OffersAll, WriteTurn, Fits, FitsAnswer}
+use Rattle.http_relay.proofs.Chosen.{done_means, fewer}
 use Rattle.http_relay.proofs.Given.{gives_passed}
 use Rattle.http_relay.proofs.Carried.{given_on, aside_on, done_given, undelivered_done, legal_by, held_by, usr_to}
 
@@ -201,37 +201,45 @@ turned_let_go x tape old mid new before after' result l t = record {
   answer = t.answer;
   wire = t.wire;
   goes_on = goes_let_go x tape old mid new (events_of result) (delta_of t.text t.answer) l t.goes_on;
+  offers = t.offers;
   fits = λ n. fits_let_go x old mid new t.answer result l (t.fits n);
 }
 
+pub decides_at : (x : Seen) (old : Hop) (v : Writer) (f : Framing) (stage : Stage) (next : Next) → v ≡ old.writer → f ≡ old.framing → stage ≡ old.stage → Decides x v f stage next → Decides x old.writer old.framing old.stage next
+decides_at x old v f stage next w fe se c =
+    subst (λ (v' : Writer). Decides x v' old.framing old.stage next) w (subst (λ (f' : Framing). Decides x v f' old.stage next) fe (subst (λ (s' : Stage). Decides x v f s' next) se c))
+
 -- the writer and the rest of the side, by their parts
-pub turned : (x : Seen) (tape : Tape) (next : Next) (old new : Hop) (v : Writer) (f : Framing) (stage : Stage) (before after' : Past → Type 0) (result : Result Turn RelayFault) (text : List ℕ) (answer : Option Put) (k : ℕ) (e done : Bool)
-    → v ≡ old.writer → f ≡ old.framing → stage ≡ old.stage → Sound x → KeepsUndelivered x tape → Decides x v f stage next → Offers before after' text answer → Moves tape next v k e (delta_of text answer) new.writer
-    → Settles x next old new k e done (delta_of text answer) → events_of result ≡ turn_events k done → (old.fault ≡ None → Fits x old new answer result) → WriteTurn x tape old new before after' result
-turned x tape next old new v f stage before after' result text answer k e done w fe se s u c o m t h fit = record {
-  text = text;
-  answer = answer;
-  wire = o;
-  goes_on = subst (λ (events : List Event). GoesOn x tape old new events (delta_of text answer)) (sym h)
-      (goes_on x tape next old new k e done (delta_of text answer) s u
-      (subst (λ (v' : Writer). Decides x v' old.framing old.stage next) w (subst (λ (f' : Framing). Decides x v f' old.stage next) fe (subst (λ (s' : Stage). Decides x v f s' next) se c)))
-      (subst (λ (v' : Writer). Moves tape next v' k e (delta_of text answer) new.writer) w m) t);
-  fits = fit;
-}
+pub turned : (x : Seen) (tape : Tape) (next : Next) (old new : Hop) (v : Writer) (f : Framing) (stage : Stage) (before after' : Past → Type 0) (result : Result Turn RelayFault) (answer : Option Put) (k : ℕ) (e done : Bool)
+    → v ≡ old.writer → f ≡ old.framing → stage ≡ old.stage → Sound x → KeepsUndelivered x tape → Decides x v f stage next → Offers before after' (offered v tape next) answer → (answer ≡ None → offered v tape next ≡ []) → (offered v tape next ≡ [] → answer ≡ None)
+    → Moves tape next v k e (delta_of (offered v tape next) answer) new.writer → Settles x next old new k e done (delta_of (offered v tape next) answer) → events_of result ≡ turn_events k done → (old.fault ≡ None → Fits x old new answer result) → WriteTurn x tape old new before after' result
+turned x tape next old new v f stage before after' result answer k e done w fe se s u c o silent asks m t h fit =
+    let text = offered v tape next in
+    let decides : Decides x old.writer old.framing old.stage next = decides_at x old v f stage next w fe se c in
+    record {
+      text = text;
+      answer = answer;
+      wire = o;
+      goes_on = subst (λ (events : List Event). GoesOn x tape old new events (delta_of text answer)) (sym h)
+          (goes_on x tape next old new k e done (delta_of text answer) s u decides (subst (λ (v' : Writer). Moves tape next v' k e (delta_of text answer) new.writer) w m) t);
+      offers = λ none. inr (record { next = next; decides = decides; all = ap (λ (v' : Writer). offered v' tape next) w; asks = (silent, asks) });
+      fits = fit;
+    }
 
 -- no write is made
 pub unmoved : (x : Seen) (tape : Tape) (old new : Hop) (before : Past → Type 0) (fault : RelayFault) → new.writer ≡ old.writer → new.framing ≡ old.framing → new.stage ≡ old.stage → new.touched ≡ old.touched
-    → (old.fault ≡ None → Fits x old new None (Err fault)) → WriteTurn x tape old new before before (Err fault)
-unmoved x tape old new before fault w f s t fit = record {
+    → (old.fault ≡ None → fault ≡ Length) → (old.fault ≡ None → Fits x old new None (Err fault)) → WriteTurn x tape old new before before (Err fault)
+unmoved x tape old new before fault w f s t only fit = record {
   text = [];
   answer = None;
   wire = record { each = λ p h. h; fits = tt };
   goes_on = goes_same x tape old new w f s t;
+  offers = λ none. inl (ap (λ (g : RelayFault). Err g) (only none));
   fits = fit;
 }
 
 pub faulted : (x : Seen) (tape : Tape) (old : Hop) (before : Past → Type 0) (fault : RelayFault) → old.fault ≡ Some fault → WriteTurn x tape old old before before (Err fault)
-faulted x tape old before fault e = unmoved x tape old old before fault refl refl refl refl (λ none. cc)
+faulted x tape old before fault e = unmoved x tape old old before fault refl refl refl refl (λ none. cc) (λ none. cc)
 
 pub still_wait : (answer : Option Put) (k : ℕ) (e : Bool) → answer ≡ Some put.Wait → IsStill answer k e → (k ≡ 0) × (e ≡ false)
 still_wait None k e a s = cc
@@ -306,9 +314,19 @@ due_by : (stage : Stage) (x : Seen) (old : Hop) (next : Next) (e : Bool) → sta
 due_by at.Empty x old next e s v c z i n m b o a = let t : (is_message at.Empty || is_whole at.Empty) ≡ true = ap (λ (st : Stage). is_message st || is_whole st) s ∙ b in cc
 due_by at.Message x old next e s v c z i n m b o a =
     let all = done_means x v a in
-    c.no_end (ap is_message (sym s)) z (sym i ∙ n) o all.0 all.1
+    c.no_end (ap is_message (sym s)) (sym i ∙ n) o all.0 (ap (λ (k : ℕ). chosen_delivered x + k) z ∙ (omega arith ∙ all.1))
 due_by at.Whole x old next e s v c z i n m b o a = m (ap is_whole (sym s)) o a
 due_by (at.Refusal status) x old next e s v c z i n m b o a = let t : (is_message (at.Refusal status) || is_whole (at.Refusal status)) ≡ true = ap (λ (st : Stage). is_message st || is_whole st) s ∙ b in cc
+
+some_of : (x : Seen) (n : ℕ) → Allows x (Usr n) → 1 ≤ n
+some_of x n (inl a) = a.1.0
+some_of x n (inr a) = a.1.0
+
+-- where no byte comes next none may go: one always fits
+no_usr : (x : Seen) (old : Hop) (next : Next) → Decides x old.writer old.framing old.stage next → is_message old.stage ≡ true → next.count ≡ 0 → (n : ℕ) → x.closed ≡ false → Allows x (Usr n) → ⊥
+no_usr x old next c m z n o a =
+    let one : 1 ≤ next.count = c.greatest m 1 o (fewer x 1 n (omega arith) (some_of x n a) a) (omega arith, λ h l. omega (arith, l)) in
+    absurd (omega (arith, z, one))
 
 pub fits_none : (x : Seen) (old new : Hop) (next : Next) (answer : Option Put) (k : ℕ) (e done : Bool) (turn : Turn) → answer ≡ None → Sound x → Decides x old.writer old.framing old.stage next → IsIdle old.writer next k e
     → turn.events.items ≡ turn_events 0 done → (done ≡ false → e ≡ true → ⊥) → (done ≡ false → is_whole old.stage ≡ true → x.closed ≡ false → Allows x Done → ⊥)
@@ -323,7 +341,7 @@ fits_none x old new next answer k e done turn a v c i h ne nm t f out st = recor
       record {
         one = chosen_once x v;
         flushed = out;
-        none = λ m. c.no_usr (ap is_message (sym same) ∙ m) i.none;
+        none = λ m. no_usr x old next c (ap is_message (sym same) ∙ m) i.none;
         no_done = λ m. due_by old.stage x old next e refl v c i.none i.end_fixed going (nm no) (ap (λ (stage : Stage). is_message stage || is_whole stage) (sym same) ∙ m);
       };
   waiting_is = λ b. (t b, inr a);
@@ -353,7 +371,3 @@ settles_by x next old new w f stage touched fault k s e done may d n fe se t g a
   done_at = λ h. (ap (λ (hop : Hop). hop.stage) n ∙ (g h).0, ap (λ (hop : Hop). waiting hop.writer) n ∙ (g h).1);
   may = λ h. may_by x e may k s a z (g h).2;
 }
-
-pub decides_at : (x : Seen) (old : Hop) (v : Writer) (f : Framing) (stage : Stage) (next : Next) → v ≡ old.writer → f ≡ old.framing → stage ≡ old.stage → Decides x v f stage next → Decides x old.writer old.framing old.stage next
-decides_at x old v f stage next w fe se c =
-    subst (λ (v' : Writer). Decides x v' old.framing old.stage next) w (subst (λ (f' : Framing). Decides x v f' old.stage next) fe (subst (λ (s' : Stage). Decides x v f s' next) se c))

@@ -234,8 +234,8 @@ pub may_go_on : (x : Seen) (tape : Tape) (f : Framing) (old : Writer) (stage : S
 may_go_on x tape f old stage next s u c = record {
   low = λ some. omega (arith, base_of x tape f old stage next u c some, c.from);
   there = λ some. omega (arith, c.from, u.end, usr_room x next.count s (c.usr some).2);
-  few = c.few;
-  within = c.within;
+  few = c.fits.0;
+  within = c.fits.1;
 }
 
 pub held_by : (x : Seen) (tape : Tape) (f : Framing) (old : Writer) (stage : Stage) (next : Next) (body : List ℕ) → Sound x → KeepsUndelivered x tape → Decides x old f stage next → Follows tape body → Held x tape f old stage next body

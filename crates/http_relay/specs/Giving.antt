@@ -9,7 +9,7 @@ use Rattle.trace_core.specs.Faults.{chooses_original}
 use Rattle.trace_core.specs.View.{after}
 use Rattle.chunk_writer.specs.declared.next.Next.{Next}
 use Rattle.chunk_writer.specs.Cut.{IsCut, Run}
-use Rattle.chunk_writer.specs.Writer.{Writer, waiting, is_ending, end_text}
+use Rattle.chunk_writer.specs.Writer.{Writer, waiting, is_ending, end_text, FitsTurn}
 use Rattle.http_side.specs.Refusals.{refusal}
 use Rattle.http_side.specs.declared.body.Framing.{Framing}
 use Rattle.http_relay.specs.declared.hop.Stage.{Stage}
@@ -86,18 +86,19 @@ is_empty _ = false
 abbrev pub body_end : Framing → List ℕ
 body_end framing = if is_chunked framing then last_chunk false else []
 
+-- What comes next: of the chosen message's bytes that may go all that fit into a turn and into the chunk that was begun, and the
+-- body's end behind them where it stands there. Before a message is begun, and behind its end, nothing. So there is one such next.
 pub record Decides (x : Seen) (w : Writer) (framing : Framing) (stage : Stage) (next : Next) : Type 0 where
   pub chunked : next.chunked ≡ is_chunked framing
   pub from : next.from ≡ chosen_delivered x
-  pub few : next.count ≤ 4096
-  pub within : next.chunked ≡ true → 0 < w.left → next.count ≤ w.left
+  pub fits : FitsTurn w next.chunked next.count
   pub usr : 0 < next.count → (is_message stage ≡ true) × (x.closed ≡ false) × Allows x (Usr next.count)
+  pub greatest : is_message stage ≡ true → (n : ℕ) → x.closed ≡ false → Allows x (Usr n) → FitsTurn w next.chunked n → n ≤ next.count
   pub room : 0 < next.count → IfSome (length_of framing) (λ n. chosen_received x ≤ n)
   pub ends : is_ending next.end ≡ true → (is_message stage ≡ true) × (x.closed ≡ false) × (chosen_over x ≡ true) × (chosen_delivered x + next.count ≡ chosen_received x)
+  pub no_end : is_message stage ≡ true → is_ending next.end ≡ false → x.closed ≡ false → chosen_over x ≡ true → chosen_delivered x + next.count ≡ chosen_received x → ⊥
   pub text : is_ending next.end ≡ true → end_text next.end ≡ body_end framing
   pub exact : is_ending next.end ≡ true → IfSome (length_of framing) (λ n. chosen_received x ≡ n)
-  pub no_usr : is_message stage ≡ true → next.count ≡ 0 → (n : ℕ) → x.closed ≡ false → Allows x (Usr n) → ⊥
-  pub no_end : is_message stage ≡ true → next.count ≡ 0 → is_ending next.end ≡ false → x.closed ≡ false → chosen_over x ≡ true → chosen_delivered x ≡ chosen_received x → ⊥
 
 -- the body that came passes its length, or has ended short of it
 pub data BreaksLength (x : Seen) (framing : Framing) : Type 0 where

@@ -1,12 +1,13 @@
 -- What a write turn of the next hop does.
-use Rattle.std.specs.Prelude.{◌≡◌, ℕ, ◌-◌, ◌⊎◌, Bool, true, false, List, [], ◌++◌, take, drop, Option, Some, None, Result, Ok, Err}
+use Rattle.std.specs.Prelude.{◌≡◌, ℕ, ◌-◌, ◌⊎◌, ◌↔◌, Bool, true, false, List, [], ◌++◌, take, drop, Option, Some, None, Result, Ok, Err}
 use Rattle.trace_core.specs.declared.history.Event.{Event}
 use Rattle.trace_core.specs.declared.history.Seen.{Seen}
 use Rattle.span_tape.specs.Tape.{Tape}
 use Rattle.wire_kit.specs.Past.{Past, Offers, delta_of}
 use Rattle.wire_kit.specs.declared.wire.Put.{Put}
 use Rattle.wire_kit.specs.declared.wire.Put.TheVariants as put
-use Rattle.chunk_writer.specs.Writer.{waiting}
+use Rattle.chunk_writer.specs.declared.next.Next.{Next}
+use Rattle.chunk_writer.specs.Writer.{waiting, offered}
 use Rattle.adapt_sides.specs.declared.turn.Turn.{Turn}
 use Rattle.adapt_sides.specs.declared.fault.RelayFault.{RelayFault}
 use Rattle.adapt_sides.specs.declared.fault.RelayFault.TheVariants.{Device, Length}
@@ -14,7 +15,7 @@ use Rattle.http_relay.specs.declared.hop.Stage.TheVariants as at
 use Rattle.trace_core.specs.Turns.{after_all, MayAllFollow}
 use Rattle.adapt_sides.specs.Tapes.{Follows, chosen_delivered}
 use Rattle.adapt_sides.specs.Turns.{events_of}
-use Rattle.http_relay.specs.Giving.{Hop, HasGiven, IsAside, NothingDue, BreaksLength, is_message, turn_events, gift_of}
+use Rattle.http_relay.specs.Giving.{Hop, HasGiven, IsAside, NothingDue, BreaksLength, Decides, is_message, turn_events, gift_of}
 
 -- so many bytes of the body, the next ones on its tape, are among those that the wire took
 pub record TookBody (x : Seen) (tape : Tape) (count : ℕ) (delta : List ℕ) : Type 0 where
@@ -53,10 +54,19 @@ Fits x old new answer (Err fault) =
     ((fault ≡ Device) × (answer ≡ Some put.Fault))
     ⊎ ((fault ≡ Length) × (answer ≡ None) × (is_message old.stage ≡ true) × BreaksLength x old.framing)
 
--- A turn makes one write at most. Behind a fault it makes none.
+-- The text that is offered is all that is due: what waits and, unless a long head goes out alone, what comes next behind it; the
+-- wire is asked only where there is such a text.
+pub record OffersAll (x : Seen) (tape : Tape) (old : Hop) (text : List ℕ) (answer : Option Put) : Type 0 where
+  pub next : Next
+  pub decides : Decides x old.writer old.framing old.stage next
+  pub all : text ≡ offered old.writer tape next
+  pub asks : answer ≡ None ↔ text ≡ []
+
+-- A turn makes one write at most, and offers all that is due. Behind a fault, and where the body breaks its length, it makes none.
 pub record WriteTurn (x : Seen) (tape : Tape) (old new : Hop) (before after : Past → Type 0) (result : Result Turn RelayFault) : Type 0 where
   pub text : List ℕ
   pub answer : Option Put
   pub wire : Offers before after text answer
   pub goes_on : GoesOn x tape old new (events_of result) (delta_of text answer)
+  pub offers : old.fault ≡ None → (result ≡ Err Length) ⊎ OffersAll x tape old text answer
   pub fits : old.fault ≡ None → Fits x old new answer result

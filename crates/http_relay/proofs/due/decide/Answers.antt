@@ -23,19 +23,18 @@ returns-clause-next c =
     record {
       chunked = c.is_in_chunks-chunked.ensures;
       from = c.chosen-from.ensures.out ∙ ap chosen_delivered here;
-      few = fit.few;
-      within = fit.within;
+      fits = (fit.few, fit.within);
       usr = λ some.
           let all = c.sendable.ensures.usr.allowed (omega (arith, some, fit.most)) in
           (begun, all.0, fewer x c.fit-count.result c.sendable.result.usr some fit.most all.1);
+      greatest = λ m n o a f. fit.greatest n (c.sendable.ensures.usr.bound n (o, a)) f;
       room = λ some. subst (λ (y : Seen). IfSome (length_of length) (λ n. chosen_received y ≤ n)) here (fits.within c.if-not-fits_length.false);
       ends = λ i.
           let e = end.ends i in
           (begun, ap (λ (y : Seen). y.closed) (sym here) ∙ e.0, ap chosen_over (sym here) ∙ e.1, ap (λ (y : Seen). chosen_delivered y + c.fit-count.result) (sym here) ∙ (e.2 ∙ ap chosen_received here));
       text = end.text;
       exact = λ i. subst (λ (y : Seen). IfSome (length_of length) (λ n. chosen_received y ≡ n)) here (fits.exact c.if-not-fits_length.false (end.ends i).1);
-      no_usr = λ m z n o a. absurd (omega (arith, z, fit.some, c.sendable.ensures.usr.bound n (o, a)));
-      no_end = λ m z i o v a.
+      no_end = λ m i o v a.
           end.never i (ap (λ (y : Seen). y.closed) here ∙ o) (ap chosen_over here ∙ v)
-          (ap (λ (y : Seen). chosen_delivered y + c.fit-count.result) here ∙ (ap (λ (n : ℕ). chosen_delivered x + n) z ∙ (omega arith ∙ (a ∙ ap chosen_received (sym here)))));
+          (ap (λ (y : Seen). chosen_delivered y + c.fit-count.result) here ∙ (a ∙ ap chosen_received (sym here)));
     }

@@ -22,7 +22,7 @@ returns-in-None-clause-turn g c =
     let x = seen c.args.state.now.plan c.args.state.now.events in
     let none = c.in-None.ensures.none refl in
     unmoved x c.args.tape.now c.args.self.now _ _ Length (ap (λ (h : Hop). h.writer) c.self.view_is) (ap (λ (h : Hop). h.framing) c.self.view_is) (ap (λ (h : Hop). h.stage) c.self.view_is) (ap (λ (h : Hop). h.touched) c.self.view_is)
-    (λ no. inr (refl, refl, ap (λ (h : Hop). is_message h.stage) (sym c.self.view_is) ∙ none.0, subst (λ (f : Framing). BreaksLength x f) (ap (λ (h : Hop). h.framing) c.self.view_is) none.1))
+    (λ no. refl) (λ no. inr (refl, refl, ap (λ (h : Hop). is_message h.stage) (sym c.self.view_is) ∙ none.0, subst (λ (f : Framing). BreaksLength x f) (ap (λ (h : Hop). h.framing) c.self.view_is) none.1))
 
 pub write-wrote-requires : goal.write-wrote-requires
 write-wrote-requires g c =
@@ -44,8 +44,8 @@ returns-in-Some-Fault-clause-turn g c =
     let te = ap (λ (h : Hop). h.touched) c.self.view_is in
     let answer : wrote.answer ≡ Some put.Fault = search rules in
     let still = still_fault wrote.answer wrote.sent wrote.ended answer o.still in
-    turned x tape next c.args.self.now _ in'.writer in'.framing in'.stage _ _ (Err Device) text wrote.answer wrote.sent wrote.ended false we fe se
-    (sound c.args.state.now.plan c.args.state.now.events c.trace.ensures.legal) c.requires c.in-Some-decide.ensures.next o.wire o.moves
+    turned x tape next c.args.self.now _ in'.writer in'.framing in'.stage _ _ (Err Device) wrote.answer wrote.sent wrote.ended false we fe se
+    (sound c.args.state.now.plan c.args.state.now.events c.trace.ensures.legal) c.requires c.in-Some-decide.ensures.next o.wire o.silent o.asks o.moves
     (settles_still x next c.args.self.now _ wrote.sent wrote.ended (delta_of text wrote.answer) still (no_delta_fault wrote.answer text answer) fe se te)
     (none_still wrote.sent wrote.ended still) (λ no. inl (refl, answer))
 
@@ -64,8 +64,8 @@ returns-in-Some-Wait-clause-turn g c =
     let te = ap (λ (h : Hop). h.touched) c.self.view_is in
     let answer : wrote.answer ≡ Some put.Wait = search rules in
     let still = still_wait wrote.answer wrote.sent wrote.ended answer o.still in
-    turned x tape next c.args.self.now _ in'.writer in'.framing in'.stage _ _ (Ok c.turn_of.result) text wrote.answer wrote.sent wrote.ended false we fe se
-    (sound c.args.state.now.plan c.args.state.now.events c.trace.ensures.legal) c.requires c.in-Some-decide.ensures.next o.wire o.moves
+    turned x tape next c.args.self.now _ in'.writer in'.framing in'.stage _ _ (Ok c.turn_of.result) wrote.answer wrote.sent wrote.ended false we fe se
+    (sound c.args.state.now.plan c.args.state.now.events c.trace.ensures.legal) c.requires c.in-Some-decide.ensures.next o.wire o.silent o.asks o.moves
     (settles_still x next c.args.self.now _ wrote.sent wrote.ended (delta_of text wrote.answer) still (no_delta_wait wrote.answer text answer) fe se te)
     (c.turn_of.ensures.events ∙ none_still wrote.sent wrote.ended still)
     (λ no. fits_wait x _ wrote.answer c.turn_of.result answer c.turn_of.ensures.events (λ h. c.turn_of.ensures.goes h refl))
@@ -87,8 +87,8 @@ returns-in-Some-Took-clause-turn g c =
     let se = ap (λ (h : Hop). h.stage) c.self.view_is in
     let answer : wrote.answer ≡ Some (put.Took c.in-Some-Took.field-0-0) = search rules in
     turned_let_go x tape c.args.self.now c.settle-done.new.self c.let_go.new.self _ _ (Ok turn.result) c.let_go.ensures
-    (turned x tape next c.args.self.now c.settle-done.new.self in'.writer in'.framing in'.stage _ _ (Ok turn.result) text wrote.answer wrote.sent wrote.ended done we fe se
-    (sound c.args.state.now.plan c.args.state.now.events c.trace.ensures.legal) c.requires c.in-Some-decide.ensures.next o.wire
+    (turned x tape next c.args.self.now c.settle-done.new.self in'.writer in'.framing in'.stage _ _ (Ok turn.result) wrote.answer wrote.sent wrote.ended done we fe se
+    (sound c.args.state.now.plan c.args.state.now.events c.trace.ensures.legal) c.requires c.in-Some-decide.ensures.next o.wire o.silent o.asks
     (subst (λ (v : Writer). Moves tape next in'.writer wrote.sent wrote.ended (delta_of text wrote.answer) v) (sym (ap (λ (h : Hop). h.writer) e.stage)) o.moves)
     (settles_by x next c.args.self.now c.settle-done.new.self c.write-wrote.new.self in'.framing in'.stage true in'.fault wrote.sent wrote.sent wrote.ended done c.sendable-may.result.done (delta_of text wrote.answer)
     e.stage fe se (λ u. cc) e.done c.sendable-may.ensures.done.0 (λ z. z))
@@ -115,8 +115,8 @@ returns-in-None-answer-clause-turn g c =
     let idle = o.idle answer in
     let s = sound c.args.state.now.plan c.args.state.now.events c.trace.ensures.legal in
     let may = c.sendable-may.ensures.done in
-    turned x tape next c.args.self.now settle.new.self in'.writer in'.framing in'.stage _ _ (Ok turn.result) text wrote.answer wrote.sent wrote.ended done we fe se
-    s c.requires c.in-Some-decide.ensures.next o.wire
+    turned x tape next c.args.self.now settle.new.self in'.writer in'.framing in'.stage _ _ (Ok turn.result) wrote.answer wrote.sent wrote.ended done we fe se
+    s c.requires c.in-Some-decide.ensures.next o.wire o.silent o.asks
     (subst (λ (v : Writer). Moves tape next in'.writer wrote.sent wrote.ended (delta_of text wrote.answer) v) (sym (ap (λ (h : Hop). h.writer) e.stage)) o.moves)
     (settles_by x next c.args.self.now settle.new.self c.write-wrote.new.self in'.framing in'.stage in'.touched in'.fault wrote.sent 0 wrote.ended done c.sendable-may.result.done (delta_of text wrote.answer)
     e.stage fe se (λ u. (sym te ∙ u, no_delta_none wrote.answer text answer, idle.none_sent)) e.done may.0 (λ z. idle.none_sent))
