@@ -3,6 +3,7 @@
 ghost use Rattle.arrayvec.specs.ArrayVec.{array_vec_len};
 ghost use Rattle.std.specs.Prelude.{◌≡◌, ◌+◌, ◌<◌, ◌≤◌, ◌++◌, ◌∷◌, [], IfSome, true, false, Some, None};
 ghost use Rattle.trace_core.specs.History.{seen};
+ghost use Rattle.trace_core.specs.Legal.{IsGreatest, MayFollow};
 ghost use Rattle.chunk_writer.specs.Writer.{is_ending, end_text};
 ghost use Rattle.http_relay.specs.Message.{is_chunked, length_of};
 ghost use Rattle.adapt_sides.specs.Tapes.{chosen_delivered, chosen_received, chosen_over};
@@ -40,7 +41,7 @@ pub(crate) fn decide(
     if !fits_length(&seen, framing, came, over) {
         return None;
     }
-    let count = writer.fit(chunked, state.sendable().usr);
+    let count = writer.fit(chunked, deliverable(state));
     let end = ending(&seen, framing, count);
     Some(Next {
         chunked,
@@ -48,6 +49,13 @@ pub(crate) fn decide(
         count,
         end,
     })
+}
+
+/// How many bytes of the chosen message's body may go to the next hop.
+fn deliverable(state: &State) -> u64
+    ensures { IsGreatest (λ n. MayFollow state.now.plan state.now.events (Event.Usr n)) result }
+{
+    state.sendable().usr
 }
 
 /// The body's end, if it stands behind so many more bytes.

@@ -25,9 +25,9 @@ returns-clause-next c =
       from = c.chosen-from.ensures.out ∙ ap chosen_delivered here;
       fits = (fit.few, fit.within);
       usr = λ some.
-          let all = c.sendable.ensures.usr.allowed (omega (arith, some, fit.most)) in
-          (begun, all.0, fewer x c.fit-count.result c.sendable.result.usr some fit.most all.1);
-      greatest = λ m n o a f. fit.greatest n (c.sendable.ensures.usr.bound n (o, a)) f;
+          let all = c.deliverable.ensures.allowed (omega (arith, some, fit.most)) in
+          (begun, all.0, fewer x c.fit-count.result c.deliverable.result some fit.most all.1);
+      greatest = λ m n o a f. fit.greatest n (c.deliverable.ensures.bound n (o, a)) f;
       room = λ some. subst (λ (y : Seen). IfSome (length_of length) (λ n. chosen_received y ≤ n)) here (fits.within c.if-not-fits_length.false);
       ends = λ i.
           let e = end.ends i in
