@@ -1,5 +1,5 @@
 -- What a turn answers, by what its wire answered.
-use Rattle.std.proofs.Common.{◌≡◌, ℕ, ◌+◌, ◌≤◌, arith, Bool, true, false, ◌||◌, List, [], ◌∷◌, ◌++◌, refl, ap, sym, subst, ◌∙◌, append-nil, Option, Some, None, Result, Ok, Err, ◌⊎◌, inl, inr, ◌==◌}
+use Rattle.std.proofs.Common.{◌≡◌, ℕ, ◌+◌, ◌≤◌, arith, Bool, true, false, ◌||◌, List, [], ◌++◌, refl, ap, sym, subst, ◌∙◌, append-nil, Option, Some, None, Result, Ok, Err, ◌⊎◌, inl, inr, ◌==◌}
 use Rattle.std.proofs.lemmas.Bool.Decides.{nat_tests}
 use Rattle.trace_core.specs.declared.history.Seen.{Seen}
 use Rattle.trace_core.specs.declared.history.Event.{Event}
@@ -22,14 +22,14 @@ use Rattle.http_side.specs.declared.body.Framing.{Framing}
 use Rattle.http_relay.specs.declared.hop.Stage.{Stage}
 use Rattle.http_relay.specs.declared.hop.Stage.TheVariants as at
 use Rattle.adapt_sides.specs.declared.fault.RelayFault.{RelayFault}
-use Rattle.adapt_sides.specs.declared.fault.RelayFault.TheVariants.{Device, Length}
-use Rattle.adapt_sides.specs.Tapes.{chosen_delivered, chosen_received}
-use Rattle.http_relay.specs.Giving.{Hop, LetsGo, GivesMessage, HasGiven, GivenAt, IsAside, AsideAt, IsUndelivered, Decides, NothingDue, BreaksLength, usr_events, turn_events, stage_then, is_message, is_whole, gift_of}
-use Rattle.trace_core.specs.Turns.{after_all, MayAllFollow}
+use Rattle.adapt_sides.specs.declared.fault.RelayFault.TheVariants.{Length}
+use Rattle.adapt_sides.specs.Tapes.{chosen_delivered}
+use Rattle.http_relay.specs.Giving.{Hop, LetsGo, GivesMessage, HasGiven, GivenAt, IsAside, AsideAt, IsUndelivered, Decides, NothingDue, turn_events, stage_then, is_message, is_whole, gift_of}
+use Rattle.trace_core.specs.Turns.{after_all}
 use Rattle.adapt_sides.specs.Tapes.{Follows, KeepsUndelivered}
 use Rattle.adapt_sides.specs.Turns.{events_of}
 use Rattle.http_relay.proofs.Counted.{took_body}
-use Rattle.http_relay.specs.Writing.{GoesOn, OffersAll, WriteTurn, Fits, FitsAnswer}
+use Rattle.http_relay.specs.Writing.{GoesOn, WriteTurn, Fits, FitsAnswer}
 use Rattle.http_relay.proofs.Chosen.{done_means, fewer}
 use Rattle.http_relay.proofs.Given.{gives_passed}
 use Rattle.http_relay.proofs.Carried.{given_on, aside_on, done_given, undelivered_done, legal_by, held_by, usr_to}

@@ -1,5 +1,5 @@
 -- From a head to the body behind it.
-use Rattle.std.proofs.Common.{◌≡◌, ℕ, ◌+◌, ◌-◌, ◌<◌, ◌≤◌, Bool, true, false, List, [], ◌∷◌, ◌++◌, length, take, drop, refl, ap, sym, subst, ◌∙◌, append_assoc, append-nil, arith, length-append, length-drop}
+use Rattle.std.proofs.Common.{◌≡◌, ℕ, ◌+◌, ◌<◌, ◌≤◌, Bool, true, false, List, [], ◌∷◌, ◌++◌, length, take, drop, refl, ap, sym, subst, ◌∙◌, append_assoc, append-nil, arith, length-append}
 use Rattle.std.proofs.lemmas.List.{take-append-drop, take-append-le, take_all, drop_all, length-take}
 use Rattle.std.proofs.Math.Seq.{take-append_seam}
 use Rattle.httparse.specs.Grammar.{ResponseHead, print_request, print_response, print_blank, print_version, print_reason, print_end, print_section}
@@ -8,9 +8,7 @@ use Rattle.http_side.specs.Heads.{RequestParts, ResponseParts}
 use Rattle.http_side.specs.Body.{HasRead}
 use Rattle.http_side.specs.Requests.{IsRead}
 use Rattle.http_side.specs.Responses.{IsResponseRead}
-use Rattle.trace_core.specs.declared.history.Seen.{Seen}
-use Rattle.http_relay.specs.Source.{BodyRead}
-use Rattle.http_relay.specs.Reading.{SideRead, AtHead, Begins, IsBefore, IsHeadText, IsInterim, IsFinal, AreInterims, framing_of}
+use Rattle.http_relay.specs.Reading.{AtHead, Begins, IsBefore, IsHeadText, IsInterim, IsFinal, framing_of}
 use Rattle.http_relay.specs.Reading.AreInterims.{nothing, further}
 use Rattle.http_relay.specs.declared.side.SourceSide.{SourceSide}
 use Rattle.http_relay.specs.declared.side.SourceHead.{SourceHead}

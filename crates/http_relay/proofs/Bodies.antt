@@ -1,5 +1,5 @@
 -- Runs of a body.
-use Rattle.std.proofs.Common.{◌≡◌, ℕ, ◌+◌, ◌<◌, ◌≤◌, List, [], ◌++◌, length, take, drop, refl, ap, sym, subst, ◌∙◌, append_assoc, append-nil, arith, slice_range, Option, Some, None, is_some, Bool, true, false}
+use Rattle.std.proofs.Common.{◌≡◌, ℕ, ◌+◌, ◌<◌, ◌≤◌, List, [], ◌++◌, length, take, drop, ap, sym, subst, ◌∙◌, append_assoc, append-nil, arith, Bool, false}
 use Rattle.std.proofs.lemmas.List.{take-take, take-append-drop, length-take, length-take-le, take-append-le}
 use Rattle.std.proofs.Math.Seq.{take-add, take-append-add}
 use Rattle.std.proofs.lemmas.Slice.{take-put_mid_below}
@@ -8,7 +8,6 @@ use Rattle.http_side.specs.Body.{HasRead, is_over}
 use Rattle.icap_chunks.specs.Faults.{Breaks}
 use Rattle.icap_chunks.specs.declared.fault.ChunkFault.{ChunkFault}
 use Rattle.http_side.specs.declared.body.BodyReader.{BodyReader}
-use Rattle.http_side.specs.declared.body.Framing.{Framing}
 use Rattle.icap_chunks.proofs.Readings.{breaks_longer}
 use Rattle.http_relay.specs.Body.{ReadsOn, IsBodyNext, IsBroken}
 

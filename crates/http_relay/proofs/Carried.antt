@@ -1,5 +1,5 @@
 -- A turn's moves, as steps of what was given.
-use Rattle.std.proofs.Common.{◌≡◌, ℕ, ◌+◌, ◌-◌, ◌<◌, ◌≤◌, ◌⊎◌, inl, inr, Bool, true, false, List, [], ◌∷◌, ◌++◌, length, take, drop, refl, ap, sym, subst, ◌∙◌, append_assoc, append-nil, arith, IfSome, if◌then◌else◌, ◌==◌, Option, Some, None}
+use Rattle.std.proofs.Common.{◌≡◌, ℕ, ◌+◌, ◌-◌, ◌<◌, ◌≤◌, ◌⊎◌, inl, inr, Bool, true, false, List, [], ◌∷◌, ◌++◌, length, take, drop, refl, ap, sym, subst, ◌∙◌, append_assoc, append-nil, arith, IfSome, if◌then◌else◌, ◌==◌, Option}
 use Rattle.std.proofs.lemmas.Bool.Decides.{nat_tests}
 use Rattle.std.proofs.lemmas.Bool.{cases_lt}
 use Rattle.std.proofs.lemmas.List.{length-take-le, take-take, drop-drop}
@@ -9,18 +9,18 @@ use Rattle.trace_core.specs.Legal.{Allows}
 use Rattle.http_side.specs.Refusals.{refusal}
 use Rattle.trace_core.specs.View.{after}
 use Rattle.trace_core.proofs.Sound.{Sound}
-use Rattle.span_tape.specs.Tape.{Tape, end_of}
+use Rattle.span_tape.specs.Tape.{Tape}
 use Rattle.chunk_writer.specs.declared.next.Next.{Next}
-use Rattle.chunk_writer.specs.Writer.{Writer, waiting, begun, fixed, after_data, bytes_of, end_text, is_ending, MayGoOn}
-use Rattle.chunk_writer.specs.Moves.{Moves, Passes}
+use Rattle.chunk_writer.specs.Writer.{Writer, waiting, fixed, after_data, bytes_of, end_text, is_ending, MayGoOn}
+use Rattle.chunk_writer.specs.Moves.{Moves}
 use Rattle.chunk_writer.specs.Moves.Moves.{start, passed, begun_chunk, sent, ended}
-use Rattle.chunk_writer.proofs.Moving.{Reaches, reaches, there}
+use Rattle.chunk_writer.proofs.Moving.{Reaches, there}
 use Rattle.http_side.specs.declared.body.Framing.{Framing}
 use Rattle.http_relay.specs.declared.hop.Stage.{Stage}
 use Rattle.http_relay.specs.declared.hop.Stage.TheVariants as at
-use Rattle.http_relay.specs.Message.{is_chunked, length_of}
-use Rattle.adapt_sides.specs.Tapes.{chosen_delivered, chosen_received, chosen_over}
-use Rattle.http_relay.specs.Giving.{Front, GivesMessage, GivenAt, AsideAt, IsUndelivered, Decides, is_message, body_end, usr_events, turn_events, stage_then}
+use Rattle.http_relay.specs.Message.{length_of}
+use Rattle.adapt_sides.specs.Tapes.{chosen_delivered, chosen_received}
+use Rattle.http_relay.specs.Giving.{Front, GivesMessage, GivenAt, AsideAt, IsUndelivered, Decides, is_message, usr_events, turn_events, stage_then}
 use Rattle.trace_core.specs.Turns.{after_all, MayAllFollow}
 use Rattle.adapt_sides.specs.Tapes.{Follows, KeepsUndelivered}
 use Rattle.http_relay.proofs.Chosen.{Moved, fewer, usr_moves, usr_room, done_allowed, done_moves}

@@ -1,10 +1,10 @@
 -- The chosen message, over the events of giving.
-use Rattle.std.proofs.Common.{◌≡◌, ℕ, ◌+◌, ◌<◌, ◌≤◌, ◌⊎◌, inl, inr, Bool, true, false, ◌||◌, refl, arith, if◌then◌else◌}
+use Rattle.std.proofs.Common.{◌≡◌, ℕ, ◌+◌, ◌≤◌, inl, inr, Bool, true, false, ◌||◌, refl, arith}
 use Rattle.std.proofs.lemmas.Bool.Decides.{nat_tests}
 use Rattle.trace_core.specs.declared.history.Seen.{Seen}
 use Rattle.trace_core.specs.declared.history.Event.TheVariants.{Usr, Done}
 use Rattle.trace_core.specs.History.{is_plain}
-use Rattle.trace_core.specs.Legal.{Allows, ChoosesOriginal, ChoosesAdapted}
+use Rattle.trace_core.specs.Legal.{Allows, ChoosesOriginal}
 use Rattle.trace_core.specs.Faults.{chooses_original}
 use Rattle.trace_core.specs.View.{after}
 use Rattle.trace_core.proofs.Sound.{Sound, sound-after}

@@ -1,5 +1,5 @@
 -- The body bytes that a turn counts are among those that its wire took.
-use Rattle.std.proofs.Common.{◌≡◌, ℕ, ◌-◌, ◌≤◌, Bool, List, [], ◌++◌, take, drop, refl, ap, sym, subst, ◌∙◌, append_assoc, append-nil}
+use Rattle.std.proofs.Common.{◌≡◌, ℕ, ◌-◌, Bool, List, [], ◌++◌, take, drop, refl, ap, sym, ◌∙◌, append_assoc, append-nil}
 use Rattle.std.proofs.lemmas.List.{take-take}
 use Rattle.trace_core.specs.declared.history.Seen.{Seen}
 use Rattle.span_tape.specs.Tape.{Tape}

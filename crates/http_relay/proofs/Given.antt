@@ -1,14 +1,12 @@
 -- What was given, over the moves of a turn.
-use Rattle.std.proofs.Common.{◌≡◌, ℕ, ◌+◌, ◌-◌, ◌<◌, ◌≤◌, ◌⊎◌, inl, inr, Bool, true, false, List, [], ◌∷◌, ◌++◌, length, take, drop, refl, ap, sym, subst, ◌∙◌, append_assoc, append-nil, arith, length-append, IfSome, if◌then◌else◌, nat_lt, ◌==◌, Option, Some, None}
+use Rattle.std.proofs.Common.{◌≡◌, ℕ, ◌+◌, ◌-◌, ◌<◌, ◌≤◌, Bool, true, false, List, [], ◌++◌, length, take, drop, refl, ap, sym, subst, ◌∙◌, append_assoc, append-nil, arith, IfSome, if◌then◌else◌, nat_lt, Option, Some, None}
 use Rattle.std.proofs.lemmas.Bool.Decides.{nat_tests}
-use Rattle.std.proofs.lemmas.Bool.{cases_lt}
-use Rattle.std.proofs.lemmas.List.{length-take-le, take-take, drop-drop}
 use Rattle.std.proofs.Math.Seq.{take-add}
-use Rattle.icap_chunks.specs.Grammar.{chunk_head, crlf, last_chunk}
+use Rattle.icap_chunks.specs.Grammar.{chunk_head, crlf}
 use Rattle.trace_core.specs.declared.history.Seen.{Seen}
 use Rattle.chunk_writer.specs.Cut.{IsCut, Run}
 use Rattle.chunk_writer.specs.Cut.Run.{between, inside}
-use Rattle.chunk_writer.specs.Writer.{Writer, waiting, begun, fixed, sent_on, after_data}
+use Rattle.chunk_writer.specs.Writer.{Writer, waiting, begun, fixed, after_data}
 use Rattle.chunk_writer.proofs.Runs.{run_begun, run_on, run_closed}
 use Rattle.chunk_writer.proofs.Moving.{fixed_next}
 use Rattle.http_side.specs.declared.body.Framing.{Framing}

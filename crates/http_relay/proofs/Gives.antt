@@ -1,32 +1,23 @@
 -- A write turn is what a transaction asks of a next hop.
-use Rattle.std.proofs.Common.{◌≡◌, ℕ, ◌+◌, ◌<◌, ◌≤◌, ◌⊎◌, inl, inr, arith, Bool, true, false, ◌||◌, ◌==◌, List, [], ◌∷◌, ◌++◌, length, refl, ap, sym, subst, ◌∙◌, append-nil, Option, Some, None, IfSome, take, not, Result, Ok, Err, if◌then◌else◌}
+use Rattle.std.proofs.Common.{◌≡◌, ℕ, ◌<◌, ◌≤◌, inl, inr, arith, Bool, true, false, ◌==◌, List, [], ◌++◌, length, refl, ap, sym, subst, ◌∙◌, append-nil, Option, Some, None, IfSome, take, Result, Ok, Err}
 use Rattle.std.proofs.lemmas.Bool.Decides.{nat_tests}
 use Rattle.std.proofs.lemmas.List.{length-take-le}
-use Rattle.trace_core.specs.declared.history.Plan.{Plan}
 use Rattle.trace_core.specs.declared.history.Event.{Event}
-use Rattle.trace_core.specs.declared.history.Event.TheVariants.{In, End, Svc, Stop, Heard, Retry, Continue, NoMod, Mod, Ad, AdEnd, Usr, Done, Fail}
+use Rattle.trace_core.specs.declared.history.Event.TheVariants.{Usr}
 use Rattle.trace_core.specs.declared.history.Seen.{Seen}
-use Rattle.trace_core.specs.History.{seen, in_bytes, ad_bytes, is_plain, is_no_mod, is_mod}
-use Rattle.trace_core.specs.Faults.{chooses_original}
-use Rattle.trace_core.specs.Legal.{IsLegal, Allows, ChoosesOriginal}
 use Rattle.trace_core.specs.Turns.{after_all, AllAre, is_of_hop}
 use Rattle.trace_core.specs.View.{after}
-use Rattle.trace_core.proofs.Sound.{Sound, sound}
 use Rattle.span_tape.specs.Tape.{Tape}
-use Rattle.wire_kit.specs.Past.{Past, FitsPut, IsLater, Offers, after_offer, delta_of}
+use Rattle.wire_kit.specs.Past.{Past, FitsPut, IsLater, after_offer, delta_of}
 use Rattle.wire_kit.specs.declared.wire.Put.{Put}
 use Rattle.wire_kit.specs.declared.wire.Put.TheVariants as put
-use Rattle.chunk_writer.specs.Writer.{waiting}
-use Rattle.adapt_sides.specs.Tapes.{Follows, KeepsUndelivered, chosen, chosen_received, chosen_delivered}
-use Rattle.adapt_sides.specs.Turns.{Gives, Gift, HasReason, SaysWaiting, Remembers, events_of, waits_of}
-use Rattle.adapt_sides.specs.Turns.Gift.{nothing as no_gift, message as message_gift, refusal as refusal_gift}
+use Rattle.adapt_sides.specs.Tapes.{KeepsUndelivered, chosen_received}
+use Rattle.adapt_sides.specs.Turns.{Gives, HasReason, SaysWaiting, events_of}
 use Rattle.adapt_sides.specs.declared.turn.Turn.{Turn}
 use Rattle.adapt_sides.specs.declared.fault.RelayFault.{RelayFault}
 use Rattle.adapt_sides.specs.declared.fault.RelayFault.TheVariants.{Device, Length}
-use Rattle.http_relay.specs.declared.hop.Stage.{Stage}
-use Rattle.http_relay.specs.declared.hop.Stage.TheVariants as at
 use Rattle.http_relay.specs.Message.{IsMessage}
-use Rattle.http_relay.specs.Giving.{Hop, HasGiven, IsAside, GivenAt, AsideAt, GivesMessage, IsUndelivered, NothingDue, usr_events, turn_events, gift_of, is_message, is_whole}
+use Rattle.http_relay.specs.Giving.{Hop, HasGiven, IsAside, NothingDue, usr_events, turn_events}
 use Rattle.http_relay.specs.Writing.{WriteTurn, Fits, FitsAnswer}
 use Rattle.http_relay.proofs.Chosen.{done_moves}
 use Rattle.http_relay.proofs.Whole.{whole_at}

@@ -1,5 +1,5 @@
 -- Turns at the head, by what the wire gave.
-use Rattle.std.proofs.Common.{◌≡◌, ℕ, ◌+◌, ◌<◌, ◌≤◌, ◌⊎◌, inl, inr, Bool, true, false, List, [], ◌++◌, length, take, drop, refl, ap, sym, subst, ◌∙◌, append_assoc, append-nil, length-append, arith, Result, Ok, Err, Option, Some, None, IfSome, IfOk}
+use Rattle.std.proofs.Common.{◌≡◌, ℕ, ◌<◌, ◌⊎◌, inl, inr, Bool, true, false, List, [], ◌++◌, length, take, drop, refl, ap, sym, subst, ◌∙◌, append_assoc, append-nil, length-append, arith, Result, Ok, Err, Option, Some, None, IfSome, IfOk}
 use Rattle.std.proofs.lemmas.List.{take-append-le}
 use Rattle.std.proofs.Math.Seq.{take-length, drop-length}
 use Rattle.http_side.specs.declared.fault.HttpFault.{HttpFault}
@@ -8,12 +8,10 @@ use Rattle.http_side.specs.declared.fault.HttpFault.TheVariants as http
 use Rattle.adapt_bytes.specs.Text.{has_line}
 use Rattle.http_relay.specs.Judging.{RefusesBytes, IsSwitching, IsLooking, HasNoHead, RefusesHead, LacksMemory, Scans, Looks}
 use Rattle.wire_kit.specs.Past.{Past}
-use Rattle.wire_kit.specs.declared.wire.Got.{Got}
 use Rattle.wire_kit.specs.declared.wire.Got.TheVariants as got
-use Rattle.http_relay.specs.Reading.{AtHead, GivesBack, Begins, SideRead, SideReads, JudgesHeadTo, ScannedTo, ReadsForHead, FitsHead, HeadTurn, IsFilled, IsBefore}
+use Rattle.http_relay.specs.Reading.{AtHead, GivesBack, Begins, SideRead, SideReads, JudgesHeadTo, ScannedTo, FitsHead, HeadTurn, IsFilled, IsBefore}
 use Rattle.http_relay.specs.Source.{Agrees, known}
 use Rattle.http_relay.specs.declared.source_body.SourceBody.{SourceBody}
-use Rattle.trace_core.specs.declared.history.Seen.{Seen}
 use Rattle.http_relay.proofs.Sides.{filled_more}
 use Rattle.adapt_sides.specs.declared.fault.RelayFault.{RelayFault}
 use Rattle.adapt_sides.specs.declared.fault.RelayFault.TheVariants.{Head, Chunk, Closed, Device, Length, NoMemory}

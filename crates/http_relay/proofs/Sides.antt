@@ -1,9 +1,8 @@
 -- The source's side over its wire.
-use Rattle.std.proofs.Common.{◌≡◌, ℕ, ◌+◌, ◌<◌, ◌≤◌, ◌⊎◌, inl, inr, Bool, true, false, List, [], ◌++◌, length, take, drop, refl, ap, sym, subst, ◌∙◌, append_assoc, append-nil, arith}
+use Rattle.std.proofs.Common.{◌≡◌, ℕ, ◌<◌, inl, inr, true, false, List, [], ◌++◌, take, drop, ap, sym, subst, ◌∙◌, append_assoc, append-nil, arith}
 use Rattle.std.proofs.lemmas.List.{take-append-drop}
 use Rattle.trace_core.specs.declared.history.Event.{Event}
 use Rattle.trace_core.specs.declared.history.Seen.{Seen}
-use Rattle.http_side.specs.declared.body.Framing.{Framing}
 use Rattle.trace_core.specs.Turns.{after_all}
 use Rattle.http_relay.specs.Source.{Agrees, BodyRead, BodyReads, MustWait}
 use Rattle.http_relay.specs.Reading.{SideRead, SideReads, IsBefore, IsHeadText, framing_of}

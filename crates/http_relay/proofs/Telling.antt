@@ -1,22 +1,17 @@
 -- The events that tell what was read of a body.
-use Rattle.std.proofs.Common.{◌≡◌, ℕ, zero, suc, ◌+◌, ◌<◌, ◌≤◌, ◌⊎◌, inl, inr, Bool, true, false, List, [], ◌∷◌, ◌++◌, length, take, refl, ap, sym, subst, ◌∙◌, arith, length-append, Option, Some, None as Nothing, IfSome}
+use Rattle.std.proofs.Common.{◌≡◌, ℕ, zero, suc, ◌+◌, ◌<◌, ◌≤◌, Bool, true, false, List, ◌++◌, length, take, refl, sym, subst, ◌∙◌, arith, length-append, Option, Some, None as Nothing, IfSome}
 use Rattle.std.proofs.lemmas.List.{length-take-le}
 use Rattle.adapt_bytes.specs.declared.limits.TheConstants.{COUNT_LIMIT}
 use Rattle.http_side.specs.Body.{HasRead, IsBody, IsClosedBody, is_over}
 use Rattle.http_side.specs.declared.body.Framing.{Framing}
 use Rattle.http_side.specs.declared.body.Framing.TheVariants.{None, Length, Chunked, Close}
-use Rattle.http_side.specs.declared.body.BodyReader.{BodyReader}
 use Rattle.http_side.proofs.Ends.{over_is}
-use Rattle.trace_core.specs.declared.history.Event.{Event}
-use Rattle.trace_core.specs.declared.history.Event.TheVariants.{In, End}
 use Rattle.trace_core.specs.declared.history.Plan.{Plan}
 use Rattle.trace_core.specs.declared.history.Seen.{Seen}
-use Rattle.trace_core.specs.Legal.{Allows}
-use Rattle.trace_core.specs.View.{after}
 use Rattle.http_relay.specs.Body.{ReadsOn}
 use Rattle.trace_core.specs.Turns.{after_all, MayAllFollow, AllAre, is_of_source, in_sum}
-use Rattle.http_relay.specs.Events.{in_events, body_events}
-use Rattle.http_relay.specs.Source.{known, Fits, Agrees, BodyRead, BodyReads}
+use Rattle.http_relay.specs.Events.{body_events}
+use Rattle.http_relay.specs.Source.{known, Fits, Agrees, BodyReads}
 use Rattle.http_relay.specs.declared.source_body.SourceBody.{SourceBody}
 
 pub sum_is : (n : ℕ) (ended : Bool) → in_sum (body_events n ended) ≡ n

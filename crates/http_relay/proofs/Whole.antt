@@ -1,5 +1,5 @@
 -- What was taken is a front of one message.
-use Rattle.std.proofs.Common.{◌≡◌, ℕ, ◌+◌, ◌-◌, ◌<◌, ◌≤◌, Bool, true, false, List, [], ◌∷◌, ◌++◌, length, take, drop, refl, ap, sym, subst, ◌∙◌, append_assoc, append-nil, arith, length-append, length-drop, IfSome, Option, Some, None, suc, zero}
+use Rattle.std.proofs.Common.{◌≡◌, ℕ, ◌+◌, ◌-◌, ◌≤◌, true, false, List, [], ◌∷◌, ◌++◌, length, take, drop, refl, ap, sym, subst, ◌∙◌, append_assoc, append-nil, arith, length-append, length-drop, IfSome, Option, suc, zero}
 use Rattle.std.proofs.lemmas.List.{length-take-le, take-append-drop}
 use Rattle.std.proofs.Math.Seq.{take-length}
 use Rattle.icap_chunks.specs.Grammar.{last_chunk}
@@ -12,9 +12,9 @@ use Rattle.http_side.specs.declared.body.Framing.TheVariants as by
 use Rattle.http_relay.specs.declared.hop.Stage.{Stage}
 use Rattle.http_relay.specs.declared.hop.Stage.TheVariants as at
 use Rattle.http_side.specs.Refusals.{refusal}
-use Rattle.http_relay.specs.Message.{IsInChunks, BodyTextOf, IsMessage, IsFrontOfMessage, length_of, is_chunked}
+use Rattle.http_relay.specs.Message.{BodyTextOf, IsMessage, IsFrontOfMessage, length_of, is_chunked}
 use Rattle.adapt_sides.specs.Tapes.{chosen_delivered, chosen_received}
-use Rattle.http_relay.specs.Giving.{Front, GivesMessage, GivenAt, AsideAt, IsAside, IsUndelivered, Hop, HasGiven}
+use Rattle.http_relay.specs.Giving.{Front, GivesMessage, GivenAt, AsideAt, IsAside, Hop}
 use Rattle.http_relay.specs.Giving.Front.{plain, run, over}
 
 abbrev zeros : ℕ → List ℕ

@@ -1,5 +1,5 @@
 -- When a head is judged, and why one is refused.
-use Rattle.std.specs.Prelude.{◌≡◌, ℕ, ◌<◌, ◌≤◌, ◌⊎◌, ◌==◌, Bool, true, false, List, length, take, drop, Option, Some, None, Result, Ok, Err}
+use Rattle.std.specs.Prelude.{◌≡◌, ℕ, ◌<◌, ◌≤◌, ◌⊎◌, Bool, true, false, List, length, take, drop, Option, Some, None, Result, Ok, Err}
 use Rattle.adapt_bytes.specs.Text.{has_line}
 use Rattle.http_side.specs.Heads.{ResponseParts}
 use Rattle.http_side.specs.Requests.{RefusesText}
@@ -7,7 +7,7 @@ use Rattle.http_side.specs.Responses.{RefusesResponse, IsResponseRead}
 use Rattle.http_side.specs.declared.fault.HttpFault.{HttpFault}
 use Rattle.http_side.specs.declared.fault.HttpFault.TheVariants as why
 use Rattle.adapt_sides.specs.declared.fault.RelayFault.{RelayFault}
-use Rattle.adapt_sides.specs.declared.fault.RelayFault.TheVariants.{Head, Chunk, Closed, Device, Length, NoMemory}
+use Rattle.adapt_sides.specs.declared.fault.RelayFault.TheVariants.{Head, Closed, Device, NoMemory}
 use Rattle.http_relay.specs.declared.side.SourceSide.{SourceSide}
 use Rattle.http_relay.specs.declared.side.Asks.{Asks}
 use Rattle.http_relay.specs.declared.side.Asks.TheVariants as asks

@@ -1,5 +1,5 @@
 -- The beginning, and the other sides' events.
-use Rattle.std.proofs.Common.{◌≡◌, ℕ, ◌+◌, ◌<◌, ◌≤◌, ◌⊎◌, inl, inr, Bool, true, false, ◌||◌, List, [], ◌∷◌, ◌++◌, length, take, drop, refl, ap, sym, subst, ◌∙◌, append-nil, arith, IfSome, Option, Some, None, if◌then◌else◌}
+use Rattle.std.proofs.Common.{◌≡◌, ℕ, ◌≤◌, inl, inr, Bool, true, false, List, [], ◌∷◌, ◌++◌, length, take, refl, ap, sym, subst, ◌∙◌, append-nil, arith, IfSome, Option, Some, None}
 use Rattle.std.proofs.lemmas.Bool.Decides.{nat_tests}
 use Rattle.std.proofs.lemmas.List.{take-append-le}
 use Rattle.trace_core.specs.declared.history.Plan.{Plan}
@@ -10,10 +10,8 @@ use Rattle.trace_core.specs.declared.history.Kind.TheVariants.{Plain, Whole, Pre
 use Rattle.trace_core.specs.declared.history.Seen.{Seen}
 use Rattle.trace_core.specs.History.{seen, is_plain, is_whole, is_preview}
 use Rattle.trace_core.specs.Legal.{IsLegal, Allows}
-use Rattle.trace_core.specs.Faults.{chooses_original}
 use Rattle.trace_core.specs.View.{after}
 use Rattle.trace_core.proofs.Sound.{Sound, sound}
-use Rattle.chunk_writer.specs.Cut.{Run}
 use Rattle.chunk_writer.specs.Cut.IsCut.{no_chunk}
 use Rattle.chunk_writer.specs.Cut.Run.{between}
 use Rattle.chunk_writer.specs.Writer.{Writer, waiting, fresh}
@@ -26,8 +24,8 @@ use Rattle.http_relay.specs.Message.{is_chunked, length_of}
 use Rattle.http_side.specs.Refusals.{refusal}
 use Rattle.trace_core.specs.Turns.{is_of_hop}
 use Rattle.adapt_sides.specs.Tapes.{chosen_delivered, chosen_received, chosen_over}
-use Rattle.http_relay.specs.Giving.{Front, GivesMessage, GivenAt, AsideAt, IsAside, IsUndelivered, Hop, HasGiven}
-use Rattle.http_relay.specs.Giving.Front.{plain, run, over}
+use Rattle.http_relay.specs.Giving.{Front, GivesMessage, GivenAt, IsAside, IsUndelivered, Hop, HasGiven}
+use Rattle.http_relay.specs.Giving.Front.{plain, run}
 
 begins_by : (f : Framing) (b : Bool) → is_chunked f ≡ b → Front f false [] [] 0
 begins_by f true e = run e refl (between refl no_chunk)

@@ -1,5 +1,5 @@
 -- A source's body, as far as it was read.
-use Rattle.std.specs.Prelude.{◌≡◌, ℕ, ◌+◌, ◌<◌, ◌≤◌, ◌⊎◌, Bool, true, false, List, [], ◌∷◌, ◌++◌, length, take, Option, Some, None as Nothing, IfSome}
+use Rattle.std.specs.Prelude.{◌≡◌, ℕ, ◌+◌, ◌<◌, ◌≤◌, ◌⊎◌, Bool, true, false, List, [], ◌++◌, length, Option, Some, None as Nothing, IfSome}
 use Rattle.adapt_bytes.specs.declared.limits.TheConstants.{COUNT_LIMIT}
 use Rattle.icap_chunks.specs.declared.fault.ChunkFault.{ChunkFault}
 use Rattle.http_side.specs.Body.{HasRead, IsClosedBody}
@@ -7,7 +7,7 @@ use Rattle.http_side.specs.declared.body.Framing.{Framing}
 use Rattle.http_side.specs.declared.body.Framing.TheVariants.{None, Length, Chunked, Close}
 use Rattle.trace_core.specs.declared.history.Event.{Event}
 use Rattle.trace_core.specs.declared.history.Seen.{Seen}
-use Rattle.http_relay.specs.Body.{ReadsOn, IsBodyNext, IsBroken}
+use Rattle.http_relay.specs.Body.{IsBodyNext, IsBroken}
 use Rattle.trace_core.specs.Turns.{after_all, MayAllFollow, AllAre, is_of_source}
 use Rattle.http_relay.specs.declared.source_body.SourceBody.{SourceBody}
 use Rattle.adapt_sides.specs.declared.fault.RelayFault.{RelayFault}

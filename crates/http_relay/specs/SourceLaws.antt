@@ -1,12 +1,12 @@
 -- What other sides' events leave, and where a source rests.
-use Rattle.std.specs.Prelude.{◌≡◌, ℕ, ◌+◌, ◌⊎◌, Bool, true, false, List, length}
-use Rattle.std.proofs.Common.{refl, sym, subst, ◌∙◌, inl, inr, arith}
+use Rattle.std.specs.Prelude.{◌≡◌, ℕ, ◌⊎◌, true, false, List}
+use Rattle.std.proofs.Common.{refl, ◌∙◌, inl, inr, arith}
 use Rattle.trace_core.specs.declared.history.Event.{Event}
 use Rattle.trace_core.specs.declared.history.Event.TheVariants.{In, End, Svc, Stop, Heard, Retry, Continue, NoMod, Mod, Ad, AdEnd, Usr, Done, Fail}
 use Rattle.trace_core.specs.declared.history.Seen.{Seen}
 use Rattle.trace_core.specs.View.{after}
 use Rattle.trace_core.specs.Turns.{is_of_source}
-use Rattle.http_relay.specs.Source.{Agrees, BodyRead}
+use Rattle.http_relay.specs.Source.{Agrees}
 use Rattle.http_relay.specs.Reading.{SideRead, Rests}
 use Rattle.http_relay.specs.declared.side.SourceSide.{SourceSide}
 

@@ -1,5 +1,4 @@
-use Rattle.std.proofs.Common.{◌≡◌, ℕ, ◌+◌, ◌-◌, ◌≤◌, length, take, refl, sym, ap, arith, length-drop, ◌∙◌}
-use Rattle.http_side.specs.Body.{is_over}
+use Rattle.std.proofs.Common.{◌-◌, length, sym, ap, arith, length-drop, ◌∙◌}
 use Rattle.http_relay.proofs.Bodies.{reads_more_runs, reads_kept, reads_none, breaks_behind, not_ended}
 use Rattle.http_relay.proofs.body.read_body.Goals as goal
 

@@ -1,6 +1,5 @@
-use Rattle.std.proofs.Common.{◌≡◌, ℕ, ◌+◌, ◌-◌, ◌<◌, ◌≤◌, List, length, take, refl, ap, sym, subst, ◌∙◌, arith, slice_range, max}
-use Rattle.http_side.specs.Body.{HasRead}
-use Rattle.http_relay.specs.Body.{ReadsOn, IsBodyNext}
+use Rattle.std.proofs.Common.{◌≡◌, ℕ, ◌<◌, List, length, take, refl, ap, sym, subst, ◌∙◌, arith}
+use Rattle.http_relay.specs.Body.{ReadsOn}
 use Rattle.http_relay.proofs.Bodies.{breaks_whole, reads_whole, next_is_body}
 use Rattle.http_relay.proofs.body.read_run.Goals as goal
 

@@ -1,4 +1,4 @@
-use Rattle.std.proofs.Common.{◌≡◌, ℕ, ◌<◌, ◌≤◌, ◌+◌, true, false, IfSome, sym, subst, ap, ◌∙◌, arith}
+use Rattle.std.proofs.Common.{◌≡◌, ◌≤◌, ◌+◌, IfSome, sym, subst, ap, ◌∙◌, arith}
 use Rattle.trace_core.specs.History.{seen}
 use Rattle.trace_core.specs.declared.history.Seen.{Seen}
 use Rattle.http_relay.specs.Message.{length_of}

@@ -1,4 +1,4 @@
-use Rattle.std.proofs.Common.{◌≡◌, ap, sym, subst, ◌∙◌, refl, [], true, false, Some, None, Ok, Err, rules, inl, inr}
+use Rattle.std.proofs.Common.{◌≡◌, ap, sym, subst, ◌∙◌, refl, true, false, Some, None, Ok, Err, rules, inl, inr}
 use Rattle.trace_core.specs.History.{seen}
 use Rattle.trace_core.proofs.Sound.{sound}
 use Rattle.wire_kit.specs.Past.{delta_of}

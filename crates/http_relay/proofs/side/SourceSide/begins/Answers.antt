@@ -1,4 +1,4 @@
-use Rattle.std.proofs.Common.{◌≡◌, Bool, true, false, sym, ◌∙◌}
+use Rattle.std.proofs.Common.{◌≡◌, true, false, sym, ◌∙◌}
 use Rattle.http_relay.proofs.side.SourceSide.begins.Goals as goal
 
 pub returns-then-is_none-clause-refuses : goal.returns-then-is_none-clause-refuses

@@ -1,13 +1,8 @@
-use Rattle.std.proofs.Common.{◌≡◌, ◌⊎◌, inl, inr, Bool, true, false, List, ℕ, [], length, take, refl, ap, sym, subst, ◌∙◌, Ok, Err, rules}
+use Rattle.std.proofs.Common.{◌≡◌, ◌⊎◌, inl, inr, true, List, ℕ, [], length, take, refl, sym, subst, ◌∙◌, rules}
 use Rattle.trace_core.specs.Turns.{in_sum}
-use Rattle.http_relay.specs.Events.{body_events}
-use Rattle.http_relay.specs.Source.{Refuses, MustWait}
 use Rattle.http_relay.specs.Reading.{SideReads, ReadTurn}
-use Rattle.adapt_sides.specs.declared.fault.RelayFault.TheVariants.{Closed}
-use Rattle.http_relay.specs.declared.side.SourceSide.{SourceSide}
 use Rattle.adapt_sides.specs.declared.turn.Turn.{Turn}
-use Rattle.http_relay.proofs.Turning.{turn_spoke, turn_idle, turn_refused, turn_bytes, turn_bytes_refused, turn_waited, turn_end, turn_ended, turn_failed, turn_full, turn_behind}
-use Rattle.http_relay.proofs.Sides.{none_left}
+use Rattle.http_relay.proofs.Turning.{turn_idle, turn_refused, turn_behind}
 use Rattle.http_relay.proofs.side.SourceSide.frame_or_read.Goals as goal
 use Rattle.http_relay.proofs.side.SourceSide.frame_or_read.Goals.{then-has_ended-via-then-has_ended, then-has_ended-via-else-has_ended+then-is_empty}
 use Rattle.std.proofs.lemmas.Bool.{eqb-true}

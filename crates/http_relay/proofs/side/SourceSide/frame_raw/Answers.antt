@@ -1,4 +1,4 @@
-use Rattle.std.proofs.Common.{◌≡◌, List, ℕ, [], take, length, length-drop, refl, sym, ap, subst, ◌∙◌, arith}
+use Rattle.std.proofs.Common.{List, ℕ, take, length, length-drop, refl, ap, subst, arith}
 use Rattle.trace_core.specs.Turns.{in_sum}
 use Rattle.http_relay.specs.Source.{BodyReads}
 use Rattle.http_relay.specs.declared.side.SourceSide.{SourceSide}

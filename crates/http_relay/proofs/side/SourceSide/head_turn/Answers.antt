@@ -1,7 +1,4 @@
-use Rattle.std.proofs.Common.{Some, Err, Result, Bool, subst, refl, ◌∙◌, sym}
-use Rattle.http_relay.specs.Reading.{HeadTurn}
-use Rattle.http_relay.specs.declared.side.SourceSide.{SourceSide}
-use Rattle.adapt_sides.specs.declared.fault.RelayFault.{RelayFault}
+use Rattle.std.proofs.Common.{refl}
 use Rattle.http_relay.proofs.Heads.{head_kept}
 use Rattle.http_relay.proofs.side.SourceSide.head_turn.Goals as goal
 

@@ -1,4 +1,4 @@
-use Rattle.std.proofs.Common.{◌≡◌, true, List, ℕ, ap, sym, ◌∙◌, inr}
+use Rattle.std.proofs.Common.{ap, sym, ◌∙◌, inr}
 use Rattle.adapt_bytes.specs.Text.{has_line}
 use Rattle.http_relay.proofs.side.SourceSide.is_due.Goals as goal
 

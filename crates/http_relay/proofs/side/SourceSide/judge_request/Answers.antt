@@ -1,13 +1,12 @@
-use Rattle.std.proofs.Common.{◌≡◌, ℕ, List, [], false, refl, sym, ap, subst, ◌∙◌}
+use Rattle.std.proofs.Common.{ℕ, List, [], false, refl, sym, subst, ◌∙◌}
 use Rattle.http_side.specs.Body.{HasRead}
 use Rattle.http_side.specs.Requests.{IsRead, RefusesText}
 use Rattle.http_relay.specs.Judging.{RefusesBytes}
 use Rattle.http_relay.specs.declared.side.Asks.{Asks}
-use Rattle.http_side.specs.Responses.{IsResponseRead}
 use Rattle.http_side.specs.declared.body.Framing.{Framing}
 use Rattle.http_relay.specs.declared.side.SourceSide.{SourceSide}
 use Rattle.http_relay.specs.declared.side.SourceHead.TheVariants as heads
-use Rattle.http_relay.proofs.Beginning.{begins_request, begins_response, drops_interim, request_within, response_within}
+use Rattle.http_relay.proofs.Beginning.{begins_request, request_within}
 use Rattle.http_relay.proofs.side.SourceSide.judge_request.Goals as goal
 
 pub advance-requires : goal.advance-requires

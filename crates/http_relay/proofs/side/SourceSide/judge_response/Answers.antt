@@ -1,13 +1,12 @@
-use Rattle.std.proofs.Common.{◌≡◌, ℕ, arith, length, length-drop, List, [], false, ◌<◌, ◌≤◌, ◌⊎◌, refl, sym, ap, subst, ◌∙◌}
+use Rattle.std.proofs.Common.{ℕ, arith, length, length-drop, List, [], ◌<◌, ◌≤◌, ◌⊎◌, refl, sym, ap, subst, ◌∙◌}
 use Rattle.http_side.specs.Body.{HasRead}
-use Rattle.http_side.specs.Requests.{IsRead}
 use Rattle.http_side.specs.Responses.{IsResponseRead, RefusesResponse}
 use Rattle.http_relay.specs.Judging.{RefusesBytes}
 use Rattle.http_relay.specs.declared.side.Asks.{Asks}
 use Rattle.http_side.specs.declared.body.Framing.{Framing}
 use Rattle.http_relay.specs.declared.side.SourceSide.{SourceSide}
 use Rattle.http_relay.specs.declared.side.SourceHead.TheVariants as heads
-use Rattle.http_relay.proofs.Beginning.{begins_request, begins_response, drops_interim, request_within, response_within, response_some}
+use Rattle.http_relay.proofs.Beginning.{begins_response, drops_interim, response_within, response_some}
 use Rattle.http_relay.proofs.side.SourceSide.judge_response.Goals as goal
 
 pub advance-requires : goal.advance-requires

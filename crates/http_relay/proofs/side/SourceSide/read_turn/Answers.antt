@@ -1,6 +1,4 @@
-use Rattle.std.proofs.Common.{◌≡◌, List, ℕ, [], length, refl, sym, ap, ◌∙◌, Ok, Err, Some, None, rules}
-use Rattle.adapt_sides.specs.Turns.{Remembers}
-use Rattle.http_relay.specs.Reading.{ReadTurn}
+use Rattle.std.proofs.Common.{◌≡◌, length, refl, sym, ap, ◌∙◌, Ok, Err, Some, None, rules}
 use Rattle.adapt_sides.specs.declared.fault.RelayFault.{RelayFault}
 use Rattle.http_relay.specs.declared.side.SourceSide.{SourceSide}
 use Rattle.http_relay.proofs.Turning.{turn_kept, as_source, source_again}

@@ -1,4 +1,4 @@
-use Rattle.std.proofs.Common.{◌≡◌, ℕ, Bool, true, false, ◌⊎◌, List, IfErr, Result, Ok, Err, refl, sym, ap, subst, ◌∙◌}
+use Rattle.std.proofs.Common.{◌≡◌, ℕ, Bool, true, ◌⊎◌, List, IfErr, Result, Ok, Err, refl, subst}
 use Rattle.http_relay.specs.Judging.{IsLooking, HasNoHead, Scans}
 use Rattle.http_relay.specs.Reading.{AtHead, ScannedTo}
 use Rattle.adapt_sides.specs.declared.fault.RelayFault.{RelayFault}
