@@ -6,12 +6,13 @@ ghost use Rattle.http_side.specs.Lengths.{content_length, coding};
 ghost use Rattle.http_side.specs.Forward.{kept_length, has_no_place, is_response, has_body, has_own_body, is_to_old_user, unsized_framing, next_framing, closes, gets_zero, extra_of, forwarded, encapsulated, length_of, is_chunked};
 
 use crate::body::Framing;
+use crate::connection::is_named_by;
 use crate::fields::Fields;
 use crate::lengths::{coding, content_length};
 use crate::request::{HttpRequest, has_both_lengths};
 use crate::response::HttpResponse;
 use crate::targets::authority_of;
-use crate::writing::{Extra, is_named_by, written_head};
+use crate::writing::{Extra, written_head};
 use std::alloc::{AllocError, Global};
 
 /// A head that goes on: a request to an origin, or a response to the user.

@@ -6,6 +6,7 @@
 #![tactic(auto)]
 
 mod body;
+mod connection;
 mod fault;
 mod fields;
 mod forward;
@@ -14,6 +15,7 @@ mod head;
 mod items;
 pub mod laws;
 mod lengths;
+mod names;
 mod refusal;
 mod request;
 mod response;

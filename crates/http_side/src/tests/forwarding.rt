@@ -76,6 +76,25 @@ fn fields_to_origins_and_services(rt: HostRuntime) -> Result<(), Fail> {
     check_requests(&rt, &cases)
 }
 
+/// A value of Connection with thousands of items, and one with a few, name fields in any case and each of a name's.
+#[test]
+fn thousands_of_items_name_fields(rt: HostRuntime) -> Result<(), Fail> {
+    let mut text =
+        b"GET http://o/ HTTP/1.1\r\nB: 1\r\nHost: o\r\nX-Long: 2\r\na: 3\r\nkept: 4\r\nA: 5\r\nx-long-: 6\r\nz: 7\r\nConnection: Z\r\nConnection: c".to_vec(
+            rt.alloc(),
+        )?;
+    for _ in 0..3_000 {
+        text.extend_from_slice(b",a,q")?;
+    }
+    text.extend_from_slice(b",x-LONG\r\n\r\n")?;
+    let cases: [RequestCase<'_>; 1] = [(
+        &text,
+        b"GET / HTTP/1.1\r\nB: 1\r\nHost: o\r\nkept: 4\r\nx-long-: 6\r\nConnection: close\r\nVia: 1.1 adaptproxy\r\n\r\n",
+        b"GET http://o/ HTTP/1.1\r\nB: 1\r\nHost: o\r\nkept: 4\r\nx-long-: 6\r\n\r\n",
+    )];
+    check_requests(&rt, &cases)
+}
+
 /// An adapted request goes to the origin of the user's target, whatever its own form, target and Host.
 #[test]
 fn adapted_requests(rt: HostRuntime) -> Result<(), Fail> {

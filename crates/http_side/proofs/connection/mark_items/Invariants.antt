@@ -4,7 +4,7 @@ use Rattle.std.specs.List.{list_any}
 use Rattle.adapt_bytes.specs.Text.{items_left}
 use Rattle.http_side.specs.Fields.{same_name, name_at}
 use Rattle.http_side.specs.Items.{has_item}
-use Rattle.http_side.proofs.writing.mark_items.Given as goal
+use Rattle.http_side.proofs.connection.mark_items.Given as goal
 
 abbrev pub invariant-loop-item : goal.invariant-loop-item
 invariant-loop-item l = record {

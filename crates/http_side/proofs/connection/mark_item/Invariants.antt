@@ -1,7 +1,7 @@
 use Rattle.std.proofs.Common.{◌≡◌, ℕ, ◌<◌, ◌≤◌, false, ◌||◌, length}
 use Rattle.std.specs.Prelude.{slice_index_or}
 use Rattle.http_side.specs.Fields.{same_name, name_at}
-use Rattle.http_side.proofs.writing.mark_item.Given as goal
+use Rattle.http_side.proofs.connection.mark_item.Given as goal
 
 abbrev pub invariant-loop-at : goal.invariant-loop-at
 invariant-loop-at l = record {

@@ -1,0 +1,18 @@
+use Rattle.std.proofs.Common.{◌≡◌, ℕ, ◌<◌, false, ◌||◌, length}
+use Rattle.std.specs.Prelude.{slice_index_or}
+use Rattle.std.specs.List.{list_any}
+use Rattle.adapt_bytes.specs.Text.{items_left}
+use Rattle.http_side.specs.Fields.{same_name, name_at}
+use Rattle.http_side.specs.Items.{has_item}
+use Rattle.http_side.specs.Names.{AreAlike}
+use Rattle.http_side.proofs.connection.mark_found_items.Given as goal
+
+abbrev pub invariant-loop-item : goal.invariant-loop-item
+invariant-loop-item l = record {
+  can : (goal.iterator-loop-item).can_next l.item-iterator;
+  ends : (goal.iterator-loop-item).is_finite l.item-iterator;
+  size : length l.named ≡ length l.initial.named;
+  alike : AreAlike l.fields l.named;
+  rest : (i : ℕ) → i < length l.fields → i < length l.initial.named
+      → (slice_index_or l.initial.named i false || has_item (name_at l.fields i) l.value) ≡ (slice_index_or l.named i false || list_any (λ item. same_name item (name_at l.fields i)) (items_left l.item-iterator));
+}

@@ -1,0 +1,104 @@
+//! Which fields of a head Connection names (RFC 9110, section 7.6.1).
+ghost use Rattle.std.specs.Prelude.{◌≡◌, ◌≤◌, length};
+ghost use Rattle.http_side.specs.Fields.{same_name};
+ghost use Rattle.http_side.specs.Items.{has_item};
+ghost use Rattle.http_side.specs.Forward.{AreNamed, Marks, is_named_by};
+ghost use Rattle.http_side.specs.Names.{ArePlaced, AreAlike};
+
+use crate::fields::{Fields, Values, is_same_name};
+use crate::items::has_item;
+use crate::names::{PlacedName, find_name, sorted_names};
+use adapt_bytes::{MAX_FIELDS, comma_items};
+
+/// Whether Connection names the field.
+pub(crate) fn is_named_by(fields: &Fields<'_>, name: &[u8]) -> bool
+    ensures { result ≡ is_named_by fields.now name.now }
+{
+    for at in 0..fields.len() {
+        if fields.is_named(at, b"connection") && has_item(fields.value(at), name) {
+            return true;
+        }
+    }
+    false
+}
+
+/// A value of Connection with no more bytes than these has so few items that each may go over all fields.
+const SHORT_VALUE: usize = 64;
+
+/// Which fields Connection names, by their places.
+pub(crate) fn named_fields(fields: &Fields<'_>) -> [bool; MAX_FIELDS]
+    ensures { AreNamed fields.now result }
+{
+    let mut named = [false; MAX_FIELDS];
+    match fields.values(b"connection") {
+        Values::None => named,
+        Values::One(value) if value.len() <= SHORT_VALUE => {
+            mark_items(&mut named, fields, value);
+            named
+        }
+        _ => searched_fields(fields),
+    }
+}
+
+/// The same where Connection may have many items. Each is searched for among the fields' names in order, and only one
+/// that names fields which none before it did goes over all fields: no more than there are fields.
+fn searched_fields(fields: &Fields<'_>) -> [bool; MAX_FIELDS]
+    ensures { AreNamed fields.now result }
+{
+    let names = sorted_names(fields);
+    let mut named = [false; MAX_FIELDS];
+    for at in 0..fields.len() {
+        if fields.is_named(at, b"connection") {
+            mark_found_items(&mut named, fields, names.as_slice(), fields.value(at));
+        }
+    }
+    named
+}
+
+/// Marks the fields that an item of this value names, where those of one name are marked alike.
+fn mark_found_items(named: &mut [bool], fields: &Fields<'_>, names: &[PlacedName<'_>], value: &[u8])
+    requires placed { ArePlaced fields.now names.now }
+    requires room { length fields.now ≤ length named.old }
+    requires alike { AreAlike fields.now named.old }
+    ensures marked { Marks (λ name. has_item name value.now) fields.now named.old named.new }
+    ensures alike { AreAlike fields.now named.new }
+{
+    for item in comma_items(value) {
+        mark_found(named, fields, names, item);
+    }
+}
+
+/// Marks the fields that this item names, where those of one name are marked alike: if the one that is found is marked, all
+/// are.
+fn mark_found(named: &mut [bool], fields: &Fields<'_>, names: &[PlacedName<'_>], item: &[u8])
+    requires placed { ArePlaced fields.now names.now }
+    requires room { length fields.now ≤ length named.old }
+    requires alike { AreAlike fields.now named.old }
+    ensures marked { Marks (λ name. same_name item.now name) fields.now named.old named.new }
+    ensures alike { AreAlike fields.now named.new }
+{
+    match find_name(names, item) {
+        Some(place) if !named[place] => mark_item(named, fields, item),
+        _ => {}
+    }
+}
+
+/// Marks the fields that an item of this value names.
+fn mark_items(named: &mut [bool], fields: &Fields<'_>, value: &[u8])
+    ensures { Marks (λ name. has_item name value.now) fields.now named.old named.new }
+{
+    for item in comma_items(value) {
+        mark_item(named, fields, item);
+    }
+}
+
+/// Marks the fields that this item names.
+fn mark_item(named: &mut [bool], fields: &Fields<'_>, item: &[u8])
+    ensures { Marks (λ name. same_name item.now name) fields.now named.old named.new }
+{
+    for at in 0..fields.len().min(named.len()) {
+        if is_same_name(item, fields.name(at)) {
+            named[at] = true;
+        }
+    }
+}

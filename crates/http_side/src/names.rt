@@ -1,0 +1,64 @@
+//! The names of a head's fields in order, so that one can be found without a walk over all of them.
+ghost use Rattle.std.specs.Prelude.{◌≡◌};
+ghost use Rattle.http_side.specs.Fields.{FieldList};
+ghost use Rattle.http_side.specs.Names.{ArePlaced, HavePlaces, IsPlaceOf, name_order};
+
+use crate::fields::Fields;
+use adapt_bytes::MAX_FIELDS;
+use arrayvec::ArrayVec;
+use std::cmp::Ordering;
+
+/// A field's name and its place.
+#[derive(Clone, Copy, Debug, Default)]
+pub(crate) struct PlacedName<'a> {
+    pub name: &'a [u8],
+    pub place: u8,
+}
+
+/// The names in order, each with its field's place.
+pub(crate) fn sorted_names<'a>(fields: &Fields<'a>) -> ArrayVec<PlacedName<'a>, MAX_FIELDS>
+    ensures { ArePlaced fields.now result.items }
+{
+    let mut names = placed_names(fields);
+    names.sort_unstable_by(|one, other| compare_names(one.name, other.name));
+    names
+}
+
+/// The names as they came, each with its field's place.
+fn placed_names<'a>(fields: &Fields<'a>) -> ArrayVec<PlacedName<'a>, MAX_FIELDS>
+    ensures { HavePlaces fields.now result.items }
+{
+    let mut names = ArrayVec::new();
+    for at in 0..fields.len() {
+        names.push(PlacedName {
+            name: fields.name(at),
+            place: at as u8,
+        });
+    }
+    names
+}
+
+/// The place of a field of this name, ASCII case ignored, where there is one.
+pub(crate) fn find_name(names: &[PlacedName<'_>], name: &[u8]) -> Option<usize>
+    ensures { (fields : FieldList) → ArePlaced fields names.now → IsPlaceOf name.now fields result }
+{
+    match names.binary_search_by(|placed| compare_names(placed.name, name)) {
+        Ok(found) => Some(usize::from(names[found].place)),
+        Err(_) => None,
+    }
+}
+
+/// The order of two names by their bytes in lower case.
+fn compare_names(name: &[u8], other: &[u8]) -> Ordering
+    ensures { result ≡ name_order name.now other.now }
+{
+    for at in 0..name.len().min(other.len()) {
+        let order = name[at]
+            .to_ascii_lowercase()
+            .cmp(&other[at].to_ascii_lowercase());
+        if order != Ordering::Equal {
+            return order;
+        }
+    }
+    name.len().cmp(&other.len())
+}
