@@ -231,6 +231,9 @@ impl ServiceSide {
             (λ x came taken. ServiceSent x came taken self.old) (λ x came taken. ServiceSent x came taken self.new)
             self.old.replies.fault self.new.replies.fault (NothingDue (seen state.now.plan state.now.events) self.new.writer) (W.past wire.old) (W.past wire.new) result }
 
+        // Behind a fault the wire isn't touched.
+        ensures untouched { IfSome self.old.replies.fault (λ fault. (p : Past) → W.past wire.old p → W.past wire.new p) }
+
         // The heads' text is kept as long as the request may begin anew; where it may not, what is out is let go. No other text
         // comes in its place.
         ensures heads { KeepsOrDrops self.old.writer self.new.writer }
@@ -270,6 +273,9 @@ impl ServiceSide {
         ensures hears { Hears (seen state.now.plan state.now.events)
             (λ x adapted read. ServiceHeard x adapted read self.old) (λ x adapted read. ServiceHeard x adapted read self.new)
             self.old.replies.fault self.new.replies.fault (RestsReading (seen state.now.plan state.now.events) (length out.old) self.new) (W.past wire.old) (W.past wire.new) out.new result }
+
+        // Behind a fault the wire isn't touched.
+        ensures untouched { IfSome self.old.replies.fault (λ fault. (p : Past) → W.past wire.old p → W.past wire.new p) }
 
         // No empty room is kept.
         ensures empty { self.old.replies.fault ≡ None → self.new.replies.raw ≡ [] → self.new.replies.room ≡ 0 }

@@ -5,4 +5,5 @@ mod adapted;
 mod fixtures;
 mod options;
 mod reading;
+mod uploads;
 mod writing;

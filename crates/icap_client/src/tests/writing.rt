@@ -38,7 +38,7 @@ fn offer(alloc: Global, state: &State) -> Result<ServiceSide, AllocError> {
 }
 
 /// A turn of the writing half. False where the tape isn't that of the history, or the side fails.
-fn write(
+pub fn write(
     side: &mut ServiceSide,
     state: &mut State,
     tape: &SpanTape,
