@@ -6,8 +6,6 @@ mod digits;
 pub mod laws;
 mod limits;
 mod room;
-#[cfg(test)]
-mod tests;
 mod text;
 
 pub use commas::{CommaItems, CommaParts, comma_items, comma_parts};

@@ -25,6 +25,3 @@ pub use parts::{BodyPart, Part};
 pub use reader::read;
 pub use std::alloc::AllocError as NoMemory;
 pub use writer::write;
-
-#[cfg(test)]
-mod tests;

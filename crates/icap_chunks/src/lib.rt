@@ -7,8 +7,6 @@ pub mod laws;
 mod pieces;
 mod places;
 mod reader;
-#[cfg(test)]
-mod tests;
 mod writers;
 
 pub use fault::ChunkFault;

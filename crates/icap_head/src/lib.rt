@@ -21,6 +21,3 @@ pub use reading::{Head, HeadFault, MAX_FIELDS, MAX_HEAD};
 pub use requests::{IcapRequest, read_request, write_request};
 pub use responses::{IcapResponse, read_response, write_response};
 pub use std::alloc::AllocError as NoMemory;
-
-#[cfg(test)]
-mod tests;

@@ -8,8 +8,6 @@ mod numbers;
 mod path;
 mod reading;
 mod record;
-#[cfg(test)]
-mod tests;
 mod transfer;
 mod words;
 

@@ -10,8 +10,6 @@ mod hosts;
 mod point;
 mod reading;
 mod services;
-#[cfg(test)]
-mod tests;
 mod unknown;
 mod values;
 

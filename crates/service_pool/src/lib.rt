@@ -9,8 +9,6 @@ mod pool;
 mod rebasing;
 mod state;
 mod step;
-#[cfg(test)]
-mod tests;
 mod window;
 
 pub use crate::journal::Journal;

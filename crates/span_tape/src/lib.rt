@@ -3,8 +3,6 @@
 
 mod queue;
 mod tape;
-#[cfg(test)]
-mod tests;
 
 pub use crate::tape::SpanTape;
 pub use span_bank::Pages;
