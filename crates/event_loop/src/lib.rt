@@ -13,8 +13,6 @@ mod listening;
 mod looping;
 mod ready_list;
 mod slots;
-#[cfg(test)]
-mod tests;
 mod threads;
 mod work;
 

@@ -18,8 +18,6 @@ mod reason;
 mod route;
 mod scan;
 mod starting;
-#[cfg(test)]
-mod tests;
 
 pub use address::{Origin, origin_of};
 pub use connections::keeps_user;

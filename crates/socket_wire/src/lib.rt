@@ -4,8 +4,6 @@
 mod dial;
 mod ready;
 mod socket;
-#[cfg(test)]
-mod tests;
 mod token;
 
 pub use dial::Dial;

@@ -5,8 +5,6 @@ mod gate;
 mod memory;
 mod shared;
 mod stream;
-#[cfg(test)]
-mod tests;
 mod wire;
 
 pub use gate::{Gate, HoldGate, OpenGate};

@@ -1,7 +1,7 @@
 //! Two wires take the answers of one list in turn.
 
-use crate::{Answer, Answers, Got, Put, SharedWire, Wire};
 use std::test::Fail;
+use wire_kit::{Answer, Answers, Got, Put, SharedWire, Wire};
 
 #[test]
 fn takes_the_answers_in_turn(rt: HostRuntime) -> Result<(), Fail> {

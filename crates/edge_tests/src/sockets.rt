@@ -1,6 +1,6 @@
-use crate::{Readiness, SocketWire};
 use mio::net::{TcpListener, TcpStream};
 use mio::{Events, Interest, Poll, Token};
+use socket_wire::{Readiness, SocketWire};
 use std::net::{Ipv4Addr, SocketAddr};
 use std::sync::Arc;
 use std::test::Fail;

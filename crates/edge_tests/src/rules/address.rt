@@ -1,7 +1,7 @@
 //! Where requests go, and what users wait for.
-use crate::{awaits_continue, interim_continue, is_head, origin_address, origin_of};
 use http_side::{HttpRequest, read_request};
 use proxy_config::read_config;
+use proxy_rules::{awaits_continue, interim_continue, is_head, origin_address, origin_of};
 use std::alloc::Global;
 use std::net::SocketAddrV4;
 use std::process::Abort;

@@ -1,13 +1,13 @@
 //! Plans, and what is written to a service.
-use crate::{
-    ask_options, is_reusable_after_options, limits_of, offer_request, offer_response, pool_maximum,
-    request_plan, response_plan,
-};
 use http_side::{read_request, read_response};
 use icap_client::ServiceSide;
 use icap_head::{IcapResponse, read_response as read_answer};
 use options_book::{Record, read_record};
 use proxy_config::{ServicePoint, read_config};
+use proxy_rules::{
+    ask_options, is_reusable_after_options, limits_of, offer_request, offer_response, pool_maximum,
+    request_plan, response_plan,
+};
 use span_tape::SpanTape;
 use std::alloc::{AllocError, Global};
 use std::test::Fail;

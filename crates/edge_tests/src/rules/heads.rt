@@ -1,8 +1,8 @@
 //! The heads with which messages go on, and whether the user's connection ends behind them.
-use crate::{HeadMaker, keeps_user};
 use adapt_turn::Outcome;
 use http_relay::SourceSide;
 use http_side::Framing;
+use proxy_rules::{HeadMaker, keeps_user};
 use std::alloc::{AllocError, Global};
 use std::process::Abort;
 use std::test::Fail;

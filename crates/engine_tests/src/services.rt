@@ -1,5 +1,5 @@
 //! The texts of the answers, and each service at each kind of request.
-use crate::{
+use icap_services::{
     NoMemory, Point, Service, Settings, Status, WholeRequest, answer, is_tag, put_continue,
     put_error, put_options,
 };

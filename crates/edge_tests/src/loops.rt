@@ -1,4 +1,4 @@
-use crate::{Asker, Heard, Request, read_request};
+use event_loop::{Asker, Heard, Request, read_request};
 use std::test::Fail;
 use wire_kit::{MemoryWire, ReadAnswer, WriteAnswer};
 

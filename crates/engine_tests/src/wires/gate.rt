@@ -1,6 +1,6 @@
 //! The first transaction waits for the second; no other waits.
 
-use crate::{Gate, HoldGate, OpenGate};
+use wire_kit::{Gate, HoldGate, OpenGate};
 
 #[test]
 fn lets_the_first_pass_once_the_second_is_answered(rt: HostRuntime) {

@@ -1,6 +1,6 @@
 //! Loops in threads, over loopback: they echo.
 
-use crate::{Base, Driven, Inbox, Request, Told, Work, add_loop, run_loop};
+use event_loop::{Base, Driven, Inbox, Request, Told, Work, add_loop, run_loop};
 use mio::net::{TcpListener, TcpStream};
 use mio::{Registry, Token};
 use slab::Slab;

@@ -1,10 +1,10 @@
 //! The statuses of the proxy's own responses.
-use crate::{
-    Reason, open_reason, options_reason, origin_head_reason, record_reason, user_head_reason,
-};
 use adapt_sides::{ClientFault, RelayFault};
 use http_side::{HttpFault, own_refusal};
 use options_book::OptFault;
+use proxy_rules::{
+    Reason, open_reason, options_reason, origin_head_reason, record_reason, user_head_reason,
+};
 use span_bank::OpenFault;
 
 #[test]

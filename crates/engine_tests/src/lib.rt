@@ -1,0 +1,7 @@
+//! Tests of the engines: worked messages over wires in memory, at every cut, and wires that end or fail behind every byte.
+#![tactic(auto)]
+
+#[cfg(test)]
+mod services;
+#[cfg(test)]
+mod wires;
