@@ -2,6 +2,10 @@
 #![tactic(auto)]
 
 #[cfg(test)]
+mod clients;
+#[cfg(test)]
+mod relays;
+#[cfg(test)]
 mod services;
 #[cfg(test)]
 mod wires;

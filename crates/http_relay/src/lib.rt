@@ -9,8 +9,6 @@ pub mod laws;
 mod pieces;
 mod side;
 mod source_body;
-#[cfg(test)]
-mod tests;
 mod traits;
 
 pub use adapt_sides::{RelayFault, Turn};

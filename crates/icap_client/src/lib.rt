@@ -19,8 +19,6 @@ mod said;
 mod service;
 mod side;
 mod stage;
-#[cfg(test)]
-mod tests;
 
 pub use events::Heard;
 pub use options::{OptionsSide, OptionsStage};

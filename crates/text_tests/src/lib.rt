@@ -4,6 +4,8 @@
 #[cfg(test)]
 mod chunked_bodies;
 #[cfg(test)]
+mod http_heads;
+#[cfg(test)]
 mod icap_heads;
 #[cfg(test)]
 mod lists;

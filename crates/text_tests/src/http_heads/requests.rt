@@ -1,5 +1,5 @@
 //! Which requests are read, and why the others are refused (RFC 9112, sections 2, 3 and 6; RFC 9110, section 4.2).
-use crate::{HttpFault, read_request};
+use http_side::{HttpFault, read_request};
 use std::alloc::Global;
 
 fn fault(alloc: Global, text: &[u8]) -> Option<HttpFault> {
@@ -118,7 +118,7 @@ fn lengths(rt: HostRuntime) {
 }
 
 /// What is answered to a POST with these fields.
-fn with_fields(alloc: Global, fields: &[u8]) -> Result<Option<HttpFault>, crate::NoMemory> {
+fn with_fields(alloc: Global, fields: &[u8]) -> Result<Option<HttpFault>, http_side::NoMemory> {
     let mut text = Vec::new(alloc);
     text.extend_from_slice(b"POST http://o/ HTTP/1.1\r\nHost: o\r\n")?;
     text.extend_from_slice(fields)?;

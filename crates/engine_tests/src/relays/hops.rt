@@ -3,7 +3,7 @@ use super::exchange::{End, Passed, is_in_step, step};
 use super::kept::Kept;
 use super::scenes::{Scene, play};
 use super::texts::{TAKES_ALL, ends_so, is_passed};
-use crate::{NextHop, RelayFault};
+use http_relay::{NextHop, RelayFault};
 use http_side::{Framing, HttpFault};
 use span_tape::SpanTape;
 use std::alloc::Global;

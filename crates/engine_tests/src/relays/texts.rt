@@ -2,7 +2,7 @@
 
 use super::exchange::{Case, End, Input, Passed};
 use super::scenes::{Scene, play};
-use crate::RelayFault;
+use http_relay::RelayFault;
 use http_side::HttpFault;
 use std::alloc::Global;
 use std::process::Abort;

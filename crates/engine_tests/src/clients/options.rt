@@ -1,8 +1,8 @@
 //! Asking a service for its options.
 
 use super::fixtures::wire_of;
-use crate::OptionsSide;
 use adapt_sides::ClientFault;
+use icap_client::OptionsSide;
 use icap_head::IcapResponse;
 use std::alloc::{AllocError, Global};
 use std::test::Fail;

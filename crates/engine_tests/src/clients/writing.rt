@@ -3,7 +3,7 @@
 use super::fixtures::{
     CHANGED, CONTINUE, ROOM, Told, a_page, begun, come, is_tape_of, step_all, wire_of,
 };
-use crate::ServiceSide;
+use icap_client::ServiceSide;
 use span_bank::Pages;
 use span_tape::SpanTape;
 use std::alloc::{AllocError, Global};

@@ -4,7 +4,7 @@ ghost use Rattle.trace_core.specs.History.{seen};
 ghost use Rattle.adapt_sides.specs.Tapes.{KeepsUndelivered};
 
 use super::kept::Kept;
-use crate::{NextHop, RelayFault, SourceSide, Turn};
+use http_relay::{NextHop, RelayFault, SourceSide, Turn};
 use http_side::{
     Forward, Framing, HttpFault, HttpRequest, Message, NoMemory, Part, forward_head, read_request,
 };

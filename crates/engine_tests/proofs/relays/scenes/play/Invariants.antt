@@ -1,4 +1,4 @@
-use Rattle.http_relay.proofs.tests.scenes.play.Given as goal
+use Rattle.engine_tests.proofs.relays.scenes.play.Given as goal
 
 abbrev pub ghosts-run-H-Ledger : goal.ghosts-run-H-Ledger
 ghosts-run-H-Ledger g a = record { name = a.blanks.held.name; parts = a.blanks.held.parts }

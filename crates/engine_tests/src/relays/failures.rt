@@ -3,7 +3,7 @@
 use super::exchange::{Case, End, Input};
 use super::scenes::{Scene, play};
 use super::texts::{AT_ONCE, GET, TAKES_ALL, is_passed};
-use crate::RelayFault;
+use http_relay::RelayFault;
 use std::test::Fail;
 use wire_kit::{ReadAnswer, WriteAnswer};
 

@@ -1,5 +1,5 @@
 //! Bodies in pieces, and the proxy's own responses.
-use crate::{BodyReader, Framing, own_refusal};
+use http_side::{BodyReader, Framing, own_refusal};
 use icap_chunks::{ChunkFault, Fed};
 use std::test::Fail;
 

@@ -1,5 +1,5 @@
 //! The heads that go on, to an origin, to a service and to the user (RFC 9110, section 7.6; RFC 9112, section 3.2).
-use crate::{
+use http_side::{
     Forward, Framing, HttpFault, Message, Part, encapsulated_head, forward_head, read_request,
     read_response,
 };

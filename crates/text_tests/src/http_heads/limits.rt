@@ -1,5 +1,5 @@
 //! The limits of a head: 16,384 bytes and 100 fields; and heads cut at every byte.
-use crate::{
+use http_side::{
     Forward, HttpFault, Message, NoMemory, Part, forward_head, read_request, read_response,
 };
 use std::alloc::Global;

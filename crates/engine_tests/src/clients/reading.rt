@@ -3,8 +3,8 @@
 use super::fixtures::{
     CHANGED, CONTINUE, ROOM, Told, UNCHANGED, after_ieof, after_preview, begun, wire_of,
 };
-use crate::ReplySide;
 use adapt_sides::ClientFault;
+use icap_client::ReplySide;
 use std::alloc::{AllocError, Global};
 use std::test::Fail;
 use trace_core::{Event, Kind, Payload, Point, State};

@@ -1,5 +1,5 @@
 //! Responses, and where their bodies end (RFC 9112, sections 4 and 6.3).
-use crate::{Framing, HttpFault, read_response};
+use http_side::{Framing, HttpFault, read_response};
 use std::process::Abort;
 
 /// A status is any three digits; a phrase may be missing or empty; empty lines before a head count in its length.
