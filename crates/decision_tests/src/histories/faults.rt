@@ -8,7 +8,7 @@ use StepFault::{
     PastLength, PastPreview, Replied, Stopped, TooSoon, Unheard,
 };
 use adapt_bytes::COUNT_LIMIT;
-use trace_core::history::{Answer, Event, Kind, Payload, StepFault};
+use trace_core::{Answer, Event, Kind, Payload, StepFault};
 
 /// Where two faults stand, the one with the smaller number is answered: of a body without a preview.
 #[test]

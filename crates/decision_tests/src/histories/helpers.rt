@@ -1,7 +1,6 @@
 //! Plans, answers, and whether a list of events is answered so.
 use std::alloc::Global;
-use trace_core::history::{Answer, Event, Kind, Plan, Point};
-use trace_core::replay::{NoMemory, run};
+use trace_core::{Answer, Event, Kind, NoMemory, Plan, Point, run};
 
 pub(super) fn plan_of(kind: Kind, allow: bool, len: Option<u64>) -> Option<Plan> {
     Plan::new(kind, allow, false, len, Point::Respmod)

@@ -6,9 +6,7 @@ use Payload::Body;
 use StepFault::{NoRetry, NotPreview, PastPreview, TooSoon, Unheard};
 use adapt_bytes::COUNT_LIMIT;
 use std::alloc::Global;
-use trace_core::history::{Answer, Event, Kind, Payload, Plan, Point, StepFault};
-use trace_core::replay::{NoMemory, run};
-use trace_core::transaction::State;
+use trace_core::{Answer, Event, Kind, NoMemory, Payload, Plan, Point, State, StepFault, run};
 
 /// The answers where the plan has the leave to begin anew.
 fn retried_answers(

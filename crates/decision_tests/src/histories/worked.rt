@@ -4,7 +4,7 @@ use Answer::Fault;
 use Event::{Ad, AdEnd, Continue, Done, End, Heard, In, Mod, NoMod, Stop, Svc, Usr};
 use Payload::{Body, NullBody};
 use StepFault::{Closed, Ieof, Not204, NotPreview, NotWhole, PastLength, Stopped};
-use trace_core::history::{Answer, Cause, Event, Kind, Payload, StepFault};
+use trace_core::{Answer, Cause, Event, Kind, Payload, StepFault};
 
 #[test]
 fn continue_releases_previewed_bytes(rt: HostRuntime) {
