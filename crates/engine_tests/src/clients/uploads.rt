@@ -3,7 +3,7 @@
 use super::fixtures::{a_page, come};
 use super::reading::both;
 use super::writing::write;
-use crate::ServiceSide;
+use icap_client::ServiceSide;
 use span_tape::SpanTape;
 use std::alloc::{AllocError, Global};
 use std::test::Fail;
