@@ -85,3 +85,40 @@ fn a_wire_that_waits_in_mid_text(rt: HostRuntime) -> Result<(), Fail> {
     assert!(rt; goes_out(alloc, &mut state, &tape, &want, &turns)?);
     Ok(())
 }
+
+/// 4,096 bytes.
+fn a_full_page(alloc: Global) -> Result<Vec<u8>, AllocError> {
+    let mut bytes = Vec::new(alloc);
+    for _ in 0..4096 {
+        bytes.push(b'x')?;
+    }
+    Ok(bytes)
+}
+
+/// The request with a body of 4,100 bytes: a full chunk, and the rest with the last chunk behind it.
+fn long_upload(alloc: Global, page: &[u8]) -> Result<Vec<u8>, AllocError> {
+    let mut text = both(alloc, UPLOADED, "1000\r\n")?;
+    text.extend_from_slice(page)?;
+    text.extend_from_slice(b"\r\n4\r\nlast\r\n0\r\n\r\n")?;
+    Ok(text)
+}
+
+#[test]
+fn a_long_body_goes_in_full_chunks(rt: HostRuntime) -> Result<(), Fail> {
+    let alloc = rt.alloc();
+    let page = a_full_page(alloc)?;
+    let want = long_upload(alloc, &page)?;
+    let turns = [
+        (WriteAnswer::Took(8192), 4264),
+        (WriteAnswer::Took(8192), 4278),
+    ];
+    let mut state = begun().expect(&rt, "a plan");
+    let mut tape = SpanTape::new();
+    let mut first = a_page(&rt, alloc)?;
+    assert!(rt; come(&mut state, &mut tape, &mut first, &page));
+    let mut second = a_page(&rt, alloc)?;
+    assert!(rt; come(&mut state, &mut tape, &mut second, b"last"));
+    assert!(rt; state.step(Event::End).is_ok());
+    assert!(rt; goes_out(alloc, &mut state, &tape, &want, &turns)?);
+    Ok(())
+}

@@ -24,6 +24,13 @@ Preview: 4\r\nEncapsulated: req-hdr=0, res-hdr=50, res-body=88\r\n\r\n\
 GET http://o.test/a.txt HTTP/1.1\r\nHost: o.test\r\n\r\n\
 HTTP/1.1 200 OK\r\nContent-Length: 6\r\n\r\n";
 
+/// The same, with a preview of no byte.
+const OFFERED_UNSEEN: &str =
+    "RESPMOD icap://127.0.0.1:1344/respmod/upper ICAP/1.0\r\nHost: 127.0.0.1:1344\r\n\
+Preview: 0\r\nEncapsulated: req-hdr=0, res-hdr=50, res-body=88\r\n\r\n\
+GET http://o.test/a.txt HTTP/1.1\r\nHost: o.test\r\n\r\n\
+HTTP/1.1 200 OK\r\nContent-Length: 6\r\n\r\n";
+
 /// A side that offers the original response.
 fn offer(alloc: Global, state: &State) -> Result<ServiceSide, AllocError> {
     ServiceSide::new(
@@ -169,6 +176,19 @@ fn a_body_in_single_bytes(rt: HostRuntime) -> Result<(), Fail> {
     let pieces: [&[u8]; 6] = [b"a", b"b", b"c", b"d", b"e", b"f"];
     let mut pages = a_page(&rt, alloc)?;
     let found = taken(alloc, &mut pages, 4, &pieces, &reply, 4096)?;
+    let (text, _, whole) = found.expect(&rt, "an exchange");
+    assert_eq!(rt; text.as_slice(), want.as_slice());
+    assert!(rt; whole);
+    Ok(())
+}
+
+#[test]
+fn a_preview_of_no_byte(rt: HostRuntime) -> Result<(), Fail> {
+    let alloc = rt.alloc();
+    let want = both(alloc, OFFERED_UNSEEN, "0\r\n\r\n6\r\nabcdef\r\n0\r\n\r\n")?;
+    let reply = both(alloc, CONTINUE, CHANGED)?;
+    let mut pages = a_page(&rt, alloc)?;
+    let found = taken(alloc, &mut pages, 0, &[b"abcdef"], &reply, 4096)?;
     let (text, _, whole) = found.expect(&rt, "an exchange");
     assert_eq!(rt; text.as_slice(), want.as_slice());
     assert!(rt; whole);
