@@ -1,6 +1,7 @@
 //! `serve` over loopback: users, an origin, a service and the administrator in one thread, the proxy in threads of its own.
 
-use super::scenes::{REQUEST, RESPONSE, Scene, TO_ORIGIN, play};
+use super::player::{Stage, Step, gets, take_all};
+use super::shards::{many_users, one_connection};
 use crate::serve::read_configuration;
 use crate::serving::serve_ports;
 use mio::net::TcpListener as Listener;
@@ -8,18 +9,26 @@ use proxy_config::Config;
 use shard_loop::StopAudit;
 use socket_wire::Dial;
 use std::alloc::Global;
-use std::io::{self, ErrorKind, Read, Write};
+use std::io::{self, ErrorKind, Write};
 use std::net::{Ipv4Addr, Net, SocketAddr, TcpListener, TcpStream};
 use std::sync::Wait;
 use std::thread::{self, Threads};
-use std::time::{Clock, Duration};
+use std::time::Clock;
 use wire_kit::HoldGate;
 
-/// What the service says of itself, with the lines that a test adds.
-fn options(alloc: Global, lines: &str) -> io::Result<String> {
-    Ok(format!(in alloc;
-        "ICAP/1.0 200 OK\r\nMethods: RESPMOD\r\nISTag: \"adapt-1\"\r\n{lines}Encapsulated: null-body=0\r\n\r\n"
-    )?)
+/// What is played.
+#[derive(Clone, Copy)]
+pub enum Scene {
+    /// Nothing is adapted.
+    Forwarded(&'static [Step]),
+    /// Responses are adapted.
+    Adapted(&'static [Step]),
+    /// Responses are adapted, and the first transaction is held back until a step releases it.
+    HeldBack(&'static [Step]),
+    /// The service takes one connection: a second user is refused, the first one served, and then a third one.
+    OneConnection,
+    /// More users than the budget has room for, all at once.
+    ManyUsers,
 }
 
 /// Where the proxy listens.
@@ -29,11 +38,12 @@ pub struct Ports {
     pub admin: SocketAddr,
 }
 
-/// An origin and a service.
+/// An origin and a service, and the service's port.
 #[derive(Drop)]
 pub struct Others {
     pub origin: TcpListener,
     pub service: TcpListener,
+    pub port: u16,
 }
 
 fn local() -> SocketAddr {
@@ -41,7 +51,7 @@ fn local() -> SocketAddr {
 }
 
 /// The listeners of a proxy, and where they are.
-fn listeners<R: Net>(rt: &R) -> io::Result<((Listener, Listener), Ports)> {
+fn listeners(rt: &HostRuntime) -> io::Result<((Listener, Listener), Ports)> {
     let users = Listener::bind(rt, local())?;
     let admin = Listener::bind(rt, local())?;
     let ports = Ports {
@@ -51,24 +61,27 @@ fn listeners<R: Net>(rt: &R) -> io::Result<((Listener, Listener), Ports)> {
     Ok(((users, admin), ports))
 }
 
-fn make_others<R: Net<Listener = TcpListener, Stream = TcpStream>>(rt: &R) -> io::Result<Others> {
+fn make_others(rt: &HostRuntime) -> io::Result<Others> {
+    let origin = TcpListener::bind(rt, local())?;
+    let service = TcpListener::bind(rt, local())?;
+    let port = service.local_addr()?.port();
     Ok(Others {
-        origin: TcpListener::bind(rt, local())?,
-        service: TcpListener::bind(rt, local())?,
+        origin,
+        service,
+        port,
     })
 }
 
 /// A configuration with the origin's name, and the service's RESPMOD where it is adapted. The addresses that it listens on
 /// aren't used.
-fn configuration(alloc: Global, others: &Others, adapts: bool, more: &str) -> io::Result<Config> {
+fn configuration(alloc: Global, others: &Others, scene: Scene, more: &str) -> io::Result<Config> {
     let origin = others.origin.local_addr()?.port();
-    let service = others.service.local_addr()?.port();
-    let point = if adapts {
-        format!(in alloc;
+    let service = others.port;
+    let point = match scene {
+        Scene::Forwarded(_) | Scene::ManyUsers => String::new(alloc),
+        _ => format!(in alloc;
             "[respmod]\nhost = \"127.0.0.1\"\nport = {service}\npath = \"/respmod/upper\"\n"
-        )?
-    } else {
-        String::new(alloc)
+        )?,
     };
     let text = format!(in alloc;
         "listen = \"127.0.0.1:1\"\nadmin = \"127.0.0.1:2\"\n{more}[hosts]\n\"o.test\" = \"127.0.0.1:{origin}\"\n{point}"
@@ -79,97 +92,17 @@ fn configuration(alloc: Global, others: &Others, adapts: bool, more: &str) -> io
     }
 }
 
-pub fn say(stream: &TcpStream, text: &[u8]) -> io::Result<()> {
-    let mut writer = stream;
-    writer.write_all(text)
-}
-
-/// Reads on until the text ends so, or the connection does.
-pub fn until(alloc: Global, stream: &TcpStream, end: &[u8]) -> io::Result<Vec<u8>> {
-    let mut reader = stream;
-    let mut text = Vec::new(alloc);
-    let mut byte = [0u8; 1];
-    for _ in 0..100_000 {
-        if text.ends_with(end) || reader.read(&mut byte)? == 0 {
-            break;
-        }
-        text.push(byte[0])?;
-    }
-    Ok(text)
-}
-
-/// Whether something comes on a connection, or it ends, before 20 ms have passed.
-pub fn hears(stream: &TcpStream) -> io::Result<bool> {
-    let mut byte = [0u8; 1];
-    stream.set_read_timeout(Some(Duration::from_millis(20)))?;
-    let heard = stream.peek(&mut byte).is_ok();
-    stream.set_read_timeout(None)?;
-    Ok(heard)
-}
-
-/// All that still comes.
-pub fn rest(alloc: Global, stream: &TcpStream) -> io::Result<Vec<u8>> {
-    let mut reader = stream;
-    let mut text = Vec::new(alloc);
-    reader.read_to_end(&mut text)?;
-    Ok(text)
-}
-
-/// A user that has asked.
-pub fn asks<R: Net<Listener = TcpListener, Stream = TcpStream>>(
-    rt: &R,
-    ports: Ports,
-) -> io::Result<TcpStream> {
-    let user = TcpStream::connect(rt, ports.users)?;
-    say(&user, REQUEST)?;
-    Ok(user)
-}
-
-/// The origin answers the request on a connection. Whether it is the wanted one.
-pub fn answers(alloc: Global, stream: &TcpStream) -> io::Result<bool> {
-    let head = until(alloc, stream, b"\r\n\r\n")?;
-    say(stream, RESPONSE)?;
-    Ok(head.as_slice() == TO_ORIGIN)
-}
-
-/// The origin answers the next request. Whether it is the wanted one.
-pub fn responds(alloc: Global, others: &Others) -> io::Result<bool> {
-    let (stream, _) = others.origin.accept()?;
-    answers(alloc, &stream)
-}
-
-/// The service, asked for its options on a connection, answers with these lines.
-pub fn says_options(alloc: Global, line: &TcpStream, lines: &str) -> io::Result<()> {
-    until(alloc, line, b"\r\n\r\n")?;
-    say(line, options(alloc, lines)?.as_bytes())
-}
-
-/// A connection to the service, which was asked for its options and has answered with these lines.
-pub fn options_asked(alloc: Global, others: &Others, lines: &str) -> io::Result<TcpStream> {
-    let (stream, _) = others.service.accept()?;
-    says_options(alloc, &stream, lines)?;
-    Ok(stream)
-}
-
-/// The answers of the admin port, a line each.
-pub fn admin<R: Net<Listener = TcpListener, Stream = TcpStream>>(
-    rt: &R,
-    alloc: Global,
-    ports: Ports,
-    line: &str,
-) -> io::Result<Vec<u8>> {
-    let stream = TcpStream::connect(rt, ports.admin)?;
-    say(&stream, line.as_bytes())?;
-    until(alloc, &stream, b"\n")
+/// Whether the admin port answers a line so.
+pub fn admin(rt: &HostRuntime, ports: Ports, line: &str, answer: &str) -> io::Result<bool> {
+    let mut stream = TcpStream::connect(rt, ports.admin)?;
+    stream.write_all(line.as_bytes())?;
+    gets(&stream, answer.as_bytes())
 }
 
 /// Stops the proxy.
-pub fn stop<R: Net<Listener = TcpListener, Stream = TcpStream>>(
-    rt: &R,
-    ports: Ports,
-) -> io::Result<()> {
-    let stream = TcpStream::connect(rt, ports.admin)?;
-    say(&stream, b"stop\n")
+pub fn stop(rt: &HostRuntime, ports: Ports) -> io::Result<()> {
+    let mut stream = TcpStream::connect(rt, ports.admin)?;
+    stream.write_all(b"stop\n")
 }
 
 /// Nothing was out.
@@ -179,18 +112,45 @@ const NOTHING: StopAudit = StopAudit {
     leased: 0,
 };
 
+/// Plays a scene. Whether all got what they should.
+fn play<R: Threads + Sync>(
+    rt: &R,
+    host: &HostRuntime,
+    alloc: Global,
+    scene: Scene,
+    ports: Ports,
+    others: &Others,
+    gate: &HoldGate,
+) -> io::Result<bool> {
+    let mut stage = Stage {
+        ports,
+        others,
+        gate,
+        made: Vec::new(alloc),
+    };
+    match scene {
+        Scene::HeldBack(_) => {}
+        _ => gate.answered(),
+    }
+    match scene {
+        Scene::Forwarded(steps) | Scene::Adapted(steps) | Scene::HeldBack(steps) => {
+            take_all(host, alloc, &mut stage, steps)
+        }
+        Scene::OneConnection => one_connection(host, alloc, ports, others),
+        Scene::ManyUsers => many_users(rt, host, alloc, ports, others),
+    }
+}
+
 /// Runs the proxy with these lines of a configuration while a scene is played, and stops it. Whether all went as it should,
-/// and nothing was out at the end.
+/// and nothing was out at the end. Both handles are the test's own: threads are started by a bound alone.
 pub fn goes_well<
     R: Threads + Wait + Net<Listener = TcpListener, Stream = TcpStream> + Dial + Clock + Sync,
->(rt: &R, alloc: Global, scene: Scene, more: &str) -> io::Result<bool> {
-    let others = make_others(rt)?;
-    let config = configuration(alloc, &others, scene.adapts(), more)?;
-    let (made, ports) = listeners(rt)?;
+>(rt: &R, host: &HostRuntime, scene: Scene, more: &str) -> io::Result<bool> {
+    let alloc = host.alloc();
+    let others = make_others(host)?;
+    let config = configuration(alloc, &others, scene, more)?;
+    let (made, ports) = listeners(host)?;
     let gate = HoldGate::new();
-    if scene != Scene::Held {
-        gate.answered();
-    }
     let mut made = Some(made);
     let mut audit = None;
     let mut right = false;
@@ -202,8 +162,8 @@ pub fn goes_well<
             }
         },
         &mut || {
-            right = play(rt, alloc, scene, ports, &others, &gate).unwrap_or(false);
-            let _ = stop(rt, ports);
+            right = play(rt, host, alloc, scene, ports, &others, &gate).unwrap_or(false);
+            let _ = stop(host, ports);
         },
     );
     Ok(right && audit == Some(NOTHING))
