@@ -7,20 +7,20 @@ use crate::serve_error::{ServeError, put_error};
 use shard_loop::StopAudit;
 use std::alloc::{AllocError, Global};
 use std::io::Read;
+use std::test::Fail;
+
+/// Arguments that don't ask to serve.
+const OTHERS: &[&[&str]] = &[&[], &["trace"], &["Serve"], &["serve", "proxy.toml"]];
 
 #[test]
-fn serve_stands_alone(rt: HostRuntime) {
-    let cases: [(&[&str], bool); 5] = [
-        (&["serve"], true),
-        (&[], false),
-        (&["trace"], false),
-        (&["Serve"], false),
-        (&["serve", "proxy.toml"], false),
-    ];
-    for (words, want) in cases {
-        let args = arguments(rt.alloc(), words).expect(&rt, "memory");
-        assert_eq!(rt; asks_to_serve(args.as_slice()), want);
+fn serve_stands_alone(rt: HostRuntime) -> Result<(), Fail> {
+    for words in OTHERS {
+        let args = arguments(rt.alloc(), words)?;
+        assert!(rt; !asks_to_serve(args.as_slice()));
     }
+    let args = arguments(rt.alloc(), &["serve"])?;
+    assert!(rt; asks_to_serve(args.as_slice()));
+    Ok(())
 }
 
 /// What the program says of an error, and its status.
@@ -45,105 +45,123 @@ const LEAST: &str = "listen = \"127.0.0.1:3128\"\nadmin = \"127.0.0.1:3129\"\n";
 const SERVICE: &str =
     "listen = \"127.0.0.1:1\"\nadmin = \"127.0.0.1:2\"\n[respmod]\nhost = \"127.0.0.1\"\n";
 
-#[test]
-fn configurations_are_judged(rt: HostRuntime) {
-    let cases = [
-        ("", "", "config listen\n"),
-        ("listen", "", "config\n"),
-        ("admin = 1", "", "config listen\n"),
-        ("listen = \"127.0.0.1:1\"", "", "config admin\n"),
-        (LEAST, "zebra = 1\nant = 1", "config ant\n"),
-        (LEAST, "rows = 4097\nshards = 65", "config shards\n"),
-        (LEAST, "[hosts]\n\"o.test\" = 1", "config hosts.o.test\n"),
-        (SERVICE, "", "config respmod.path\n"),
-        (SERVICE, "path = \"/x\"\nport = 0", "config respmod.port\n"),
-        (
-            SERVICE,
-            "path = \"/x\"\nfast = true",
-            "config respmod.fast\n",
-        ),
-    ];
-    for (front, rest, want) in cases {
-        let text = format!(in rt.alloc(); "{front}{rest}").expect(&rt, "memory");
-        let (line, status) = judged(rt.alloc(), text.as_bytes()).expect(&rt, "memory");
-        let whole = format!(in rt.alloc(); "adaptproxy: {want}").expect(&rt, "memory");
-        assert_eq!(rt; line.as_slice(), whole.as_bytes(), "{text:?}");
-        assert_eq!(rt; status, 2, "{text:?}");
+/// Configurations that are refused, in two pieces, and what is said of them.
+const REFUSED: &[(&str, &str, &str)] = &[
+    ("", "", "config listen\n"),
+    ("listen", "", "config\n"),
+    ("admin = 1", "", "config listen\n"),
+    ("listen = \"127.0.0.1:1\"", "", "config admin\n"),
+    (LEAST, "zebra = 1\nant = 1", "config ant\n"),
+    (LEAST, "rows = 4097\nshards = 65", "config shards\n"),
+    (LEAST, "[hosts]\n\"o.test\" = 1", "config hosts.o.test\n"),
+    (SERVICE, "", "config respmod.path\n"),
+    (SERVICE, "path = \"/x\"\nport = 0", "config respmod.port\n"),
+    (
+        SERVICE,
+        "path = \"/x\"\nfast = true",
+        "config respmod.fast\n",
+    ),
+];
+
+/// What may stand behind the least configuration.
+const TAKEN: &[&str] = &[
+    "",
+    "retry = false\nwindow = 65536",
+    "[hosts]\n\"a\" = \"127.0.0.1:80\"",
+];
+
+/// What is said of the first refused configuration of which something else is said than should be.
+fn first_misjudged(alloc: Global) -> Result<Option<&'static str>, AllocError> {
+    for (front, rest, want) in REFUSED {
+        let text = format!(in alloc; "{front}{rest}")?;
+        let (line, status) = judged(alloc, text.as_bytes())?;
+        let whole = format!(in alloc; "adaptproxy: {want}")?;
+        if status != 2 || line.as_slice() != whole.as_bytes() {
+            return Ok(Some(*want));
+        }
     }
-    for rest in [
-        "",
-        "retry = false\nwindow = 65536",
-        "[hosts]\n\"a\" = \"127.0.0.1:80\"",
-    ] {
-        let text = format!(in rt.alloc(); "{LEAST}{rest}").expect(&rt, "memory");
-        let (line, status) = judged(rt.alloc(), text.as_bytes()).expect(&rt, "memory");
-        assert!(rt; line.is_empty(), "{text:?}");
-        assert_eq!(rt; status, 0, "{text:?}");
+    Ok(None)
+}
+
+/// The first text behind the least configuration that isn't taken.
+fn first_not_taken(alloc: Global) -> Result<Option<&'static str>, AllocError> {
+    for rest in TAKEN {
+        let text = format!(in alloc; "{LEAST}{rest}")?;
+        let (line, status) = judged(alloc, text.as_bytes())?;
+        if status != 0 || !line.is_empty() {
+            return Ok(Some(*rest));
+        }
     }
+    Ok(None)
 }
 
 #[test]
-fn configurations_that_are_no_text(rt: HostRuntime) {
-    let longer = filled(rt.alloc(), MAX_INPUT + 1).expect(&rt, "memory");
-    let longest = filled(rt.alloc(), MAX_INPUT).expect(&rt, "memory");
-    let found = [
-        (
-            judged(rt.alloc(), b"\xff".as_slice()),
-            b"adaptproxy: config\n".as_slice(),
-            2,
-        ),
-        (
-            judged(rt.alloc(), longest.as_slice()),
-            b"adaptproxy: config\n",
-            2,
-        ),
-        (
-            judged(rt.alloc(), longer.as_slice()),
-            b"adaptproxy: input too long\n",
-            2,
-        ),
-        (
-            judged(rt.alloc(), Broken { bytes: b"listen" }),
-            b"adaptproxy: read failed\n",
-            1,
-        ),
-    ];
-    for (judged, line, status) in found {
-        let (said, found) = judged.expect(&rt, "memory");
-        assert_eq!(rt; said.as_slice(), line);
-        assert_eq!(rt; found, status);
-    }
+fn configurations_are_judged(rt: HostRuntime) -> Result<(), Fail> {
+    assert_eq!(rt; first_misjudged(rt.alloc())?, None);
+    assert_eq!(rt; first_not_taken(rt.alloc())?, None);
+    Ok(())
+}
+
+/// Whether just this is said of what a reader gives.
+fn is_judged<R: Read + Drop>(
+    alloc: Global,
+    reader: R,
+    line: &[u8],
+    status: u8,
+) -> Result<bool, AllocError> {
+    let (said, found) = judged(alloc, reader)?;
+    Ok(said.as_slice() == line && found == status)
 }
 
 #[test]
-fn errors_of_serve_are_one_line(rt: HostRuntime) {
-    let cases = [
-        (
-            ServeError::Ended(Error::WriteFailed),
-            "adaptproxy: write failed\n",
-            1,
-        ),
-        (
-            ServeError::Ended(Error::NoMemory),
-            "adaptproxy: out of memory\n",
-            1,
-        ),
-        (ServeError::CannotListen, "adaptproxy: cannot listen\n", 1),
-        (ServeError::AuditMissing, "adaptproxy: audit missing\n", 1),
-    ];
-    for (error, line, status) in cases {
-        let (said, found) = told(rt.alloc(), &error).expect(&rt, "memory");
-        assert_eq!(rt; said.as_slice(), line.as_bytes());
-        assert_eq!(rt; found, status);
-    }
+fn configurations_that_are_no_text(rt: HostRuntime) -> Result<(), Fail> {
+    let alloc = rt.alloc();
+    let no_text = b"adaptproxy: config\n";
+    let longest = filled(alloc, MAX_INPUT)?;
+    let longer = filled(alloc, MAX_INPUT + 1)?;
+    let too_long = b"adaptproxy: input too long\n";
+    let broken = Broken { bytes: b"listen" };
+    assert!(rt; is_judged(alloc, b"\xff".as_slice(), no_text, 2)?);
+    assert!(rt; is_judged(alloc, longest.as_slice(), no_text, 2)?);
+    assert!(rt; is_judged(alloc, longer.as_slice(), too_long, 2)?);
+    assert!(rt; is_judged(alloc, broken, b"adaptproxy: read failed\n", 1)?);
+    Ok(())
+}
+
+/// Whether just this is said of an error.
+fn is_told(alloc: Global, error: ServeError, line: &[u8]) -> Result<bool, AllocError> {
+    let (said, status) = told(alloc, &error)?;
+    Ok(said.as_slice() == line && status == 1)
+}
+
+#[test]
+fn errors_of_serve_are_one_line(rt: HostRuntime) -> Result<(), Fail> {
+    let alloc = rt.alloc();
+    let unwritten = ServeError::Ended(Error::WriteFailed);
+    let no_memory = ServeError::Ended(Error::NoMemory);
+    assert!(rt; is_told(alloc, unwritten, b"adaptproxy: write failed\n")?);
+    assert!(rt; is_told(alloc, no_memory, b"adaptproxy: out of memory\n")?);
+    assert!(rt;
+        is_told(
+            alloc,
+            ServeError::CannotListen,
+            b"adaptproxy: cannot listen\n"
+        )?
+    );
+    assert!(rt;
+        is_told(
+            alloc,
+            ServeError::AuditMissing,
+            b"adaptproxy: audit missing\n"
+        )?
+    );
     let audit = StopAudit {
         rows: 3,
         held: 18446744073709551615,
         leased: 0,
     };
-    let line = audit_line(rt.alloc(), audit).expect(&rt, "memory");
-    assert_eq!(rt;
-        line.as_slice(),
-        b"audit rows 3 held 18446744073709551615 leased 0\n".as_slice()
-    );
+    let line = audit_line(alloc, audit)?;
+    let wanted = b"audit rows 3 held 18446744073709551615 leased 0\n";
+    assert!(rt; line.as_slice() == wanted.as_slice());
+    Ok(())
 }
