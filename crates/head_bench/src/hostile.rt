@@ -2,7 +2,7 @@
 use http_side::{Forward, Message, NoMemory, Part, forward_head, read_request};
 use std::alloc::Global;
 
-/// The names and the items have one letter each, so that each is compared with each.
+/// The names and the items have one letter each, so that as many as can be are there.
 pub(crate) fn hostile_request(alloc: Global) -> Result<Vec<u8>, NoMemory> {
     let mut text = b"GET http://o/ HTTP/1.0\r\n".to_vec(alloc)?;
     for _ in 0..99 {
