@@ -1,5 +1,5 @@
 //! How long it takes to read a request's head, to write the heads that an origin and a service get, and to
-//! read the head of a service's response; and how long the request's head takes that costs most.
+//! read the head of a service's response; and how long a request's head takes whose Connection has thousands of items.
 //!
 //! The argument is how many times. The figures go to standard error, since they differ from run to run.
 #![tactic(auto)]
@@ -40,8 +40,8 @@ fn main(rt: HostRuntime) -> io::Result<()> {
     time_hostile(&rt, rt.alloc(), times / 1000 + 1)
 }
 
-/// Prints the times of the request's head that costs most to write: to read it, and to read it and write the head for an
-/// origin.
+/// Prints the times of a request's head whose Connection has as many items as fit: to read it, and to read it and write
+/// the head for an origin.
 fn time_hostile(rt: &impl Runtime, alloc: Global, times: u64) -> io::Result<()>
     requires { 0 < times }
 {

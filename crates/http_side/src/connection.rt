@@ -1,13 +1,13 @@
 //! Which fields of a head Connection names (RFC 9110, section 7.6.1).
-ghost use Rattle.std.specs.Prelude.{◌≡◌, ◌≤◌, length};
+ghost use Rattle.std.specs.Prelude.{◌≡◌, ℕ, ◌<◌, ◌≤◌, All, ◌||◌, false, length, slice_index_or};
 ghost use Rattle.http_side.specs.Fields.{same_name};
 ghost use Rattle.http_side.specs.Items.{has_item};
 ghost use Rattle.http_side.specs.Forward.{AreNamed, Marks, is_named_by};
-ghost use Rattle.http_side.specs.Names.{ArePlaced, AreAlike};
+ghost use Rattle.http_side.specs.Names.{ArePlaced, AreAlike, has_place, run_of};
 
 use crate::fields::{Fields, Values, is_same_name};
 use crate::items::has_item;
-use crate::names::{PlacedName, find_name, sorted_names};
+use crate::names::{PlacedName, names_from, sorted_names};
 use adapt_bytes::{MAX_FIELDS, comma_items};
 
 /// Whether Connection names the field.
@@ -40,8 +40,8 @@ pub(crate) fn named_fields(fields: &Fields<'_>) -> [bool; MAX_FIELDS]
     }
 }
 
-/// The same where Connection may have many items. Each is searched for among the fields' names in order, and only one
-/// that names fields which none before it did goes over all fields: no more than there are fields.
+/// The same where Connection may have many items. Each is searched for among the fields' names in order, where those of one
+/// name stand together, and no field is marked twice.
 fn searched_fields(fields: &Fields<'_>) -> [bool; MAX_FIELDS]
     ensures { AreNamed fields.now result }
 {
@@ -68,8 +68,7 @@ fn mark_found_items(named: &mut [bool], fields: &Fields<'_>, names: &[PlacedName
     }
 }
 
-/// Marks the fields that this item names, where those of one name are marked alike: if the one that is found is marked, all
-/// are.
+/// Marks the fields that this item names, where those of one name are marked alike: if the first is marked, all are.
 fn mark_found(named: &mut [bool], fields: &Fields<'_>, names: &[PlacedName<'_>], item: &[u8])
     requires placed { ArePlaced fields.now names.now }
     requires room { length fields.now ≤ length named.old }
@@ -77,9 +76,24 @@ fn mark_found(named: &mut [bool], fields: &Fields<'_>, names: &[PlacedName<'_>],
     ensures marked { Marks (λ name. same_name item.now name) fields.now named.old named.new }
     ensures alike { AreAlike fields.now named.new }
 {
-    match find_name(names, item) {
-        Some(place) if !named[place] => mark_item(named, fields, item),
+    let behind = names_from(names, item);
+    match behind {
+        [first, ..] if !named[usize::from(first.place)] => mark_run(named, behind, item),
         _ => {}
+    }
+}
+
+/// Marks the fields at the places of the names in front that are the item.
+fn mark_run(named: &mut [bool], names: &[PlacedName<'_>], item: &[u8])
+    requires { All (λ n. n.place < length named.old) names.now }
+    ensures size { length named.new ≡ length named.old }
+    ensures each { (i : ℕ) → i < length named.old → slice_index_or named.new i false ≡ (slice_index_or named.old i false || has_place i (run_of item.now names.now)) }
+{
+    for placed in names {
+        if !is_same_name(item, placed.name) {
+            return;
+        }
+        named[usize::from(placed.place)] = true;
     }
 }
 

@@ -1,7 +1,7 @@
 //! The names of a head's fields in order, so that one can be found without a walk over all of them.
-ghost use Rattle.std.specs.Prelude.{◌≡◌};
-ghost use Rattle.http_side.specs.Fields.{FieldList};
-ghost use Rattle.http_side.specs.Names.{ArePlaced, HavePlaces, IsPlaceOf, name_order};
+ghost use Rattle.std.specs.Prelude.{◌≡◌, ℕ, ◌<◌, All, length};
+ghost use Rattle.http_side.specs.Fields.{FieldList, same_name, name_at};
+ghost use Rattle.http_side.specs.Names.{ArePlaced, HavePlaces, has_place, name_order, run_of};
 
 use crate::fields::Fields;
 use adapt_bytes::MAX_FIELDS;
@@ -38,14 +38,13 @@ fn placed_names<'a>(fields: &Fields<'a>) -> ArrayVec<PlacedName<'a>, MAX_FIELDS>
     names
 }
 
-/// The place of a field of this name, ASCII case ignored, where there is one.
-pub(crate) fn find_name(names: &[PlacedName<'_>], name: &[u8]) -> Option<usize>
-    ensures { (fields : FieldList) → ArePlaced fields names.now → IsPlaceOf name.now fields result }
+/// The names behind those that stand before this one: the names of its spelling, ASCII case ignored, are in front.
+pub(crate) fn names_from<'n, 'a>(names: &'n [PlacedName<'a>], name: &[u8]) -> &'n [PlacedName<'a>]
+    ensures within { (fields : FieldList) → ArePlaced fields names.now → All (λ n. n.place < length fields) result.now }
+    ensures front { (fields : FieldList) → ArePlaced fields names.now → (i : ℕ) → i < length fields → has_place i (run_of name.now result.now) ≡ same_name name.now (name_at fields i) }
 {
-    match names.binary_search_by(|placed| compare_names(placed.name, name)) {
-        Ok(found) => Some(usize::from(names[found].place)),
-        Err(_) => None,
-    }
+    let from = names.partition_point(|placed| compare_names(placed.name, name).is_lt());
+    &names[from..]
 }
 
 /// The order of two names by their bytes in lower case.

@@ -1,4 +1,4 @@
-use Rattle.std.proofs.Common.{◌≡◌, ℕ, ◌<◌, ◌+◌, length, All, sym, subst, arith}
+use Rattle.std.proofs.Common.{◌≡◌, ℕ, ◌<◌, ◌+◌, length, All, sym, refl, subst, arith}
 use Rattle.std.specs.List.{Contains}
 use Rattle.std.proofs.lemmas.List.Elements.{All-push}
 use Rattle.http_side.specs.Fields.{name_at}
@@ -16,5 +16,5 @@ loop-at-preserved c =
     record {
       few = omega arith;
       places = subst (All P) (sym c.push.ensures.items) (All-push P names n c.loop-at.invariant.places (omega arith, c.name.ensures));
-      all = subst (λ xs. (i : ℕ) → i < at + 1 → (m : PlacedName) × Contains xs m × (m.name.now ≡ name_at fields i)) (sym c.push.ensures.items) (all_more fields names at n c.loop-at.invariant.all c.name.ensures);
+      all = subst (λ xs. (i : ℕ) → i < at + 1 → (m : PlacedName) × Contains xs m × (m.place ≡ i)) (sym c.push.ensures.items) (all_more names at n c.loop-at.invariant.all refl);
     }

@@ -9,5 +9,5 @@ abbrev pub invariant-loop-at : goal.invariant-loop-at
 invariant-loop-at l = record {
   few : array_vec_len l.names ≤ l.at;
   places : All (λ n. (n.place < length l.fields) × (n.name.now ≡ name_at l.fields n.place)) l.names.items;
-  all : (i : ℕ) → i < l.at → (n : PlacedName) × Contains l.names.items n × (n.name.now ≡ name_at l.fields i);
+  all : (i : ℕ) → i < l.at → (n : PlacedName) × Contains l.names.items n × (n.place ≡ i);
 }
