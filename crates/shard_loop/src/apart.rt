@@ -23,7 +23,8 @@ impl<B: Ledgers, Q: Ledger, A: Ledger> Left<B, Q, A> {
                 line,
                 side: _,
             } => {
-                let Line { wire: _, lease } = line;
+                let Line { wire, lease } = line;
+                drop(wire);
                 self.keep_lease(rt, pools, lease);
             }
             Phase::Moving { tx, lease } => {

@@ -1,7 +1,7 @@
 //! The end of a transaction: what it used goes back, and its user's connection goes on.
 
 use crate::desk::Desk;
-use crate::phase::{Ends, Moving, Origin, Phase, Step};
+use crate::phase::{Ends, Line, Moving, Origin, Phase, Step};
 use crate::pools::Leased;
 use crate::seats::At;
 use adapt_turn::{Line as ServiceLine, Outcome, Parts};
@@ -82,7 +82,7 @@ impl<'a, B: Ledgers, Q: Ledger, A: Ledger, G: Gate> Desk<'a, B, Q, A, G> {
                 if side.is_reusable() {
                     self.put_line(rt, at, wire, lease);
                 } else {
-                    self.shared.pools.give_up(rt, lease);
+                    self.drop_line(rt, Line { wire, lease });
                 }
             }
             None => {}

@@ -14,6 +14,7 @@ use proxy_rules::{
 };
 use socket_wire::{Dial, Side, SocketWire};
 use span_bank::Ledgers;
+use std::alloc::{AllocError, Global};
 use std::boxed::Box;
 use std::net::{SocketAddr, SocketAddrV4};
 use std::sync::Wait;
@@ -21,6 +22,15 @@ use std::sync::ledger::Ledger;
 use std::time::Clock;
 use trace_core::Point;
 use wire_kit::{Gate, Wire};
+
+/// What asks a service for its options, on the heap.
+fn asker(alloc: Global, service: &ServicePoint) -> Result<Box<OptionsSide>, AllocError> {
+    let side = ask_options(alloc, service)?;
+    match Box::new(alloc, side) {
+        Ok(side) => Ok(side),
+        Err(_) => Err(AllocError),
+    }
+}
 
 impl<'a, B: Ledgers, Q: Ledger, A: Ledger, G: Gate> Desk<'a, B, Q, A, G> {
     /// A connection that is opened now.
@@ -62,6 +72,16 @@ impl<'a, B: Ledgers, Q: Ledger, A: Ledger, G: Gate> Desk<'a, B, Q, A, G> {
             Took::Fresh(lease) => (self.dial(rt, at, Side::Service, address), lease),
             Took::Busy => return Err(Reason::Busy),
         };
+        self.line_of(rt, wire, lease)
+    }
+
+    /// A connection with its lease, which is given up where there is no connection.
+    fn line_of<R: Wait>(
+        &mut self,
+        rt: &R,
+        wire: Option<SocketWire>,
+        lease: Leased<Q, A>,
+    ) -> Result<Line<Q, A>, Reason> {
         match wire {
             Some(wire) => Ok(Line { wire, lease }),
             None => {
@@ -71,9 +91,24 @@ impl<'a, B: Ledgers, Q: Ledger, A: Ledger, G: Gate> Desk<'a, B, Q, A, G> {
         }
     }
 
-    /// Gives up a lease with its connection, which is closed.
+    /// Opens a fresh connection in place of one that broke, which is closed first.
+    fn renew<R: Wait + Dial>(
+        &mut self,
+        rt: &R,
+        at: At<'_>,
+        line: Line<Q, A>,
+    ) -> Result<Line<Q, A>, Reason> {
+        let Line { wire, lease } = line;
+        drop(wire);
+        let mut lease = lease;
+        let wire = self.fresh(rt, at, &mut lease);
+        self.line_of(rt, wire, lease)
+    }
+
+    /// Closes a connection, and gives up its lease behind that: others may open one in its place.
     pub fn drop_line<R: Wait>(&mut self, rt: &R, line: Line<Q, A>) {
-        let Line { wire: _, lease } = line;
+        let Line { wire, lease } = line;
+        drop(wire);
         self.shared.pools.give_up(rt, lease);
     }
 
@@ -83,7 +118,7 @@ impl<'a, B: Ledgers, Q: Ledger, A: Ledger, G: Gate> Desk<'a, B, Q, A, G> {
         let known = wire.deregister(at.registry).is_ok();
         match self.seats.dismiss(at.key) {
             Some(ready) if known => self.shared.pools.put(rt, Spare { wire, ready }, lease),
-            _ => self.shared.pools.give_up(rt, lease),
+            _ => self.drop_line(rt, Line { wire, lease }),
         }
     }
 
@@ -96,18 +131,31 @@ impl<'a, B: Ledgers, Q: Ledger, A: Ledger, G: Gate> Desk<'a, B, Q, A, G> {
         point: Point,
         service: &ServicePoint,
     ) -> Step<B, Q, A> {
-        let Ok(side) = ask_options(self.alloc, service) else {
-            return self.refuse_user(at, ends, Reason::NoMemory);
-        };
-        let Ok(side) = Box::new(self.alloc, side) else {
-            return self.refuse_user(at, ends, Reason::NoMemory);
-        };
         match self.lend(rt, at, point, service.address) {
-            Ok(line) => {
+            Ok(line) => self.ask_on(rt, at, ends, service, line),
+            Err(reason) => self.refuse_user(at, ends, reason),
+        }
+    }
+
+    /// Begins to ask on this connection.
+    fn ask_on<R: Wait>(
+        &mut self,
+        rt: &R,
+        at: At<'_>,
+        ends: Box<Ends>,
+        service: &ServicePoint,
+        line: Line<Q, A>,
+    ) -> Step<B, Q, A> {
+        match asker(self.alloc, service) {
+            Ok(side) => {
                 self.seats.touch(at);
                 Step::On(Phase::Asking { ends, line, side })
             }
-            Err(reason) => self.refuse_user(at, ends, reason),
+            Err(_) => {
+                let Line { wire, lease } = line;
+                self.put_line(rt, at, wire, lease);
+                self.refuse_user(at, ends, Reason::NoMemory)
+            }
         }
     }
 
@@ -142,7 +190,7 @@ impl<'a, B: Ledgers, Q: Ledger, A: Ledger, G: Gate> Desk<'a, B, Q, A, G> {
         }
     }
 
-    /// A connection that was used before may have been closed meanwhile: then a fresh one is asked.
+    /// A connection that was idle before may have been closed meanwhile: then a fresh one is asked, once.
     fn options_failed<R: Wait + Dial>(
         &mut self,
         rt: &R,
@@ -152,12 +200,17 @@ impl<'a, B: Ledgers, Q: Ledger, A: Ledger, G: Gate> Desk<'a, B, Q, A, G> {
         fault: ClientFault,
     ) -> Step<B, Q, A> {
         let point = ends.point();
-        let again = line.lease.reused()
+        let stale = line.lease.reused()
             && matches!(fault, ClientFault::Closed | ClientFault::Device);
-        self.drop_line(rt, line);
         match self.service(point) {
-            Some(service) if again => self.ask(rt, at, ends, point, service),
-            _ => self.refuse_user(at, ends, options_reason(fault)),
+            Some(service) if stale => match self.renew(rt, at, line) {
+                Ok(line) => self.ask_on(rt, at, ends, service, line),
+                Err(reason) => self.refuse_user(at, ends, reason),
+            },
+            _ => {
+                self.drop_line(rt, line);
+                self.refuse_user(at, ends, options_reason(fault))
+            }
         }
     }
 

@@ -5,7 +5,7 @@ use crate::phase::{Moving, Phase, Step};
 use crate::pools::Leased;
 use crate::seats::At;
 use adapt_turn::{Side as Turning, Turned};
-use socket_wire::Dial;
+use socket_wire::{Dial, SocketWire};
 use span_bank::{Bank, Ledgers};
 use std::boxed::Box;
 use std::sync::Wait;
@@ -69,7 +69,22 @@ impl<'a, B: Ledgers, Q: Ledger, A: Ledger, G: Gate> Desk<'a, B, Q, A, G> {
         Round::Moved
     }
 
-    /// Begins a request anew on a fresh connection, or fails it where there is none.
+    /// A fresh connection in place of a leased one that broke, where the pool allows one.
+    pub fn fresh<R: Wait + Dial>(
+        &mut self,
+        rt: &R,
+        at: At<'_>,
+        lease: &mut Leased<Q, A>,
+    ) -> Option<SocketWire> {
+        if self.shared.pools.replace(rt, lease) {
+            self.dial_service(rt, at, lease.point())
+        } else {
+            None
+        }
+    }
+
+    /// Begins a request anew on a fresh connection, or fails it where there is none. What is left of the broken connection,
+    /// which its service has ended or which failed, is closed at once behind that.
     fn again<R: Wait + Dial>(
         &mut self,
         rt: &R,
@@ -77,24 +92,16 @@ impl<'a, B: Ledgers, Q: Ledger, A: Ledger, G: Gate> Desk<'a, B, Q, A, G> {
         tx: &mut Moving<B>,
         lease: &mut Option<Leased<Q, A>>,
     ) {
-        let bank = self.shared.bank;
-        let fresh = match lease {
-            Some(lease) => {
-                if self.shared.pools.replace(rt, lease) {
-                    self.dial_service(rt, at, lease.point())
-                } else {
-                    None
-                }
-            }
-            None => None,
-        };
         if !tx.is_broken() {
             return;
         }
+        let bank = self.shared.bank;
+        let fresh = match lease {
+            Some(lease) => self.fresh(rt, at, lease),
+            None => None,
+        };
         match fresh {
-            Some(wire) => {
-                let _broken = tx.retry(rt, bank, wire);
-            }
+            Some(wire) => drop(tx.retry(rt, bank, wire)),
             None => tx.no_retry(rt, bank),
         }
     }
