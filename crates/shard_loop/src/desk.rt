@@ -49,7 +49,7 @@ pub struct Desk<'a, B: Ledgers, Q: Ledger, A: Ledger, G: Gate> {
 }
 
 impl<'a, B: Ledgers, Q: Ledger, A: Ledger, G: Gate> Desk<'a, B, Q, A, G> {
-    /// Before the first user, of whom there may be so many at once. `Err` where no memory was found.
+    /// Before the first user, of whom so many may be served at once. `Err` where no memory was found.
     pub fn new(
         alloc: Global,
         shared: Shared<'a, B, Q, A, G>,

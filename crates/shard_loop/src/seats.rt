@@ -15,9 +15,22 @@ pub struct At<'r> {
     pub now: u64,
 }
 
+/// How many seats there are beyond those of the users that are served.
+const SPARE: usize = 16;
+
+/// What a seat is for.
+#[derive(Clone, Copy, Debug, PartialEq, Eq)]
+pub enum Purpose {
+    /// The requests of a user.
+    Requests,
+    /// The refusal of a user for whom there is no room.
+    Refusal,
+}
+
 /// What is known of the connections of an exchange.
 #[derive(Drop)]
 struct Seat {
+    purpose: Purpose,
     number: u64,
     moved: u64,
     user: Option<Arc<Readiness>>,
@@ -31,15 +44,33 @@ pub struct Seats {
     alloc: Global,
     all: Slab<Seat>,
     most: usize,
+    refused: usize,
 }
 
 impl Seats {
-    /// No seat is taken, and at most so many may be.
+    /// No seat is taken, and at most so many users may be served at once.
     pub fn new(alloc: Global, most: usize) -> Seats {
         Seats {
             alloc,
             all: Slab::new(alloc),
             most,
+            refused: 0,
+        }
+    }
+
+    /// How many there may be: those of the users that are served, and those of some that are refused.
+    pub fn bound(&self) -> usize {
+        self.most.saturating_add(SPARE)
+    }
+
+    /// What the next seat is for. None where there is none.
+    fn next_purpose(&self) -> Option<Purpose> {
+        if self.all.len().saturating_sub(self.refused) < self.most {
+            Some(Purpose::Requests)
+        } else if self.refused < SPARE {
+            Some(Purpose::Refusal)
+        } else {
+            None
         }
     }
 
@@ -48,29 +79,34 @@ impl Seats {
         self.all.is_empty()
     }
 
-    /// Takes a seat for a user's connection of this number. None where there is none.
-    pub fn take(&mut self, number: u64, now: u64) -> Option<usize> {
-        if self.all.reserve(1).is_err() {
+    /// Takes a seat for a user's connection of this number, and says what it is for. None where there is none.
+    pub fn take(&mut self, number: u64, now: u64) -> Option<(usize, Purpose)> {
+        let purpose = self.next_purpose()?;
+        if self.all.reserve(1).is_err() || self.all.vacant_key() >= self.bound() {
             return None;
         }
-        let key = self.all.vacant_key();
-        if key >= self.most {
-            return None;
+        let key = self.all.insert_reserved(Seat {
+            purpose,
+            number,
+            moved: now,
+            user: None,
+            origin: None,
+            service: None,
+        });
+        if purpose == Purpose::Refusal {
+            self.refused = self.refused.saturating_add(1);
         }
-        Some(
-            self.all.insert_reserved(Seat {
-                number,
-                moved: now,
-                user: None,
-                origin: None,
-                service: None,
-            }),
-        )
+        Some((key, purpose))
     }
 
     /// Leaves a seat.
     pub fn leave(&mut self, key: usize) {
-        let _ = self.all.try_remove(key);
+        match self.all.try_remove(key) {
+            Some(seat) if seat.purpose == Purpose::Refusal => {
+                self.refused = self.refused.saturating_sub(1);
+            }
+            _ => {}
+        }
     }
 
     /// The number of the user's connection, in the order of acceptance.

@@ -5,7 +5,7 @@ ghost use Rattle.shard_loop.specs.Slots.{ChangesOnly};
 use crate::desk::{Desk, Shared};
 use crate::phase::{Ends, Moving, Phase, Step};
 use crate::pools::Leased;
-use crate::seats::At;
+use crate::seats::{At, Purpose};
 use adapt_turn::{Side as Turning, Turned};
 use event_loop::{Driven, Request, Slots, Told, Work};
 use http_relay::SourceSide;
@@ -40,7 +40,7 @@ impl<'a, B: Ledgers, Q: Ledger, A: Ledger, G: Gate> Shard<'a, B, Q, A, G> {
     ) -> Result<Shard<'a, B, Q, A, G>, AllocError> {
         let rows = shared.config.rows as usize;
         let desk = Desk::new(alloc, shared, rows)?;
-        let slots = Slots::new(alloc, rows)?;
+        let slots = Slots::new(alloc, desk.seats.bound())?;
         Ok(Shard { desk, slots })
     }
 
@@ -48,6 +48,22 @@ impl<'a, B: Ledgers, Q: Ledger, A: Ledger, G: Gate> Shard<'a, B, Q, A, G> {
     pub fn into_slots(self) -> Vec<Option<Phase<B, Q, A>>> {
         let Shard { desk: _, slots } = self;
         slots.into_all()
+    }
+
+    /// What a user's connection begins with: its first request, or the refusal where there is no room for it. None where no
+    /// memory was found.
+    fn first_phase(&self, user: SocketWire, purpose: Purpose) -> Option<Phase<B, Q, A>> {
+        match purpose {
+            Purpose::Requests => {
+                let ends = Ends::of_user(user, SourceSide::request(self.desk.alloc));
+                let ends = Box::new(self.desk.alloc, ends).ok()?;
+                Some(Phase::Head(ends))
+            }
+            Purpose::Refusal => Some(Phase::Refusing {
+                user,
+                rest: own_refusal(503),
+            }),
+        }
     }
 
     /// Puts an exchange into the slot of its key. What was there, which is nothing, ends.
@@ -133,7 +149,7 @@ fn try_refusal(user: SocketWire, text: &[u8]) {
     }
 }
 
-/// Says to a user for whom there is no room that it be back later, where that costs nothing.
+/// Says to a user for whom there isn't even a seat to spare that it be back later, where that costs nothing.
 fn turn_away(stream: TcpStream) {
     let mut stream = stream;
     let _ = stream.write(own_refusal(503));
@@ -148,7 +164,7 @@ impl<'a, B: Ledgers, Q: Ledger, A: Ledger, G: Gate> Work for Shard<'a, B, Q, A, 
         number: u64,
         now: u64,
     ) -> Option<usize> {
-        let Some(key) = self.desk.seats.take(number, now) else {
+        let Some((key, purpose)) = self.desk.seats.take(number, now) else {
             turn_away(stream);
             return None;
         };
@@ -157,12 +173,11 @@ impl<'a, B: Ledgers, Q: Ledger, A: Ledger, G: Gate> Work for Shard<'a, B, Q, A, 
             self.desk.seats.leave(key);
             return None;
         };
-        let ends = Ends::of_user(user, SourceSide::request(self.desk.alloc));
-        let Ok(ends) = Box::new(self.desk.alloc, ends) else {
+        let Some(phase) = self.first_phase(user, purpose) else {
             self.desk.seats.leave(key);
             return None;
         };
-        self.keep(rt, key, Phase::Head(ends));
+        self.keep(rt, key, phase);
         Some(key)
     }
 

@@ -7,8 +7,8 @@ use super::player::Step::{Admin, Awaits, Closes, New, On, Releases, Stops};
 use super::player::{Deed, Step};
 use super::texts::{
     ADAPTED, ALMOST_A_REQUEST, BAD_GATEWAY, BEHIND, CLOSED, CONTINUE, FINAL, FORWARDED, HEAD_END,
-    NO_CONNECTIONS, OFFERED, ONE_CONNECTION, PREVIEWS, REQUEST, RESPONSE, RESPONSE_FRONT, TIMEOUT,
-    TO_ORIGIN, UNAVAILABLE, UNMODIFIED,
+    NO_CONNECTIONS, OFFERED, ONE_CONNECTION, PREVIEWS, REQUEST, RESPONSE, RESPONSE_FRONT, RETAGGED,
+    TIMEOUT, TO_ORIGIN, UNAVAILABLE, UNMODIFIED,
 };
 use std::test::Fail;
 
@@ -93,6 +93,32 @@ const RETRY: &[Step] = &[
     New(Origin, ANSWERS),
     New(Service, LEAVES),
     On(0, &[Gets(FORWARDED)]),
+];
+
+/// The service closes its idle connection, and would be asked on it for its options, since it has said another tag.
+const STALE_OPTIONS: &[Step] = &[
+    New(User, ASKS),
+    New(Origin, ANSWERS),
+    New(Service, SAYS_PREVIEWS),
+    On(2, &[Passes(OFFERED), Says(RETAGGED)]),
+    On(0, &[Gets(FORWARDED)]),
+    Closes(2),
+    On(0, ASKS),
+    New(Origin, ANSWERS),
+    New(Service, SAYS_PREVIEWS),
+    On(4, LEAVES),
+    On(0, &[Gets(FORWARDED)]),
+];
+
+/// A user is refused while another one is there, and holds no room: the next one is served.
+const CROWDED: &[Step] = &[
+    New(User, &[Says(ALMOST_A_REQUEST)]),
+    New(User, ASKS),
+    On(1, IS_REFUSED),
+    On(0, &[Ends, HearsEnd]),
+    New(User, ASKS),
+    New(Origin, ANSWERS),
+    On(2, &[Gets(FORWARDED)]),
 ];
 
 /// The capacity changes.
@@ -203,6 +229,14 @@ fn nobody_waits_for_ever(rt: HostRuntime) -> Result<(), Fail> {
 #[test]
 fn a_request_begins_anew_behind_an_idle_connection(rt: HostRuntime) -> Result<(), Fail> {
     assert!(rt; goes_well(&rt, &rt, Scene::Adapted(RETRY), "")?);
+    assert!(rt; goes_well(&rt, &rt, Scene::Adapted(STALE_OPTIONS), "")?);
+    Ok(())
+}
+
+#[test]
+fn a_user_for_whom_there_is_no_room_gets_the_refusal(rt: HostRuntime) -> Result<(), Fail> {
+    let lines = "rows = 1\nshards = 1\n";
+    assert!(rt; goes_well(&rt, &rt, Scene::Forwarded(CROWDED), lines)?);
     Ok(())
 }
 

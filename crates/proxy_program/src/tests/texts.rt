@@ -58,6 +58,10 @@ pub const CONTINUE: &[u8] = b"ICAP/1.0 100 Continue\r\n\r\n";
 pub const UNMODIFIED: &[u8] =
     b"ICAP/1.0 204 No Modifications\r\nISTag: \"adapt-1\"\r\nEncapsulated: null-body=0\r\n\r\n";
 
+/// The same, with another tag: what the service said of its options serves no more.
+pub const RETAGGED: &[u8] =
+    b"ICAP/1.0 204 No Modifications\r\nISTag: \"adapt-2\"\r\nEncapsulated: null-body=0\r\n\r\n";
+
 pub const FINAL: &[u8] = b"ICAP/1.0 200 OK\r\nISTag: \"adapt-1\"\r\n\
 Encapsulated: res-hdr=0, res-body=38\r\n\r\n\
 HTTP/1.1 200 OK\r\nContent-Length: 6\r\n\r\n6\r\nABCDEF\r\n0\r\n\r\n";
