@@ -283,6 +283,32 @@ impl<'a, B: Ledgers, Q: Ledger, A: Ledger, G: Gate> Desk<'a, B, Q, A, G> {
         }
     }
 
+    /// The service's side over its connection, and the lease. A connection without a side goes back.
+    fn engage<R: Wait>(
+        &mut self,
+        rt: &R,
+        at: At<'_>,
+        side: Option<Box<ServiceSide>>,
+        line: Option<Line<Q, A>>,
+    ) -> (
+        Option<ServiceLine<ServiceSide, SocketWire>>,
+        Option<Leased<Q, A>>,
+    ) {
+        let Some(Line { wire, lease }) = line else {
+            return (None, None);
+        };
+        match side {
+            Some(side) => {
+                let side = Box::into_inner(side);
+                (Some(ServiceLine { side, wire }), Some(lease))
+            }
+            None => {
+                self.put_line(rt, at, wire, lease);
+                (None, None)
+            }
+        }
+    }
+
     /// Starts the transaction.
     fn launch<R: Wait + Clock>(
         &mut self,
@@ -299,19 +325,7 @@ impl<'a, B: Ledgers, Q: Ledger, A: Ledger, G: Gate> Desk<'a, B, Q, A, G> {
         requires small { stake.claim ≤ 2 ^ 40 }
     {
         let Message { plan, side, .. } = message;
-        let (service, lease) = match line {
-            Some(Line { wire, lease }) => match side {
-                Some(side) => {
-                    let side = Box::into_inner(side);
-                    (Some(ServiceLine { side, wire }), Some(lease))
-                }
-                None => {
-                    self.put_line(rt, at, wire, lease);
-                    (None, None)
-                }
-            },
-            None => (None, None),
-        };
+        let (service, lease) = self.engage(rt, at, side, line);
         let reused = match &lease {
             Some(lease) => lease.reused(),
             None => false,
@@ -336,6 +350,21 @@ impl<'a, B: Ledgers, Q: Ledger, A: Ledger, G: Gate> Desk<'a, B, Q, A, G> {
             now: at.now,
             reused,
         };
+        self.set_out(rt, at, beginning, lease)
+    }
+
+    /// Has the transaction begin. What it was to begin with goes where it can't.
+    fn set_out<R: Wait + Clock>(
+        &mut self,
+        rt: &R,
+        at: At<'_>,
+        beginning: Beginning<B, SocketWire, SocketWire, SocketWire>,
+        lease: Option<Leased<Q, A>>,
+    ) -> Step<B, Q, A>
+        requires empty { (beginning.stake.held ≡ 0) × (beginning.stake.pages ≡ 0) }
+        requires claim { beginning.stake.claim ≡ claim_of beginning.plan beginning.limits.window }
+        requires small { beginning.stake.claim ≤ 2 ^ 40 }
+    {
         match begin(self.alloc, beginning) {
             Ok(tx) => match Box::new(self.alloc, tx) {
                 Ok(tx) => Step::On(self.pass_gate(rt, at, tx, lease)),

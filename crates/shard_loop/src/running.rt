@@ -31,6 +31,22 @@ fn connections(service: &Option<ServicePoint>) -> u64
     }
 }
 
+/// The pool of a service's connections, before the first one. The blank has `LEDGER_PARTS` parts.
+fn make_pool<L: Ledger>(
+    alloc: Global,
+    blank: Blank,
+    service: &Option<ServicePoint>,
+    journal: usize,
+) -> Result<Pool<Spare, L>, ServeFault>
+    requires blank { (blank.name ≡ L.name) × (blank.parts ≡ L.parts) × (blank.parts ≡ LEDGER_PARTS) }
+    requires journal { 1 ≤ journal }
+{
+    match Pool::new(alloc, blank, connections(service), journal) {
+        Ok(pool) => Ok(pool),
+        Err(_) => Err(ServeFault::NoMemory),
+    }
+}
+
 /// Runs the proxy on these ports until the administrator stops it, and audits its budget and its pools.
 ///
 /// Each blank of the budget has a part for each transaction that there may be, and one more; those of the pools have
@@ -76,24 +92,8 @@ pub fn serve<
         Ok(bank) => bank,
         Err(_) => return Err(ServeFault::NoMemory),
     };
-    let request: Pool<Spare, Q> = match Pool::new(
-        alloc,
-        reqmod,
-        connections(&config.reqmod),
-        journal,
-    ) {
-        Ok(pool) => pool,
-        Err(_) => return Err(ServeFault::NoMemory),
-    };
-    let response: Pool<Spare, A> = match Pool::new(
-        alloc,
-        respmod,
-        connections(&config.respmod),
-        journal,
-    ) {
-        Ok(pool) => pool,
-        Err(_) => return Err(ServeFault::NoMemory),
-    };
+    let request: Pool<Spare, Q> = make_pool(alloc, reqmod, &config.reqmod, journal)?;
+    let response: Pool<Spare, A> = make_pool(alloc, respmod, &config.respmod, journal)?;
     let mut left = Left::new(alloc);
     let has_room = left.reserve(config.rows as usize);
     let left = Mutex::new(left);
