@@ -65,8 +65,9 @@ impl<C, L: Ledger> Pool<C, L> {
         self.locked.lock(rt).give_up(lease)
     }
 
-    /// Lets a fresh connection be opened in place of a leased one that broke, which the caller
-    /// closes first. `Over` where more than the maximum are open; then the lease stays as it is.
+    /// Lets a fresh connection be opened in place of a leased one that its service has ended or
+    /// that failed. The caller closes what is left of that, as soon as the fresh one is opened at
+    /// the latest. `Over` where more than the maximum are open; then the lease stays as it is.
     pub fn replace(&self, rt: &impl Wait, lease: &mut Lease<L>) -> Result<(), Over>
         ensures fresh { OnOk result (lease.new ≡ record { reused = false }) }
         ensures err { OnErr result (lease.new ≡ lease.old) }
