@@ -128,26 +128,87 @@ fn unended_heads(rt: HostRuntime) -> Result<(), NoMemory> {
     Ok(())
 }
 
+/// Heads of requests, whole.
+const REQUESTS: [&[u8]; 5] = [
+    b"GET http://o.test/a.txt HTTP/1.1\r\nHost: o.test\r\n\r\n",
+    b"POST http://o.test/a?b HTTP/1.1\r\nHost: o.test\r\nContent-Length: 6\r\n\r\n",
+    b"\r\n\nPUT http://[::1]:8080 HTTP/1.1\nHost: o\nTransfer-Encoding:\tchunked \n\n",
+    b"OPTIONS http://o/ HTTP/1.0\r\nEmpty:\r\nConnection: close, x\r\n\r\n",
+    b"GET http://o.test/a.txt HTTP/1.1\r\nHost: o.test\r\nVia: 1.1 a, 1.1 b\r\nConnection: close\r\n\r\n",
+];
+
+/// Heads of responses, whole.
+const RESPONSES: [&[u8]; 4] = [
+    b"HTTP/1.1 200 OK\r\nContent-Length: 6\r\n\r\n",
+    b"HTTP/1.0 999\n\n",
+    b"\r\nHTTP/1.1 304 Not Modified\r\nETag: \"a\"\r\nTransfer-Encoding: chunked\r\n\r\n",
+    b"HTTP/1.1 200 OK\r\nVia: 1.1 a\r\nConnection: close\r\nTransfer-Encoding: chunked\r\n\r\n",
+];
+
+/// How many fronts of these requests aren't `More`, and how many of them aren't read whole.
+fn misread_requests(alloc: Global, heads: &[&[u8]]) -> u64 {
+    let mut count: u64 = 0;
+    for head in heads {
+        let text: &[u8] = *head;
+        for end in 0..text.len() {
+            if read_request(alloc, &text[..end], false).err() != Some(HttpFault::More) {
+                count = count.saturating_add(1);
+            }
+        }
+        if read_request(alloc, text, false).is_err() {
+            count = count.saturating_add(1);
+        }
+    }
+    count
+}
+
+/// The same of responses.
+fn misread_responses(alloc: Global, heads: &[&[u8]]) -> u64 {
+    let mut count: u64 = 0;
+    for head in heads {
+        let text: &[u8] = *head;
+        for end in 0..text.len() {
+            if read_response(alloc, &text[..end], false).err() != Some(HttpFault::More) {
+                count = count.saturating_add(1);
+            }
+        }
+        if read_response(alloc, text, false).is_err() {
+            count = count.saturating_add(1);
+        }
+    }
+    count
+}
+
 /// A head that is cut before its last byte is `More`.
 #[test]
 fn cut_at_every_byte(rt: HostRuntime) {
-    let request: &[u8] =
-        b"POST http://o.test/a?b HTTP/1.1\r\nHost: o.test\r\nContent-Length: 6\r\n\r\n";
-    for end in 0..request.len() {
-        let front = &request[..end];
-        assert_eq!(rt;
-            read_request(rt.alloc(), front, false).err(),
-            Some(HttpFault::More)
-        );
+    assert_eq!(rt; misread_requests(rt.alloc(), &REQUESTS), 0);
+    assert_eq!(rt; misread_responses(rt.alloc(), &RESPONSES), 0);
+}
+
+/// A response with this many fields.
+fn many_fields_of_a_response(alloc: Global, count: usize) -> Result<Vec<u8>, NoMemory> {
+    let mut text = b"HTTP/1.1 200 OK\r\n".to_vec(alloc)?;
+    for _ in 0..count {
+        text.extend_from_slice(b"A: b\r\n")?;
     }
-    assert_eq!(rt; read_request(rt.alloc(), request, false).err(), None);
-    let response: &[u8] = b"HTTP/1.1 200 OK\r\nContent-Length: 6\r\n\r\n";
-    for end in 0..response.len() {
-        let front = &response[..end];
-        assert_eq!(rt;
-            read_response(rt.alloc(), front, false).err(),
-            Some(HttpFault::More)
-        );
+    text.extend_from_slice(b"\r\n")?;
+    Ok(text)
+}
+
+/// The limits of a response's head are those of a request's: 100 fields, and 16,384 bytes.
+#[test]
+fn limits_of_responses(rt: HostRuntime) -> Result<(), NoMemory> {
+    let cases = [(100, None), (101, Some(HttpFault::TooMany))];
+    for (count, want) in cases {
+        let text = many_fields_of_a_response(rt.alloc(), count)?;
+        assert_eq!(rt; read_response(rt.alloc(), &text, false).err(), want);
     }
-    assert_eq!(rt; read_response(rt.alloc(), response, false).err(), None);
+    let cases = [(16_380, None), (16_381, Some(HttpFault::TooLong))];
+    for (size, want) in cases {
+        let mut text = padded(rt.alloc(), b"HTTP/1.1 200 OK\r\nA: ", size)?;
+        text.extend_from_slice(b"\r\n\r\n")?;
+        assert_eq!(rt; read_response(rt.alloc(), &text, false).err(), want);
+    }
+    Ok(())
 }
