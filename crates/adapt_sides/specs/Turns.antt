@@ -33,8 +33,9 @@ pub record SaysWaiting {F : Type 0} (events : List Event) (delta : List ℕ) (re
   pub idle : waits_of result ≡ true → (events ≡ []) × (delta ≡ [])
   pub waits : (turn : Turn) → result ≡ Ok turn → events ≡ [] → delta ≡ [] → turn.waiting ≡ true
 
--- a fault stays with the side
+-- a fault stays with the side, and a turn that goes well leaves none
 pub record Remembers {F : Type 0} (old new : Option F) (result : Result Turn F) : Type 0 where
+  pub sound : (turn : Turn) → result ≡ Ok turn → new ≡ None
   pub again : (fault : F) → old ≡ Some fault → result ≡ Err fault
   pub stays : (fault : F) → result ≡ Err fault → new ≡ Some fault
 

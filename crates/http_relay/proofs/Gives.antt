@@ -112,10 +112,10 @@ same_events : (n : ℕ) (done : Bool) (events : List Event) → events ≡ turn_
 same_events n done events e = subst (λ (es : List Event). AllAre is_of_hop es) (sym e) (only_hop n (n == 0) done refl)
 
 pub as_gives : (x : Seen) (tape : Tape) (old new : Hop) (before after' : Past → Type 0) (result : Result Turn RelayFault) → KeepsUndelivered x tape → WriteTurn x tape old new before after' result
-    → ((fault : RelayFault) → old.fault ≡ Some fault → result ≡ Err fault) → ((fault : RelayFault) → result ≡ Err fault → new.fault ≡ Some fault)
+    → ((turn : Turn) → result ≡ Ok turn → new.fault ≡ None) → ((fault : RelayFault) → old.fault ≡ Some fault → result ≡ Err fault) → ((fault : RelayFault) → result ≡ Err fault → new.fault ≡ Some fault)
     → Gives x tape (λ y head body taken. HasGiven y head body taken old) (λ y head body taken. HasGiven y head body taken new) (λ taken. IsAside taken old) (λ taken. IsAside taken new)
     (λ head body taken. IsMessage new.framing head body taken) old.fault new.fault (NothingDue x new) before after' result
-as_gives x tape old new before after' result u t again stays =
+as_gives x tape old new before after' result u t sound again stays =
     let g = t.goes_on in
     let delta = delta_of t.text t.answer in
     record {
@@ -134,5 +134,5 @@ as_gives x tape old new before after' result u t again stays =
           whole_at new.stage (after_all x (events_of result)) new.framing head body (taken ++ delta) new.writer w.0 long w.1 now.given;
       aside = g.aside;
       waiting = says x old new t.text t.answer result t.wire.fits t.fits again old.fault refl;
-      fault = record { again = again; stays = stays };
+      fault = record { sound = sound; again = again; stays = stays };
     }

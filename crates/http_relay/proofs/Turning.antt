@@ -351,5 +351,5 @@ source_again room s P out fault f =
       legal = k.legal;
       goes_on = λ x body read h c. k.reads x body read h;
       waiting = says_err fault [];
-      fault = record { again = λ g e. (let is : Some fault ≡ Some g = sym f ∙ e in cc); stays = λ g e. (let is : fault ≡ g = cc in f ∙ ap (λ (h : RelayFault). Some h) is) };
+      fault = record { sound = λ t e. cc; again = λ g e. (let is : Some fault ≡ Some g = sym f ∙ e in cc); stays = λ g e. (let is : fault ≡ g = cc in f ∙ ap (λ (h : RelayFault). Some h) is) };
     }

@@ -1,6 +1,6 @@
 //! The next hop's end of one transaction: one message, or the proxy's own refusal (RFC 9112, sections 6 and 7).
 
-ghost use Rattle.std.specs.Prelude.{◌≡◌, ℕ, List, IfSome, IfErr, Err, IsTrue, true, false, Some, None, [], ◌⊎◌, not, length};
+ghost use Rattle.std.specs.Prelude.{◌≡◌, ℕ, List, IfSome, IfErr, OnOk, Err, IsTrue, true, false, Some, None, [], ◌⊎◌, not, length};
 ghost use Rattle.trace_core.specs.declared.history.Seen.{Seen};
 ghost use Rattle.trace_core.specs.History.{seen};
 ghost use Rattle.chunk_writer.specs.Writer.{fresh, waiting};
@@ -151,9 +151,10 @@ impl NextHop {
         requires { KeepsUndelivered (seen state.now.plan state.now.events) tape.now }
         ensures turn { WriteTurn (seen state.now.plan state.now.events) tape.now self.old self.new (W.past wire.old) (W.past wire.new) result }
 
-        // A side that failed keeps its fault, and answers it again.
+        // A side that failed keeps its fault, and answers it again; a turn that goes well leaves none.
         ensures faulted { IfSome self.old.fault (λ fault. result ≡ Err fault) }
         ensures keeps { IfErr result (λ fault. self.new.fault ≡ Some fault) }
+        ensures sound { OnOk result (self.new.fault ≡ None) }
     {
         if let Some(fault) = self.fault {
             return Err(fault);

@@ -1,5 +1,5 @@
 -- Both halves' turns, as a transaction calls them.
-use Rattle.std.proofs.Common.{◌≡◌, ℕ, ◌+◌, ◌<◌, ◌≤◌, ◌⊎◌, inl, inr, Bool, true, false, List, [], ◌++◌, length, take, refl, ap, sym, subst, ◌∙◌, append-nil, arith, Option, Some, None, IfSome, IfErr, Result, Ok, Err}
+use Rattle.std.proofs.Common.{◌≡◌, ℕ, ◌+◌, ◌<◌, ◌≤◌, ◌⊎◌, inl, inr, Bool, true, false, List, [], ◌++◌, length, take, refl, ap, sym, subst, ◌∙◌, append-nil, arith, Option, Some, None, IfSome, IfErr, OnOk, Result, Ok, Err}
 use Rattle.std.proofs.lemmas.List.{length-take-le}
 use Rattle.std.proofs.Math.Seq.{take-length}
 use Rattle.trace_core.specs.declared.history.Event.{Event}
@@ -89,9 +89,9 @@ says x w bytes answer (Ok turn) f s = record {
 says x w bytes answer (Err g) f s = record { idle = λ h. cc; waits = λ t e n d. cc }
 
 pub sends_by : (x : Seen) (tape : Tape) (old new : Writer) (fault kept : Option ClientFault) (P Q : Past → Type 0) (result : Result Turn ClientFault) → fault ≡ None → KeepsUnsent x tape
-    → WriteTurn x tape old new P Q result → ((g : ClientFault) → result ≡ Err g → kept ≡ Some g)
+    → WriteTurn x tape old new P Q result → ((turn : Turn) → result ≡ Ok turn → kept ≡ None) → ((g : ClientFault) → result ≡ Err g → kept ≡ Some g)
     → Sends x tape (λ x came taken. IsSent x came taken old) (λ x came taken. IsSent x came taken new) fault kept (NothingDue x new) P Q result
-sends_by x tape old new fault kept P Q result none k t stays =
+sends_by x tape old new fault kept P Q result none k t sound stays =
     let text = offered old tape t.next in
     record {
       delta = delta_of text t.answer;
@@ -100,7 +100,7 @@ sends_by x tape old new fault kept P Q result none k t stays =
       legal = t.goes_on.legal;
       goes_on = λ came taken f h. record { head = h.head; sent = t.goes_on.sent h.head came taken (came_by x tape came k f) h.sent };
       waiting = says x new text t.answer result t.fits t.wire.fits;
-      fault = record { again = λ g e. cc; stays = stays };
+      fault = record { sound = sound; again = λ g e. cc; stays = stays };
     }
 
 -- behind a fault nothing is done
@@ -113,7 +113,7 @@ sends_none x tape w fault g P e = record {
   legal = tt;
   goes_on = λ came taken f h. subst (λ (t : List ℕ). IsSent x came t w) (sym (append-nil taken)) h;
   waiting = record { idle = λ h. cc; waits = λ t i n d. cc };
-  fault = record { again = λ f i. cc; stays = λ f i. cc };
+  fault = record { sound = λ t i. cc; again = λ f i. cc; stays = λ f i. cc };
 }
 
 -- ---- reading
@@ -153,9 +153,9 @@ read_says x a old new room out delta (Ok turn) c = record {
 read_says x a old new room out delta (Err g) c = record { idle = λ h. cc; waits = λ t e n d. cc }
 
 pub hears_by : (x : Seen) (a : Bool) (room : ℕ) (old new : Side) (P Q : Past → Type 0) (out : List ℕ) (result : Result Turn ClientFault) → old.fault ≡ None → room ≡ length out
-    → ReadTurn x a room old new P Q out result → ((g : ClientFault) → result ≡ Err g → new.fault ≡ Some g)
+    → ReadTurn x a room old new P Q out result → OnOk result (new.fault ≡ None) → ((g : ClientFault) → result ≡ Err g → new.fault ≡ Some g)
     → Hears x (λ x adapted read. SideHeard x adapted read old) (λ x adapted read. SideHeard x adapted read new) old.fault new.fault (NothingToRead x a room new.reader.stage) P Q out result
-hears_by x a room old new P Q out (Ok turn) none long t stays = record {
+hears_by x a room old new P Q out (Ok turn) none long t sound stays = record {
   delta = t.given;
   wire = λ p b. (after_ask p t.given t.answer, t.wire.each p b, later_given p t.given t.answer t.wire.fits, read_cause x a room new.reader.stage p t.given t.answer old.fault (Ok turn) t.fits);
   only = t.came.0.only;
@@ -163,9 +163,9 @@ hears_by x a room old new P Q out (Ok turn) none long t stays = record {
   legal = t.came.0.legal;
   goes_on = t.came.0.heard;
   waiting = read_says x a old new room out t.given (Ok turn) t.came;
-  fault = record { again = λ g e. cc; stays = stays };
+  fault = record { sound = λ s e. sound; again = λ g e. cc; stays = stays };
 }
-hears_by x a room old new P Q out (Err g) none long t stays = record {
+hears_by x a room old new P Q out (Err g) none long t sound stays = record {
   delta = t.given;
   wire = λ p b. (after_ask p t.given t.answer, t.wire.each p b, later_given p t.given t.answer t.wire.fits, read_cause x a room new.reader.stage p t.given t.answer old.fault (Err g) t.fits);
   only = tt;
@@ -173,7 +173,7 @@ hears_by x a room old new P Q out (Err g) none long t stays = record {
   legal = tt;
   goes_on = t.came.0.heard;
   waiting = read_says x a old new room out t.given (Err g) t.came;
-  fault = record { again = λ f e. cc; stays = stays };
+  fault = record { sound = λ s e. cc; again = λ f e. cc; stays = stays };
 }
 
 pub hears_none : (x : Seen) (s : Side) (rests : Type 0) (g : ClientFault) (P Q : Past → Type 0) (out : List ℕ) → s.fault ≡ Some g → ((p : Past) → P p → Q p)
@@ -187,7 +187,7 @@ hears_none x s rests g P Q out e w = record {
   goes_on = λ adapted read h.
       subst (λ (t : List ℕ). SideHeard x t (read ++ []) s) (sym (append-nil adapted)) (subst (λ (t : List ℕ). SideHeard x adapted t s) (sym (append-nil read)) h);
   waiting = record { idle = λ h. cc; waits = λ t i n d. cc };
-  fault = record { again = λ f i. cc; stays = λ f i. cc };
+  fault = record { sound = λ t i. cc; again = λ f i. cc; stays = λ f i. cc };
 }
 
 stays_by : (k : Option ClientFault) (result : Result Turn ClientFault) → IfErr result (λ g. k ≡ Some g) → (g : ClientFault) → result ≡ Err g → k ≡ Some g
@@ -195,18 +195,18 @@ stays_by k (Ok t) s g e = cc
 stays_by k (Err f) s g e = let same : f ≡ g = cc in s ∙ ap Some same
 
 hears_case : (x : Seen) (a : Bool) (room : ℕ) (old new : Side) (P Q : Past → Type 0) (out : List ℕ) (result : Result Turn ClientFault) (fault : Option ClientFault) → old.fault ≡ fault → room ≡ length out
-    → (old.fault ≡ None → ReadTurn x a room old new P Q out result) → IfErr result (λ g. new.fault ≡ Some g) → IfSome fault (λ g. (result ≡ Err g) × (new ≡ old)) → IfSome fault (λ g. (p : Past) → P p → Q p)
+    → (old.fault ≡ None → ReadTurn x a room old new P Q out result) → OnOk result (new.fault ≡ None) → IfErr result (λ g. new.fault ≡ Some g) → IfSome fault (λ g. (result ≡ Err g) × (new ≡ old)) → IfSome fault (λ g. (p : Past) → P p → Q p)
     → Hears x (λ x adapted read. SideHeard x adapted read old) (λ x adapted read. SideHeard x adapted read new) old.fault new.fault (NothingToRead x a room new.reader.stage) P Q out result
-hears_case x a room old new P Q out result None e long t s f u = hears_by x a room old new P Q out result e long (t e) (stays_by new.fault result s)
-hears_case x a room old new P Q out result (Some g) e long t s f u =
+hears_case x a room old new P Q out result None e long t o s f u = hears_by x a room old new P Q out result e long (t e) o (stays_by new.fault result s)
+hears_case x a room old new P Q out result (Some g) e long t o s f u =
     subst (λ (r : Result Turn ClientFault). Hears x (λ x adapted read. SideHeard x adapted read old) (λ x adapted read. SideHeard x adapted read new) old.fault new.fault (NothingToRead x a room new.reader.stage) P Q out r) (sym f.0)
     (subst (λ (n : Side). Hears x (λ x adapted read. SideHeard x adapted read old) (λ x adapted read. SideHeard x adapted read n) old.fault n.fault (NothingToRead x a room n.reader.stage) P Q out (Err g)) (sym f.1)
     (hears_none x old (NothingToRead x a room old.reader.stage) g P Q out e u))
 
 pub hears_all : (x : Seen) (a : Bool) (room : ℕ) (old new : Side) (P Q : Past → Type 0) (out : List ℕ) (result : Result Turn ClientFault) → room ≡ length out
-    → (old.fault ≡ None → ReadTurn x a room old new P Q out result) → IfErr result (λ g. new.fault ≡ Some g) → IfSome old.fault (λ g. (result ≡ Err g) × (new ≡ old)) → IfSome old.fault (λ g. (p : Past) → P p → Q p)
+    → (old.fault ≡ None → ReadTurn x a room old new P Q out result) → OnOk result (new.fault ≡ None) → IfErr result (λ g. new.fault ≡ Some g) → IfSome old.fault (λ g. (result ≡ Err g) × (new ≡ old)) → IfSome old.fault (λ g. (p : Past) → P p → Q p)
     → Hears x (λ x adapted read. SideHeard x adapted read old) (λ x adapted read. SideHeard x adapted read new) old.fault new.fault (NothingToRead x a room new.reader.stage) P Q out result
-hears_all x a room old new P Q out result long t s f u = hears_case x a room old new P Q out result old.fault refl long t s f u
+hears_all x a room old new P Q out result long t o s f u = hears_case x a room old new P Q out result old.fault refl long t o s f u
 
 -- ---- the laws
 

@@ -1,7 +1,7 @@
 //! The service's end of one transaction: both halves.
 
 ghost use Rattle.arrayvec.specs.ArrayVec.{array_vec_len};
-ghost use Rattle.std.specs.Prelude.{option_copied, ◌≡◌, ℕ, List, ◌+◌, ◌≤◌, ◌++◌, ◌∷◌, ◌↔◌, IsTrue, IfSome, IfOk, IfErr, Err, true, false, Some, None, ◌⊎◌, [], length, ◌<◌, MatchOption};
+ghost use Rattle.std.specs.Prelude.{option_copied, ◌≡◌, ℕ, List, ◌+◌, ◌≤◌, ◌++◌, ◌∷◌, ◌↔◌, IsTrue, IfSome, IfOk, IfErr, OnOk, Err, true, false, Some, None, ◌⊎◌, [], length, ◌<◌, MatchOption};
 ghost use Rattle.adapt_bytes.specs.declared.limits.TheConstants.{COUNT_LIMIT};
 ghost use Rattle.trace_core.specs.declared.history.Seen.{Seen};
 ghost use Rattle.trace_core.specs.History.{seen};
@@ -231,7 +231,9 @@ impl ServiceSide {
             (λ x came taken. ServiceSent x came taken self.old) (λ x came taken. ServiceSent x came taken self.new)
             self.old.replies.fault self.new.replies.fault (NothingDue (seen state.now.plan state.now.events) self.new.writer) (W.past wire.old) (W.past wire.new) result }
 
-        // Behind a fault the wire isn't touched.
+        // A turn that goes well leaves no fault. One that fails keeps its fault, and behind that the wire isn't touched.
+        ensures sound { OnOk result (self.new.replies.fault ≡ None) }
+        ensures stays { IfErr result (λ fault. self.new.replies.fault ≡ Some fault) }
         ensures untouched { IfSome self.old.replies.fault (λ fault. (p : Past) → W.past wire.old p → W.past wire.new p) }
 
         // The heads' text is kept as long as the request may begin anew; where it may not, what is out is let go. No other text
@@ -274,7 +276,9 @@ impl ServiceSide {
             (λ x adapted read. ServiceHeard x adapted read self.old) (λ x adapted read. ServiceHeard x adapted read self.new)
             self.old.replies.fault self.new.replies.fault (RestsReading (seen state.now.plan state.now.events) (length out.old) self.new) (W.past wire.old) (W.past wire.new) out.new result }
 
-        // Behind a fault the wire isn't touched.
+        // A turn that goes well leaves no fault. One that fails keeps its fault, and behind that the wire isn't touched.
+        ensures sound { OnOk result (self.new.replies.fault ≡ None) }
+        ensures stays { IfErr result (λ fault. self.new.replies.fault ≡ Some fault) }
         ensures untouched { IfSome self.old.replies.fault (λ fault. (p : Past) → W.past wire.old p → W.past wire.new p) }
 
         // No empty room is kept.

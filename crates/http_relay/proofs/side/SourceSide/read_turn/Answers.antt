@@ -10,8 +10,9 @@ returns-in-Some-clause-source g c = source_again (length c.args.out.now) c.args.
 pub returns-in-Ok-clause-source : goal.returns-in-Ok-clause-source
 returns-in-Ok-clause-source g c =
     let none : c.args.self.now.fault ≡ None = search rules in
+    let left : c.try_turn.new.self.fault ≡ None = c.in-Ok.ensures.fault ∙ none in
     as_source (length c.args.out.now) c.args.self.now c.try_turn.new.self (g.W.Wire.past c.args.wire.now) (g.W.Wire.past c.try_turn.new.wire) c.try_turn.new.out (Ok c.in-Ok.turn) c.try_turn.auto.out
-    (record { again = λ f e. (let odd : Some f ≡ None = sym e ∙ none in cc); stays = λ f e. cc }) c.in-Ok.ensures.turn
+    (record { sound = λ t e. left; again = λ f e. (let odd : Some f ≡ None = sym e ∙ none in cc); stays = λ f e. cc }) c.in-Ok.ensures.turn
 
 pub returns-in-Err-clause-source : goal.returns-in-Err-clause-source
 returns-in-Err-clause-source g c =
@@ -19,7 +20,7 @@ returns-in-Err-clause-source g c =
     let mid : SourceSide = c.try_turn.new.self in
     let new : SourceSide = record { alloc = mid.alloc; asks = mid.asks; head = mid.head; head_fault = mid.head_fault; body = mid.body; raw = mid.raw; judged = mid.judged; fault = Some c.in-Err.fault } in
     as_source (length c.args.out.now) c.args.self.now new (g.W.Wire.past c.args.wire.now) (g.W.Wire.past c.try_turn.new.wire) c.try_turn.new.out (Err c.in-Err.fault) c.try_turn.auto.out
-    (record { again = λ f e. (let odd : Some f ≡ None = sym e ∙ none in cc); stays = λ f e. (let is : c.in-Err.fault ≡ f = cc in ap (λ (h : RelayFault). Some h) is) })
+    (record { sound = λ t e. cc; again = λ f e. (let odd : Some f ≡ None = sym e ∙ none in cc); stays = λ f e. (let is : c.in-Err.fault ≡ f = cc in ap (λ (h : RelayFault). Some h) is) })
     (turn_kept (length c.args.out.now) c.args.self.now mid new (g.W.Wire.past c.args.wire.now) (g.W.Wire.past c.try_turn.new.wire) c.try_turn.new.out (Err c.in-Err.fault) (record { asks = refl; head = refl; body = refl }) refl c.in-Err.ensures.turn)
 
 pub returns-in-Err-clause-turn : goal.returns-in-Err-clause-turn

@@ -1,4 +1,4 @@
-use Rattle.std.proofs.Common.{◌≡◌, subst, Option, Some, Result, Err, IfSome, IfErr}
+use Rattle.std.proofs.Common.{◌≡◌, subst, Option, Some, None, Result, Ok, Err, IfSome, IfErr, OnOk}
 use Rattle.trace_core.specs.History.{seen}
 use Rattle.adapt_sides.specs.declared.turn.Turn.{Turn}
 use Rattle.adapt_sides.specs.declared.fault.RelayFault.{RelayFault}
@@ -13,4 +13,4 @@ returns-clause-turn g c =
     let o = c.write_turn.ensures in
     let result : Result Turn RelayFault = c.write_turn.result in
     as_gives (seen c.args.state.now.plan c.args.state.now.events) c.args.tape.now c.args.self.now c.write_turn.new.self (g.W.Wire.past c.args.wire.now) (g.W.Wire.past c.write_turn.new.wire) result c.requires o.turn
-    (λ f e. subst (λ (t : Option RelayFault). IfSome t (λ h. result ≡ Err h)) e o.faulted) (λ f e. subst (λ (r : Result Turn RelayFault). IfErr r (λ h. c.write_turn.new.self.fault ≡ Some h)) e o.keeps)
+    (λ t e. subst (λ (r : Result Turn RelayFault). OnOk r (c.write_turn.new.self.fault ≡ None)) e o.sound) (λ f e. subst (λ (t : Option RelayFault). IfSome t (λ h. result ≡ Err h)) e o.faulted) (λ f e. subst (λ (r : Result Turn RelayFault). IfErr r (λ h. c.write_turn.new.self.fault ≡ Some h)) e o.keeps)

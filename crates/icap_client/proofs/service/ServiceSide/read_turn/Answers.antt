@@ -35,7 +35,7 @@ returns-in-Ok-clause-hears g c =
     (subst (λ (s : Service). Hears y (λ x adapted read. SideHeard x adapted read s.replies) (λ x adapted read. SideHeard x adapted read side) s.replies.fault side.fault (NothingToRead y c.flushed-all_sent.result room side.reader.stage)
     P Q c.read_turn.new.out result) c.self.view_is
     (hears_all y c.flushed-all_sent.result room c.self.inside.replies side P Q c.read_turn.new.out result
-    (sym c.read_turn.auto.out) c.in-Ok.ensures.turn c.in-Ok.ensures.stays c.in-Ok.ensures.faulted c.in-Ok.ensures.untouched))))
+    (sym c.read_turn.auto.out) c.in-Ok.ensures.turn c.in-Ok.ensures.sound c.in-Ok.ensures.stays c.in-Ok.ensures.faulted c.in-Ok.ensures.untouched))))
 
 pub returns-in-Err-clause-hears : goal.returns-in-Err-clause-hears
 returns-in-Err-clause-hears g c =
@@ -49,4 +49,4 @@ returns-in-Err-clause-hears g c =
     (subst (λ (s : Service). Hears y (λ x adapted read. SideHeard x adapted read s.replies) (λ x adapted read. SideHeard x adapted read new) s.replies.fault new.fault (NothingToRead y c.flushed-all_sent.result room new.reader.stage)
     (g.W.Wire.past c.args.wire.now) (g.W.Wire.past c.read_turn.new.wire) c.read_turn.new.out result) c.self.view_is
     (hears_all y c.flushed-all_sent.result room c.self.inside.replies new (g.W.Wire.past c.args.wire.now) (g.W.Wire.past c.read_turn.new.wire) c.read_turn.new.out result
-    (sym c.read_turn.auto.out) c.in-Err.ensures.turn c.in-Err.ensures.stays c.in-Err.ensures.faulted c.in-Err.ensures.untouched)))
+    (sym c.read_turn.auto.out) c.in-Err.ensures.turn c.in-Err.ensures.sound c.in-Err.ensures.stays c.in-Err.ensures.faulted c.in-Err.ensures.untouched)))
