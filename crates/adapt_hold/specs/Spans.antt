@@ -1,6 +1,7 @@
 -- The bytes of a tape by their places, whatever pages they lie on; and the tapes of a reservation with their pages.
 use Rattle.std.specs.Prelude.{◌≡◌, ℕ, ◌+◌, ◌-◌, ◌<◌, ◌≤◌, ◌^◌, List, length, drop}
 use Rattle.span_tape.specs.Tape.{Tape, pages_in}
+use Rattle.span_bank.specs.declared.step.TheConstants.{PAGE_BYTES}
 use Rattle.span_bank.specs.Stakes.{Shown}
 
 -- bytes from a place on
@@ -34,7 +35,7 @@ pub record Stock : Type 0 where
 
 -- a tape begins on its first page, an empty one at its beginning
 pub record IsPaged (t : Tape) : Type 0 where
-  pub start : t.start < 4096
+  pub start : t.start < PAGE_BYTES
   pub empty : length t.bytes ≡ 0 → t.start ≡ 0
 
 -- the reservation is charged with just the tapes' bytes, and has just their pages

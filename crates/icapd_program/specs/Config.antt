@@ -7,8 +7,9 @@ use Rattle.toml.specs.Data.{Members, get_member, as_str, as_integer}
 use Rattle.toml.specs.Parse.{parse_document}
 use Rattle.icap_services.specs.Ranges.{IsTag}
 use Rattle.icap_services.specs.Texts.{Shown}
+use Rattle.adapt_bytes.specs.declared.limits.TheConstants.{MAX_INPUT}
 use Rattle.icapd_program.specs.declared.error.Error.{Error}
-use Rattle.icapd_program.specs.declared.error.Error.TheVariants.{Usage, ReadFailed, WriteFailed, InputTooLong, Config as NoTable, CannotListen, NoMemory, Key as OfKey}
+use Rattle.icapd_program.specs.declared.error.Error.TheVariants.{InputTooLong, Config as NoTable, NoMemory, Key as OfKey}
 use Rattle.icapd_program.specs.declared.error.Key.{Key}
 use Rattle.icapd_program.specs.declared.error.Key.TheVariants.{Listen, Istag, Max, Ttl, Preview, Unknown}
 
@@ -93,15 +94,15 @@ IsTableBad table other = ⊥
 
 -- the text is a table with these values
 pub record IsConfig (input : List ℕ) (address : SocketAddrV4) (s : Shown) : Type 0 where
-  pub short : length input ≤ 1048576
+  pub short : length input ≤ MAX_INPUT
   pub table : Members
   pub is_table : parse_document input ≡ Some table
   pub values : HasValues table address s
 
 -- why a text is refused, the first that stands
 abbrev pub IsRefused : List ℕ → Error → Type 0
-IsRefused input InputTooLong = 1048576 < length input
-IsRefused input NoTable = (length input ≤ 1048576) × (IsUtf8 input → parse_document input ≡ None)
-IsRefused input (OfKey key) = (length input ≤ 1048576) × ((table : Members) × (parse_document input ≡ Some table) × IsBad key table)
-IsRefused input NoMemory = length input ≤ 1048576
+IsRefused input InputTooLong = MAX_INPUT < length input
+IsRefused input NoTable = (length input ≤ MAX_INPUT) × (IsUtf8 input → parse_document input ≡ None)
+IsRefused input (OfKey key) = (length input ≤ MAX_INPUT) × ((table : Members) × (parse_document input ≡ Some table) × IsBad key table)
+IsRefused input NoMemory = length input ≤ MAX_INPUT
 IsRefused input other = ⊥

@@ -6,8 +6,7 @@ ghost use Rattle.icap_services.specs.Texts.{shown};
 ghost use Rattle.icapd_program.specs.Config.{is_at, string_at, integer_at, ListenIs, TagIs, NumberIs, IsKnown, HasValues, IsTableBad, IsConfig, IsRefused};
 
 use crate::error::{Error, Key};
-use crate::standard_input::MAX_INPUT;
-use adapt_bytes::{MAX_CONNECTIONS, MAX_PREVIEW};
+use adapt_bytes::{MAX_CONNECTIONS, MAX_INPUT, MAX_PREVIEW};
 use icap_services::{MAX_TTL, Settings, is_tag};
 use std::alloc::Global;
 use std::net::SocketAddrV4;

@@ -1,16 +1,15 @@
 //! `icapd once`: standard input is one connection's bytes.
-ghost use Rattle.std.specs.Prelude.{◌≡◌, ◌≢◌, ◌⊎◌, IfOk, IfErr, IfSome, OnOk, take};
+ghost use Rattle.std.specs.Prelude.{◌≡◌, ◌+◌, ◌≢◌, ◌⊎◌, IfOk, IfErr, IfSome, OnOk, take};
+ghost use Rattle.adapt_bytes.specs.declared.limits.TheConstants.{MAX_INPUT};
 ghost use Rattle.icap_server.specs.Connection.{AnswersAll, AnswersFront};
 ghost use Rattle.icapd_program.specs.Once.{default_shown};
 ghost use Rattle.icap_services.specs.Texts.{shown};
 
 use crate::error::Error;
+use adapt_bytes::MAX_INPUT;
 use icap_server::{NoMemory, ServeFault, Settings, serve};
 use std::alloc::Global;
 use std::io::{self, ErrorKind, Read, Write};
-
-/// The most bytes of a configuration, 1,048,576.
-pub const MAX_INPUT: usize = 1_048_576;
 
 /// The error that a failed read ends the program with: want of memory, or a failed read.
 fn read_error(error: &io::Error) -> Error
@@ -25,7 +24,7 @@ fn read_error(error: &io::Error) -> Error
 
 /// Reads to the end, but no more than one byte past [`MAX_INPUT`].
 pub fn read_input<R: Read + Drop>(alloc: Global, reader: R) -> Result<Vec<u8>, Error>
-    ensures read { IfOk result (λ input. IfSome (R.remaining reader) (λ bytes. input.items ≡ take 1048577 bytes)) }
+    ensures read { IfOk result (λ input. IfSome (R.remaining reader) (λ bytes. input.items ≡ take (MAX_INPUT + 1) bytes)) }
     ensures failed { IfErr result (λ error. (error ≡ Error.NoMemory) ⊎ (error ≡ Error.ReadFailed)) }
 {
     let mut input = Vec::new(alloc);
