@@ -8,6 +8,7 @@ use Rattle.http_side.specs.declared.fault.HttpFault.{HttpFault}
 use Rattle.http_side.specs.declared.fault.HttpFault.TheVariants as why
 use Rattle.adapt_sides.specs.declared.fault.RelayFault.{RelayFault}
 use Rattle.adapt_sides.specs.declared.fault.RelayFault.TheVariants.{Head, Closed, Device, NoMemory}
+use Rattle.adapt_bytes.specs.declared.limits.TheConstants.{MAX_HEAD}
 use Rattle.http_relay.specs.declared.side.SourceSide.{SourceSide}
 use Rattle.http_relay.specs.declared.side.Asks.{Asks}
 use Rattle.http_relay.specs.declared.side.Asks.TheVariants as asks
@@ -35,7 +36,7 @@ pub record IsLooking (s : SourceSide) : Type 0 where
 pub record HasNoHead (s : SourceSide) : Type 0 where
   pub looking : IsLooking s
   pub no_line : has_line (drop s.judged s.raw.items) ≡ false
-  pub few : length s.raw.items < 16384
+  pub few : length s.raw.items < MAX_HEAD
 
 -- the raw bytes are refused, and this is the fault behind it; 101 has none
 abbrev pub RefusesHead : SourceSide → Option HttpFault → Type 0

@@ -1,16 +1,16 @@
 //! One read of a wire, behind the bytes that are kept.
 
 ghost use Rattle.std.specs.Prelude.{◌+◌, ◌<◌, ◌≤◌, length};
+ghost use Rattle.adapt_bytes.specs.declared.limits.TheConstants.{MAX_HEAD};
+ghost use Rattle.http_relay.specs.declared.fill.TheConstants.{MAX_READ};
 ghost use Rattle.http_relay.specs.Reading.{IsFilled};
 
+use adapt_bytes::MAX_HEAD;
 use bytes::BytesMut;
 use wire_kit::{Got, Wire};
 
-/// The most bytes that are kept without being framed.
-pub(crate) const MAX_RAW: usize = 16_384;
-
 /// The most bytes of one read.
-const MAX_READ: usize = 4096;
+pub(crate) const MAX_READ: usize = 4096;
 
 /// What a read gave.
 #[derive(Clone, Copy, Debug, PartialEq, Eq)]
@@ -29,16 +29,16 @@ pub(crate) enum Filled {
 
 /// Reads once behind the raw bytes.
 pub(crate) fn fill<W: Wire>(raw: &mut BytesMut, wire: &mut W) -> Filled
-    requires { length raw.old.items < 16384 }
+    requires { length raw.old.items < MAX_HEAD }
     ensures filled { IsFilled (W.past wire.old) (W.past wire.new) raw.old.items raw.new.items result }
-    ensures fits { length raw.new.items ≤ 16384 }
-    ensures few { length raw.new.items ≤ length raw.old.items + 4096 }
+    ensures fits { length raw.new.items ≤ MAX_HEAD }
+    ensures few { length raw.new.items ≤ length raw.old.items + MAX_READ }
 {
-    let most = (MAX_RAW - raw.len()).min(MAX_READ);
+    let most = (MAX_HEAD - raw.len()).min(MAX_READ);
     if raw.reserve(most).is_err() {
         return Filled::NoMemory;
     }
-    let mut buf = [0; 4096];
+    let mut buf = [0; MAX_READ];
     match wire.try_read(&mut buf[..most]) {
         Got::Bytes(n) => {
             raw.extend_reserved(&buf[..n]);

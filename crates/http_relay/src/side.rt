@@ -3,6 +3,7 @@
 ghost use Rattle.std.specs.Prelude.{◌≡◌, ◌<◌, ◌≤◌, [], length, take, IfOk, IfErr, OnErr, None, true, false, List, ℕ, ◌↔◌, IsTrue, option_copied};
 ghost use Rattle.trace_core.specs.History.{seen};
 ghost use Rattle.trace_core.specs.Turns.{in_sum};
+ghost use Rattle.http_relay.specs.declared.fill.TheConstants.{MAX_READ};
 ghost use Rattle.http_relay.specs.Source.{Agrees, MustWait, Refuses};
 ghost use Rattle.adapt_sides.specs.Turns.{ReadsBody};
 ghost use Rattle.http_relay.specs.Judging.{IsLooking};
@@ -77,7 +78,7 @@ impl SourceSide {
         requires going_on { self.old.body.ended ≡ false }
         requires some_room { 0 < length out.old }
         ensures turn { ReadTurn (length out.old) self.old self.new (W.past wire.old) (W.past wire.new) out.new result }
-        ensures kept { length self.new.raw.items ≤ 4096 }
+        ensures kept { length self.new.raw.items ≤ MAX_READ }
         ensures fault { self.new.fault ≡ self.old.fault }
         ensures head { self.new.head ≡ self.old.head }
     {
@@ -108,7 +109,7 @@ impl SourceSide {
     /// Frames the raw bytes, and reads the wire once where nothing of them can be framed and there is room.
     fn frame_or_read<W: Wire>(&mut self, wire: &mut W, out: &mut [u8]) -> Result<Turn, RelayFault>
         ensures turn { ReadTurn (length out.old) self.old self.new (W.past wire.old) (W.past wire.new) out.new result }
-        ensures kept { length self.old.raw.items < length self.new.raw.items → length self.new.raw.items ≤ 4096 }
+        ensures kept { length self.old.raw.items < length self.new.raw.items → length self.new.raw.items ≤ MAX_READ }
         ensures fault { self.new.fault ≡ self.old.fault }
         ensures head { self.new.head ≡ self.old.head }
     {
@@ -134,7 +135,7 @@ impl SourceSide {
     /// The same, and keeps no empty room.
     fn try_turn<W: Wire>(&mut self, wire: &mut W, out: &mut [u8]) -> Result<Turn, RelayFault>
         ensures turn { ReadTurn (length out.old) self.old self.new (W.past wire.old) (W.past wire.new) out.new result }
-        ensures kept { length self.old.raw.items < length self.new.raw.items → length self.new.raw.items ≤ 4096 }
+        ensures kept { length self.old.raw.items < length self.new.raw.items → length self.new.raw.items ≤ MAX_READ }
         ensures fault { self.new.fault ≡ self.old.fault }
         ensures head { self.new.head ≡ self.old.head }
         ensures empty { self.new.raw.items ≡ [] → self.new.raw.spare ≡ 0 }
@@ -155,7 +156,7 @@ impl SourceSide {
         ensures head { self.new.head ≡ self.old.head }
 
         // Raw bytes that are kept behind a turn are those of before, or of one read; no empty room is kept.
-        ensures kept { length self.old.raw.items < length self.new.raw.items → length self.new.raw.items ≤ 4096 }
+        ensures kept { length self.old.raw.items < length self.new.raw.items → length self.new.raw.items ≤ MAX_READ }
         ensures empty { self.old.fault ≡ None → self.new.raw.items ≡ [] → self.new.raw.spare ≡ 0 }
     {
         if let Some(fault) = self.fault {

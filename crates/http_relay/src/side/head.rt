@@ -2,13 +2,15 @@
 
 ghost use Rattle.std.specs.Prelude.{◌≡◌, ◌<◌, ◌≤◌, ◌⊎◌, [], length, drop, IfOk, IfErr, None, true, false, List, ℕ, IfSome, Some, Ok, Err};
 ghost use Rattle.adapt_bytes.specs.Text.{has_line};
+ghost use Rattle.adapt_bytes.specs.declared.limits.TheConstants.{MAX_HEAD};
 ghost use Rattle.http_relay.specs.Judging.{RefusesBytes, IsLooking, JudgesHead, Scans};
 ghost use Rattle.http_relay.specs.Reading.{AtHead, HeadTurn, JudgesHeadTo, ScannedTo};
 
-use crate::fill::{Filled, MAX_RAW, fill};
+use crate::fill::{Filled, fill};
 use crate::pieces::behind;
 use crate::side::{Asks, SourceHead, SourceSide};
 use crate::source_body::SourceBody;
+use adapt_bytes::MAX_HEAD;
 use adapt_sides::RelayFault;
 use http_side::{HttpFault, read_request, read_response};
 use wire_kit::Wire;
@@ -46,11 +48,11 @@ impl SourceSide {
 
     /// Whether the raw bytes are to be judged: a line has ended since they were last, or there is no room for more.
     fn is_due(&self) -> bool
-        ensures due { result ≡ true → (16384 ≤ length self.now.raw.items) ⊎ (has_line (drop self.now.judged self.now.raw.items) ≡ true) }
-        ensures few { result ≡ false → length self.now.raw.items < 16384 }
+        ensures due { result ≡ true → (MAX_HEAD ≤ length self.now.raw.items) ⊎ (has_line (drop self.now.judged self.now.raw.items) ≡ true) }
+        ensures few { result ≡ false → length self.now.raw.items < MAX_HEAD }
         ensures no_line { result ≡ false → has_line (drop self.now.judged self.now.raw.items) ≡ false }
     {
-        self.raw.len() >= MAX_RAW || self.unjudged().contains(&b'\n')
+        self.raw.len() >= MAX_HEAD || self.unjudged().contains(&b'\n')
     }
 
     /// JudgesHead the raw bytes.
@@ -58,7 +60,7 @@ impl SourceSide {
         requires { self.old.head ≡ SourceHead.Unread }
         ensures heads { (read : List ℕ) → AtHead read self.old → JudgesHeadTo result read self.new }
         ensures judged { IsLooking self.old → JudgesHead result self.new }
-        ensures short { IfOk result (λ judged. judged ≡ Judged.More → length self.new.raw.items < 16384) }
+        ensures short { IfOk result (λ judged. judged ≡ Judged.More → length self.new.raw.items < MAX_HEAD) }
         ensures shrinks { IfOk result (λ judged. judged ≡ Judged.Interim → length self.new.raw.items < length self.old.raw.items) }
         ensures unread { IfOk result (λ judged. (judged ≡ Judged.Taken → ⊥) → self.new.head ≡ SourceHead.Unread) }
         ensures fault { self.new.fault ≡ self.old.fault }
@@ -78,7 +80,7 @@ impl SourceSide {
         requires asks { self.old.asks ≡ Asks.Request }
         ensures heads { (read : List ℕ) → AtHead read self.old → JudgesHeadTo result read self.new }
         ensures judged { IsLooking self.old → JudgesHead result self.new }
-        ensures short { IfOk result (λ judged. judged ≡ Judged.More → length self.new.raw.items < 16384) }
+        ensures short { IfOk result (λ judged. judged ≡ Judged.More → length self.new.raw.items < MAX_HEAD) }
         ensures unread { IfOk result (λ judged. (judged ≡ Judged.Taken → ⊥) → self.new.head ≡ SourceHead.Unread) }
         ensures never { IfOk result (λ judged. judged ≡ Judged.Interim → ⊥) }
         ensures fault { self.new.fault ≡ self.old.fault }
@@ -101,7 +103,7 @@ impl SourceSide {
         requires asks { self.old.asks ≡ Asks.Response to_head }
         ensures heads { (read : List ℕ) → AtHead read self.old → JudgesHeadTo result read self.new }
         ensures judged { IsLooking self.old → JudgesHead result self.new }
-        ensures short { IfOk result (λ judged. judged ≡ Judged.More → length self.new.raw.items < 16384) }
+        ensures short { IfOk result (λ judged. judged ≡ Judged.More → length self.new.raw.items < MAX_HEAD) }
         ensures shrinks { IfOk result (λ judged. judged ≡ Judged.Interim → length self.new.raw.items < length self.old.raw.items) }
         ensures unread { IfOk result (λ judged. (judged ≡ Judged.Taken → ⊥) → self.new.head ≡ SourceHead.Unread) }
         ensures fault { self.new.fault ≡ self.old.fault }
@@ -131,7 +133,7 @@ impl SourceSide {
         requires unread { self.old.head ≡ SourceHead.Unread }
         requires cause { RefusesBytes self.old.asks self.old.raw.items fault }
         ensures judged { IsLooking self.old → JudgesHead result self.new }
-        ensures more { IfOk result (λ judged. (judged ≡ Judged.More) × (length self.new.raw.items < 16384)) }
+        ensures more { IfOk result (λ judged. (judged ≡ Judged.More) × (length self.new.raw.items < MAX_HEAD)) }
         ensures asks { self.new.asks ≡ self.old.asks }
         ensures raw { self.new.raw.items ≡ self.old.raw.items }
         ensures unread { self.new.head ≡ SourceHead.Unread }
@@ -159,7 +161,7 @@ impl SourceSide {
         requires { self.old.head ≡ SourceHead.Unread }
         ensures heads { (read : List ℕ) → AtHead read self.old → ScannedTo result read self.new }
         ensures judged { IsLooking self.old → Scans result self.new }
-        ensures short { IfOk result (λ found. found ≡ false → length self.new.raw.items < 16384) }
+        ensures short { IfOk result (λ found. found ≡ false → length self.new.raw.items < MAX_HEAD) }
         ensures unread { IfOk result (λ found. found ≡ false → self.new.head ≡ SourceHead.Unread) }
         ensures fault { self.new.fault ≡ self.old.fault }
         ensures refused { IfErr result (λ fault. (fault ≡ RelayFault.Head) ⊎ (fault ≡ RelayFault.NoMemory)) }
