@@ -1,5 +1,7 @@
 //! A request of 400 bytes with 10 fields, read and written so many times.
-use http_side::{Forward, Message, Part, encapsulated_head, forward_head, read_request};
+use http_side::{
+    Encapsulated, Forward, Message, Part, encapsulated_head, forward_head, read_request,
+};
 use httparse::Status;
 use httparse::spans::{EMPTY_HEADER_SPAN, parse_request};
 use std::alloc::Global;
@@ -35,9 +37,10 @@ pub(crate) fn read_and_write(alloc: Global, times: u64) -> u64 {
     let mut bytes: u64 = 0;
     for _ in 0..times {
         if let Ok(head) = read_request(alloc, REQUEST, false) {
-            let message = Message::Request(&head.value);
+            let user = &head.value;
+            let message = Message::Request(user);
             let forward = Forward {
-                user: &head.value,
+                user,
                 message,
                 part: Part::Own,
                 body_read: true,
@@ -45,7 +48,7 @@ pub(crate) fn read_and_write(alloc: Global, times: u64) -> u64 {
             if let Ok(text) = forward_head(alloc, &forward) {
                 bytes = bytes.saturating_add(text.len() as u64);
             }
-            if let Ok(text) = encapsulated_head(alloc, &head.value, message) {
+            if let Ok(text) = encapsulated_head(alloc, &Encapsulated { user, message }) {
                 bytes = bytes.saturating_add(text.len() as u64);
             }
         }

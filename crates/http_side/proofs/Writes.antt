@@ -1,5 +1,5 @@
 -- Texts that are put into their room one behind the other.
-use Rattle.std.proofs.Common.{◌≡◌, ℕ, ◌+◌, ◌≤◌, List, ◌++◌, length, sym, ap, ◌∙◌, subst, arith, append_assoc, length-append}
+use Rattle.std.proofs.Common.{ℕ, List, ◌++◌, sym, ap, ◌∙◌, subst, arith, append_assoc, length-append}
 use Rattle.adapt_bytes.specs.Room.{Written, Puts}
 use Rattle.http_side.specs.Forward.{field_lines}
 use Rattle.http_side.proofs.ForwardLemmas.{lines-append}

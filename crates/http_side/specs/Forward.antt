@@ -19,6 +19,7 @@ use Rattle.http_side.specs.declared.forward.Message.TheVariants.{Request, Respon
 use Rattle.http_side.specs.declared.forward.Part.{Part}
 use Rattle.http_side.specs.declared.forward.Part.TheVariants.{Own, Body, NullBody}
 use Rattle.http_side.specs.declared.forward.Forward.{Forward}
+use Rattle.http_side.specs.declared.forward.Encapsulated.{Encapsulated}
 
 -- the name is one of these, of any case
 abbrev pub is_among : List (List ℕ) → List ℕ → Bool
@@ -259,5 +260,5 @@ abbrev pub forwarded : Forward → List ℕ
 forwarded f = written_head f.message (authority_of f.user.now.target) false (extra_of f)
 
 -- and to a service
-abbrev pub encapsulated : RequestParts → Message → List ℕ
-encapsulated user message = written_head message (authority_of user.target) true no_extra
+abbrev pub encapsulated : Encapsulated → List ℕ
+encapsulated e = written_head e.message (authority_of e.user.now.target) true no_extra

@@ -48,6 +48,15 @@ pub struct Forward<'u, 'm> {
     pub body_read: bool,
 }
 
+/// A message on its way to a service, within an ICAP message.
+#[derive(Clone, Copy, Debug)]
+pub struct Encapsulated<'u, 'm> {
+    /// The user's own request: its target names the origin.
+    pub user: &'u HttpRequest,
+    /// What the service gets.
+    pub message: Message<'m>,
+}
+
 impl<'a> Message<'a> {
     /// The length that goes on: a response with Transfer-Encoding loses its own.
     fn kept_length(&self) -> Option<u64>
@@ -196,13 +205,9 @@ pub fn forward_head(alloc: Global, forward: &Forward<'_, '_>) -> Result<Vec<u8>,
     written_head(alloc, forward.message, authority, false, forward.extra())
 }
 
-/// The head as a service gets it, within an ICAP message: a request in absolute form, and nothing added.
-pub fn encapsulated_head(
-    alloc: Global,
-    user: &HttpRequest,
-    message: Message<'_>,
-) -> Result<Vec<u8>, AllocError>
-    ensures text { IfOk result (λ text. text.items ≡ encapsulated user.now message.entry) }
+/// The head as a service gets it: a request in absolute form, and nothing added.
+pub fn encapsulated_head(alloc: Global, sent: &Encapsulated<'_, '_>) -> Result<Vec<u8>, AllocError>
+    ensures text { IfOk result (λ text. text.items ≡ encapsulated sent.now) }
 
     // Its one allocation has just its length.
     ensures room { IfOk result (λ text. vec_capacity text ≡ length text.items) }
@@ -213,5 +218,6 @@ pub fn encapsulated_head(
         close: false,
         via: false,
     };
-    written_head(alloc, message, authority_of(user.target()), true, extra)
+    let authority = authority_of(sent.user.target());
+    written_head(alloc, sent.message, authority, true, extra)
 }

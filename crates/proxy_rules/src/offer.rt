@@ -7,7 +7,7 @@ ghost use Rattle.icap_client.specs.Asking.{options_request};
 ghost use Rattle.proxy_rules.specs.Offers.{IsUnused, offered_request, offered_response, offered_text};
 
 use adapt_bytes::COUNT_LIMIT;
-use http_side::{HttpRequest, HttpResponse, Message, encapsulated_head};
+use http_side::{Encapsulated, HttpRequest, HttpResponse, Message, encapsulated_head};
 use icap_client::{OptionsSide, ServiceSide};
 use plan_rules::Plan;
 use proxy_config::ServicePoint;
@@ -62,7 +62,8 @@ pub fn offer_request(
     ensures text { IfOk result (λ side. side.writer ≡ fresh (offered_text service.now plan.now (offered_request user.now) [])) }
     ensures unused { IfOk result (λ side. IsUnused side) }
 {
-    let req = encapsulated_head(alloc, user, Message::Request(user))?;
+    let message = Message::Request(user);
+    let req = encapsulated_head(alloc, &Encapsulated { user, message })?;
     offer(alloc, service, plan, &req, &[])
 }
 
@@ -78,7 +79,9 @@ pub fn offer_response(
     ensures text { IfOk result (λ side. side.writer ≡ fresh (offered_text service.now plan.now (offered_request user.now) (offered_response response.now))) }
     ensures unused { IfOk result (λ side. IsUnused side) }
 {
-    let req = encapsulated_head(alloc, user, Message::Request(user))?;
-    let res = encapsulated_head(alloc, user, Message::Response(response))?;
+    let own = Message::Request(user);
+    let req = encapsulated_head(alloc, &Encapsulated { user, message: own })?;
+    let message = Message::Response(response);
+    let res = encapsulated_head(alloc, &Encapsulated { user, message })?;
     offer(alloc, service, plan, &req, &res)
 }

@@ -1,7 +1,7 @@
 //! The heads that go on, to an origin, to a service and to the user (RFC 9110, section 7.6; RFC 9112, section 3.2).
 use http_side::{
-    Forward, Framing, HttpFault, Message, Part, encapsulated_head, forward_head, read_request,
-    read_response,
+    Encapsulated, Forward, Framing, HttpFault, Message, Part, encapsulated_head, forward_head,
+    read_request, read_response,
 };
 use std::alloc::Global;
 use std::process::Abort;
@@ -12,16 +12,18 @@ type RequestCase<'a> = (&'a [u8], &'a [u8], &'a [u8]);
 
 fn check_requests(rt: &(impl Abort + AllocGlobal), cases: &[RequestCase<'_>]) -> Result<(), Fail> {
     for (text, origin, service) in cases {
-        let user = read_request(rt.alloc(), *text, false)?;
+        let asked = read_request(rt.alloc(), *text, false)?;
+        let user = &asked.value;
+        let message = Message::Request(user);
         let forward = Forward {
-            user: &user.value,
-            message: Message::Request(&user.value),
+            user,
+            message,
             part: Part::Own,
             body_read: true,
         };
         let head = forward_head(rt.alloc(), &forward)?;
         assert_eq!(rt; head.as_slice(), *origin);
-        let head = encapsulated_head(rt.alloc(), &user.value, Message::Request(&user.value))?;
+        let head = encapsulated_head(rt.alloc(), &Encapsulated { user, message })?;
         assert_eq!(rt; head.as_slice(), *service);
     }
     Ok(())

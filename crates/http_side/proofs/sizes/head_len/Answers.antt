@@ -1,4 +1,4 @@
-use Rattle.std.proofs.Common.{arith, lit≤}
+use Rattle.std.proofs.Common.{lit≤}
 use Rattle.http_side.proofs.Sums.{parts}
 use Rattle.http_side.proofs.sizes.head_len.Goals as goal
 

@@ -1,4 +1,4 @@
-use Rattle.std.proofs.Common.{◌≡◌, ◌≤◌, length, ap, ◌∙◌, get_or, arith}
+use Rattle.std.proofs.Common.{◌≡◌, length, ap, ◌∙◌, get_or, arith}
 use Rattle.std.specs.Prelude.{option_copied}
 use Rattle.http_side.specs.Fields.{field_at, name_at}
 use Rattle.http_side.specs.Forward.{hosted, field_line}
