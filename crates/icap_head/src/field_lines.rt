@@ -6,9 +6,9 @@ ghost use Rattle.icap_head.specs.FieldLines.{ReadsFields, HasFields, RefusesFiel
 ghost use Rattle.icap_head.specs.Fields.{field_list};
 ghost use Rattle.icap_head.specs.Written.{fields_text, field_text, IsFieldPair};
 
-use crate::reading::{HeadFault, MAX_FIELDS, unended};
+use crate::reading::{HeadFault, unended};
 use crate::{Fields, NoMemory};
-use adapt_bytes::{is_token, trim};
+use adapt_bytes::{MAX_FIELDS, is_token, trim};
 use httparse::spans::{EMPTY_HEADER_SPAN, parse_headers_from};
 use httparse::{Error, Status};
 use std::alloc::Global;

@@ -5,13 +5,8 @@ ghost use Rattle.icap_head.specs.declared.reading.HeadFault.TheVariants as Fault
 ghost use Rattle.icap_head.specs.FieldLines.{unended};
 ghost use Rattle.icap_head.specs.Heads.{fault_number};
 
+use adapt_bytes::MAX_HEAD;
 use std::alloc::AllocError;
-
-/// The bytes within which a head has to end, its empty line included.
-pub const MAX_HEAD: usize = 16_384;
-
-/// The fields that a head may have.
-pub const MAX_FIELDS: usize = 100;
 
 /// A head that was read, and the bytes that it has, its empty line included.
 #[derive(Debug, Drop)]
