@@ -1,8 +1,8 @@
 -- Bytes of a body that are read and dropped, and the framing of the answer to an OPTIONS request.
-use Rattle.std.proofs.Common.{◌≡◌, ◌≢◌, ℕ, ◌+◌, ◌≤◌, ◌⊎◌, inl, inr, Bool, true, false, if◌then◌else◌, nat_lt, List, [], ◌∷◌, ◌++◌, length, take, drop, refl, ap, sym, subst, ◌∙◌, append_assoc, append-nil, Option, Some, None, IfSome, is_some, option_map, Result, Ok, Err, IfErr}
+use Rattle.std.proofs.Common.{◌≡◌, ◌≢◌, ℕ, ◌+◌, ◌<◌, ◌≤◌, ◌⊎◌, inl, inr, Bool, true, false, if◌then◌else◌, nat_lt, List, [], ◌∷◌, ◌++◌, length, take, drop, refl, ap, sym, subst, ◌∙◌, append_assoc, append-nil, Option, Some, None, IfSome, is_some, option_map, Result, Ok, Err, IfErr, codes, arith}
 use Rattle.std.proofs.Math.Seq.{take-add}
 use Rattle.std.proofs.Math.ListN.{drop_of_length-le}
-use Rattle.std.proofs.lemmas.List.{take-append-drop}
+use Rattle.std.proofs.lemmas.List.{take-append-drop, length-drop, length-append, drop-drop}
 use Rattle.adapt_sides.specs.declared.fault.ClientFault.{ClientFault}
 use Rattle.adapt_sides.specs.declared.fault.ClientFault.TheVariants as faults
 use Rattle.icap_head.specs.Heads.{Response, HasResponse, RefusesIcapHead, response_parts}
@@ -18,7 +18,9 @@ use Rattle.icap_chunks.specs.declared.reader.ChunkReader.{ChunkReader}
 use Rattle.icap_chunks.proofs.Readings.{reads_nothing, reads_end}
 use Rattle.icap_client.specs.Hearing.{ReadsOn}
 use Rattle.icap_client.specs.Replies.{IsHead, lists_of}
-use Rattle.icap_client.specs.Asking.{HasOptionsBody, IsOptionsAnswer, IsOptionsFront, Asker, AnsweredTo, Frames, Tells, HasAnyHead, RefusesOptionsHead, RefusesOptions, RefusesRaw, HoldsHead}
+use Rattle.icap_chunks.specs.Grammar.{crlf}
+use Rattle.icap_client.specs.RequestHead.{joined, host_pieces}
+use Rattle.icap_client.specs.Asking.{options_pieces, options_request, HasOptionsBody, IsOptionsAnswer, IsOptionsFront, Asker, AnsweredTo, Frames, Tells, HasAnyHead, RefusesOptionsHead, RefusesOptions, RefusesRaw, HoldsHead}
 use Rattle.icap_client.specs.declared.options.OptionsStage.{OptionsStage}
 use Rattle.icap_client.specs.declared.options.OptionsStage.TheVariants.{Head, Body, Over}
 use Rattle.icap_client.proofs.Heads.{is_head, stands_for}
@@ -309,3 +311,21 @@ refuses_head fault found raw (inr h) s = subst (λ (f : ClientFault). RefusesOpt
 
 pub none_left : (n : ℕ) (xs : List ℕ) → length xs ≤ n → drop n xs ≡ []
 none_left n xs l = drop_of_length-le xs l
+
+-- ---- the request's text, of which so many bytes are out
+
+pub all_out : (n : ℕ) (xs : List ℕ) → drop n xs ≡ [] → length xs ≤ n
+all_out n xs e = let z : length (drop n xs) ≡ 0 = ap (λ (t : List ℕ). length t) e in omega (arith, z, length-drop n xs)
+
+pub more_out : (n m : ℕ) (xs : List ℕ) → drop (n + m) xs ≡ drop m (drop n xs)
+more_out n m xs = sym (drop-drop m n xs)
+
+pub none_more : (n m : ℕ) (xs : List ℕ) → length xs ≤ n + m → drop m (drop n xs) ≡ []
+none_more n m xs l = drop-drop m n xs ∙ none_left (n + m) xs l
+
+pub some_text : (host path : List ℕ) (port : ℕ) → 0 < length (options_request host port path)
+some_text host path port =
+    let front = joined (codes "Encapsulated: null-body=0" ∷ crlf ∷ []) (joined (host_pieces host port) (joined (options_pieces host port path) [])) in
+    let long : length (front ++ crlf) ≡ length front + length crlf = length-append front crlf in
+    let two : length crlf ≡ 2 = refl in
+    omega (arith, long, two)

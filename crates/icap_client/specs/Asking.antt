@@ -1,5 +1,5 @@
 -- What an OPTIONS request and its answer are (RFC 3507, section 4.10), and how far a side is with both.
-use Rattle.std.specs.Prelude.{◌≡◌, ◌≢◌, ℕ, ◌<◌, ◌⊎◌, ⊤, Bool, true, false, List, [], ◌∷◌, ◌++◌, length, codes, Option, Some, None, IfSome, IfNone, IfOk, is_some, option_map, Result, Ok, Err}
+use Rattle.std.specs.Prelude.{◌≡◌, ◌≢◌, ℕ, ◌<◌, ◌≤◌, ◌⊎◌, ⊤, Bool, true, false, List, [], ◌∷◌, ◌++◌, length, codes, Option, Some, None, IfSome, IfNone, IfOk, is_some, option_map, Result, Ok, Err}
 use Rattle.adapt_bytes.specs.Numeral.{numeral}
 use Rattle.icap_chunks.specs.Grammar.{crlf, IsChunked}
 use Rattle.icap_chunks.specs.Machine.{HasRead, end_of, fault_of}
@@ -107,6 +107,10 @@ pub record Asker : Type 0 where
   pub raw : List ℕ
   pub fault : Option ClientFault
   pub room : ℕ
+
+-- of a text of this length so many bytes are out, and its memory has such room: none once all of it is out
+abbrev pub HoldsText : ℕ → ℕ → ℕ → Type 0
+HoldsText out long room = (out ≤ long) × (long ≤ out → room ≡ 0)
 
 -- while a body comes its head is kept, and the body has neither ended nor broken
 abbrev pub HoldsHead : OptionsStage → Option IcapResponse → Type 0

@@ -49,15 +49,15 @@ pub struct OptionsSide {
 }
 
 impl Model for OptionsSide {
-    ghost use Rattle.std.specs.Prelude.{◌≤◌, length, drop, option_map};
+    ghost use Rattle.std.specs.Prelude.{length, drop, option_map, vec_capacity};
     ghost use Rattle.icap_head.specs.Heads.{response_parts};
-    ghost use Rattle.icap_client.specs.Asking.{Asker, HoldsHead};
+    ghost use Rattle.icap_client.specs.Asking.{Asker, HoldsText, HoldsHead};
 
     ghost Value = { Asker };
 
     ghost view = { λ s. record { waiting = drop s.out s.text.items; stage = s.stage; response = option_map response_parts s.response; raw = s.raw.bytes; fault = s.fault; room = s.raw.room } };
 
-    ghost invariant = { λ s. (s.out ≤ length s.text.items) × HoldsHead s.stage s.response };
+    ghost invariant = { λ s. HoldsText s.out (length s.text.items) (vec_capacity s.text) × HoldsHead s.stage s.response };
 }
 
 impl OptionsSide {
@@ -67,6 +67,7 @@ impl OptionsSide {
     ghost use Rattle.icap_client.specs.Asking.{options_request, LetsRoomGo, Frames, HasAnyHead, RefusesOptionsHead, RefusesRaw, HasToAsk, Asks};
 
     /// A request to the service at this host, port and path. NoMemory where its text can't be had.
+    #[tactic(auto, using(crate::proofs::Skipping::some_text))]
     pub fn new(
         alloc: Global,
         host: &[u8],
@@ -94,6 +95,14 @@ impl OptionsSide {
         self.raw.len()
     }
 
+    /// The memory that the request's text holds, in bytes: none once it is out.
+    #[tactic(auto, using(crate::proofs::Skipping::all_out))]
+    pub fn request_room(&self) -> usize
+        ensures { self.now.waiting ≡ [] → result ≡ 0 }
+    {
+        self.text.capacity()
+    }
+
     /// The text that waits.
     fn rest(&self) -> &[u8]
         ensures { result.now ≡ self.now.waiting }
@@ -110,6 +119,25 @@ impl OptionsSide {
         self.out < self.text.len()
     }
 
+    /// Counts bytes of the text that went out. Once all of it is out, its memory is given back.
+    #[tactic(auto, using(crate::proofs::Skipping::more_out, crate::proofs::Skipping::none_more))]
+    fn count_out(&mut self, count: usize)
+        requires { count ≤ length self.old.waiting }
+        ensures waiting { self.new.waiting ≡ drop count self.old.waiting }
+        ensures stage { self.new.stage ≡ self.old.stage }
+        ensures response { self.new.response ≡ self.old.response }
+        ensures raw { self.new.raw ≡ self.old.raw }
+        ensures fault { self.new.fault ≡ self.old.fault }
+        ensures room { self.new.room ≡ self.old.room }
+    {
+        self.out += count;
+        if self.out < self.text.len() {
+            return;
+        }
+        self.text = Vec::new(self.alloc);
+        self.out = 0;
+    }
+
     /// Offers the text that waits.
     fn write<W: Wire>(&mut self, wire: &mut W) -> Result<Option<IcapResponse>, ClientFault>
         requires { 0 < length self.old.waiting }
@@ -121,7 +149,7 @@ impl OptionsSide {
     {
         match wire.try_write(self.rest()) {
             Put::Took(count) => {
-                self.out += count;
+                self.count_out(count);
                 Ok(None)
             }
             Put::Wait => Ok(None),

@@ -1,14 +1,12 @@
 use Rattle.std.proofs.Common.{◌∙◌, ap, sym, refl, List, ℕ, drop}
-use Rattle.std.proofs.lemmas.List.{drop-drop}
-use Rattle.icap_client.specs.Asking.{Asker}
 use Rattle.icap_client.proofs.Asked.{asks_took, asks_later, asks_broken}
 use Rattle.icap_client.proofs.options.OptionsSide.write.Goals as goal
 
 pub returns-in-Took-clause-asks : goal.returns-in-Took-clause-asks
 returns-in-Took-clause-asks g c =
-    asks_took c.args.self.now _ (g.W.Wire.past c.args.wire.now) (g.W.Wire.past c.try_write.new.self) c.rest.result.now c.in-Took.count c.rest.ensures c.requires c.in-Took.ensures.fits c.in-Took.ensures.past
-    (sym (drop-drop c.in-Took.count c.self.inside.out c.self.inside.text.items) ∙ ap (λ (t : List ℕ). drop c.in-Took.count t) (ap (λ (s : Asker). s.waiting) c.self.view_is ∙ sym c.rest.ensures))
-    (ap (λ (s : Asker). s.stage) c.self.view_is) (ap (λ (s : Asker). s.response) c.self.view_is) (ap (λ (s : Asker). s.raw) c.self.view_is)
+    asks_took c.args.self.now c.count_out.new.self (g.W.Wire.past c.args.wire.now) (g.W.Wire.past c.try_write.new.self) c.rest.result.now c.in-Took.count c.rest.ensures c.requires c.in-Took.ensures.fits c.in-Took.ensures.past
+    (c.count_out.ensures.waiting ∙ ap (λ (t : List ℕ). drop c.in-Took.count t) (sym c.rest.ensures))
+    c.count_out.ensures.stage c.count_out.ensures.response c.count_out.ensures.raw
 
 pub returns-in-Wait-clause-asks : goal.returns-in-Wait-clause-asks
 returns-in-Wait-clause-asks g c =
