@@ -40,32 +40,36 @@ pub fn both(alloc: Global, first: &str, second: &str) -> Result<Vec<u8>, AllocEr
     Ok(text)
 }
 
+/// Replies to a preview, each in two texts; the events of each but those of body bytes, and the adapted body.
+const WHOLE: [(&str, &str, &[Event], &[u8]); 2] = [
+    (
+        CONTINUE,
+        CHANGED,
+        &[
+            Event::Heard,
+            Event::Continue,
+            Event::Mod(Payload::Body),
+            Event::AdEnd,
+        ],
+        b"ABCDEF",
+    ),
+    ("", UNCHANGED, &[Event::Heard, Event::NoMod], b""),
+];
+
 #[test]
 fn replies_at_every_cut(rt: HostRuntime) -> Result<(), Fail> {
     let alloc = rt.alloc();
-    let text = both(alloc, CONTINUE, CHANGED)?;
-    let events = [
-        Event::Heard,
-        Event::Continue,
-        Event::Mod(Payload::Body),
-        Event::AdEnd,
-    ];
-    for piece in 1..155 {
-        let state = after_preview().expect(&rt, "a preview");
-        let (told, side) = told(alloc, state, &text, piece, ReadAnswer::Wait, ROOM)?;
-        assert_eq!(rt;
-            told.events.as_slice(),
-            events.as_slice(),
-            "in pieces of {piece}"
-        );
-        assert_eq!(rt;
-            told.body.as_slice(),
-            b"ABCDEF".as_slice(),
-            "in pieces of {piece}"
-        );
-        assert_eq!(rt; told.fault, None);
-        assert!(rt; side.reply_whole());
-        assert_eq!(rt; side.raw_left(), 0);
+    for (first, second, events, body) in WHOLE {
+        let text = both(alloc, first, second)?;
+        for piece in 1..155 {
+            let state = after_preview().expect(&rt, "a preview");
+            let (told, side) = told(alloc, state, &text, piece, ReadAnswer::Wait, ROOM)?;
+            assert_eq!(rt; told.events.as_slice(), events, "in pieces of {piece}");
+            assert_eq!(rt; told.body.as_slice(), body, "in pieces of {piece}");
+            assert_eq!(rt; told.fault, None);
+            assert!(rt; side.reply_whole());
+            assert_eq!(rt; side.raw_left(), 0);
+        }
     }
     Ok(())
 }
