@@ -23,6 +23,8 @@ pub enum Scene {
     Forwarded(&'static [Step]),
     /// Responses are adapted.
     Adapted(&'static [Step]),
+    /// Requests and responses are adapted.
+    AllAdapted(&'static [Step]),
     /// Responses are adapted, and the first transaction is held back until a step releases it.
     HeldBack(&'static [Step]),
     /// The service takes one connection: a second user is refused, the first one served, and then a third one.
@@ -72,19 +74,25 @@ fn make_others(rt: &HostRuntime) -> io::Result<Others> {
     })
 }
 
-/// A configuration with the origin's name, and the service's RESPMOD where it is adapted. The addresses that it listens on
+/// A configuration with the origin's name, and the service of each message that is adapted. The addresses that it listens on
 /// aren't used.
 fn configuration(alloc: Global, others: &Others, scene: Scene, more: &str) -> io::Result<Config> {
     let origin = others.origin.local_addr()?.port();
     let service = others.port;
-    let point = match scene {
+    let requests = match scene {
+        Scene::AllAdapted(_) => format!(in alloc;
+            "[reqmod]\nhost = \"127.0.0.1\"\nport = {service}\npath = \"/reqmod/stamp\"\n"
+        )?,
+        _ => String::new(alloc),
+    };
+    let responses = match scene {
         Scene::Forwarded(_) | Scene::ManyUsers => String::new(alloc),
         _ => format!(in alloc;
             "[respmod]\nhost = \"127.0.0.1\"\nport = {service}\npath = \"/respmod/upper\"\n"
         )?,
     };
     let text = format!(in alloc;
-        "listen = \"127.0.0.1:1\"\nadmin = \"127.0.0.1:2\"\n{more}[hosts]\n\"o.test\" = \"127.0.0.1:{origin}\"\n{point}"
+        "listen = \"127.0.0.1:1\"\nadmin = \"127.0.0.1:2\"\n{more}[hosts]\n\"o.test\" = \"127.0.0.1:{origin}\"\n{requests}{responses}"
     )?;
     match read_configuration(alloc, text.as_bytes()) {
         Ok(config) => Ok(config),
@@ -133,9 +141,10 @@ fn play<R: Threads + Sync>(
         _ => gate.answered(),
     }
     match scene {
-        Scene::Forwarded(steps) | Scene::Adapted(steps) | Scene::HeldBack(steps) => {
-            take_all(host, alloc, &mut stage, steps)
-        }
+        Scene::Forwarded(steps)
+        | Scene::Adapted(steps)
+        | Scene::AllAdapted(steps)
+        | Scene::HeldBack(steps) => take_all(host, alloc, &mut stage, steps),
         Scene::OneConnection => one_connection(host, alloc, ports, others),
         Scene::ManyUsers => many_users(rt, host, alloc, ports, others),
     }

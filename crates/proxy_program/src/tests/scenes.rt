@@ -6,9 +6,10 @@ use super::player::Side::{Origin, Service, User};
 use super::player::Step::{Admin, Awaits, Closes, New, On, Releases, Stops};
 use super::player::{Deed, Step};
 use super::texts::{
-    ADAPTED, ALMOST_A_REQUEST, BAD_GATEWAY, BEHIND, CLOSED, CONTINUE, FINAL, FORWARDED, HEAD_END,
-    NO_CONNECTIONS, OFFERED, ONE_CONNECTION, PREVIEWS, REQUEST, RESPONSE, RESPONSE_FRONT, RETAGGED,
-    TIMEOUT, TO_ORIGIN, UNAVAILABLE, UNMODIFIED,
+    ADAPTED, ALMOST_A_REQUEST, BAD_GATEWAY, BEHIND, BY_EXTENSION, CHANGED, CHANGED_TO_ORIGIN,
+    CLOSED, CONTINUE, FINAL, FORWARDED, GO_AHEAD, HEAD_END, NO_CONNECTIONS, OFFERED,
+    ONE_CONNECTION, ONE_REQUEST, POST, POST_TO_ORIGIN, POSTED, PREVIEWS, REQUEST, RESPONSE,
+    RESPONSE_FRONT, RETAGGED, TIMEOUT, TO_ORIGIN, UNAVAILABLE, UNMODIFIED, WAITING_POST,
 };
 use std::test::Fail;
 
@@ -21,6 +22,10 @@ pub const ADAPTS: &[Deed] = &[GetsOffer, Says(CONTINUE), Gets(BEHIND), Says(FINA
 
 /// The service leaves the message as it is.
 const LEAVES: &[Deed] = &[Passes(OFFERED), Says(UNMODIFIED)];
+
+const WAITS: &[Deed] = &[Says(WAITING_POST)];
+
+const SAYS_ONE_REQUEST: &[Deed] = &[Passes(HEAD_END), Says(ONE_REQUEST)];
 
 const SAYS_PREVIEWS: &[Deed] = &[Passes(HEAD_END), Says(PREVIEWS)];
 
@@ -39,6 +44,18 @@ const WORKED: &[Step] = &[
     On(0, &[Gets(ADAPTED), Says(REQUEST)]),
     New(Origin, ANSWERS),
     On(2, ADAPTS),
+    On(0, &[Gets(ADAPTED)]),
+];
+
+/// The service of responses gets the user's own request with the response, and judges by its extension, also where the origin
+/// got another one.
+const CHANGED_REQUEST: &[Step] = &[
+    New(User, ASKS),
+    New(Service, SAYS_ONE_REQUEST),
+    On(1, &[Passes(REQUEST), Says(CHANGED)]),
+    New(Origin, &[Gets(CHANGED_TO_ORIGIN), Says(RESPONSE)]),
+    New(Service, &[Passes(HEAD_END), Says(BY_EXTENSION)]),
+    On(3, ADAPTS),
     On(0, &[Gets(ADAPTED)]),
 ];
 
@@ -121,6 +138,51 @@ const CROWDED: &[Step] = &[
     On(2, &[Gets(FORWARDED)]),
 ];
 
+/// A user that waits to be told to send its body gets the refusal and nothing else where the budget has no room for it. Where
+/// there is room it is told.
+const WAITS_FOR_ROOM: &[Step] = &[
+    Admin("capacity 4096\n", "ok\n"),
+    New(User, WAITS),
+    On(0, IS_REFUSED),
+    Admin("capacity 16384\n", "ok\n"),
+    New(User, WAITS),
+    On(1, &[Gets(GO_AHEAD), Says(b"abc")]),
+    New(
+        Origin,
+        &[Gets(POST_TO_ORIGIN), Gets(b"abc"), Says(RESPONSE)],
+    ),
+    On(1, &[Gets(FORWARDED)]),
+];
+
+/// The same where another shard's user has the only row.
+const WAITS_FOR_A_ROW: &[Step] = &[
+    New(User, &[Says(POST)]),
+    New(Origin, &[Gets(POST_TO_ORIGIN)]),
+    New(User, WAITS),
+    On(2, IS_REFUSED),
+    On(0, &[Says(b"abc")]),
+    On(1, &[Gets(b"abc"), Says(RESPONSE)]),
+    On(0, &[Gets(FORWARDED)]),
+];
+
+/// The same where the only connection of the service has another user's request.
+const WAITS_FOR_THE_SERVICE: &[Step] = &[
+    New(User, &[Says(POST)]),
+    New(Service, SAYS_ONE_REQUEST),
+    On(1, &[Passes(POST)]),
+    New(User, WAITS),
+    On(2, IS_REFUSED),
+    On(0, &[Says(b"abc")]),
+    On(1, &[Passes(POSTED), Says(UNMODIFIED)]),
+    New(
+        Origin,
+        &[Gets(POST_TO_ORIGIN), Gets(b"abc"), Says(RESPONSE)],
+    ),
+    New(Service, SAYS_PREVIEWS),
+    On(4, LEAVES),
+    On(0, &[Gets(FORWARDED)]),
+];
+
 /// The capacity changes.
 const CAPACITY: &[Step] = &[
     Admin("capacity 4096\n", "ok\n"),
@@ -197,9 +259,19 @@ pub const HELD_BACK: &[Step] = &[
     On(0, &[Gets(ADAPTED)]),
 ];
 
+/// Scenes with a user for whom there is no room, and lines of their configuration.
+const NO_ROOM: &[(Scene, &str)] = &[
+    (Scene::Forwarded(CROWDED), "rows = 1\nshards = 1\n"),
+    (Scene::Forwarded(WAITS_FOR_ROOM), ""),
+    (Scene::Forwarded(WAITS_FOR_A_ROW), "rows = 1\nshards = 2\n"),
+    (Scene::AllAdapted(WAITS_FOR_THE_SERVICE), "shards = 1\n"),
+];
+
 #[test]
 fn the_worked_exchange(rt: HostRuntime) -> Result<(), Fail> {
-    assert!(rt; goes_well(&rt, &rt, Scene::Adapted(WORKED), "allow_limit = 0\n")?);
+    for scene in [Scene::Adapted(WORKED), Scene::AllAdapted(CHANGED_REQUEST)] {
+        assert!(rt; goes_well(&rt, &rt, scene, "allow_limit = 0\n")?);
+    }
     Ok(())
 }
 
@@ -235,8 +307,9 @@ fn a_request_begins_anew_behind_an_idle_connection(rt: HostRuntime) -> Result<()
 
 #[test]
 fn a_user_for_whom_there_is_no_room_gets_the_refusal(rt: HostRuntime) -> Result<(), Fail> {
-    let lines = "rows = 1\nshards = 1\n";
-    assert!(rt; goes_well(&rt, &rt, Scene::Forwarded(CROWDED), lines)?);
+    for (scene, lines) in NO_ROOM {
+        assert!(rt; goes_well(&rt, &rt, *scene, *lines)?);
+    }
     Ok(())
 }
 

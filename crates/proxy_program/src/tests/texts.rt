@@ -68,3 +68,35 @@ HTTP/1.1 200 OK\r\nContent-Length: 6\r\n\r\n6\r\nABCDEF\r\n0\r\n\r\n";
 
 /// The request but for its last byte.
 pub const ALMOST_A_REQUEST: &[u8] = b"GET http://o.test/a.txt HTTP/1.1\r\nHost: o.test\r\n\r";
+
+/// A request with a body of three bytes.
+pub const POST: &[u8] =
+    b"POST http://o.test/a.txt HTTP/1.1\r\nHost: o.test\r\nContent-Length: 3\r\n\r\n";
+
+/// The same, of a user that waits to be told to send the body.
+pub const WAITING_POST: &[u8] = b"POST http://o.test/a.txt HTTP/1.1\r\nHost: o.test\r\n\
+Expect: 100-continue\r\nContent-Length: 3\r\n\r\n";
+
+/// What such a user is told.
+pub const GO_AHEAD: &[u8] = b"HTTP/1.1 100 Continue\r\n\r\n";
+
+pub const POST_TO_ORIGIN: &[u8] = b"POST /a.txt HTTP/1.1\r\nHost: o.test\r\nContent-Length: 3\r\n\
+Connection: close\r\nVia: 1.1 adaptproxy\r\n\r\n";
+
+/// The body of those requests, as the service of requests gets it.
+pub const POSTED: &[u8] = b"3\r\nabc\r\n0\r\n\r\n";
+
+/// The options of the service of requests: one connection.
+pub const ONE_REQUEST: &[u8] = b"ICAP/1.0 200 OK\r\nMethods: REQMOD\r\nISTag: \"adapt-1\"\r\n\
+Max-Connections: 1\r\nEncapsulated: null-body=0\r\n\r\n";
+
+/// Another request in place of the worked one, of another path and with another Host.
+pub const CHANGED: &[u8] = b"ICAP/1.0 200 OK\r\nISTag: \"adapt-1\"\r\n\
+Encapsulated: req-hdr=0, null-body=32\r\n\r\nGET /b.exe HTTP/1.1\r\nHost: b\r\n\r\n";
+
+pub const CHANGED_TO_ORIGIN: &[u8] =
+    b"GET /b.exe HTTP/1.1\r\nHost: o.test\r\nConnection: close\r\nVia: 1.1 adaptproxy\r\n\r\n";
+
+/// Previews for the worked request's extension, and nothing for the other one's.
+pub const BY_EXTENSION: &[u8] = b"ICAP/1.0 200 OK\r\nMethods: RESPMOD\r\nISTag: \"adapt-1\"\r\n\
+Preview: 4\r\nTransfer-Preview: txt\r\nTransfer-Ignore: exe\r\nEncapsulated: null-body=0\r\n\r\n";
