@@ -21,6 +21,7 @@ mod pools;
 mod running;
 mod seats;
 mod shard;
+mod starting;
 mod steps;
 mod telling;
 mod turns;
