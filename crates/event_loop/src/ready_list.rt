@@ -1,6 +1,6 @@
 //! Exchanges whose turns were cut short.
 
-ghost use Rattle.std.specs.Prelude.{◌≡◌, ◌++◌, ◌∷◌, [], OnOk, OnErr};
+ghost use Rattle.std.specs.Prelude.{◌≡◌, ◌++◌, ◌∷◌, [], OnOk, OnErr, Contains};
 
 use std::alloc::{AllocError, Global};
 
@@ -31,11 +31,16 @@ impl ReadyList {
         self.keys.len()
     }
 
-    /// Adds an exchange, behind the others. `Err` where no memory was found.
+    /// Adds an exchange, behind the others, if it isn't there. `Err` where no memory was found.
     pub fn add(&mut self, key: usize) -> Result<(), AllocError>
-        ensures ok { OnOk result (self.new.keys.items ≡ self.old.keys.items ++ key ∷ []) }
+        ensures there { Contains self.old.keys.items key → self.new.keys.items ≡ self.old.keys.items }
+        ensures ok { (Contains self.old.keys.items key → ⊥)
+            → OnOk result (self.new.keys.items ≡ self.old.keys.items ++ key ∷ []) }
         ensures err { OnErr result (self.new.keys.items ≡ self.old.keys.items) }
     {
+        if self.keys.contains(&key) {
+            return Ok(());
+        }
         self.keys.push(key)?;
         Ok(())
     }
