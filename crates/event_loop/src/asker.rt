@@ -4,6 +4,9 @@ use crate::admin_lines::{MAX_ADMIN_LINE, Request, read_request};
 use std::alloc::{AllocError, Global};
 use wire_kit::{Got, Put, Wire};
 
+/// The most bytes of answers that wait for a connection: while more do, none of its lines is read.
+const MAX_UNREAD: usize = 65_536;
+
 /// What the administrator's connection said.
 #[derive(Clone, Copy, Debug, PartialEq, Eq)]
 pub enum Heard {
@@ -50,8 +53,12 @@ impl<W: Wire + Drop> Asker<W> {
         }
     }
 
-    /// Reads up to the next line. `Err` where no memory was found for it.
+    /// Reads up to the next line, but none while the answers of earlier ones aren't taken. `Err` where no memory was found
+    /// for it.
     pub fn hear(&mut self) -> Result<Heard, AllocError> {
+        if self.out.len() > MAX_UNREAD {
+            return Ok(Heard::Waiting);
+        }
         for _ in 0..MAX_ADMIN_LINE + 2 {
             if let Some(heard) = self.next_line() {
                 return Ok(heard);

@@ -7,25 +7,49 @@ use mio::{Registry, Token};
 use slab::Slab;
 use socket_wire::{Readiness, SocketWire};
 use std::alloc::{AllocError, Global};
+use std::mem;
 use std::sync::Arc;
 
-/// The most of them at once.
-const MAX_ASKERS: usize = 16;
+/// The most of them at once. Each key is below it.
+pub(crate) const MAX_ASKERS: usize = 16;
 
 /// Lines heard of one connection before others get their turn.
 pub(crate) const LINES: u32 = 64;
 
-/// A connection, and what its poll has told of it.
+/// A connection, what its poll has told of it, and when it was heard last.
 #[derive(Drop)]
 struct Seat {
     ready: Arc<Readiness>,
     asker: Asker<SocketWire>,
+    heard: u64,
+}
+
+impl Seat {
+    /// What the connection says next, once what waits to be written to it is out of the way.
+    fn hear(&mut self, turn: u64) -> Heard {
+        if !self.asker.flush() {
+            return Heard::Over;
+        }
+        match self.asker.hear() {
+            Ok(heard) => {
+                if heard != Heard::Waiting {
+                    self.heard = turn;
+                }
+                heard
+            }
+            Err(_) => Heard::Over,
+        }
+    }
 }
 
 /// The administrator's connections, each under its key.
 #[derive(Drop)]
 pub(crate) struct Askers {
     seats: Slab<Seat>,
+    /// How often one of them was heard, or came.
+    turns: u64,
+    /// Whether one may have said more than was heard.
+    behind: bool,
 }
 
 /// The token of a key: none of an exchange's connections has it.
@@ -37,25 +61,58 @@ impl Askers {
     pub(crate) fn new(alloc: Global) -> Askers {
         Askers {
             seats: Slab::new(alloc),
+            turns: 0,
+            behind: false,
         }
     }
 
-    /// Takes in the connections that wait, as many as there are seats for: others are closed.
+    /// The next turn.
+    fn next_turn(&mut self) -> u64 {
+        self.turns = self.turns.saturating_add(1);
+        self.turns
+    }
+
+    /// The connection of which nothing was heard for longest.
+    fn most_silent(&self) -> Option<usize> {
+        let mut silent = None;
+        let mut since = u64::MAX;
+        for key in 0..MAX_ASKERS {
+            if let Some(seat) = self.seats.get(key)
+                && seat.heard < since
+            {
+                silent = Some(key);
+                since = seat.heard;
+            }
+        }
+        silent
+    }
+
+    /// Frees a seat where all are taken: the most silent connection is closed.
+    fn make_room(&mut self) {
+        if self.seats.len() >= MAX_ASKERS
+            && let Some(key) = self.most_silent()
+        {
+            self.leave(key);
+        }
+    }
+
+    /// Takes in the connections that wait. Where all seats are taken, each takes that of the most silent one.
     pub(crate) fn accept(&mut self, alloc: Global, listening: &mut Listening, registry: &Registry) {
         for _ in 0..MAX_ASKERS {
             let Accepted::One(stream) = listening.accept() else {
                 return;
             };
-            if self.seats.len() < MAX_ASKERS
-                && let Ok(ready) = Arc::new(alloc, Readiness::new())
+            self.make_room();
+            if let Ok(ready) = Arc::new(alloc, Readiness::new())
                 && let Ok(told) = ready.clone()
             {
                 let _ = self.seat(alloc, SocketWire::new(stream, told), ready, registry);
             }
         }
+        listening.rest();
     }
 
-    /// Gives a connection a seat. `Err` where no memory was found, or its events can't be had.
+    /// Gives a connection a seat, if one is free. `Err` where no memory was found, or its events can't be had.
     fn seat(
         &mut self,
         alloc: Global,
@@ -64,13 +121,21 @@ impl Askers {
         registry: &Registry,
     ) -> Result<(), AllocError> {
         let mut wire = wire;
+        let heard = self.next_turn();
         self.seats.reserve(1)?;
         let key = self.seats.vacant_key();
-        if wire.register(registry, token_of(key)).is_err() {
+        if key >= MAX_ASKERS
+            || wire.hurry().is_err()
+            || wire.register(registry, token_of(key)).is_err()
+        {
             return Err(AllocError);
         }
         let asker = Asker::new(alloc, wire);
-        let _ = self.seats.insert_reserved(Seat { ready, asker });
+        let _ = self.seats.insert_reserved(Seat {
+            ready,
+            asker,
+            heard,
+        });
         Ok(())
     }
 
@@ -81,32 +146,39 @@ impl Askers {
         }
     }
 
-    /// What a connection asks for next, once what waits to be written to it is out of the way. A connection that is over
-    /// loses its seat; so does one whose line is too long, which is answered as bad.
+    /// What a connection asks for next. A connection that is over loses its seat; so does one whose line is too long, which
+    /// is answered as bad.
     pub(crate) fn hear(&mut self, key: usize) -> Option<Request> {
-        let heard = match self.seats.get_mut(key) {
-            Some(seat) => {
-                if seat.asker.flush() {
-                    seat.asker.hear()
-                } else {
-                    Ok(Heard::Over)
-                }
-            }
-            None => return None,
-        };
+        let turn = self.next_turn();
+        let heard = self.seats.get_mut(key)?.hear(turn);
         match heard {
-            Ok(Heard::Asked(request)) => Some(request),
-            Ok(Heard::Waiting) => None,
-            Ok(Heard::TooLong) => {
+            Heard::Asked(request) => Some(request),
+            Heard::Waiting => None,
+            Heard::TooLong => {
                 self.say(key, b"bad\n");
                 self.leave(key);
                 None
             }
-            Ok(Heard::Over) | Err(_) => {
+            Heard::Over => {
                 self.leave(key);
                 None
             }
         }
+    }
+
+    /// Takes note that a connection may have said more than was heard: no event tells of that.
+    pub(crate) fn fall_behind(&mut self) {
+        self.behind = true;
+    }
+
+    /// Whether a connection may have said more than was heard.
+    pub(crate) fn are_behind(&self) -> bool {
+        self.behind
+    }
+
+    /// The same, before they are heard on.
+    pub(crate) fn catch_up(&mut self) -> bool {
+        mem::replace(&mut self.behind, false)
     }
 
     /// Says an answer. A connection that can't take it loses its seat.
@@ -123,7 +195,8 @@ impl Askers {
         }
     }
 
-    fn leave(&mut self, key: usize) {
+    /// Closes a connection.
+    pub(crate) fn leave(&mut self, key: usize) {
         let _ = self.seats.try_remove(key);
     }
 }

@@ -3,8 +3,9 @@
 ghost use Rattle.std.specs.Prelude.{◌≡◌, ◌<◌, ◌%◌, length};
 
 use crate::admin_lines::Request;
-use crate::askers::{Askers, LINES};
-use crate::inbox::{Handed, Inbox};
+use crate::askers::{Askers, LINES, MAX_ASKERS};
+use crate::ended::LoopFault;
+use crate::inbox::{Handed, Inbox, stop_all};
 use crate::listening::{Accepted, Listening};
 use crate::ready_list::ReadyList;
 use crate::work::{Driven, Told, Work};
@@ -111,7 +112,7 @@ impl<K: Work> EventLoop<K> {
 
     /// How long the next wait may be.
     fn patience(&self) -> Option<Duration> {
-        if !self.ready.is_empty() {
+        if !self.ready.is_empty() || self.askers.are_behind() {
             return Some(Duration::from_millis(0));
         }
         let rests = match &self.ports {
@@ -127,8 +128,30 @@ impl<K: Work> EventLoop<K> {
         }
     }
 
-    /// Runs until it is handed `Stop`. `Err` where the system fails its poll or its clock, or no memory was found.
-    pub(crate) fn run<R: Wait + Dial + Clock>(
+    /// Runs until it is told to stop, or fails: then it tells the others to stop, and answers why. Either way its exchanges
+    /// end.
+    pub(crate) fn run_out<R: Wait + Dial + Clock>(
+        &mut self,
+        rt: &R,
+        alloc: Global,
+        number: usize,
+        inboxes: &[Inbox],
+    ) -> Option<LoopFault>
+        requires { number < length inboxes.now }
+    {
+        let fault = match self.run(rt, alloc, number, inboxes) {
+            Ok(()) => None,
+            Err(error) => {
+                stop_all(inboxes);
+                Some(LoopFault::of(error))
+            }
+        };
+        self.work.halt(rt, self.poll.registry(), self.now);
+        fault
+    }
+
+    /// Runs until it is told to stop. `Err` where the system fails its poll or its clock, or no memory was found.
+    fn run<R: Wait + Dial + Clock>(
         &mut self,
         rt: &R,
         alloc: Global,
@@ -143,10 +166,10 @@ impl<K: Work> EventLoop<K> {
             self.poll.poll(&mut self.events, patience)?;
             let before = self.now;
             self.now = start.elapsed(rt)?.as_secs();
-            if self.turn(rt, alloc, number, inboxes)? {
-                self.work.halt(rt, self.poll.registry(), self.now);
+            if inboxes[number].is_stopping() {
                 return Ok(());
             }
+            self.turn(rt, alloc, number, inboxes)?;
             if before != self.now {
                 self.drive_all(rt)?;
             }
@@ -154,18 +177,19 @@ impl<K: Work> EventLoop<K> {
         unreachable!()
     }
 
-    /// Serves all that was told. True where it was told to stop.
+    /// Serves all that was told.
     fn turn<R: Wait + Dial + Clock>(
         &mut self,
         rt: &R,
         alloc: Global,
         number: usize,
         inboxes: &[Inbox],
-    ) -> io::Result<bool>
+    ) -> io::Result<()>
         requires { number < length inboxes.now }
     {
         self.drive_ready(rt, alloc)?;
-        self.rest_over(rt, alloc, inboxes)?;
+        self.hear_on(rt, inboxes);
+        self.rest_over(rt, alloc, inboxes);
         self.look()?;
         for at in 0..self.seen.len() {
             let Some(event) = self.seen.get(at) else {
@@ -173,14 +197,12 @@ impl<K: Work> EventLoop<K> {
             };
             let event = *event;
             if event.token == WAKER.0 {
-                if self.take_in(rt, inboxes[number].take_all(rt, alloc))? {
-                    return Ok(true);
-                }
+                self.take_in(rt, inboxes[number].take_all(rt, alloc))?;
             } else {
                 self.serve(rt, alloc, inboxes, event)?;
             }
         }
-        Ok(false)
+        Ok(())
     }
 
     /// Notes the events down, as plain words.
@@ -210,7 +232,8 @@ impl<K: Work> EventLoop<K> {
         requires { 0 < length inboxes.now }
     {
         if event.token == LISTENER.0 {
-            return self.accept(rt, inboxes);
+            self.accept(rt, inboxes);
+            return Ok(());
         }
         if event.token == ADMIN.0 {
             self.accept_askers(alloc);
@@ -229,28 +252,28 @@ impl<K: Work> EventLoop<K> {
                 let told = event.told;
                 self.askers
                     .note(key, told.readable, told.writable, told.closed);
-                self.hear(rt, inboxes, key)
+                self.hear(rt, inboxes, key);
+                Ok(())
             }
         }
     }
 
-    /// Accepts connections, and hands them out in rotation.
-    fn accept<R: Wait>(&mut self, rt: &R, inboxes: &[Inbox]) -> io::Result<()>
+    /// Accepts connections, and hands them out in rotation. One for which no memory is found is closed.
+    fn accept<R: Wait>(&mut self, rt: &R, inboxes: &[Inbox])
         requires { 0 < length inboxes.now }
     {
         let Some(ports) = &mut self.ports else {
-            return Ok(());
+            return;
         };
         for _ in 0..ACCEPTS {
             let Accepted::One(stream) = ports.users.accept() else {
-                return Ok(());
+                return;
             };
             self.accepted = self.accepted.saturating_add(1);
             let number = self.accepted;
-            inboxes[loop_of(number, inboxes.len())].hand(rt, Handed::User { stream, number })?;
+            let _ = inboxes[loop_of(number, inboxes.len())].hand(rt, Handed { stream, number });
         }
         ports.users.rest();
-        Ok(())
     }
 
     /// Takes in connections of the administrator.
@@ -262,7 +285,7 @@ impl<K: Work> EventLoop<K> {
     }
 
     /// Accepts again where the system refused.
-    fn rest_over<R: Wait>(&mut self, rt: &R, alloc: Global, inboxes: &[Inbox]) -> io::Result<()>
+    fn rest_over<R: Wait>(&mut self, rt: &R, alloc: Global, inboxes: &[Inbox])
         requires { 0 < length inboxes.now }
     {
         let (users, admin) = match &self.ports {
@@ -273,21 +296,17 @@ impl<K: Work> EventLoop<K> {
             self.accept_askers(alloc);
         }
         if users {
-            self.accept(rt, inboxes)
-        } else {
-            Ok(())
+            self.accept(rt, inboxes);
         }
     }
 
-    /// Takes in what was handed to this loop. True where it was told to stop.
-    fn take_in<R: Wait + Dial + Clock>(&mut self, rt: &R, handed: Vec<Handed>) -> io::Result<bool> {
-        for item in handed {
-            match item {
-                Handed::User { stream, number } => self.admit(rt, stream, number)?,
-                Handed::Stop => return Ok(true),
-            }
+    /// Takes in the users that were handed to this loop.
+    fn take_in<R: Wait + Dial + Clock>(&mut self, rt: &R, users: Vec<Handed>) -> io::Result<()> {
+        for user in users {
+            let Handed { stream, number } = user;
+            self.admit(rt, stream, number)?;
         }
-        Ok(false)
+        Ok(())
     }
 
     fn admit<R: Wait + Dial + Clock>(
@@ -329,20 +348,29 @@ impl<K: Work> EventLoop<K> {
         Ok(())
     }
 
-    /// Answers the lines of a connection of the administrator.
-    fn hear<R: Wait>(&mut self, rt: &R, inboxes: &[Inbox], key: usize) -> io::Result<()> {
+    /// Answers the lines of a connection of the administrator. One for whose answer no memory is found is closed.
+    fn hear<R: Wait>(&mut self, rt: &R, inboxes: &[Inbox], key: usize) {
         for _ in 0..LINES {
             match self.askers.hear(key) {
-                Some(Request::Stop) => stop_all(rt, inboxes)?,
+                Some(Request::Stop) => stop_all(inboxes),
                 Some(Request::Bad) => self.askers.say(key, b"bad\n"),
-                Some(request) => {
-                    let answer = self.work.answer(rt, request)?;
-                    self.askers.say(key, answer.as_slice());
-                }
-                None => return Ok(()),
+                Some(request) => match self.work.answer(rt, request) {
+                    Ok(answer) => self.askers.say(key, answer.as_slice()),
+                    Err(_) => self.askers.leave(key),
+                },
+                None => return,
             }
         }
-        Ok(())
+        self.askers.fall_behind();
+    }
+
+    /// Hears the administrator's connections on, where one had more lines than are answered in a turn.
+    fn hear_on<R: Wait>(&mut self, rt: &R, inboxes: &[Inbox]) {
+        if self.askers.catch_up() {
+            for key in 0..MAX_ASKERS {
+                self.hear(rt, inboxes, key);
+            }
+        }
     }
 }
 
@@ -353,12 +381,4 @@ fn loop_of(number: u64, loops: usize) -> usize
     ensures turn { result ≡ number % loops }
 {
     (number % loops as u64) as usize
-}
-
-/// Tells every loop to stop. `Err` where no memory was found to tell one.
-pub fn stop_all<R: Wait>(rt: &R, inboxes: &[Inbox]) -> io::Result<()> {
-    for inbox in inboxes {
-        inbox.hand(rt, Handed::Stop)?;
-    }
-    Ok(())
 }

@@ -59,14 +59,6 @@ impl<T> Slots<T> {
         }
     }
 
-    /// The value of a slot, to be changed in its place.
-    pub fn get_mut(&mut self, number: usize) -> Option<&mut T> {
-        match self.all.get_mut(number) {
-            Some(Some(value)) => Some(value),
-            _ => None,
-        }
-    }
-
     /// All slots, the first one first.
     pub fn into_all(self) -> Vec<Option<T>>
         ensures { result.items ≡ self.all.items }

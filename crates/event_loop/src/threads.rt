@@ -1,8 +1,9 @@
 //! What a loop is made on, and its run in a thread.
 
-use crate::inbox::Inbox;
+use crate::ended::{Ended, LoopFault};
+use crate::inbox::{Inbox, stop_all};
 use crate::listening::Listening;
-use crate::looping::{ADMIN, EventLoop, LISTENER, Ports, WAKER, stop_all};
+use crate::looping::{ADMIN, EventLoop, LISTENER, Ports, WAKER};
 use crate::work::Work;
 use mio::net::TcpListener;
 use mio::{Poll, Waker};
@@ -40,7 +41,7 @@ pub fn add_loop<R: Net>(
 }
 
 /// Runs a loop on this base over this work, in its caller's thread, until it is told to stop or fails. One that fails, or
-/// for which no memory is found, tells all others to stop. The work comes back: in `Err` where no memory was found.
+/// for which no memory is found, tells all others to stop, and its own exchanges end as at a stop. The work comes back.
 pub fn run_loop<K: Work, R: Wait + Dial + Clock>(
     rt: &R,
     alloc: Global,
@@ -48,19 +49,30 @@ pub fn run_loop<K: Work, R: Wait + Dial + Clock>(
     base: Base,
     work: K,
     inboxes: &[Inbox],
-) -> Result<K, K> {
+) -> Ended<K> {
     let Base { poll, ports } = base;
     match EventLoop::new(alloc, poll, ports, work) {
-        Ok(one) => {
+        Ok(one) if number < inboxes.len() => {
             let mut one = one;
-            if number < inboxes.len() && one.run(rt, alloc, number, inboxes).is_err() {
-                let _ = stop_all(rt, inboxes);
+            let fault = one.run_out(rt, alloc, number, inboxes);
+            Ended {
+                work: one.into_work(),
+                fault,
             }
-            Ok(one.into_work())
+        }
+        Ok(one) => {
+            stop_all(inboxes);
+            Ended {
+                work: one.into_work(),
+                fault: Some(LoopFault::System),
+            }
         }
         Err(work) => {
-            let _ = stop_all(rt, inboxes);
-            Err(work)
+            stop_all(inboxes);
+            Ended {
+                work,
+                fault: Some(LoopFault::NoMemory),
+            }
         }
     }
 }

@@ -8,7 +8,7 @@ use Rattle.proxy_config.specs.declared.config.Config.{Config as Configuration}
 use Rattle.proxy_config.specs.declared.fault.ConfigFault.TheVariants.{Text as NoDocument, Key as AtKey}
 use Rattle.proxy_program.specs.declared.error.Error.TheVariants.{Usage, ReadFailed, WriteFailed, InputTooLong, Line, NoMemory}
 use Rattle.proxy_program.specs.declared.serve_error.ServeError.{ServeError}
-use Rattle.proxy_program.specs.declared.serve_error.ServeError.TheVariants.{Ended, Config, Key, CannotListen, AuditMissing}
+use Rattle.proxy_program.specs.declared.serve_error.ServeError.TheVariants.{Ended, Config, Key, CannotListen, CannotServe, AuditMissing}
 use Rattle.proxy_program.specs.Serve.{IsConfigured, IsUnconfigured}
 use Rattle.proxy_program.proofs.ArgumentForms.{one_word}
 use Rattle.proxy_program.proofs.Runs.{whole, more}
@@ -54,6 +54,7 @@ refused bytes input Config read h =
 refused bytes input (Key key) read h =
     subst (λ (x : List ℕ). (length x ≤ 1048576) × Refuses x (AtKey key)) (sym (whole bytes input read h.0)) h
 refused bytes input CannotListen read h = absurd h
+refused bytes input CannotServe read h = absurd h
 refused bytes input AuditMissing read h = absurd h
 
 pub unconfigured : (known : Option (List ℕ)) (input : List ℕ) (r : Result Configuration ServeError) → IfSome known (λ bytes. input ≡ take 1048577 bytes)

@@ -10,7 +10,7 @@ use Rattle.proxy_config.specs.declared.fault.ConfigFault.TheVariants.{Text as No
 use Rattle.shard_loop.specs.declared.audit.StopAudit.{StopAudit}
 use Rattle.proxy_program.specs.declared.error.Error.TheVariants.{InputTooLong, NoMemory, ReadFailed}
 use Rattle.proxy_program.specs.declared.serve_error.ServeError.{ServeError}
-use Rattle.proxy_program.specs.declared.serve_error.ServeError.TheVariants.{Ended, Config, Key, CannotListen, AuditMissing}
+use Rattle.proxy_program.specs.declared.serve_error.ServeError.TheVariants.{Ended, Config, Key, CannotListen, CannotServe, AuditMissing}
 
 -- the word `serve` alone
 abbrev pub AsksToServe : List (List ℕ) → Type 0
@@ -38,6 +38,7 @@ IsUnconfigured text (Ended other) = ⊥
 IsUnconfigured text Config = (length text ≤ 1048576) × Refuses text NoDocument
 IsUnconfigured text (Key key) = (length text ≤ 1048576) × Refuses text (AtKey key)
 IsUnconfigured text CannotListen = ⊥
+IsUnconfigured text CannotServe = ⊥
 IsUnconfigured text AuditMissing = ⊥
 
 -- the line that is printed at the end

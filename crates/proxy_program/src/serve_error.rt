@@ -1,13 +1,14 @@
-//! Why `serve` ends without its audit.
+//! Why `serve` ends where nobody stopped it.
 
 ghost use Rattle.std.specs.Prelude.{◌≡◌, OnOk};
 ghost use Rattle.std.specs.Io.KnownBytes.{Appends};
-ghost use Rattle.proxy_program.specs.ServeErrors.{serve_error_text, serve_status_of};
+ghost use Rattle.proxy_program.specs.ServeErrors.{serve_error_text, serve_error_of, serve_status_of};
 
 use crate::error::Error;
+use shard_loop::ServeFault;
 use std::io::{self, Write};
 
-/// Why `serve` ends without its audit: its line on standard error, and its exit status.
+/// Why `serve` ends where nobody stopped it, or without its audit: its line on standard error, and its exit status.
 #[derive(Debug, Drop)]
 pub enum ServeError {
     /// What any command may end with.
@@ -18,11 +19,25 @@ pub enum ServeError {
     Key(String),
     /// An address can't be listened on.
     CannotListen,
+    /// The system fails a loop.
+    CannotServe,
     /// A reservation or a lease was out that nobody gave back.
     AuditMissing,
 }
 
 impl ServeError {
+    /// The error that a fault of the proxy's ends the program with.
+    pub fn of(fault: ServeFault) -> ServeError
+        ensures { result ≡ serve_error_of fault }
+    {
+        match fault {
+            ServeFault::System => ServeError::CannotListen,
+            ServeFault::Loop => ServeError::CannotServe,
+            ServeFault::Missing => ServeError::AuditMissing,
+            ServeFault::NoMemory => ServeError::Ended(Error::NoMemory),
+        }
+    }
+
     /// The exit status: 1 where the system failed, 2 where the configuration is at fault.
     pub fn status(&self) -> u8
         ensures { result ≡ serve_status_of self.now }
@@ -30,7 +45,7 @@ impl ServeError {
         match self {
             ServeError::Ended(error) => error.status(),
             ServeError::Config | ServeError::Key(_) => 2,
-            ServeError::CannotListen | ServeError::AuditMissing => 1,
+            ServeError::CannotListen | ServeError::CannotServe | ServeError::AuditMissing => 1,
         }
     }
 }
@@ -48,6 +63,7 @@ pub fn put_error<W: Write>(error: &ServeError, errors: &mut W) -> io::Result<()>
             errors.write_all(b"\n")
         }
         ServeError::CannotListen => errors.write_all(b"adaptproxy: cannot listen\n"),
+        ServeError::CannotServe => errors.write_all(b"adaptproxy: cannot serve\n"),
         ServeError::AuditMissing => errors.write_all(b"adaptproxy: audit missing\n"),
     }
 }

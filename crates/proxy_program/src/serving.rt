@@ -7,7 +7,7 @@ use crate::serve_error::ServeError;
 use mio::net::TcpListener;
 use proxy_config::Config;
 use service_pool::LEDGER_PARTS;
-use shard_loop::{ServeFault, StopAudit, serve};
+use shard_loop::{Stopped, serve};
 use socket_wire::Dial;
 use span_bank::Blanks;
 use std::alloc::Global;
@@ -38,7 +38,8 @@ pub fn say<W: Write>(output: &mut W, line: &[u8]) -> Result<(), ServeError> {
     }
 }
 
-/// Serves until the administrator says `stop`, and audits. The buffer budget and each pool have ledgers of their own.
+/// Serves until the administrator says `stop` or the system fails a loop, and audits. The buffer budget and each pool have
+/// ledgers of their own.
 pub fn serve_ports<G: Gate + Sync, R: Threads + Wait + Net + Dial + Clock + Sync>(
     rt: &R,
     alloc: Global,
@@ -46,7 +47,7 @@ pub fn serve_ports<G: Gate + Sync, R: Threads + Wait + Net + Dial + Clock + Sync
     users: TcpListener,
     admin: TcpListener,
     gate: &G,
-) -> Result<StopAudit, ServeError> {
+) -> Result<Stopped, ServeError> {
     let ended = serve::<Brand, Brand, Brand, Brand, Brand, Brand, G, R>(
         rt,
         alloc,
@@ -59,10 +60,20 @@ pub fn serve_ports<G: Gate + Sync, R: Threads + Wait + Net + Dial + Clock + Sync
         Blank::new(LEDGER_PARTS),
     );
     match ended {
-        Ok(audit) => Ok(audit),
-        Err(ServeFault::NoMemory) => Err(ServeError::Ended(Error::NoMemory)),
-        Err(ServeFault::System) => Err(ServeError::CannotListen),
-        Err(ServeFault::Missing) => Err(ServeError::AuditMissing),
+        Ok(stopped) => Ok(stopped),
+        Err(fault) => Err(ServeError::of(fault)),
+    }
+}
+
+/// Says what was still out. `Err` where the proxy wasn't stopped, but failed.
+fn say_end<O: Write>(alloc: Global, output: &mut O, stopped: Stopped) -> Result<(), ServeError> {
+    let Ok(line) = audit_line(alloc, stopped.audit) else {
+        return Err(ServeError::Ended(Error::NoMemory));
+    };
+    say(output, line.as_slice())?;
+    match stopped.fault {
+        Some(fault) => Err(ServeError::of(fault)),
+        None => Ok(()),
     }
 }
 
@@ -76,9 +87,6 @@ pub fn serve_from<I: Read + Drop, O: Write, R: Threads + Wait + Net + Dial + Clo
     let config = read_configuration(alloc, reader)?;
     let (users, admin) = listen(rt, &config)?;
     say(output, b"listening\n")?;
-    let audit = serve_ports(rt, alloc, &config, users, admin, &OpenGate)?;
-    match audit_line(alloc, audit) {
-        Ok(line) => say(output, line.as_slice()),
-        Err(_) => Err(ServeError::Ended(Error::NoMemory)),
-    }
+    let stopped = serve_ports(rt, alloc, &config, users, admin, &OpenGate)?;
+    say_end(alloc, output, stopped)
 }

@@ -14,11 +14,22 @@ pub struct StopAudit {
     pub leased: u64,
 }
 
-/// Why the proxy ends without an audit.
+/// How the proxy stopped.
+#[derive(Clone, Copy, Debug, PartialEq, Eq)]
+pub struct Stopped {
+    /// What was still out.
+    pub audit: StopAudit,
+    /// What stopped it, where that wasn't the administrator: a loop failed, and all others were told to stop.
+    pub fault: Option<ServeFault>,
+}
+
+/// Why the proxy can't serve, or not go on.
 #[derive(Clone, Copy, Debug, PartialEq, Eq)]
 pub enum ServeFault {
     /// A poll of the system can't be had.
     System,
+    /// The system fails a loop while it serves.
+    Loop,
     /// A reservation or a lease is missing.
     Missing,
     /// No memory was found.
@@ -29,6 +40,7 @@ impl Display for ServeFault {
     fn fmt<W: fmt::Write>(&self, f: &mut fmt::Formatter<W>) -> fmt::Result {
         f.write_str(match self {
             ServeFault::System => "cannot listen",
+            ServeFault::Loop => "cannot serve",
             ServeFault::Missing => "audit missing",
             ServeFault::NoMemory => "out of memory",
         })

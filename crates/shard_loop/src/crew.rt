@@ -1,11 +1,13 @@
 //! The threads: each makes its work, runs its loop, and hands over what is left.
 
+ghost use Rattle.std.specs.Prelude.{◌≡◌};
+
 use crate::audit::ServeFault;
 use crate::desk::Shared;
 use crate::left::Left;
 use crate::pools::{Pools, Spare};
 use crate::shard::Shard;
-use event_loop::{Base, Inbox, add_loop, run_loop, stop_all};
+use event_loop::{Base, Ended, Inbox, LoopFault, add_loop, run_loop, stop_all};
 use mio::net::TcpListener;
 use proxy_config::Config;
 use service_pool::Pool;
@@ -33,14 +35,37 @@ fn make_bases<R: Net>(
     let mut bases = Vec::new(alloc);
     let mut ports = Some(ports);
     for _ in 0..count {
-        let Ok(base) = add_loop(rt, alloc, ports.take(), inboxes) else {
-            return Err(ServeFault::System);
+        let base = match add_loop(rt, alloc, ports.take(), inboxes) {
+            Ok(base) => base,
+            Err(error) => return Err(start_fault(LoopFault::of(error))),
         };
         if bases.push(Some(base)).is_err() {
             return Err(ServeFault::NoMemory);
         }
     }
     Ok(bases)
+}
+
+/// Why the proxy can't begin, where a loop can't be made.
+fn start_fault(fault: LoopFault) -> ServeFault
+    ensures system { fault ≡ LoopFault.System → result ≡ ServeFault.System }
+    ensures memory { fault ≡ LoopFault.NoMemory → result ≡ ServeFault.NoMemory }
+{
+    match fault {
+        LoopFault::System => ServeFault::System,
+        LoopFault::NoMemory => ServeFault::NoMemory,
+    }
+}
+
+/// Why the proxy can't go on, where a loop failed.
+fn loop_fault(fault: LoopFault) -> ServeFault
+    ensures system { fault ≡ LoopFault.System → result ≡ ServeFault.Loop }
+    ensures memory { fault ≡ LoopFault.NoMemory → result ≡ ServeFault.NoMemory }
+{
+    match fault {
+        LoopFault::System => ServeFault::Loop,
+        LoopFault::NoMemory => ServeFault::NoMemory,
+    }
 }
 
 /// A place from which a thread takes the base of its loop.
@@ -165,7 +190,7 @@ fn run_one<B: Ledgers, Q: Ledger, A: Ledger, G: Gate, K: Place, R: Wait + Dial +
     }
 }
 
-/// Makes a thread's work, and runs its loop over it. One that finds no memory tells all others to stop.
+/// Makes a thread's work, and runs its loop over it. Where either fails, all others are told to stop.
 fn run_base<'a, B: Ledgers, Q: Ledger, A: Ledger, G: Gate, R: Wait + Dial + Clock>(
     rt: &R,
     alloc: Global,
@@ -178,17 +203,14 @@ fn run_base<'a, B: Ledgers, Q: Ledger, A: Ledger, G: Gate, R: Wait + Dial + Cloc
     let bank = shared.bank;
     let pools = shared.pools.again();
     let Ok(shard) = Shard::new(alloc, shared) else {
-        let _ = stop_all(rt, inboxes);
-        left.lock(rt).miss();
+        stop_all(inboxes);
+        left.lock(rt).fail(ServeFault::NoMemory);
         return;
     };
-    let (shard, missed) = match run_loop(rt, alloc, number, base, shard, inboxes) {
-        Ok(shard) => (shard, false),
-        Err(shard) => (shard, true),
-    };
+    let Ended { work, fault } = run_loop(rt, alloc, number, base, shard, inboxes);
     let mut left = left.lock(rt);
-    if missed {
-        left.miss();
+    if let Some(fault) = fault {
+        left.fail(loop_fault(fault));
     }
-    left.take_slots(rt, bank, pools, shard.into_slots());
+    left.take_slots(rt, bank, pools, work.into_slots());
 }

@@ -1,9 +1,9 @@
 //! What is still out when the loops have ended.
 
-ghost use Rattle.std.specs.Prelude.{All};
+ghost use Rattle.std.specs.Prelude.{◌≡◌, All, IfOk, IsSome, None, Some};
 ghost use Rattle.shard_loop.specs.Left.{HoldsNothing};
 
-use crate::audit::{ServeFault, StopAudit};
+use crate::audit::{ServeFault, StopAudit, Stopped};
 use crate::pools::{Leased, Pools, Spare};
 use adapt_bytes::MAX_CONNECTIONS;
 use service_pool::{Lease, Pool};
@@ -12,9 +12,9 @@ use std::alloc::Global;
 use std::sync::Wait;
 use std::sync::ledger::Ledger;
 
-/// The reservations and the leases that are still out, and whether a thread found no memory to begin.
+/// The reservations and the leases that are still out, and why the first thread failed that did.
 pub struct Left<B: Ledgers, Q: Ledger, A: Ledger> {
-    missed: bool,
+    fault: Option<ServeFault>,
     stakes: Vec<Stake<B>>,
     requests: Vec<Lease<Q>>,
     responses: Vec<Lease<A>>,
@@ -73,7 +73,7 @@ impl<B: Ledgers, Q: Ledger, A: Ledger> Left<B, Q, A> {
     /// Nothing yet.
     pub fn new(alloc: Global) -> Left<B, Q, A> {
         Left {
-            missed: false,
+            fault: None,
             stakes: Vec::new(alloc),
             requests: Vec::new(alloc),
             responses: Vec::new(alloc),
@@ -88,9 +88,14 @@ impl<B: Ledgers, Q: Ledger, A: Ledger> Left<B, Q, A> {
             && self.responses.reserve(leases).is_ok()
     }
 
-    /// Takes note of a thread that found no memory to begin.
-    pub fn miss(&mut self) {
-        self.missed = true;
+    /// Takes note of a thread that failed. The first one stands.
+    pub fn fail(&mut self, fault: ServeFault)
+        ensures first { self.old.fault ≡ None → self.new.fault ≡ Some fault }
+        ensures stands { IsSome self.old.fault → self.new.fault ≡ self.old.fault }
+    {
+        if self.fault.is_none() {
+            self.fault = Some(fault);
+        }
     }
 
     /// Keeps a reservation that is still open.
@@ -117,16 +122,18 @@ impl<B: Ledgers, Q: Ledger, A: Ledger> Left<B, Q, A> {
         }
     }
 
-    /// Audits the budget and the pools.
+    /// Audits the budget and the pools, and says why the first thread failed that did.
     pub fn audit<R: Wait>(
         self,
         rt: &R,
         bank: Bank<B>,
         request: Pool<Spare, Q>,
         response: Pool<Spare, A>,
-    ) -> Result<StopAudit, ServeFault> {
+    ) -> Result<Stopped, ServeFault>
+        ensures { IfOk result (λ stopped. stopped.fault ≡ self.fault) }
+    {
         let Left {
-            missed,
+            fault,
             stakes,
             requests,
             responses,
@@ -134,12 +141,14 @@ impl<B: Ledgers, Q: Ledger, A: Ledger> Left<B, Q, A> {
         let requests = audit_pool(rt, request, requests);
         let responses = audit_pool(rt, response, responses);
         match (audit_bank(rt, bank, stakes), requests, responses) {
-            _ if missed => Err(ServeFault::NoMemory),
-            (Some(audit), Some(requests), Some(responses)) => Ok(StopAudit {
-                rows: audit.rows,
-                held: audit.held,
-                leased: requests.saturating_add(responses),
-            }),
+            (Some(audit), Some(requests), Some(responses)) => {
+                let audit = StopAudit {
+                    rows: audit.rows,
+                    held: audit.held,
+                    leased: requests.saturating_add(responses),
+                };
+                Ok(Stopped { audit, fault })
+            }
             _ => Err(ServeFault::Missing),
         }
     }

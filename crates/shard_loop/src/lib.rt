@@ -26,5 +26,5 @@ mod steps;
 mod telling;
 mod turns;
 
-pub use audit::{ServeFault, StopAudit};
+pub use audit::{ServeFault, StopAudit, Stopped};
 pub use running::serve;

@@ -4,7 +4,7 @@ ghost use Rattle.std.specs.Prelude.{◌≡◌, ◌+◌, ◌≤◌};
 ghost use Rattle.adapt_bytes.specs.declared.limits.TheConstants.{MAX_CONNECTIONS};
 ghost use Rattle.service_pool.specs.declared.step.TheConstants.{LEDGER_PARTS};
 
-use crate::audit::{ServeFault, StopAudit};
+use crate::audit::{ServeFault, Stopped};
 use crate::crew::run_crew;
 use crate::left::Left;
 use crate::pools::Spare;
@@ -47,7 +47,8 @@ fn make_pool<L: Ledger>(
     }
 }
 
-/// Runs the proxy on these ports until the administrator stops it, and audits its budget and its pools.
+/// Runs the proxy on these ports until the administrator stops it or one of its loops fails, and audits its budget and its
+/// pools.
 ///
 /// Each blank of the budget has a part for each transaction that there may be, and one more; those of the pools have
 /// `LEDGER_PARTS`.
@@ -71,7 +72,7 @@ pub fn serve<
     blanks: Blanks,
     reqmod: Blank,
     respmod: Blank,
-) -> Result<StopAudit, ServeFault>
+) -> Result<Stopped, ServeFault>
     requires held { (blanks.held.name ≡ H.name) × (blanks.held.parts ≡ H.parts) }
     requires free { (blanks.free.name ≡ F.name) × (blanks.free.parts ≡ F.parts) }
     requires slack { (blanks.slack.name ≡ S.name) × (blanks.slack.parts ≡ S.parts) }

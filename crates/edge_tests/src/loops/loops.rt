@@ -1,6 +1,6 @@
 //! Loops in threads, over loopback: they echo.
 
-use event_loop::{Base, Driven, Inbox, Request, Told, Work, add_loop, run_loop};
+use event_loop::{Base, Driven, Ended, Inbox, Request, Told, Work, add_loop, run_loop};
 use mio::net::{TcpListener, TcpStream};
 use mio::{Registry, Token};
 use slab::Slab;
@@ -116,20 +116,33 @@ impl Work for Echo {
     }
 }
 
-/// What a client of a port says, and what it is answered, a line each.
-fn ask(rt: &HostRuntime, port: SocketAddr, line: &str) -> io::Result<String> {
-    let mut client = Client::connect(rt, port)?;
-    client.write_all(line.as_bytes())?;
-    let mut text = Vec::new(rt.alloc());
-    let mut piece = [0u8; 64];
-    for _ in 0..64 {
-        let count = client.read(&mut piece)?;
-        text.extend_from_slice(&piece[..count])?;
-        if count == 0 || piece[..count].ends_with(b"\n") {
-            break;
+/// Whether just this comes next.
+fn gets(client: &mut Client, want: &[u8]) -> io::Result<bool> {
+    let mut byte = [0u8; 1];
+    for wanted in want {
+        if client.read(&mut byte)? == 0 || byte[0] != *wanted {
+            return Ok(false);
         }
     }
-    String::from_utf8(text).map_err(|_| io::Error::from(io::ErrorKind::InvalidData))
+    Ok(true)
+}
+
+/// Whether a client of a port that says this is answered so, and so many times.
+fn answers(
+    rt: &HostRuntime,
+    port: SocketAddr,
+    said: &[u8],
+    want: &[u8],
+    times: u32,
+) -> io::Result<bool> {
+    let mut client = Client::connect(rt, port)?;
+    client.write_all(said)?;
+    for _ in 0..times {
+        if !gets(&mut client, want)? {
+            return Ok(false);
+        }
+    }
+    Ok(true)
 }
 
 /// Echoes in this thread until it is told to stop.
@@ -148,7 +161,8 @@ fn run_echo<R: Wait + Dial + Clock>(
         alloc,
         all: Slab::new(alloc),
     };
-    if run_loop(rt, alloc, number, base, echo, inboxes).is_ok() {
+    let Ended { work: _, fault } = run_loop(rt, alloc, number, base, echo, inboxes);
+    if fault.is_none() {
         let mut ended = ended.lock(rt);
         *ended = ended.saturating_add(1);
     }
@@ -164,17 +178,36 @@ fn make(
     Ok([Some(first), Some(second)])
 }
 
-/// Five users, one after another, and the administrator.
-fn users(rt: &HostRuntime, port: SocketAddr, admin: SocketAddr) -> io::Result<bool> {
-    let long = "0123456789012345678901234567890123456789012345678901234567890123456789\n";
-    let mut right = true;
-    for _ in 0..3 {
-        right = right && ask(rt, port, "hello\n")?.as_str() == "hello\n";
-        right = right && ask(rt, port, long)?.as_str() == long;
+/// As many administrators as there are seats for, who say nothing.
+fn silent(rt: &HostRuntime, admin: SocketAddr) -> io::Result<Vec<Client>> {
+    let mut all = Vec::new(rt.alloc());
+    for _ in 0..16 {
+        all.push(Client::connect(rt, admin)?)?;
     }
-    right = right && ask(rt, admin, "book\n")?.as_str() == "a book\n";
-    right = right && ask(rt, admin, "capacity 7\n")?.as_str() == "ok\n";
-    right = right && ask(rt, admin, "capacity 0\n")?.as_str() == "bad\n";
+    Ok(all)
+}
+
+/// Users, one after another, and administrators, behind others that have taken all seats.
+fn users(rt: &HostRuntime, port: SocketAddr, admin: SocketAddr) -> io::Result<bool> {
+    let long =
+        b"0123456789012345678901234567890123456789012345678901234567890123456789\n".as_slice();
+    let hello = b"hello\n".as_slice();
+    let lines = [b'\n'; 70];
+    let _silent = silent(rt, admin)?;
+    let rows = [
+        (port, hello, hello, 1),
+        (port, hello, hello, 1),
+        (port, long, long, 1),
+        (port, long, long, 1),
+        (admin, b"book\n".as_slice(), b"a book\n".as_slice(), 1),
+        (admin, b"capacity 7\n".as_slice(), b"ok\n".as_slice(), 1),
+        (admin, b"capacity 0\n".as_slice(), b"bad\n".as_slice(), 1),
+        (admin, lines.as_slice(), b"bad\n".as_slice(), 70),
+    ];
+    let mut right = true;
+    for (port, said, want, times) in &rows {
+        right = right && answers(rt, *port, *said, *want, *times)?;
+    }
     let mut client = Client::connect(rt, admin)?;
     client.write_all(b"stop\n")?;
     Ok(right)

@@ -151,6 +151,13 @@ fn errors_of_serve_are_one_line(rt: HostRuntime) -> Result<(), Fail> {
     assert!(rt;
         is_told(
             alloc,
+            ServeError::CannotServe,
+            b"adaptproxy: cannot serve\n"
+        )?
+    );
+    assert!(rt;
+        is_told(
+            alloc,
             ServeError::AuditMissing,
             b"adaptproxy: audit missing\n"
         )?

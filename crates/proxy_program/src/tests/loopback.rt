@@ -6,7 +6,7 @@ use crate::serve::read_configuration;
 use crate::serving::serve_ports;
 use mio::net::TcpListener as Listener;
 use proxy_config::Config;
-use shard_loop::StopAudit;
+use shard_loop::{StopAudit, Stopped};
 use socket_wire::Dial;
 use std::alloc::Global;
 use std::io::{self, ErrorKind, Write};
@@ -113,11 +113,14 @@ pub fn stop(rt: &HostRuntime, ports: Ports) -> io::Result<()> {
     stream.write_all(b"stop\n")
 }
 
-/// Nothing was out.
-const NOTHING: StopAudit = StopAudit {
-    rows: 0,
-    held: 0,
-    leased: 0,
+/// Nothing was out, and the administrator stopped the proxy.
+const STOPPED: Stopped = Stopped {
+    audit: StopAudit {
+        rows: 0,
+        held: 0,
+        leased: 0,
+    },
+    fault: None,
 };
 
 /// Plays a scene. Whether all got what they should.
@@ -161,13 +164,13 @@ pub fn goes_well<
     let (made, ports) = listeners(host)?;
     let gate = HoldGate::new();
     let mut made = Some(made);
-    let mut audit = None;
+    let mut stopped = None;
     let mut right = false;
     thread::join_mut(
         rt,
         &mut || {
             if let Some((users, admin)) = made.take() {
-                audit = serve_ports(rt, alloc, &config, users, admin, &gate).ok();
+                stopped = serve_ports(rt, alloc, &config, users, admin, &gate).ok();
             }
         },
         &mut || {
@@ -175,5 +178,5 @@ pub fn goes_well<
             let _ = stop(host, ports);
         },
     );
-    Ok(right && audit == Some(NOTHING))
+    Ok(right && stopped == Some(STOPPED))
 }

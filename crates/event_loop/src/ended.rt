@@ -1,0 +1,35 @@
+//! How a loop ends.
+
+ghost use Rattle.std.specs.Prelude.{◌≡◌, ◌↔◌};
+ghost use Rattle.std.specs.IoError.{error_kind};
+
+use std::io::{self, ErrorKind};
+
+/// Why a loop ends before it is told to.
+#[derive(Clone, Copy, Debug, PartialEq, Eq)]
+pub enum LoopFault {
+    /// The system fails it, as its poll or its clock.
+    System,
+    /// No memory was found.
+    NoMemory,
+}
+
+impl LoopFault {
+    /// The fault that an error of the system's tells.
+    pub fn of(error: io::Error) -> LoopFault
+        ensures { (result ≡ LoopFault.NoMemory) ↔ (error_kind error ≡ ErrorKind.OutOfMemory) }
+    {
+        match error.kind() {
+            ErrorKind::OutOfMemory => LoopFault::NoMemory,
+            _ => LoopFault::System,
+        }
+    }
+}
+
+/// A loop that has ended.
+pub struct Ended<K> {
+    /// What it drove.
+    pub work: K,
+    /// Why it ended, where nobody told it to.
+    pub fault: Option<LoopFault>,
+}
