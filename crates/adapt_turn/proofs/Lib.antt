@@ -9,3 +9,4 @@ pub mod Made
 pub mod Together
 pub mod Giving
 pub mod Reasons
+pub mod Rows

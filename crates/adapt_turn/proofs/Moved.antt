@@ -1,8 +1,9 @@
 -- How many bytes went over the wires.
-use Rattle.std.proofs.Common.{◌≡◌, ℕ, zero, suc, ◌+◌, ◌-◌, ◌<◌, ◌^◌, ◌⊎◌, inl, inr, length, Option, Some, None, arith, refl, sym, ◌∙◌, ap, subst}
-use Rattle.std.specs.Prelude.{MatchOption, min}
+use Rattle.std.proofs.Common.{◌≡◌, ℕ, Bool, true, false, zero, suc, ◌+◌, ◌-◌, ◌<◌, ◌^◌, ◌⊎◌, inl, inr, length, Option, Some, None, arith, refl, sym, ◌∙◌, ap, subst}
+use Rattle.std.specs.Prelude.{MatchOption, ⊤, min}
 use Rattle.wire_kit.specs.Past.{Past}
 use Rattle.adapt_turn.specs.Moved.{MovesOver, SumsBytes, AreCounts, counted}
+use Rattle.adapt_turn.specs.Rows.{BytesOr}
 
 moves_over : (before after_ : Past → Type 0) (c d : ℕ × ℕ) → AreCounts c before → AreCounts d after_ → MovesOver before after_ (counted c d)
 moves_over before after_ c d f g = λ p q b a.
@@ -77,3 +78,23 @@ moves_none {A} {C} {L} on_source on_line on_next a a' line line' x x' c0 c1 c2 n
 pub refreshed_by : (n : ℕ) (now before : ℕ) (moves : ℕ → Type 0) → (n ≡ 0 → now ≡ before) → moves n → (now ≡ before) ⊎ ((k : ℕ) × (0 < k) × moves k)
 refreshed_by zero now before moves same m = inl (same refl)
 refreshed_by (suc n) now before moves same m = inr (suc n, omega arith, m)
+
+-- where none went over all of them, none went over each
+pub none_over : (source service next : ℕ → Type 0) → SumsBytes source service next 0 → source 0 × service 0 × next 0
+none_over source service next w =
+    let e = w.sum in
+    let a : w.source ≡ 0 = omega (arith, e) in
+    let b : w.service ≡ 0 = omega (arith, e) in
+    let c : w.next ≡ 0 = omega (arith, e) in
+    (subst source a w.source_is, subst service b w.service_is, subst next c w.next_is)
+
+pub waiting_not : (waiting : Bool) → (waiting ≡ true → 0 < 0) → waiting ≡ false
+waiting_not true n = absurd (let e = n refl in omega (arith, e))
+waiting_not false n = refl
+
+-- a line over which no byte went
+pub some_line : {L : Type 0} (past : L → Past → Type 0) (line line' : Option L) (this : Type 0) (p : Past) → MatchOption line ⊤ (λ l. past l p)
+    → MatchOption line (none_moved ≡ 0) (λ l. MovesOver (past l) (λ q. MatchOption line' ⊥ (λ m. past m q)) none_moved)
+    → (line ≡ None → ⊥) → BytesOr this (λ q. MatchOption line ⊥ (λ l. past l q)) (λ q. MatchOption line' ⊥ (λ m. past m q)) → this
+some_line past None line' this p b k n act = absurd (n refl)
+some_line past (Some l) line' this p b k n act = let v = act p b in v.4 (k p v.0 b v.1)

@@ -1,4 +1,5 @@
 pub mod Made
 pub mod Moved
 pub mod Parts
+pub mod Rows
 pub mod Stands

@@ -11,6 +11,7 @@ ghost use Rattle.adapt_sides.specs.Turns.Gift.{nothing};
 ghost use Rattle.adapt_hold.specs.Holding.{shows};
 ghost use Rattle.adapt_turn.specs.Made.{MakesNoneAt, adapted_of, response_of};
 ghost use Rattle.adapt_turn.specs.Parts.{Breaks, IsOfSide, source_cause, service_cause, hop_cause, outcome_by};
+ghost use Rattle.adapt_turn.specs.Rows.{may_step, TookBy, Advances, BytesOr};
 ghost use Rattle.adapt_turn.specs.Stands.{IsChosen, Waited, WaitedBeside, WaitedBoth, Blamed, IsCauseOf};
 
 use crate::forward::Forward;
@@ -59,6 +60,8 @@ impl<B: Ledgers, S: Source, V: Service, K: Hop, F: Forward<S, K>, A: Wire, W: Wi
         ensures over { (cause : Cause) → result.failed ≡ Some cause → (shows self.new.hold.history).closed ≡ true }
         ensures idle { result.waiting ≡ true → result.failed ≡ None }
         ensures waits { result.waiting ≡ true → Waited (S.rests (original_room (shows self.old.hold.history) self.old.hold.claim self.old.hold.limits.window) self.new.source) (λ past. past.read_waits) (A.past self.old.source_wire) (A.past self.new.source_wire) }
+        ensures still { result.waiting ≡ true → self.new.hold ≡ self.old.hold }
+        ensures active { result.waiting ≡ false → BytesOr (Advances (may_step Side.Source) self.old.hold self.new.hold) (A.past self.old.source_wire) (A.past self.new.source_wire) }
         ensures blames { (cause : Cause) → result.failed ≡ Some cause → (S.agrees (shows self.old.hold.history) self.old.source → Blamed Device source_cause cause (S.fault self.old.source) (S.fault self.new.source) (A.past self.old.source_wire) (A.past self.new.source_wire)) }
         ensures of_side { (cause : Cause) → result.failed ≡ Some cause → IsOfSide cause }
         ensures whole { result.broken ≡ false }
@@ -94,12 +97,14 @@ impl<B: Ledgers, S: Source, V: Service, K: Hop, F: Forward<S, K>, A: Wire, W: Wi
         ensures still { result.waiting ≡ true → self.new.hold ≡ self.old.hold }
         ensures waits { result.waiting ≡ true → WaitedBeside (MatchOption self.new.service ⊤ (λ line. V.rests_writing (shows self.old.hold.history) line.side)) (λ past. past.write_waits) (λ past. past.read_waits)
             (λ p. MatchOption self.old.service ⊥ (λ line. W.past line.wire p)) (λ p. MatchOption self.new.service ⊥ (λ line. W.past line.wire p)) }
+        ensures active { result.waiting ≡ false → result.broken ≡ false → BytesOr (Advances (may_step Side.Service) self.old.hold self.new.hold) (λ p. MatchOption self.old.service ⊥ (λ line. W.past line.wire p)) (λ p. MatchOption self.new.service ⊥ (λ line. W.past line.wire p)) }
         ensures blames { (cause : Cause) → result.failed ≡ Some cause → ((p : Past) → MatchOption self.old.service ⊥ (λ line. W.past line.wire p) → MatchOption self.new.service ⊥ (λ line. IsCauseOf service_cause cause (V.fault line.side))) }
         ensures whole { result.waiting ≡ true → result.broken ≡ false }
         ensures of_side { (cause : Cause) → result.failed ≡ Some cause → IsOfSide cause }
         ensures breaks { result.broken ≡ true → MatchOption self.new.service ⊥ (λ line. Breaks self.new.hold.history self.old.reused (V.fault line.side)) }
         ensures outcome { self.new.outcome ≡ outcome_by result.failed }
         ensures served { self.old.service ≡ None → self.new.service ≡ None }
+        ensures absent { self.old.service ≡ None → result.waiting ≡ true }
         ensures timed { (self.new.last_moved ≡ self.old.last_moved) × (self.new.deadline ≡ self.old.deadline) }
         ensures marked { (self.new.broken ≡ self.old.broken) × (self.new.reused ≡ self.old.reused) }
     {
@@ -130,12 +135,16 @@ impl<B: Ledgers, S: Source, V: Service, K: Hop, F: Forward<S, K>, A: Wire, W: Wi
         ensures idle { result.waiting ≡ true → result.failed ≡ None }
         ensures waits { result.waiting ≡ true → WaitedBeside (MatchOption self.new.service ⊤ (λ line. V.rests_reading (shows self.old.hold.history) (adapted_room (shows self.old.hold.history) self.old.hold.limits.window) line.side)) (λ past. past.read_waits) (λ past. past.write_waits)
             (λ p. MatchOption self.old.service ⊥ (λ line. W.past line.wire p)) (λ p. MatchOption self.new.service ⊥ (λ line. W.past line.wire p)) }
+        ensures still { result.waiting ≡ true → self.new.hold ≡ self.old.hold }
+        ensures took { TookBy (may_step Side.Service) self.old.hold self.new.hold }
+        ensures active { result.waiting ≡ false → result.broken ≡ false → BytesOr (Advances (may_step Side.Service) self.old.hold self.new.hold) (λ p. MatchOption self.old.service ⊥ (λ line. W.past line.wire p)) (λ p. MatchOption self.new.service ⊥ (λ line. W.past line.wire p)) }
         ensures rests { (x : Seen) → MatchOption self.old.service ⊤ (λ line. V.rests_writing x line.side) → MatchOption self.new.service ⊤ (λ line. V.rests_writing x line.side) }
         ensures blames { (cause : Cause) → result.failed ≡ Some cause → ((p : Past) → MatchOption self.old.service ⊥ (λ line. W.past line.wire p) → MatchOption self.new.service ⊥ (λ line. IsCauseOf service_cause cause (V.fault line.side))) }
         ensures of_side { (cause : Cause) → result.failed ≡ Some cause → IsOfSide cause }
         ensures breaks { result.broken ≡ true → MatchOption self.new.service ⊥ (λ line. Breaks self.new.hold.history self.old.reused (V.fault line.side)) }
         ensures outcome { self.new.outcome ≡ outcome_by result.failed }
         ensures served { self.old.service ≡ None → self.new.service ≡ None }
+        ensures absent { self.old.service ≡ None → result.waiting ≡ true }
         ensures timed { (self.new.last_moved ≡ self.old.last_moved) × (self.new.deadline ≡ self.old.deadline) }
         ensures marked { (self.new.broken ≡ self.old.broken) × (self.new.reused ≡ self.old.reused) }
     {
@@ -166,11 +175,14 @@ impl<B: Ledgers, S: Source, V: Service, K: Hop, F: Forward<S, K>, A: Wire, W: Wi
         ensures idle { result.waiting ≡ true → result.failed ≡ None }
         ensures waits { result.waiting ≡ true → WaitedBoth (MatchOption self.new.service ⊤ (λ line. V.rests_writing (shows self.old.hold.history) line.side)) (MatchOption self.new.service ⊤ (λ line. V.rests_reading (shows self.old.hold.history) (adapted_room (shows self.old.hold.history) self.old.hold.limits.window) line.side))
             (λ p. MatchOption self.old.service ⊥ (λ line. W.past line.wire p)) (λ p. MatchOption self.new.service ⊥ (λ line. W.past line.wire p)) }
+        ensures still { result.waiting ≡ true → self.new.hold ≡ self.old.hold }
+        ensures active { result.waiting ≡ false → result.broken ≡ false → BytesOr (Advances (may_step Side.Service) self.old.hold self.new.hold) (λ p. MatchOption self.old.service ⊥ (λ line. W.past line.wire p)) (λ p. MatchOption self.new.service ⊥ (λ line. W.past line.wire p)) }
         ensures blames { (cause : Cause) → result.failed ≡ Some cause → ((p : Past) → MatchOption self.old.service ⊥ (λ line. W.past line.wire p) → MatchOption self.new.service ⊥ (λ line. IsCauseOf service_cause cause (V.fault line.side))) }
         ensures of_side { (cause : Cause) → result.failed ≡ Some cause → IsOfSide cause }
         ensures breaks { result.broken ≡ true → MatchOption self.new.service ⊥ (λ line. Breaks self.new.hold.history self.old.reused (V.fault line.side)) }
         ensures outcome { self.new.outcome ≡ outcome_by result.failed }
         ensures served { self.old.service ≡ None → self.new.service ≡ None }
+        ensures absent { self.old.service ≡ None → result.waiting ≡ true }
         ensures timed { (self.new.last_moved ≡ self.old.last_moved) × (self.new.deadline ≡ self.old.deadline) }
         ensures marked { (self.new.broken ≡ self.old.broken) × (self.new.reused ≡ self.old.reused) }
     {
@@ -200,6 +212,11 @@ impl<B: Ledgers, S: Source, V: Service, K: Hop, F: Forward<S, K>, A: Wire, W: Wi
             (λ p. MatchOption self.old.service ⊥ (λ line. W.past line.wire p)) (λ p. MatchOption self.new.service ⊥ (λ line. W.past line.wire p)) }
         ensures waits_next { side ≡ Side.NextHop → result.waiting ≡ true → (IsChosen (shows self.old.hold.history) → ⊥) ⊎ (Waited (K.rests (shows self.old.hold.history) self.new.next) (λ past. past.write_waits) (C.past self.old.next_wire) (C.past self.new.next_wire)
             ⊎ Waited (K.rests (shows self.old.hold.history) self.new.back) (λ past. past.write_waits) (A.past self.old.source_wire) (A.past self.new.source_wire)) }
+        ensures still { result.waiting ≡ true → self.new.hold ≡ self.old.hold }
+        ensures active_source { side ≡ Side.Source → result.waiting ≡ false → BytesOr (Advances (may_step Side.Source) self.old.hold self.new.hold) (A.past self.old.source_wire) (A.past self.new.source_wire) }
+        ensures active_service { side ≡ Side.Service → result.waiting ≡ false → result.broken ≡ false → BytesOr (Advances (may_step Side.Service) self.old.hold self.new.hold) (λ p. MatchOption self.old.service ⊥ (λ line. W.past line.wire p)) (λ p. MatchOption self.new.service ⊥ (λ line. W.past line.wire p)) }
+        ensures active_next { side ≡ Side.NextHop → result.waiting ≡ false → BytesOr (Advances (may_step Side.NextHop) self.old.hold self.new.hold) (C.past self.old.next_wire) (C.past self.new.next_wire)
+            ⊎ BytesOr (Advances (may_step Side.NextHop) self.old.hold self.new.hold) (A.past self.old.source_wire) (A.past self.new.source_wire) }
         ensures blames_source { side ≡ Side.Source → (cause : Cause) → result.failed ≡ Some cause → (S.agrees (shows self.old.hold.history) self.old.source → Blamed Device source_cause cause (S.fault self.old.source) (S.fault self.new.source) (A.past self.old.source_wire) (A.past self.new.source_wire)) }
         ensures blames_service { side ≡ Side.Service → (cause : Cause) → result.failed ≡ Some cause → ((p : Past) → MatchOption self.old.service ⊥ (λ line. W.past line.wire p) → MatchOption self.new.service ⊥ (λ line. IsCauseOf service_cause cause (V.fault line.side))) }
         ensures blames_next { side ≡ Side.NextHop → (cause : Cause) → result.failed ≡ Some cause → ((K.gift self.old.next ≡ nothing) × (K.gift self.old.back ≡ nothing)
@@ -209,6 +226,7 @@ impl<B: Ledgers, S: Source, V: Service, K: Hop, F: Forward<S, K>, A: Wire, W: Wi
         ensures breaks { result.broken ≡ true → (side ≡ Side.Service) × (result.failed ≡ None) × MatchOption self.new.service ⊥ (λ line. Breaks self.new.hold.history self.old.reused (V.fault line.side)) }
         ensures outcome { self.new.outcome ≡ outcome_by result.failed }
         ensures served { self.old.service ≡ None → self.new.service ≡ None }
+        ensures absent { side ≡ Side.Service → self.old.service ≡ None → result.waiting ≡ true }
         ensures timed { (self.new.last_moved ≡ self.old.last_moved) × (self.new.deadline ≡ self.old.deadline) }
         ensures marked { (self.new.broken ≡ self.old.broken) × (self.new.reused ≡ self.old.reused) }
     {

@@ -14,6 +14,7 @@ ghost use Rattle.adapt_sides.specs.Turns.Gift.{nothing};
 ghost use Rattle.adapt_hold.specs.Holding.{shows, moved};
 ghost use Rattle.adapt_turn.specs.Made.{MakesNoneAt, adapted_of, response_of};
 ghost use Rattle.adapt_turn.specs.Parts.{Breaks, source_cause, service_cause, hop_cause, outcome_by};
+ghost use Rattle.adapt_turn.specs.Rows.{may_step, Advances};
 ghost use Rattle.adapt_turn.specs.Stands.{IsChosen, IsDone, Waited, WaitedBoth, Blamed, IsCauseOf};
 
 use crate::forward::Forward;
@@ -73,6 +74,10 @@ impl<B: Ledgers, S: Source, V: Service, K: Hop, F: Forward<S, K>, A: Wire, W: Wi
         ensures closed { (shows self.old.hold.history).closed ≡ true → (self.new.hold ≡ self.old.hold) × (self.new.outcome ≡ self.old.outcome) }
         ensures moved { (n : ℕ) → result ≡ Turned.Moved n → ⟦<Self as Going>⟧.moves self.old self.new n }
         ensures idle { result ≡ Turned.Waiting → ⟦<Self as Going>⟧.moves self.old self.new 0 }
+        ensures held { result ≡ Turned.Waiting → self.new.hold ≡ self.old.hold }
+        ensures active { (shows self.old.hold.history).closed ≡ false → result ≡ Turned.Moved 0
+            → (p q r : Past) → A.past self.old.source_wire p → MatchOption self.old.service ⊤ (λ line. W.past line.wire q) → C.past self.old.next_wire r
+            → Advances (may_step side) self.old.hold self.new.hold }
         ensures moment { (self.new.last_moved ≡ self.old.last_moved) ⊎ (self.new.last_moved ≡ now) }
         ensures clock { (n : ℕ) → result ≡ Turned.Moved n → (shows self.old.hold.history).closed ≡ false → (n ≡ 0 → self.new.last_moved ≡ self.old.last_moved) × (0 < n → self.new.last_moved ≡ now) }
         ensures still { result ≡ Turned.Waiting → self.new.last_moved ≡ self.old.last_moved }
@@ -128,6 +133,7 @@ impl<B: Ledgers, S: Source, V: Service, K: Hop, F: Forward<S, K>, A: Wire, W: Wi
         ensures hold { self.new.hold ≡ self.old.hold }
         ensures outcome { self.new.outcome ≡ self.old.outcome }
         ensures moved { (n : ℕ) → result ≡ Turned.Moved n → n ≡ moved }
+        ensures active { (n : ℕ) → result ≡ Turned.Moved n → (passed.waiting ≡ true → 0 < n) × (passed.broken ≡ false) }
         ensures moment { (self.new.last_moved ≡ self.old.last_moved) ⊎ (self.new.last_moved ≡ now) }
         ensures clock { (moved ≡ 0 → self.new.last_moved ≡ self.old.last_moved) × (0 < moved → self.new.last_moved ≡ now) }
         ensures limit { self.new.deadline ≡ self.old.deadline }

@@ -6,6 +6,10 @@ use Rattle.adapt_turn.proofs.Giving.{next_goes, back_goes, with_heads}
 use Rattle.std.proofs.Common.{inl, inr, refl, sym, ◌∙◌, subst}
 use Rattle.adapt_turn.proofs.Reasons.{part_idle, part_waits, part_blames}
 use Rattle.adapt_turn.proofs.Told.{part_told}
+use Rattle.std.proofs.Common.{length, arith}
+use Rattle.adapt_turn.specs.declared.turned.Side.TheVariants.{NextHop}
+use Rattle.adapt_turn.proofs.Reasons.{part_still}
+use Rattle.adapt_turn.proofs.Rows.{part_acts, of_hop}
 use Rattle.adapt_turn.proofs.tx.Tx.give_pass.Goals as goal
 
 pub returns-then-is_idle-clause-goes : goal.returns-then-is_idle-clause-goes
@@ -51,3 +55,15 @@ invariant_of-self g c = record { roomy = c.give-passed.ensures.roomy; told = c.o
 
 pub invariant_of-self-else-is_idle : goal.invariant_of-self-else-is_idle
 invariant_of-self-else-is_idle g c = record { roomy = c.give-passed-else-is_idle.ensures.roomy; told = c.outcome_by-self-else-is_idle.ensures ∙ part_told _ _ _ _ _ _ _ _ _ _ _ _ _ _ _ _ _ (λ cause. refl) c.state-state.ensures.tied c.requires.running c.give-passed-else-is_idle.ensures.part.part }
+
+pub returns-then-is_idle-clause-still : goal.returns-then-is_idle-clause-still
+returns-then-is_idle-clause-still g c = λ e. part_still _ _ _ _ _ _ _ _ _ _ _ _ _ _ _ _ _ c.give-passed.ensures.part.part e
+
+pub returns-else-is_idle-clause-still : goal.returns-else-is_idle-clause-still
+returns-else-is_idle-clause-still g c = λ e. part_still _ _ _ _ _ _ _ _ _ _ _ _ _ _ _ _ _ c.give-passed-else-is_idle.ensures.part.part e
+
+pub returns-then-is_idle-clause-active : goal.returns-then-is_idle-clause-active
+returns-then-is_idle-clause-active g c = λ w. inl (part_acts NextHop _ _ _ _ _ _ _ _ _ _ _ _ _ _ _ _ _ of_hop (omega arith) c.state-state.ensures.tied c.give-passed.ensures.part.part w c.give-passed.ensures.whole)
+
+pub returns-else-is_idle-clause-active : goal.returns-else-is_idle-clause-active
+returns-else-is_idle-clause-active g c = λ w. inr (part_acts NextHop _ _ _ _ _ _ _ _ _ _ _ _ _ _ _ _ _ of_hop (omega arith) c.state-state.ensures.tied c.give-passed-else-is_idle.ensures.part.part w c.give-passed-else-is_idle.ensures.whole)

@@ -2,6 +2,9 @@ use Rattle.adapt_turn.proofs.Together.{goes_none, goes_then}
 use Rattle.std.proofs.Common.{inl, inr, ◌∙◌}
 use Rattle.adapt_hold.specs.Holding.{shows}
 use Rattle.adapt_turn.proofs.Reasons.{waits_moved, blamed_from}
+use Rattle.adapt_turn.specs.declared.turned.Side.TheVariants.{NextHop}
+use Rattle.adapt_turn.specs.Rows.{may_step}
+use Rattle.adapt_turn.proofs.Rows.{acts_moved, acts_kept, fail_advances}
 use Rattle.adapt_turn.proofs.tx.Tx.next_pass.Goals as goal
 
 pub returns-then-not-is_chosen-clause-goes : goal.returns-then-not-is_chosen-clause-goes
@@ -27,3 +30,15 @@ returns-in-None-clause-blames g c = λ cause e. inr (elim (c.give_pass.ensures.b
   | inl w ↦ inl (blamed_from _ _ cause g.C.Wire.past _ (g.K.Hop.fault c.begin.new.self.next) (g.K.Hop.fault c.args.self.now.next) _ c.begin.new.self.next_wire c.args.self.now.next_wire c.begin.ensures.kept.2 c.begin.ensures.kept.1 w)
   | inr w ↦ inr (blamed_from _ _ cause g.A.Wire.past _ (g.K.Hop.fault c.begin.new.self.back) (g.K.Hop.fault c.args.self.now.back) _ c.begin.new.self.source_wire c.args.self.now.source_wire c.begin.ensures.kept.3 c.begin.ensures.kept.0 w)
 ])
+
+pub returns-in-None-clause-still : goal.returns-in-None-clause-still
+returns-in-None-clause-still g c = λ e. c.give_pass.ensures.still e ∙ c.begin.ensures.begun c.in-None.is
+
+pub returns-in-Some-clause-active : goal.returns-in-Some-clause-active
+returns-in-Some-clause-active g c = λ w. inl (acts_kept _ g.C.Wire.past c.args.self.now.next_wire c.begin.new.self.next_wire c.begin.ensures.kept.1 (fail_advances NextHop c.args.self.now.hold c.begin.new.self.hold c.in-Some.cause c.requires.running (c.begin.ensures.failed c.in-Some.cause c.in-Some.is)))
+
+pub returns-in-None-clause-active : goal.returns-in-None-clause-active
+returns-in-None-clause-active g c = λ w. elim (c.give_pass.ensures.active w) [
+  | inl v ↦ inl (acts_moved (may_step NextHop) c.args.self.now.hold c.begin.new.self.hold c.give_pass.new.self.hold g.C.Wire.past _ c.args.self.now.next_wire c.begin.new.self.next_wire (c.begin.ensures.begun c.in-None.is) c.begin.ensures.kept.1 v)
+  | inr v ↦ inr (acts_moved (may_step NextHop) c.args.self.now.hold c.begin.new.self.hold c.give_pass.new.self.hold g.A.Wire.past _ c.args.self.now.source_wire c.begin.new.self.source_wire (c.begin.ensures.begun c.in-None.is) c.begin.ensures.kept.0 v)
+]

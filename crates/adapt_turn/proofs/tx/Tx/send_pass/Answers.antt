@@ -7,6 +7,9 @@ use Rattle.std.proofs.Common.{Option, refl, ◌∙◌, subst}
 use Rattle.std.specs.Prelude.{MatchOption}
 use Rattle.adapt_turn.specs.declared.start.Line.{Line}
 use Rattle.adapt_turn.proofs.Told.{part_told}
+use Rattle.std.proofs.Common.{length, arith}
+use Rattle.adapt_turn.specs.declared.turned.Side.TheVariants.{Service}
+use Rattle.adapt_turn.proofs.Rows.{part_acts, of_sending, line_acts}
 use Rattle.adapt_turn.proofs.tx.Tx.send_pass.Goals as goal
 
 pub returns-in-Some-clause-goes : goal.returns-in-Some-clause-goes
@@ -39,3 +42,7 @@ returns-in-None-clause-waits g c = λ e p b. absurd (subst (λ (z : Option (Line
 
 pub invariant_of-self : goal.invariant_of-self
 invariant_of-self g c = record { roomy = c.send-passed.ensures.roomy; told = c.outcome_by-self.ensures ∙ part_told _ _ _ _ _ _ _ _ _ _ _ _ _ _ _ _ _ (λ cause. refl) c.state-state.ensures.tied c.requires.running c.send-passed.ensures.part.part }
+
+pub returns-in-Some-clause-active : goal.returns-in-Some-clause-active
+returns-in-Some-clause-active g c = λ w b. line_acts c.args.self.now.service c.in-Some.line (λ l p. g.W.Wire.past l.wire p) _ _ c.in-Some.is
+    (part_acts Service _ _ _ _ _ _ _ _ _ _ _ _ _ _ _ _ _ of_sending (omega arith) c.state-state.ensures.tied c.send-passed.ensures.part.part w b)

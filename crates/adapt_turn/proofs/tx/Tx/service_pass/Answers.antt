@@ -5,6 +5,9 @@ use Rattle.std.specs.Prelude.{MatchOption, ⊤}
 use Rattle.plan_rules.specs.Room.{adapted_room}
 use Rattle.adapt_hold.specs.Holding.{Holding, shows}
 use Rattle.adapt_turn.proofs.Reasons.{both_waited}
+use Rattle.adapt_turn.specs.declared.turned.Side.TheVariants.{Service}
+use Rattle.adapt_turn.specs.Rows.{may_step}
+use Rattle.adapt_turn.proofs.Rows.{then_acts, acts_then}
 use Rattle.adapt_turn.proofs.tx.Tx.service_pass.Goals as goal
 
 pub returns-then-sent-2-clause-goes : goal.returns-then-sent-2-clause-goes
@@ -26,3 +29,20 @@ returns-then-sent-2-clause-blames g c = λ cause e p b. let w = c.send_pass-sent
 
 pub returns-else-sent-2-clause-blames : goal.returns-else-sent-2-clause-blames
 returns-else-sent-2-clause-blames g c = λ cause e p b. let w = c.send_pass-sent.ensures.goes.service p b in c.hear_pass-heard.ensures.blames cause e w.0 w.1
+
+pub returns-then-sent-2-clause-still : goal.returns-then-sent-2-clause-still
+returns-then-sent-2-clause-still g c = λ e. c.hear_pass-heard.ensures.still e ∙ c.send_pass-sent.ensures.still c.if-sent-2.true
+
+pub returns-then-sent-2-clause-active : goal.returns-then-sent-2-clause-active
+returns-then-sent-2-clause-active g c = λ w b. then_acts (may_step Service) c.args.self.now.hold c.send_pass-sent.new.self.hold c.hear_pass-heard.new.self.hold _ _ _ _ _
+    (c.send_pass-sent.ensures.still c.if-sent-2.true) c.send_pass-sent.ensures.goes.service (c.hear_pass-heard.ensures.active w b)
+
+pub returns-then-sent-2-clause-absent : goal.returns-then-sent-2-clause-absent
+returns-then-sent-2-clause-absent g c = λ n. c.hear_pass-heard.ensures.absent (c.send_pass-sent.ensures.served n)
+
+pub returns-else-sent-2-clause-absent : goal.returns-else-sent-2-clause-absent
+returns-else-sent-2-clause-absent g c = λ n. absurd (false≢true (sym c.if-sent-2.false ∙ c.send_pass-sent.ensures.absent n))
+
+pub returns-else-sent-2-clause-active : goal.returns-else-sent-2-clause-active
+returns-else-sent-2-clause-active g c = λ w b. acts_then (may_step Service) c.args.self.now.hold c.send_pass-sent.new.self.hold c.hear_pass-heard.new.self.hold _ _ _ _ _
+    (c.send_pass-sent.ensures.active c.if-sent-2.false c.if-sent.false) c.hear_pass-heard.ensures.goes.service c.hear_pass-heard.ensures.took

@@ -5,6 +5,12 @@ use Rattle.trace_core.specs.History.{History}
 use Rattle.adapt_hold.specs.Holding.{shows}
 use Rattle.adapt_turn.proofs.Reasons.{part_idle, part_waits, part_blames}
 use Rattle.adapt_turn.proofs.Told.{part_told}
+use Rattle.std.proofs.Common.{length, arith}
+use Rattle.trace_core.specs.declared.history.Cause.TheVariants as causes
+use Rattle.adapt_turn.specs.declared.turned.Side.TheVariants.{Source}
+use Rattle.adapt_turn.specs.Rows.{may_step, Advances}
+use Rattle.adapt_turn.proofs.Reasons.{part_still}
+use Rattle.adapt_turn.proofs.Rows.{part_acts, of_source, untouched_or, fail_advances}
 use Rattle.adapt_turn.proofs.tx.Tx.source_pass.Goals as goal
 
 pub returns-then-agrees_with-clause-goes : goal.returns-then-agrees_with-clause-goes
@@ -34,3 +40,12 @@ returns-else-agrees_with-clause-blames g c = λ cause e a. absurd (c.agrees_with
 
 pub invariant_of-self : goal.invariant_of-self
 invariant_of-self g c = record { roomy = c.read_source-passed.ensures.roomy; told = c.outcome_by-self.ensures ∙ part_told _ _ _ _ _ _ _ _ _ _ _ _ _ _ _ _ _ (λ cause. refl) c.state-state.ensures.tied c.requires.running c.read_source-passed.ensures.part.part }
+
+pub returns-then-agrees_with-clause-still : goal.returns-then-agrees_with-clause-still
+returns-then-agrees_with-clause-still g c = λ e. part_still _ _ _ _ _ _ _ _ _ _ _ _ _ _ _ _ _ c.read_source-passed.ensures.part.part e
+
+pub returns-then-agrees_with-clause-active : goal.returns-then-agrees_with-clause-active
+returns-then-agrees_with-clause-active g c = λ w. part_acts Source _ _ _ _ _ _ _ _ _ _ _ _ _ _ _ _ _ of_source (omega arith) c.state-state.ensures.tied c.read_source-passed.ensures.part.part w c.read_source-passed.ensures.whole
+
+pub returns-else-agrees_with-clause-active : goal.returns-else-agrees_with-clause-active
+returns-else-agrees_with-clause-active g c = λ w. untouched_or _ _ (fail_advances Source c.args.self.now.hold c.close-passed.new.hold causes.Source c.requires.running c.close-passed.ensures.moved)

@@ -9,6 +9,11 @@ use Rattle.adapt_turn.proofs.Reasons.{waits_kept, both_kept, blamed_kept, line_k
 use Rattle.adapt_turn.proofs.Moved.{moves_of, moves_none, refreshed_by}
 use Rattle.adapt_turn.specs.declared.turned.Outcome.TheVariants as outcomes
 use Rattle.adapt_turn.proofs.Told.{done_told}
+use Rattle.std.proofs.Common.{refl, subst}
+use Rattle.std.proofs.lemmas.Bool.{false≢true}
+use Rattle.adapt_turn.specs.Rows.{may_step, Advances}
+use Rattle.adapt_turn.proofs.Rows.{by_side, fail_advances}
+use Rattle.adapt_turn.proofs.Moved.{none_over, waiting_not, some_line}
 use Rattle.adapt_turn.proofs.tx.Tx.turn.Goals as goal
 
 pub returns-then-is_broken-clause-goes : goal.returns-then-is_broken-clause-goes
@@ -92,3 +97,26 @@ returns-then-now-self-2-clause-moved g c = λ n e. moves_none g.A.Wire.past (λ 
 
 pub returns-then-is_closed-clause-done : goal.returns-then-is_closed-clause-done
 returns-then-is_closed-clause-done g c = λ e. done_told c.args.self.now.hold c.closed_turn.new.self.hold c.args.self.now.outcome c.args.self.now.told c.closed_turn.ensures.hold (sym c.is_closed.ensures ∙ c.if-is_closed.true) (c.closed_turn.ensures.outcome outcomes.Done e)
+
+pub returns-clause-held : goal.returns-clause-held
+returns-clause-held g c = λ w. c.after_pass.ensures.hold ∙ c.pass-passed.ensures.still (c.after_pass.ensures.waiting w).0
+
+pub returns-then-now-self-2-clause-active : goal.returns-then-now-self-2-clause-active
+returns-then-now-self-2-clause-active g c = λ o e p q r a b d. fail_advances c.args.side c.args.self.now.hold c.fail_by.new.self.hold Deadline o c.fail_by.ensures.hold
+
+pub returns-clause-active : goal.returns-clause-active
+returns-clause-active g c = λ o e p q r a b d.
+    let w = waiting_not c.pass-passed.result.waiting (c.after_pass.ensures.active 0 e).0 in
+    let k = none_over _ _ _ (moves_of g.A.Wire.past (λ l x. g.W.Wire.past l.wire x) g.C.Wire.past c.args.self.now.source_wire c.pass-passed.new.self.source_wire c.pass-passed.new.self.source_wire
+    c.args.self.now.service c.pass-passed.new.self.service c.pass-passed.new.self.service c.args.self.now.next_wire c.pass-passed.new.self.next_wire c.pass-passed.new.self.next_wire _ _ _ _ _ _ 0
+    c.counts-before.ensures.source c.counts.ensures.source c.counts-before.ensures.service c.counts.ensures.service c.counts-before.ensures.next c.counts.ensures.next
+    c.pass-passed.ensures.served refl refl refl (c.after_pass.ensures.moved 0 e ∙ c.since-moved.ensures)) in
+    subst (λ h. Advances (may_step c.args.side) c.args.self.now.hold h) (sym c.after_pass.ensures.hold)
+    (by_side c.args.side (λ side. Advances (may_step side) c.args.self.now.hold c.pass-passed.new.self.hold)
+    (λ s. let v = c.pass-passed.ensures.active_source s w p a in v.4 (k.0 p v.0 a v.1))
+    (λ s. some_line (λ l x. g.W.Wire.past l.wire x) c.args.self.now.service c.pass-passed.new.self.service _ q b k.1
+    (λ n. false≢true (sym w ∙ c.pass-passed.ensures.absent s n)) (c.pass-passed.ensures.active_service s w (c.after_pass.ensures.active 0 e).1))
+    (λ s. elim (c.pass-passed.ensures.active_next s w) [
+      | inl act ↦ (let v = act r d in v.4 (k.2 r v.0 d v.1))
+      | inr act ↦ (let v = act p a in v.4 (k.0 p v.0 a v.1))
+    ]))

@@ -1,0 +1,175 @@
+-- What a pass steps, and that one which moved no byte steps something.
+use Rattle.std.proofs.Common.{◌≡◌, ℕ, ◌+◌, ◌-◌, ◌≤◌, ◌⊎◌, inl, inr, Bool, true, false, ◌||◌, List, [], ◌∷◌, ◌++◌, length, take, drop, Option, Some, None, arith, refl, sym, ◌∙◌, ap, subst}
+use Rattle.std.proofs.lemmas.Bool.{false≢true}
+use Rattle.std.proofs.lemmas.List.{length-append, length-drop, length-take-le}
+use Rattle.std.specs.Prelude.{MatchOption}
+use Rattle.trace_core.specs.declared.history.Seen.{Seen}
+use Rattle.trace_core.specs.declared.history.Event.{Event}
+use Rattle.trace_core.specs.declared.history.Event.TheVariants.{Fail}
+use Rattle.trace_core.specs.declared.history.Cause.{Cause}
+use Rattle.trace_core.specs.View.{after}
+use Rattle.trace_core.specs.Turns.{MayAllFollow, AllAre, is_of_source, is_of_sending, is_of_replies, is_of_hop}
+use Rattle.wire_kit.specs.Past.{Past, IsLater}
+use Rattle.adapt_hold.specs.Holding.{Holding, IsTied, shows, moved, history_then}
+use Rattle.adapt_hold.specs.Steps.{brought, brought_all, HasRoomFor, MayRun, moved_all}
+use Rattle.adapt_hold.proofs.Row.{no_bytes, stays}
+use Rattle.adapt_hold.proofs.Closes.{then_shows}
+use Rattle.adapt_turn.specs.declared.parts.Passed.{Passed}
+use Rattle.adapt_turn.specs.declared.turned.Side.{Side}
+use Rattle.adapt_turn.specs.declared.turned.Side.TheVariants.{Source, Service, NextHop}
+use Rattle.adapt_turn.specs.Moved.{bytes_between}
+use Rattle.adapt_turn.specs.Parts.{Part, stepped}
+use Rattle.adapt_turn.specs.Rows.{is_fail, is_of_side, may_step, TookAll, TookBy, Advances, BytesOr}
+use Rattle.adapt_turn.proofs.Carry.{all_then}
+
+-- Rows.
+
+pub took_all : (h : Holding) (events : List Event) (bytes : List ℕ) → IsTied h → MayRun h events bytes → TookAll h events (moved_all h events bytes)
+took_all h [] bytes t m = refl
+took_all h (event ∷ events) bytes t m =
+    let n = m.carried in
+    let own = take (brought event) bytes in
+    let s = stays h event own t m.roomy (m.may.0, m.may.1) (length-take-le (brought event) bytes (omega (arith, n))) m.room.0 in
+    let next : Holding = moved h event own in
+    let same : shows next.history ≡ after (shows h.history) event = then_shows h event (history_then h.history event) t (m.may.0, m.may.1) refl in
+    (own, next, ((m.may.0, m.may.1), refl), took_all next events (drop (brought event) bytes) s.tied (record {
+      may = subst (λ (x : Seen). MayAllFollow x events) (sym same) m.may.2;
+      carried = let d = length-drop (brought event) bytes in omega (arith, d, n);
+      room = subst (λ (x : Seen). HasRoomFor x next.claim next.limits.window events) (sym same) m.room.1;
+      roomy = s.roomy;
+    }))
+
+took_then : (h m k : Holding) (first others : List Event) → TookAll h first m → TookAll m others k → TookAll h (first ++ others) k
+took_then h m k [] others t u = subst (λ (y : Holding). TookAll y others k) t u
+took_then h m k (event ∷ events) others t u = (t.0, t.1, t.2, took_then t.1 m k events others t.3 u)
+
+all_both : (test : Event → Bool) (first others : List Event) → AllAre test first → AllAre test others → AllAre test (first ++ others)
+all_both test [] others a b = b
+all_both test (event ∷ events) others a b = (a.0, all_both test events others a.1 b)
+
+advances_then : (test : Event → Bool) (h m k : Holding) → Advances test h m → TookBy test m k → Advances test h k
+advances_then test h m k a b = (a.0, a.1 ++ b.0, all_both test (a.0 ∷ a.1) b.0 a.2 b.1, took_then h m k (a.0 ∷ a.1) b.0 a.3 b.2)
+
+some_stepped : (test : Event → Bool) (h k : Holding) (events : List Event) → AllAre test events → TookAll h events k → (events ≡ [] → ⊥) → Advances test h k
+some_stepped test h k [] o t n = absurd (n refl)
+some_stepped test h k (event ∷ events) o t n = (event, events, o, t)
+
+-- a failure is a step
+pub fail_advances : (side : Side) (h k : Holding) (cause : Cause) → (shows h.history).closed ≡ false → k ≡ moved h (Fail cause) [] → Advances (may_step side) h k
+fail_advances side h k cause c e = (Fail cause, [], (refl, tt), ([], k, ((c, tt), e), refl))
+
+-- The parts of a turn.
+
+or_right : (a b : Bool) → b ≡ true → a || b ≡ true
+or_right true b e = refl
+or_right false b e = e
+
+or_left : (a b : Bool) → a ≡ true → a || b ≡ true
+or_left true b e = refl
+or_left false b e = absurd (false≢true e)
+
+pub of_source : (event : Event) → is_of_source event ≡ true → may_step Source event ≡ true
+of_source event e = or_right (is_fail event) (is_of_source event) e
+
+pub of_sending : (event : Event) → is_of_sending event ≡ true → may_step Service event ≡ true
+of_sending event e = or_right (is_fail event) (is_of_sending event || is_of_replies event) (or_left (is_of_sending event) (is_of_replies event) e)
+
+pub of_replies : (event : Event) → is_of_replies event ≡ true → may_step Service event ≡ true
+of_replies event e = or_right (is_fail event) (is_of_sending event || is_of_replies event) (or_right (is_of_sending event) (is_of_replies event) e)
+
+pub of_hop : (event : Event) → is_of_hop event ≡ true → may_step NextHop event ≡ true
+of_hop event e = or_right (is_fail event) (is_of_hop event) e
+
+pub part_took : {F : Type 0} (side : Side) (broken : F) (own : F → Cause) (h k : Holding) (test : Event → Bool) (reported : List Event) (out given taken delta : List ℕ) (f0 f1 : Option F) (rests : Type 0) (waits : Past → ℕ) (before after_ : Past → Type 0) (passed : Passed)
+    → ((event : Event) → test event ≡ true → may_step side event ≡ true) → IsTied h
+    → Part broken own h k test reported out given taken delta f0 f1 rests waits before after_ passed → TookBy (may_step side) h k
+part_took {F} side broken own h k test reported out given taken delta f0 f1 rests waits before after_ passed i t p = (
+  stepped passed.failed reported,
+  all_then test (may_step side) i (λ cause. refl) passed.failed reported p.only,
+  subst (λ (y : Holding). TookAll h (stepped passed.failed reported) y) (sym p.is) (took_all h (stepped passed.failed reported) out t p.runs),
+)
+
+none_stepped : (failed : Option Cause) (reported : List Event) → stepped failed reported ≡ [] → (failed ≡ None) × (reported ≡ [])
+none_stepped None reported e = (refl, e)
+none_stepped (Some cause) reported e = absurd cc
+
+record Grown (p q : Past) (given taken : List ℕ) : Type 0 where
+  read : length q.read ≡ length p.read + length given
+  out : length q.taken ≡ length p.taken + length taken
+
+grown : (p q : Past) (given taken : List ℕ) → IsLater p given taken q → Grown p q given taken
+grown p q given taken l = record {
+  read = ap (λ (bs : List ℕ). length bs) l.read ∙ length-append p.read given;
+  out = ap (λ (bs : List ℕ). length bs) l.out ∙ length-append p.taken taken;
+}
+
+pub part_acts : {F : Type 0} (side : Side) (broken : F) (own : F → Cause) (h k : Holding) (test : Event → Bool) (reported : List Event) (out given taken delta : List ℕ) (f0 f1 : Option F) (rests : Type 0) (waits : Past → ℕ) (before after_ : Past → Type 0) (passed : Passed)
+    → ((event : Event) → test event ≡ true → may_step side event ≡ true) → length delta ≡ length given + length taken → IsTied h
+    → Part broken own h k test reported out given taken delta f0 f1 rests waits before after_ passed
+    → passed.waiting ≡ false → passed.broken ≡ false → BytesOr (Advances (may_step side) h k) before after_
+part_acts {F} side broken own h k test reported out given taken delta f0 f1 rests waits before after_ passed i n t p w b = λ past here.
+    let u = p.wire past here in
+    let g = grown past u.0 given taken u.2 in
+    let gr = g.read in
+    let go = g.out in
+    (
+      u.0,
+      u.1,
+      omega (arith, gr),
+      omega (arith, go),
+      λ z. some_stepped (may_step side) h k (stepped passed.failed reported) (all_then test (may_step side) i (λ cause. refl) passed.failed reported p.only)
+          (subst (λ (y : Holding). TookAll h (stepped passed.failed reported) y) (sym p.is) (took_all h (stepped passed.failed reported) out t p.runs)) (λ e.
+      let v = none_stepped passed.failed reported e in p.tells.active w b (no_bytes delta (omega (arith, gr, go, n, z))) v.1 v.0),
+    )
+
+-- a wire that wasn't touched
+pub untouched_or : (this : Type 0) (before : Past → Type 0) → this → BytesOr this before before
+untouched_or this before t = λ p b. (p, b, omega arith, omega arith, λ z. t)
+
+-- the service's line
+pub line_acts : {L : Type 0} (line : Option L) (l : L) (past : L → Past → Type 0) (this : Type 0) (after_ : Past → Type 0)
+    → line ≡ Some l → BytesOr this (past l) after_ → BytesOr this (λ p. MatchOption line ⊥ (λ z. past z p)) after_
+line_acts {L} line l past this after_ same act = subst (λ (z : Option L). BytesOr this (λ p. MatchOption z ⊥ (λ y. past y p)) after_) (sym same) act
+
+-- Two passes of the service's side.
+
+pub then_acts : (test : Event → Bool) (h m k : Holding) (before mid after_ : Past → Type 0) (given taken : List ℕ) → m ≡ h
+    → ((p : Past) → before p → (q : Past) × mid q × IsLater p given taken q) → BytesOr (Advances test m k) mid after_ → BytesOr (Advances test h k) before after_
+then_acts test h m k before mid after_ given taken e goes act = λ p b.
+    let u = goes p b in
+    let v = act u.0 u.1 in
+    let g = grown p u.0 given taken u.2 in
+    let gr = g.read in
+    let go = g.out in
+    let vr = v.2 in
+    let vo = v.3 in
+    (v.0, v.1, omega (arith, gr, vr), omega (arith, go, vo), λ z. subst (λ (y : Holding). Advances test y k) e (v.4 (omega (arith, gr, go, vr, vo, z))))
+
+pub acts_then : (test : Event → Bool) (h m k : Holding) (before mid after_ : Past → Type 0) (given taken : List ℕ) → BytesOr (Advances test h m) before mid
+    → ((p : Past) → mid p → (q : Past) × after_ q × IsLater p given taken q) → TookBy test m k → BytesOr (Advances test h k) before after_
+acts_then test h m k before mid after_ given taken act goes later = λ p b.
+    let v = act p b in
+    let u = goes v.0 v.1 in
+    let g = grown v.0 u.0 given taken u.2 in
+    let gr = g.read in
+    let go = g.out in
+    let vr = v.2 in
+    let vo = v.3 in
+    (u.0, u.1, omega (arith, gr, vr), omega (arith, go, vo), λ z. advances_then test h m k (v.4 (omega (arith, gr, go, vr, vo, z))) later)
+
+-- The writer's pass, behind a beginning that changed neither what is held nor a wire.
+
+pub acts_moved : {A : Type 0} (test : Event → Bool) (h m k : Holding) (past : A → Past → Type 0) (after_ : Past → Type 0) (a a' : A) → m ≡ h → a' ≡ a
+    → BytesOr (Advances test m k) (past a') after_ → BytesOr (Advances test h k) (past a) after_
+acts_moved {A} test h m k past after_ a a' e f w =
+    subst (λ (z : Holding). BytesOr (Advances test z k) (past a) after_) e (subst (λ (z : A). BytesOr (Advances test m k) (past z) after_) f w)
+
+pub acts_kept : {A : Type 0} (this : Type 0) (past : A → Past → Type 0) (a a' : A) → a' ≡ a → this → BytesOr this (past a) (past a')
+acts_kept {A} this past a a' e t = subst (λ (z : A). BytesOr this (past a) (past z)) (sym e) (untouched_or this (past a) t)
+
+-- Which side a turn is for.
+
+pub by_side : (side : Side) (this : Side → Type 0) → (side ≡ Source → this Source) → (side ≡ Service → this Service) → (side ≡ NextHop → this NextHop) → this side
+by_side Source this a b c = a refl
+by_side Service this a b c = b refl
+by_side NextHop this a b c = c refl
