@@ -10,3 +10,4 @@ pub mod Together
 pub mod Giving
 pub mod Reasons
 pub mod Rows
+pub mod Refusals

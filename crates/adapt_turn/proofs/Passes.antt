@@ -30,7 +30,7 @@ use Rattle.adapt_hold.specs.Holding.{Holding, IsTied, IsRoomy, shows, moved}
 use Rattle.adapt_hold.specs.Steps.{brought_all, HasRoomFor, MayRun, moved_all}
 use Rattle.adapt_hold.proofs.Bodies.{ends}
 use Rattle.adapt_turn.specs.declared.parts.Passed.{Passed}
-use Rattle.adapt_turn.specs.Parts.{Part, SourcePart, SendPart, HearPart, HopPart, source_cause, service_cause, hop_cause}
+use Rattle.adapt_turn.specs.Parts.{Breaks, Part, SourcePart, SendPart, HearPart, HopPart, source_cause, service_cause, hop_cause}
 use Rattle.adapt_turn.specs.Stands.{IsChosen, chosen_span}
 
 -- an event without body bytes that come
@@ -270,9 +270,9 @@ pub took_part : {F : Type 0} (broken : F) (own : F → Cause) (h k : Holding) (t
     → passed ≡ record { waiting = turn.waiting; failed = None; broken = false }
     → WireOf broken f0 rests waits given taken before after_ (Ok turn)
     → AllAre test turn.events.items → MayRun h turn.events.items out → SaysWaiting turn.events.items delta (let r : Result Turn F = Ok turn in r)
-    → k ≡ moved_all h turn.events.items out
+    → k ≡ moved_all h turn.events.items out → f1 ≡ None
     → Part broken own h k test turn.events.items out given taken delta f0 f1 rests waits before after_ passed
-took_part {F} broken own h k test turn out given taken delta f0 f1 rests waits before after_ passed e wire only runs says is =
+took_part {F} broken own h k test turn out given taken delta f0 f1 rests waits before after_ passed e wire only runs says is sound =
     subst (λ (y : Passed). Part broken own h k test turn.events.items out given taken delta f0 f1 rests waits before after_ y) (sym e) (record {
       wire = λ p b. let w = wire p b in (w.0, w.1, w.2, record { failed = λ cause n. cc; waiting = w.3.waiting });
       only = only;
@@ -284,6 +284,7 @@ took_part {F} broken own h k test turn out given taken delta f0 f1 rests waits b
         idle = λ w. let i = says.idle w in (i.1, i.0, refl);
         active = λ w b d r n. false≢true (sym w ∙ says.waits turn refl r d);
       };
+      sound = λ n b. sound;
     })
 
 pub failed_part : {F : Type 0} (broken : F) (own : F → Cause) (h k : Holding) (test : Event → Bool) (fault : F) (out given taken delta : List ℕ) (f0 f1 : Option F) (rests : Type 0) (waits : Past → ℕ) (before after_ : Past → Type 0) (passed : Passed)
@@ -309,6 +310,7 @@ failed_part {F} broken own h k test fault out given taken delta f0 f1 rests wait
       quiet = λ cause n. refl;
       blamed = λ cause n. (fault, stays, (let same : Some (own fault) ≡ Some cause = n in cc));
       tells = record { idle = λ n. absurd (false≢true n); active = λ w b d z n. cc };
+      sound = λ n b. cc;
     })
 
 -- the connection broke where the request may begin anew: nothing is stepped
@@ -326,6 +328,7 @@ broken_part {F} broken own h k test fault given taken delta f0 f1 rests waits be
       quiet = λ cause n. refl;
       blamed = λ cause n. cc;
       tells = record { idle = λ n. absurd (false≢true n); active = λ w b d z n. absurd (false≢true (sym b)) };
+      sound = λ n b. absurd (false≢true (sym b));
     })
 
 pub either_part : {F : Type 0} (broken : F) (own : F → Cause) (h k : Holding) (test : Event → Bool) (fault : F) (given taken delta : List ℕ) (f0 f1 : Option F) (rests : Type 0) (waits : Past → ℕ) (before after_ : Past → Type 0) (passed : Passed) (b : Bool)
@@ -360,7 +363,7 @@ source_took h k turn events out ro rn ao an f0 f1 rests n room before after_ pas
       out = out;
       reported = turn.events.items;
       part = took_part relay.Device source_cause h k is_of_source turn out b.delta [] b.delta f0 f1 (rests room) (λ past. past.read_waits) before after_ passed went b.wire b.only
-          (source_runs h turn.events.items out t r legal.0 b.only b.count l) b.waiting (is ∙ ap (λ (es : List Event). moved_all h es out) e);
+          (source_runs h turn.events.items out t r legal.0 b.only b.count l) b.waiting (is ∙ ap (λ (es : List Event). moved_all h es out) e) (b.fault.sound turn refl);
       agrees = legal.1;
       goes_on = λ body read h0. b.goes_on (shows h.history) body read h0 c;
     }
@@ -398,7 +401,7 @@ send_took h k history tape turn events so sn f0 f1 rests before after_ passed r 
       delta = b.delta;
       reported = turn.events.items;
       part = took_part client.Device service_cause h k is_of_sending turn [] [] b.delta b.delta f0 f1 (rests (shows h.history)) (λ past. past.write_waits) before after_ passed went b.wire b.only
-          (sending_runs h turn.events.items r b.legal b.only) b.waiting (is ∙ ap (λ (es : List Event). moved_all h es []) e);
+          (sending_runs h turn.events.items r b.legal b.only) b.waiting (is ∙ ap (λ (es : List Event). moved_all h es []) e) (b.fault.sound turn refl);
       goes_on = λ came taken f s. b.goes_on came taken (follows_span tape h.original came te f) s;
     }
 
@@ -442,7 +445,7 @@ hear_took h k history turn events out so sn f0 f1 rests n room before after_ pas
       out = out;
       reported = turn.events.items;
       part = took_part client.Device service_cause h k is_of_replies turn out b.delta [] b.delta f0 f1 (rests (shows h.history) room) (λ past. past.read_waits) before after_ passed went b.wire b.only
-          (replies_run h turn.events.items out t r b.legal b.only b.count l) b.waiting (is ∙ ap (λ (es : List Event). moved_all h es out) e);
+          (replies_run h turn.events.items out t r b.legal b.only b.count l) b.waiting (is ∙ ap (λ (es : List Event). moved_all h es out) e) (b.fault.sound turn refl);
       goes_on = b.goes_on;
     }
 
@@ -477,7 +480,7 @@ hop_took h k history tape turn events so sn ao an whole f0 f1 rests before after
       delta = b.delta;
       reported = turn.events.items;
       part = took_part relay.Device hop_cause h k is_of_hop turn [] [] b.delta b.delta f0 f1 (rests (shows h.history)) (λ past. past.write_waits) before after_ passed went b.wire b.only
-          (hop_runs h turn.events.items r b.legal b.only) b.waiting (is ∙ ap (λ (es : List Event). moved_all h es []) e);
+          (hop_runs h turn.events.items r b.legal b.only) b.waiting (is ∙ ap (λ (es : List Event). moved_all h es []) e) (b.fault.sound turn refl);
       goes_on = λ original adapted head taken f g given. b.goes_on c head (chosen (shows h.history) original adapted) taken (follows_span tape (chosen_span h) _ te (ends_chosen h original adapted w f g)) given;
       done = λ original adapted head taken f g over given. b.done c over head (chosen (shows h.history) original adapted) taken (follows_span tape (chosen_span h) _ te (ends_chosen h original adapted w f g)) given;
     }
@@ -497,3 +500,14 @@ hop_failed h k history tape fault so sn ao an whole f0 f1 rests before after_ ca
       goes_on = λ original adapted head taken f g given. b.goes_on c head (chosen (shows h.history) original adapted) taken (follows_span tape (chosen_span h) _ te (ends_chosen h original adapted w f g)) given;
       done = λ original adapted head taken f g over given. absurd (false≢true (sym c ∙ over));
     }
+
+-- the service's fault where the request might not begin anew
+
+pub unbroken_by : (h k : Holding) (reused : Bool) (fault : ClientFault) (f1 : Option ClientFault) (passed : Passed) (b : Bool) → passed.broken ≡ b → f1 ≡ Some fault
+    → (passed.broken ≡ true → (k ≡ h) × (passed ≡ record { waiting = false; failed = None; broken = true }))
+    → (passed.broken ≡ false → Breaks h.history reused (Some fault) → ⊥)
+    → (cause : Cause) → passed.failed ≡ Some cause → Breaks h.history reused f1 → ⊥
+unbroken_by h k reused fault f1 passed true e stays broke shut cause f =
+    let n : None ≡ Some cause = sym (ap (λ (y : Passed). y.failed) (broke e).1) ∙ f in absurd cc
+unbroken_by h k reused fault f1 passed false e stays broke shut cause f =
+    subst (λ (y : Option ClientFault). Breaks h.history reused y → ⊥) (sym stays) (shut e)

@@ -1,20 +1,21 @@
 -- Why a pass waits, or fails.
-use Rattle.std.proofs.Common.{◌≡◌, ℕ, ◌<◌, ◌≤◌, ◌⊎◌, inl, inr, Bool, true, List, Option, Some, None, arith, sym, ◌∙◌, ap, subst}
+use Rattle.std.proofs.Common.{◌≡◌, ℕ, ◌<◌, ◌≤◌, ◌⊎◌, inl, inr, Bool, true, false, List, [], Option, Some, None, arith, refl, sym, ◌∙◌, ap, subst}
+use Rattle.std.proofs.lemmas.Bool.{false≢true}
 use Rattle.std.specs.Prelude.{MatchOption, ⊤}
 use Rattle.trace_core.specs.declared.history.Event.{Event}
 use Rattle.trace_core.specs.declared.history.Cause.{Cause}
-use Rattle.trace_core.specs.declared.history.Event.TheVariants.{Retry}
+use Rattle.trace_core.specs.declared.history.Event.TheVariants.{Fail, Retry}
 use Rattle.trace_core.specs.Legal.{MayFollow}
-use Rattle.wire_kit.specs.Past.{Past}
+use Rattle.wire_kit.specs.Past.{Past, IsLater}
 use Rattle.adapt_sides.specs.declared.fault.ClientFault.{ClientFault}
 use Rattle.adapt_sides.specs.declared.fault.ClientFault.TheVariants as client
-use Rattle.adapt_hold.specs.Holding.{Holding}
+use Rattle.adapt_hold.specs.Holding.{Holding, moved}
 use Rattle.adapt_hold.specs.Steps.{moved_all}
 use Rattle.adapt_turn.specs.declared.parts.Passed.{Passed}
 use Rattle.adapt_turn.specs.declared.turned.Outcome.{Outcome}
 use Rattle.adapt_turn.specs.declared.turned.Outcome.TheVariants as outcomes
-use Rattle.adapt_turn.specs.Parts.{Breaks, Part, stepped, outcome_by}
-use Rattle.adapt_turn.specs.Stands.{Waited, WaitedBeside, WaitedBoth, Blamed, IsCauseOf}
+use Rattle.adapt_turn.specs.Parts.{Breaks, FailsFor, Part, stepped, outcome_by, fault_of}
+use Rattle.adapt_turn.specs.Stands.{Waited, WaitedBeside, WaitedBoth, Blamed, BlamedService}
 
 pub part_waits : {F : Type 0} (broken : F) (own : F → Cause) (h k : Holding) (test : Event → Bool) (reported : List Event) (out given taken delta : List ℕ) (f0 f1 : Option F) (rests : Type 0) (waits : Past → ℕ) (before after_ : Past → Type 0) (passed : Passed)
     → Part broken own h k test reported out given taken delta f0 f1 rests waits before after_ passed → passed.waiting ≡ true → Waited rests waits before after_
@@ -73,13 +74,40 @@ hear_waits {L} line l past own h k test reported out given taken delta f0 f1 res
     subst (λ (z : Option L). WaitedBeside rests (λ q. q.read_waits) (λ q. q.write_waits) (λ p. MatchOption z ⊥ (λ y. past y p)) after_) (sym same)
     (λ p b. let w = part.wire p b in (w.0, w.1, w.2.write_waits, w.3.waiting e))
 
-pub line_blames : {L : Type 0} (line : Option L) (l : L) (past : L → Past → Type 0) (own : ClientFault → Cause) (h k : Holding) (test : Event → Bool) (reported : List Event) (out given taken delta : List ℕ) (f0 f1 : Option ClientFault) (rests : Type 0) (waits : Past → ℕ) (after_ : Past → Type 0) (passed : Passed)
-    → line ≡ Some l → Part client.Device own h k test reported out given taken delta f0 f1 rests waits (past l) after_ passed → (cause : Cause) → passed.failed ≡ Some cause
-    → (p : Past) → MatchOption line ⊥ (λ z. past z p) → IsCauseOf own cause f1
-line_blames {L} line l past own h k test reported out given taken delta f0 f1 rests waits after_ passed same part cause e p b =
-    let w = part.wire p (subst (λ (z : Option L). MatchOption z ⊥ (λ y. past y p)) same b) in
-    let f = w.3.failed cause e in
-    (f.0, f.1, f.2)
+-- a pass that failed did so by one step
+pub part_fails : {F : Type 0} (broken : F) (own : F → Cause) (h k : Holding) (test : Event → Bool) (reported : List Event) (out given taken delta : List ℕ) (f0 f1 : Option F) (rests : Type 0) (waits : Past → ℕ) (before after_ : Past → Type 0) (passed : Passed)
+    → Part broken own h k test reported out given taken delta f0 f1 rests waits before after_ passed → (cause : Cause) → passed.failed ≡ Some cause → k ≡ moved h (Fail cause) []
+part_fails broken own h k test reported out given taken delta f0 f1 rests waits before after_ passed p cause e =
+    p.is ∙ ap (λ (f : Option Cause). moved_all h (stepped f reported) out) e
+
+pub line_blamed : {L : Type 0} (line : Option L) (l : L) (fault : L → Option ClientFault) (past : L → Past → Type 0) (own : ClientFault → Cause) (h k : Holding) (test : Event → Bool) (reported : List Event) (out given taken delta : List ℕ) (f1 : Option ClientFault) (rests : Type 0) (waits : Past → ℕ) (after_ : Past → Type 0) (passed : Passed)
+    → line ≡ Some l → Part client.Device own h k test reported out given taken delta (fault l) f1 rests waits (past l) after_ passed → (cause : Cause) → passed.failed ≡ Some cause
+    → Blamed client.Device own cause (fault_of fault line) f1 (λ p. MatchOption line ⊥ (λ z. past z p)) after_
+line_blamed {L} line l fault past own h k test reported out given taken delta f1 rests waits after_ passed same part cause e =
+    subst (λ (z : Option L). Blamed client.Device own cause (fault_of fault z) f1 (λ p. MatchOption z ⊥ (λ y. past y p)) after_) (sym same)
+    (part_blames client.Device own h k test reported out given taken delta (fault l) f1 rests waits (past l) after_ passed part cause e)
+
+-- behind a pass that left no fault, whatever stood before it
+pub blamed_then : {F : Type 0} (broken : F) (own : F → Cause) (cause : Cause) (f0 f1 f2 : Option F) (before mid after_ : Past → Type 0) (given taken : List ℕ) → f1 ≡ None
+    → ((p : Past) → before p → (q : Past) × mid q × IsLater p given taken q) → Blamed broken own cause f1 f2 mid after_ → Blamed broken own cause f0 f2 before after_
+blamed_then broken own cause f0 f1 f2 before mid after_ given taken e goes blamed = λ p b.
+    let u = goes p b in
+    let w = blamed u.0 u.1 in
+    let l = u.2.faults in
+    let f = w.2 in
+    (w.0, w.1, (f.0, f.1, f.2, λ d o. let k = f.3 d e in omega (arith, k, l)))
+
+pub not_failed : (failed : Option Cause) (closed : Bool) → ((cause : Cause) → failed ≡ Some cause → closed ≡ true) → closed ≡ false → failed ≡ None
+not_failed None closed over c = refl
+not_failed (Some cause) closed over c = absurd (false≢true (sym c ∙ over cause refl))
+
+pub line_blamed_kept : {L : Type 0} (fault : L → Option ClientFault) (past : L → Past → Type 0) (cause : Cause) (f0 : Option ClientFault) (before : Past → Type 0) (l l' : Option L) → l' ≡ l
+    → BlamedService cause f0 (fault_of fault l) before (λ p. MatchOption l ⊥ (λ z. past z p)) → BlamedService cause f0 (fault_of fault l') before (λ p. MatchOption l' ⊥ (λ z. past z p))
+line_blamed_kept {L} fault past cause f0 before l l' e w = subst (λ (z : Option L). BlamedService cause f0 (fault_of fault z) before (λ p. MatchOption z ⊥ (λ y. past y p))) (sym e) w
+
+pub fails_kept : {L : Type 0} (fault : L → Option ClientFault) (cause : Cause) (reused : Bool) (h h' : Holding) (l l' : Option L) → h' ≡ h → l' ≡ l → FailsFor cause reused (fault_of fault l) h → FailsFor cause reused (fault_of fault l') h'
+fails_kept {L} fault cause reused h h' l l' e f w =
+    subst (λ (k : Holding). FailsFor cause reused (fault_of fault l') k) (sym e) (subst (λ (z : Option L). FailsFor cause reused (fault_of fault z) h) (sym f) w)
 
 pub both_waited : (h m : Holding) (before mid after_ : Past → Type 0) (w0 w1 : Type 0) (r : Holding → Type 0) → m ≡ h → (w0 → w1)
     → WaitedBeside w0 (λ q. q.write_waits) (λ q. q.read_waits) before mid → WaitedBeside (r m) (λ q. q.read_waits) (λ q. q.write_waits) mid after_ → WaitedBoth w1 (r h) before after_
@@ -105,9 +133,6 @@ waits_moved {A} h m rests past waits after_ a a' e f w =
 pub both_kept : {L : Type 0} (w r : L → Type 0) (past : L → Past → Type 0) (before : Past → Type 0) (l l' : Option L) → l' ≡ l
     → WaitedBoth (MatchOption l ⊤ w) (MatchOption l ⊤ r) before (λ p. MatchOption l ⊥ (λ z. past z p)) → WaitedBoth (MatchOption l' ⊤ w) (MatchOption l' ⊤ r) before (λ p. MatchOption l' ⊥ (λ z. past z p))
 both_kept {L} w r past before l l' e t = subst (λ (y : Option L). WaitedBoth (MatchOption y ⊤ w) (MatchOption y ⊤ r) before (λ p. MatchOption y ⊥ (λ z. past z p))) (sym e) t
-
-pub line_kept : {L : Type 0} (told : L → Type 0) (before : Past → Type 0) (l l' : Option L) → l' ≡ l → ((p : Past) → before p → MatchOption l ⊥ told) → (p : Past) → before p → MatchOption l' ⊥ told
-line_kept {L} told before l l' e t p b = subst (λ (y : Option L). MatchOption y ⊥ told) (sym e) (t p b)
 
 pub breaks_kept : {L : Type 0} (fault : L → Option ClientFault) (reused : Bool) (h h' : Holding) (l l' : Option L) → l' ≡ l → h' ≡ h
     → MatchOption l ⊥ (λ z. Breaks h.history reused (fault z)) → MayFollow h'.history.plan h'.history.events Retry × MatchOption l' ⊥ (λ z. Breaks h'.history reused (fault z))

@@ -93,11 +93,11 @@ none_stepped : (failed : Option Cause) (reported : List Event) → stepped faile
 none_stepped None reported e = (refl, e)
 none_stepped (Some cause) reported e = absurd cc
 
-record Grown (p q : Past) (given taken : List ℕ) : Type 0 where
-  read : length q.read ≡ length p.read + length given
-  out : length q.taken ≡ length p.taken + length taken
+pub record Grown (p q : Past) (given taken : List ℕ) : Type 0 where
+  pub read : length q.read ≡ length p.read + length given
+  pub out : length q.taken ≡ length p.taken + length taken
 
-grown : (p q : Past) (given taken : List ℕ) → IsLater p given taken q → Grown p q given taken
+pub grown : (p q : Past) (given taken : List ℕ) → IsLater p given taken q → Grown p q given taken
 grown p q given taken l = record {
   read = ap (λ (bs : List ℕ). length bs) l.read ∙ length-append p.read given;
   out = ap (λ (bs : List ℕ). length bs) l.out ∙ length-append p.taken taken;

@@ -1,5 +1,6 @@
 pub mod Made
 pub mod Moved
 pub mod Parts
+pub mod Refusals
 pub mod Rows
 pub mod Stands

@@ -15,7 +15,7 @@ use Rattle.adapt_sides.specs.declared.fault.RelayFault.{RelayFault}
 use Rattle.adapt_sides.specs.declared.fault.RelayFault.TheVariants as relay
 use Rattle.adapt_sides.specs.Tapes.{chosen}
 use Rattle.adapt_hold.specs.Spans.{EndsBody}
-use Rattle.adapt_hold.specs.Holding.{Holding, shows}
+use Rattle.adapt_hold.specs.Holding.{Holding, shows, moved}
 use Rattle.adapt_hold.specs.Steps.{MayRun, moved_all}
 use Rattle.adapt_turn.specs.declared.parts.Passed.{Passed}
 use Rattle.adapt_turn.specs.declared.turned.Outcome.{Outcome}
@@ -48,6 +48,16 @@ pub record Breaks (history : History) (reused : Bool) (fault : Option ClientFaul
   pub used : reused ≡ true
   pub broke : (fault ≡ Some client.Closed) ⊎ (fault ≡ Some client.Device)
   pub may : MayFollow history.plan history.events Retry
+
+-- It was closed by that cause where the request might not begin anew: its connection wasn't used before, or hadn't ended or failed,
+-- or the plan or a byte of a reply forbids it.
+abbrev pub FailsFor : Cause → Bool → Option ClientFault → Holding → Type 0
+FailsFor cause reused fault new = (mid : Holding) × (new ≡ moved mid (Fail cause) []) × (Breaks mid.history reused fault → ⊥)
+
+-- the fault of a side, where there is a side
+abbrev pub fault_of : {L : Type 0} → (L → Option ClientFault) → Option L → Option ClientFault
+fault_of fault None = None
+fault_of fault (Some line) = fault line
 
 -- how a transaction ends that this failed, if anything did
 abbrev pub outcome_by : Option Cause → Outcome
@@ -85,6 +95,7 @@ pub record Part {F : Type 0} (broken : F) (own : F → Cause) (old new : Holding
   pub quiet : (cause : Cause) → passed.failed ≡ Some cause → reported ≡ []
   pub blamed : (cause : Cause) → passed.failed ≡ Some cause → (fault : F) × (new_fault ≡ Some fault) × (cause ≡ own fault)
   pub tells : Tells delta reported passed
+  pub sound : passed.failed ≡ None → passed.broken ≡ false → new_fault ≡ None
 
 -- the source's wire gave these bytes
 pub record SourcePart (old new : Holding) (read_old read_new : Seen → List ℕ → List ℕ → Type 0) (agrees_new : Seen → Type 0) (old_fault new_fault : Option RelayFault) (rests : Type 0) (before after : Past → Type 0) (passed : Passed) : Type 0 where

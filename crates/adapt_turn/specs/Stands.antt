@@ -6,6 +6,8 @@ use Rattle.trace_core.specs.declared.history.Point.{Point}
 use Rattle.trace_core.specs.declared.history.Point.TheVariants.{Reqmod, Respmod}
 use Rattle.trace_core.specs.Faults.{chooses_original}
 use Rattle.wire_kit.specs.Past.{Past, IsLater}
+use Rattle.adapt_sides.specs.declared.fault.ClientFault.{ClientFault}
+use Rattle.adapt_sides.specs.declared.fault.ClientFault.TheVariants as client
 use Rattle.adapt_sides.specs.Tapes.{chosen}
 use Rattle.adapt_sides.specs.Turns.{Gift}
 use Rattle.adapt_sides.specs.Turns.Gift.{nothing, message}
@@ -13,7 +15,7 @@ use Rattle.adapt_hold.specs.Spans.{Span, EndsBody}
 use Rattle.adapt_hold.specs.Holding.{Holding, shows}
 use Rattle.trace_core.specs.History.{History}
 use Rattle.adapt_turn.specs.declared.turned.Outcome.TheVariants as outcomes
-use Rattle.adapt_turn.specs.Parts.{outcome_of}
+use Rattle.adapt_turn.specs.Parts.{outcome_of, service_cause}
 
 -- the next hop has a message to get
 abbrev pub IsChosen : Seen → Type 0
@@ -136,10 +138,6 @@ pub record Goes (old_stands new_stands : Texts → Type 0) (source_old source_ne
   pub service : (p : Past) → service_old p → (q : Past) × service_new q × IsLater p delta.service_read delta.service_taken q
   pub next : (p : Past) → next_old p → (q : Past) × next_new q × IsLater p [] delta.next_taken q
 
--- the cause is that of the side's fault
-abbrev pub IsCauseOf : {F : Type 0} → (F → Cause) → Cause → Option F → Type 0
-IsCauseOf {F} own cause new_fault = (fault : F) × (new_fault ≡ Some fault) × (cause ≡ own fault)
-
 -- a wire took these bytes of a refusal
 pub record TakesAside (old_aside new_aside : List ℕ → Type 0) (before after : Past → Type 0) : Type 0 where
   pub delta : List ℕ
@@ -164,3 +162,7 @@ abbrev pub Blamed : {F : Type 0} → F → (F → Cause) → Cause → Option F 
 Blamed {F} broken own cause old_fault new_fault before after =
     (p : Past) → before p → (q : Past) × after q
     × ((fault : F) × (new_fault ≡ Some fault) × (cause ≡ own fault) × (fault ≡ broken → old_fault ≡ None → p.faults < q.faults))
+
+-- the same of the service
+abbrev pub BlamedService : Cause → Option ClientFault → Option ClientFault → (Past → Type 0) → (Past → Type 0) → Type 0
+BlamedService cause old_fault new_fault before after = Blamed client.Device service_cause cause old_fault new_fault before after

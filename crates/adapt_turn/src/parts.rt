@@ -2,6 +2,7 @@
 
 ghost use Rattle.std.specs.Prelude.{◌≡◌, ℕ, ◌≤◌, ◌⊎◌, true, false, List, [], length, Some, None};
 ghost use Rattle.trace_core.specs.declared.history.Seen.{Seen};
+ghost use Rattle.trace_core.specs.declared.history.Cause.{Cause};
 ghost use Rattle.trace_core.specs.declared.history.Event.TheVariants.{Fail};
 ghost use Rattle.plan_rules.specs.Room.{original_room, adapted_room};
 ghost use Rattle.adapt_hold.specs.Spans.{span_of};
@@ -135,6 +136,7 @@ pub(crate) fn take_source<B: Ledgers, S: Source, A: Wire>(
 /// Whether the request may begin anew on a fresh connection, where this fault broke the one.
 fn may_begin_anew<B: Ledgers>(hold: &Hold<B>, fault: ClientFault, reused: bool) -> bool
     ensures may { result ≡ true → Breaks hold.now.history reused (Some fault) }
+    ensures may_not { result ≡ false → Breaks hold.now.history reused (Some fault) → ⊥ }
 {
     matches!(fault, ClientFault::Closed | ClientFault::Device)
         && reused
@@ -154,6 +156,7 @@ fn service_failed<B: Ledgers>(
     ensures broken { result.broken ≡ true → (hold.new ≡ hold.old) × (result ≡ record { waiting = false; failed = None; broken = true }) }
     ensures breaks { result.broken ≡ true → Breaks hold.new.history reused (Some fault) }
     ensures closed { result.broken ≡ false → (hold.new ≡ moved hold.old (Fail (service_cause fault)) []) × (result ≡ record { waiting = false; failed = Some (service_cause fault); broken = false }) }
+    ensures unbroken { result.broken ≡ false → Breaks hold.old.history reused (Some fault) → ⊥ }
     ensures roomy { IsRoomy hold.new }
 {
     if may_begin_anew(hold, fault, reused) {
@@ -186,6 +189,7 @@ pub(crate) fn send<B: Ledgers, V: Service, W: Wire>(
     ensures response { V.is_response service.new ≡ V.is_response service.old }
     ensures roomy { IsRoomy hold.new }
     ensures whole { result.waiting ≡ true → result.broken ≡ false }
+    ensures unbroken { (cause : Cause) → result.failed ≡ Some cause → Breaks hold.old.history reused (V.fault service.new) → ⊥ }
     ensures breaks { result.broken ≡ true → Breaks hold.new.history reused (V.fault service.new) }
 {
     let state = hold.state();
@@ -220,6 +224,7 @@ pub(crate) fn take_service<B: Ledgers, V: Service, W: Wire>(
     ensures head { (shows hold.old.history).modified ≡ true → V.adapted_head service.new ≡ V.adapted_head service.old }
     ensures response { (shows hold.old.history).modified ≡ true → V.is_response service.new ≡ V.is_response service.old }
     ensures roomy { IsRoomy hold.new }
+    ensures unbroken { (cause : Cause) → result.failed ≡ Some cause → Breaks hold.old.history reused (V.fault service.new) → ⊥ }
     ensures breaks { result.broken ≡ true → Breaks hold.new.history reused (V.fault service.new) }
 {
     let state = hold.state();

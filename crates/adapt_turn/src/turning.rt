@@ -1,6 +1,7 @@
 //! A pass of a side, with its buffer.
 
-ghost use Rattle.std.specs.Prelude.{◌≡◌, ℕ, true, false, List};
+ghost use Rattle.std.specs.Prelude.{◌≡◌, ℕ, true, false, List, Some};
+ghost use Rattle.trace_core.specs.declared.history.Cause.{Cause};
 ghost use Rattle.trace_core.specs.declared.history.Seen.{Seen};
 ghost use Rattle.plan_rules.specs.Room.{original_room, adapted_room};
 ghost use Rattle.adapt_hold.specs.Holding.{shows, IsRoomy};
@@ -59,6 +60,7 @@ pub(crate) fn hear<B: Ledgers, V: Service, W: Wire>(
     ensures head { (shows hold.old.history).modified ≡ true → V.adapted_head service.new ≡ V.adapted_head service.old }
     ensures response { (shows hold.old.history).modified ≡ true → V.is_response service.new ≡ V.is_response service.old }
     ensures roomy { IsRoomy hold.new }
+    ensures unbroken { (cause : Cause) → result.failed ≡ Some cause → Breaks hold.old.history reused (V.fault service.new) → ⊥ }
     ensures breaks { result.broken ≡ true → Breaks hold.new.history reused (V.fault service.new) }
 {
     let _state = hold.state();

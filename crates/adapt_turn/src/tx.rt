@@ -2,6 +2,7 @@
 
 ghost use Rattle.std.specs.Prelude.{◌≡◌, ℕ, List, ◌≤◌, ◌^◌, ◌↔◌, true, false, [], Some, None, IsOk, IfOk, IfErr, IfSome};
 ghost use Rattle.trace_core.specs.declared.history.Event.TheVariants.{Retry};
+ghost use Rattle.trace_core.specs.declared.history.Cause.{Cause};
 ghost use Rattle.trace_core.specs.Legal.{MayFollow};
 ghost use Rattle.plan_rules.specs.Claims.{claim_of};
 ghost use Rattle.adapt_hold.specs.Holding.{shows, IsRoomy, IsTied};
@@ -43,6 +44,21 @@ pub trait Going {
 
     // so many bytes went over its wires in it
     ghost moves: { Self → Self → ℕ → Type 0 };
+}
+
+/// How a transaction that failed answers the user.
+pub trait Refusing {
+    // for this cause the user's writer has the refusal of its status; or a byte of an answer has gone out, and no refusal is due
+    ghost refuses: { Self → Cause → Type 0 };
+
+    // nothing of the refusal was due on the user's wire, or that wire answered Wait in this call
+    ghost refusal_waits: { Self → Self → Type 0 };
+
+    // a byte of the refusal went over the user's wire in this call
+    ghost refusal_moves: { Self → Self → Type 0 };
+
+    // the refusal is out, or its wire has failed
+    ghost refusal_is_over: { Self → Type 0 };
 }
 
 /// One transaction.
@@ -118,6 +134,27 @@ impl<B: Ledgers, S: Source, V: Service, K: Hop, F: Forward<S, K>, A: Wire, W: Wi
     ghost moves = { λ old new n. SumsBytes (MovesOver (A.past old.source_wire) (A.past new.source_wire))
         (λ k. MatchOption old.service (k ≡ 0) (λ line. MovesOver (W.past line.wire) (λ p. MatchOption new.service ⊥ (λ later. W.past later.wire p)) k))
         (MovesOver (C.past old.next_wire) (C.past new.next_wire)) n };
+}
+
+impl<B: Ledgers, S: Source, V: Service, K: Hop, F: Forward<S, K>, A: Wire, W: Wire, C: Wire> Refusing
+    for Tx<B, S, V, K, F, A, W, C> {
+    ghost use Rattle.std.specs.Prelude.{◌≡◌};
+    ghost use Rattle.trace_core.specs.declared.history.Point.TheVariants.{Reqmod, Respmod};
+    ghost use Rattle.adapt_turn.specs.Refusals.{refusal_status, user_untouched, IsRefused, IsOver};
+    ghost use Rattle.adapt_turn.specs.Rows.{BytesOr};
+    ghost use Rattle.adapt_turn.specs.Stands.{Waited, user_gift};
+
+    ghost refuses = { λ tx cause. IsRefused (refusal_status cause tx.hold.history.plan.point) tx.refusing (user_gift tx.hold.history.plan.point (K.gift tx.next) (K.gift tx.back))
+        (user_untouched tx.hold.history.plan.point (K.untouched tx.next) (K.untouched tx.back)) };
+
+    ghost refusal_waits = { λ old new. (old.hold.history.plan.point ≡ Respmod → Waited (K.rests (shows old.hold.history) new.next) (λ past. past.write_waits) (C.past old.next_wire) (C.past new.next_wire))
+        × (old.hold.history.plan.point ≡ Reqmod → Waited (K.rests (shows old.hold.history) new.back) (λ past. past.write_waits) (A.past old.source_wire) (A.past new.source_wire)) };
+
+    ghost refusal_moves = { λ old new. (old.hold.history.plan.point ≡ Respmod → BytesOr ⊥ (C.past old.next_wire) (C.past new.next_wire))
+        × (old.hold.history.plan.point ≡ Reqmod → BytesOr ⊥ (A.past old.source_wire) (A.past new.source_wire)) };
+
+    ghost refusal_is_over = { λ tx. (tx.hold.history.plan.point ≡ Respmod → IsOver (K.is_out tx.next) (K.fault tx.next))
+        × (tx.hold.history.plan.point ≡ Reqmod → IsOver (K.is_out tx.back) (K.fault tx.back)) };
 }
 
 impl<B: Ledgers, S: Source, V: Service, K: Hop, F: Forward<S, K>, A: Wire, W: Wire, C: Wire> Tx<

@@ -4,15 +4,14 @@ ghost use Rattle.std.specs.Prelude.{◌≡◌, ◌⊎◌, true, false, Some, Non
 ghost use Rattle.trace_core.specs.declared.history.Cause.{Cause};
 ghost use Rattle.trace_core.specs.declared.history.Seen.{Seen};
 ghost use Rattle.plan_rules.specs.Room.{original_room, adapted_room};
-ghost use Rattle.wire_kit.specs.Past.{Past};
 ghost use Rattle.adapt_sides.specs.declared.fault.RelayFault.TheVariants.{Device};
 ghost use Rattle.adapt_sides.specs.Turns.{Gift};
 ghost use Rattle.adapt_sides.specs.Turns.Gift.{nothing};
 ghost use Rattle.adapt_hold.specs.Holding.{shows};
 ghost use Rattle.adapt_turn.specs.Made.{MakesNoneAt, adapted_of, response_of};
-ghost use Rattle.adapt_turn.specs.Parts.{Breaks, IsOfSide, source_cause, service_cause, hop_cause, outcome_by};
+ghost use Rattle.adapt_turn.specs.Parts.{Breaks, FailsFor, IsOfSide, source_cause, hop_cause, outcome_by, fault_of};
 ghost use Rattle.adapt_turn.specs.Rows.{may_step, TookBy, Advances, BytesOr};
-ghost use Rattle.adapt_turn.specs.Stands.{IsChosen, Waited, WaitedBeside, WaitedBoth, Blamed, IsCauseOf};
+ghost use Rattle.adapt_turn.specs.Stands.{IsChosen, Waited, WaitedBeside, WaitedBoth, Blamed, BlamedService};
 
 use crate::forward::Forward;
 use crate::parts::{Passed, close, outcome_by, send};
@@ -98,8 +97,10 @@ impl<B: Ledgers, S: Source, V: Service, K: Hop, F: Forward<S, K>, A: Wire, W: Wi
         ensures waits { result.waiting ≡ true → WaitedBeside (MatchOption self.new.service ⊤ (λ line. V.rests_writing (shows self.old.hold.history) line.side)) (λ past. past.write_waits) (λ past. past.read_waits)
             (λ p. MatchOption self.old.service ⊥ (λ line. W.past line.wire p)) (λ p. MatchOption self.new.service ⊥ (λ line. W.past line.wire p)) }
         ensures active { result.waiting ≡ false → result.broken ≡ false → BytesOr (Advances (may_step Side.Service) self.old.hold self.new.hold) (λ p. MatchOption self.old.service ⊥ (λ line. W.past line.wire p)) (λ p. MatchOption self.new.service ⊥ (λ line. W.past line.wire p)) }
-        ensures blames { (cause : Cause) → result.failed ≡ Some cause → ((p : Past) → MatchOption self.old.service ⊥ (λ line. W.past line.wire p) → MatchOption self.new.service ⊥ (λ line. IsCauseOf service_cause cause (V.fault line.side))) }
+        ensures blames { (cause : Cause) → result.failed ≡ Some cause → BlamedService cause (fault_of (λ line. V.fault line.side) self.old.service) (fault_of (λ line. V.fault line.side) self.new.service) (λ p. MatchOption self.old.service ⊥ (λ line. W.past line.wire p)) (λ p. MatchOption self.new.service ⊥ (λ line. W.past line.wire p)) }
         ensures whole { result.waiting ≡ true → result.broken ≡ false }
+        ensures unbroken { (cause : Cause) → result.failed ≡ Some cause → FailsFor cause self.old.reused (fault_of (λ line. V.fault line.side) self.new.service) self.new.hold }
+        ensures sound { result.failed ≡ None → result.broken ≡ false → fault_of (λ line. V.fault line.side) self.new.service ≡ None }
         ensures of_side { (cause : Cause) → result.failed ≡ Some cause → IsOfSide cause }
         ensures breaks { result.broken ≡ true → MatchOption self.new.service ⊥ (λ line. Breaks self.new.hold.history self.old.reused (V.fault line.side)) }
         ensures outcome { self.new.outcome ≡ outcome_by result.failed }
@@ -139,7 +140,8 @@ impl<B: Ledgers, S: Source, V: Service, K: Hop, F: Forward<S, K>, A: Wire, W: Wi
         ensures took { TookBy (may_step Side.Service) self.old.hold self.new.hold }
         ensures active { result.waiting ≡ false → result.broken ≡ false → BytesOr (Advances (may_step Side.Service) self.old.hold self.new.hold) (λ p. MatchOption self.old.service ⊥ (λ line. W.past line.wire p)) (λ p. MatchOption self.new.service ⊥ (λ line. W.past line.wire p)) }
         ensures rests { (x : Seen) → MatchOption self.old.service ⊤ (λ line. V.rests_writing x line.side) → MatchOption self.new.service ⊤ (λ line. V.rests_writing x line.side) }
-        ensures blames { (cause : Cause) → result.failed ≡ Some cause → ((p : Past) → MatchOption self.old.service ⊥ (λ line. W.past line.wire p) → MatchOption self.new.service ⊥ (λ line. IsCauseOf service_cause cause (V.fault line.side))) }
+        ensures blames { (cause : Cause) → result.failed ≡ Some cause → BlamedService cause (fault_of (λ line. V.fault line.side) self.old.service) (fault_of (λ line. V.fault line.side) self.new.service) (λ p. MatchOption self.old.service ⊥ (λ line. W.past line.wire p)) (λ p. MatchOption self.new.service ⊥ (λ line. W.past line.wire p)) }
+        ensures unbroken { (cause : Cause) → result.failed ≡ Some cause → FailsFor cause self.old.reused (fault_of (λ line. V.fault line.side) self.new.service) self.new.hold }
         ensures of_side { (cause : Cause) → result.failed ≡ Some cause → IsOfSide cause }
         ensures breaks { result.broken ≡ true → MatchOption self.new.service ⊥ (λ line. Breaks self.new.hold.history self.old.reused (V.fault line.side)) }
         ensures outcome { self.new.outcome ≡ outcome_by result.failed }
@@ -177,7 +179,8 @@ impl<B: Ledgers, S: Source, V: Service, K: Hop, F: Forward<S, K>, A: Wire, W: Wi
             (λ p. MatchOption self.old.service ⊥ (λ line. W.past line.wire p)) (λ p. MatchOption self.new.service ⊥ (λ line. W.past line.wire p)) }
         ensures still { result.waiting ≡ true → self.new.hold ≡ self.old.hold }
         ensures active { result.waiting ≡ false → result.broken ≡ false → BytesOr (Advances (may_step Side.Service) self.old.hold self.new.hold) (λ p. MatchOption self.old.service ⊥ (λ line. W.past line.wire p)) (λ p. MatchOption self.new.service ⊥ (λ line. W.past line.wire p)) }
-        ensures blames { (cause : Cause) → result.failed ≡ Some cause → ((p : Past) → MatchOption self.old.service ⊥ (λ line. W.past line.wire p) → MatchOption self.new.service ⊥ (λ line. IsCauseOf service_cause cause (V.fault line.side))) }
+        ensures blames { (cause : Cause) → result.failed ≡ Some cause → BlamedService cause (fault_of (λ line. V.fault line.side) self.old.service) (fault_of (λ line. V.fault line.side) self.new.service) (λ p. MatchOption self.old.service ⊥ (λ line. W.past line.wire p)) (λ p. MatchOption self.new.service ⊥ (λ line. W.past line.wire p)) }
+        ensures unbroken { (cause : Cause) → result.failed ≡ Some cause → FailsFor cause self.old.reused (fault_of (λ line. V.fault line.side) self.new.service) self.new.hold }
         ensures of_side { (cause : Cause) → result.failed ≡ Some cause → IsOfSide cause }
         ensures breaks { result.broken ≡ true → MatchOption self.new.service ⊥ (λ line. Breaks self.new.hold.history self.old.reused (V.fault line.side)) }
         ensures outcome { self.new.outcome ≡ outcome_by result.failed }
@@ -218,7 +221,8 @@ impl<B: Ledgers, S: Source, V: Service, K: Hop, F: Forward<S, K>, A: Wire, W: Wi
         ensures active_next { side ≡ Side.NextHop → result.waiting ≡ false → BytesOr (Advances (may_step Side.NextHop) self.old.hold self.new.hold) (C.past self.old.next_wire) (C.past self.new.next_wire)
             ⊎ BytesOr (Advances (may_step Side.NextHop) self.old.hold self.new.hold) (A.past self.old.source_wire) (A.past self.new.source_wire) }
         ensures blames_source { side ≡ Side.Source → (cause : Cause) → result.failed ≡ Some cause → (S.agrees (shows self.old.hold.history) self.old.source → Blamed Device source_cause cause (S.fault self.old.source) (S.fault self.new.source) (A.past self.old.source_wire) (A.past self.new.source_wire)) }
-        ensures blames_service { side ≡ Side.Service → (cause : Cause) → result.failed ≡ Some cause → ((p : Past) → MatchOption self.old.service ⊥ (λ line. W.past line.wire p) → MatchOption self.new.service ⊥ (λ line. IsCauseOf service_cause cause (V.fault line.side))) }
+        ensures blames_service { side ≡ Side.Service → (cause : Cause) → result.failed ≡ Some cause → BlamedService cause (fault_of (λ line. V.fault line.side) self.old.service) (fault_of (λ line. V.fault line.side) self.new.service) (λ p. MatchOption self.old.service ⊥ (λ line. W.past line.wire p)) (λ p. MatchOption self.new.service ⊥ (λ line. W.past line.wire p)) }
+        ensures unbroken { side ≡ Side.Service → (cause : Cause) → result.failed ≡ Some cause → FailsFor cause self.old.reused (fault_of (λ line. V.fault line.side) self.new.service) self.new.hold }
         ensures blames_next { side ≡ Side.NextHop → (cause : Cause) → result.failed ≡ Some cause → ((K.gift self.old.next ≡ nothing) × (K.gift self.old.back ≡ nothing)
             × MakesNoneAt (F.makes_none self.old.forward (S.head self.old.source)) (adapted_of V.adapted_head self.old.service) (response_of V.is_response self.old.service) (shows self.old.hold.history) cause) ⊎ (Blamed Device hop_cause cause (K.fault self.old.next) (K.fault self.new.next) (C.past self.old.next_wire) (C.past self.new.next_wire)
             ⊎ Blamed Device hop_cause cause (K.fault self.old.back) (K.fault self.new.back) (A.past self.old.source_wire) (A.past self.new.source_wire)) }

@@ -1,18 +1,20 @@
 //! The proxy's own refusals.
 
-ghost use Rattle.std.specs.Prelude.{◌≡◌, ℕ, true, false, [], Some, None};
+ghost use Rattle.std.specs.Prelude.{◌≡◌, ℕ, ◌⊎◌, true, false, [], Some, None};
 ghost use Rattle.trace_core.specs.declared.history.Event.TheVariants.{Fail};
 ghost use Rattle.trace_core.specs.declared.history.Cause.{Cause};
 ghost use Rattle.adapt_sides.specs.Turns.{Gift, IsOwnStatus};
 ghost use Rattle.adapt_sides.specs.Turns.Gift.{refusal};
 ghost use Rattle.adapt_hold.specs.Holding.{shows, moved};
 ghost use Rattle.adapt_turn.specs.Parts.{outcome_by};
-ghost use Rattle.adapt_turn.specs.Stands.{TakesAside};
+ghost use Rattle.adapt_turn.specs.Refusals.{refusal_status, IsOver};
+ghost use Rattle.adapt_turn.specs.Rows.{BytesOr};
+ghost use Rattle.adapt_turn.specs.Stands.{TakesAside, Waited};
 
 use crate::forward::Forward;
 use crate::parts::tape_of;
 use crate::turned::{Outcome, Turned};
-use crate::tx::{Going, Tx};
+use crate::tx::{Going, Refusing, Tx};
 use adapt_hold::{Hold, fail};
 use adapt_sides::{Hop, Service, Source};
 use span_bank::{Bank, Ledgers};
@@ -22,7 +24,8 @@ use wire_kit::Wire;
 
 /// The status of the proxy's own refusal.
 fn status_of(cause: Cause, point: Point) -> u16
-    ensures { IsOwnStatus result }
+    ensures status { result ≡ refusal_status cause point }
+    ensures own { IsOwnStatus result }
 {
     match cause {
         Cause::Source if matches!(point, Point::Reqmod) => 400,
@@ -39,6 +42,9 @@ fn refusal_turn<B: Ledgers, K: Hop, C: Wire>(
     wire: &mut C,
 ) -> Option<bool>
     ensures gift { K.gift hop.new ≡ K.gift hop.old }
+    ensures waits { result ≡ Some true → Waited (K.rests (shows hold.now.history) hop.new) (λ past. past.write_waits) (C.past wire.old) (C.past wire.new) }
+    ensures moves { (shows hold.now.history).closed ≡ true → result ≡ Some false → BytesOr ⊥ (C.past wire.old) (C.past wire.new) }
+    ensures over { result ≡ None → IsOver (K.is_out hop.new) (K.fault hop.new) }
     ensures takes { TakesAside (λ taken. K.aside taken hop.old) (λ taken. K.aside taken hop.new) (C.past wire.old) (C.past wire.new) }
 {
     if hop.is_out() {
@@ -62,6 +68,7 @@ fn refuse_on<K: Hop>(hop: &mut K, status: u16) -> bool
     ensures gift { result ≡ true → K.gift hop.new ≡ refusal status }
     ensures aside { result ≡ true → K.aside [] hop.new }
     ensures same { result ≡ false → hop.new ≡ hop.old }
+    ensures touched { result ≡ false → K.untouched hop.new ≡ false }
     ensures fault { K.fault hop.new ≡ K.fault hop.old }
 {
     if hop.untouched() {
@@ -99,6 +106,7 @@ impl<B: Ledgers, S: Source, V: Service, K: Hop, F: Forward<S, K>, A: Wire, W: Wi
         ensures marked { (self.new.broken ≡ self.old.broken) × (self.new.reused ≡ self.old.reused) }
         ensures hold { self.new.hold ≡ self.old.hold }
         ensures outcome { self.new.outcome ≡ self.old.outcome }
+        ensures refuses { ⟦<Self as Refusing>⟧.refuses self.new cause }
         ensures kept { (self.new.source ≡ self.old.source) × (self.new.source_wire ≡ self.old.source_wire) × (self.new.service ≡ self.old.service) × (self.new.next_wire ≡ self.old.next_wire)
             × (K.fault self.new.next ≡ K.fault self.old.next) × (K.fault self.new.back ≡ K.fault self.old.back) }
     {
@@ -116,6 +124,7 @@ impl<B: Ledgers, S: Source, V: Service, K: Hop, F: Forward<S, K>, A: Wire, W: Wi
         ensures marked { (self.new.broken ≡ self.old.broken) × (self.new.reused ≡ self.old.reused) }
         ensures hold { self.new.hold ≡ self.old.hold }
         ensures outcome { self.new.outcome ≡ self.old.outcome }
+        ensures refuses { ⟦<Self as Refusing>⟧.refuses self.new cause }
         ensures kept { (self.new.source ≡ self.old.source) × (self.new.source_wire ≡ self.old.source_wire) × (self.new.service ≡ self.old.service) × (self.new.next_wire ≡ self.old.next_wire)
             × (K.fault self.new.next ≡ K.fault self.old.next) × (K.fault self.new.back ≡ K.fault self.old.back) }
     {
@@ -132,6 +141,7 @@ impl<B: Ledgers, S: Source, V: Service, K: Hop, F: Forward<S, K>, A: Wire, W: Wi
         ensures marked { (self.new.broken ≡ self.old.broken) × (self.new.reused ≡ self.old.reused) }
         ensures hold { self.new.hold ≡ self.old.hold }
         ensures outcome { self.new.outcome ≡ self.old.outcome }
+        ensures refuses { ⟦<Self as Refusing>⟧.refuses self.new cause }
         ensures kept { (self.new.source ≡ self.old.source) × (self.new.source_wire ≡ self.old.source_wire) × (self.new.service ≡ self.old.service) × (self.new.next_wire ≡ self.old.next_wire)
             × (K.fault self.new.next ≡ K.fault self.old.next) × (K.fault self.new.back ≡ K.fault self.old.back) }
     {
@@ -150,6 +160,7 @@ impl<B: Ledgers, S: Source, V: Service, K: Hop, F: Forward<S, K>, A: Wire, W: Wi
         ensures marked { (self.new.broken ≡ self.old.broken) × (self.new.reused ≡ self.old.reused) }
         ensures hold { self.new.hold ≡ self.old.hold }
         ensures outcome { self.new.outcome ≡ self.old.outcome }
+        ensures refuses { (cause : Cause) → failed ≡ Some cause → ⟦<Self as Refusing>⟧.refuses self.new cause }
         ensures kept { (self.new.source ≡ self.old.source) × (self.new.source_wire ≡ self.old.source_wire) × (self.new.service ≡ self.old.service) × (self.new.next_wire ≡ self.old.next_wire)
             × (K.fault self.new.next ≡ K.fault self.old.next) × (K.fault self.new.back ≡ K.fault self.old.back) }
         ensures same { failed ≡ None → (self.new.next ≡ self.old.next) × (self.new.back ≡ self.old.back) }
@@ -169,6 +180,7 @@ impl<B: Ledgers, S: Source, V: Service, K: Hop, F: Forward<S, K>, A: Wire, W: Wi
         ensures hold { self.new.hold ≡ moved self.old.hold (Fail cause) [] }
         ensures over { (shows self.new.hold.history).closed ≡ true }
         ensures outcome { self.new.outcome ≡ Outcome.Fail cause }
+        ensures refuses { ⟦<Self as Refusing>⟧.refuses self.new cause }
         ensures kept { (self.new.source_wire ≡ self.old.source_wire) × (self.new.service ≡ self.old.service) × (self.new.next_wire ≡ self.old.next_wire) }
     {
         let _state = self.hold.state();
@@ -181,7 +193,13 @@ impl<B: Ledgers, S: Source, V: Service, K: Hop, F: Forward<S, K>, A: Wire, W: Wi
     fn refusal_next(&mut self) -> Option<bool>
         requires due { self.old.refusing ≡ true }
         requires point { (shows self.old.hold.history).plan.point ≡ Point.Respmod }
+        requires over { (shows self.old.hold.history).closed ≡ true }
         ensures goes { ⟦<Self as Going>⟧.goes self.old self.new }
+        ensures waits { result ≡ Some true → ⟦<Self as Refusing>⟧.refusal_waits self.old self.new }
+        ensures moves { result ≡ Some false → ⟦<Self as Refusing>⟧.refusal_moves self.old self.new }
+        ensures over { result ≡ None → ⟦<Self as Refusing>⟧.refusal_is_over self.new }
+        ensures refuses { (cause : Cause) → ⟦<Self as Refusing>⟧.refuses self.old cause → ⟦<Self as Refusing>⟧.refuses self.new cause }
+        ensures refusing { self.new.refusing ≡ self.old.refusing }
         ensures timed { (self.new.last_moved ≡ self.old.last_moved) × (self.new.deadline ≡ self.old.deadline) }
         ensures marked { (self.new.broken ≡ self.old.broken) × (self.new.reused ≡ self.old.reused) }
         ensures served { self.new.service ≡ self.old.service }
@@ -195,7 +213,13 @@ impl<B: Ledgers, S: Source, V: Service, K: Hop, F: Forward<S, K>, A: Wire, W: Wi
     fn refusal_back(&mut self) -> Option<bool>
         requires due { self.old.refusing ≡ true }
         requires point { (shows self.old.hold.history).plan.point ≡ Point.Reqmod }
+        requires over { (shows self.old.hold.history).closed ≡ true }
         ensures goes { ⟦<Self as Going>⟧.goes self.old self.new }
+        ensures waits { result ≡ Some true → ⟦<Self as Refusing>⟧.refusal_waits self.old self.new }
+        ensures moves { result ≡ Some false → ⟦<Self as Refusing>⟧.refusal_moves self.old self.new }
+        ensures over { result ≡ None → ⟦<Self as Refusing>⟧.refusal_is_over self.new }
+        ensures refuses { (cause : Cause) → ⟦<Self as Refusing>⟧.refuses self.old cause → ⟦<Self as Refusing>⟧.refuses self.new cause }
+        ensures refusing { self.new.refusing ≡ self.old.refusing }
         ensures timed { (self.new.last_moved ≡ self.old.last_moved) × (self.new.deadline ≡ self.old.deadline) }
         ensures marked { (self.new.broken ≡ self.old.broken) × (self.new.reused ≡ self.old.reused) }
         ensures served { self.new.service ≡ self.old.service }
@@ -208,7 +232,13 @@ impl<B: Ledgers, S: Source, V: Service, K: Hop, F: Forward<S, K>, A: Wire, W: Wi
     /// Writes what is due of a refusal.
     fn refusal(&mut self) -> Option<bool>
         requires due { self.old.refusing ≡ true }
+        requires over { (shows self.old.hold.history).closed ≡ true }
         ensures goes { ⟦<Self as Going>⟧.goes self.old self.new }
+        ensures waits { result ≡ Some true → ⟦<Self as Refusing>⟧.refusal_waits self.old self.new }
+        ensures moves { result ≡ Some false → ⟦<Self as Refusing>⟧.refusal_moves self.old self.new }
+        ensures over { result ≡ None → ⟦<Self as Refusing>⟧.refusal_is_over self.new }
+        ensures refuses { (cause : Cause) → ⟦<Self as Refusing>⟧.refuses self.old cause → ⟦<Self as Refusing>⟧.refuses self.new cause }
+        ensures refusing { self.new.refusing ≡ self.old.refusing }
         ensures timed { (self.new.last_moved ≡ self.old.last_moved) × (self.new.deadline ≡ self.old.deadline) }
         ensures marked { (self.new.broken ≡ self.old.broken) × (self.new.reused ≡ self.old.reused) }
         ensures served { self.new.service ≡ self.old.service }
@@ -223,6 +253,7 @@ impl<B: Ledgers, S: Source, V: Service, K: Hop, F: Forward<S, K>, A: Wire, W: Wi
 
     /// A turn of a closed transaction: it writes a refusal that is due.
     pub(crate) fn closed_turn(&mut self) -> Turned
+        requires over { (shows self.old.hold.history).closed ≡ true }
         ensures goes { ⟦<Self as Going>⟧.goes self.old self.new }
         ensures timed { (self.new.last_moved ≡ self.old.last_moved) × (self.new.deadline ≡ self.old.deadline) }
         ensures marked { (self.new.broken ≡ self.old.broken) × (self.new.reused ≡ self.old.reused) }
@@ -232,6 +263,10 @@ impl<B: Ledgers, S: Source, V: Service, K: Hop, F: Forward<S, K>, A: Wire, W: Wi
         ensures whole { result ≡ Turned.Broken → ⊥ }
         ensures moved { (n : ℕ) → result ≡ Turned.Moved n → ⟦<Self as Going>⟧.moves self.old self.new n }
         ensures idle { result ≡ Turned.Waiting → ⟦<Self as Going>⟧.moves self.old self.new 0 }
+        ensures waits { result ≡ Turned.Waiting → ⟦<Self as Refusing>⟧.refusal_waits self.old self.new }
+        ensures moves { result ≡ Turned.Moved 0 → ⟦<Self as Refusing>⟧.refusal_moves self.old self.new }
+        ensures is_over { (outcome : Outcome) → result ≡ Turned.Finished outcome → (self.new.refusing ≡ false) ⊎ ⟦<Self as Refusing>⟧.refusal_is_over self.new }
+        ensures refuses { (cause : Cause) → ⟦<Self as Refusing>⟧.refuses self.old cause → ⟦<Self as Refusing>⟧.refuses self.new cause }
         ensures finished { self.old.refusing ≡ false → result ≡ Turned.Finished self.old.outcome }
     {
         if !self.refusing {

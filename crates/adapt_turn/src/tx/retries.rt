@@ -9,7 +9,7 @@ ghost use Rattle.adapt_turn.specs.Stands.{Texts};
 
 use crate::forward::Forward;
 use crate::turned::Outcome;
-use crate::tx::{Going, Standing, Tx};
+use crate::tx::{Going, Refusing, Standing, Tx};
 use adapt_hold::go_on;
 use adapt_sides::{Hop, Service, Source};
 use span_bank::{Bank, Ledgers};
@@ -59,6 +59,7 @@ impl<B: Ledgers, S: Source, V: Service, K: Hop, F: Forward<S, K>, A: Wire, W: Wi
         ensures timed { (self.new.last_moved ≡ self.old.last_moved) × (self.new.deadline ≡ self.old.deadline) }
         ensures hold { self.new.hold ≡ moved self.old.hold (Fail Service) [] }
         ensures outcome { self.new.outcome ≡ Outcome.Fail Service }
+        ensures refuses { ⟦<Self as Refusing>⟧.refuses self.new Service }
         ensures over { (shows self.new.hold.history).closed ≡ true }
     {
         self.fail_by(rt, bank, Cause::Service);

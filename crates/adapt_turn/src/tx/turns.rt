@@ -13,14 +13,14 @@ ghost use Rattle.adapt_sides.specs.Turns.{Gift};
 ghost use Rattle.adapt_sides.specs.Turns.Gift.{nothing};
 ghost use Rattle.adapt_hold.specs.Holding.{shows, moved};
 ghost use Rattle.adapt_turn.specs.Made.{MakesNoneAt, adapted_of, response_of};
-ghost use Rattle.adapt_turn.specs.Parts.{Breaks, source_cause, service_cause, hop_cause, outcome_by};
+ghost use Rattle.adapt_turn.specs.Parts.{Breaks, FailsFor, source_cause, hop_cause, outcome_by, fault_of};
 ghost use Rattle.adapt_turn.specs.Rows.{may_step, Advances};
-ghost use Rattle.adapt_turn.specs.Stands.{IsChosen, IsDone, Waited, WaitedBoth, Blamed, IsCauseOf};
+ghost use Rattle.adapt_turn.specs.Stands.{IsChosen, IsDone, Waited, WaitedBoth, Blamed, BlamedService};
 
 use crate::forward::Forward;
 use crate::parts::Passed;
 use crate::turned::{Outcome, Side, Turned};
-use crate::tx::{Going, Tx};
+use crate::tx::{Going, Refusing, Tx};
 use adapt_sides::{Hop, Service, Source};
 use span_bank::{Bank, Ledgers};
 use std::sync::Wait;
@@ -88,6 +88,11 @@ impl<B: Ledgers, S: Source, V: Service, K: Hop, F: Forward<S, K>, A: Wire, W: Wi
         ensures marked { (self.new.broken ≡ true → (self.old.broken ≡ true) ⊎ (result ≡ Turned.Broken)) × (self.new.reused ≡ self.old.reused) }
         ensures finished { (outcome : Outcome) → result ≡ Turned.Finished outcome → ((shows self.old.hold.history).closed ≡ true) × (outcome ≡ self.old.outcome) }
         ensures done { result ≡ Turned.Finished Outcome.Done → IsDone self.new.hold.history }
+        ensures refuses { (shows self.old.hold.history).closed ≡ false → (cause : Cause) → self.new.outcome ≡ Outcome.Fail cause → ⟦<Self as Refusing>⟧.refuses self.new cause }
+        ensures refuses_on { (shows self.old.hold.history).closed ≡ true → (cause : Cause) → ⟦<Self as Refusing>⟧.refuses self.old cause → ⟦<Self as Refusing>⟧.refuses self.new cause }
+        ensures is_over { (outcome : Outcome) → result ≡ Turned.Finished outcome → (self.new.refusing ≡ false) ⊎ ⟦<Self as Refusing>⟧.refusal_is_over self.new }
+        ensures waits_closed { (shows self.old.hold.history).closed ≡ true → result ≡ Turned.Waiting → ⟦<Self as Refusing>⟧.refusal_waits self.old self.new }
+        ensures moves_closed { (shows self.old.hold.history).closed ≡ true → result ≡ Turned.Moved 0 → (p r : Past) → A.past self.old.source_wire p → C.past self.old.next_wire r → ⊥ }
         ensures waits_source { side ≡ Side.Source → (shows self.old.hold.history).closed ≡ false → result ≡ Turned.Waiting → Waited (S.rests (original_room (shows self.old.hold.history) self.old.hold.claim self.old.hold.limits.window) self.new.source) (λ past. past.read_waits) (A.past self.old.source_wire) (A.past self.new.source_wire) }
         ensures waits_service { side ≡ Side.Service → (shows self.old.hold.history).closed ≡ false → result ≡ Turned.Waiting → WaitedBoth (MatchOption self.new.service ⊤ (λ line. V.rests_writing (shows self.old.hold.history) line.side)) (MatchOption self.new.service ⊤ (λ line. V.rests_reading (shows self.old.hold.history) (adapted_room (shows self.old.hold.history) self.old.hold.limits.window) line.side))
             (λ p. MatchOption self.old.service ⊥ (λ line. W.past line.wire p)) (λ p. MatchOption self.new.service ⊥ (λ line. W.past line.wire p)) }
@@ -96,7 +101,9 @@ impl<B: Ledgers, S: Source, V: Service, K: Hop, F: Forward<S, K>, A: Wire, W: Wi
         ensures fails_source { side ≡ Side.Source → (shows self.old.hold.history).closed ≡ false → (cause : Cause) → self.new.outcome ≡ Outcome.Fail cause
             → ((cause ≡ Deadline) × (self.old.last_moved + self.old.deadline ≤ now)) ⊎ (S.agrees (shows self.old.hold.history) self.old.source → Blamed Device source_cause cause (S.fault self.old.source) (S.fault self.new.source) (A.past self.old.source_wire) (A.past self.new.source_wire)) }
         ensures fails_service { side ≡ Side.Service → (shows self.old.hold.history).closed ≡ false → (cause : Cause) → self.new.outcome ≡ Outcome.Fail cause
-            → ((cause ≡ Deadline) × (self.old.last_moved + self.old.deadline ≤ now)) ⊎ ((p : Past) → MatchOption self.old.service ⊥ (λ line. W.past line.wire p) → MatchOption self.new.service ⊥ (λ line. IsCauseOf service_cause cause (V.fault line.side))) }
+            → ((cause ≡ Deadline) × (self.old.last_moved + self.old.deadline ≤ now)) ⊎ BlamedService cause (fault_of (λ line. V.fault line.side) self.old.service) (fault_of (λ line. V.fault line.side) self.new.service) (λ p. MatchOption self.old.service ⊥ (λ line. W.past line.wire p)) (λ p. MatchOption self.new.service ⊥ (λ line. W.past line.wire p)) }
+        ensures unbroken { side ≡ Side.Service → (shows self.old.hold.history).closed ≡ false → (cause : Cause) → self.new.outcome ≡ Outcome.Fail cause
+            → ((cause ≡ Deadline) × (self.old.last_moved + self.old.deadline ≤ now)) ⊎ FailsFor cause self.old.reused (fault_of (λ line. V.fault line.side) self.new.service) self.new.hold }
         ensures fails_next { side ≡ Side.NextHop → (shows self.old.hold.history).closed ≡ false → (cause : Cause) → self.new.outcome ≡ Outcome.Fail cause
             → ((cause ≡ Deadline) × (self.old.last_moved + self.old.deadline ≤ now)) ⊎ (((K.gift self.old.next ≡ nothing) × (K.gift self.old.back ≡ nothing)
             × MakesNoneAt (F.makes_none self.old.forward (S.head self.old.source)) (adapted_of V.adapted_head self.old.service) (response_of V.is_response self.old.service) (shows self.old.hold.history) cause) ⊎ (Blamed Device hop_cause cause (K.fault self.old.next) (K.fault self.new.next) (C.past self.old.next_wire) (C.past self.new.next_wire)
@@ -139,6 +146,7 @@ impl<B: Ledgers, S: Source, V: Service, K: Hop, F: Forward<S, K>, A: Wire, W: Wi
         ensures limit { self.new.deadline ≡ self.old.deadline }
         ensures kept { (self.new.source ≡ self.old.source) × (self.new.source_wire ≡ self.old.source_wire) × (self.new.service ≡ self.old.service) × (self.new.next_wire ≡ self.old.next_wire)
             × (K.fault self.new.next ≡ K.fault self.old.next) × (K.fault self.new.back ≡ K.fault self.old.back) }
+        ensures refuses { (cause : Cause) → passed.failed ≡ Some cause → ⟦<Self as Refusing>⟧.refuses self.new cause }
         ensures same { passed.failed ≡ None → (self.new.next ≡ self.old.next) × (self.new.back ≡ self.old.back) }
     {
         self.last_moved = moment_of(moved, now, self.last_moved);
@@ -155,6 +163,8 @@ impl<B: Ledgers, S: Source, V: Service, K: Hop, F: Forward<S, K>, A: Wire, W: Wi
         ensures closed { (shows self.old.hold.history).closed ≡ true → (self.new.hold ≡ self.old.hold) × (self.new.outcome ≡ self.old.outcome) }
         ensures deadline { (shows self.old.hold.history).closed ≡ false → self.old.deadline ≡ 0 → 0 < length schedule.now
             → (self.new.hold ≡ moved self.old.hold (Fail Deadline) []) × (self.new.outcome ≡ Outcome.Fail Deadline) }
+        ensures refuses { (shows self.old.hold.history).closed ≡ false → (cause : Cause) → self.new.outcome ≡ Outcome.Fail cause → ⟦<Self as Refusing>⟧.refuses self.new cause }
+        ensures refuses_on { (shows self.old.hold.history).closed ≡ true → (cause : Cause) → ⟦<Self as Refusing>⟧.refuses self.old cause → ⟦<Self as Refusing>⟧.refuses self.new cause }
         ensures timely { ((maker : F) (head : S.Head) (x : Seen) (adapted : Option (List ℕ)) (is_response : Bool) → F.makes_none maker head x adapted is_response Deadline → ⊥)
             → (shows self.old.hold.history).closed ≡ false → self.new.outcome ≡ Outcome.Fail Deadline → self.old.deadline ≡ 0 }
     {
@@ -175,6 +185,7 @@ impl<B: Ledgers, S: Source, V: Service, K: Hop, F: Forward<S, K>, A: Wire, W: Wi
         ensures closed { (shows self.old.hold.history).closed ≡ true → (self.new.hold ≡ self.old.hold) × (self.new.outcome ≡ self.old.outcome) }
         ensures halted { (shows self.old.hold.history).closed ≡ false
             → (self.new.hold ≡ moved self.old.hold (Fail Stopping) []) × (self.new.outcome ≡ Outcome.Fail Stopping) }
+        ensures refuses { (shows self.old.hold.history).closed ≡ false → ⟦<Self as Refusing>⟧.refuses self.new Stopping }
         ensures over { (shows self.new.hold.history).closed ≡ true }
     {
         if !self.is_closed() {

@@ -1,4 +1,4 @@
-use Rattle.std.proofs.Common.{List, [], sym, subst}
+use Rattle.std.proofs.Common.{List, [], refl, sym, subst}
 use Rattle.trace_core.specs.declared.history.Event.{Event}
 use Rattle.trace_core.specs.History.{History}
 use Rattle.trace_core.specs.Turns.{MayAllFollow}
@@ -26,3 +26,6 @@ pub returns-in-Err-clause-part : goal.returns-in-Err-clause-part
 returns-in-Err-clause-part g c =
     passes.send_failed c.args.hold.now c.service_failed.new.hold c.state-state.result.now c.original-tape.result.now c.in-Err.fault _ _ _ _ (λ x. g.V.Service.rests_writing x c.write_turn.new.self) _ _ c.service_failed.result
     c.requires.roomy c.requires.running c.state-state.ensures.state c.original-tape.ensures.tape c.in-Err.ensures.turn c.service_failed.ensures.broken c.service_failed.ensures.closed
+
+pub returns-in-Err-clause-unbroken : goal.returns-in-Err-clause-unbroken
+returns-in-Err-clause-unbroken g c = passes.unbroken_by c.args.hold.now c.service_failed.new.hold c.args.reused c.in-Err.fault _ c.service_failed.result c.service_failed.result.broken refl (c.in-Err.ensures.turn.fault.stays c.in-Err.fault refl) c.service_failed.ensures.broken c.service_failed.ensures.unbroken

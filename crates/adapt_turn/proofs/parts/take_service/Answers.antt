@@ -1,4 +1,4 @@
-use Rattle.std.proofs.Common.{◌≤◌, length, arith}
+use Rattle.std.proofs.Common.{◌≤◌, length, arith, refl}
 use Rattle.plan_rules.specs.Room.{adapted_room}
 use Rattle.adapt_hold.specs.Holding.{shows}
 use Rattle.adapt_turn.proofs.Passes as passes
@@ -23,3 +23,6 @@ pub returns-in-Err-clause-part : goal.returns-in-Err-clause-part
 returns-in-Err-clause-part g c =
     passes.hear_failed c.args.hold.now c.service_failed.new.hold c.state-state.result.now c.in-Err.fault c.read_turn.new.out _ _ _ _ (λ x k. g.V.Service.rests_reading x k c.read_turn.new.self) (length c.args.out.now) _ _ _ c.service_failed.result
     c.requires.room c.requires.roomy c.requires.running c.state-state.ensures.state c.in-Err.ensures.turn c.service_failed.ensures.broken c.service_failed.ensures.closed
+
+pub returns-in-Err-clause-unbroken : goal.returns-in-Err-clause-unbroken
+returns-in-Err-clause-unbroken g c = passes.unbroken_by c.args.hold.now c.service_failed.new.hold c.args.reused c.in-Err.fault _ c.service_failed.result c.service_failed.result.broken refl (c.in-Err.ensures.turn.fault.stays c.in-Err.fault refl) c.service_failed.ensures.broken c.service_failed.ensures.unbroken

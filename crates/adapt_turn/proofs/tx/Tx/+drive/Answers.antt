@@ -3,6 +3,9 @@ use Rattle.trace_core.specs.declared.history.Cause.TheVariants.{Deadline}
 use Rattle.adapt_hold.specs.Holding.{Holding, shows}
 use Rattle.adapt_turn.proofs.Told.{failed_over, same_moment, timely_then}
 use Rattle.adapt_turn.proofs.Together.{goes_none, goes_then}
+use Rattle.std.proofs.Common.{ap}
+use Rattle.std.proofs.lemmas.Bool.{false≢true}
+use Rattle.adapt_turn.proofs.Refusals.{by_closed}
 use Rattle.adapt_turn.proofs.tx.Tx.+drive.Goals as goal
 
 pub returns-in-empty-clause-goes : goal.returns-in-empty-clause-goes
@@ -14,6 +17,9 @@ returns-in-len1-up g t c = record {
   timed = (c.drive.ensures.timed.0 ∙ same_moment _ _ c.turn.ensures.moment, c.drive.ensures.timed.1 ∙ c.turn.ensures.limit);
   closed = λ e. (let w = c.turn.ensures.closed e in let v = c.drive.ensures.closed (subst (λ (y : Holding). (shows y.history).closed ≡ true) (sym w.0) e) in (v.0 ∙ w.0, v.1 ∙ w.1));
   deadline = λ o d n. (let w = c.turn.ensures.deadline o (omega (arith, d)) in let v = c.drive.ensures.closed (failed_over c.turn.new.self.hold.history c.turn.new.self.outcome Deadline c.turn.new.self.told w.2) in (v.0 ∙ w.0, v.1 ∙ w.2));
+  refuses = λ o cause e. by_closed (shows c.turn.new.self.hold.history).closed _
+      (λ k. c.drive.ensures.refuses_on k cause (c.turn.ensures.refuses o cause (sym (c.drive.ensures.closed k).1 ∙ e))) (λ k. c.drive.ensures.refuses k cause e);
+  refuses_on = λ k cause w. c.drive.ensures.refuses_on (ap (λ (y : Holding). (shows y.history).closed) (c.turn.ensures.closed k).0 ∙ k) cause (c.turn.ensures.refuses_on k cause w);
   timely = λ clean o e. timely_then (shows c.turn.new.self.hold.history).closed _ c.turn.new.self.outcome c.drive.new.self.outcome
       (λ f. elim (c.turn.ensures.timely o f) [
         | inl l ↦ omega (arith, l)
@@ -21,3 +27,6 @@ returns-in-len1-up g t c = record {
       ])
       (λ f. (c.drive.ensures.closed f).1) (λ f. sym c.turn.ensures.limit ∙ c.drive.ensures.timely clean f e) e;
 }
+
+pub returns-in-empty-clause-refuses : goal.returns-in-empty-clause-refuses
+returns-in-empty-clause-refuses g t c = λ o cause e. absurd (false≢true (sym o ∙ failed_over c.args.self.now.hold.history c.args.self.now.outcome cause c.args.self.now.told e))

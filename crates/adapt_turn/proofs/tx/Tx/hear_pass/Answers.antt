@@ -2,7 +2,7 @@ use Rattle.adapt_hold.specs.Holding.{shows}
 use Rattle.std.proofs.Common.{Some}
 use Rattle.adapt_turn.proofs.Made.{made_by, made_on, heads_then, line_heads}
 use Rattle.adapt_turn.proofs.Together.{others_of, hear_goes, goes_none}
-use Rattle.adapt_turn.proofs.Reasons.{part_idle, hear_waits, line_blames}
+use Rattle.adapt_turn.proofs.Reasons.{part_idle, hear_waits, part_fails, line_blamed}
 use Rattle.std.proofs.Common.{Option, refl, ◌∙◌, subst}
 use Rattle.std.specs.Prelude.{MatchOption}
 use Rattle.adapt_turn.specs.declared.start.Line.{Line}
@@ -33,7 +33,7 @@ pub returns-in-Some-clause-waits : goal.returns-in-Some-clause-waits
 returns-in-Some-clause-waits g c = λ e. hear_waits c.args.self.now.service c.in-Some.line (λ l p. g.W.Wire.past l.wire p) _ _ _ _ _ _ _ _ _ _ _ _ _ c.hear-passed.result c.in-Some.is c.hear-passed.ensures.part.part e
 
 pub returns-in-Some-clause-blames : goal.returns-in-Some-clause-blames
-returns-in-Some-clause-blames g c = λ cause e p b. line_blames c.args.self.now.service c.in-Some.line (λ l p. g.W.Wire.past l.wire p) _ _ _ _ _ _ _ _ _ _ _ _ _ _ c.hear-passed.result c.in-Some.is c.hear-passed.ensures.part.part cause e p b
+returns-in-Some-clause-blames g c = λ cause e. line_blamed c.args.self.now.service c.in-Some.line (λ l. g.V.Service.fault l.side) (λ l p. g.W.Wire.past l.wire p) _ _ _ _ _ _ _ _ _ _ _ _ _ c.hear-passed.result c.in-Some.is c.hear-passed.ensures.part.part cause e
 
 pub returns-in-None-clause-waits : goal.returns-in-None-clause-waits
 returns-in-None-clause-waits g c = λ e p b. absurd (subst (λ (z : Option (Line g.row.V.Denot g.row.W.Denot)). MatchOption z ⊥ (λ l. g.W.Wire.past l.wire p)) c.in-None.is b)
@@ -53,3 +53,6 @@ returns-in-None-clause-took g c = ([], tt, refl)
 pub returns-in-Some-clause-active : goal.returns-in-Some-clause-active
 returns-in-Some-clause-active g c = λ w b. line_acts c.args.self.now.service c.in-Some.line (λ l p. g.W.Wire.past l.wire p) _ _ c.in-Some.is
     (part_acts Service _ _ _ _ _ _ _ _ _ _ _ _ _ _ _ _ _ of_replies (omega arith) c.state-state.ensures.tied c.hear-passed.ensures.part.part w b)
+
+pub returns-in-Some-clause-unbroken : goal.returns-in-Some-clause-unbroken
+returns-in-Some-clause-unbroken g c = λ cause e. (c.args.self.now.hold, part_fails _ _ _ _ _ _ _ _ _ _ _ _ _ _ _ _ _ c.hear-passed.ensures.part.part cause e, c.hear-passed.ensures.unbroken cause e)

@@ -2,12 +2,13 @@ use Rattle.adapt_hold.specs.Holding.{shows}
 use Rattle.std.proofs.Common.{Some}
 use Rattle.adapt_turn.proofs.Made.{made_by, made_on, heads_then, line_heads}
 use Rattle.adapt_turn.proofs.Together.{others_of, send_goes, goes_none}
-use Rattle.adapt_turn.proofs.Reasons.{part_idle, part_still, send_waits, line_blames}
+use Rattle.adapt_turn.proofs.Reasons.{part_idle, part_still, send_waits, part_fails, line_blamed}
 use Rattle.std.proofs.Common.{Option, refl, ◌∙◌, subst}
 use Rattle.std.specs.Prelude.{MatchOption}
 use Rattle.adapt_turn.specs.declared.start.Line.{Line}
 use Rattle.adapt_turn.proofs.Told.{part_told}
-use Rattle.std.proofs.Common.{length, arith}
+use Rattle.std.proofs.Common.{length, arith, ap}
+use Rattle.adapt_turn.specs.Parts.{fault_of}
 use Rattle.adapt_turn.specs.declared.turned.Side.TheVariants.{Service}
 use Rattle.adapt_turn.proofs.Rows.{part_acts, of_sending, line_acts}
 use Rattle.adapt_turn.proofs.tx.Tx.send_pass.Goals as goal
@@ -35,7 +36,7 @@ pub returns-in-Some-clause-waits : goal.returns-in-Some-clause-waits
 returns-in-Some-clause-waits g c = λ e. send_waits c.args.self.now.service c.in-Some.line (λ l p. g.W.Wire.past l.wire p) _ _ _ _ _ _ _ _ _ _ _ _ _ c.send-passed.result c.in-Some.is c.send-passed.ensures.part.part e
 
 pub returns-in-Some-clause-blames : goal.returns-in-Some-clause-blames
-returns-in-Some-clause-blames g c = λ cause e p b. line_blames c.args.self.now.service c.in-Some.line (λ l p. g.W.Wire.past l.wire p) _ _ _ _ _ _ _ _ _ _ _ _ _ _ c.send-passed.result c.in-Some.is c.send-passed.ensures.part.part cause e p b
+returns-in-Some-clause-blames g c = λ cause e. line_blamed c.args.self.now.service c.in-Some.line (λ l. g.V.Service.fault l.side) (λ l p. g.W.Wire.past l.wire p) _ _ _ _ _ _ _ _ _ _ _ _ _ c.send-passed.result c.in-Some.is c.send-passed.ensures.part.part cause e
 
 pub returns-in-None-clause-waits : goal.returns-in-None-clause-waits
 returns-in-None-clause-waits g c = λ e p b. absurd (subst (λ (z : Option (Line g.row.V.Denot g.row.W.Denot)). MatchOption z ⊥ (λ l. g.W.Wire.past l.wire p)) c.in-None.is b)
@@ -46,3 +47,12 @@ invariant_of-self g c = record { roomy = c.send-passed.ensures.roomy; told = c.o
 pub returns-in-Some-clause-active : goal.returns-in-Some-clause-active
 returns-in-Some-clause-active g c = λ w b. line_acts c.args.self.now.service c.in-Some.line (λ l p. g.W.Wire.past l.wire p) _ _ c.in-Some.is
     (part_acts Service _ _ _ _ _ _ _ _ _ _ _ _ _ _ _ _ _ of_sending (omega arith) c.state-state.ensures.tied c.send-passed.ensures.part.part w b)
+
+pub returns-in-Some-clause-unbroken : goal.returns-in-Some-clause-unbroken
+returns-in-Some-clause-unbroken g c = λ cause e. (c.args.self.now.hold, part_fails _ _ _ _ _ _ _ _ _ _ _ _ _ _ _ _ _ c.send-passed.ensures.part.part cause e, c.send-passed.ensures.unbroken cause e)
+
+pub returns-in-Some-clause-sound : goal.returns-in-Some-clause-sound
+returns-in-Some-clause-sound g c = c.send-passed.ensures.part.part.sound
+
+pub returns-in-None-clause-sound : goal.returns-in-None-clause-sound
+returns-in-None-clause-sound g c = λ n b. ap (λ (z : Option (Line g.row.V.Denot g.row.W.Denot)). fault_of (λ l. g.V.Service.fault l.side) z) c.in-None.is

@@ -4,7 +4,9 @@ use Rattle.std.proofs.lemmas.Bool.{false≢true}
 use Rattle.std.specs.Prelude.{MatchOption, ⊤}
 use Rattle.plan_rules.specs.Room.{adapted_room}
 use Rattle.adapt_hold.specs.Holding.{Holding, shows}
-use Rattle.adapt_turn.proofs.Reasons.{both_waited}
+use Rattle.adapt_turn.proofs.Reasons.{both_waited, blamed_then, not_failed}
+use Rattle.std.proofs.Common.{Bool, subst}
+use Rattle.adapt_turn.specs.Parts.{FailsFor, fault_of}
 use Rattle.adapt_turn.specs.declared.turned.Side.TheVariants.{Service}
 use Rattle.adapt_turn.specs.Rows.{may_step}
 use Rattle.adapt_turn.proofs.Rows.{then_acts, acts_then}
@@ -25,10 +27,12 @@ returns-then-sent-2-clause-waits g c = λ e. both_waited c.args.self.now.hold c.
     (c.send_pass-sent.ensures.still c.if-sent-2.true) (λ x. c.hear_pass-heard.ensures.rests (shows c.args.self.now.hold.history) x) (c.send_pass-sent.ensures.waits c.if-sent-2.true) (c.hear_pass-heard.ensures.waits e)
 
 pub returns-then-sent-2-clause-blames : goal.returns-then-sent-2-clause-blames
-returns-then-sent-2-clause-blames g c = λ cause e p b. let w = c.send_pass-sent.ensures.goes.service p b in c.hear_pass-heard.ensures.blames cause e w.0 w.1
+returns-then-sent-2-clause-blames g c = λ cause e. blamed_then _ _ cause _ _ _ _ _ _ _ _
+    (c.send_pass-sent.ensures.sound (not_failed c.send_pass-sent.result.failed _ c.send_pass-sent.ensures.over (sym c.is_closed.ensures ∙ c.if-is_closed.false)) c.if-sent.false) c.send_pass-sent.ensures.goes.service (c.hear_pass-heard.ensures.blames cause e)
 
 pub returns-else-sent-2-clause-blames : goal.returns-else-sent-2-clause-blames
-returns-else-sent-2-clause-blames g c = λ cause e p b. let w = c.send_pass-sent.ensures.goes.service p b in c.hear_pass-heard.ensures.blames cause e w.0 w.1
+returns-else-sent-2-clause-blames g c = λ cause e. blamed_then _ _ cause _ _ _ _ _ _ _ _
+    (c.send_pass-sent.ensures.sound (not_failed c.send_pass-sent.result.failed _ c.send_pass-sent.ensures.over (sym c.is_closed.ensures ∙ c.if-is_closed.false)) c.if-sent.false) c.send_pass-sent.ensures.goes.service (c.hear_pass-heard.ensures.blames cause e)
 
 pub returns-then-sent-2-clause-still : goal.returns-then-sent-2-clause-still
 returns-then-sent-2-clause-still g c = λ e. c.hear_pass-heard.ensures.still e ∙ c.send_pass-sent.ensures.still c.if-sent-2.true
@@ -46,3 +50,9 @@ returns-else-sent-2-clause-absent g c = λ n. absurd (false≢true (sym c.if-sen
 pub returns-else-sent-2-clause-active : goal.returns-else-sent-2-clause-active
 returns-else-sent-2-clause-active g c = λ w b. acts_then (may_step Service) c.args.self.now.hold c.send_pass-sent.new.self.hold c.hear_pass-heard.new.self.hold _ _ _ _ _
     (c.send_pass-sent.ensures.active c.if-sent-2.false c.if-sent.false) c.hear_pass-heard.ensures.goes.service c.hear_pass-heard.ensures.took
+
+pub returns-then-sent-2-clause-unbroken : goal.returns-then-sent-2-clause-unbroken
+returns-then-sent-2-clause-unbroken g c = λ cause e. subst (λ (z : Bool). FailsFor cause z (fault_of (λ l. g.V.Service.fault l.side) c.hear_pass-heard.new.self.service) c.hear_pass-heard.new.self.hold) c.send_pass-sent.ensures.marked.1 (c.hear_pass-heard.ensures.unbroken cause e)
+
+pub returns-else-sent-2-clause-unbroken : goal.returns-else-sent-2-clause-unbroken
+returns-else-sent-2-clause-unbroken g c = λ cause e. subst (λ (z : Bool). FailsFor cause z (fault_of (λ l. g.V.Service.fault l.side) c.hear_pass-heard.new.self.service) c.hear_pass-heard.new.self.hold) c.send_pass-sent.ensures.marked.1 (c.hear_pass-heard.ensures.unbroken cause e)

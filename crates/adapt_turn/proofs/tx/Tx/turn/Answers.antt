@@ -3,17 +3,20 @@ use Rattle.std.proofs.Common.{inl, inr, sym, ◌∙◌, ap}
 use Rattle.trace_core.specs.declared.history.Cause.TheVariants.{Deadline, Stopping}
 use Rattle.plan_rules.specs.Room.{original_room, adapted_room}
 use Rattle.adapt_hold.specs.Holding.{shows}
-use Rattle.adapt_turn.specs.Parts.{service_cause}
-use Rattle.adapt_turn.specs.Stands.{IsCauseOf}
-use Rattle.adapt_turn.proofs.Reasons.{waits_kept, both_kept, blamed_kept, line_kept, breaks_kept, outcome_fails}
+use Rattle.adapt_turn.proofs.Reasons.{waits_kept, both_kept, blamed_kept, line_blamed_kept, fails_kept, breaks_kept, outcome_fails}
 use Rattle.adapt_turn.proofs.Moved.{moves_of, moves_none, refreshed_by}
 use Rattle.adapt_turn.specs.declared.turned.Outcome.TheVariants as outcomes
 use Rattle.adapt_turn.proofs.Told.{done_told}
-use Rattle.std.proofs.Common.{refl, subst}
+use Rattle.std.proofs.Common.{◌≡◌, refl, subst}
 use Rattle.std.proofs.lemmas.Bool.{false≢true}
 use Rattle.adapt_turn.specs.Rows.{may_step, Advances}
 use Rattle.adapt_turn.proofs.Rows.{by_side, fail_advances}
 use Rattle.adapt_turn.proofs.Moved.{none_over, waiting_not, some_line}
+use Rattle.trace_core.specs.declared.history.Cause.{Cause}
+use Rattle.adapt_turn.specs.Stands.{user_gift}
+use Rattle.adapt_turn.specs.Refusals.{refusal_status, user_untouched, IsRefused}
+use Rattle.adapt_turn.proofs.Refusals.{by_point}
+use Rattle.adapt_turn.proofs.Told.{failed_over}
 use Rattle.adapt_turn.proofs.tx.Tx.turn.Goals as goal
 
 pub returns-then-is_broken-clause-goes : goal.returns-then-is_broken-clause-goes
@@ -39,7 +42,7 @@ pub returns-clause-fails_source : goal.returns-clause-fails_source
 returns-clause-fails_source g c = λ s o cause e. inr (λ a. blamed_kept _ _ cause g.A.Wire.past _ _ (g.S.Source.fault c.pass-passed.new.self.source) (g.S.Source.fault c.after_pass.new.self.source) c.pass-passed.new.self.source_wire c.after_pass.new.self.source_wire (ap g.S.Source.fault c.after_pass.ensures.kept.0) c.after_pass.ensures.kept.1 (c.pass-passed.ensures.blames_source s cause (outcome_fails c.pass-passed.result.failed c.after_pass.new.self.outcome cause (c.after_pass.ensures.outcome ∙ c.pass-passed.ensures.outcome) e) a))
 
 pub returns-clause-fails_service : goal.returns-clause-fails_service
-returns-clause-fails_service g c = λ s o cause e. inr (line_kept (λ l. IsCauseOf service_cause cause (g.V.Service.fault l.side)) _ c.pass-passed.new.self.service c.after_pass.new.self.service c.after_pass.ensures.kept.2 (c.pass-passed.ensures.blames_service s cause (outcome_fails c.pass-passed.result.failed c.after_pass.new.self.outcome cause (c.after_pass.ensures.outcome ∙ c.pass-passed.ensures.outcome) e)))
+returns-clause-fails_service g c = λ s o cause e. inr (line_blamed_kept (λ l. g.V.Service.fault l.side) (λ l p. g.W.Wire.past l.wire p) cause _ _ c.pass-passed.new.self.service c.after_pass.new.self.service c.after_pass.ensures.kept.2 (c.pass-passed.ensures.blames_service s cause (outcome_fails c.pass-passed.result.failed c.after_pass.new.self.outcome cause (c.after_pass.ensures.outcome ∙ c.pass-passed.ensures.outcome) e)))
 
 pub returns-clause-fails_next : goal.returns-clause-fails_next
 returns-clause-fails_next g c = λ s o cause e. inr (elim (c.pass-passed.ensures.blames_next s cause (outcome_fails c.pass-passed.result.failed c.after_pass.new.self.outcome cause (c.after_pass.ensures.outcome ∙ c.pass-passed.ensures.outcome) e)) [
@@ -120,3 +123,27 @@ returns-clause-active g c = λ o e p q r a b d.
       | inl act ↦ (let v = act r d in v.4 (k.2 r v.0 d v.1))
       | inr act ↦ (let v = act p a in v.4 (k.0 p v.0 a v.1))
     ]))
+
+pub returns-clause-refuses : goal.returns-clause-refuses
+returns-clause-refuses g c = λ o cause e. c.after_pass.ensures.refuses cause (outcome_fails c.pass-passed.result.failed c.after_pass.new.self.outcome cause (c.after_pass.ensures.outcome ∙ c.pass-passed.ensures.outcome) e)
+
+pub returns-then-now-self-2-clause-refuses : goal.returns-then-now-self-2-clause-refuses
+returns-then-now-self-2-clause-refuses g c = λ o cause e.
+    let n = c.fail_by.new.self in
+    let p = n.hold.history.plan.point in
+    let same : Deadline ≡ cause = (let d : outcomes.Fail Deadline ≡ outcomes.Fail cause = sym c.fail_by.ensures.outcome ∙ e in cc) in
+    subst (λ (z : Cause). IsRefused (refusal_status z p) n.refusing (user_gift p (g.K.Hop.gift n.next) (g.K.Hop.gift n.back)) (user_untouched p (g.K.Hop.untouched n.next) (g.K.Hop.untouched n.back))) same c.fail_by.ensures.refuses
+
+pub returns-then-is_broken-clause-refuses : goal.returns-then-is_broken-clause-refuses
+returns-then-is_broken-clause-refuses g c = λ o cause e. absurd (false≢true (sym o ∙ failed_over c.args.self.now.hold.history c.args.self.now.outcome cause c.args.self.now.told e))
+
+pub returns-then-is_closed-clause-moves_closed : goal.returns-then-is_closed-clause-moves_closed
+returns-then-is_closed-clause-moves_closed g c = λ o e p r a b.
+    let k = none_over _ _ _ (c.closed_turn.ensures.moved 0 e) in
+    let m = c.closed_turn.ensures.moves e in
+    by_point c.args.self.now.hold.history.plan.point ⊥
+    (λ s. let v = m.0 s r b in v.4 (k.2 r v.0 b v.1))
+    (λ s. let v = m.1 s p a in v.4 (k.0 p v.0 a v.1))
+
+pub returns-clause-unbroken : goal.returns-clause-unbroken
+returns-clause-unbroken g c = λ s o cause e. inr (fails_kept (λ l. g.V.Service.fault l.side) cause c.args.self.now.reused c.pass-passed.new.self.hold c.after_pass.new.self.hold c.pass-passed.new.self.service c.after_pass.new.self.service c.after_pass.ensures.hold c.after_pass.ensures.kept.2 (c.pass-passed.ensures.unbroken s cause (outcome_fails c.pass-passed.result.failed c.after_pass.new.self.outcome cause (c.after_pass.ensures.outcome ∙ c.pass-passed.ensures.outcome) e)))

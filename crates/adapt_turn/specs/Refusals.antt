@@ -1,0 +1,31 @@
+-- The proxy's own refusal: its status, and that it stands where the user has got no byte.
+use Rattle.std.specs.Prelude.{◌≡◌, ℕ, ◌⊎◌, Bool, true, false, Option, is_some}
+use Rattle.trace_core.specs.declared.history.Cause.{Cause}
+use Rattle.trace_core.specs.declared.history.Cause.TheVariants.{Source, Service, NextHop, Memory, Deadline, Stopping}
+use Rattle.trace_core.specs.declared.history.Point.{Point}
+use Rattle.trace_core.specs.declared.history.Point.TheVariants.{Reqmod, Respmod}
+use Rattle.adapt_sides.specs.Turns.{Gift}
+use Rattle.adapt_sides.specs.Turns.Gift.{refusal}
+
+-- the status by what the transaction failed of; at REQMOD the source is the user
+abbrev pub refusal_status : Cause → Point → ℕ
+refusal_status Source Reqmod = 400
+refusal_status Source Respmod = 502
+refusal_status Service point = 502
+refusal_status NextHop point = 502
+refusal_status Memory point = 503
+refusal_status Stopping point = 503
+refusal_status Deadline point = 504
+
+-- whether no byte has gone out to the user: at REQMOD the user is the source, at RESPMOD the next hop
+abbrev pub user_untouched : Point → (next back : Bool) → Bool
+user_untouched Reqmod next back = back
+user_untouched Respmod next back = next
+
+-- the user's writer has the refusal of this status; or a byte of an answer has gone out, and no refusal is due
+abbrev pub IsRefused : (status : ℕ) → (refusing : Bool) → Gift → (untouched : Bool) → Type 0
+IsRefused status refusing gift untouched = ((refusing ≡ true) × (gift ≡ refusal status)) ⊎ ((refusing ≡ false) × (untouched ≡ false))
+
+-- the refusal is out, or its wire has failed
+abbrev pub IsOver : {F : Type 0} → Bool → Option F → Type 0
+IsOver out fault = (out ≡ true) ⊎ (is_some fault ≡ true)
