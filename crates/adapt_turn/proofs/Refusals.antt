@@ -1,7 +1,6 @@
 -- A refusal has its cause's status, and a turn of a closed transaction writes it.
-use Rattle.std.proofs.Common.{◌≡◌, ℕ, ◌⊎◌, inl, inr, Bool, true, false, List, [], ◌∷◌, ◌++◌, length, Option, Some, None, Result, Ok, Err, arith, refl, sym, ◌∙◌, ap, subst}
+use Rattle.std.proofs.Common.{◌≡◌, ℕ, inl, inr, Bool, true, false, List, [], ◌∷◌, Option, Result, Ok, arith, refl, sym, ◌∙◌, ap, subst}
 use Rattle.std.proofs.lemmas.Bool.{false≢true}
-use Rattle.std.specs.Prelude.{is_some}
 use Rattle.trace_core.specs.declared.history.Seen.{Seen}
 use Rattle.trace_core.specs.declared.history.Event.{Event}
 use Rattle.trace_core.specs.declared.history.Cause.{Cause}
@@ -18,32 +17,32 @@ use Rattle.adapt_sides.specs.declared.turn.Turn.{Turn}
 use Rattle.adapt_hold.specs.Holding.{Holding, shows}
 use Rattle.adapt_hold.proofs.Row.{no_bytes}
 use Rattle.adapt_turn.specs.Stands.{Waited, user_gift}
-use Rattle.adapt_turn.specs.Refusals.{refusal_status, user_untouched, IsRefused}
+use Rattle.adapt_turn.specs.Refusals.{refusal_status, user_untouched, HasRefusal}
 use Rattle.adapt_turn.specs.Rows.{BytesOr}
-use Rattle.adapt_turn.proofs.Rows.{Grown, grown}
+use Rattle.adapt_turn.proofs.Rows.{grown}
 
 -- Its status.
 
-refused_by : (status : ℕ) (refusing : Bool) (gift : Gift) (untouched : Bool) → (refusing ≡ true → gift ≡ refusal status) → (refusing ≡ false → untouched ≡ false) → IsRefused status refusing gift untouched
+refused_by : (status : ℕ) (refusing : Bool) (gift : Gift) (untouched : Bool) → (refusing ≡ true → gift ≡ refusal status) → (refusing ≡ false → untouched ≡ false) → HasRefusal status refusing gift untouched
 refused_by status true gift untouched g u = inl (refl, g refl)
 refused_by status false gift untouched g u = inr (refl, u refl)
 
 pub refused_next : (cause : Cause) (point : Point) (status : ℕ) (refusing : Bool) (next back : Gift) (next_untouched back_untouched : Bool) → point ≡ Respmod → status ≡ refusal_status cause Respmod
     → (refusing ≡ true → next ≡ refusal status) → (refusing ≡ false → next_untouched ≡ false)
-    → IsRefused (refusal_status cause point) refusing (user_gift point next back) (user_untouched point next_untouched back_untouched)
+    → HasRefusal (refusal_status cause point) refusing (user_gift point next back) (user_untouched point next_untouched back_untouched)
 refused_next cause point status refusing next back nu bu e s g u =
-    subst (λ (z : Point). IsRefused (refusal_status cause z) refusing (user_gift z next back) (user_untouched z nu bu)) (sym e)
+    subst (λ (z : Point). HasRefusal (refusal_status cause z) refusing (user_gift z next back) (user_untouched z nu bu)) (sym e)
     (refused_by (refusal_status cause Respmod) refusing next nu (λ r. g r ∙ ap refusal s) u)
 
 pub refused_back : (cause : Cause) (point : Point) (status : ℕ) (refusing : Bool) (next back : Gift) (next_untouched back_untouched : Bool) → point ≡ Reqmod → status ≡ refusal_status cause Reqmod
     → (refusing ≡ true → back ≡ refusal status) → (refusing ≡ false → back_untouched ≡ false)
-    → IsRefused (refusal_status cause point) refusing (user_gift point next back) (user_untouched point next_untouched back_untouched)
+    → HasRefusal (refusal_status cause point) refusing (user_gift point next back) (user_untouched point next_untouched back_untouched)
 refused_back cause point status refusing next back nu bu e s g u =
-    subst (λ (z : Point). IsRefused (refusal_status cause z) refusing (user_gift z next back) (user_untouched z nu bu)) (sym e)
+    subst (λ (z : Point). HasRefusal (refusal_status cause z) refusing (user_gift z next back) (user_untouched z nu bu)) (sym e)
     (refused_by (refusal_status cause Reqmod) refusing back bu (λ r. g r ∙ ap refusal s) u)
 
 -- it stays while it is written
-pub refused_on : (status : ℕ) (refusing : Bool) (gift gift' : Gift) (untouched untouched' : Bool) → refusing ≡ true → gift' ≡ gift → IsRefused status refusing gift untouched → IsRefused status refusing gift' untouched'
+pub refused_on : (status : ℕ) (refusing : Bool) (gift gift' : Gift) (untouched untouched' : Bool) → refusing ≡ true → gift' ≡ gift → HasRefusal status refusing gift untouched → HasRefusal status refusing gift' untouched'
 refused_on status refusing gift gift' u u' due same w = elim w [
   | inl r ↦ inl (r.0, same ∙ r.1)
   | inr r ↦ absurd (false≢true (sym r.0 ∙ due))
@@ -76,8 +75,7 @@ refusal_acts h history tape turn so sn ao an whole f0 f1 rests before after_ he 
     let w = b.wire p here in
     let g = grown p w.0 [] b.delta w.2 in
     let gr = g.read in
-    let go = g.out in
-    (
+    let go = g.out in (
       w.0,
       w.1,
       omega (arith, gr),

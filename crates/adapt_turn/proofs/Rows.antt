@@ -1,5 +1,5 @@
 -- What a pass steps, and that one which moved no byte steps something.
-use Rattle.std.proofs.Common.{◌≡◌, ℕ, ◌+◌, ◌-◌, ◌≤◌, ◌⊎◌, inl, inr, Bool, true, false, ◌||◌, List, [], ◌∷◌, ◌++◌, length, take, drop, Option, Some, None, arith, refl, sym, ◌∙◌, ap, subst}
+use Rattle.std.proofs.Common.{◌≡◌, ℕ, ◌+◌, Bool, true, false, ◌||◌, List, [], ◌∷◌, ◌++◌, length, take, drop, Option, Some, None, arith, refl, sym, ◌∙◌, ap, subst}
 use Rattle.std.proofs.lemmas.Bool.{false≢true}
 use Rattle.std.proofs.lemmas.List.{length-append, length-drop, length-take-le}
 use Rattle.std.specs.Prelude.{MatchOption}
@@ -11,15 +11,14 @@ use Rattle.trace_core.specs.View.{after}
 use Rattle.trace_core.specs.Turns.{MayAllFollow, AllAre, is_of_source, is_of_sending, is_of_replies, is_of_hop}
 use Rattle.wire_kit.specs.Past.{Past, IsLater}
 use Rattle.adapt_hold.specs.Holding.{Holding, IsTied, shows, moved, history_then}
-use Rattle.adapt_hold.specs.Steps.{brought, brought_all, HasRoomFor, MayRun, moved_all}
+use Rattle.adapt_hold.specs.Steps.{brought, HasRoomFor, MayRun, moved_all}
 use Rattle.adapt_hold.proofs.Row.{no_bytes, stays}
 use Rattle.adapt_hold.proofs.Closes.{then_shows}
 use Rattle.adapt_turn.specs.declared.parts.Passed.{Passed}
 use Rattle.adapt_turn.specs.declared.turned.Side.{Side}
 use Rattle.adapt_turn.specs.declared.turned.Side.TheVariants.{Source, Service, NextHop}
-use Rattle.adapt_turn.specs.Moved.{bytes_between}
 use Rattle.adapt_turn.specs.Parts.{Part, stepped}
-use Rattle.adapt_turn.specs.Rows.{is_fail, is_of_side, may_step, TookAll, TookBy, Advances, BytesOr}
+use Rattle.adapt_turn.specs.Rows.{is_fail, may_step, TookAll, TookBy, Advances, BytesOr}
 use Rattle.adapt_turn.proofs.Carry.{all_then}
 
 -- Rows.
@@ -31,13 +30,17 @@ took_all h (event ∷ events) bytes t m =
     let own = take (brought event) bytes in
     let s = stays h event own t m.roomy (m.may.0, m.may.1) (length-take-le (brought event) bytes (omega (arith, n))) m.room.0 in
     let next : Holding = moved h event own in
-    let same : shows next.history ≡ after (shows h.history) event = then_shows h event (history_then h.history event) t (m.may.0, m.may.1) refl in
-    (own, next, ((m.may.0, m.may.1), refl), took_all next events (drop (brought event) bytes) s.tied (record {
-      may = subst (λ (x : Seen). MayAllFollow x events) (sym same) m.may.2;
-      carried = let d = length-drop (brought event) bytes in omega (arith, d, n);
-      room = subst (λ (x : Seen). HasRoomFor x next.claim next.limits.window events) (sym same) m.room.1;
-      roomy = s.roomy;
-    }))
+    let same : shows next.history ≡ after (shows h.history) event = then_shows h event (history_then h.history event) t (m.may.0, m.may.1) refl in (
+      own,
+      next,
+      ((m.may.0, m.may.1), refl),
+      took_all next events (drop (brought event) bytes) s.tied (record {
+        may = subst (λ (x : Seen). MayAllFollow x events) (sym same) m.may.2;
+        carried = let d = length-drop (brought event) bytes in omega (arith, d, n);
+        room = subst (λ (x : Seen). HasRoomFor x next.claim next.limits.window events) (sym same) m.room.1;
+        roomy = s.roomy;
+      }),
+    )
 
 took_then : (h m k : Holding) (first others : List Event) → TookAll h first m → TookAll m others k → TookAll h (first ++ others) k
 took_then h m k [] others t u = subst (λ (y : Holding). TookAll y others k) t u
@@ -111,15 +114,14 @@ part_acts {F} side broken own h k test reported out given taken delta f0 f1 rest
     let u = p.wire past here in
     let g = grown past u.0 given taken u.2 in
     let gr = g.read in
-    let go = g.out in
-    (
+    let go = g.out in (
       u.0,
       u.1,
       omega (arith, gr),
       omega (arith, go),
       λ z. some_stepped (may_step side) h k (stepped passed.failed reported) (all_then test (may_step side) i (λ cause. refl) passed.failed reported p.only)
           (subst (λ (y : Holding). TookAll h (stepped passed.failed reported) y) (sym p.is) (took_all h (stepped passed.failed reported) out t p.runs)) (λ e.
-      let v = none_stepped passed.failed reported e in p.tells.active w b (no_bytes delta (omega (arith, gr, go, n, z))) v.1 v.0),
+          let v = none_stepped passed.failed reported e in p.tells.active w b (no_bytes delta (omega (arith, gr, go, n, z))) v.1 v.0),
     )
 
 -- a wire that wasn't touched

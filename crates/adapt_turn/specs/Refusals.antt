@@ -23,8 +23,8 @@ user_untouched Reqmod next back = back
 user_untouched Respmod next back = next
 
 -- the user's writer has the refusal of this status; or a byte of an answer has gone out, and no refusal is due
-abbrev pub IsRefused : (status : ℕ) → (refusing : Bool) → Gift → (untouched : Bool) → Type 0
-IsRefused status refusing gift untouched = ((refusing ≡ true) × (gift ≡ refusal status)) ⊎ ((refusing ≡ false) × (untouched ≡ false))
+abbrev pub HasRefusal : (status : ℕ) → (refusing : Bool) → Gift → (untouched : Bool) → Type 0
+HasRefusal status refusing gift untouched = ((refusing ≡ true) × (gift ≡ refusal status)) ⊎ ((refusing ≡ false) × (untouched ≡ false))
 
 -- the refusal is out, or its wire has failed
 abbrev pub IsOver : {F : Type 0} → Bool → Option F → Type 0

@@ -136,15 +136,23 @@ impl<B: Ledgers, S: Source, V: Service, K: Hop, F: Forward<S, K>, A: Wire, W: Wi
         (MovesOver (C.past old.next_wire) (C.past new.next_wire)) n };
 }
 
-impl<B: Ledgers, S: Source, V: Service, K: Hop, F: Forward<S, K>, A: Wire, W: Wire, C: Wire> Refusing
-    for Tx<B, S, V, K, F, A, W, C> {
+impl<
+    B: Ledgers,
+    S: Source,
+    V: Service,
+    K: Hop,
+    F: Forward<S, K>,
+    A: Wire,
+    W: Wire,
+    C: Wire,
+> Refusing for Tx<B, S, V, K, F, A, W, C> {
     ghost use Rattle.std.specs.Prelude.{◌≡◌};
     ghost use Rattle.trace_core.specs.declared.history.Point.TheVariants.{Reqmod, Respmod};
-    ghost use Rattle.adapt_turn.specs.Refusals.{refusal_status, user_untouched, IsRefused, IsOver};
+    ghost use Rattle.adapt_turn.specs.Refusals.{refusal_status, user_untouched, HasRefusal, IsOver};
     ghost use Rattle.adapt_turn.specs.Rows.{BytesOr};
     ghost use Rattle.adapt_turn.specs.Stands.{Waited, user_gift};
 
-    ghost refuses = { λ tx cause. IsRefused (refusal_status cause tx.hold.history.plan.point) tx.refusing (user_gift tx.hold.history.plan.point (K.gift tx.next) (K.gift tx.back))
+    ghost refuses = { λ tx cause. HasRefusal (refusal_status cause tx.hold.history.plan.point) tx.refusing (user_gift tx.hold.history.plan.point (K.gift tx.next) (K.gift tx.back))
         (user_untouched tx.hold.history.plan.point (K.untouched tx.next) (K.untouched tx.back)) };
 
     ghost refusal_waits = { λ old new. (old.hold.history.plan.point ≡ Respmod → Waited (K.rests (shows old.hold.history) new.next) (λ past. past.write_waits) (C.past old.next_wire) (C.past new.next_wire))

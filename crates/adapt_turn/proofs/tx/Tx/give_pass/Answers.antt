@@ -6,7 +6,7 @@ use Rattle.adapt_turn.proofs.Giving.{next_goes, back_goes, with_heads}
 use Rattle.std.proofs.Common.{inl, inr, refl, sym, ◌∙◌, subst}
 use Rattle.adapt_turn.proofs.Reasons.{part_idle, part_waits, part_blames}
 use Rattle.adapt_turn.proofs.Told.{part_told}
-use Rattle.std.proofs.Common.{length, arith}
+use Rattle.std.proofs.Common.{arith}
 use Rattle.adapt_turn.specs.declared.turned.Side.TheVariants.{NextHop}
 use Rattle.adapt_turn.proofs.Reasons.{part_still}
 use Rattle.adapt_turn.proofs.Rows.{part_acts, of_hop}

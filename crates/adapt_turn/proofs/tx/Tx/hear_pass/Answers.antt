@@ -7,7 +7,7 @@ use Rattle.std.proofs.Common.{Option, refl, ◌∙◌, subst}
 use Rattle.std.specs.Prelude.{MatchOption}
 use Rattle.adapt_turn.specs.declared.start.Line.{Line}
 use Rattle.adapt_turn.proofs.Told.{part_told}
-use Rattle.std.proofs.Common.{[], length, arith}
+use Rattle.std.proofs.Common.{[], arith}
 use Rattle.adapt_turn.specs.declared.turned.Side.TheVariants.{Service}
 use Rattle.adapt_turn.proofs.Reasons.{part_still}
 use Rattle.adapt_turn.proofs.Rows.{part_took, part_acts, of_replies, line_acts}

@@ -7,7 +7,7 @@ use Rattle.std.proofs.Common.{Option, refl, ◌∙◌, subst}
 use Rattle.std.specs.Prelude.{MatchOption}
 use Rattle.adapt_turn.specs.declared.start.Line.{Line}
 use Rattle.adapt_turn.proofs.Told.{part_told}
-use Rattle.std.proofs.Common.{length, arith, ap}
+use Rattle.std.proofs.Common.{arith, ap}
 use Rattle.adapt_turn.specs.Parts.{fault_of}
 use Rattle.adapt_turn.specs.declared.turned.Side.TheVariants.{Service}
 use Rattle.adapt_turn.proofs.Rows.{part_acts, of_sending, line_acts}

@@ -5,10 +5,9 @@ use Rattle.trace_core.specs.History.{History}
 use Rattle.adapt_hold.specs.Holding.{shows}
 use Rattle.adapt_turn.proofs.Reasons.{part_idle, part_waits, part_blames}
 use Rattle.adapt_turn.proofs.Told.{part_told}
-use Rattle.std.proofs.Common.{length, arith}
+use Rattle.std.proofs.Common.{arith}
 use Rattle.trace_core.specs.declared.history.Cause.TheVariants as causes
 use Rattle.adapt_turn.specs.declared.turned.Side.TheVariants.{Source}
-use Rattle.adapt_turn.specs.Rows.{may_step, Advances}
 use Rattle.adapt_turn.proofs.Reasons.{part_still}
 use Rattle.adapt_turn.proofs.Rows.{part_acts, of_source, untouched_or, fail_advances}
 use Rattle.adapt_turn.proofs.tx.Tx.source_pass.Goals as goal

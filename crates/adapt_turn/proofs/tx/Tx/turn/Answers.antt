@@ -14,7 +14,7 @@ use Rattle.adapt_turn.proofs.Rows.{by_side, fail_advances}
 use Rattle.adapt_turn.proofs.Moved.{none_over, waiting_not, some_line}
 use Rattle.trace_core.specs.declared.history.Cause.{Cause}
 use Rattle.adapt_turn.specs.Stands.{user_gift}
-use Rattle.adapt_turn.specs.Refusals.{refusal_status, user_untouched, IsRefused}
+use Rattle.adapt_turn.specs.Refusals.{refusal_status, user_untouched, HasRefusal}
 use Rattle.adapt_turn.proofs.Refusals.{by_point}
 use Rattle.adapt_turn.proofs.Told.{failed_over}
 use Rattle.adapt_turn.proofs.tx.Tx.turn.Goals as goal
@@ -132,7 +132,7 @@ returns-then-now-self-2-clause-refuses g c = λ o cause e.
     let n = c.fail_by.new.self in
     let p = n.hold.history.plan.point in
     let same : Deadline ≡ cause = (let d : outcomes.Fail Deadline ≡ outcomes.Fail cause = sym c.fail_by.ensures.outcome ∙ e in cc) in
-    subst (λ (z : Cause). IsRefused (refusal_status z p) n.refusing (user_gift p (g.K.Hop.gift n.next) (g.K.Hop.gift n.back)) (user_untouched p (g.K.Hop.untouched n.next) (g.K.Hop.untouched n.back))) same c.fail_by.ensures.refuses
+    subst (λ (z : Cause). HasRefusal (refusal_status z p) n.refusing (user_gift p (g.K.Hop.gift n.next) (g.K.Hop.gift n.back)) (user_untouched p (g.K.Hop.untouched n.next) (g.K.Hop.untouched n.back))) same c.fail_by.ensures.refuses
 
 pub returns-then-is_broken-clause-refuses : goal.returns-then-is_broken-clause-refuses
 returns-then-is_broken-clause-refuses g c = λ o cause e. absurd (false≢true (sym o ∙ failed_over c.args.self.now.hold.history c.args.self.now.outcome cause c.args.self.now.told e))

@@ -1,6 +1,6 @@
 use Rattle.adapt_turn.proofs.Passes as passes
 use Rattle.adapt_turn.proofs.Giving.{aside_still}
-use Rattle.std.proofs.Common.{◌≡◌, inr, true, false, Option, Some, refl, ap}
+use Rattle.std.proofs.Common.{◌≡◌, inr, true, false, Some, refl, ap}
 use Rattle.std.specs.Prelude.{is_some}
 use Rattle.adapt_turn.proofs.Refusals.{refusal_waits, refusal_acts}
 use Rattle.adapt_turn.proofs.tx.refusals.refusal_turn.Goals as goal
