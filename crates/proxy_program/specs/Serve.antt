@@ -8,9 +8,10 @@ use Rattle.proxy_config.specs.declared.config.Config.{Config as Configuration}
 use Rattle.proxy_config.specs.declared.fault.ConfigFault.{ConfigFault}
 use Rattle.proxy_config.specs.declared.fault.ConfigFault.TheVariants.{Text as NoDocument, Key as AtKey, NoMemory as WithoutMemory}
 use Rattle.shard_loop.specs.declared.audit.StopAudit.{StopAudit}
+use Rattle.adapt_bytes.specs.declared.limits.TheConstants.{MAX_INPUT}
 use Rattle.proxy_program.specs.declared.error.Error.TheVariants.{InputTooLong, NoMemory, ReadFailed}
 use Rattle.proxy_program.specs.declared.serve_error.ServeError.{ServeError}
-use Rattle.proxy_program.specs.declared.serve_error.ServeError.TheVariants.{Ended, Config, Key, CannotListen, CannotServe, AuditMissing}
+use Rattle.proxy_program.specs.declared.serve_error.ServeError.TheVariants.{Ended, Config, Key, CannotListen, AuditMissing}
 
 -- the word `serve` alone
 abbrev pub AsksToServe : List (List ℕ) → Type 0
@@ -24,21 +25,20 @@ IsRefusedAs WithoutMemory error = error ≡ Ended NoMemory
 
 -- the text is a configuration with these values
 pub record IsConfigured (text : List ℕ) (config : Configuration) : Type 0 where
-  pub short : length text ≤ 1048576
+  pub short : length text ≤ MAX_INPUT
   pub document : Members
   pub is_document : parse_document text ≡ Some document
   pub says : IsConfig document config
 
 -- why a text is refused, its length first
 abbrev pub IsUnconfigured : List ℕ → ServeError → Type 0
-IsUnconfigured text (Ended InputTooLong) = 1048576 < length text
+IsUnconfigured text (Ended InputTooLong) = MAX_INPUT < length text
 IsUnconfigured text (Ended NoMemory) = ⊤
 IsUnconfigured text (Ended ReadFailed) = ⊤
 IsUnconfigured text (Ended other) = ⊥
-IsUnconfigured text Config = (length text ≤ 1048576) × Refuses text NoDocument
-IsUnconfigured text (Key key) = (length text ≤ 1048576) × Refuses text (AtKey key)
+IsUnconfigured text Config = (length text ≤ MAX_INPUT) × Refuses text NoDocument
+IsUnconfigured text (Key key) = (length text ≤ MAX_INPUT) × Refuses text (AtKey key)
 IsUnconfigured text CannotListen = ⊥
-IsUnconfigured text CannotServe = ⊥
 IsUnconfigured text AuditMissing = ⊥
 
 -- the line that is printed at the end

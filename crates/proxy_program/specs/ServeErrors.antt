@@ -1,7 +1,7 @@
 -- What `serve` says where nobody stopped it, or where its audit is missing, and its exit status.
 use Rattle.std.specs.Prelude.{ℕ, List, ◌++◌, codes, string_bytes}
 use Rattle.proxy_program.specs.declared.serve_error.ServeError.{ServeError}
-use Rattle.proxy_program.specs.declared.serve_error.ServeError.TheVariants.{Ended, Config, Key, CannotListen, CannotServe, AuditMissing}
+use Rattle.proxy_program.specs.declared.serve_error.ServeError.TheVariants.{Ended, Config, Key, CannotListen, AuditMissing}
 use Rattle.shard_loop.specs.declared.audit.ServeFault.{ServeFault}
 use Rattle.shard_loop.specs.declared.audit.ServeFault.TheVariants.{System, Loop, Missing, NoMemory}
 use Rattle.proxy_program.specs.declared.error.Error.TheVariants.{NoMemory as WithoutMemory}
@@ -13,7 +13,6 @@ serve_error_text (Ended error) = error_text error
 serve_error_text Config = codes "adaptproxy: config\n"
 serve_error_text (Key key) = (codes "adaptproxy: config " ++ string_bytes key) ++ codes "\n"
 serve_error_text CannotListen = codes "adaptproxy: cannot listen\n"
-serve_error_text CannotServe = codes "adaptproxy: cannot serve\n"
 serve_error_text AuditMissing = codes "adaptproxy: audit missing\n"
 
 -- 1 where the system failed, 2 where the configuration is at fault
@@ -22,12 +21,11 @@ serve_status_of (Ended error) = status_of error
 serve_status_of Config = 2
 serve_status_of (Key key) = 2
 serve_status_of CannotListen = 1
-serve_status_of CannotServe = 1
 serve_status_of AuditMissing = 1
 
 -- the error that a fault of the proxy's ends the program with
 abbrev pub serve_error_of : ServeFault → ServeError
 serve_error_of System = CannotListen
-serve_error_of Loop = CannotServe
+serve_error_of Loop = CannotListen
 serve_error_of Missing = AuditMissing
 serve_error_of NoMemory = Ended WithoutMemory

@@ -4,9 +4,10 @@ ghost use Rattle.std.specs.Prelude.{◌≡◌, ◌↔◌, IsTrue, IfOk, IfErr, I
 ghost use Rattle.proxy_program.specs.Serve.{AsksToServe, IsRefusedAs, IsConfigured, IsUnconfigured, audit_text};
 
 use crate::answers::write_number;
-use crate::error::{Error, MAX_INPUT};
+use crate::error::Error;
 use crate::run::read_input;
 use crate::serve_error::ServeError;
+use adapt_bytes::MAX_INPUT;
 use proxy_config::{Config, ConfigFault, read_config};
 use shard_loop::StopAudit;
 use std::alloc::{AllocError as NoMemory, Global};

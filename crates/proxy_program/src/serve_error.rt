@@ -17,10 +17,8 @@ pub enum ServeError {
     Config,
     /// This key of the configuration is missing, unknown, of another kind or out of its range.
     Key(String),
-    /// An address can't be listened on.
+    /// An address can't be listened on, or the system fails a loop that listens.
     CannotListen,
-    /// The system fails a loop.
-    CannotServe,
     /// A reservation or a lease was out that nobody gave back.
     AuditMissing,
 }
@@ -31,8 +29,7 @@ impl ServeError {
         ensures { result ≡ serve_error_of fault }
     {
         match fault {
-            ServeFault::System => ServeError::CannotListen,
-            ServeFault::Loop => ServeError::CannotServe,
+            ServeFault::System | ServeFault::Loop => ServeError::CannotListen,
             ServeFault::Missing => ServeError::AuditMissing,
             ServeFault::NoMemory => ServeError::Ended(Error::NoMemory),
         }
@@ -45,7 +42,7 @@ impl ServeError {
         match self {
             ServeError::Ended(error) => error.status(),
             ServeError::Config | ServeError::Key(_) => 2,
-            ServeError::CannotListen | ServeError::CannotServe | ServeError::AuditMissing => 1,
+            ServeError::CannotListen | ServeError::AuditMissing => 1,
         }
     }
 }
@@ -63,7 +60,6 @@ pub fn put_error<W: Write>(error: &ServeError, errors: &mut W) -> io::Result<()>
             errors.write_all(b"\n")
         }
         ServeError::CannotListen => errors.write_all(b"adaptproxy: cannot listen\n"),
-        ServeError::CannotServe => errors.write_all(b"adaptproxy: cannot serve\n"),
         ServeError::AuditMissing => errors.write_all(b"adaptproxy: audit missing\n"),
     }
 }

@@ -28,7 +28,7 @@ pub struct Stopped {
 pub enum ServeFault {
     /// A poll of the system can't be had.
     System,
-    /// The system fails a loop while it serves.
+    /// The system fails a loop while it serves: its poll, or its clock.
     Loop,
     /// A reservation or a lease is missing.
     Missing,
@@ -39,8 +39,7 @@ pub enum ServeFault {
 impl Display for ServeFault {
     fn fmt<W: fmt::Write>(&self, f: &mut fmt::Formatter<W>) -> fmt::Result {
         f.write_str(match self {
-            ServeFault::System => "cannot listen",
-            ServeFault::Loop => "cannot serve",
+            ServeFault::System | ServeFault::Loop => "cannot listen",
             ServeFault::Missing => "audit missing",
             ServeFault::NoMemory => "out of memory",
         })

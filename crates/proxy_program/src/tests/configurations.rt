@@ -1,9 +1,10 @@
 //! What `serve` says of configurations, and at its end.
 
 use super::{Broken, arguments, filled};
-use crate::error::{Error, MAX_INPUT};
+use crate::error::Error;
 use crate::serve::{asks_to_serve, audit_line, read_configuration};
 use crate::serve_error::{ServeError, put_error};
+use adapt_bytes::MAX_INPUT;
 use shard_loop::StopAudit;
 use std::alloc::{AllocError, Global};
 use std::io::Read;
@@ -146,13 +147,6 @@ fn errors_of_serve_are_one_line(rt: HostRuntime) -> Result<(), Fail> {
             alloc,
             ServeError::CannotListen,
             b"adaptproxy: cannot listen\n"
-        )?
-    );
-    assert!(rt;
-        is_told(
-            alloc,
-            ServeError::CannotServe,
-            b"adaptproxy: cannot serve\n"
         )?
     );
     assert!(rt;

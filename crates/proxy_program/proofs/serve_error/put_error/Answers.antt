@@ -17,12 +17,6 @@ returns-in-CannotListen g c =
     (λ h. subst (λ (t : List ℕ). Appends (g.W.Write.contents c.args.errors.now) (g.W.Write.contents c.write_all-in-CannotListen.new.self) t) (sym (ap serve_error_text c.in-CannotListen.is)) h)
     c.write_all-in-CannotListen.ensures.bytes
 
-pub returns-in-CannotServe : goal.returns-in-CannotServe
-returns-in-CannotServe g c =
-    on_ok _ _ c.write_all-in-CannotServe.result
-    (λ h. subst (λ (t : List ℕ). Appends (g.W.Write.contents c.args.errors.now) (g.W.Write.contents c.write_all-in-CannotServe.new.self) t) (sym (ap serve_error_text c.in-CannotServe.is)) h)
-    c.write_all-in-CannotServe.ensures.bytes
-
 pub returns-in-AuditMissing : goal.returns-in-AuditMissing
 returns-in-AuditMissing g c =
     on_ok _ _ c.write_all-in-AuditMissing.result
