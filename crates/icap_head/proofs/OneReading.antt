@@ -1,15 +1,16 @@
 -- The readings of requests and of responses.
-use Rattle.std.proofs.Common.{◌≡◌, ℕ, List, ap, codes, Result, Ok, Err, IfOk, IfErr, IsOkAnd, ◌⊎◌, inl, inr}
+use Rattle.std.proofs.Common.{◌≡◌, ◌≢◌, ℕ, List, length, take, drop, ap, subst, codes, Result, Ok, Err, IfOk, IfErr, IsOkAnd, IsErrAnd, ◌⊎◌, inl, inr}
 use Rattle.icap_head.specs.declared.requests.IcapRequest.{IcapRequest}
 use Rattle.icap_head.specs.declared.responses.IcapResponse.{IcapResponse}
 use Rattle.icap_head.specs.declared.reading.Head.{Head}
 use Rattle.icap_head.specs.declared.reading.HeadFault.{HeadFault}
-use Rattle.icap_head.specs.declared.reading.HeadFault.TheVariants.{NoMemory}
-use Rattle.icap_head.specs.Heads.{Request, Response, StartsRequest, StartsResponse, HasRequest, HasResponse, RefusesIcapHead, request_parts, response_parts}
+use Rattle.icap_head.specs.declared.reading.HeadFault.TheVariants.{StartLine, Version, NoMemory}
+use Rattle.icap_head.specs.Heads.{Request, Response, StartsRequest, StartsResponse, HasRequest, HasResponse, RefusesIcapHead, NeedsUri, ForWantOfMemory, request_parts, response_parts}
+use Rattle.icap_head.specs.FieldLines.{HasFields, RefusesFields}
 use Rattle.icap_head.specs.StartLines.{RequestForm, StatusForm}
-use Rattle.icap_head.proofs.Readings.{OneVersion, head_unique, no_fault, one_fault}
+use Rattle.icap_head.proofs.Readings.{OneVersion, head_reads, head_unique, no_fault, no_fields_fault, one_fault, one_fields_fault}
 use Rattle.icap_head.proofs.Statuses.{status_line_unique}
-use Rattle.icap_head.proofs.Words.{line_unique}
+use Rattle.icap_head.proofs.Words.{line_unique, first_unique}
 
 pub request_version : OneVersion RequestForm
 request_version line v w f g = (line_unique line f.0 f.1 v g.0 g.1 w f.2 g.2).2
@@ -41,16 +42,40 @@ no_request_fault fault text value n h s = no_fault RequestForm request_version (
 pub no_response_fault : (fault : HeadFault) (text : List ℕ) (value : Response) (n : ℕ) → HasResponse text value n → RefusesIcapHead StatusForm fault text → ⊥
 no_response_fault fault text value n h s = no_fault StatusForm status_version (StartsResponse value) (λ line l. (value.status, value.phrase, l)) fault text value.fields n h s
 
--- from what an answer says where it comes, to where it comes
+-- ---- what is said for want of memory
 
-pub request_found : (M : HeadFault → Type 0) (text : List ℕ) (r : Result (Head IcapRequest) HeadFault)
+-- of a whole head nothing but that
+memory_alone : (fault : HeadFault) (text : List ℕ) (value : Request) (n : ℕ) → HasRequest text value n → ForWantOfMemory fault text → fault ≡ NoMemory
+memory_alone fault text value n h (line, behind, first, may, inl m) = m.0
+memory_alone fault text value n h (line, behind, first, may, inr bad) =
+    let x = head_reads (StartsRequest value) text value.fields n h in
+    let same = first_unique (take 16384 text) line behind x.line x.behind first x.first in
+    absurd (no_fields_fault fault (length text) x.behind (drop n (take 16384 text)) value.fields x.section h.few (subst (RefusesFields fault (length text)) same.1 bad))
+
+-- of fields that have a fault only that
+fields_alone : (g fault : HeadFault) (len : ℕ) (behind : List ℕ) → ((g ≡ NoMemory) × HasFields behind) ⊎ RefusesFields g len behind → RefusesFields fault len behind → g ≡ fault
+fields_alone g fault len behind (inl m) s = absurd (no_fields_fault fault len behind m.1.1 m.1.0 m.1.2 m.1.3 s)
+fields_alone g fault len behind (inr t) s = one_fields_fault g fault len behind t s
+
+-- of a text that has a fault behind its start line only that
+same_later : (g fault : HeadFault) (text : List ℕ) → fault ≢ StartLine → fault ≢ Version → RefusesIcapHead RequestForm fault text → ForWantOfMemory g text → g ≡ fault
+same_later g fault text a b (inl none) w = absurd (none.1 w.0 w.1 w.2)
+same_later g fault text a b (inr (line, behind, first, inl (inl s))) w = absurd (a s.0)
+same_later g fault text a b (inr (line, behind, first, inl (inr s))) w = absurd (b s.0)
+same_later g fault text a b (inr (line, behind, first, inr (form, s))) w =
+    let same = first_unique (take 16384 text) line behind w.0 w.1 first w.2 in
+    fields_alone g fault (length text) w.1 w.4 (subst (RefusesFields fault (length text)) same.1 s)
+
+-- ---- from what an answer says where it comes, to where it comes
+
+pub request_found : (text : List ℕ) (r : Result (Head IcapRequest) HeadFault)
     → IfOk r (λ head. HasRequest text (request_parts head.value) head.length)
-    → IfErr r (λ fault. ((fault ≡ NoMemory) × M fault) ⊎ RefusesIcapHead RequestForm fault text)
+    → IfErr r (λ fault. RefusesIcapHead RequestForm fault text ⊎ ForWantOfMemory fault text)
     → (value : Request) (n : ℕ) → HasRequest text value n
     → (r ≡ Err NoMemory) ⊎ IsOkAnd r (λ head. (request_parts head.value ≡ value) × (head.length ≡ n))
-request_found M text (Ok head) ok err value n h = inr (request_unique text (request_parts head.value) value head.length n ok h)
-request_found M text (Err fault) ok (inl err) value n h = inl (ap Err err.0)
-request_found M text (Err fault) ok (inr err) value n h = absurd (no_request_fault fault text value n h err)
+request_found text (Ok head) ok err value n h = inr (request_unique text (request_parts head.value) value head.length n ok h)
+request_found text (Err fault) ok (inl err) value n h = absurd (no_request_fault fault text value n h err)
+request_found text (Err fault) ok (inr err) value n h = inl (ap Err (memory_alone fault text value n h err))
 
 pub response_found : (M : HeadFault → Type 0) (text : List ℕ) (r : Result (Head IcapResponse) HeadFault)
     → IfOk r (λ head. HasResponse text (response_parts head.value) head.length)
@@ -61,13 +86,32 @@ response_found M text (Ok head) ok err value n h = inr (response_unique text (re
 response_found M text (Err fault) ok (inl err) value n h = inl (ap Err err.0)
 response_found M text (Err fault) ok (inr err) value n h = absurd (no_response_fault fault text value n h err)
 
-pub request_fault : (M : HeadFault → Type 0) (text : List ℕ) (r : Result (Head IcapRequest) HeadFault)
+-- each fault is answered, or what is said for want of memory
+pub request_fault : (text : List ℕ) (r : Result (Head IcapRequest) HeadFault)
     → IfOk r (λ head. HasRequest text (request_parts head.value) head.length)
-    → IfErr r (λ fault. ((fault ≡ NoMemory) × M fault) ⊎ RefusesIcapHead RequestForm fault text)
-    → (fault : HeadFault) → RefusesIcapHead RequestForm fault text → (r ≡ Err NoMemory) ⊎ (r ≡ Err fault)
-request_fault M text (Ok head) ok err fault s = absurd (no_request_fault fault text (request_parts head.value) head.length ok s)
-request_fault M text (Err g) ok (inl err) fault s = inl (ap Err err.0)
-request_fault M text (Err g) ok (inr err) fault s = inr (ap Err (one_fault RequestForm request_version g fault text err s))
+    → IfErr r (λ fault. RefusesIcapHead RequestForm fault text ⊎ ForWantOfMemory fault text)
+    → (fault : HeadFault) → RefusesIcapHead RequestForm fault text → (r ≡ Err fault) ⊎ IsErrAnd r (λ other. ForWantOfMemory other text)
+request_fault text (Ok head) ok err fault s = absurd (no_request_fault fault text (request_parts head.value) head.length ok s)
+request_fault text (Err g) ok (inl err) fault s = inl (ap Err (one_fault RequestForm request_version g fault text err s))
+request_fault text (Err g) ok (inr err) fault s = inr err
+
+-- and where no URI is judged the fault
+pub start_fault : (text : List ℕ) (r : Result (Head IcapRequest) HeadFault)
+    → IfOk r (λ head. HasRequest text (request_parts head.value) head.length)
+    → IfErr r (λ fault. RefusesIcapHead RequestForm fault text ⊎ ForWantOfMemory fault text)
+    → (fault : HeadFault) → ¬ (NeedsUri text) → RefusesIcapHead RequestForm fault text → r ≡ Err fault
+start_fault text (Ok head) ok err fault none s = absurd (no_request_fault fault text (request_parts head.value) head.length ok s)
+start_fault text (Err g) ok (inl err) fault none s = ap Err (one_fault RequestForm request_version g fault text err s)
+start_fault text (Err g) ok (inr err) fault none s = absurd (none (err.0, err.1, err.2, err.3))
+
+-- and so where the start line has none
+pub later_fault : (text : List ℕ) (r : Result (Head IcapRequest) HeadFault)
+    → IfOk r (λ head. HasRequest text (request_parts head.value) head.length)
+    → IfErr r (λ fault. RefusesIcapHead RequestForm fault text ⊎ ForWantOfMemory fault text)
+    → (fault : HeadFault) → fault ≢ StartLine → fault ≢ Version → RefusesIcapHead RequestForm fault text → r ≡ Err fault
+later_fault text (Ok head) ok err fault a b s = absurd (no_request_fault fault text (request_parts head.value) head.length ok s)
+later_fault text (Err g) ok (inl err) fault a b s = ap Err (one_fault RequestForm request_version g fault text err s)
+later_fault text (Err g) ok (inr err) fault a b s = ap Err (same_later g fault text a b s err)
 
 pub response_fault : (text : List ℕ) (r : Result (Head IcapResponse) HeadFault)
     → IfOk r (λ head. HasResponse text (response_parts head.value) head.length)

@@ -103,7 +103,7 @@ head_unique S T text p q n m h g =
 
 -- ---- faults exclude heads and one another
 
-no_fields_fault : (fault : HeadFault) (len : ℕ) (behind rest : List ℕ) (fields : FieldList) → ReadsFields behind fields rest → length fields ≤ 100 → RefusesFields fault len behind → ⊥
+pub no_fields_fault : (fault : HeadFault) (len : ℕ) (behind rest : List ℕ) (fields : FieldList) → ReadsFields behind fields rest → length fields ≤ 100 → RefusesFields fault len behind → ⊥
 no_fields_fault fault len behind rest fields h few (inl s) = s.1 [] h.0 h.1 rest (subst (λ t. ReadsSection t h.0 h.1 rest) (sym (append-nil behind)) h.2)
 no_fields_fault fault len behind rest fields h few (inr (inl s)) =
     let n = ap length h.3 in
@@ -138,7 +138,7 @@ one_line_fault Form f g line (inr a) (inr b) = a.0 ∙ sym b.0
 open_or_never : (text : List ℕ) → NeverHasSection text → IsOpen text → ⊥
 open_or_never text never unfinished = never unfinished.1.0 unfinished.1.1 unfinished.1.2 [] unfinished.1.3
 
-one_fields_fault : (f g : HeadFault) (len : ℕ) (text : List ℕ) → RefusesFields f len text → RefusesFields g len text → f ≡ g
+pub one_fields_fault : (f g : HeadFault) (len : ℕ) (text : List ℕ) → RefusesFields f len text → RefusesFields g len text → f ≡ g
 one_fields_fault f g len text (inl a) (inl b) = a.0 ∙ sym b.0
 one_fields_fault f g len text (inl a) (inr (inl b)) = absurd (a.2 b.1)
 one_fields_fault f g len text (inl a) (inr (inr b)) = absurd (open_or_never text a.1 b.1)

@@ -1,36 +1,35 @@
 -- What is answered at each part of a head, as the answer for the whole text.
-use Rattle.std.proofs.Common.{◌≡◌, ℕ, ◌≤◌, ◌⊎◌, inl, inr, List, length, take, drop, codes, subst}
+use Rattle.std.proofs.Common.{◌≡◌, ℕ, ◌≤◌, ◌⊎◌, inl, inr, List, length, take, drop, codes, subst, refl}
 use Rattle.icap_head.specs.declared.reading.HeadFault.{HeadFault}
 use Rattle.icap_head.specs.declared.reading.HeadFault.TheVariants.{NoMemory}
+use Rattle.icap_head.specs.Fields.{FieldList}
 use Rattle.icap_head.specs.FieldLines.{ReadsFields, HasFields, RefusesFields}
 use Rattle.icap_head.specs.StartLines.{IsFirstLine, IsRequestLine, IsStatusLine, MayBeRequestLine, RequestForm, StatusForm, RefusesStartLine}
-use Rattle.icap_head.specs.Heads.{Request, Response, NeedsUri, HasRequest, HasResponse, StartsRequest, StartsResponse, RefusesIcapHead}
+use Rattle.icap_head.specs.Heads.{Request, Response, ForWantOfMemory, HasRequest, HasResponse, StartsRequest, StartsResponse, RefusesIcapHead}
 use Rattle.icap_head.proofs.Readings.{has_head, has_some_head}
 
 -- what a reader of requests may answer
 abbrev pub RequestRefused : HeadFault → List ℕ → Type 0
-RequestRefused fault text = ((fault ≡ NoMemory) × NeedsUri text) ⊎ RefusesIcapHead RequestForm fault text
+RequestRefused fault text = RefusesIcapHead RequestForm fault text ⊎ ForWantOfMemory fault text
 
 -- what a reader of responses may answer
 abbrev pub ResponseRefused : HeadFault → List ℕ → Type 0
 ResponseRefused fault text = ((fault ≡ NoMemory) × ((value : Response) × (size : ℕ) × HasResponse text value size)) ⊎ RefusesIcapHead StatusForm fault text
 
-pub may_be : (line method uri version : List ℕ) → IsRequestLine line method uri version → MayBeRequestLine line
-may_be line method uri version h = record { method = method; word = uri; version = version; line_is = h.line_is; method_is = h.method_is; one_word = h.one_word; version_is = h.version_is }
-
-pub needs_uri : (text seen line behind method uri : List ℕ) → seen ≡ take 16384 text → IsFirstLine seen line behind → IsRequestLine line method uri (codes "ICAP/1.0") → NeedsUri text
-needs_uri text seen line behind method uri e first h = (line, behind, subst (λ t. IsFirstLine t line behind) e first, may_be line method uri (codes "ICAP/1.0") h)
-
 pub request_line_refused : (fault : HeadFault) (text seen line behind : List ℕ) → seen ≡ take 16384 text → IsFirstLine seen line behind
-    → ((fault ≡ NoMemory) × MayBeRequestLine line) ⊎ RefusesStartLine RequestForm fault line → RequestRefused fault text
-request_line_refused fault text seen line behind e first (inl h) = inl (h.0, (line, behind, subst (λ t. IsFirstLine t line behind) e first, h.1))
-request_line_refused fault text seen line behind e first (inr h) = inr (inr (line, behind, subst (λ t. IsFirstLine t line behind) e first, inl h))
+    → RefusesStartLine RequestForm fault line → RequestRefused fault text
+request_line_refused fault text seen line behind e first h = inl (inr (line, behind, subst (λ t. IsFirstLine t line behind) e first, inl h))
 
-pub request_fields_refused : (fault : HeadFault) (text seen line behind method uri : List ℕ) → seen ≡ take 16384 text → IsFirstLine seen line behind
-    → IsRequestLine line method uri (codes "ICAP/1.0") → ((fault ≡ NoMemory) × HasFields behind) ⊎ RefusesFields fault (length text) behind → RequestRefused fault text
-request_fields_refused fault text seen line behind method uri e first h (inl m) = inl (m.0, needs_uri text seen line behind method uri e first h)
-request_fields_refused fault text seen line behind method uri e first h (inr s) =
-    inr (inr (line, behind, subst (λ t. IsFirstLine t line behind) e first, inr ((method, uri, h), s)))
+-- behind a line that may be a request's
+pub request_fields_refused : (fault : HeadFault) (text seen line behind : List ℕ) → seen ≡ take 16384 text → IsFirstLine seen line behind
+    → MayBeRequestLine line → ((fault ≡ NoMemory) × HasFields behind) ⊎ RefusesFields fault (length text) behind → RequestRefused fault text
+request_fields_refused fault text seen line behind e first may h = inr (line, behind, subst (λ t. IsFirstLine t line behind) e first, may, h)
+
+-- and where it has fields that pass, and memory ran out
+pub request_unkept : (text seen line behind : List ℕ) → seen ≡ take 16384 text → IsFirstLine seen line behind → MayBeRequestLine line
+    → (fields : FieldList) (rest : List ℕ) → ReadsFields behind fields rest → length fields ≤ 100 → RequestRefused NoMemory text
+request_unkept text seen line behind e first may fields rest reads few =
+    request_fields_refused NoMemory text seen line behind e first may (inl (refl, (fields, rest, reads, few)))
 
 pub has_request : (value : Request) (text seen line behind : List ℕ) (n : ℕ) → seen ≡ take 16384 text → n ≤ length seen → IsFirstLine seen line behind → StartsRequest value line
     → length value.fields ≤ 100 → ReadsFields behind value.fields (drop n seen) → HasRequest text value n

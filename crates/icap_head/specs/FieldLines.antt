@@ -1,6 +1,7 @@
 -- The field lines of a head and the empty line behind them (RFC 9112, section 5), as `httparse` reads them.
 use Rattle.std.specs.Prelude.{◌≡◌, ℕ, ◌≤◌, ◌⊎◌, List, length, map, nat_lt, if◌then◌else◌, ◌==◌}
 use Rattle.std.specs.List.{count_by}
+use Rattle.adapt_bytes.specs.declared.limits.TheConstants.{MAX_FIELDS, MAX_HEAD}
 use Rattle.httparse.specs.Grammar.{LineEnd, Field as Line, ReadsSection, HasNoSection, NeverHasSection, MayBecomeSection}
 use Rattle.httparse.specs.Spans.{name_and_value, SectionExceeds}
 use Rattle.icap_head.specs.Fields.{FieldList}
@@ -14,11 +15,11 @@ ReadsFields text fields rest =
 
 -- at most 100 fields and an empty line stand at the front
 abbrev pub HasFields : List ℕ → Type 0
-HasFields text = (fields : FieldList) × (rest : List ℕ) × ReadsFields text fields rest × (length fields ≤ 100)
+HasFields text = (fields : FieldList) × (rest : List ℕ) × ReadsFields text fields rest × (length fields ≤ MAX_FIELDS)
 
 -- more than 100 whole field lines stand at the front
 abbrev pub HasTooMany : List ℕ → Type 0
-HasTooMany text = SectionExceeds 100 text
+HasTooMany text = SectionExceeds MAX_FIELDS text
 
 -- no front is field lines and an empty line, and some bytes can follow that make it so
 abbrev pub IsOpen : List ℕ → Type 0
@@ -26,7 +27,7 @@ IsOpen text = HasNoSection text × MayBecomeSection text
 
 -- what is said of a head without its end in a text of so many bytes: More, and TooLong once the limit is reached
 abbrev pub unended : ℕ → HeadFault
-unended len = if nat_lt len 16384 then More else TooLong
+unended len = if nat_lt len MAX_HEAD then More else TooLong
 
 -- why the fields are refused, in a text of so many bytes
 abbrev pub RefusesFields : HeadFault → ℕ → List ℕ → Type 0

@@ -1,9 +1,10 @@
 -- Heads of ICAP messages (RFC 3507, section 4.3): a start line, field lines and an empty line.
 use Rattle.std.specs.Prelude.{◌≡◌, ℕ, ◌≤◌, ◌⊎◌, List, [], length, take, codes}
+use Rattle.adapt_bytes.specs.declared.limits.TheConstants.{MAX_FIELDS, MAX_HEAD}
 use Rattle.icap_head.specs.Fields.{FieldList, field_list}
-use Rattle.icap_head.specs.FieldLines.{ReadsFields, RefusesFields, unended}
+use Rattle.icap_head.specs.FieldLines.{ReadsFields, HasFields, RefusesFields, unended}
 use Rattle.icap_head.specs.Methods.{method_name}
-use Rattle.icap_head.specs.StartLines.{IsFirstLine, HasNoLine, IsRequestLine, IsStatusLine, RefusesStartLine, MayBeRequestLine}
+use Rattle.icap_head.specs.StartLines.{IsFirstLine, HasNoLine, IsRequestLine, IsStatusLine, RequestForm, RefusesStartLine, MayBeRequestLine}
 use Rattle.icap_head.specs.declared.reading.HeadFault.{HeadFault}
 use Rattle.icap_head.specs.declared.reading.HeadFault.TheVariants as Faults
 use Rattle.icap_head.specs.declared.requests.IcapRequest.{IcapRequest}
@@ -20,8 +21,8 @@ pub record ReadsHead (IsStart : List ℕ → Type 0) (text : List ℕ) (fields :
 -- the first bytes of the text, so many as size says, are such a head of at most 100 fields, and it ends within the limit
 pub record HasHead (IsStart : List ℕ → Type 0) (text : List ℕ) (fields : FieldList) (size : ℕ) : Type 0 where
   pub inside : size ≤ length text
-  pub within : size ≤ 16384
-  pub few : length fields ≤ 100
+  pub within : size ≤ MAX_HEAD
+  pub few : length fields ≤ MAX_FIELDS
   pub head : ReadsHead IsStart (take size text) fields []
 
 -- the faults by their numbers
@@ -38,13 +39,25 @@ fault_number Faults.NoMemory = 7
 -- or fields that are
 abbrev pub RefusesIcapHead : (List ℕ → List ℕ → Type 0) → HeadFault → List ℕ → Type 0
 RefusesIcapHead Form fault text =
-    ((fault ≡ unended (length text)) × HasNoLine (take 16384 text))
-    ⊎ ((line : List ℕ) × (behind : List ℕ) × IsFirstLine (take 16384 text) line behind
+    ((fault ≡ unended (length text)) × HasNoLine (take MAX_HEAD text))
+    ⊎ ((line : List ℕ) × (behind : List ℕ) × IsFirstLine (take MAX_HEAD text) line behind
     × (RefusesStartLine Form fault line ⊎ (Form (codes "ICAP/1.0") line × RefusesFields fault (length text) behind)))
 
 -- the first line may be that of a request, by its method and its version
 abbrev pub NeedsUri : List ℕ → Type 0
-NeedsUri text = (line : List ℕ) × (behind : List ℕ) × IsFirstLine (take 16384 text) line behind × MayBeRequestLine line
+NeedsUri text = (line : List ℕ) × (behind : List ℕ) × IsFirstLine (take MAX_HEAD text) line behind × MayBeRequestLine line
+
+-- what may be answered where memory runs out: the first line may be that of a request, and the fields behind it are refused
+-- for this fault, or the fault is NoMemory and they are whole
+abbrev pub ForWantOfMemory : HeadFault → List ℕ → Type 0
+ForWantOfMemory fault text =
+    (line : List ℕ) × (behind : List ℕ) × IsFirstLine (take MAX_HEAD text) line behind × MayBeRequestLine line
+    × (((fault ≡ Faults.NoMemory) × HasFields behind) ⊎ RefusesFields fault (length text) behind)
+
+-- the first line is refused as that of a request
+abbrev pub RefusesRequestLine : HeadFault → List ℕ → Type 0
+RefusesRequestLine fault text =
+    (line : List ℕ) × (behind : List ℕ) × IsFirstLine (take MAX_HEAD text) line behind × RefusesStartLine RequestForm fault line
 
 -- a request's parts
 pub record Request : Type 0 where

@@ -1,6 +1,7 @@
 //! Field lines, read by `httparse` and written (RFC 9112, section 5).
 ghost use Rattle.std.specs.Prelude.{◌≡◌, ℕ, ◌+◌, ◌-◌, ◌<◌, ◌≤◌, ◌⊎◌, ◌++◌, List, length, map, take, drop, All, IfOk, IfErr, IfSome, IfNone, OnOk, slice_index, IsTrue, ◌↔◌};
 ghost use Rattle.std.specs.List.{AllByRecursion};
+ghost use Rattle.adapt_bytes.specs.declared.limits.TheConstants.{MAX_FIELDS};
 ghost use Rattle.httparse.specs.Grammar.{is_value_byte, AllPass};
 ghost use Rattle.icap_head.specs.FieldLines.{ReadsFields, HasFields, RefusesFields, RefusesFieldLines, line_count, unended};
 ghost use Rattle.icap_head.specs.Fields.{field_list};
@@ -21,7 +22,7 @@ pub(crate) fn read_fields(
     whole: usize,
 ) -> Result<(Fields, usize), HeadFault>
     requires { start ≤ length seen.now }
-    ensures found { IfOk result (λ r. (start ≤ r.1) × (r.1 ≤ length seen.now) × (length (field_list r.0) ≤ 100)
+    ensures found { IfOk result (λ r. (start ≤ r.1) × (r.1 ≤ length seen.now) × (length (field_list r.0) ≤ MAX_FIELDS)
         × ReadsFields (drop start seen.now) (field_list r.0) (drop r.1 seen.now)) }
     ensures err { IfErr result (λ fault. ((fault ≡ HeadFault.NoMemory) × HasFields (drop start seen.now))
         ⊎ RefusesFields fault whole (drop start seen.now)) }

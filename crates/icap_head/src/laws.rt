@@ -1,8 +1,8 @@
 //! What holds of all heads: each law is the contract of a function that does nothing.
 ghost use Rattle.std.specs.Prelude.{◌≡◌, ◌≢◌, ℕ, ◌<◌, ◌≤◌, ◌↔◌, ◌++◌, List, length, take};
+ghost use Rattle.adapt_bytes.specs.declared.limits.TheConstants.{MAX_FIELDS, MAX_HEAD};
 ghost use Rattle.http_header.specs.HeaderMap.{get_all};
 ghost use Rattle.http_header.specs.Token.{lowercase};
-ghost use Rattle.adapt_bytes.specs.declared.limits.TheConstants.{MAX_FIELDS, MAX_HEAD};
 ghost use Rattle.icap_head.specs.declared.reading.HeadFault.{HeadFault};
 ghost use Rattle.icap_head.specs.Fields.{FieldList, as_header_map, values_of};
 ghost use Rattle.icap_head.specs.Heads.{Request, Response, HasRequest, HasResponse, IsRequestHead, IsResponseHead, RefusesIcapHead};

@@ -19,6 +19,6 @@ pub use adapt_bytes::{MAX_FIELDS, MAX_HEAD};
 pub use field_list::{Fields, Values};
 pub use methods::{Method, OtherMethod};
 pub use reading::{Head, HeadFault};
-pub use requests::{IcapRequest, read_request, write_request};
+pub use requests::{IcapRequest, judge_request_line, read_request, write_request};
 pub use responses::{IcapResponse, read_response, write_response};
 pub use std::alloc::AllocError as NoMemory;

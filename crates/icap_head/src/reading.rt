@@ -1,5 +1,6 @@
 //! What reading a head answers.
 ghost use Rattle.std.specs.Prelude.{◌≡◌, ◌≤◌, ◌<◌, length, take};
+ghost use Rattle.adapt_bytes.specs.declared.limits.TheConstants.{MAX_HEAD};
 ghost use Rattle.icap_head.specs.declared.reading.HeadFault.{HeadFault};
 ghost use Rattle.icap_head.specs.declared.reading.HeadFault.TheVariants as Faults;
 ghost use Rattle.icap_head.specs.FieldLines.{unended};
@@ -54,9 +55,9 @@ impl From<AllocError> for HeadFault {
 
 /// The bytes that are judged: a head has to end within them.
 pub(crate) fn judged(text: &[u8]) -> &[u8]
-    ensures front { result.now ≡ take 16384 text.now }
+    ensures front { result.now ≡ take MAX_HEAD text.now }
     ensures len { length result.now ≤ length text.now }
-    ensures limit { length result.now ≤ 16384 }
+    ensures limit { length result.now ≤ MAX_HEAD }
 {
     &text[..text.len().min(MAX_HEAD)]
 }

@@ -38,11 +38,14 @@ fn cut_at_space(text: &[u8]) -> Option<(&[u8], &[u8])>
     Some((&text[..at], &text[at + 1..]))
 }
 
-/// The method and the URI of a request line.
-pub(crate) fn read_request_line(alloc: Global, line: &[u8]) -> Result<(&[u8], &[u8]), HeadFault>
-    ensures ok { IfOk result (λ r. IsRequestLine line.now r.0.now r.1.now (codes "ICAP/1.0")) }
-    ensures err { IfErr result (λ fault. ((fault ≡ HeadFault.NoMemory) × MayBeRequestLine line.now)
-        ⊎ RefusesStartLine RequestForm fault line.now) }
+/// The method and the URI of a request line, or `None` where memory ran out before the URI was judged.
+pub(crate) fn read_request_line(
+    alloc: Global,
+    line: &[u8],
+) -> Result<Option<(&[u8], &[u8])>, HeadFault>
+    ensures some { IfOk result (λ words. IfSome words (λ r. IsRequestLine line.now r.0.now r.1.now (codes "ICAP/1.0"))) }
+    ensures ok { IfOk result (λ _. MayBeRequestLine line.now) }
+    ensures err { IfErr result (λ fault. RefusesStartLine RequestForm fault line.now) }
 {
     let Some((method, rest)) = cut_at_space(line) else {
         return Err(HeadFault::StartLine);
@@ -56,11 +59,14 @@ pub(crate) fn read_request_line(alloc: Global, line: &[u8]) -> Result<(&[u8], &[
     if !is_version(version) {
         return Err(HeadFault::StartLine);
     }
-    if !is_icap_uri(alloc, uri)? {
+    let Ok(is_uri) = is_icap_uri(alloc, uri) else {
+        return Ok(None);
+    };
+    if !is_uri {
         return Err(HeadFault::StartLine);
     }
     if is_supported(version) {
-        Ok((method, uri))
+        Ok(Some((method, uri)))
     } else {
         Err(HeadFault::Version)
     }
