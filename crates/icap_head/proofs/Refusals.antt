@@ -4,7 +4,7 @@ use Rattle.icap_head.specs.declared.reading.HeadFault.{HeadFault}
 use Rattle.icap_head.specs.declared.reading.HeadFault.TheVariants.{NoMemory}
 use Rattle.icap_head.specs.Fields.{FieldList}
 use Rattle.icap_head.specs.FieldLines.{ReadsFields, HasFields, RefusesFields}
-use Rattle.icap_head.specs.StartLines.{IsFirstLine, IsRequestLine, IsStatusLine, MayBeRequestLine, RequestForm, StatusForm, RefusesStartLine}
+use Rattle.icap_head.specs.StartLines.{IsFirstLine, IsStatusLine, MayBeRequestLine, RequestForm, StatusForm, RefusesStartLine}
 use Rattle.icap_head.specs.Heads.{Request, Response, ForWantOfMemory, HasRequest, HasResponse, StartsRequest, StartsResponse, RefusesIcapHead}
 use Rattle.icap_head.proofs.Readings.{has_head, has_some_head}
 

@@ -1,9 +1,8 @@
-use Rattle.std.proofs.Common.{◌≡◌, inl, inr, drop, rules, subst, codes, refl}
+use Rattle.std.proofs.Common.{◌≡◌, inl, drop, rules, subst, codes}
 use Rattle.std.proofs.lemmas.Result.{err_from_is_err_and}
 use Rattle.icap_head.specs.Methods.{method_name}
 use Rattle.icap_head.specs.StartLines.{HasNoLine, IsRequestLine}
 use Rattle.icap_head.specs.Fields.{field_list}
-use Rattle.icap_head.specs.declared.reading.HeadFault.TheVariants.{NoMemory}
 use Rattle.icap_head.proofs.Refusals.{request_line_refused, request_fields_refused, request_unkept, has_request}
 use Rattle.icap_head.proofs.requests.find_request.Goals as goal
 
