@@ -6,10 +6,11 @@ use super::player::Side::{Origin, Service, User};
 use super::player::Step::{Admin, Awaits, Closes, New, On, Releases, Stops};
 use super::player::{Deed, Step};
 use super::texts::{
-    ADAPTED, ALMOST_A_REQUEST, BAD_GATEWAY, BEHIND, BY_EXTENSION, CHANGED, CHANGED_TO_ORIGIN,
-    CLOSED, CONTINUE, FINAL, FORWARDED, GO_AHEAD, HEAD_END, NO_CONNECTIONS, OFFERED,
-    ONE_CONNECTION, ONE_REQUEST, POST, POST_TO_ORIGIN, POSTED, PREVIEWS, REQUEST, RESPONSE,
-    RESPONSE_FRONT, RETAGGED, TIMEOUT, TO_ORIGIN, UNAVAILABLE, UNMODIFIED, WAITING_POST,
+    ADAPTED, ALMOST_A_REQUEST, BAD_GATEWAY, BAD_REQUEST, BEHIND, BY_EXTENSION, CHANGED,
+    CHANGED_TO_ORIGIN, CLOSED, CONTINUE, FINAL, FORWARDED, GO_AHEAD, HEAD_END, NO_CONNECTIONS,
+    OFFERED, ONE_CONNECTION, ONE_REQUEST, POST, POST_TO_ORIGIN, POSTED, PREVIEWS, REQUEST,
+    RESPONSE, RESPONSE_FRONT, RETAGGED, TIMEOUT, TO_ORIGIN, TWO_LENGTHS, UNAVAILABLE, UNMODIFIED,
+    WAITING_POST,
 };
 use std::test::Fail;
 
@@ -231,6 +232,9 @@ const CUT_HEADS: &[Step] = &[
     On(7, &[Gets(FORWARDED)]),
 ];
 
+/// A request with two lengths is refused, and the origin hears nothing of it.
+const TWO_LENGTHS_SAID: &[Step] = &[New(User, &[Says(TWO_LENGTHS), Gets(BAD_REQUEST), HearsEnd])];
+
 /// The proxy stops while the service has a message.
 const STOPPED: &[Step] = &[
     New(User, ASKS),
@@ -322,7 +326,11 @@ fn the_administrator_changes_and_stops(rt: HostRuntime) -> Result<(), Fail> {
 }
 
 #[test]
-fn a_request_that_breaks_off_gets_no_answer(rt: HostRuntime) -> Result<(), Fail> {
-    assert!(rt; goes_well(&rt, &rt, Scene::Forwarded(CUT_HEADS), "")?);
+fn a_request_that_breaks_off_gets_no_answer_and_two_lengths_a_refusal(
+    rt: HostRuntime,
+) -> Result<(), Fail> {
+    for steps in [CUT_HEADS, TWO_LENGTHS_SAID] {
+        assert!(rt; goes_well(&rt, &rt, Scene::Forwarded(steps), "")?);
+    }
     Ok(())
 }

@@ -21,6 +21,13 @@ pub const ADAPTED: &[u8] =
 pub const UNAVAILABLE: &[u8] =
     b"HTTP/1.1 503 Service Unavailable\r\nContent-Length: 0\r\nConnection: close\r\n\r\n";
 
+/// A request with two lengths: a number, and a coding that ends by itself.
+pub const TWO_LENGTHS: &[u8] = b"POST http://o.test/a.txt HTTP/1.1\r\nHost: o.test\r\n\
+Content-Length: 3\r\nTransfer-Encoding: chunked\r\n\r\n";
+
+pub const BAD_REQUEST: &[u8] =
+    b"HTTP/1.1 400 Bad Request\r\nContent-Length: 0\r\nConnection: close\r\n\r\n";
+
 pub const BAD_GATEWAY: &[u8] =
     b"HTTP/1.1 502 Bad Gateway\r\nContent-Length: 0\r\nConnection: close\r\n\r\n";
 
