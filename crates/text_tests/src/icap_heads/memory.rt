@@ -42,7 +42,10 @@ fn later_faults_of_requests_whatever_memory_says(rt: HostRuntime) {
         (b"REQMOD icap://h/x ICAP/1.0\r\n", HeadFault::More),
         (b"REQMOD icap://h/x ICAP/1.0\r\n\r", HeadFault::More),
         (b"REQMOD icap://h/x ICAP/1.0\r\n \r\n", HeadFault::Field),
-        (b"OPTIONSX icap://h/x ICAP/1.0\r\na: b\r\n \r\n", HeadFault::Field),
+        (
+            b"OPTIONSX icap://h/x ICAP/1.0\r\na: b\r\n \r\n",
+            HeadFault::Field,
+        ),
     ];
     for (text, fault) in requests {
         let read = read_request(rt.alloc(), text);
@@ -86,15 +89,38 @@ fn words_of_requests_whatever_memory_says(rt: HostRuntime) {
 #[test]
 fn start_lines_of_requests_or_what_stands_behind_them(rt: HostRuntime) {
     let requests: [(&[u8], HeadFault, HeadFault); 5] = [
-        (b"REQMOD http://h/x ICAP/1.0\r\n\r\n", HeadFault::StartLine, HeadFault::NoMemory),
-        (b"REQMOD icap://h/x ICAP/1.1\r\n\r\n", HeadFault::Version, HeadFault::NoMemory),
-        (b"REQMOD http://h/x ICAP/1.0\r\n \r\n", HeadFault::StartLine, HeadFault::Field),
-        (b"REQMOD icap://h/x ICAP/1.1\r\n \r\n", HeadFault::Version, HeadFault::Field),
-        (b"REQMOD http://h/x ICAP/1.0\r\n", HeadFault::StartLine, HeadFault::More),
+        (
+            b"REQMOD http://h/x ICAP/1.0\r\n\r\n",
+            HeadFault::StartLine,
+            HeadFault::NoMemory,
+        ),
+        (
+            b"REQMOD icap://h/x ICAP/1.1\r\n\r\n",
+            HeadFault::Version,
+            HeadFault::NoMemory,
+        ),
+        (
+            b"REQMOD http://h/x ICAP/1.0\r\n \r\n",
+            HeadFault::StartLine,
+            HeadFault::Field,
+        ),
+        (
+            b"REQMOD icap://h/x ICAP/1.1\r\n \r\n",
+            HeadFault::Version,
+            HeadFault::Field,
+        ),
+        (
+            b"REQMOD http://h/x ICAP/1.0\r\n",
+            HeadFault::StartLine,
+            HeadFault::More,
+        ),
     ];
     for (text, first, behind) in requests {
         let read = read_request(rt.alloc(), text);
-        assert!(rt; matches!(read, Err(found) if found == first || found == behind), "{text:?}");
+        assert!(rt;
+            matches!(read, Err(found) if found == first || found == behind),
+            "{text:?}"
+        );
     }
 }
 
@@ -105,12 +131,18 @@ fn first_lines_or_no_memory(rt: HostRuntime) {
         (b"REQMOD icap://h/x", None),
         (b"REQMOD icap://h/x ICAP/1.0\r\n", None),
         (b"REQMOD icap://h/x ICAP/1.0\r\n \r\n", None),
-        (b"REQMOD http://h/x ICAP/1.0\r\n \r\n", Some(HeadFault::StartLine)),
+        (
+            b"REQMOD http://h/x ICAP/1.0\r\n \r\n",
+            Some(HeadFault::StartLine),
+        ),
         (b"REQMOD icap://h/x ICAP/1.1\r\n", Some(HeadFault::Version)),
     ];
     for (text, fault) in texts {
         let found = judge_request_line(rt.alloc(), text).err();
-        assert!(rt; found == fault || found == Some(HeadFault::NoMemory), "{text:?}");
+        assert!(rt;
+            found == fault || found == Some(HeadFault::NoMemory),
+            "{text:?}"
+        );
     }
 }
 
