@@ -1,4 +1,5 @@
 pub mod Cuts
+pub mod LookUps
 pub mod Numerals
 pub mod Parts
 pub mod Plain

@@ -2,6 +2,7 @@
 use Rattle.std.specs.Prelude.{◌≡◌, ◌≢◌, ℕ, ◌<◌, slice_index, Bool, ◌||◌, List, [], ◌∷◌, length, map, filter, reverse, if◌then◌else◌, ◌==◌, nat_lt, codes, IsTrue, All, Option, Some, None}
 use Rattle.std.specs.List.{slice_split, list_any}
 use Rattle.std.specs.Char.{is_ascii_alphanumeric, to_ascii_lowercase}
+use Rattle.std.specs.Str.{str_eq_ignore_ascii_case}
 use Rattle.std.specs.Borrow.{Bor}
 use Rattle.adapt_bytes.specs.declared.commas.CommaParts.{CommaParts}
 use Rattle.adapt_bytes.specs.declared.commas.CommaItems.{CommaItems}
@@ -46,6 +47,14 @@ comma_parts text = map trim (slice_split (λ b. b == 44) text)
 -- the parts that aren't empty
 unfoldable pub comma_items : List ℕ → List (List ℕ)
 comma_items text = filter (λ part. nat_lt 0 (length part)) (comma_parts text)
+
+-- one of the words is this one, but for the case of ASCII letters
+abbrev pub is_among : List (List ℕ) → List ℕ → Bool
+is_among words word = list_any (λ other. str_eq_ignore_ascii_case other word) words
+
+-- an item of the list is the word, but for the case of ASCII letters
+abbrev pub has_item : List ℕ → List ℕ → Bool
+has_item word text = is_among (comma_items text) word
 
 -- what an iterator has still to give
 abbrev pub left_of : Option (Bor (List ℕ)) → List (List ℕ)

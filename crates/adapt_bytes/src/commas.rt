@@ -1,7 +1,7 @@
 //! What stands between the commas of a list (RFC 9110, section 5.6.1).
 ghost use Rattle.std.specs.Prelude.{◌≡◌};
 ghost use Rattle.std.specs.Iterator.{YieldsFirstRef, item_count};
-ghost use Rattle.adapt_bytes.specs.Text.{comma_parts, comma_items, parts_left, items_left};
+ghost use Rattle.adapt_bytes.specs.Text.{comma_parts, comma_items, has_item, parts_left, items_left};
 
 use crate::text::trim;
 
@@ -72,4 +72,16 @@ impl<'a> Iterator for CommaItems<'a> {
         }
         None
     }
+}
+
+/// Whether an item of the list is the word, ASCII case ignored.
+pub fn has_item(list: &[u8], word: &[u8]) -> bool
+    ensures { result ≡ has_item word.now list.now }
+{
+    for item in comma_items(list) {
+        if item.eq_ignore_ascii_case(word) {
+            return true;
+        }
+    }
+    false
 }

@@ -1,5 +1,8 @@
-//! Laws of numerals: each is the contract of a function that does nothing.
+//! Laws of numerals and of fields: each is the contract of a function that does nothing.
 ghost use Rattle.std.specs.Prelude.{◌≡◌, ℕ, ◌<◌, ◌≤◌, ◌^◌, List, length};
+ghost use Rattle.http_header.specs.HeaderMap.{get_all};
+ghost use Rattle.http_header.specs.Token.{lowercase};
+ghost use Rattle.adapt_bytes.specs.Fields.{FieldList, as_header_map, values_of};
 ghost use Rattle.adapt_bytes.specs.Numeral.{Writes, numeral, HasNoLeadingZero, IsLowerCase};
 
 /// A text spells one number at most.
@@ -22,4 +25,9 @@ pub fn writes_the_only_short_spelling()
 /// How long a numeral is at most.
 pub fn is_short()
     ensures { (base n k : ℕ) → 2 ≤ base → 0 < k → n < base ^ k → length (numeral base n) ≤ k }
+{}
+
+/// A look-up by name finds what a header map of the fields has under that name.
+pub fn looks_up_as_a_header_map()
+    ensures { (name : List ℕ) (fields : FieldList) → get_all (as_header_map fields) (lowercase name) ≡ values_of name fields }
 {}

@@ -8,7 +8,7 @@ mod limits;
 mod room;
 mod text;
 
-pub use commas::{CommaItems, CommaParts, comma_items, comma_parts};
+pub use commas::{CommaItems, CommaParts, comma_items, comma_parts, has_item};
 pub use digits::{Small, put_decimal, put_hex, read_decimal, read_hex};
 pub use limits::{
     COUNT_LIMIT, MAX_ALLOW_LIMIT, MAX_CAPACITY, MAX_CONNECTIONS, MAX_FIELDS, MAX_HEAD, MAX_INPUT,
