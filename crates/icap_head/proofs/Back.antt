@@ -11,7 +11,7 @@ use Rattle.adapt_bytes.specs.Text.{Lacks}
 use Rattle.httparse.specs.Grammar.{crlf, Field as Line, IsField, print_field, print_section, is_value_byte}
 use Rattle.httparse.specs.Spans.{name_and_value}
 use Rattle.httparse.proofs.TrimLemmas.{trim_ows_space}
-use Rattle.icap_head.specs.Fields.{FieldList}
+use Rattle.adapt_bytes.specs.Fields.{FieldList}
 use Rattle.icap_head.specs.StartLines.{without_cr, IsStatus, IsVersion}
 use Rattle.icap_head.specs.Heads.{Request, Response, ReadsHead, IsRequestHead, IsResponseHead, StartsRequest, StartsResponse}
 use Rattle.icap_head.specs.Written.{IsFieldPair, IsRequest, IsResponse, field_text, fields_text, request_line, request_text, three_digits, status_line, response_text}

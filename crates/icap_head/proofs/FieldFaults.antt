@@ -5,7 +5,7 @@ use Rattle.httparse.specs.Grammar.{ReadsSection, NeverHasSection}
 use Rattle.httparse.proofs.GrammarLemmas.{ReadsSection-append}
 use Rattle.icap_head.specs.declared.reading.HeadFault.{HeadFault}
 use Rattle.icap_head.specs.declared.reading.HeadFault.TheVariants.{TooMany}
-use Rattle.icap_head.specs.Fields.{FieldList}
+use Rattle.adapt_bytes.specs.Fields.{FieldList}
 use Rattle.icap_head.specs.FieldLines.{ReadsFields, HasFields, HasTooMany, RefusesFieldLines, RefusesFields, unended, line_count}
 use Rattle.icap_head.proofs.Sections.{open_too_many, too_many_count, too_many-append, never_too_many, ends_too_many}
 

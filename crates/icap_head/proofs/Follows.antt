@@ -7,7 +7,7 @@ use Rattle.httparse.specs.Spans.{name_and_value}
 use Rattle.httparse.proofs.GrammarLemmas.{section_unique, ReadsSection-append}
 use Rattle.icap_head.specs.declared.reading.HeadFault.{HeadFault}
 use Rattle.icap_head.specs.declared.reading.HeadFault.TheVariants.{More, TooLong}
-use Rattle.icap_head.specs.Fields.{FieldList}
+use Rattle.adapt_bytes.specs.Fields.{FieldList}
 use Rattle.icap_head.specs.FieldLines.{ReadsFields, RefusesFields, HasTooMany, IsOpen, unended}
 use Rattle.icap_head.specs.Heads.{HasHead, RefusesIcapHead}
 use Rattle.icap_head.specs.StartLines.{IsFirstLine, HasNoLine, RefusesStartLine}

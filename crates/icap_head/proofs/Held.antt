@@ -10,7 +10,7 @@ use Rattle.adapt_bytes.specs.Text.{Lacks}
 use Rattle.httparse.specs.Grammar.{Field as Line, IsField, is_ows, is_value_byte, skip_ows, trim_ows}
 use Rattle.httparse.specs.Spans.{name_and_value}
 use Rattle.httparse.proofs.TrimLemmas.{AllPass-trim_ows}
-use Rattle.icap_head.specs.Fields.{FieldList}
+use Rattle.adapt_bytes.specs.Fields.{FieldList}
 use Rattle.icap_head.specs.FieldLines.{ReadsFields}
 use Rattle.icap_head.specs.Heads.{Request, Response, IsRequestHead, IsResponseHead}
 use Rattle.icap_head.specs.StartLines.{without_cr, IsFirstLine}

@@ -5,7 +5,7 @@ use Rattle.httparse.specs.Grammar.{ReadsSection, NeverHasSection, print_section}
 use Rattle.httparse.specs.Spans.{name_and_value}
 use Rattle.httparse.proofs.GrammarLemmas.{section_unique}
 use Rattle.icap_head.specs.declared.reading.HeadFault.{HeadFault}
-use Rattle.icap_head.specs.Fields.{FieldList}
+use Rattle.adapt_bytes.specs.Fields.{FieldList}
 use Rattle.icap_head.specs.FieldLines.{ReadsFields, RefusesFields, IsOpen}
 use Rattle.icap_head.specs.Heads.{ReadsHead, HasHead, RefusesIcapHead}
 use Rattle.icap_head.specs.StartLines.{IsFirstLine, RefusesStartLine}

@@ -2,7 +2,7 @@
 use Rattle.std.proofs.Common.{◌≡◌, ℕ, ◌≤◌, ◌⊎◌, inl, inr, List, length, take, drop, codes, subst, refl}
 use Rattle.icap_head.specs.declared.reading.HeadFault.{HeadFault}
 use Rattle.icap_head.specs.declared.reading.HeadFault.TheVariants.{NoMemory}
-use Rattle.icap_head.specs.Fields.{FieldList}
+use Rattle.adapt_bytes.specs.Fields.{FieldList}
 use Rattle.icap_head.specs.FieldLines.{ReadsFields, HasFields, RefusesFields}
 use Rattle.icap_head.specs.StartLines.{IsFirstLine, IsStatusLine, MayBeRequestLine, RequestForm, StatusForm, RefusesStartLine}
 use Rattle.icap_head.specs.Heads.{Request, Response, ForWantOfMemory, HasRequest, HasResponse, StartsRequest, StartsResponse, RefusesIcapHead}

@@ -8,7 +8,7 @@ use Rattle.httparse.specs.Grammar.{LineEnd, lf, print_end, Field as Line, print_
 use Rattle.httparse.specs.Spans.{name_and_value}
 use Rattle.icap_head.specs.declared.reading.HeadFault.{HeadFault}
 use Rattle.icap_head.specs.declared.reading.HeadFault.TheVariants.{StartLine, Version, Field, TooMany}
-use Rattle.icap_head.specs.Fields.{FieldList}
+use Rattle.adapt_bytes.specs.Fields.{FieldList}
 use Rattle.icap_head.specs.FieldLines.{ReadsFields, RefusesFields, HasTooMany, unended}
 use Rattle.icap_head.specs.Heads.{Request, Response, HasHead, HasRequest, HasResponse, StartsRequest, StartsResponse, RefusesIcapHead}
 use Rattle.icap_head.specs.StartLines.{IsFirstLine, HasNoLine, RequestForm, StatusForm, without_cr}

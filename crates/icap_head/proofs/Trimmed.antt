@@ -6,7 +6,7 @@ use Rattle.std.proofs.lemmas.Bool.{cases_Bool}
 use Rattle.std.proofs.lemmas.List.{reverse-reverse, drop_more}
 use Rattle.adapt_bytes.specs.Text.{is_token_byte, IsToken, skip_blanks, trim}
 use Rattle.httparse.specs.Grammar.{is_token_byte as is_name_byte, IsToken as IsFieldName, is_ows, skip_ows, trim_ows}
-use Rattle.icap_head.specs.Fields.{FieldList, field_at}
+use Rattle.adapt_bytes.specs.Fields.{FieldList, field_at}
 use Rattle.icap_head.specs.Written.{IsFieldPair}
 use Rattle.icap_head.proofs.Held.{trimmed_front, trimmed_back, skip_yes, skip_off}
 

@@ -4,7 +4,7 @@ use Rattle.std.specs.List.{count_by}
 use Rattle.adapt_bytes.specs.declared.limits.TheConstants.{MAX_FIELDS, MAX_HEAD}
 use Rattle.httparse.specs.Grammar.{LineEnd, Field as Line, ReadsSection, HasNoSection, NeverHasSection, MayBecomeSection}
 use Rattle.httparse.specs.Spans.{name_and_value, SectionExceeds}
-use Rattle.icap_head.specs.Fields.{FieldList}
+use Rattle.adapt_bytes.specs.Fields.{FieldList}
 use Rattle.icap_head.specs.declared.reading.HeadFault.{HeadFault}
 use Rattle.icap_head.specs.declared.reading.HeadFault.TheVariants.{More, Field, TooLong, TooMany}
 

@@ -1,36 +1,13 @@
--- The fields of a head (RFC 9110, section 5): a list of names as they came, with their values.
-use Rattle.std.specs.Prelude.{ℕ, Bool, List, [], map, filter, drop, bytes_eq, Option, slice_get, slice_index_or}
-use Rattle.http_header.specs.Token.{lowercase}
-use Rattle.http_header.specs.HeaderMap.{Entries, append_all}
+-- The fields of a head as a list, and what a look-up by name gives.
+use Rattle.std.specs.Prelude.{ℕ, List, map, drop, Option, slice_get}
 use Rattle.httparse.specs.Spans.{header_bytes}
+use Rattle.adapt_bytes.specs.Fields.{FieldList, values_of}
 use Rattle.icap_head.specs.declared.field_list.Fields.{Fields}
 use Rattle.icap_head.specs.declared.field_list.Values.{Values}
-
--- names as they came, and values without the blanks around them
-abbrev pub FieldList : Type 0
-FieldList = List (List ℕ × List ℕ)
 
 -- the fields as a list
 abbrev pub field_list : Fields → FieldList
 field_list fields = map (header_bytes fields.text.items) fields.lines.items
-
--- the field at a place
-abbrev pub field_at : FieldList → ℕ → List ℕ × List ℕ
-field_at fields at = slice_index_or fields at ([], [])
-
-abbrev pub name_at : FieldList → ℕ → List ℕ
-name_at fields at = (field_at fields at).0
-
-abbrev pub value_at : FieldList → ℕ → List ℕ
-value_at fields at = (field_at fields at).1
-
--- the field has this name; names are compared in lower case (RFC 9110, section 5.1)
-abbrev pub is_named : List ℕ → List ℕ × List ℕ → Bool
-is_named name field = bytes_eq (lowercase field.0) (lowercase name)
-
--- the values of the fields of this name, in their order
-abbrev pub values_of : List ℕ → FieldList → List (List ℕ)
-values_of name fields = map (λ field. field.1) (filter (is_named name) fields)
 
 -- the value of the first field of this name
 abbrev pub first_of : List ℕ → FieldList → Option (List ℕ)
@@ -39,7 +16,3 @@ first_of name fields = slice_get (values_of name fields) 0
 -- what an iterator has still to give
 abbrev pub values_left : Values → List (List ℕ)
 values_left values = values_of values.name.now (drop values.passed (field_list values.fields.now))
-
--- the same fields in a header map, which keeps names in lower case
-abbrev pub as_header_map : FieldList → Entries (List ℕ)
-as_header_map fields = append_all [] (map (λ field. (lowercase field.0, field.1)) fields)

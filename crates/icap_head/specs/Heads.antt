@@ -1,7 +1,8 @@
 -- Heads of ICAP messages (RFC 3507, section 4.3): a start line, field lines and an empty line.
 use Rattle.std.specs.Prelude.{◌≡◌, ℕ, ◌≤◌, ◌⊎◌, List, [], length, take, codes}
 use Rattle.adapt_bytes.specs.declared.limits.TheConstants.{MAX_FIELDS, MAX_HEAD}
-use Rattle.icap_head.specs.Fields.{FieldList, field_list}
+use Rattle.adapt_bytes.specs.Fields.{FieldList}
+use Rattle.icap_head.specs.Fields.{field_list}
 use Rattle.icap_head.specs.FieldLines.{ReadsFields, HasFields, RefusesFields, unended}
 use Rattle.icap_head.specs.Methods.{method_name}
 use Rattle.icap_head.specs.StartLines.{IsFirstLine, HasNoLine, IsRequestLine, IsStatusLine, RequestForm, RefusesStartLine, MayBeRequestLine}

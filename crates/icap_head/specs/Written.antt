@@ -3,7 +3,7 @@ use Rattle.std.specs.Prelude.{◌≡◌, ℕ, ◌+◌, ◌/◌, ◌%◌, ◌<◌
 use Rattle.std.specs.List.{flat_map, AllByRecursion}
 use Rattle.adapt_bytes.specs.Text.{IsToken, Lacks}
 use Rattle.httparse.specs.Grammar.{IsToken as IsFieldName, AllPass, is_value_byte, skip_ows}
-use Rattle.icap_head.specs.Fields.{FieldList}
+use Rattle.adapt_bytes.specs.Fields.{FieldList}
 use Rattle.icap_head.specs.Heads.{Request, Response}
 use Rattle.icap_head.specs.StartLines.{IsIcapUri}
 

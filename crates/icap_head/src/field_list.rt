@@ -27,7 +27,8 @@ pub struct Values<'a> {
 }
 
 impl Fields {
-    ghost use Rattle.icap_head.specs.Fields.{field_list, name_at, value_at, values_of, first_of, values_left};
+    ghost use Rattle.adapt_bytes.specs.Fields.{name_at, value_at, values_of};
+    ghost use Rattle.icap_head.specs.Fields.{field_list, first_of, values_left};
 
     /// No fields. It takes no memory.
     pub fn new(alloc: Global) -> Fields

@@ -1,10 +1,7 @@
 //! What holds of all heads: each law is the contract of a function that does nothing.
 ghost use Rattle.std.specs.Prelude.{◌≡◌, ◌≢◌, ℕ, ◌<◌, ◌≤◌, ◌↔◌, ◌++◌, List, length, take};
 ghost use Rattle.adapt_bytes.specs.declared.limits.TheConstants.{MAX_FIELDS, MAX_HEAD};
-ghost use Rattle.http_header.specs.HeaderMap.{get_all};
-ghost use Rattle.http_header.specs.Token.{lowercase};
 ghost use Rattle.icap_head.specs.declared.reading.HeadFault.{HeadFault};
-ghost use Rattle.icap_head.specs.Fields.{FieldList, as_header_map, values_of};
 ghost use Rattle.icap_head.specs.Heads.{Request, Response, HasRequest, HasResponse, IsRequestHead, IsResponseHead, RefusesIcapHead};
 ghost use Rattle.icap_head.specs.StartLines.{RequestForm, StatusForm};
 ghost use Rattle.icap_head.specs.Written.{IsRequest, IsResponse, request_text, response_text};
@@ -74,9 +71,4 @@ pub fn reads_what_it_writes()
         → length (request_text value) ≤ MAX_HEAD → HasRequest (request_text value ++ more) value (length (request_text value)) }
     ensures responses { (value : Response) (more : List ℕ) → IsResponse value → length value.fields ≤ MAX_FIELDS
         → length (response_text value) ≤ MAX_HEAD → HasResponse (response_text value ++ more) value (length (response_text value)) }
-{}
-
-/// A look-up by name finds what a header map of the fields has under that name.
-pub fn looks_up_as_a_header_map()
-    ensures { (name : List ℕ) (fields : FieldList) → get_all (as_header_map fields) (lowercase name) ≡ values_of name fields }
 {}

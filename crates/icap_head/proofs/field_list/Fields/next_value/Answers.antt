@@ -1,6 +1,7 @@
 use Rattle.std.proofs.Common.{◌+◌, ◌<◌, ◌∷◌, length, drop, refl, sym, ap, ◌∙◌, subst, arith}
 use Rattle.adapt_bytes.specs.Text.{SameAscii}
-use Rattle.icap_head.specs.Fields.{field_list, name_at, values_of}
+use Rattle.adapt_bytes.specs.Fields.{name_at, values_of}
+use Rattle.icap_head.specs.Fields.{field_list}
 use Rattle.icap_head.proofs.Lacking.{false_true}
 use Rattle.icap_head.proofs.LookUps.{values_from_yes, values_from_no}
 use Rattle.icap_head.proofs.field_list.Fields.next_value.Goals as goal

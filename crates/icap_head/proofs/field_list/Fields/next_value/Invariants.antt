@@ -1,5 +1,6 @@
 use Rattle.std.proofs.Common.{◌≡◌, drop}
-use Rattle.icap_head.specs.Fields.{field_list, values_of}
+use Rattle.adapt_bytes.specs.Fields.{values_of}
+use Rattle.icap_head.specs.Fields.{field_list}
 use Rattle.icap_head.proofs.field_list.Fields.next_value.Given as goal
 
 abbrev pub invariant-loop-at : goal.invariant-loop-at
