@@ -11,8 +11,8 @@ use Rattle.icap_chunks.specs.Machine.{start, step, run, body_of, end_at, end_of,
 use Rattle.icap_chunks.proofs.Runs.{run-append, at_place}
 use Rattle.icap_chunks.proofs.Walks.{at, open_walk, whole_walk, all_but_last, all_but_last-is}
 use Rattle.icap_chunks.proofs.Standing.{HasEnded}
-use Rattle.icap_chunks.proofs.Standing.{Stands}
-use Rattle.icap_chunks.proofs.Stands.{text_stands}
+use Rattle.icap_chunks.proofs.Standing.{LeavesAt}
+use Rattle.icap_chunks.proofs.Leaves.{text_leaves}
 
 pub ended_at : (p : Place) (ieof : Bool) → end_at p ≡ Some ieof → p ≡ Ended ieof
 unfolding end_at
@@ -70,7 +70,7 @@ chunked_ends text body ieof w =
 pub ends_chunked : (text : List ℕ) (ieof : Bool) → EndsAt text ieof → IsChunked text (body_of start text) ieof
 ends_chunked text ieof e =
     let place = ended_at (run start text).place ieof e.ended in
-    let g : HasEnded text (body_of start text) ieof = let P : Place → Type 0 = λ p. Stands text (body_of start text) (run start text).sum p in subst P place (text_stands text) in
+    let g : HasEnded text (body_of start text) ieof = let P : Place → Type 0 = λ p. LeavesAt text (body_of start text) (run start text).sum p in subst P place (text_leaves text) in
     no_rest text (body_of start text) ieof e g.whole g.rest g.is g.text_is
   where
     no_rest : (text body : List ℕ) (ieof : Bool) → EndsAt text ieof → (whole rest : List ℕ) → IsChunked whole body ieof → text ≡ whole ++ rest → IsChunked text body ieof

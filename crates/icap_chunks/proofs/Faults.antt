@@ -12,13 +12,13 @@ use Rattle.icap_chunks.specs.declared.reader.ChunkReader.{ChunkReader}
 use Rattle.adapt_bytes.specs.Text.{is_blank}
 use Rattle.icap_chunks.specs.Grammar.{AllPass, SizeLine, print_line, has_ieof, IsSizeLine, Chunks}
 use Rattle.icap_chunks.specs.Machine.{start, step, run, body_of, is_data, faulted_at, fault_of, end_at, data_behind}
-use Rattle.icap_chunks.proofs.Standing.{Front, InDigits, InPad, InExtension, InLineEnd, InChunk, InTrailers, Stands, extension_behind}
+use Rattle.icap_chunks.proofs.Standing.{Front, InDigits, InPad, InExtension, InLineEnd, InChunk, InTrailers, LeavesAt, extension_behind}
 use Rattle.icap_chunks.specs.Faults.{Breaks}
 use Rattle.icap_chunks.proofs.Runs.{run_data, body_of_data, behind_more, behind_all, run_faulted, body_of_faulted, at_place}
 use Rattle.icap_chunks.proofs.Walks.{Walk, at, stay, on, to, of, finding, chunks_walk, digits_walk, first_blank, blanks_walk, digits_extension, pad_extension, extends, extension_walk, line_walk, last_end, size_end, data_end, trailers_walk, first_trailer, trailer_bytes, trailer_end, final_end, chunks_fit}
 use Rattle.icap_chunks.proofs.Endings.{option_cases, some_none}
 use Rattle.icap_chunks.proofs.Parts.{part_place, place_part}
-use Rattle.icap_chunks.proofs.Stands.{step_stands, start_stands}
+use Rattle.icap_chunks.proofs.Leaves.{step_leaves, start_leaves}
 
 -- ---- a text that stands somewhere leads there
 
@@ -115,36 +115,36 @@ trailer_part sum count ieof (b ∷ part) some all short =
     to (on (first_trailer sum ieof count b (omega arith) all.0) (trailer_bytes sum ieof (count + 1) part all.1 (omega arith))) (ap (λ k. at sum (Trailer k ieof)) same)
 
 -- a text that stands in a place that isn't the end leads there
-pub stands_walk : (text body : List ℕ) (sum : ℕ) (p : Place) → end_at p ≡ None → faulted_at p ≡ None → Stands text body sum p → Walk start text body (at sum p)
+pub leaves_walk : (text body : List ℕ) (sum : ℕ) (p : Place) → end_at p ≡ None → faulted_at p ≡ None → LeavesAt text body sum p → Walk start text body (at sum p)
 unfolding end_at faulted_at
-stands_walk text body sum (Digits count size) e f s = digits_stand text body sum count size s
-stands_walk text body sum (Pad count size) e f s = pad_stand text body sum count size s
-stands_walk text body sum (Extension count size item found) e f s = extension_stand text body sum count size item found s
-stands_walk text body sum (LineCr size ieof) e f s = line_end_stand text body sum size ieof s
-stands_walk text body sum (Data more) e f s =
+leaves_walk text body sum (Digits count size) e f s = digits_stand text body sum count size s
+leaves_walk text body sum (Pad count size) e f s = pad_stand text body sum count size s
+leaves_walk text body sum (Extension count size item found) e f s = extension_stand text body sum count size item found s
+leaves_walk text body sum (LineCr size ieof) e f s = line_end_stand text body sum size ieof s
+leaves_walk text body sum (Data more) e f s =
     let left : (s.size - 1) - length s.bytes ≡ more = omega (arith, s.left_is) in
     chunk_part text body sum (more + 1) [] s (Data more) (Data more)
     (behind_more sum (s.size - 1) (length s.bytes) (omega (arith, s.left_is)) ∙ ap (λ k. at sum (Data k)) left) (stay _)
-stands_walk text body sum DataEnd e f s = chunk_part text body sum 0 [] s DataEnd DataEnd (behind_all sum (s.size - 1) (length s.bytes) (omega (arith, s.left_is, s.some))) (stay _)
-stands_walk text body sum DataCr e f s = chunk_part text body sum 0 (13 ∷ []) s DataEnd DataCr (behind_all sum (s.size - 1) (length s.bytes) (omega (arith, s.left_is, s.some))) (data_end sum)
-stands_walk text body sum (TrailerStart count ieof) e f s =
+leaves_walk text body sum DataEnd e f s = chunk_part text body sum 0 [] s DataEnd DataEnd (behind_all sum (s.size - 1) (length s.bytes) (omega (arith, s.left_is, s.some))) (stay _)
+leaves_walk text body sum DataCr e f s = chunk_part text body sum 0 (13 ∷ []) s DataEnd DataCr (behind_all sum (s.size - 1) (length s.bytes) (omega (arith, s.left_is, s.some))) (data_end sum)
+leaves_walk text body sum (TrailerStart count ieof) e f s =
     let same : length s.trailers ≡ count = omega (arith, s.count_is) in
     trailers_part text body sum count ieof [] s (TrailerStart count ieof) (to (stay _) (ap (λ k. at (length body) (TrailerStart k ieof)) same))
-stands_walk text body sum (Trailer count ieof) e f s =
+leaves_walk text body sum (Trailer count ieof) e f s =
     trailers_part text body sum count ieof s.0 s.1 (Trailer count ieof)
     (to (trailer_part (length body) (length s.1.trailers) ieof s.0 s.2 s.3 (omega (arith, s.1.count_is, s.1.short))) (ap (λ k. at (length body) (Trailer k ieof)) (sym s.1.count_is)))
-stands_walk text body sum (TrailerCr count ieof) e f s =
+leaves_walk text body sum (TrailerCr count ieof) e f s =
     let len = length-append s.0 (13 ∷ []) in
     let same : length s.1.trailers + length s.0 + 1 ≡ count = omega (arith, s.1.count_is) in
     trailers_part text body sum count ieof (s.0 ++ 13 ∷ []) s.1 (TrailerCr count ieof)
     (to (on (trailer_part (length body) (length s.1.trailers) ieof s.0 s.2 s.3 (omega (arith, s.1.count_is, s.1.short)))
     (trailer_end (length body) ieof (length s.1.trailers + length s.0) (omega (arith, s.1.short)))) (ap (λ k. at (length body) (TrailerCr k ieof)) same))
-stands_walk text body sum (LastCr count ieof) e f s =
+leaves_walk text body sum (LastCr count ieof) e f s =
     let same : length s.trailers + 1 ≡ count = omega (arith, s.count_is) in
     trailers_part text body sum count ieof (13 ∷ []) s (LastCr count ieof)
     (to (final_end (length body) ieof (length s.trailers) (omega (arith, s.count_is, s.short))) (ap (λ k. at (length body) (LastCr k ieof)) same))
-stands_walk text body sum (Ended ieof) e f s = absurd (some_none e)
-stands_walk text body sum (Faulted fault) e f s = absurd (some_none f)
+leaves_walk text body sum (Ended ieof) e f s = absurd (some_none e)
+leaves_walk text body sum (Faulted fault) e f s = absurd (some_none f)
 
 -- ---- faults
 
@@ -177,7 +177,7 @@ breaks_fault text body fault x =
     let r = at p.sum p.place in
     let breaks : fault_of (step r x.byte) ≡ Some fault = p.same x.byte ∙ x.breaks in
     let here = no_body_breaks p.sum p.place x.byte fault breaks p.sound in
-    let w = stands_walk x.good body p.sum p.place here.1 p.sound p.stands in
+    let w = leaves_walk x.good body p.sum p.place here.1 p.sound p.stands in
     let stays = fault_stays (step r x.byte) fault x.rest breaks in
     let none : body_of r (x.byte ∷ x.rest) ≡ [] = rw here.0 stays.1 in
     let last : Walk r (x.byte ∷ x.rest) [] (step r x.byte) = record { reads = stays.0; finds = none } in
@@ -185,12 +185,12 @@ breaks_fault text body fault x =
     (ap fault_of all.reads ∙ breaks, all.finds)
 
 -- and what is answered breaks it
-fault_from : (front body : List ℕ) (r : ChunkReader) (text : List ℕ) (fault : ChunkFault) → Stands front body r.sum r.place → fault_of r ≡ None → fault_of (run r text) ≡ Some fault
+fault_from : (front body : List ℕ) (r : ChunkReader) (text : List ℕ) (fault : ChunkFault) → LeavesAt front body r.sum r.place → fault_of r ≡ None → fault_of (run r text) ≡ Some fault
     → Breaks (front ++ text) (body ++ body_of r text) fault
 fault_from front body r [] fault s sound e = absurd (none_some (sym sound ∙ e))
 fault_from front body r (b ∷ text) fault s sound e = option_cases (fault_of (step r b)) _ now
     (λ none. finish (fault_from (front ++ b ∷ []) (body ++ (if is_data r.place then b ∷ [] else [])) (step r b) text fault
-    (step_stands front body b r.sum r.place s) none e))
+    (step_leaves front body b r.sum r.place s) none e))
   where
     now : (x : ChunkFault) → fault_of (step r b) ≡ Some x → Breaks (front ++ b ∷ text) (body ++ body_of r (b ∷ text)) fault
     now x here =
@@ -220,6 +220,6 @@ AnswersFaults = (text body : List ℕ) (fault : ChunkFault) → ((fault_of (run 
 
 pub answers_faults : AnswersFaults
 answers_faults text body fault = (
-  λ e. let P : List ℕ → Type 0 = λ x. Breaks text x fault in subst P e.1 (fault_from [] [] start text fault start_stands start_sound e.0),
+  λ e. let P : List ℕ → Type 0 = λ x. Breaks text x fault in subst P e.1 (fault_from [] [] start text fault start_leaves start_sound e.0),
   breaks_fault text body fault,
 )

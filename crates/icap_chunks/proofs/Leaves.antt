@@ -7,8 +7,8 @@ use Rattle.icap_chunks.specs.declared.places.Place.TheVariants.{Digits, Pad, Ext
 use Rattle.icap_chunks.specs.declared.reader.ChunkReader.{ChunkReader}
 use Rattle.icap_chunks.specs.Grammar.{crlf, is_line_byte, AllPass, print_line, print_extension, IsSizeLine, no_chunk, chunk, line}
 use Rattle.icap_chunks.specs.Machine.{start, step, run, body_of, is_data, in_data, in_data_end, in_data_cr, in_trailer_start, in_trailer, in_trailer_cr, in_last_cr}
-use Rattle.icap_chunks.proofs.Standing.{Front, InChunk, InTrailers, HasEnded, Stands}
-use Rattle.icap_chunks.proofs.LineSteps.{Front_more, Front_text, Front_as, All_push, StandsAt, choose, or_left, or_right, is_nle, is_eq, is_lt, line_byte_from, digits_step, pad_step, extension_step, line_end_step}
+use Rattle.icap_chunks.proofs.Standing.{Front, InChunk, InTrailers, HasEnded, LeavesAt}
+use Rattle.icap_chunks.proofs.LineSteps.{Front_more, Front_text, Front_as, All_push, LeavesReader, choose, or_left, or_right, is_nle, is_eq, is_lt, line_byte_from, digits_step, pad_step, extension_step, line_end_step}
 
 module _ (text body : List ℕ) (sum more b : ℕ) (s : InChunk text body sum (more + 1) []) where
   data_one : (left : ℕ) → left ≡ more → InChunk (text ++ b ∷ []) (body ++ b ∷ []) sum left []
@@ -26,9 +26,9 @@ module _ (text body : List ℕ) (sum more b : ℕ) (s : InChunk text body sum (m
     some = s.some;
   }
 
-  data_step : Stands (text ++ b ∷ []) (body ++ b ∷ []) sum (in_data more)
+  data_step : LeavesAt (text ++ b ∷ []) (body ++ b ∷ []) sum (in_data more)
   unfolding in_data
-  data_step = choose (Stands (text ++ b ∷ []) (body ++ b ∷ []) sum) (nat_lt 0 more) _ _
+  data_step = choose (LeavesAt (text ++ b ∷ []) (body ++ b ∷ []) sum) (nat_lt 0 more) _ _
       (λ some. data_one (more - 1 + 1) (let pos = is_lt 0 more some in omega arith))
       (λ none. data_one 0 (is_zero none))
     where
@@ -36,9 +36,9 @@ module _ (text body : List ℕ) (sum more b : ℕ) (s : InChunk text body sum (m
       is_zero none = grind (arith, nat_tests)
 
 module _ (text body : List ℕ) (sum b : ℕ) where
-  data_end_step : InChunk text body sum 0 [] → Stands (text ++ b ∷ []) body sum (in_data_end b)
+  data_end_step : InChunk text body sum 0 [] → LeavesAt (text ++ b ∷ []) body sum (in_data_end b)
   unfolding in_data_end
-  data_end_step s = choose (Stands (text ++ b ∷ []) body sum) (b == 13) _ _
+  data_end_step s = choose (LeavesAt (text ++ b ∷ []) body sum) (b == 13) _ _
       (λ e. record {
         done = s.done;
         bytes = s.bytes;
@@ -54,9 +54,9 @@ module _ (text body : List ℕ) (sum b : ℕ) where
       })
       (λ _. tt)
 
-  data_cr_step : InChunk text body sum 0 (13 ∷ []) → Stands (text ++ b ∷ []) body sum (in_data_cr b)
+  data_cr_step : InChunk text body sum 0 (13 ∷ []) → LeavesAt (text ++ b ∷ []) body sum (in_data_cr b)
   unfolding in_data_cr
-  data_cr_step s = choose (Stands (text ++ b ∷ []) body sum) (b == 10) _ _
+  data_cr_step s = choose (LeavesAt (text ++ b ∷ []) body sum) (b == 10) _ _
       (λ e. record {
         digits = [];
         front = whole s (is_eq b 10 e);
@@ -95,9 +95,9 @@ module _ (text body : List ℕ) (sum count : ℕ) (ieof : Bool) (b : ℕ) where
     short = omega arith;
   }
 
-  trailer_start_step : InTrailers text body sum count ieof [] → Stands (text ++ b ∷ []) body sum (in_trailer_start count ieof b)
+  trailer_start_step : InTrailers text body sum count ieof [] → LeavesAt (text ++ b ∷ []) body sum (in_trailer_start count ieof b)
   unfolding in_trailer_start
-  trailer_start_step s = let G = Stands (text ++ b ∷ []) body sum in choose G ((b == 10) || nat_le 8192 count) _ _ (λ _. tt)
+  trailer_start_step s = let G = LeavesAt (text ++ b ∷ []) body sum in choose G ((b == 10) || nat_le 8192 count) _ _ (λ _. tt)
       (λ go. let room = is_nle 8192 count (or_right (b == 10) _ go) in choose G (b == 13) _ _
       (λ e. ending (is_eq b 13 e) (part_one [] s room))
       (λ cr. (b ∷ [], part_one [] s room, lit< tt, (line_byte_from b cr (or_left (b == 10) _ go), tt))))
@@ -105,9 +105,9 @@ module _ (text body : List ℕ) (sum count : ℕ) (ieof : Bool) (b : ℕ) where
       ending : b ≡ 13 → InTrailers (text ++ b ∷ []) body sum (count + 1) ieof (b ∷ []) → InTrailers (text ++ b ∷ []) body sum (count + 1) ieof (13 ∷ [])
       ending e x = let P : ℕ → Type 0 = λ c. InTrailers (text ++ b ∷ []) body sum (count + 1) ieof (c ∷ []) in subst P e x
 
-  trailer_step : (part : List ℕ) → InTrailers text body sum count ieof part → 0 < length part → AllPass is_line_byte part → Stands (text ++ b ∷ []) body sum (in_trailer count ieof b)
+  trailer_step : (part : List ℕ) → InTrailers text body sum count ieof part → 0 < length part → AllPass is_line_byte part → LeavesAt (text ++ b ∷ []) body sum (in_trailer count ieof b)
   unfolding in_trailer
-  trailer_step part s some all = let G = Stands (text ++ b ∷ []) body sum in choose G ((b == 10) || nat_le 8192 count) _ _ (λ _. tt)
+  trailer_step part s some all = let G = LeavesAt (text ++ b ∷ []) body sum in choose G ((b == 10) || nat_le 8192 count) _ _ (λ _. tt)
       (λ go. let room = is_nle 8192 count (or_right (b == 10) _ go) in choose G (b == 13) _ _
       (λ e. (part, ending (is_eq b 13 e) (part_one part s room), some, all))
       (λ cr. (part ++ b ∷ [], part_one part s room, omega (arith, length-append part (b ∷ [])), All_push is_line_byte part b all (line_byte_from b cr (or_left (b == 10) _ go)))))
@@ -124,9 +124,9 @@ module _ (text body : List ℕ) (sum count : ℕ) (ieof : Bool) (b : ℕ) where
   both_right false y e = absurd (true≢false (sym e))
 
   trailer_cr_step : (part : List ℕ) → InTrailers text body sum count ieof (part ++ 13 ∷ []) → 0 < length part → AllPass is_line_byte part
-      → Stands (text ++ b ∷ []) body sum (in_trailer_cr count ieof b)
+      → LeavesAt (text ++ b ∷ []) body sum (in_trailer_cr count ieof b)
   unfolding in_trailer_cr
-  trailer_cr_step part s some all = choose (Stands (text ++ b ∷ []) body sum) ((b == 10) && nat_lt count 8192) _ _
+  trailer_cr_step part s some all = choose (LeavesAt (text ++ b ∷ []) body sum) ((b == 10) && nat_lt count 8192) _ _
       (λ go. whole_line (is_eq b 10 (both_left (b == 10) _ go)) (is_lt count 8192 (both_right (b == 10) _ go))) (λ _. tt)
     where
       whole_line : b ≡ 10 → count < 8192 → InTrailers (text ++ b ∷ []) body sum (count + 1) ieof []
@@ -141,9 +141,9 @@ module _ (text body : List ℕ) (sum count : ℕ) (ieof : Bool) (b : ℕ) where
         short = omega arith;
       }
 
-  last_cr_step : InTrailers text body sum count ieof (13 ∷ []) → Stands (text ++ b ∷ []) body sum (in_last_cr count ieof b)
+  last_cr_step : InTrailers text body sum count ieof (13 ∷ []) → LeavesAt (text ++ b ∷ []) body sum (in_last_cr count ieof b)
   unfolding in_last_cr
-  last_cr_step s = choose (Stands (text ++ b ∷ []) body sum) ((b == 10) && nat_lt count 8192) _ _
+  last_cr_step s = choose (LeavesAt (text ++ b ∷ []) body sum) ((b == 10) && nat_lt count 8192) _ _
       (λ go. whole_body (is_eq b 10 (both_left (b == 10) _ go)) (is_lt count 8192 (both_right (b == 10) _ go))) (λ _. tt)
     where
       whole_body : b ≡ 10 → count < 8192 → HasEnded (text ++ b ∷ []) body ieof
@@ -166,45 +166,45 @@ module _ (text body : List ℕ) (sum count : ℕ) (ieof : Bool) (b : ℕ) where
 
 -- one byte more
 module _ (text body : List ℕ) (b : ℕ) where
-  same : (r : ChunkReader) → StandsAt (text ++ b ∷ []) body r → StandsAt (text ++ b ∷ []) (body ++ []) r
-  same r g = let P : List ℕ → Type 0 = λ x. StandsAt (text ++ b ∷ []) x r in subst P (sym (append-nil body)) g
+  same : (r : ChunkReader) → LeavesReader (text ++ b ∷ []) body r → LeavesReader (text ++ b ∷ []) (body ++ []) r
+  same r g = let P : List ℕ → Type 0 = λ x. LeavesReader (text ++ b ∷ []) x r in subst P (sym (append-nil body)) g
 
   ended_step : (ieof : Bool) → HasEnded text body ieof → HasEnded (text ++ b ∷ []) body ieof
   ended_step ieof s = record { whole = s.whole; rest = s.rest ++ b ∷ []; is = s.is; text_is = ap (λ t. t ++ b ∷ []) s.text_is ∙ append_assoc s.whole s.rest (b ∷ []) }
 
-  pub step_stands : (sum : ℕ) (p : Place) → Stands text body sum p → StandsAt (text ++ b ∷ []) (body ++ (if is_data p then b ∷ [] else [])) (step (record { sum = sum; place = p }) b)
+  pub step_leaves : (sum : ℕ) (p : Place) → LeavesAt text body sum p → LeavesReader (text ++ b ∷ []) (body ++ (if is_data p then b ∷ [] else [])) (step (record { sum = sum; place = p }) b)
   unfolding step is_data
-  step_stands sum (Digits count size) s = same _ (digits_step text body sum count size b s)
-  step_stands sum (Pad count size) s = same _ (pad_step text body sum count size b s)
-  step_stands sum (Extension count size item found) s = same _ (extension_step text body sum count size item found b s)
-  step_stands sum (LineCr size ieof) s = same _ (line_end_step text body sum size ieof b s)
-  step_stands sum (Data more) s = data_step text body sum more b s
-  step_stands sum DataEnd s = same _ (data_end_step text body sum b s)
-  step_stands sum DataCr s = same _ (data_cr_step text body sum b s)
-  step_stands sum (TrailerStart count ieof) s = same _ (trailer_start_step text body sum count ieof b s)
-  step_stands sum (Trailer count ieof) s = same _ (trailer_step text body sum count ieof b s.0 s.1 s.2 s.3)
-  step_stands sum (TrailerCr count ieof) s = same _ (trailer_cr_step text body sum count ieof b s.0 s.1 s.2 s.3)
-  step_stands sum (LastCr count ieof) s = same _ (last_cr_step text body sum count ieof b s)
-  step_stands sum (Ended ieof) s = same (record { sum = sum; place = Ended ieof }) (ended_step ieof s)
-  step_stands sum (Faulted fault) s = tt
+  step_leaves sum (Digits count size) s = same _ (digits_step text body sum count size b s)
+  step_leaves sum (Pad count size) s = same _ (pad_step text body sum count size b s)
+  step_leaves sum (Extension count size item found) s = same _ (extension_step text body sum count size item found b s)
+  step_leaves sum (LineCr size ieof) s = same _ (line_end_step text body sum size ieof b s)
+  step_leaves sum (Data more) s = data_step text body sum more b s
+  step_leaves sum DataEnd s = same _ (data_end_step text body sum b s)
+  step_leaves sum DataCr s = same _ (data_cr_step text body sum b s)
+  step_leaves sum (TrailerStart count ieof) s = same _ (trailer_start_step text body sum count ieof b s)
+  step_leaves sum (Trailer count ieof) s = same _ (trailer_step text body sum count ieof b s.0 s.1 s.2 s.3)
+  step_leaves sum (TrailerCr count ieof) s = same _ (trailer_cr_step text body sum count ieof b s.0 s.1 s.2 s.3)
+  step_leaves sum (LastCr count ieof) s = same _ (last_cr_step text body sum count ieof b s)
+  step_leaves sum (Ended ieof) s = same (record { sum = sum; place = Ended ieof }) (ended_step ieof s)
+  step_leaves sum (Faulted fault) s = tt
 
 -- any bytes more
-pub run_stands : (front body : List ℕ) (r : ChunkReader) (text : List ℕ) → StandsAt front body r → StandsAt (front ++ text) (body ++ body_of r text) (run r text)
-run_stands front body r [] g =
-    let P : List ℕ → List ℕ → Type 0 = λ x y. StandsAt x y r in
+pub run_leaves : (front body : List ℕ) (r : ChunkReader) (text : List ℕ) → LeavesReader front body r → LeavesReader (front ++ text) (body ++ body_of r text) (run r text)
+run_leaves front body r [] g =
+    let P : List ℕ → List ℕ → Type 0 = λ x y. LeavesReader x y r in
     let h : P (front ++ []) body = let Q : List ℕ → Type 0 = λ x. P x body in subst Q (sym (append-nil front)) g in
     let Q : List ℕ → Type 0 = λ y. P (front ++ []) y in subst Q (sym (append-nil body)) h
-run_stands front body r (b ∷ text) g =
-    let next = run_stands (front ++ b ∷ []) (body ++ (if is_data r.place then b ∷ [] else [])) (step r b) text (step_stands front body b r.sum r.place g) in
+run_leaves front body r (b ∷ text) g =
+    let next = run_leaves (front ++ b ∷ []) (body ++ (if is_data r.place then b ∷ [] else [])) (step r b) text (step_leaves front body b r.sum r.place g) in
     let s = run (step r b) text in
-    let h : StandsAt (front ++ b ∷ text) ((body ++ (if is_data r.place then b ∷ [] else [])) ++ body_of (step r b) text) s
-    = let Q : List ℕ → Type 0 = λ x. StandsAt x ((body ++ (if is_data r.place then b ∷ [] else [])) ++ body_of (step r b) text) s in subst Q (append_assoc front (b ∷ []) text) next in
-    let Q : List ℕ → Type 0 = λ y. StandsAt (front ++ b ∷ text) y s in
+    let h : LeavesReader (front ++ b ∷ text) ((body ++ (if is_data r.place then b ∷ [] else [])) ++ body_of (step r b) text) s
+    = let Q : List ℕ → Type 0 = λ x. LeavesReader x ((body ++ (if is_data r.place then b ∷ [] else [])) ++ body_of (step r b) text) s in subst Q (append_assoc front (b ∷ []) text) next in
+    let Q : List ℕ → Type 0 = λ y. LeavesReader (front ++ b ∷ text) y s in
     subst Q (append_assoc body (if is_data r.place then b ∷ [] else []) (body_of (step r b) text)) h
 
 -- the start
-pub start_stands : StandsAt [] [] start
-start_stands = record {
+pub start_leaves : LeavesReader [] [] start
+start_leaves = record {
   digits = [];
   front = record { front = []; chunks = no_chunk; text_is = refl; sum_is = refl };
   all = tt;
@@ -215,5 +215,5 @@ start_stands = record {
 }
 
 -- what a text has been for a reader that has read it
-pub text_stands : (text : List ℕ) → StandsAt text (body_of start text) (run start text)
-text_stands text = run_stands [] [] start text start_stands
+pub text_leaves : (text : List ℕ) → LeavesReader text (body_of start text) (run start text)
+text_leaves text = run_leaves [] [] start text start_leaves

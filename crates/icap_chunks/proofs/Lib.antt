@@ -8,7 +8,7 @@ pub mod Runs
 pub mod Standing
 pub mod Table
 pub mod Totals
-pub mod Stands
+pub mod Leaves
 pub mod Walks
 pub mod Words
 pub mod Written

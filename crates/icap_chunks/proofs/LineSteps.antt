@@ -14,7 +14,7 @@ use Rattle.adapt_bytes.specs.Text.{is_blank}
 use Rattle.icap_chunks.specs.Grammar.{is_line_byte, AllPass, print_line, IsSizeLine, no_line}
 use Rattle.icap_chunks.specs.Machine.{start, step, run, body_of, is_data, item_with, in_digits, in_pad, in_extension, in_line_cr, in_data, in_data_end, in_data_cr, in_trailer_start, in_trailer, in_trailer_cr, in_last_cr}
 use Rattle.icap_chunks.specs.Machine as machine
-use Rattle.icap_chunks.proofs.Standing.{Front, InDigits, InPad, InExtension, InLineEnd, InChunk, InTrailers, Stands, extension_with}
+use Rattle.icap_chunks.proofs.Standing.{Front, InDigits, InPad, InExtension, InLineEnd, InChunk, InTrailers, LeavesAt, extension_with}
 use Rattle.icap_chunks.proofs.Words.{extension_behind-append, answer, extension_found}
 
 -- ---- one byte more
@@ -112,9 +112,9 @@ module _ (text body : List ℕ) (sum count size b : ℕ) (s : InDigits text body
     ieof_is = refl;
   }
 
-  pub digits_step : Stands (text ++ b ∷ []) body sum (in_digits count size b)
+  pub digits_step : LeavesAt (text ++ b ∷ []) body sum (in_digits count size b)
   unfolding in_digits
-  digits_step = let G = Stands (text ++ b ∷ []) body sum in choose G (b == 13) _ _
+  digits_step = let G = LeavesAt (text ++ b ∷ []) body sum in choose G (b == 13) _ _
       (λ e. choose G (count == 0) _ _ (λ _. tt) (λ pos. digits_end (is_eq b 13 e) (pos_from count pos)))
       (λ _. choose G ((b == 10) || nat_le 256 count) _ _ (λ _. tt) (λ go. let room = is_nle 256 count (or_right (b == 10) _ go) in
       choose G (nat_lt (digit_value b) 16) _ _ (λ low. choose G (nat_lt (size * 16 + digit_value b) 4611686018427387904) _ _
@@ -165,9 +165,9 @@ module _ (text body : List ℕ) (sum count size b : ℕ) (s : InPad text body su
     ieof_is = refl;
   }
 
-  pub pad_step : Stands (text ++ b ∷ []) body sum (in_pad count size b)
+  pub pad_step : LeavesAt (text ++ b ∷ []) body sum (in_pad count size b)
   unfolding in_pad
-  pad_step = let G = Stands (text ++ b ∷ []) body sum in choose G (b == 13) _ _ (λ e. pad_end (is_eq b 13 e))
+  pad_step = let G = LeavesAt (text ++ b ∷ []) body sum in choose G (b == 13) _ _ (λ e. pad_end (is_eq b 13 e))
       (λ _. choose G ((b == 10) || nat_le 256 count) _ _ (λ _. tt) (λ go. let room = is_nle 256 count (or_right (b == 10) _ go) in
       choose G (is_blank b) _ _ (λ pass. pad_blank room pass)
       (λ _. choose G (b == 59) _ _ (λ e. pad_extension (is_eq b 59 e) room) (λ _. tt))))
@@ -208,19 +208,19 @@ module _ (text body : List ℕ) (sum count size : ℕ) (item : Item) (found : Bo
 
   by_byte : (t : Bool) → (let x : Item × Bool = if t then (Blank, found || machine.is_word item) else (item_with item b, found) in
       InExtension (text ++ b ∷ []) body sum (count + 1) size x.0 x.1)
-      → Stands (text ++ b ∷ []) body sum (if t then Extension (count + 1) size Blank (found || machine.is_word item) else Extension (count + 1) size (item_with item b) found)
+      → LeavesAt (text ++ b ∷ []) body sum (if t then Extension (count + 1) size Blank (found || machine.is_word item) else Extension (count + 1) size (item_with item b) found)
   by_byte true x = x
   by_byte false x = x
 
-  pub extension_step : Stands (text ++ b ∷ []) body sum (in_extension count size item found b)
+  pub extension_step : LeavesAt (text ++ b ∷ []) body sum (in_extension count size item found b)
   unfolding in_extension
-  extension_step = let G = Stands (text ++ b ∷ []) body sum in choose G (b == 13) _ _ (λ e. extension_end (is_eq b 13 e))
+  extension_step = let G = LeavesAt (text ++ b ∷ []) body sum in choose G (b == 13) _ _ (λ e. extension_end (is_eq b 13 e))
       (λ cr. choose G ((b == 10) || nat_le 256 count) _ _ (λ _. tt) (λ go.
       by_byte (b == 59) (extension_one (is_nle 256 count (or_right (b == 10) _ go)) (line_byte_from b cr (or_left (b == 10) _ go)))))
 
--- the same for a reader
-abbrev pub StandsAt : List ℕ → List ℕ → ChunkReader → Type 0
-StandsAt text body r = Stands text body r.sum r.place
+-- the text leaves this reader
+abbrev pub LeavesReader : List ℕ → List ℕ → ChunkReader → Type 0
+LeavesReader text body r = LeavesAt text body r.sum r.place
 
 pub choose_reader : (P : ChunkReader → Type 0) (t : Bool) (x y : ChunkReader) → (t ≡ true → P x) → (t ≡ false → P y) → P (if t then x else y)
 choose_reader P true x y p q = p refl
@@ -257,11 +257,11 @@ module _ (text body : List ℕ) (sum size : ℕ) (ieof : Bool) (b : ℕ) (s : In
     some = some;
   }
 
-  pub line_end_step : StandsAt (text ++ b ∷ []) body (in_line_cr sum size ieof b)
+  pub line_end_step : LeavesReader (text ++ b ∷ []) body (in_line_cr sum size ieof b)
   unfolding in_line_cr
-  line_end_step = let G = StandsAt (text ++ b ∷ []) body in choose_reader G (b == 10) _ _
+  line_end_step = let G = LeavesReader (text ++ b ∷ []) body in choose_reader G (b == 10) _ _
       (λ e. choose_reader G (nat_lt (sum + size) 4611686018427387904) _ _
-      (λ fits. choose (Stands (text ++ b ∷ []) body (sum + size)) (size == 0) _ _ (λ none. last_one (is_eq b 10 e) (is_eq size 0 none))
+      (λ fits. choose (LeavesAt (text ++ b ∷ []) body (sum + size)) (size == 0) _ _ (λ none. last_one (is_eq b 10 e) (is_eq size 0 none))
       (λ some. first_data (is_eq b 10 e) (pos_from size some) (is_lt _ _ fits)))
       (λ _. tt))
       (λ _. tt)

@@ -9,7 +9,7 @@ use Rattle.icap_chunks.specs.declared.places.Place.TheVariants.{Digits, Pad, Ext
 use Rattle.icap_chunks.specs.Grammar.{is_line_byte, AllPass, print_line, has_ieof}
 use Rattle.icap_chunks.specs.Machine.{fault_of, step, end_at, faulted_at}
 use Rattle.icap_chunks.specs.Faults.{Part, in_line, behind_line, in_data, behind_data, behind_data_cr, in_trailers, behind_trailers_cr, fault_at, Behind, InLine, InChunk, InTrailers, EndsIn}
-use Rattle.icap_chunks.proofs.Standing.{Front, InDigits, InPad, InExtension, Stands, extension_behind}
+use Rattle.icap_chunks.proofs.Standing.{Front, InDigits, InPad, InExtension, LeavesAt, extension_behind}
 use Rattle.icap_chunks.proofs.Standing.{InChunk as ChunkStands, InTrailers as TrailersStand}
 use Rattle.icap_chunks.proofs.Table.{digits_table, pad_table, extension_table, line_end_table, data_table, data_end_table, data_cr_table, trailer_start_table, trailer_table, trailer_cr_table, last_cr_table}
 use Rattle.icap_chunks.proofs.Walks.{at}
@@ -26,7 +26,7 @@ pub record InPart (text body : List ℕ) (sum : ℕ) (place : Place) : Type 0 wh
 pub record AtPlace (text body : List ℕ) (part : Part) : Type 0 where
   pub sum : ℕ
   pub place : Place
-  pub stands : Stands text body sum place
+  pub stands : LeavesAt text body sum place
   pub quiet : end_at place ≡ None
   pub sound : faulted_at place ≡ None
   pub same : SameFaults body sum place part
@@ -149,7 +149,7 @@ trailers_part {text} {body} {part} {tail} {sum} {count} line bytes is s = record
   short = s.short;
 }
 
-pub place_part : (text body : List ℕ) (sum : ℕ) (place : Place) → Stands text body sum place → end_at place ≡ None → faulted_at place ≡ None → InPart text body sum place
+pub place_part : (text body : List ℕ) (sum : ℕ) (place : Place) → LeavesAt text body sum place → end_at place ≡ None → faulted_at place ≡ None → InPart text body sum place
 unfolding end_at faulted_at
 place_part text body sum (Digits count size) s quiet sound = digits_part text body sum count size s
 place_part text body sum (Pad count size) s quiet sound = pad_part text body sum count size s

@@ -15,10 +15,10 @@ use Rattle.icap_chunks.specs.Collected.{HasReadTo}
 use Rattle.icap_chunks.specs.Reading.{IsReading}
 use Rattle.icap_chunks.specs.declared.pieces.Collector.{Collector}
 use Rattle.icap_chunks.proofs.Endings.{chunked_ends, end_stays, ended_at, some_none, reads_chunked}
-use Rattle.icap_chunks.proofs.Faults.{answers_faults, breaks_fault, fault_is, stands_walk}
+use Rattle.icap_chunks.proofs.Faults.{answers_faults, breaks_fault, fault_is, leaves_walk}
 use Rattle.icap_chunks.proofs.Parts.{part_place, place_part}
 use Rattle.icap_chunks.proofs.Runs.{run-append}
-use Rattle.icap_chunks.proofs.Stands.{text_stands}
+use Rattle.icap_chunks.proofs.Leaves.{text_leaves}
 use Rattle.icap_chunks.proofs.Written.{one_reading}
 
 -- ---- what a reader says
@@ -32,7 +32,7 @@ record Open (text body : List ℕ) : Type 0 where
 more_open : (text body : List ℕ) (part : Part) → EndsIn text body part → Open text body
 more_open text body part ends =
     let p = part_place text body part ends in
-    let w = stands_walk text body p.sum p.place p.quiet p.sound p.stands in
+    let w = leaves_walk text body p.sum p.place p.quiet p.sound p.stands in
     record { no_end = ap end_of w.reads ∙ p.quiet; no_fault = ap fault_of w.reads ∙ p.sound; found = w.finds }
 
 -- a reader stays at the end
@@ -92,7 +92,7 @@ one_outcome text a b More (Faulted g) x y = absurd (some_none (sym (breaks_fault
 -- a reader that has read a text, and is at no end and no fault, has read the front of a body
 pub reads_more : (text body : List ℕ) (r : ChunkReader) → HasRead text body r → end_of r ≡ None → fault_of r ≡ None → IsReading text body More
 reads_more text body r h no_end no_fault =
-    let stands = text_stands text in
+    let stands = text_leaves text in
     let p = place_part text (body_of start text) (run start text).sum (run start text).place stands (ap end_of h.read ∙ no_end) (ap fault_of h.read ∙ no_fault) in
     let P : List ℕ → Type 0 = λ b. (part : Part) × EndsIn text b part in
     subst P h.found (p.part, p.ends)

@@ -94,18 +94,18 @@ pub record HasEnded (text body : List ℕ) (ieof : Bool) : Type 0 where
   pub is : IsChunked whole body ieof
   pub text_is : text ≡ whole ++ rest
 
--- the text stands at the place, unless that is a fault
-abbrev pub Stands : List ℕ → List ℕ → ℕ → Place → Type 0
-Stands text body sum (Digits count size) = InDigits text body sum count size
-Stands text body sum (Pad count size) = InPad text body sum count size
-Stands text body sum (Extension count size item found) = InExtension text body sum count size item found
-Stands text body sum (LineCr size ieof) = InLineEnd text body sum size ieof
-Stands text body sum (Data more) = InChunk text body sum (more + 1) []
-Stands text body sum DataEnd = InChunk text body sum 0 []
-Stands text body sum DataCr = InChunk text body sum 0 (13 ∷ [])
-Stands text body sum (TrailerStart count ieof) = InTrailers text body sum count ieof []
-Stands text body sum (Trailer count ieof) = (part : List ℕ) × InTrailers text body sum count ieof part × (0 < length part) × AllPass is_line_byte part
-Stands text body sum (TrailerCr count ieof) = (part : List ℕ) × InTrailers text body sum count ieof (part ++ 13 ∷ []) × (0 < length part) × AllPass is_line_byte part
-Stands text body sum (LastCr count ieof) = InTrailers text body sum count ieof (13 ∷ [])
-Stands text body sum (Ended ieof) = HasEnded text body ieof
-Stands text body sum (Faulted fault) = Unit {0}
+-- the text leaves its reader at the place, unless that is a fault
+abbrev pub LeavesAt : List ℕ → List ℕ → ℕ → Place → Type 0
+LeavesAt text body sum (Digits count size) = InDigits text body sum count size
+LeavesAt text body sum (Pad count size) = InPad text body sum count size
+LeavesAt text body sum (Extension count size item found) = InExtension text body sum count size item found
+LeavesAt text body sum (LineCr size ieof) = InLineEnd text body sum size ieof
+LeavesAt text body sum (Data more) = InChunk text body sum (more + 1) []
+LeavesAt text body sum DataEnd = InChunk text body sum 0 []
+LeavesAt text body sum DataCr = InChunk text body sum 0 (13 ∷ [])
+LeavesAt text body sum (TrailerStart count ieof) = InTrailers text body sum count ieof []
+LeavesAt text body sum (Trailer count ieof) = (part : List ℕ) × InTrailers text body sum count ieof part × (0 < length part) × AllPass is_line_byte part
+LeavesAt text body sum (TrailerCr count ieof) = (part : List ℕ) × InTrailers text body sum count ieof (part ++ 13 ∷ []) × (0 < length part) × AllPass is_line_byte part
+LeavesAt text body sum (LastCr count ieof) = InTrailers text body sum count ieof (13 ∷ [])
+LeavesAt text body sum (Ended ieof) = HasEnded text body ieof
+LeavesAt text body sum (Faulted fault) = Unit {0}

@@ -1,6 +1,7 @@
 -- A stream has one answer.
 use Rattle.std.proofs.Common.{◌≡◌, ℕ, ◌+◌, ◌-◌, ◌≤◌, ◌++◌, List, [], ◌∷◌, length, take, drop, refl, sym, ap, ◌∙◌, subst, arith, append_assoc, append-nil, length-append, slice_index, codes, Bool, true, false, not, ◌||◌, is_some, inl, inr, Some, Option, if◌then◌else◌, ◌==◌}
 use Rattle.std.proofs.lemmas.List.{take-append-drop}
+use Rattle.adapt_bytes.specs.Fields.{FieldList, values_of}
 use Rattle.encapsulated.specs.declared.message.Direction.TheVariants.{Request as OfRequest}
 use Rattle.encapsulated.specs.declared.message.Method.{Method}
 use Rattle.encapsulated.specs.declared.message.Method.TheVariants.{Reqmod, Respmod, Options}
@@ -19,11 +20,10 @@ use Rattle.icap_chunks.specs.declared.reader.ChunkReader.{ChunkReader}
 use Rattle.icap_chunks.specs.Machine.{start, run, step, is_data, body_of, end_of}
 use Rattle.icap_chunks.specs.Reading.{IsReading}
 use Rattle.icap_chunks.proofs.Endings.{chunked_ends, ended_at}
-use Rattle.icap_chunks.proofs.Faults.{breaks_fault, stands_walk}
+use Rattle.icap_chunks.proofs.Faults.{breaks_fault, leaves_walk}
 use Rattle.icap_chunks.proofs.Parts.{part_place}
 use Rattle.icap_chunks.proofs.Readings.{one_outcome}
 use Rattle.icap_chunks.proofs.Runs.{body_of-append, at_place}
-use Rattle.icap_head.specs.Fields.{FieldList, values_of}
 use Rattle.icap_head.specs.Heads.{Request}
 use Rattle.icap_head.specs.StartLines.{RequestForm}
 use Rattle.icap_head.proofs.OneReading.{request_unique, request_version, no_request_fault}
@@ -66,7 +66,7 @@ reading_body text body (Ended ieof used) h =
 reading_body text body (Faulted fault) h = (breaks_fault text body fault h).1
 reading_body text body Begun h =
     let p = part_place text body h.0 h.1 in
-    (stands_walk text body p.sum p.place p.quiet p.sound p.stands).finds
+    (leaves_walk text body p.sum p.place p.quiet p.sound p.stands).finds
 
 -- a text whose body fits has no front whose body doesn't
 not_over : (room : ℕ) (text body : List ℕ) (outcome : Outcome) → IsReading text body outcome → length body ≤ room → IsOver room text → ⊥
