@@ -1,10 +1,11 @@
 //! Tokens, blanks at the ends of a text, and comparison without case.
 ghost use Rattle.std.specs.Prelude.{◌≡◌, ◌↔◌, reverse, IsTrue};
-ghost use Rattle.adapt_bytes.specs.Text.{is_token_byte, IsToken, SameAscii, is_blank, skip_blanks, trim};
+ghost use Rattle.std.specs.Str.{str_eq_ignore_ascii_case};
+ghost use Rattle.adapt_bytes.specs.Text.{is_token_byte, IsToken, is_blank, skip_blanks, trim};
 
 /// Whether two texts are the same but for the case of ASCII letters.
 pub fn same_ascii(a: &[u8], b: &[u8]) -> bool
-    ensures { IsTrue result ↔ SameAscii a.now b.now }
+    ensures { result ≡ str_eq_ignore_ascii_case a.now b.now }
 {
     a.eq_ignore_ascii_case(b)
 }

@@ -2,8 +2,8 @@
 use Rattle.std.specs.Prelude.{◌≡◌, ℕ, ◌<◌, ◌≤◌, ◌⊎◌, Bool, true, false, List, length, take, drop, Option, Some, None, Result, Ok, Err}
 use Rattle.adapt_bytes.specs.Text.{has_line}
 use Rattle.http_side.specs.Heads.{ResponseParts}
-use Rattle.http_side.specs.Requests.{RefusesText}
-use Rattle.http_side.specs.Responses.{RefusesResponse, IsResponseRead}
+use Rattle.http_side.specs.Requests.{MayRefuseRequest}
+use Rattle.http_side.specs.Responses.{MayRefuseResponse, IsResponseRead}
 use Rattle.http_side.specs.declared.fault.HttpFault.{HttpFault}
 use Rattle.http_side.specs.declared.fault.HttpFault.TheVariants as why
 use Rattle.adapt_sides.specs.declared.fault.RelayFault.{RelayFault}
@@ -18,8 +18,8 @@ use Rattle.http_relay.specs.declared.side.head.Judged.TheVariants as judged
 
 -- the bytes are refused for this, as a request's head or a response's
 abbrev pub RefusesBytes : Asks → List ℕ → HttpFault → Type 0
-RefusesBytes asks.Request bytes fault = RefusesText false bytes fault
-RefusesBytes (asks.Response to_head) bytes fault = RefusesResponse bytes fault
+RefusesBytes asks.Request bytes fault = MayRefuseRequest false bytes fault
+RefusesBytes (asks.Response to_head) bytes fault = MayRefuseResponse bytes fault
 
 -- a response asks for another protocol (RFC 9110, section 15.2.2)
 abbrev pub IsSwitching : Asks → List ℕ → Type 0

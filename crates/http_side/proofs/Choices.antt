@@ -2,10 +2,11 @@
 use Rattle.std.proofs.Common.{◌≡◌, ℕ, Bool, true, false, not, List, [], ◌∷◌, ◌++◌, map, take, Option, Some, None, Ok, Err, refl, sym, ap, ◌∙◌, inl, inr}
 use Rattle.std.specs.Prelude.{codes, fold, if◌then◌else◌, ◌==◌}
 use Rattle.std.proofs.lemmas.Bool.{cases_Bool, eqb-true}
+use Rattle.std.specs.Str.{str_eq_ignore_ascii_case}
+use Rattle.adapt_bytes.specs.Fields.{values_of}
 use Rattle.http_side.specs.declared.fault.HttpFault.{HttpFault}
 use Rattle.http_side.specs.declared.fault.HttpFault.TheVariants.{Lengths}
 use Rattle.http_side.specs.declared.writing.Extra.{Extra}
-use Rattle.http_side.specs.Fields.{same_name, values_of}
 use Rattle.http_side.specs.Lengths.{length_value, with_length, agreed}
 use Rattle.http_side.specs.Heads.{both_lengths}
 use Rattle.http_side.specs.Forward.{has_host, when, kept_fields, hosted, request_fields, response_fields, added_fields, via_value}
@@ -62,8 +63,8 @@ added-coding x minor = by_four x.empty x.chunked x.close x.via
 
 -- ---- what is kept
 
-host-none : (b : Bool) (authority name : List ℕ) → same_name (codes "host") name ≡ false → values_of name (when b (codes "Host", authority)) ≡ []
-host-none true authority name e = let other : same_name (codes "Host") name ≡ false = e in rw other refl
+host-none : (b : Bool) (authority name : List ℕ) → str_eq_ignore_ascii_case (codes "host") name ≡ false → values_of name (when b (codes "Host", authority)) ≡ []
+host-none true authority name e = let other : str_eq_ignore_ascii_case (codes "Host") name ≡ false = e in rw other refl
 host-none false authority name e = refl
 
 pub request-length : (authority : List ℕ) (fields : List (List ℕ × List ℕ)) → values_of LENGTH (request_fields authority fields) ≡ take 1 (values_of LENGTH fields)

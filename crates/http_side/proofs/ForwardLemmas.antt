@@ -6,8 +6,9 @@ use Rattle.std.proofs.lemmas.List.{map-append, append-nil}
 use Rattle.std.proofs.lemmas.List.Elements.{filter_more}
 use Rattle.std.proofs.lemmas.List.Concat.{flat_map-append}
 use Rattle.std.proofs.lemmas.List.Folds.{length-flat_map-take}
-use Rattle.http_side.specs.Fields.{same_name, values_of, field_at, name_at, value_at}
-use Rattle.http_side.specs.Items.{has_item}
+use Rattle.std.specs.Str.{str_eq_ignore_ascii_case}
+use Rattle.adapt_bytes.specs.Fields.{values_of, field_at, name_at, value_at}
+use Rattle.adapt_bytes.specs.Text.{has_item}
 use Rattle.http_side.specs.Forward.{is_named_by, stays, is_length, once, hosted, sent_fields, field_line, field_lines}
 use Rattle.http_side.specs.declared.writing.Beside.{Beside}
 use Rattle.http_side.proofs.FieldLemmas.{values-more, values-same, values-front}
@@ -32,7 +33,7 @@ or_false false = refl
 abbrev names : List ℕ → List ℕ → Bool
 names name value = has_item name value
 
-pub named_here : (fields : List (List ℕ × List ℕ)) (name : List ℕ) (i : ℕ) → i < length fields → same_name (name_at fields i) (codes "connection") ≡ true
+pub named_here : (fields : List (List ℕ × List ℕ)) (name : List ℕ) (i : ℕ) → i < length fields → str_eq_ignore_ascii_case (name_at fields i) (codes "connection") ≡ true
     → has_item name (value_at fields i) ≡ true → is_named_by fields name ≡ true
 named_here fields name i l e n =
     ap (list_any (names name)) (values-front (codes "connection") fields (i + 1))
@@ -41,13 +42,13 @@ named_here fields name i l e n =
     ∙ ap (λ b. b || list_any (names name) (values_of (codes "connection") (drop (i + 1) fields)))
     (any-append (names name) (values_of (codes "connection") (take i fields)) (value_at fields i ∷ []) ∙ ap (λ b. list_any (names name) (values_of (codes "connection") (take i fields)) || (b || false)) n ∙ or_true _)
 
-pub named-more : (fields : List (List ℕ × List ℕ)) (name : List ℕ) (i : ℕ) → i < length fields → same_name (name_at fields i) (codes "connection") ≡ true
+pub named-more : (fields : List (List ℕ × List ℕ)) (name : List ℕ) (i : ℕ) → i < length fields → str_eq_ignore_ascii_case (name_at fields i) (codes "connection") ≡ true
     → has_item name (value_at fields i) ≡ false → is_named_by (take i fields) name ≡ false → is_named_by (take (i + 1) fields) name ≡ false
 named-more fields name i l e n before =
     ap (list_any (names name)) (values-more (codes "connection") fields i l e)
     ∙ any-append (names name) (values_of (codes "connection") (take i fields)) (value_at fields i ∷ []) ∙ rw (before, n) refl
 
-pub named-same : (fields : List (List ℕ × List ℕ)) (name : List ℕ) (i : ℕ) → i < length fields → same_name (name_at fields i) (codes "connection") ≡ false
+pub named-same : (fields : List (List ℕ × List ℕ)) (name : List ℕ) (i : ℕ) → i < length fields → str_eq_ignore_ascii_case (name_at fields i) (codes "connection") ≡ false
     → is_named_by (take i fields) name ≡ false → is_named_by (take (i + 1) fields) name ≡ false
 named-same fields name i l e before = ap (list_any (names name)) (values-same (codes "connection") fields i l e) ∙ before
 

@@ -5,10 +5,11 @@ use Rattle.std.specs.List.{list_all}
 use Rattle.std.proofs.lemmas.List.Sums.{fold-append}
 use Rattle.std.specs.Char.{digit_value}
 use Rattle.std.specs.Str.Parse.{AllDigits, digits_value}
+use Rattle.std.specs.Str.{str_eq_ignore_ascii_case}
 use Rattle.adapt_bytes.specs.Numeral.{Writes}
 use Rattle.adapt_bytes.specs.declared.limits.TheConstants.{COUNT_LIMIT}
+use Rattle.adapt_bytes.specs.Fields.{name_at, value_at, values_of}
 use Rattle.http_side.specs.declared.fault.HttpFault.{HttpFault}
-use Rattle.http_side.specs.Fields.{same_name, name_at, value_at, values_of}
 use Rattle.http_side.specs.Lengths.{is_digit, is_numeral, length_value, agreed, content_length}
 use Rattle.http_side.proofs.FieldLemmas.{values-more, values-same, values-front}
 
@@ -56,11 +57,11 @@ length_none value none = by_test (is_numeral value && nat_lt (digits_value 10 va
     by_test true e = absurd (writes e)
     by_test false e = rw e refl
 
-pub length-more : (fields : List (List ℕ × List ℕ)) (i : ℕ) → i < length fields → same_name (name_at fields i) (codes "content-length") ≡ true
+pub length-more : (fields : List (List ℕ × List ℕ)) (i : ℕ) → i < length fields → str_eq_ignore_ascii_case (name_at fields i) (codes "content-length") ≡ true
     → content_length (take (i + 1) fields) ≡ agreed (content_length (take i fields)) (value_at fields i)
 length-more fields i l e = ap (fold agreed (Ok None)) (values-more (codes "content-length") fields i l e) ∙ fold-append agreed (Ok None) (values_of (codes "content-length") (take i fields)) (value_at fields i ∷ [])
 
-pub length-same : (fields : List (List ℕ × List ℕ)) (i : ℕ) → i < length fields → same_name (name_at fields i) (codes "content-length") ≡ false
+pub length-same : (fields : List (List ℕ × List ℕ)) (i : ℕ) → i < length fields → str_eq_ignore_ascii_case (name_at fields i) (codes "content-length") ≡ false
     → content_length (take (i + 1) fields) ≡ content_length (take i fields)
 length-same fields i l e = ap (fold agreed (Ok None)) (values-same (codes "content-length") fields i l e)
 

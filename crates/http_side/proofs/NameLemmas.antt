@@ -5,7 +5,7 @@ use Rattle.std.specs.Ordering.{is_eq, is_lt, ordering_reverse, ordering_index}
 use Rattle.std.specs.declared.cmp.Ordering.{Ordering}
 use Rattle.std.specs.List.{All, Contains, prefix_len, refill}
 use Rattle.std.specs.List.Sorted.{IsNonDecreasingBy, IsPartitionPoint, IsPartitionedBy, IsPermutation}
-use Rattle.std.specs.Str.{str_to_ascii_lowercase}
+use Rattle.std.specs.Str.{str_to_ascii_lowercase, str_eq_ignore_ascii_case}
 use Rattle.std.proofs.lemmas.Bool.{both_ways, cases_Bool, cases_lt, eq-eqb, false_from_ne_true, ne_eqb, or_left}
 use Rattle.std.proofs.lemmas.Cmp.{nat_list_cmp_total}
 use Rattle.std.proofs.lemmas.List.{append-nil, get_or-drop, get_or-take, length-drop, length-take-le, take_all}
@@ -15,7 +15,7 @@ use Rattle.std.proofs.lemmas.List.Folds.{length-prefix_len, list_any_at, list_an
 use Rattle.std.proofs.lemmas.List.Sums.{prefix_len_is, prefix_len_passes, prefix_len_stops}
 use Rattle.std.proofs.lemmas.List.Sorted.{searchable_from_sorted, All-permutation, Contains-permutation}
 use Rattle.std.proofs.lemmas.Map.Text.{is_eq-slice_cmp}
-use Rattle.http_side.specs.Fields.{same_name, name_at}
+use Rattle.adapt_bytes.specs.Fields.{name_at}
 use Rattle.http_side.specs.Forward.{Marks}
 use Rattle.http_side.specs.Names.{name_order, HavePlaces, AreAlike, ArePlaced, has_place, run_of}
 use Rattle.http_side.specs.declared.names.PlacedName.{PlacedName}
@@ -33,7 +33,7 @@ ended (x ∷ xs) (y ∷ ys) i m n e f (inr s) = absurd (omega arith)
 pub order_at_end : (a b : List ℕ) (i : ℕ) → i ≤ length a → i ≤ length b → (length a ≤ i) ⊎ (length b ≤ i) → nat_cmp (length a) (length b) ≡ name_order (drop i a) (drop i b)
 order_at_end a b i l m s = ended (drop i a) (drop i b) i (length a) (length b) (omega (arith, length-drop i a)) (omega (arith, length-drop i b)) s
 
-same_from_order : (a b : List ℕ) → is_eq (name_order a b) ≡ same_name a b
+same_from_order : (a b : List ℕ) → is_eq (name_order a b) ≡ str_eq_ignore_ascii_case a b
 same_from_order a b = is_eq-slice_cmp (str_to_ascii_lowercase a) (str_to_ascii_lowercase b)
 
 eq_reversed : (o : Ordering) → is_eq (ordering_reverse o) ≡ is_eq o
@@ -42,7 +42,7 @@ eq_reversed Equal = refl
 eq_reversed Greater = refl
 
 -- names that compare as equal are one
-order_same : (a b : List ℕ) → is_eq (name_order a b) ≡ same_name b a
+order_same : (a b : List ℕ) → is_eq (name_order a b) ≡ str_eq_ignore_ascii_case b a
 order_same a b = sym (eq_reversed (name_order a b)) ∙ ap is_eq (sym (nat_list_cmp_total.antisymm (str_to_ascii_lowercase b) (str_to_ascii_lowercase a))) ∙ same_from_order b a
 
 -- no order is two at once
@@ -95,7 +95,7 @@ module _ (fields : List (List ℕ × List ℕ)) (names : List PlacedName) (name 
     size = ap length is ∙ length-drop from names
 
     -- and what isn't before it is of that name up to some place
-    pub parted_same : IsPartitionedBy (λ n. same_name name n.name.now) behind
+    pub parted_same : IsPartitionedBy (λ n. str_eq_ignore_ascii_case name n.name.now) behind
     parted_same i j d l m e =
         let one = slice_index_or behind i d in
         let other = slice_index_or behind j d in
@@ -105,9 +105,9 @@ module _ (fields : List (List ℕ × List ℕ)) (names : List PlacedName) (name 
         sym (order_same one.name.now name) ∙ equal_below (order_of one) (order_of other) up not_less (order_same other.name.now name ∙ e)
 
     module _ (count : ℕ) (few : count ≤ length behind)
-        (same : IsPartitionPoint (λ n. same_name name n.name.now ≡ true) (λ n. same_name name n.name.now ≡ false) behind count) where
+        (same : IsPartitionPoint (λ n. str_eq_ignore_ascii_case name n.name.now ≡ true) (λ n. str_eq_ignore_ascii_case name n.name.now ≡ false) behind count) where
       -- a field of the name has its place there
-      has_one : (i j : ℕ) (d : PlacedName) → j < length names → (slice_index_or names j d).place ≡ i → same_name name (slice_index_or names j d).name.now ≡ true
+      has_one : (i j : ℕ) (d : PlacedName) → j < length names → (slice_index_or names j d).place ≡ i → str_eq_ignore_ascii_case name (slice_index_or names j d).name.now ≡ true
           → has_place i (take count behind) ≡ true
       has_one i j d l at e = elim (cases_lt j from) [
         | inl before ↦ (
@@ -119,56 +119,56 @@ module _ (fields : List (List ℕ × List ℕ)) (names : List PlacedName) (name 
             elim (cases_lt (j - from) count) [
               | inl within ↦ list_any_at (λ n. n.place == i) (take count behind) (j - from) d (omega (arith, length-take-le count behind few))
                   (eq-eqb (slice_index_or (take count behind) (j - from) d).place i (ap (λ n. n.place) (get_or-take count behind (j - from) d within ∙ one) ∙ at))
-              | inr above ↦ absurd (both_ways (same_name name (slice_index_or names j d).name.now)
-                  (sym (ap (λ n. same_name name n.name.now) one) ∙ same.1 (j - from) d above (omega (arith, size))) e)
+              | inr above ↦ absurd (both_ways (str_eq_ignore_ascii_case name (slice_index_or names j d).name.now)
+                  (sym (ap (λ n. str_eq_ignore_ascii_case name n.name.now) one) ∙ same.1 (j - from) d above (omega (arith, size))) e)
             ])
       ]
 
       -- another field has none
-      has_none : (i : ℕ) → same_name name (name_at fields i) ≡ false → has_place i (take count behind) ≡ false
+      has_none : (i : ℕ) → str_eq_ignore_ascii_case name (name_at fields i) ≡ false → has_place i (take count behind) ≡ false
       has_none i other = list_any_none (λ n. n.place == i) (take count behind) (λ k d l.
           let within : k < count = omega (arith, length-take-le count behind few) in
           let one : slice_index_or (take count behind) k d ≡ slice_index_or names (from + k) d = get_or-take count behind k d within ∙ at_behind k d in
           let n = slice_index_or names (from + k) d in
           let is_named = (placed.have.places (from + k) d (omega (arith, size))).1 in
-          let is_same : same_name name n.name.now ≡ true = sym (ap (λ m. same_name name m.name.now) (at_behind k d)) ∙ same.0 k d (omega arith) within in
-          ap (λ m. m.place == i) one ∙ ne_eqb n.place i (λ e. both_ways (same_name name n.name.now) (ap (same_name name) (is_named ∙ ap (name_at fields) e) ∙ other) is_same))
+          let is_same : str_eq_ignore_ascii_case name n.name.now ≡ true = sym (ap (λ m. str_eq_ignore_ascii_case name m.name.now) (at_behind k d)) ∙ same.0 k d (omega arith) within in
+          ap (λ m. m.place == i) one ∙ ne_eqb n.place i (λ e. both_ways (str_eq_ignore_ascii_case name n.name.now) (ap (str_eq_ignore_ascii_case name) (is_named ∙ ap (name_at fields) e) ∙ other) is_same))
 
-      pub run_has : (i : ℕ) → i < length fields → has_place i (take count behind) ≡ same_name name (name_at fields i)
+      pub run_has : (i : ℕ) → i < length fields → has_place i (take count behind) ≡ str_eq_ignore_ascii_case name (name_at fields i)
       run_has i l =
           let one = placed.have.all i l in
           let n = one.0 in
           let j = one.1.0 in
           let at : (slice_index_or names j n).place ≡ i = ap (λ m. m.place) one.1.2 ∙ one.2 in
           let is_named : (slice_index_or names j n).name.now ≡ name_at fields i = (placed.have.places j n one.1.1).1 ∙ ap (name_at fields) at in
-          elim (cases_Bool (same_name name (name_at fields i))) [
-            | inl is ↦ has_one i j n one.1.1 at (ap (same_name name) is_named ∙ is) ∙ sym is
+          elim (cases_Bool (str_eq_ignore_ascii_case name (name_at fields i))) [
+            | inl is ↦ has_one i j n one.1.1 at (ap (str_eq_ignore_ascii_case name) is_named ∙ is) ∙ sym is
             | inr other ↦ has_none i other ∙ sym other
           ]
 
 -- where one field of the name is marked, all are
 alike_marked : (fields : List (List ℕ × List ℕ)) (named : List Bool) (name : List ℕ) (p : ℕ) → AreAlike fields named → p < length fields
-    → same_name name (name_at fields p) ≡ true → slice_index_or named p false ≡ true → Marks (λ other. same_name name other) fields named named
+    → str_eq_ignore_ascii_case name (name_at fields p) ≡ true → slice_index_or named p false ≡ true → Marks (λ other. str_eq_ignore_ascii_case name other) fields named named
 alike_marked fields named name p alike l same marked = record {
   size = refl;
-  each = λ i m _. elim (cases_Bool (same_name name (name_at fields i))) [
+  each = λ i m _. elim (cases_Bool (str_eq_ignore_ascii_case name (name_at fields i))) [
     | inl also ↦ (
         let on = sym (alike p i l m (sym (same_as name (name_at fields p) (name_at fields i) same) ∙ also)) ∙ marked in
-        on ∙ sym (or_left (slice_index_or named i false) (same_name name (name_at fields i)) on))
+        on ∙ sym (or_left (slice_index_or named i false) (str_eq_ignore_ascii_case name (name_at fields i)) on))
     | inr other ↦ sym (or_false (slice_index_or named i false)) ∙ ap (λ b. slice_index_or named i false || b) (sym other)
   ];
 }
 
 -- where the first of these names is marked and the fields of the name are in front, all are marked that it is
 pub front_marked : (fields : List (List ℕ × List ℕ)) (named : List Bool) (names : List PlacedName) (name : List ℕ) (d : PlacedName) → AreAlike fields named
-    → All (λ n. n.place < length fields) names → ((i : ℕ) → i < length fields → has_place i (run_of name names) ≡ same_name name (name_at fields i))
-    → 0 < length names → slice_index_or named (slice_index_or names 0 d).place false ≡ true → Marks (λ other. same_name name other) fields named named
+    → All (λ n. n.place < length fields) names → ((i : ℕ) → i < length fields → has_place i (run_of name names) ≡ str_eq_ignore_ascii_case name (name_at fields i))
+    → 0 < length names → slice_index_or named (slice_index_or names 0 d).place false ≡ true → Marks (λ other. str_eq_ignore_ascii_case name other) fields named named
 front_marked fields named [] name d alike within front some marked = absurd (omega arith)
 front_marked fields named (n ∷ names) name d alike within front some marked =
     let l : n.place < length fields = within 0 n some in
-    elim (cases_Bool (same_name name n.name.now)) [
+    elim (cases_Bool (str_eq_ignore_ascii_case name n.name.now)) [
       | inl is ↦ (
-          let test = λ (m : PlacedName). same_name name m.name.now in
+          let test = λ (m : PlacedName). str_eq_ignore_ascii_case name m.name.now in
           let some_run : prefix_len test (n ∷ names) ≡ 1 + prefix_len test names = rw is refl in
           let has : has_place n.place (run_of name (n ∷ names)) ≡ true =
           list_any_at (λ m. m.place == n.place) (run_of name (n ∷ names)) 0 n (omega (arith, length-prefix_len test (n ∷ names), some_run))
@@ -184,11 +184,11 @@ front_marked fields named (n ∷ names) name d alike within front some marked =
 
 -- which names are in front, by how many there are
 pub run_is : (names : List PlacedName) (name : List ℕ) (k : ℕ) (d : PlacedName) → k ≤ length names
-    → ((j : ℕ) (e : PlacedName) → j < k → same_name name (slice_index_or names j e).name.now ≡ true)
-    → (k < length names → same_name name (slice_index_or names k d).name.now ≡ false) → run_of name names ≡ take k names
-run_is names name k d l passes stops = ap (λ n. take n names) (prefix_len_is (λ n. same_name name n.name.now) names k d l (λ j m. passes j d m) stops)
+    → ((j : ℕ) (e : PlacedName) → j < k → str_eq_ignore_ascii_case name (slice_index_or names j e).name.now ≡ true)
+    → (k < length names → str_eq_ignore_ascii_case name (slice_index_or names k d).name.now ≡ false) → run_of name names ≡ take k names
+run_is names name k d l passes stops = ap (λ n. take n names) (prefix_len_is (λ n. str_eq_ignore_ascii_case name n.name.now) names k d l (λ j m. passes j d m) stops)
 
-pub run_all : (names : List PlacedName) (name : List ℕ) → ((j : ℕ) (e : PlacedName) → j < length names → same_name name (slice_index_or names j e).name.now ≡ true)
+pub run_all : (names : List PlacedName) (name : List ℕ) → ((j : ℕ) (e : PlacedName) → j < length names → str_eq_ignore_ascii_case name (slice_index_or names j e).name.now ≡ true)
     → run_of name names ≡ names
 run_all [] name passes = refl
 run_all (n ∷ names) name passes =

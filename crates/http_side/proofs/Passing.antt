@@ -2,37 +2,41 @@
 use Rattle.std.proofs.Common.{◌≡◌, ℕ, inl, inr, Bool, true, false, not, ◌||◌, ◌&&◌, List, [], ◌∷◌, ◌++◌, map, take, drop, Option, Some, None, refl, sym, ap, ◌∙◌}
 use Rattle.std.specs.Prelude.{codes, bytes_eq}
 use Rattle.std.specs.List.{filter}
-use Rattle.std.specs.Str.{str_to_ascii_lowercase}
+use Rattle.std.specs.Str.{str_to_ascii_lowercase, str_eq_ignore_ascii_case}
 use Rattle.std.proofs.lemmas.Bool.{cases_Bool}
 use Rattle.std.proofs.lemmas.Slice.Eq.{bytes_eq-Decides}
 use Rattle.std.proofs.lemmas.List.{map-append}
 use Rattle.std.proofs.lemmas.List.Elements.{filter-append}
-use Rattle.http_side.specs.Fields.{same_name, values_of}
+use Rattle.adapt_bytes.specs.Text.{is_among}
+use Rattle.adapt_bytes.specs.Fields.{values_of}
 use Rattle.http_side.specs.declared.writing.Beside.{Beside}
-use Rattle.http_side.specs.Forward.{is_among, hop_names, framing_names, is_named_by, stays, is_length, once, kept_fields, hosted, host_line}
+use Rattle.http_side.specs.Forward.{hop_names, framing_names, is_named_by, stays, is_length, once, kept_fields, hosted, host_line}
 
 -- names that are one have the same of others
-pub same_as : (a b c : List ℕ) → same_name a b ≡ true → same_name a c ≡ same_name b c
+pub same_as : (a b c : List ℕ) → str_eq_ignore_ascii_case a b ≡ true → str_eq_ignore_ascii_case a c ≡ str_eq_ignore_ascii_case b c
 same_as a b c e = ap (λ t. bytes_eq t (str_to_ascii_lowercase c)) ((bytes_eq-Decides (str_to_ascii_lowercase a) (str_to_ascii_lowercase b)).0 e)
 
-pub among_as : (names : List (List ℕ)) (a b : List ℕ) → same_name a b ≡ true → is_among names a ≡ is_among names b
-among_as [] a b e = refl
-among_as (n ∷ names) a b e = rw (same_as a b n e, among_as names a b e) refl
+same_to : (a b c : List ℕ) → str_eq_ignore_ascii_case a b ≡ true → str_eq_ignore_ascii_case c a ≡ str_eq_ignore_ascii_case c b
+same_to a b c e = ap (λ t. bytes_eq (str_to_ascii_lowercase c) t) ((bytes_eq-Decides (str_to_ascii_lowercase a) (str_to_ascii_lowercase b)).0 e)
 
-pub values-cons-same : (name : List ℕ) (f : List ℕ × List ℕ) (xs : List (List ℕ × List ℕ)) → same_name f.0 name ≡ true → values_of name (f ∷ xs) ≡ f.1 ∷ values_of name xs
+pub among_as : (names : List (List ℕ)) (a b : List ℕ) → str_eq_ignore_ascii_case a b ≡ true → is_among names a ≡ is_among names b
+among_as [] a b e = refl
+among_as (n ∷ names) a b e = rw (same_to a b n e, among_as names a b e) refl
+
+pub values-cons-same : (name : List ℕ) (f : List ℕ × List ℕ) (xs : List (List ℕ × List ℕ)) → str_eq_ignore_ascii_case f.0 name ≡ true → values_of name (f ∷ xs) ≡ f.1 ∷ values_of name xs
 values-cons-same name f xs e = rw e refl
 
-pub values-cons-no : (name : List ℕ) (f : List ℕ × List ℕ) (xs : List (List ℕ × List ℕ)) → same_name f.0 name ≡ false → values_of name (f ∷ xs) ≡ values_of name xs
+pub values-cons-no : (name : List ℕ) (f : List ℕ × List ℕ) (xs : List (List ℕ × List ℕ)) → str_eq_ignore_ascii_case f.0 name ≡ false → values_of name (f ∷ xs) ≡ values_of name xs
 values-cons-no name f xs e = rw e refl
 
 pub values-append : (name : List ℕ) (xs ys : List (List ℕ × List ℕ)) → values_of name (xs ++ ys) ≡ values_of name xs ++ values_of name ys
-values-append name xs ys = ap (map (λ f. f.1)) (filter-append (λ f. same_name f.0 name) xs ys) ∙ map-append (λ f. f.1) _ _
+values-append name xs ys = ap (map (λ f. f.1)) (filter-append (λ f. str_eq_ignore_ascii_case f.0 name) xs ys) ∙ map-append (λ f. f.1) _ _
 
 -- where each field of the name stays, its values stay
 pub values-kept : (name : List ℕ) (test : List ℕ × List ℕ → Bool) (xs : List (List ℕ × List ℕ))
-    → ((f : List ℕ × List ℕ) → same_name f.0 name ≡ true → test f ≡ true) → values_of name (filter test xs) ≡ values_of name xs
+    → ((f : List ℕ × List ℕ) → str_eq_ignore_ascii_case f.0 name ≡ true → test f ≡ true) → values_of name (filter test xs) ≡ values_of name xs
 values-kept name test [] all = refl
-values-kept name test (f ∷ xs) all = elim (cases_Bool (same_name f.0 name)) [
+values-kept name test (f ∷ xs) all = elim (cases_Bool (str_eq_ignore_ascii_case f.0 name)) [
   | inl same ↦ ap (values_of name) (let e : filter test (f ∷ xs) ≡ f ∷ filter test xs = rw (all f same) refl in e)
       ∙ values-cons-same name f (filter test xs) same ∙ ap (λ t. f.1 ∷ t) (values-kept name test xs all) ∙ sym (values-cons-same name f xs same)
   | inr differ ↦ elim (cases_Bool (test f)) [
@@ -45,10 +49,10 @@ values-kept name test (f ∷ xs) all = elim (cases_Bool (same_name f.0 name)) [
 
 -- where none stays, none is left
 pub values-gone : (name : List ℕ) (test : List ℕ × List ℕ → Bool) (xs : List (List ℕ × List ℕ))
-    → ((f : List ℕ × List ℕ) → same_name f.0 name ≡ true → test f ≡ false) → values_of name (filter test xs) ≡ []
+    → ((f : List ℕ × List ℕ) → str_eq_ignore_ascii_case f.0 name ≡ true → test f ≡ false) → values_of name (filter test xs) ≡ []
 values-gone name test [] none = refl
 values-gone name test (f ∷ xs) none = elim (cases_Bool (test f)) [
-  | inl on ↦ elim (cases_Bool (same_name f.0 name)) [
+  | inl on ↦ elim (cases_Bool (str_eq_ignore_ascii_case f.0 name)) [
     | inl same ↦ absurd (let x : true ≡ false = sym on ∙ none f same in cc)
     | inr differ ↦ ap (values_of name) (let e : filter test (f ∷ xs) ≡ f ∷ filter test xs = rw on refl in e)
         ∙ values-cons-no name f (filter test xs) differ ∙ values-gone name test xs none
@@ -100,7 +104,7 @@ once-first (f ∷ xs) = elim (cases_Bool (is_length f)) [
 -- a name that isn't there isn't there afterwards
 pub once-none : (name : List ℕ) (seen : Bool) (xs : List (List ℕ × List ℕ)) → values_of name xs ≡ [] → values_of name (once seen xs) ≡ []
 once-none name seen [] e = refl
-once-none name seen (f ∷ xs) e = elim (cases_Bool (same_name f.0 name)) [
+once-none name seen (f ∷ xs) e = elim (cases_Bool (str_eq_ignore_ascii_case f.0 name)) [
   | inl same ↦ absurd (let x : f.1 ∷ values_of name xs ≡ [] = sym (values-cons-same name f xs same) ∙ e in cc)
   | inr differ ↦
       let rest = sym (values-cons-no name f xs differ) ∙ e in
@@ -111,37 +115,37 @@ once-none name seen (f ∷ xs) e = elim (cases_Bool (same_name f.0 name)) [
 ]
 
 -- a Host's value has differ part in the other fields
-pub values-hosted : (name : List ℕ) (authority : Option (List ℕ)) (xs : List (List ℕ × List ℕ)) → same_name name (codes "host") ≡ false
+pub values-hosted : (name : List ℕ) (authority : Option (List ℕ)) (xs : List (List ℕ × List ℕ)) → str_eq_ignore_ascii_case name (codes "host") ≡ false
     → values_of name (map (hosted authority) xs) ≡ values_of name xs
 values-hosted name authority [] off = refl
-values-hosted name None (f ∷ xs) off = elim (cases_Bool (same_name f.0 name)) [
+values-hosted name None (f ∷ xs) off = elim (cases_Bool (str_eq_ignore_ascii_case f.0 name)) [
   | inl same ↦ values-cons-same name f (map (hosted None) xs) same ∙ ap (λ t. f.1 ∷ t) (values-hosted name None xs off) ∙ sym (values-cons-same name f xs same)
   | inr differ ↦ values-cons-no name f (map (hosted None) xs) differ ∙ values-hosted name None xs off ∙ sym (values-cons-no name f xs differ)
 ]
 values-hosted name (Some a) (f ∷ xs) off =
     let rest = values-hosted name (Some a) xs off in
-    elim (cases_Bool (same_name f.0 (codes "host"))) [
+    elim (cases_Bool (str_eq_ignore_ascii_case f.0 (codes "host"))) [
       | inl host ↦
           let here : host_line a f ≡ (f.0, a) = rw host refl in
-          let differ : same_name f.0 name ≡ false = elim (cases_Bool (same_name f.0 name)) [
+          let differ : str_eq_ignore_ascii_case f.0 name ≡ false = elim (cases_Bool (str_eq_ignore_ascii_case f.0 name)) [
             | inl same ↦ absurd (let x : true ≡ false = sym host ∙ same_as f.0 name (codes "host") same ∙ off in cc)
             | inr differ ↦ differ
           ] in
           ap (λ g. values_of name (g ∷ map (hosted (Some a)) xs)) here ∙ values-cons-no name (f.0, a) (map (hosted (Some a)) xs) differ ∙ rest ∙ sym (values-cons-no name f xs differ)
       | inr other ↦
           let here : host_line a f ≡ f = rw other refl in
-          elim (cases_Bool (same_name f.0 name)) [
+          elim (cases_Bool (str_eq_ignore_ascii_case f.0 name)) [
             | inl same ↦ ap (λ g. values_of name (g ∷ map (hosted (Some a)) xs)) here ∙ values-cons-same name f (map (hosted (Some a)) xs) same ∙ ap (λ t. f.1 ∷ t) rest ∙ sym (values-cons-same name f xs same)
             | inr differ ↦ ap (λ g. values_of name (g ∷ map (hosted (Some a)) xs)) here ∙ values-cons-no name f (map (hosted (Some a)) xs) differ ∙ rest ∙ sym (values-cons-no name f xs differ)
           ]
     ]
 
 -- a length stays, unless the head loses it
-length_stays : (expect : Bool) (fields : List (List ℕ × List ℕ)) (f : List ℕ × List ℕ) → same_name f.0 LENGTH ≡ true
+length_stays : (expect : Bool) (fields : List (List ℕ × List ℕ)) (f : List ℕ × List ℕ) → str_eq_ignore_ascii_case f.0 LENGTH ≡ true
     → stays (record { expect = expect; length = false }) fields f ≡ true
 length_stays expect fields f e =
     let hop : is_among hop_names f.0 ≡ false = among_as hop_names f.0 LENGTH e in
-    let expects : same_name f.0 (codes "expect") ≡ false = same_as f.0 LENGTH (codes "expect") e in
+    let expects : str_eq_ignore_ascii_case f.0 (codes "expect") ≡ false = same_as f.0 LENGTH (codes "expect") e in
     let framing : is_among framing_names f.0 ≡ true = among_as framing_names f.0 LENGTH e in
     rw (hop, expects, framing) (ap not (both expect))
   where
@@ -149,18 +153,18 @@ length_stays expect fields f e =
     both true = refl
     both false = refl
 
-length_goes : (expect : Bool) (fields : List (List ℕ × List ℕ)) (f : List ℕ × List ℕ) → same_name f.0 LENGTH ≡ true
+length_goes : (expect : Bool) (fields : List (List ℕ × List ℕ)) (f : List ℕ × List ℕ) → str_eq_ignore_ascii_case f.0 LENGTH ≡ true
     → stays (record { expect = expect; length = true }) fields f ≡ false
 length_goes expect fields f e =
     let hop : is_among hop_names f.0 ≡ false = among_as hop_names f.0 LENGTH e in
-    let expects : same_name f.0 (codes "expect") ≡ false = same_as f.0 LENGTH (codes "expect") e in
+    let expects : str_eq_ignore_ascii_case f.0 (codes "expect") ≡ false = same_as f.0 LENGTH (codes "expect") e in
     rw (hop, expects, e) (ap not (both expect))
   where
     both : (b : Bool) → ((b && false) || (true || (not (is_among framing_names f.0) && is_named_by fields f.0))) ≡ true
     both true = refl
     both false = refl
 
-coding_goes : (beside : Beside) (fields : List (List ℕ × List ℕ)) (f : List ℕ × List ℕ) → same_name f.0 CODING ≡ true → stays beside fields f ≡ false
+coding_goes : (beside : Beside) (fields : List (List ℕ × List ℕ)) (f : List ℕ × List ℕ) → str_eq_ignore_ascii_case f.0 CODING ≡ true → stays beside fields f ≡ false
 coding_goes beside fields f e =
     let hop : is_among hop_names f.0 ≡ true = among_as hop_names f.0 CODING e in
     rw hop refl

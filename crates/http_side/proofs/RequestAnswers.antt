@@ -10,7 +10,7 @@ use Rattle.http_side.specs.declared.fault.HttpFault.{HttpFault}
 use Rattle.http_side.specs.declared.fault.HttpFault.TheVariants.{More, Bad, TooLong, TooMany, BothLengths, Lengths, Coding, Target, Connect, NoMemory}
 use Rattle.http_side.specs.Heads.{RequestParts, request_parts, judged, unended, request_fault, is_connect, IsRequestAt}
 use Rattle.http_side.specs.Targets.{IsServedIn}
-use Rattle.http_side.specs.Requests.{Refuses, HasRefused, RefusesText, IsTaken, IsRead, IsUnfinished, RefusesRequest}
+use Rattle.http_side.specs.Requests.{Refuses, HasRefused, MayRefuseRequest, IsTaken, IsRead, IsUnfinished, RefusesRequest}
 
 -- ---- one head
 
@@ -92,7 +92,7 @@ short_is n l = rw (lt-ltb n 16384 l) refl
 pub long_is : (n : ℕ) → 16384 ≤ n → TooLong ≡ unended n
 long_is n l = rw (le-ltb n 16384 l) refl
 
-answer_of : (adapted : Bool) (text : List ℕ) (f : HttpFault) → RefusesText adapted text f → Answer adapted text f
+answer_of : (adapted : Bool) (text : List ℕ) (f : HttpFault) → MayRefuseRequest adapted text f → Answer adapted text f
 answer_of adapted text More w = inl (short_is (length text) w.1, w.0)
 answer_of adapted text Bad (inl w) = inr (inl (refl, w))
 answer_of adapted text Bad (inr w) = inr (inr (inr w))
@@ -155,7 +155,7 @@ abbrev pub Told : Result (Head RequestParts) HttpFault → HttpFault → Type 0
 Told result g = (result ≡ Err g) ⊎ ((g ≡ Target) × (result ≡ Err NoMemory))
 
 pub fault_told : (adapted : Bool) (text : List ℕ) (result : Result (Head RequestParts) HttpFault) → IfOk result (λ head. IsRead adapted text head.value head.length)
-    → IfErr result (RefusesText adapted text) → (g : HttpFault) → RefusesRequest adapted text g → Told result g
+    → IfErr result (MayRefuseRequest adapted text) → (g : HttpFault) → RefusesRequest adapted text g → Told result g
 fault_told adapted text (Ok head) read refused g stands = absurd (not_read adapted text head.value head.length g read stands)
 fault_told adapted text (Err f) read refused g stands = told (agrees adapted text f g (answer_of adapted text f refused) stands)
   where
@@ -183,7 +183,7 @@ refused_read adapted text f r n (inr (inr (inr x))) read =
     memory (inr (none, inr (inr c))) = c.0
 
 pub head_told : (adapted : Bool) (text : List ℕ) (result : Result (Head RequestParts) HttpFault) → IfOk result (λ head. IsRead adapted text head.value head.length)
-    → IfErr result (RefusesText adapted text) → (r : RequestParts) (n : ℕ) → IsRead adapted text r n
+    → IfErr result (MayRefuseRequest adapted text) → (r : RequestParts) (n : ℕ) → IsRead adapted text r n
     → (result ≡ Err NoMemory) ⊎ IsOkAnd result (λ head. (head.value ≡ r) × (head.length ≡ n))
 head_told adapted text (Ok head) read refused r n there = inr (one_at (judged text) head.value r head.length n read.there there.there)
 head_told adapted text (Err f) read refused r n there = inl (ap Err (refused_read adapted text f r n (answer_of adapted text f refused) there))

@@ -10,7 +10,7 @@ use Rattle.http_side.specs.declared.fault.HttpFault.{HttpFault}
 use Rattle.http_side.specs.declared.fault.HttpFault.TheVariants.{More, Bad, TooLong, TooMany, BothLengths, Lengths, Coding, Target, Connect, NoMemory}
 use Rattle.http_side.specs.Heads.{RequestParts, request_parts, parts_at, judged, request_fault, bad_hosts, both_lengths, unless, IsRequestAt}
 use Rattle.http_side.specs.Lengths.{content_length, coding}
-use Rattle.http_side.specs.Requests.{Refuses, HasRefused, RefusesText, IsTaken, IsRead}
+use Rattle.http_side.specs.Requests.{Refuses, HasRefused, MayRefuseRequest, IsTaken, IsRead}
 
 pub same_test : (a b x y : List ℕ) → a ≡ x → b ≡ y → bytes_eq a b ≡ bytes_eq x y
 same_test a b x y e f = ap (λ z. bytes_eq z b) e ∙ ap (bytes_eq x) f
@@ -40,7 +40,7 @@ refuses adapted r f e =
       ]
     ]
 
-pub text_refused : (adapted : Bool) (text : List ℕ) (f : HttpFault) → HasRefused adapted (judged text) f → RefusesText adapted text f
+pub text_refused : (adapted : Bool) (text : List ℕ) (f : HttpFault) → HasRefused adapted (judged text) f → MayRefuseRequest adapted text f
 text_refused adapted text More w = absurd w.4
 text_refused adapted text Bad w = inr w
 text_refused adapted text TooLong w = absurd w.4
@@ -64,7 +64,7 @@ few_fields buf headers spans h at l =
 
 -- a head at the parser's offsets that is refused
 pub refused_at : (adapted : Bool) (text front : List ℕ) (headers : List HeaderSpan) (spans : RequestSpans) (f : HttpFault) → front ≡ judged text → length headers ≡ 100
-    → IsRequestOf front headers spans → Refuses adapted (parts_at front spans (take spans.headers headers)) f → RefusesText adapted text f
+    → IsRequestOf front headers spans → Refuses adapted (parts_at front spans (take spans.headers headers)) f → MayRefuseRequest adapted text f
 refused_at adapted text front headers spans f is l of why =
     let P : RequestParts → Type 0 = λ r. Refuses adapted r f in
     let there : HasRefused adapted front f =

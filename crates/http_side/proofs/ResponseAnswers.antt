@@ -9,7 +9,7 @@ use Rattle.http_side.specs.declared.head.Head.{Head}
 use Rattle.http_side.specs.declared.fault.HttpFault.{HttpFault}
 use Rattle.http_side.specs.declared.fault.HttpFault.TheVariants.{More, Bad, TooLong, TooMany, BothLengths, Lengths, Coding, Target, Connect, NoMemory}
 use Rattle.http_side.specs.Heads.{ResponseParts, response_parts, judged, unended, response_fault, IsResponseAt}
-use Rattle.http_side.specs.Responses.{RefusesAnswer, HasRefusedAnswer, RefusesResponse, IsResponseRead, IsUnfinishedResponse, StandsInResponse}
+use Rattle.http_side.specs.Responses.{RefusesAnswer, HasRefusedAnswer, MayRefuseResponse, IsResponseRead, IsUnfinishedResponse, RefusesResponse}
 use Rattle.http_side.proofs.RequestAnswers.{short_is, long_is}
 
 -- ---- one head
@@ -60,7 +60,7 @@ Answer text f =
     ((f ≡ unended (length text)) × IsUnfinishedResponse (judged text)) ⊎ ((f ≡ Bad) × NeverHasResponse (judged text))
     ⊎ ((f ≡ TooMany) × ResponseExceeds 100 (judged text) × ResponseOverflows 100 (judged text)) ⊎ HasRefusedAnswer (judged text) f
 
-answer_of : (text : List ℕ) (f : HttpFault) → RefusesResponse text f → Answer text f
+answer_of : (text : List ℕ) (f : HttpFault) → MayRefuseResponse text f → Answer text f
 answer_of text More w = inl (short_is (length text) w.1, w.0)
 answer_of text Bad w = inr (inl (refl, w))
 answer_of text TooLong w = inl (long_is (length text) w.1, w.0)
@@ -74,7 +74,7 @@ answer_of text NoMemory w = inr (inr (inr w))
 
 -- a head that is there agrees with what stands
 with_head : (text : List ℕ) (h : ResponseHead) (rest : List ℕ) → ReadsResponse (judged text) h rest → length h.fields ≤ 100
-    → (g : HttpFault) → StandsInResponse text g → (g ≢ NoMemory) × Cause (response_parts h false) g
+    → (g : HttpFault) → RefusesResponse text g → (g ≢ NoMemory) × Cause (response_parts h false) g
 with_head text h rest reads few g (inl s) = absurd (s.1.0 h rest reads)
 with_head text h rest reads few g (inr (inl s)) = absurd (never_here (judged text) s.1.0 h rest reads)
 with_head text h rest reads few g (inr (inr (inl s))) =
@@ -84,7 +84,7 @@ with_head text h rest reads few g (inr (inr (inr s))) =
     let same = (response_unique (judged text) s.1.0 h s.1.1 rest s.1.2 reads).0 in
     (s.0, subst (λ x. Cause (response_parts x false) g) same (cause_of (response_parts s.1.0 false) g s.1.4))
 
-agrees : (text : List ℕ) (f g : HttpFault) → Answer text f → StandsInResponse text g → f ≡ g
+agrees : (text : List ℕ) (f g : HttpFault) → Answer text f → RefusesResponse text g → f ≡ g
 agrees text f g (inl x) (inl y) = x.0 ∙ sym y.0
 agrees text f g (inl x) (inr (inl y)) = let may = x.1.1 in absurd (y.1.0 may.0 may.1 [] may.2)
 agrees text f g (inl x) (inr (inr (inl y))) = absurd (x.1.0 y.1.0 y.1.1 y.1.2)
@@ -106,7 +106,7 @@ agrees text f g (inr (inr (inr x))) y =
 pub few_of : (text : List ℕ) (r : ResponseParts) (n : ℕ) (at : IsResponseAt text r n) → length r.fields ≤ 100 → length at.head.fields ≤ 100
 few_of text r n at few = omega (arith, length-map at.head.fields name_and_value, ap (λ x. length x.fields) at.parts_are)
 
-not_read : (to_head : Bool) (text : List ℕ) (r : ResponseParts) (n : ℕ) (g : HttpFault) → IsResponseRead to_head text r n → StandsInResponse text g → ⊥
+not_read : (to_head : Bool) (text : List ℕ) (r : ResponseParts) (n : ℕ) (g : HttpFault) → IsResponseRead to_head text r n → RefusesResponse text g → ⊥
 not_read to_head text r n g read stands =
     let at = read.there in
     let it = with_head text at.head (drop n (judged text)) at.reads (few_of (judged text) r n at read.few) g stands in
@@ -120,7 +120,7 @@ not_read to_head text r n g read stands =
 -- ---- the answers
 
 pub fault_told : (to_head : Bool) (text : List ℕ) (result : Result (Head ResponseParts) HttpFault) → IfOk result (λ head. IsResponseRead to_head text head.value head.length)
-    → IfErr result (RefusesResponse text) → (g : HttpFault) → StandsInResponse text g → result ≡ Err g
+    → IfErr result (MayRefuseResponse text) → (g : HttpFault) → RefusesResponse text g → result ≡ Err g
 fault_told to_head text (Ok head) read refused g stands = absurd (not_read to_head text head.value head.length g read stands)
 fault_told to_head text (Err f) read refused g stands = ap Err (agrees text f g (answer_of text f refused) stands)
 
@@ -141,17 +141,17 @@ refused_read to_head text f r n (inr (inr (inr x))) read =
     memory (inr c) none = c.1
 
 pub head_told : (to_head : Bool) (text : List ℕ) (result : Result (Head ResponseParts) HttpFault) → IfOk result (λ head. IsResponseRead to_head text head.value head.length)
-    → IfErr result (RefusesResponse text) → (r : ResponseParts) (n : ℕ) → IsResponseRead to_head text r n
+    → IfErr result (MayRefuseResponse text) → (r : ResponseParts) (n : ℕ) → IsResponseRead to_head text r n
     → (result ≡ Err NoMemory) ⊎ IsOkAnd result (λ head. (head.value ≡ r) × (head.length ≡ n))
 head_told to_head text (Ok head) read refused r n there = inr (one_at (judged text) head.value r head.length n read.there there.there (read.asked ∙ sym there.asked))
 head_told to_head text (Err f) read refused r n there = inl (ap Err (refused_read to_head text f r n (answer_of text f refused) there))
 
 -- ---- one answer
 
-pub head_or_fault : (to_head : Bool) (text : List ℕ) (r : ResponseParts) (n : ℕ) (g : HttpFault) → StandsInResponse text g → ¬ (IsResponseRead to_head text r n)
+pub head_or_fault : (to_head : Bool) (text : List ℕ) (r : ResponseParts) (n : ℕ) (g : HttpFault) → RefusesResponse text g → ¬ (IsResponseRead to_head text r n)
 head_or_fault to_head text r n g stands read = not_read to_head text r n g read stands
 
-pub one_fault : (text : List ℕ) (f g : HttpFault) → StandsInResponse text f → StandsInResponse text g → f ≡ g
+pub one_fault : (text : List ℕ) (f g : HttpFault) → RefusesResponse text f → RefusesResponse text g → f ≡ g
 one_fault text f g (inl x) (inl y) = x.0 ∙ sym y.0
 one_fault text f g (inl x) (inr (inl y)) = absurd (y.1.0 x.1.1.0 x.1.1.1 [] x.1.1.2)
 one_fault text f g (inl x) (inr (inr (inl y))) = absurd (x.1.0 y.1.0 y.1.1 y.1.2)

@@ -10,7 +10,7 @@ use Rattle.http_side.specs.declared.fault.HttpFault.{HttpFault}
 use Rattle.http_side.specs.declared.fault.HttpFault.TheVariants.{More, Bad, TooLong, TooMany, BothLengths, Lengths, Coding, Target, Connect, NoMemory}
 use Rattle.http_side.specs.Heads.{ResponseParts, response_parts, response_at, judged, response_fault, unless, IsResponseAt}
 use Rattle.http_side.specs.Lengths.{content_length, coding}
-use Rattle.http_side.specs.Responses.{RefusesAnswer, HasRefusedAnswer, RefusesResponse, IsResponseRead}
+use Rattle.http_side.specs.Responses.{RefusesAnswer, HasRefusedAnswer, MayRefuseResponse, IsResponseRead}
 use Rattle.http_side.proofs.RequestLemmas.{unless_is}
 
 -- the first fault of a head's fields refuses it
@@ -25,7 +25,7 @@ refuses r f e =
       ]
     ]
 
-text_refused : (text : List ℕ) (f : HttpFault) → HasRefusedAnswer (judged text) f → RefusesResponse text f
+text_refused : (text : List ℕ) (f : HttpFault) → HasRefusedAnswer (judged text) f → MayRefuseResponse text f
 text_refused text More w = absurd w.4
 text_refused text Bad w = absurd w.4
 text_refused text TooLong w = absurd w.4
@@ -62,7 +62,7 @@ same_refusal h to_head NoMemory w = w
 
 -- a head at the parser's offsets that is refused
 pub refused_at : (to_head : Bool) (text front : List ℕ) (headers : List HeaderSpan) (spans : ResponseSpans) (f : HttpFault) → front ≡ judged text → length headers ≡ 100
-    → IsResponseOf front headers spans → RefusesAnswer (response_at front spans (take spans.headers headers) to_head) f → RefusesResponse text f
+    → IsResponseOf front headers spans → RefusesAnswer (response_at front spans (take spans.headers headers) to_head) f → MayRefuseResponse text f
 refused_at to_head text front headers spans f is l of why =
     let P : ResponseParts → Type 0 = λ r. RefusesAnswer r f in
     let refused = same_refusal of.0 to_head f (subst P (parts_same front headers spans to_head of.0 of.1) why) in

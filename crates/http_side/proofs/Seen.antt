@@ -3,6 +3,7 @@ use Rattle.std.proofs.Common.{◌≡◌, ℕ, ◌<◌, ◌≤◌, Bool, true, fa
 use Rattle.std.specs.Prelude.{codes, fold, is_err, if◌then◌else◌, ◌==◌}
 use Rattle.std.proofs.lemmas.List.{append-nil}
 use Rattle.adapt_bytes.specs.Text.{comma_items, comma_parts, trim}
+use Rattle.adapt_bytes.specs.Fields.{values_of}
 use Rattle.http_side.specs.declared.fault.HttpFault.{HttpFault}
 use Rattle.http_side.specs.declared.fault.HttpFault.TheVariants.{Lengths, Bad, BothLengths}
 use Rattle.http_side.specs.declared.body.Framing.{Framing}
@@ -10,7 +11,6 @@ use Rattle.http_side.specs.declared.body.Framing.TheVariants.{None as NoBody, Le
 use Rattle.http_side.specs.declared.forward.Message.{Message}
 use Rattle.http_side.specs.declared.forward.Message.TheVariants.{Request, Response}
 use Rattle.http_side.specs.declared.forward.Forward.{Forward}
-use Rattle.http_side.specs.Fields.{values_of}
 use Rattle.http_side.specs.Lengths.{agreed, content_length, coding_of}
 use Rattle.http_side.specs.Framings.{by_length, by_coding, by_fields}
 use Rattle.http_side.specs.Heads.{RequestParts, ResponseParts, both_lengths, unless, count_of, bad_hosts}

@@ -8,7 +8,7 @@ use Rattle.httparse.proofs.GrammarLemmas.{request_unique, ReadsRequest-append, r
 use Rattle.http_side.specs.declared.fault.HttpFault.TheVariants.{More}
 use Rattle.http_side.specs.Heads.{RequestParts, ResponseParts, judged}
 use Rattle.http_side.specs.Requests.{IsRead, AwaitsRequest, RefusesRequest}
-use Rattle.http_side.specs.Responses.{IsResponseRead, AwaitsResponse, StandsInResponse}
+use Rattle.http_side.specs.Responses.{IsResponseRead, AwaitsResponse, RefusesResponse}
 use Rattle.http_side.proofs.RequestAnswers.{few_of, short_is}
 use Rattle.http_side.proofs.ResponseAnswers.{few_of as few_of_response}
 
@@ -104,7 +104,7 @@ request_beginning adapted text r n cut read l =
     ) in
     inl (short_is (length (take cut text)) (omega (arith, it.size, it.small)), subst AwaitsRequest (sym it.whole) awaits)
 
-pub response_beginning : (to_head : Bool) (text : List ℕ) (r : ResponseParts) (n cut : ℕ) → IsResponseRead to_head text r n → cut < n → StandsInResponse (take cut text) More
+pub response_beginning : (to_head : Bool) (text : List ℕ) (r : ResponseParts) (n cut : ℕ) → IsResponseRead to_head text r n → cut < n → RefusesResponse (take cut text) More
 response_beginning to_head text r n cut read l =
     let at = read.there in
     let p = print_response at.head in

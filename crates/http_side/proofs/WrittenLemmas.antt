@@ -7,11 +7,11 @@ use Rattle.std.proofs.lemmas.Str.{digit_value_digit}
 use Rattle.std.proofs.lemmas.Bool.{cases_Bool}
 use Rattle.std.proofs.lemmas.List.Elements.{All-map, All-cons, All-tail, All-append, All-take, All-drop, All-filter}
 use Rattle.std.proofs.lemmas.List.{append-nil}
+use Rattle.std.specs.Str.{str_eq_ignore_ascii_case}
 use Rattle.httparse.specs.Grammar.{Field, IsField, IsToken, AllPass, skip_ows, is_value_byte, is_uri_byte, is_token_byte, print_field, print_request, print_response, print_version, print_end, crlf}
 use Rattle.httparse.specs.Spans.{name_and_value}
 use Rattle.httparse.proofs.GrammarLemmas.{print_request-append, cons-append}
 use Rattle.httparse.proofs.TrimLemmas.{AllPass-trim_ows}
-use Rattle.http_side.specs.Fields.{same_name}
 use Rattle.http_side.specs.Heads.{RequestParts, ResponseParts, both_lengths, is_options}
 use Rattle.http_side.specs.Targets.{authority_of, count_before, is_delimiter, is_hash, is_rooted, rooted, path_of, origin_form}
 use Rattle.http_side.specs.declared.writing.Extra.{Extra}
@@ -91,7 +91,7 @@ all_kept : (beside : Beside) (fields : List (List ℕ × List ℕ)) → All IsWr
 all_kept beside fields h = all_once false (filter (stays beside fields) fields) (All-filter (stays beside fields) IsWritable fields h)
 
 host_ok : (authority : List ℕ) → IsValue authority → (f : List ℕ × List ℕ) → IsWritable f → IsWritable (host_line authority f)
-host_ok authority v f w = elim (cases_Bool (same_name f.0 (codes "host"))) [
+host_ok authority v f w = elim (cases_Bool (str_eq_ignore_ascii_case f.0 (codes "host"))) [
   | inl host ↦ rw host (record { name = w.name; value = v.bytes; front = v.front; back = v.back })
   | inr other ↦ rw other w
 ]

@@ -2,9 +2,10 @@
 use Rattle.std.specs.Prelude.{◌≡◌, ℕ, ◌+◌, ◌-◌, ◌^◌, ◌<◌, min, All, Bool, true, false, not, ◌||◌, ◌&&◌, List, [], ◌∷◌, ◌++◌, length, slice_index_or, map, Option, Some, None, codes, if◌then◌else◌, ◌==◌, nat_lt, codes, ◌/◌, ◌%◌}
 use Rattle.std.specs.List.{list_any, flat_map, filter}
 use Rattle.std.specs.Prelude.{◌/◌, ◌%◌, Result, Ok, Err}
+use Rattle.std.specs.Str.{str_eq_ignore_ascii_case}
+use Rattle.adapt_bytes.specs.Text.{has_item, is_among}
+use Rattle.adapt_bytes.specs.Fields.{values_of, field_at, name_at}
 use Rattle.http_side.specs.declared.fault.HttpFault.{HttpFault}
-use Rattle.http_side.specs.Fields.{same_name, values_of, field_at, name_at}
-use Rattle.http_side.specs.Items.{has_item}
 use Rattle.http_side.specs.Heads.{RequestParts, ResponseParts, count_of}
 use Rattle.http_side.specs.Lengths.{content_length, coding}
 use Rattle.http_side.specs.Heads.{both_lengths}
@@ -20,10 +21,6 @@ use Rattle.http_side.specs.declared.forward.Part.{Part}
 use Rattle.http_side.specs.declared.forward.Part.TheVariants.{Own, Body, NullBody}
 use Rattle.http_side.specs.declared.forward.Forward.{Forward}
 use Rattle.http_side.specs.declared.forward.Encapsulated.{Encapsulated}
-
--- the name is one of these, of any case
-abbrev pub is_among : List (List ℕ) → List ℕ → Bool
-is_among names name = list_any (λ n. same_name name n) names
 
 -- fields that end at a proxy
 abbrev pub hop_names : List (List ℕ)
@@ -52,12 +49,12 @@ pub record Marks (test : List ℕ → Bool) (fields : List (List ℕ × List ℕ
 abbrev pub is_removed : Beside → List (List ℕ × List ℕ) → List ℕ → Bool
 is_removed beside fields name =
     is_among hop_names name
-    || ((beside.expect && same_name name (codes "expect"))
-    || ((beside.length && same_name name (codes "content-length"))
+    || ((beside.expect && str_eq_ignore_ascii_case name (codes "expect"))
+    || ((beside.length && str_eq_ignore_ascii_case name (codes "content-length"))
     || (not (is_among framing_names name) && is_named_by fields name)))
 
 abbrev pub is_length : List ℕ × List ℕ → Bool
-is_length f = same_name f.0 (codes "content-length")
+is_length f = str_eq_ignore_ascii_case f.0 (codes "content-length")
 
 -- of equal lengths the first goes on
 abbrev pub once : Bool → List (List ℕ × List ℕ) → List (List ℕ × List ℕ)
@@ -81,7 +78,7 @@ abbrev pub has_host : List (List ℕ × List ℕ) → Bool
 has_host fields = nat_lt 0 (count_of (codes "host") fields)
 
 abbrev pub host_line : List ℕ → List ℕ × List ℕ → List ℕ × List ℕ
-host_line authority f = if same_name f.0 (codes "host") then (f.0, authority) else f
+host_line authority f = if str_eq_ignore_ascii_case f.0 (codes "host") then (f.0, authority) else f
 
 -- in a response no Host is changed
 abbrev pub hosted : Option (List ℕ) → List ℕ × List ℕ → List ℕ × List ℕ

@@ -8,8 +8,8 @@ use Rattle.httparse.specs.declared.spans.ResponseSpans.{ResponseSpans}
 use Rattle.adapt_bytes.specs.declared.limits.TheConstants.{MAX_HEAD}
 use Rattle.http_side.specs.declared.fault.HttpFault.{HttpFault}
 use Rattle.http_side.specs.declared.fault.HttpFault.TheVariants as Faults
+use Rattle.adapt_bytes.specs.Fields.{values_of}
 use Rattle.http_side.specs.declared.fault.HttpFault.TheVariants.{More, TooLong, Bad, BothLengths, Lengths, Coding}
-use Rattle.http_side.specs.Fields.{values_of}
 use Rattle.http_side.specs.Lengths.{content_length, coding}
 
 -- the faults by their numbers

@@ -3,10 +3,10 @@ use Rattle.std.specs.Prelude.{ℕ, Bool, true, false, ◌&&◌, List, [], ◌∷
 use Rattle.std.specs.List.{list_all}
 use Rattle.std.specs.Char.{digit_value}
 use Rattle.std.specs.Str.Parse.{digits_value}
+use Rattle.adapt_bytes.specs.Text.{comma_items}
+use Rattle.adapt_bytes.specs.Fields.{values_of}
 use Rattle.http_side.specs.declared.fault.HttpFault.{HttpFault}
 use Rattle.http_side.specs.declared.fault.HttpFault.TheVariants.{Lengths, Coding}
-use Rattle.http_side.specs.Fields.{values_of}
-use Rattle.adapt_bytes.specs.Text.{comma_items}
 use Rattle.adapt_bytes.specs.declared.limits.TheConstants.{COUNT_LIMIT}
 use Rattle.http_side.specs.Items.{is_only}
 

@@ -4,9 +4,9 @@ use Rattle.std.specs.Ordering.{is_lt, nat_cmp}
 use Rattle.std.specs.Cmp.Lexicographic.{slice_cmp}
 use Rattle.std.specs.List.{Contains, list_any, take_while}
 use Rattle.std.specs.List.Sorted.{IsSortedBy}
-use Rattle.std.specs.Str.{str_to_ascii_lowercase}
+use Rattle.std.specs.Str.{str_to_ascii_lowercase, str_eq_ignore_ascii_case}
 use Rattle.std.specs.declared.cmp.Ordering.{Ordering}
-use Rattle.http_side.specs.Fields.{same_name, name_at}
+use Rattle.adapt_bytes.specs.Fields.{name_at}
 use Rattle.http_side.specs.declared.names.PlacedName.{PlacedName}
 
 -- by their bytes in lower case
@@ -29,10 +29,10 @@ has_place i names = list_any (λ n. n.place == i) names
 
 -- the names in front that are this one
 abbrev pub run_of : List ℕ → List PlacedName → List PlacedName
-run_of name names = take_while (λ n. same_name name n.name.now) names
+run_of name names = take_while (λ n. str_eq_ignore_ascii_case name n.name.now) names
 
 -- fields of one name are marked alike
 abbrev pub AreAlike : List (List ℕ × List ℕ) → List Bool → Type 0
 AreAlike fields named =
-    (i j : ℕ) → i < length fields → j < length fields → same_name (name_at fields i) (name_at fields j) ≡ true
+    (i j : ℕ) → i < length fields → j < length fields → str_eq_ignore_ascii_case (name_at fields i) (name_at fields j) ≡ true
     → slice_index_or named i false ≡ slice_index_or named j false

@@ -34,13 +34,13 @@ HasRefused adapted text fault =
 abbrev pub IsUnfinished : List ℕ → Type 0
 IsUnfinished text = HasNoRequest text × MayBecomeRequest text
 
--- a text is refused for this
-abbrev pub RefusesText : Bool → List ℕ → HttpFault → Type 0
-RefusesText adapted text More = IsUnfinished (judged text) × (length text < MAX_HEAD)
-RefusesText adapted text Bad = NeverHasRequest (judged text) ⊎ HasRefused adapted (judged text) Bad
-RefusesText adapted text TooLong = IsUnfinished (judged text) × (MAX_HEAD ≤ length text)
-RefusesText adapted text TooMany = RequestExceeds MAX_FIELDS (judged text) × RequestOverflows MAX_FIELDS (judged text)
-RefusesText adapted text fault = HasRefused adapted (judged text) fault
+-- a text may be refused for this
+abbrev pub MayRefuseRequest : Bool → List ℕ → HttpFault → Type 0
+MayRefuseRequest adapted text More = IsUnfinished (judged text) × (length text < MAX_HEAD)
+MayRefuseRequest adapted text Bad = NeverHasRequest (judged text) ⊎ HasRefused adapted (judged text) Bad
+MayRefuseRequest adapted text TooLong = IsUnfinished (judged text) × (MAX_HEAD ≤ length text)
+MayRefuseRequest adapted text TooMany = RequestExceeds MAX_FIELDS (judged text) × RequestOverflows MAX_FIELDS (judged text)
+MayRefuseRequest adapted text fault = HasRefused adapted (judged text) fault
 
 -- no head is there, and some bytes more make one of at most 100 fields
 abbrev pub AwaitsRequest : List ℕ → Type 0

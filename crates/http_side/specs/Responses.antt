@@ -23,13 +23,13 @@ HasRefusedAnswer text fault =
 abbrev pub IsUnfinishedResponse : List ℕ → Type 0
 IsUnfinishedResponse text = HasNoResponse text × MayBecomeResponse text
 
--- a text is refused for this
-abbrev pub RefusesResponse : List ℕ → HttpFault → Type 0
-RefusesResponse text More = IsUnfinishedResponse (judged text) × (length text < MAX_HEAD)
-RefusesResponse text Bad = NeverHasResponse (judged text)
-RefusesResponse text TooLong = IsUnfinishedResponse (judged text) × (MAX_HEAD ≤ length text)
-RefusesResponse text TooMany = ResponseExceeds MAX_FIELDS (judged text) × ResponseOverflows MAX_FIELDS (judged text)
-RefusesResponse text fault = HasRefusedAnswer (judged text) fault
+-- a text may be refused for this
+abbrev pub MayRefuseResponse : List ℕ → HttpFault → Type 0
+MayRefuseResponse text More = IsUnfinishedResponse (judged text) × (length text < MAX_HEAD)
+MayRefuseResponse text Bad = NeverHasResponse (judged text)
+MayRefuseResponse text TooLong = IsUnfinishedResponse (judged text) × (MAX_HEAD ≤ length text)
+MayRefuseResponse text TooMany = ResponseExceeds MAX_FIELDS (judged text) × ResponseOverflows MAX_FIELDS (judged text)
+MayRefuseResponse text fault = HasRefusedAnswer (judged text) fault
 
 -- no head is there, and some bytes more make one of at most 100 fields
 abbrev pub AwaitsResponse : List ℕ → Type 0
@@ -45,8 +45,8 @@ abbrev pub HasLongResponse : List ℕ → Type 0
 HasLongResponse text = (head : ResponseHead) × (rest : List ℕ) × ReadsResponse text head rest × (MAX_FIELDS < length head.fields)
 
 -- a text has to be refused for this: what its first 16,384 bytes begin with decides
-abbrev pub StandsInResponse : List ℕ → HttpFault → Type 0
-StandsInResponse text fault =
+abbrev pub RefusesResponse : List ℕ → HttpFault → Type 0
+RefusesResponse text fault =
     ((fault ≡ unended (length text)) × AwaitsResponse (judged text))
     ⊎ ((fault ≡ Bad) × IsNoResponse (judged text))
     ⊎ ((fault ≡ TooMany) × HasLongResponse (judged text))

@@ -1,14 +1,13 @@
 //! Which fields of a head Connection names (RFC 9110, section 7.6.1).
 ghost use Rattle.std.specs.Prelude.{◌≡◌, ℕ, ◌<◌, ◌≤◌, All, ◌||◌, false, length, slice_index_or};
-ghost use Rattle.http_side.specs.Fields.{same_name};
-ghost use Rattle.http_side.specs.Items.{has_item};
+ghost use Rattle.std.specs.Str.{str_eq_ignore_ascii_case};
+ghost use Rattle.adapt_bytes.specs.Text.{has_item};
 ghost use Rattle.http_side.specs.Forward.{AreNamed, Marks, is_named_by};
 ghost use Rattle.http_side.specs.Names.{ArePlaced, AreAlike, has_place, run_of};
 
-use crate::fields::{Fields, Values, is_same_name};
-use crate::items::has_item;
+use crate::fields::{Fields, Values};
 use crate::names::{PlacedName, names_from, sorted_names};
-use adapt_bytes::{MAX_FIELDS, comma_items};
+use adapt_bytes::{MAX_FIELDS, comma_items, has_item, same_ascii};
 
 /// Whether Connection names the field.
 pub(crate) fn is_named_by(fields: &Fields<'_>, name: &[u8]) -> bool
@@ -73,7 +72,7 @@ fn mark_found(named: &mut [bool], fields: &Fields<'_>, names: &[PlacedName<'_>],
     requires placed { ArePlaced fields.now names.now }
     requires room { length fields.now ≤ length named.old }
     requires alike { AreAlike fields.now named.old }
-    ensures marked { Marks (λ name. same_name item.now name) fields.now named.old named.new }
+    ensures marked { Marks (λ name. str_eq_ignore_ascii_case item.now name) fields.now named.old named.new }
     ensures alike { AreAlike fields.now named.new }
 {
     let behind = names_from(names, item);
@@ -90,7 +89,7 @@ fn mark_run(named: &mut [bool], names: &[PlacedName<'_>], item: &[u8])
     ensures each { (i : ℕ) → i < length named.old → slice_index_or named.new i false ≡ (slice_index_or named.old i false || has_place i (run_of item.now names.now)) }
 {
     for placed in names {
-        if !is_same_name(item, placed.name) {
+        if !same_ascii(item, placed.name) {
             return;
         }
         named[usize::from(placed.place)] = true;
@@ -108,10 +107,10 @@ fn mark_items(named: &mut [bool], fields: &Fields<'_>, value: &[u8])
 
 /// Marks the fields that this item names.
 fn mark_item(named: &mut [bool], fields: &Fields<'_>, item: &[u8])
-    ensures { Marks (λ name. same_name item.now name) fields.now named.old named.new }
+    ensures { Marks (λ name. str_eq_ignore_ascii_case item.now name) fields.now named.old named.new }
 {
     for at in 0..fields.len().min(named.len()) {
-        if is_same_name(item, fields.name(at)) {
+        if same_ascii(item, fields.name(at)) {
             named[at] = true;
         }
     }

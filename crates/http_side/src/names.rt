@@ -1,6 +1,7 @@
 //! The names of a head's fields in order, so that one can be found without a walk over all of them.
 ghost use Rattle.std.specs.Prelude.{◌≡◌, ℕ, ◌<◌, All, length};
-ghost use Rattle.http_side.specs.Fields.{FieldList, same_name, name_at};
+ghost use Rattle.std.specs.Str.{str_eq_ignore_ascii_case};
+ghost use Rattle.adapt_bytes.specs.Fields.{FieldList, name_at};
 ghost use Rattle.http_side.specs.Names.{ArePlaced, HavePlaces, has_place, name_order, run_of};
 
 use crate::fields::Fields;
@@ -41,7 +42,7 @@ fn placed_names<'a>(fields: &Fields<'a>) -> ArrayVec<PlacedName<'a>, MAX_FIELDS>
 /// The names behind those that stand before this one: the names of its spelling, ASCII case ignored, are in front.
 pub(crate) fn names_from<'n, 'a>(names: &'n [PlacedName<'a>], name: &[u8]) -> &'n [PlacedName<'a>]
     ensures within { (fields : FieldList) → ArePlaced fields names.now → All (λ n. n.place < length fields) result.now }
-    ensures front { (fields : FieldList) → ArePlaced fields names.now → (i : ℕ) → i < length fields → has_place i (run_of name.now result.now) ≡ same_name name.now (name_at fields i) }
+    ensures front { (fields : FieldList) → ArePlaced fields names.now → (i : ℕ) → i < length fields → has_place i (run_of name.now result.now) ≡ str_eq_ignore_ascii_case name.now (name_at fields i) }
 {
     let from = names.partition_point(|placed| compare_names(placed.name, name).is_lt());
     &names[from..]

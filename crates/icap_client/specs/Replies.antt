@@ -1,7 +1,7 @@
 -- What the bytes of a service say (RFC 3507, sections 4.4 to 4.6): a 100 or none, then at most one final response,
 -- which is a 204 alone, or a 200 with the heads that its list names and then a chunked body or none.
 use Rattle.std.specs.Prelude.{◌≡◌, ◌≢◌, ℕ, ◌-◌, ◌<◌, ◌≤◌, ◌⊎◌, ⊤, Bool, true, false, ◌&&◌, ◌||◌, nat_le, ◌==◌, List, [], ◌∷◌, ◌++◌, length, take, slice_index, codes, Option, Some, None}
-use Rattle.icap_head.specs.Fields.{values_of}
+use Rattle.adapt_bytes.specs.Fields.{values_of}
 use Rattle.icap_head.specs.Heads.{Response, HasResponse}
 use Rattle.encapsulated.specs.Layouts.{IsLayout}
 use Rattle.encapsulated.specs.declared.offsets.Layout.{Layout}

@@ -3,9 +3,10 @@
 ghost use Rattle.std.specs.Prelude.{◌≡◌, ℕ, ◌+◌, ◌<◌, ◌≤◌, ◌⊎◌, Bool, List, [], ◌∷◌, ◌++◌, length, drop, take, OnOk, IfOk, IfErr, IfSome, IfNone, Some, None, Err, is_some, codes, true, false, option_map};
 ghost use Rattle.adapt_bytes.specs.Numeral.{numeral};
 ghost use Rattle.encapsulated.specs.declared.message.Method.TheVariants as methods;
+ghost use Rattle.adapt_bytes.specs.Fields.{values_of};
 ghost use Rattle.icap_chunks.specs.Faults.{Breaks};
 ghost use Rattle.icap_chunks.specs.Machine.{HasRead, end_of, fault_of};
-ghost use Rattle.icap_head.specs.Fields.{field_list, values_of};
+ghost use Rattle.icap_head.specs.Fields.{field_list};
 ghost use Rattle.icap_client.specs.Hearing.{ReadsOn};
 ghost use Rattle.icap_client.specs.Asking.{HasOptionsBody};
 ghost use Rattle.wire_kit.specs.Past.{Past};

@@ -1,6 +1,7 @@
 -- No stream is without an answer.
 use Rattle.std.proofs.Common.{◌≡◌, ℕ, zero, suc, ◌+◌, ◌-◌, ◌<◌, ◌≤◌, ◌⊎◌, ◌++◌, List, [], ◌∷◌, length, take, drop, refl, sym, ap, ◌∙◌, subst, arith, append_assoc, append-nil, length-append, length-drop, length-take-le, codes, Bool, true, false, Some, None, inl, inr}
 use Rattle.std.proofs.lemmas.Bool.{cases_lt, cases_Bool}
+use Rattle.adapt_bytes.specs.Fields.{FieldList, values_of}
 use Rattle.encapsulated.specs.declared.message.Direction.TheVariants.{Request as OfRequest}
 use Rattle.encapsulated.specs.declared.message.Method.{Method}
 use Rattle.encapsulated.specs.declared.message.Method.TheVariants.{Reqmod, Respmod, Options}
@@ -14,7 +15,6 @@ use Rattle.icap_chunks.specs.declared.pieces.Outcome.{Outcome}
 use Rattle.icap_chunks.specs.declared.pieces.Outcome.TheVariants.{More as Begun, Ended, Faulted}
 use Rattle.icap_chunks.specs.Reading.{IsReading}
 use Rattle.icap_chunks.proofs.Totals.{some_reading}
-use Rattle.icap_head.specs.Fields.{FieldList, values_of}
 use Rattle.icap_head.specs.Heads.{Request, HasRequest}
 use Rattle.icap_head.specs.StartLines.{IsIcapUri}
 use Rattle.icap_head.proofs.Totals.{NotNot, surely, and_so, decided, some_request}

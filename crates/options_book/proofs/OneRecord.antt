@@ -2,7 +2,7 @@
 use Rattle.std.proofs.Common.{◌≡◌, ℕ, List, [], ◌∷◌, Option, Some, None, sym, ◌∙◌, ap}
 use Rattle.std.specs.Prelude.{codes}
 use Rattle.adapt_bytes.proofs.Spellings.{spells_one}
-use Rattle.icap_head.specs.Fields.{FieldList, values_of}
+use Rattle.adapt_bytes.specs.Fields.{FieldList, values_of}
 use Rattle.icap_head.specs.Heads.{Response}
 use Rattle.trace_core.specs.declared.history.Point.{Point}
 use Rattle.options_book.specs.Numbers.{IsNumber}

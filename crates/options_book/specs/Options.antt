@@ -3,7 +3,8 @@ use Rattle.std.specs.Prelude.{◌≡◌, ◌≢◌, ℕ, ◌-◌, ◌<◌, ◌�
 use Rattle.std.specs.List.{list_any}
 use Rattle.adapt_bytes.specs.Text.{comma_items}
 use Rattle.adapt_bytes.specs.declared.limits.TheConstants.{MAX_CONNECTIONS}
-use Rattle.icap_head.specs.Fields.{FieldList, values_of, first_of}
+use Rattle.adapt_bytes.specs.Fields.{FieldList, values_of}
+use Rattle.icap_head.specs.Fields.{first_of}
 use Rattle.icap_head.specs.Heads.{Response}
 use Rattle.encapsulated.specs.Layouts.{IsLayout}
 use Rattle.options_book.specs.declared.judged.TheConstants.{MAX_TAG}

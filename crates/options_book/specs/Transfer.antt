@@ -1,16 +1,10 @@
 -- The Transfer lists of an OPTIONS response (RFC 3507, section 4.10.2).
-use Rattle.std.specs.Prelude.{ℕ, Bool, List, [], ◌∷◌, ◌++◌, map, codes, Option, Some, None, if◌then◌else◌, unwrap_or}
-use Rattle.std.specs.List.{list_any}
-use Rattle.std.specs.Str.{str_eq_ignore_ascii_case}
+use Rattle.std.specs.Prelude.{ℕ, List, [], ◌∷◌, ◌++◌, map, codes, Option, Some, None, if◌then◌else◌, unwrap_or}
 use Rattle.std.specs.Global.{Vec}
-use Rattle.adapt_bytes.specs.Text.{comma_items}
+use Rattle.adapt_bytes.specs.Text.{comma_items, is_among}
 use Rattle.options_book.specs.declared.transfer.Treat.{Treat}
 use Rattle.options_book.specs.declared.transfer.Treat.TheVariants.{Complete, Preview, Ignore}
 use Rattle.options_book.specs.declared.transfer.TransferLists.{TransferLists}
-
--- the item is one of these, but for the case of ASCII letters
-abbrev pub is_among : List (List ℕ) → List ℕ → Bool
-is_among items item = list_any (λ found. str_eq_ignore_ascii_case found item) items
 
 -- the items of comma-separated lists, one list behind the other
 abbrev pub items_of : List (List ℕ) → List (List ℕ)

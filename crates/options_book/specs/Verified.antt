@@ -1,6 +1,6 @@
 -- What a response is judged to say, before its lists are copied.
 use Rattle.std.specs.Prelude.{◌≡◌, ℕ, true, List}
-use Rattle.icap_head.specs.Fields.{FieldList}
+use Rattle.adapt_bytes.specs.Fields.{FieldList}
 use Rattle.icap_head.specs.Heads.{Response}
 use Rattle.trace_core.specs.declared.history.Point.{Point}
 use Rattle.options_book.specs.Options.{Options, HasTag, AreNumbers, IsEncapsulated, serves, transfer_lists}

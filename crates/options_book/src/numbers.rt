@@ -3,7 +3,8 @@
 ghost use Rattle.std.specs.Prelude.{◌≡◌, ◌↔◌, ◌<◌, ℕ, Option, IsTrue, IfOk, OnErr, MatchOption};
 ghost use Rattle.adapt_bytes.specs.declared.limits.TheConstants.{COUNT_LIMIT};
 ghost use Rattle.adapt_bytes.specs.Numeral.{Writes};
-ghost use Rattle.icap_head.specs.Fields.{field_list, values_of, values_left};
+ghost use Rattle.adapt_bytes.specs.Fields.{values_of};
+ghost use Rattle.icap_head.specs.Fields.{field_list, values_left};
 ghost use Rattle.options_book.specs.Numbers.{AllSpell, IsNumber};
 
 use crate::OptFault;

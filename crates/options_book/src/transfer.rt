@@ -1,8 +1,8 @@
 //! The Transfer lists: which messages a service wants whole, with a preview, or not at all (RFC 3507, section 4.10.2).
 
 ghost use Rattle.std.specs.Prelude.{◌≡◌, map, option_copied};
-ghost use Rattle.std.specs.Str.{str_eq_ignore_ascii_case};
-ghost use Rattle.options_book.specs.Transfer.{vec_bytes, is_among, listed, treat_of, kept_lists};
+ghost use Rattle.adapt_bytes.specs.Text.{is_among};
+ghost use Rattle.options_book.specs.Transfer.{vec_bytes, listed, treat_of, kept_lists};
 
 use adapt_bytes::same_ascii;
 
@@ -64,16 +64,9 @@ fn is_among(items: &[Vec<u8>], item: &[u8]) -> bool
     ensures { result ≡ is_among (map vec_bytes items.now) item.now }
 {
     for found in items {
-        if is_same(found, item) {
+        if same_ascii(found, item) {
             return true;
         }
     }
     false
-}
-
-/// Whether the texts are the same but for the case of ASCII letters.
-fn is_same(a: &[u8], b: &[u8]) -> bool
-    ensures { result ≡ str_eq_ignore_ascii_case a.now b.now }
-{
-    same_ascii(a, b)
 }

@@ -2,7 +2,8 @@
 
 ghost use Rattle.std.specs.Prelude.{◌≡◌, ◌++◌, map, IfOk, OnOk};
 ghost use Rattle.adapt_bytes.specs.Text.{comma_items};
-ghost use Rattle.icap_head.specs.Fields.{field_list, values_of};
+ghost use Rattle.adapt_bytes.specs.Fields.{values_of};
+ghost use Rattle.icap_head.specs.Fields.{field_list};
 ghost use Rattle.options_book.specs.Transfer.{vec_bytes, items_of};
 ghost use Rattle.options_book.specs.Options.{unquoted, lists_item, serves, method_name};
 

@@ -26,8 +26,8 @@ const KEYS: [&str; 14] = [
     "respmod",
 ];
 
-/// Whether the key is among those that are known.
-fn is_among(known: &[&str], key: &str) -> bool {
+/// Whether the key is one of those that are known.
+fn is_known(known: &[&str], key: &str) -> bool {
     for other in known {
         if *other == key {
             return true;
@@ -39,7 +39,7 @@ fn is_among(known: &[&str], key: &str) -> bool {
 /// The first key of a table, in the order of their bytes, that isn't known.
 fn first_unknown<'a>(table: &'a Table, known: &[&str]) -> Option<&'a str> {
     for key in table.keys() {
-        if !is_among(known, key.as_str()) {
+        if !is_known(known, key.as_str()) {
             return Some(key.as_str());
         }
     }

@@ -2,12 +2,11 @@
 use Rattle.std.proofs.Common.{◌≡◌, ℕ, Bool, true, false, not, List, [], ◌∷◌, ◌++◌, length, refl, ap, ◌∙◌}
 use Rattle.std.specs.Prelude.{codes, ◌||◌, if◌then◌else◌}
 use Rattle.std.specs.List.{list_any}
-use Rattle.adapt_bytes.specs.Text.{trim, comma_parts, comma_items}
+use Rattle.adapt_bytes.specs.Text.{trim, comma_parts, comma_items, has_item}
+use Rattle.adapt_bytes.specs.Fields.{values_of}
 use Rattle.http_side.specs.declared.forward.Forward.{Forward}
 use Rattle.http_side.specs.declared.forward.Message.{Message}
 use Rattle.http_side.specs.declared.forward.Message.TheVariants.{Request, Response}
-use Rattle.http_side.specs.Fields.{values_of}
-use Rattle.http_side.specs.Items.{has_item}
 use Rattle.http_side.specs.Forward.{is_response, is_named_by, gets_zero, is_chunks, next_framing, closes, when, via_value, added_fields, extra_of}
 use Rattle.http_side.specs.Laws.{passed_fields, minor_of, forwarded_fields}
 use Rattle.http_side.specs.Targets.{authority_of}

@@ -2,8 +2,9 @@
 use Rattle.std.proofs.Common.{◌≡◌, ℕ, ◌+◌, ◌<◌, Bool, true, false, List, [], ◌∷◌, ◌++◌, length, take, drop, refl, sym, ap, ◌∙◌, codes}
 use Rattle.std.specs.Prelude.{◌||◌}
 use Rattle.std.specs.List.{list_any}
-use Rattle.http_side.specs.Fields.{same_name, name_at, value_at, values_of}
-use Rattle.http_side.specs.Items.{has_item}
+use Rattle.std.specs.Str.{str_eq_ignore_ascii_case}
+use Rattle.adapt_bytes.specs.Fields.{name_at, value_at, values_of}
+use Rattle.adapt_bytes.specs.Text.{has_item}
 use Rattle.http_side.proofs.FieldLemmas.{values-more, values-front}
 use Rattle.proxy_rules.specs.Users.{expects_continue}
 
@@ -20,7 +21,7 @@ or_true true = refl
 or_true false = refl
 
 -- a field that names it is enough
-pub expected_here : (fields : List (List ℕ × List ℕ)) (i : ℕ) → i < length fields → same_name (name_at fields i) (codes "expect") ≡ true
+pub expected_here : (fields : List (List ℕ × List ℕ)) (i : ℕ) → i < length fields → str_eq_ignore_ascii_case (name_at fields i) (codes "expect") ≡ true
     → has_item (codes "100-continue") (value_at fields i) ≡ true → expects_continue fields ≡ true
 expected_here fields i l e n =
     ap (list_any (has_item (codes "100-continue"))) (values-front (codes "expect") fields (i + 1))

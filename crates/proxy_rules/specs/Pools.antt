@@ -1,7 +1,7 @@
 -- The connections to a service (RFC 3507, section 4.10.2).
 use Rattle.std.specs.Prelude.{ℕ, Bool, not, ◌&&◌, List, length, Option, Some, None, ◌==◌}
+use Rattle.adapt_bytes.specs.Fields.{FieldList}
 use Rattle.icap_client.specs.Said.{says_close}
-use Rattle.icap_head.specs.Fields.{FieldList}
 
 -- no raw byte is left over behind the answer, and it doesn't say that the connection closes
 abbrev pub is_reusable_after : List ℕ → FieldList → Bool

@@ -1,10 +1,10 @@
 -- What a user's request asks of the proxy beside its message (RFC 9110, sections 9.3.2 and 10.1.1).
 use Rattle.std.specs.Prelude.{ℕ, Bool, true, false, not, ◌&&◌, List, codes, bytes_eq, ◌==◌}
 use Rattle.std.specs.List.{list_any}
-use Rattle.http_side.specs.Fields.{values_of}
+use Rattle.adapt_bytes.specs.Fields.{values_of}
+use Rattle.adapt_bytes.specs.Text.{has_item}
 use Rattle.http_side.specs.Framings.{request_framing}
 use Rattle.http_side.specs.Heads.{RequestParts}
-use Rattle.http_side.specs.Items.{has_item}
 use Rattle.http_side.specs.declared.body.Framing.{Framing}
 use Rattle.http_side.specs.declared.body.Framing.TheVariants as by
 

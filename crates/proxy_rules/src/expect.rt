@@ -3,7 +3,7 @@
 ghost use Rattle.std.specs.Prelude.{◌≡◌, codes, bytes_eq};
 ghost use Rattle.proxy_rules.specs.Users.{is_head, has_body_to_read, expects_continue, awaits_continue};
 
-use crate::items::has_item;
+use adapt_bytes::has_item;
 use http_side::{Fields, Framing, HttpRequest};
 
 /// Whether the method is HEAD: its response has no body, whatever its fields say.

@@ -8,7 +8,6 @@ mod address;
 mod connections;
 mod expect;
 mod head_maker;
-mod items;
 pub mod laws;
 mod offer;
 mod onward;

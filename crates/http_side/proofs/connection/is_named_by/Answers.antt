@@ -1,5 +1,5 @@
 use Rattle.std.proofs.Common.{sym, ◌∙◌, arith, ap}
-use Rattle.http_side.specs.Items.{has_item}
+use Rattle.adapt_bytes.specs.Text.{has_item}
 use Rattle.http_side.proofs.ForwardLemmas.{named_here}
 use Rattle.http_side.proofs.connection.is_named_by.Goals as goal
 

@@ -1,9 +1,9 @@
 use Rattle.std.proofs.Common.{◌≡◌, ℕ, ◌<◌, false, ◌||◌, length}
 use Rattle.std.specs.Prelude.{slice_index_or}
 use Rattle.std.specs.List.{list_any}
-use Rattle.adapt_bytes.specs.Text.{items_left}
-use Rattle.http_side.specs.Fields.{same_name, name_at}
-use Rattle.http_side.specs.Items.{has_item}
+use Rattle.std.specs.Str.{str_eq_ignore_ascii_case}
+use Rattle.adapt_bytes.specs.Text.{items_left, has_item}
+use Rattle.adapt_bytes.specs.Fields.{name_at}
 use Rattle.http_side.specs.Names.{AreAlike}
 use Rattle.http_side.proofs.connection.mark_found_items.Given as goal
 
@@ -14,5 +14,5 @@ invariant-loop-item l = record {
   size : length l.named ≡ length l.initial.named;
   alike : AreAlike l.fields l.named;
   rest : (i : ℕ) → i < length l.fields → i < length l.initial.named
-      → (slice_index_or l.initial.named i false || has_item (name_at l.fields i) l.value) ≡ (slice_index_or l.named i false || list_any (λ item. same_name item (name_at l.fields i)) (items_left l.item-iterator));
+      → (slice_index_or l.initial.named i false || has_item (name_at l.fields i) l.value) ≡ (slice_index_or l.named i false || list_any (λ item. str_eq_ignore_ascii_case item (name_at l.fields i)) (items_left l.item-iterator));
 }

@@ -5,10 +5,10 @@ use Rattle.http_side.specs.Names.{has_place}
 use Rattle.http_side.proofs.NameLemmas.{run_all, run_is}
 use Rattle.http_side.proofs.connection.mark_run.Goals as goal
 
-pub returns-then-not-is_same_name-clause-each : goal.returns-then-not-is_same_name-clause-each
-returns-then-not-is_same_name-clause-each c i l =
+pub returns-then-not-same_ascii-clause-each : goal.returns-then-not-same_ascii-clause-each
+returns-then-not-same_ascii-clause-each c i l =
     let run = run_is c.args.names.now c.args.item.now c.loop-placed.placed-index _ (omega arith) c.loop-placed.invariant.same
-    (λ _. sym c.is_same_name.ensures ∙ c.if-not-is_same_name.true) in
+    (λ _. sym c.same_ascii.ensures ∙ c.if-not-same_ascii.true) in
     c.loop-placed.invariant.each i l ∙ ap (λ ns. slice_index_or c.args.named.now i false || has_place i ns) (sym run)
 
 pub returns-clause-each : goal.returns-clause-each

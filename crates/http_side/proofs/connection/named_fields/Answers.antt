@@ -1,8 +1,8 @@
 use Rattle.std.proofs.Common.{◌||◌, sym, ap, ◌∙◌, false, arith}
 use Rattle.std.specs.List.{list_any}
 use Rattle.std.proofs.lemmas.List.{get_or-replicate}
-use Rattle.http_side.specs.Fields.{name_at}
-use Rattle.http_side.specs.Items.{has_item}
+use Rattle.adapt_bytes.specs.Fields.{name_at}
+use Rattle.adapt_bytes.specs.Text.{has_item}
 use Rattle.http_side.proofs.ForwardLemmas.{or_false}
 use Rattle.http_side.proofs.connection.named_fields.Goals as goal
 

@@ -1,6 +1,6 @@
 use Rattle.std.proofs.Common.{◌≡◌, ℕ, ◌<◌, false, length, take}
 use Rattle.std.specs.Prelude.{slice_index_or}
-use Rattle.http_side.specs.Fields.{name_at}
+use Rattle.adapt_bytes.specs.Fields.{name_at}
 use Rattle.http_side.specs.Forward.{is_named_by}
 use Rattle.http_side.specs.Names.{AreAlike}
 use Rattle.http_side.proofs.connection.searched_fields.Given as goal

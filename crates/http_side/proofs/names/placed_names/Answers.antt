@@ -1,7 +1,7 @@
 use Rattle.std.proofs.Common.{◌≡◌, ℕ, ◌<◌, ◌+◌, length, All, sym, refl, subst, arith}
 use Rattle.std.specs.List.{Contains}
 use Rattle.std.proofs.lemmas.List.Elements.{All-push}
-use Rattle.http_side.specs.Fields.{name_at}
+use Rattle.adapt_bytes.specs.Fields.{name_at}
 use Rattle.http_side.specs.declared.names.PlacedName.{PlacedName}
 use Rattle.http_side.proofs.NameLemmas.{all_more}
 use Rattle.http_side.proofs.names.placed_names.Goals as goal

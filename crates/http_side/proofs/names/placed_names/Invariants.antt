@@ -1,7 +1,7 @@
 use Rattle.std.proofs.Common.{◌≡◌, ℕ, ◌<◌, ◌≤◌, length, All}
 use Rattle.std.specs.List.{Contains}
+use Rattle.adapt_bytes.specs.Fields.{name_at}
 use Rattle.arrayvec.specs.ArrayVec.{array_vec_len}
-use Rattle.http_side.specs.Fields.{name_at}
 use Rattle.http_side.specs.declared.names.PlacedName.{PlacedName}
 use Rattle.http_side.proofs.names.placed_names.Given as goal
 

@@ -1,13 +1,12 @@
 use Rattle.std.proofs.Common.{◌≡◌, ◌<◌, Bool, false, List, ℕ, [], ◌∷◌, ◌++◌, ◌&&◌, ◌||◌, map, length, take, All, sym, ap, ◌∙◌, subst, arith}
-use Rattle.std.specs.Prelude.{codes}
 use Rattle.std.specs.List.{list_any, filter}
 use Rattle.std.proofs.lemmas.List.{map-append}
 use Rattle.std.proofs.lemmas.List.Elements.{All-push}
-use Rattle.http_side.specs.Fields.{same_name, field_at}
+use Rattle.adapt_bytes.specs.Fields.{field_at}
 use Rattle.http_side.specs.Forward.{stays, is_removed, is_named_by, is_length}
 use Rattle.http_side.proofs.ForwardLemmas.{not_removed, length_again, goes_on, first_length, no_length}
 use Rattle.http_side.proofs.writing.kept_places.Goals as goal
-use Rattle.http_side.proofs.writing.kept_places.Goals.{then-is_same_name+else-seen, else-is_same_name}
+use Rattle.http_side.proofs.writing.kept_places.Goals.{then-is_named+else-seen, else-is_named}
 
 pub loop-at-preserved-then-seen : goal.loop-at-preserved-then-seen
 loop-at-preserved-then-seen c =
@@ -16,8 +15,8 @@ loop-at-preserved-then-seen c =
     let i = c.loop-at.at in
     let marked = c.named_fields-named.ensures i (omega arith) (omega arith) ∙ ap (is_named_by fields) (sym c.name-name.ensures) in
     let stay = not_removed (sym (c.is_removed.ensures fields marked ∙ ap (is_removed beside fields) c.name-name.ensures) ∙ c.if-is_removed.false) in
-    let named : is_length (field_at fields i) ≡ c.is_same_name.result = sym (c.is_same_name.ensures ∙ ap (λ t. same_name t (codes "content-length")) c.name-name.ensures) in
-    let again = length_again beside fields i (omega arith) stay (named ∙ c.if-is_same_name.true) (sym c.loop-at.invariant.seen ∙ c.if-seen.true) in
+    let named : is_length (field_at fields i) ≡ c.is_named.result = sym c.is_named.ensures in
+    let again = length_again beside fields i (omega arith) stay (named ∙ c.if-is_named.true) (sym c.loop-at.invariant.seen ∙ c.if-seen.true) in
     record {
       seen = c.if-seen.true ∙ sym again.1;
       few = omega arith;
@@ -34,10 +33,10 @@ loop-at-preserved c =
     let n : Bool = is_length (field_at fields i) in
     let marked = c.named_fields-named.ensures i (omega arith) (omega arith) ∙ ap (is_named_by fields) (sym c.name-name.ensures) in
     let stay = not_removed (sym (c.is_removed.ensures fields marked ∙ ap (is_removed beside fields) c.name-name.ensures) ∙ c.if-is_removed.false) in
-    let named : n ≡ c.is_same_name.result = sym (c.is_same_name.ensures ∙ ap (λ t. same_name t (codes "content-length")) c.name-name.ensures) in
-    let first : ((n && old) ≡ false) × ((old || n) ≡ c.if-is_same_name.seen) = elim c.if-is_same_name.branch [
-      | then-is_same_name+else-seen w ↦ first_length n old c.if-is_same_name.seen (named ∙ w.if-is_same_name.true) (sym c.loop-at.invariant.seen ∙ w.if-seen.false) w.seen-is
-      | else-is_same_name w ↦ no_length n old c.if-is_same_name.seen (named ∙ w.if-is_same_name.false) (w.seen-is ∙ c.loop-at.invariant.seen)
+    let named : n ≡ c.is_named.result = sym c.is_named.ensures in
+    let first : ((n && old) ≡ false) × ((old || n) ≡ c.if-is_named.seen) = elim c.if-is_named.branch [
+      | then-is_named+else-seen w ↦ first_length n old c.if-is_named.seen (named ∙ w.if-is_named.true) (sym c.loop-at.invariant.seen ∙ w.if-seen.false) w.seen-is
+      | else-is_named w ↦ no_length n old c.if-is_named.seen (named ∙ w.if-is_named.false) (w.seen-is ∙ c.loop-at.invariant.seen)
     ] in
     let on = goes_on beside fields i (omega arith) stay first.0 in
     let P : List ℕ → Type 0 = λ places. All (λ at. at < length fields) places in

@@ -1,7 +1,7 @@
 use Rattle.std.proofs.Common.{◌≡◌, ◌<◌, ◌≤◌, take, false, map, length, All}
 use Rattle.std.specs.List.{list_any, filter}
+use Rattle.adapt_bytes.specs.Fields.{field_at}
 use Rattle.arrayvec.specs.ArrayVec.{array_vec_len}
-use Rattle.http_side.specs.Fields.{field_at}
 use Rattle.http_side.specs.Forward.{stays, is_length, once}
 use Rattle.http_side.proofs.writing.kept_places.Given as goal
 

@@ -1,6 +1,6 @@
 use Rattle.std.proofs.Common.{◌≡◌, length, ap, ◌∙◌, get_or, arith}
 use Rattle.std.specs.Prelude.{option_copied}
-use Rattle.http_side.specs.Fields.{field_at, name_at}
+use Rattle.adapt_bytes.specs.Fields.{field_at, name_at}
 use Rattle.http_side.specs.Forward.{hosted, field_line}
 use Rattle.http_side.proofs.ForwardLemmas.{next_fits}
 use Rattle.http_side.proofs.writing.put_fields.Goals as goal

@@ -1,5 +1,6 @@
 use Rattle.std.proofs.Common.{rules, ◌≡◌, ℕ, Bool, List, [], ◌∷◌, codes, IfNone, sym, subst}
-use Rattle.icap_head.specs.Fields.{field_list, values_of}
+use Rattle.adapt_bytes.specs.Fields.{values_of}
+use Rattle.icap_head.specs.Fields.{field_list}
 use Rattle.icap_client.specs.Asking.{HasOptionsBody}
 use Rattle.icap_client.proofs.options.body_of.Goals as goal
 

@@ -1,5 +1,6 @@
 use Rattle.std.proofs.Common.{◌≡◌, ℕ, List, [], ◌∷◌, codes, inl, inr, sym, ◌∙◌, subst, ap}
-use Rattle.icap_head.specs.Fields.{field_list, values_of}
+use Rattle.adapt_bytes.specs.Fields.{values_of}
+use Rattle.icap_head.specs.Fields.{field_list}
 use Rattle.options_book.specs.Options.{IsOptionsList}
 use Rattle.options_book.proofs.judged.is_encapsulated.Goals as goal
 

@@ -1,5 +1,6 @@
 use Rattle.std.proofs.Common.{◌≡◌, map, drop}
-use Rattle.options_book.specs.Transfer.{is_among, vec_bytes}
+use Rattle.adapt_bytes.specs.Text.{is_among}
+use Rattle.options_book.specs.Transfer.{vec_bytes}
 use Rattle.options_book.proofs.transfer.is_among.Given as goal
 
 abbrev pub invariant-loop-found : goal.invariant-loop-found

@@ -1,5 +1,6 @@
 use Rattle.std.proofs.Common.{◌≡◌, ◌++◌, map}
-use Rattle.icap_head.specs.Fields.{field_list, values_of, values_left}
+use Rattle.adapt_bytes.specs.Fields.{values_of}
+use Rattle.icap_head.specs.Fields.{field_list, values_left}
 use Rattle.options_book.specs.Transfer.{vec_bytes, items_of}
 use Rattle.options_book.proofs.words.copy_items.Given as goal
 

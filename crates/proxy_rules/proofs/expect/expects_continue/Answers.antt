@@ -1,5 +1,5 @@
 use Rattle.std.proofs.Common.{sym, ◌∙◌, arith, ap, codes}
-use Rattle.http_side.specs.Items.{has_item}
+use Rattle.adapt_bytes.specs.Text.{has_item}
 use Rattle.proxy_rules.proofs.UserLemmas.{expected_here}
 use Rattle.proxy_rules.proofs.expect.expects_continue.Goals as goal
 

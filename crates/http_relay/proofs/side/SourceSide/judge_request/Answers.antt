@@ -1,6 +1,6 @@
 use Rattle.std.proofs.Common.{ℕ, List, [], false, refl, sym, subst, ◌∙◌}
 use Rattle.http_side.specs.Body.{HasRead}
-use Rattle.http_side.specs.Requests.{IsRead, RefusesText}
+use Rattle.http_side.specs.Requests.{IsRead, MayRefuseRequest}
 use Rattle.http_relay.specs.Judging.{RefusesBytes}
 use Rattle.http_relay.specs.declared.side.Asks.{Asks}
 use Rattle.http_side.specs.declared.body.Framing.{Framing}
@@ -22,4 +22,4 @@ returns-in-Ok-clause-heads c =
 pub refuse-requires-clause-cause : goal.refuse-requires-clause-cause
 refuse-requires-clause-cause c =
     subst (λ (a : Asks). RefusesBytes a c.args.self.now.raw.items c.in-Err.fault) (sym c.requires.asks)
-    (subst (λ (t : List ℕ). RefusesText false t c.in-Err.fault) c.as_slice.ensures c.in-Err.ensures.err)
+    (subst (λ (t : List ℕ). MayRefuseRequest false t c.in-Err.fault) c.as_slice.ensures c.in-Err.ensures.err)

@@ -1,6 +1,6 @@
 use Rattle.std.proofs.Common.{ℕ, arith, length, length-drop, List, [], ◌<◌, ◌≤◌, ◌⊎◌, refl, sym, ap, subst, ◌∙◌}
 use Rattle.http_side.specs.Body.{HasRead}
-use Rattle.http_side.specs.Responses.{IsResponseRead, RefusesResponse}
+use Rattle.http_side.specs.Responses.{IsResponseRead, MayRefuseResponse}
 use Rattle.http_relay.specs.Judging.{RefusesBytes}
 use Rattle.http_relay.specs.declared.side.Asks.{Asks}
 use Rattle.http_side.specs.declared.body.Framing.{Framing}
@@ -38,4 +38,4 @@ returns-then-is_interim-clause-shrinks c =
 pub refuse-requires-clause-cause : goal.refuse-requires-clause-cause
 refuse-requires-clause-cause c =
     subst (λ (a : Asks). RefusesBytes a c.args.self.now.raw.items c.in-Err.fault) (sym c.requires.asks)
-    (subst (λ (t : List ℕ). RefusesResponse t c.in-Err.fault) c.as_slice.ensures c.in-Err.ensures.err)
+    (subst (λ (t : List ℕ). MayRefuseResponse t c.in-Err.fault) c.as_slice.ensures c.in-Err.ensures.err)

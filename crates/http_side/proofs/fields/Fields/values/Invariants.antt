@@ -1,5 +1,6 @@
 use Rattle.std.proofs.Common.{take}
-use Rattle.http_side.specs.Fields.{values_of, IsValues}
+use Rattle.adapt_bytes.specs.Fields.{values_of}
+use Rattle.http_side.specs.Fields.{IsValues}
 use Rattle.http_side.proofs.fields.Fields.values.Given as goal
 
 abbrev pub invariant-loop-at : goal.invariant-loop-at

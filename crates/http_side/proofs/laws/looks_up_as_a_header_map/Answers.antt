@@ -1,5 +1,0 @@
-use Rattle.http_side.proofs.LookUps.{values_as_in_map}
-use Rattle.http_side.proofs.laws.looks_up_as_a_header_map.Goals as goal
-
-pub returns : goal.returns
-returns c = values_as_in_map
