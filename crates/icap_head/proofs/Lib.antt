@@ -4,6 +4,7 @@ pub mod Follows
 pub mod Fronts
 pub mod Held
 pub mod Lacking
+pub mod LineFront
 pub mod LookUps
 pub mod OneReading
 pub mod Readings

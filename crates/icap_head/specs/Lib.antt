@@ -1,6 +1,7 @@
 pub mod FieldLines
 pub mod Fields
 pub mod Heads
+pub mod LineFront
 pub mod Methods
 pub mod OtherName
 pub mod StartLines

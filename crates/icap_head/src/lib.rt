@@ -9,6 +9,7 @@
 mod field_lines;
 mod field_list;
 pub mod laws;
+mod line_front;
 mod methods;
 mod reading;
 mod requests;
@@ -17,6 +18,7 @@ mod start_lines;
 
 pub use adapt_bytes::{MAX_FIELDS, MAX_HEAD};
 pub use field_list::{Fields, Values};
+pub use line_front::is_still_front;
 pub use methods::{Method, OtherMethod};
 pub use reading::{Head, HeadFault};
 pub use requests::{IcapRequest, judge_request_line, read_request, write_request};

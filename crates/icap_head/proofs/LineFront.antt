@@ -11,7 +11,7 @@ use Rattle.httparse.proofs.GrammarLemmas.{section_unique, ReadsSection-append}
 use Rattle.icap_head.specs.declared.reading.HeadFault.TheVariants.{More}
 use Rattle.icap_head.specs.FieldLines.{HasTooMany, IsOpen, line_count}
 use Rattle.icap_head.specs.Heads.{RefusesIcapHead}
-use Rattle.icap_head.specs.StartLines.{IsFirstLine, RequestForm, without_cr}
+use Rattle.icap_head.specs.StartLines.{IsFirstLine, without_cr}
 use Rattle.icap_head.proofs.Follows.{unended_short}
 use Rattle.icap_head.proofs.Lacking.{lacks_cut}
 use Rattle.icap_head.proofs.Readings.{first-append}
@@ -20,9 +20,9 @@ use Rattle.icap_head.proofs.Totals.{first_feed}
 use Rattle.adapt_bytes.specs.Text.{is_token_byte, IsToken}
 use Rattle.httparse.specs.Grammar.{is_value_byte}
 use Rattle.icap_head.proofs.Trimmed.{token_name}
-use Rattle.icap_server.specs.declared.line_front.Place.{Place}
-use Rattle.icap_server.specs.declared.line_front.Place.TheVariants.{Start, Name, Value, Return}
-use Rattle.icap_server.specs.LineFront.{IsAt, IsInValue, IsLineFront, IsLastLine}
+use Rattle.icap_head.specs.declared.line_front.Place.{Place}
+use Rattle.icap_head.specs.declared.line_front.Place.TheVariants.{Start, Name, Value, Return}
+use Rattle.icap_head.specs.LineFront.{IsAt, IsInValue, IsLineFront, IsLastLine}
 
 -- ---- whole lines, and the front of one more
 
@@ -235,18 +235,18 @@ more_value line byte (name, raw, token, all, e) good =
 -- ---- a piece behind the front of a head
 
 -- the piece ends no line, and the last line goes on with it
-pub goes_on : (head piece rest : List ℕ) (start : ℕ) (place next : Place) → length piece < 16384 - length head → Lacks 10 piece → IsLastLine head start → rest ≡ drop start head
+pub goes_on : (Form : List ℕ → List ℕ → Type 0) (head piece rest : List ℕ) (start : ℕ) (place next : Place) → length piece < 16384 - length head → Lacks 10 piece → IsLastLine head start → rest ≡ drop start head
     → ((line : List ℕ) → IsAt Start line → IsAt place (line ++ rest)) → ((line : List ℕ) → IsAt place line → IsAt next (line ++ piece))
-    → RefusesIcapHead RequestForm More head → RefusesIcapHead RequestForm More (head ++ piece)
-goes_on head piece rest start place next short lacks last e first second stands =
-    still_more RequestForm head piece start (omega (arith, short, length-append head piece)) lacks last
+    → RefusesIcapHead Form More head → RefusesIcapHead Form More (head ++ piece)
+goes_on Form head piece rest start place next short lacks last e first second stands =
+    still_more Form head piece start (omega (arith, short, length-append head piece)) lacks last
     (λ some. let P : List ℕ → Type 0 = λ t. IsLineFront (t ++ piece) in subst P e (line_front next (rest ++ piece) (second rest (first [] refl)))) stands
 
 -- the piece goes on with the first line
-pub first_goes_on : (head piece : List ℕ) (start : ℕ) → length piece < 16384 - length head → Lacks 10 piece → IsLastLine head start → start ≡ 0
-    → RefusesIcapHead RequestForm More head → RefusesIcapHead RequestForm More (head ++ piece)
-first_goes_on head piece start short lacks last none stands =
-    still_more RequestForm head piece start (omega (arith, short, length-append head piece)) lacks last (λ some. absurd (omega (arith, some, none))) stands
+pub first_goes_on : (Form : List ℕ → List ℕ → Type 0) (head piece : List ℕ) (start : ℕ) → length piece < 16384 - length head → Lacks 10 piece → IsLastLine head start → start ≡ 0
+    → RefusesIcapHead Form More head → RefusesIcapHead Form More (head ++ piece)
+first_goes_on Form head piece start short lacks last none stands =
+    still_more Form head piece start (omega (arith, short, length-append head piece)) lacks last (λ some. absurd (omega (arith, some, none))) stands
 
 pub lacks_of : (piece : List ℕ) → list_any (λ b. eqb b 10) piece ≡ false → Lacks 10 piece
 lacks_of [] e k inside is = absurd (omega arith)

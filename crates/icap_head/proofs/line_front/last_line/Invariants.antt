@@ -1,5 +1,5 @@
 use Rattle.std.proofs.Common.{◌≢◌, ℕ, ◌<◌, ◌≤◌, length, slice_index}
-use Rattle.icap_server.proofs.line_front.last_line.Given as goal
+use Rattle.icap_head.proofs.line_front.last_line.Given as goal
 
 abbrev pub invariant-loop-start : goal.invariant-loop-start
 invariant-loop-start l = (l.start ≤ length l.text) × ((k : ℕ) → l.start ≤ k → k < length l.text → slice_index l.text k ≢ 10)

@@ -2,8 +2,8 @@
 use Rattle.std.specs.Prelude.{◌≡◌, ◌≢◌, ℕ, ◌-◌, ◌<◌, ◌≤◌, ◌⊎◌, ◌++◌, List, [], ◌∷◌, slice_index, length}
 use Rattle.adapt_bytes.specs.Text.{IsToken}
 use Rattle.httparse.specs.Grammar.{AllPass, Field, IsField, is_value_byte, print_field}
-use Rattle.icap_server.specs.declared.line_front.Place.{Place}
-use Rattle.icap_server.specs.declared.line_front.Place.TheVariants.{Start, Name, Value, Return}
+use Rattle.icap_head.specs.declared.line_front.Place.{Place}
+use Rattle.icap_head.specs.declared.line_front.Place.TheVariants.{Start, Name, Value, Return}
 
 -- a name, a colon, and what has come of a value
 abbrev pub IsInValue : List ℕ → Type 0

@@ -1,13 +1,12 @@
-//! A head that comes in small pieces: whether what came last is worth reading the whole again.
+//! A head that comes in small pieces: whether what came last is worth judging the whole again.
 ghost use Rattle.std.specs.Prelude.{◌≡◌, ℕ, ◌++◌, ◌∷◌, [], List, IsTrue, IfSome};
 ghost use Rattle.httparse.specs.Grammar.{is_value_byte};
 ghost use Rattle.icap_head.specs.Heads.{RefusesIcapHead};
-ghost use Rattle.icap_head.specs.StartLines.{RequestForm};
+ghost use Rattle.icap_head.specs.StartLines.{RequestForm, StatusForm};
 ghost use Rattle.icap_head.specs.declared.reading.HeadFault.TheVariants.{More};
-ghost use Rattle.icap_server.specs.LineFront.{IsAt, IsLastLine};
+ghost use Rattle.icap_head.specs.LineFront.{IsAt, IsLastLine};
 
-use adapt_bytes::is_token;
-use icap_head::MAX_HEAD;
+use adapt_bytes::{MAX_HEAD, is_token};
 
 /// Where a field line, or the empty one, is before its LF (RFC 9112, section 5).
 #[derive(Clone, Copy, Debug)]
@@ -19,22 +18,26 @@ enum Place {
     Return,
 }
 
-/// Whether the front of a head is one still with a piece behind it: the piece ends no line, and the last line may still become
-/// a field line or the empty one. It looks at the piece and at the last line alone.
-pub(crate) fn goes_on(head: &[u8], piece: &[u8]) -> bool
-    ensures { IsTrue result → RefusesIcapHead RequestForm More head.now → RefusesIcapHead RequestForm More (head.now ++ piece.now) }
+/// Whether the front of a head is one still with a piece behind it, so that it needn't be judged again: where `More` stands
+/// before the piece, it stands behind it too.
+///
+/// It is so where the piece ends no line, and the last line may still become a start line, a field line or the empty one. It
+/// looks at the piece and at the last line alone, and says `false` where that doesn't show.
+pub fn is_still_front(front: &[u8], piece: &[u8]) -> bool
+    ensures requests { IsTrue result → RefusesIcapHead RequestForm More front.now → RefusesIcapHead RequestForm More (front.now ++ piece.now) }
+    ensures responses { IsTrue result → RefusesIcapHead StatusForm More front.now → RefusesIcapHead StatusForm More (front.now ++ piece.now) }
 {
-    if piece.len() >= MAX_HEAD.saturating_sub(head.len()) {
+    if piece.len() >= MAX_HEAD.saturating_sub(front.len()) {
         return false;
     }
     if piece.contains(&b'\n') {
         return false;
     }
-    let start = last_line(head);
+    let start = last_line(front);
     if start == 0 {
         return true;
     }
-    match behind_all(Place::Start, &head[start..]) {
+    match behind_all(Place::Start, &front[start..]) {
         Some(place) => behind_all(place, piece).is_some(),
         None => false,
     }
