@@ -2,8 +2,8 @@
 
 mod streams;
 
-use icap_head::is_still_front;
 use crate::{NoMemory, ServeFault, ServerFault, ServerSide, Settings, serve};
+use icap_head::is_still_front;
 use std::alloc::Global;
 use std::io::{self, ErrorKind, Read, Write};
 use streams::{ERRORS, STREAMS};
@@ -56,7 +56,11 @@ fn dribbled_heads_are_read_once_a_line(rt: HostRuntime) {
         let text = head.as_bytes();
         for (at, byte) in text.iter().enumerate() {
             let front = &text[..at.min(text.len())];
-            assert_eq!(rt; is_still_front(front, &[*byte]), *byte != b'\n', "byte {at}");
+            assert_eq!(rt;
+                is_still_front(front, &[*byte]),
+                *byte != b'\n',
+                "byte {at}"
+            );
         }
     }
 }
