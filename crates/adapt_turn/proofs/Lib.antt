@@ -11,3 +11,4 @@ pub mod Giving
 pub mod Reasons
 pub mod Rows
 pub mod Refusals
+pub mod ByTurn

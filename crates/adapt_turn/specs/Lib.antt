@@ -4,3 +4,4 @@ pub mod Parts
 pub mod Refusals
 pub mod Rows
 pub mod Stands
+pub mod ByTurn

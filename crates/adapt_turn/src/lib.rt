@@ -12,4 +12,4 @@ pub use forward::Forward;
 pub use parts::Passed;
 pub use start::{Line, Parts, Start};
 pub use turned::{Outcome, Side, Turned};
-pub use tx::{Going, Refusing, Standing, Tx};
+pub use tx::{Answering, Going, Refusing, Standing, Tx};

@@ -12,6 +12,7 @@ ghost use Rattle.adapt_sides.specs.Turns.Gift.{nothing};
 ghost use Rattle.adapt_turn.specs.Parts.{outcome_of};
 ghost use Rattle.adapt_turn.specs.Stands.{Texts, no_texts};
 
+mod answers;
 mod counts;
 mod giving;
 mod passes;
@@ -24,6 +25,7 @@ use crate::start::{Line, Parts, Start};
 use crate::turned::Outcome;
 use adapt_hold::Hold;
 use adapt_sides::{Hop, Service, Source};
+pub use answers::Answering;
 use plan_rules::{Limits, Plan};
 use span_bank::{Ledgers, Stake};
 use std::alloc::Global;
@@ -191,7 +193,9 @@ impl<B: Ledgers, S: Source, V: Service, K: Hop, F: Forward<S, K>, A: Wire, W: Wi
             → IfSome start.service (λ line. V.has_sent (seen start.plan []) [] [] line.side × V.has_heard (seen start.plan []) [] [] line.side)
             → K.gift start.next ≡ nothing → K.aside [] start.next → K.gift start.back ≡ nothing → K.aside [] start.back
             → ⟦<Self as Standing>⟧.stands tx (record no_texts { source_read = read })) }
-        ensures back { IfErr result (λ back. back.stake ≡ start.stake) }
+        ensures fields { IfOk result (λ tx. (tx.source ≡ start.source) × (tx.source_wire ≡ start.source_wire) × (tx.service ≡ start.service) × (tx.next ≡ start.next) × (tx.next_wire ≡ start.next_wire)
+            × (tx.back ≡ start.back) × (tx.forward ≡ start.forward)) }
+        ensures back { IfErr result (λ back. back ≡ start) }
     {
         if !start.source.begins(&start.plan) {
             return Err(start);
@@ -232,8 +236,7 @@ impl<B: Ledgers, S: Source, V: Service, K: Hop, F: Forward<S, K>, A: Wire, W: Wi
 
     /// Whether the service's connection broke before a byte of a reply, and the request may begin anew on a fresh one.
     pub fn is_broken(&self) -> bool
-        ensures may { result ≡ true → MayFollow self.now.hold.history.plan self.now.hold.history.events Retry }
-        ensures told { result ≡ true → self.now.broken ≡ true }
+        ensures { result ≡ true ↔ (self.now.broken ≡ true) × MayFollow self.now.hold.history.plan self.now.hold.history.events Retry }
     {
         self.broken && self.hold.state().may(Event::Retry)
     }
@@ -264,6 +267,9 @@ impl<B: Ledgers, S: Source, V: Service, K: Hop, F: Forward<S, K>, A: Wire, W: Wi
         ensures outcome { IfOk result (λ parts. parts.outcome ≡ self.outcome) }
         ensures stake { IfOk result (λ parts. (parts.stake.held ≡ 0) × (parts.stake.pages ≡ 0)) }
         ensures seen { IfOk result (λ parts. parts.seen ≡ shows self.hold.history) }
+        ensures fields { IfOk result (λ parts. (parts.source ≡ self.source) × (parts.source_wire ≡ self.source_wire) × (parts.service ≡ self.service) × (parts.next ≡ self.next) × (parts.next_wire ≡ self.next_wire)
+            × (parts.back ≡ self.back) × (parts.forward ≡ self.forward)) }
+        ensures back { IfErr result (λ tx. tx ≡ self) }
     {
         if !self.is_closed() {
             return Err(self);

@@ -11,6 +11,7 @@ ghost use Rattle.adapt_turn.specs.Made.{MakesAt, MakesNoneAt, adapted_of, respon
 ghost use Rattle.adapt_turn.specs.Parts.{IsOfSide, hop_cause, outcome_by};
 ghost use Rattle.adapt_turn.specs.Rows.{may_step, Advances, BytesOr};
 ghost use Rattle.adapt_turn.specs.Stands.{IsChosen, Waited, Blamed};
+ghost use Rattle.adapt_turn.specs.ByTurn.{OfWriter};
 
 use crate::forward::Forward;
 use crate::parts::{Passed, give, outcome_by};
@@ -161,11 +162,11 @@ impl<B: Ledgers, S: Source, V: Service, K: Hop, F: Forward<S, K>, A: Wire, W: Wi
         ensures over { (cause : Cause) → result.failed ≡ Some cause → (shows self.new.hold.history).closed ≡ true }
         ensures whole { result.broken ≡ false }
         ensures idle { result.waiting ≡ true → result.failed ≡ None }
-        ensures waits { result.waiting ≡ true → (Waited (K.rests (shows self.old.hold.history) self.new.next) (λ past. past.write_waits) (C.past self.old.next_wire) (C.past self.new.next_wire)
-            ⊎ Waited (K.rests (shows self.old.hold.history) self.new.back) (λ past. past.write_waits) (A.past self.old.source_wire) (A.past self.new.source_wire)) }
+        ensures waits { result.waiting ≡ true → OfWriter (K.gift self.new.back) (Waited (K.rests (shows self.old.hold.history) self.new.next) (λ past. past.write_waits) (C.past self.old.next_wire) (C.past self.new.next_wire))
+            (Waited (K.rests (shows self.old.hold.history) self.new.back) (λ past. past.write_waits) (A.past self.old.source_wire) (A.past self.new.source_wire)) }
         ensures still { result.waiting ≡ true → self.new.hold ≡ self.old.hold }
-        ensures active { result.waiting ≡ false → BytesOr (Advances (may_step Side.NextHop) self.old.hold self.new.hold) (C.past self.old.next_wire) (C.past self.new.next_wire)
-            ⊎ BytesOr (Advances (may_step Side.NextHop) self.old.hold self.new.hold) (A.past self.old.source_wire) (A.past self.new.source_wire) }
+        ensures active { result.waiting ≡ false → OfWriter (K.gift self.new.back) (BytesOr (Advances (may_step Side.NextHop) self.old.hold self.new.hold) (C.past self.old.next_wire) (C.past self.new.next_wire))
+            (BytesOr (Advances (may_step Side.NextHop) self.old.hold self.new.hold) (A.past self.old.source_wire) (A.past self.new.source_wire)) }
         ensures blames { (cause : Cause) → result.failed ≡ Some cause → (Blamed Device hop_cause cause (K.fault self.old.next) (K.fault self.new.next) (C.past self.old.next_wire) (C.past self.new.next_wire)
             ⊎ Blamed Device hop_cause cause (K.fault self.old.back) (K.fault self.new.back) (A.past self.old.source_wire) (A.past self.new.source_wire)) }
         ensures of_side { (cause : Cause) → result.failed ≡ Some cause → IsOfSide cause }
@@ -205,11 +206,11 @@ impl<B: Ledgers, S: Source, V: Service, K: Hop, F: Forward<S, K>, A: Wire, W: Wi
         ensures over { (cause : Cause) → result.failed ≡ Some cause → (shows self.new.hold.history).closed ≡ true }
         ensures whole { result.broken ≡ false }
         ensures idle { result.waiting ≡ true → result.failed ≡ None }
-        ensures waits { result.waiting ≡ true → (IsChosen (shows self.old.hold.history) → ⊥) ⊎ (Waited (K.rests (shows self.old.hold.history) self.new.next) (λ past. past.write_waits) (C.past self.old.next_wire) (C.past self.new.next_wire)
-            ⊎ Waited (K.rests (shows self.old.hold.history) self.new.back) (λ past. past.write_waits) (A.past self.old.source_wire) (A.past self.new.source_wire)) }
+        ensures waits { result.waiting ≡ true → (IsChosen (shows self.old.hold.history) → ⊥) ⊎ OfWriter (K.gift self.new.back) (Waited (K.rests (shows self.old.hold.history) self.new.next) (λ past. past.write_waits) (C.past self.old.next_wire) (C.past self.new.next_wire))
+            (Waited (K.rests (shows self.old.hold.history) self.new.back) (λ past. past.write_waits) (A.past self.old.source_wire) (A.past self.new.source_wire)) }
         ensures still { result.waiting ≡ true → self.new.hold ≡ self.old.hold }
-        ensures active { result.waiting ≡ false → BytesOr (Advances (may_step Side.NextHop) self.old.hold self.new.hold) (C.past self.old.next_wire) (C.past self.new.next_wire)
-            ⊎ BytesOr (Advances (may_step Side.NextHop) self.old.hold self.new.hold) (A.past self.old.source_wire) (A.past self.new.source_wire) }
+        ensures active { result.waiting ≡ false → OfWriter (K.gift self.new.back) (BytesOr (Advances (may_step Side.NextHop) self.old.hold self.new.hold) (C.past self.old.next_wire) (C.past self.new.next_wire))
+            (BytesOr (Advances (may_step Side.NextHop) self.old.hold self.new.hold) (A.past self.old.source_wire) (A.past self.new.source_wire)) }
         ensures blames { (cause : Cause) → result.failed ≡ Some cause → ((K.gift self.old.next ≡ nothing) × (K.gift self.old.back ≡ nothing)
             × MakesNoneAt (F.makes_none self.old.forward (S.head self.old.source)) (adapted_of V.adapted_head self.old.service) (response_of V.is_response self.old.service) (shows self.old.hold.history) cause) ⊎ (Blamed Device hop_cause cause (K.fault self.old.next) (K.fault self.new.next) (C.past self.old.next_wire) (C.past self.new.next_wire)
             ⊎ Blamed Device hop_cause cause (K.fault self.old.back) (K.fault self.new.back) (A.past self.old.source_wire) (A.past self.new.source_wire)) }

@@ -45,6 +45,7 @@ fn refusal_turn<B: Ledgers, K: Hop, C: Wire>(
     ensures waits { result ≡ Some true → Waited (K.rests (shows hold.now.history) hop.new) (λ past. past.write_waits) (C.past wire.old) (C.past wire.new) }
     ensures moves { (shows hold.now.history).closed ≡ true → result ≡ Some false → BytesOr ⊥ (C.past wire.old) (C.past wire.new) }
     ensures over { result ≡ None → IsOver (K.is_out hop.new) (K.fault hop.new) }
+    ensures ends { IsOver (K.is_out hop.old) (K.fault hop.old) → result ≡ None }
     ensures takes { TakesAside (λ taken. K.aside taken hop.old) (λ taken. K.aside taken hop.new) (C.past wire.old) (C.past wire.new) }
 {
     if hop.is_out() {
@@ -198,6 +199,7 @@ impl<B: Ledgers, S: Source, V: Service, K: Hop, F: Forward<S, K>, A: Wire, W: Wi
         ensures waits { result ≡ Some true → ⟦<Self as Refusing>⟧.refusal_waits self.old self.new }
         ensures moves { result ≡ Some false → ⟦<Self as Refusing>⟧.refusal_moves self.old self.new }
         ensures over { result ≡ None → ⟦<Self as Refusing>⟧.refusal_is_over self.new }
+        ensures ends { ⟦<Self as Refusing>⟧.refusal_is_over self.old → result ≡ None }
         ensures refuses { (cause : Cause) → ⟦<Self as Refusing>⟧.refuses self.old cause → ⟦<Self as Refusing>⟧.refuses self.new cause }
         ensures refusing { self.new.refusing ≡ self.old.refusing }
         ensures timed { (self.new.last_moved ≡ self.old.last_moved) × (self.new.deadline ≡ self.old.deadline) }
@@ -218,6 +220,7 @@ impl<B: Ledgers, S: Source, V: Service, K: Hop, F: Forward<S, K>, A: Wire, W: Wi
         ensures waits { result ≡ Some true → ⟦<Self as Refusing>⟧.refusal_waits self.old self.new }
         ensures moves { result ≡ Some false → ⟦<Self as Refusing>⟧.refusal_moves self.old self.new }
         ensures over { result ≡ None → ⟦<Self as Refusing>⟧.refusal_is_over self.new }
+        ensures ends { ⟦<Self as Refusing>⟧.refusal_is_over self.old → result ≡ None }
         ensures refuses { (cause : Cause) → ⟦<Self as Refusing>⟧.refuses self.old cause → ⟦<Self as Refusing>⟧.refuses self.new cause }
         ensures refusing { self.new.refusing ≡ self.old.refusing }
         ensures timed { (self.new.last_moved ≡ self.old.last_moved) × (self.new.deadline ≡ self.old.deadline) }
@@ -237,6 +240,7 @@ impl<B: Ledgers, S: Source, V: Service, K: Hop, F: Forward<S, K>, A: Wire, W: Wi
         ensures waits { result ≡ Some true → ⟦<Self as Refusing>⟧.refusal_waits self.old self.new }
         ensures moves { result ≡ Some false → ⟦<Self as Refusing>⟧.refusal_moves self.old self.new }
         ensures over { result ≡ None → ⟦<Self as Refusing>⟧.refusal_is_over self.new }
+        ensures ends { ⟦<Self as Refusing>⟧.refusal_is_over self.old → result ≡ None }
         ensures refuses { (cause : Cause) → ⟦<Self as Refusing>⟧.refuses self.old cause → ⟦<Self as Refusing>⟧.refuses self.new cause }
         ensures refusing { self.new.refusing ≡ self.old.refusing }
         ensures timed { (self.new.last_moved ≡ self.old.last_moved) × (self.new.deadline ≡ self.old.deadline) }
@@ -265,9 +269,10 @@ impl<B: Ledgers, S: Source, V: Service, K: Hop, F: Forward<S, K>, A: Wire, W: Wi
         ensures idle { result ≡ Turned.Waiting → ⟦<Self as Going>⟧.moves self.old self.new 0 }
         ensures waits { result ≡ Turned.Waiting → ⟦<Self as Refusing>⟧.refusal_waits self.old self.new }
         ensures moves { result ≡ Turned.Moved 0 → ⟦<Self as Refusing>⟧.refusal_moves self.old self.new }
-        ensures is_over { (outcome : Outcome) → result ≡ Turned.Finished outcome → (self.new.refusing ≡ false) ⊎ ⟦<Self as Refusing>⟧.refusal_is_over self.new }
+        ensures is_over { (outcome : Outcome) → result ≡ Turned.Finished outcome → (self.old.refusing ≡ false) ⊎ ⟦<Self as Refusing>⟧.refusal_is_over self.new }
         ensures refuses { (cause : Cause) → ⟦<Self as Refusing>⟧.refuses self.old cause → ⟦<Self as Refusing>⟧.refuses self.new cause }
-        ensures finished { self.old.refusing ≡ false → result ≡ Turned.Finished self.old.outcome }
+        ensures due { self.new.refusing ≡ self.old.refusing }
+        ensures finished { (self.old.refusing ≡ false) ⊎ ⟦<Self as Refusing>⟧.refusal_is_over self.old → result ≡ Turned.Finished self.old.outcome }
     {
         if !self.refusing {
             return Turned::Finished(self.outcome);

@@ -30,7 +30,8 @@ impl<B: Ledgers, S: Source, V: Service, K: Hop, F: Forward<S, K>, A: Wire, W: Wi
 > {
     /// Begins the request anew on a fresh connection, and gives the broken one's wire back.
     pub fn retry(&mut self, rt: &impl Wait, bank: &Bank<B>, wire: W) -> W
-        requires { MayFollow self.old.hold.history.plan self.old.hold.history.events Retry }
+        requires broken { self.old.broken ≡ true }
+        requires may { MayFollow self.old.hold.history.plan self.old.hold.history.events Retry }
         ensures hold { self.new.hold ≡ moved self.old.hold Retry [] }
         ensures anew { (t : Texts) → ⟦<Self as Standing>⟧.stands self.old t → ⟦<Self as Standing>⟧.stands self.new (record t { service_read = []; service_taken = [] }) }
         ensures fresh { IfSome self.new.service (λ line. line.wire ≡ wire) }
@@ -54,7 +55,8 @@ impl<B: Ledgers, S: Source, V: Service, K: Hop, F: Forward<S, K>, A: Wire, W: Wi
 
     /// Fails the transaction by the service's fault, where no fresh connection can be had.
     pub fn no_retry(&mut self, rt: &impl Wait, bank: &Bank<B>)
-        requires { MayFollow self.old.hold.history.plan self.old.hold.history.events Retry }
+        requires broken { self.old.broken ≡ true }
+        requires may { MayFollow self.old.hold.history.plan self.old.hold.history.events Retry }
         ensures goes { ⟦<Self as Going>⟧.goes self.old self.new }
         ensures timed { (self.new.last_moved ≡ self.old.last_moved) × (self.new.deadline ≡ self.old.deadline) }
         ensures hold { self.new.hold ≡ moved self.old.hold (Fail Service) [] }

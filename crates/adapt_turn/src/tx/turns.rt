@@ -1,26 +1,20 @@
 //! Turns of a transaction.
 
-ghost use Rattle.std.specs.Prelude.{◌≡◌, ℕ, ◌+◌, ◌<◌, ◌≤◌, ◌⊎◌, Bool, true, false, List, [], Option, Some, None, MatchOption, ⊤, length};
-ghost use Rattle.trace_core.specs.declared.history.Event.TheVariants.{Fail, Retry};
+ghost use Rattle.std.specs.Prelude.{◌≡◌, ◌↔◌, ℕ, ◌+◌, ◌<◌, ◌≤◌, ◌⊎◌, Bool, true, false, List, [], Option, Some, None, length};
+ghost use Rattle.trace_core.specs.declared.history.Event.TheVariants.{Fail};
 ghost use Rattle.trace_core.specs.declared.history.Cause.{Cause};
 ghost use Rattle.trace_core.specs.declared.history.Cause.TheVariants.{Deadline, Stopping};
 ghost use Rattle.trace_core.specs.declared.history.Seen.{Seen};
-ghost use Rattle.trace_core.specs.Legal.{MayFollow};
-ghost use Rattle.plan_rules.specs.Room.{original_room, adapted_room};
-ghost use Rattle.wire_kit.specs.Past.{Past};
-ghost use Rattle.adapt_sides.specs.declared.fault.RelayFault.TheVariants.{Device};
-ghost use Rattle.adapt_sides.specs.Turns.{Gift};
-ghost use Rattle.adapt_sides.specs.Turns.Gift.{nothing};
 ghost use Rattle.adapt_hold.specs.Holding.{shows, moved};
 ghost use Rattle.adapt_turn.specs.Made.{MakesNoneAt, adapted_of, response_of};
-ghost use Rattle.adapt_turn.specs.Parts.{Breaks, FailsFor, source_cause, hop_cause, outcome_by, fault_of};
-ghost use Rattle.adapt_turn.specs.Rows.{may_step, Advances};
-ghost use Rattle.adapt_turn.specs.Stands.{IsChosen, IsDone, Waited, WaitedBoth, Blamed, BlamedService};
+ghost use Rattle.adapt_turn.specs.declared.turned.Turned.{Turned as TurnAnswer};
+ghost use Rattle.adapt_turn.specs.Parts.{outcome_by};
+ghost use Rattle.adapt_turn.specs.ByTurn.{Drives};
 
 use crate::forward::Forward;
 use crate::parts::Passed;
 use crate::turned::{Outcome, Side, Turned};
-use crate::tx::{Going, Refusing, Tx};
+use crate::tx::{Answering, Going, Refusing, Tx};
 use adapt_sides::{Hop, Service, Source};
 use span_bank::{Bank, Ledgers};
 use std::sync::Wait;
@@ -69,45 +63,20 @@ impl<B: Ledgers, S: Source, V: Service, K: Hop, F: Forward<S, K>, A: Wire, W: Wi
     /// with a later one, once a refusal that is due is out or its wire has failed.
     pub fn turn(&mut self, rt: &impl Wait, bank: &Bank<B>, side: Side, now: u64) -> Turned
         ensures goes { ⟦<Self as Going>⟧.goes self.old self.new }
+        ensures answers { ⟦<Self as Answering>⟧.answers self.old side self.new result }
         ensures deadline { (shows self.old.hold.history).closed ≡ false → self.old.last_moved + self.old.deadline ≤ now
             → (self.new.hold ≡ moved self.old.hold (Fail Deadline) []) × (result ≡ Turned.Moved 0) × (self.new.outcome ≡ Outcome.Fail Deadline) }
-        ensures closed { (shows self.old.hold.history).closed ≡ true → (self.new.hold ≡ self.old.hold) × (self.new.outcome ≡ self.old.outcome) }
-        ensures moved { (n : ℕ) → result ≡ Turned.Moved n → ⟦<Self as Going>⟧.moves self.old self.new n }
-        ensures idle { result ≡ Turned.Waiting → ⟦<Self as Going>⟧.moves self.old self.new 0 }
-        ensures held { result ≡ Turned.Waiting → self.new.hold ≡ self.old.hold }
-        ensures active { (shows self.old.hold.history).closed ≡ false → result ≡ Turned.Moved 0
-            → (p q r : Past) → A.past self.old.source_wire p → MatchOption self.old.service ⊤ (λ line. W.past line.wire q) → C.past self.old.next_wire r
-            → Advances (may_step side) self.old.hold self.new.hold }
+        ensures closed { (shows self.old.hold.history).closed ≡ true → (self.new.hold ≡ self.old.hold) × (self.new.outcome ≡ self.old.outcome) × (self.new.refusing ≡ self.old.refusing) }
+        ensures finishes { (shows self.old.hold.history).closed ≡ true → (self.old.refusing ≡ false) ⊎ ⟦<Self as Refusing>⟧.refusal_is_over self.old → result ≡ Turned.Finished self.old.outcome }
         ensures moment { (self.new.last_moved ≡ self.old.last_moved) ⊎ (self.new.last_moved ≡ now) }
         ensures clock { (n : ℕ) → result ≡ Turned.Moved n → (shows self.old.hold.history).closed ≡ false → (n ≡ 0 → self.new.last_moved ≡ self.old.last_moved) × (0 < n → self.new.last_moved ≡ now) }
         ensures still { result ≡ Turned.Waiting → self.new.last_moved ≡ self.old.last_moved }
         ensures refreshed { (self.new.last_moved ≡ self.old.last_moved) ⊎ ((n : ℕ) × (0 < n) × ⟦<Self as Going>⟧.moves self.old self.new n) }
         ensures limit { self.new.deadline ≡ self.old.deadline }
-        ensures broken { result ≡ Turned.Broken → (side ≡ Side.Service) × ((shows self.old.hold.history).closed ≡ false) × MayFollow self.new.hold.history.plan self.new.hold.history.events Retry
-            × ((self.old.broken ≡ true) ⊎ MatchOption self.new.service ⊥ (λ line. Breaks self.new.hold.history self.old.reused (V.fault line.side))) }
-        ensures marked { (self.new.broken ≡ true → (self.old.broken ≡ true) ⊎ (result ≡ Turned.Broken)) × (self.new.reused ≡ self.old.reused) }
-        ensures finished { (outcome : Outcome) → result ≡ Turned.Finished outcome → ((shows self.old.hold.history).closed ≡ true) × (outcome ≡ self.old.outcome) }
-        ensures done { result ≡ Turned.Finished Outcome.Done → IsDone self.new.hold.history }
+        ensures marked { (self.new.broken ≡ true ↔ (self.old.broken ≡ true) ⊎ (result ≡ Turned.Broken)) × (self.new.reused ≡ self.old.reused) }
         ensures refuses { (shows self.old.hold.history).closed ≡ false → (cause : Cause) → self.new.outcome ≡ Outcome.Fail cause → ⟦<Self as Refusing>⟧.refuses self.new cause }
         ensures refuses_on { (shows self.old.hold.history).closed ≡ true → (cause : Cause) → ⟦<Self as Refusing>⟧.refuses self.old cause → ⟦<Self as Refusing>⟧.refuses self.new cause }
-        ensures is_over { (outcome : Outcome) → result ≡ Turned.Finished outcome → (self.new.refusing ≡ false) ⊎ ⟦<Self as Refusing>⟧.refusal_is_over self.new }
-        ensures waits_closed { (shows self.old.hold.history).closed ≡ true → result ≡ Turned.Waiting → ⟦<Self as Refusing>⟧.refusal_waits self.old self.new }
-        ensures moves_closed { (shows self.old.hold.history).closed ≡ true → result ≡ Turned.Moved 0 → (p r : Past) → A.past self.old.source_wire p → C.past self.old.next_wire r → ⊥ }
-        ensures waits_source { side ≡ Side.Source → (shows self.old.hold.history).closed ≡ false → result ≡ Turned.Waiting → Waited (S.rests (original_room (shows self.old.hold.history) self.old.hold.claim self.old.hold.limits.window) self.new.source) (λ past. past.read_waits) (A.past self.old.source_wire) (A.past self.new.source_wire) }
-        ensures waits_service { side ≡ Side.Service → (shows self.old.hold.history).closed ≡ false → result ≡ Turned.Waiting → WaitedBoth (MatchOption self.new.service ⊤ (λ line. V.rests_writing (shows self.old.hold.history) line.side)) (MatchOption self.new.service ⊤ (λ line. V.rests_reading (shows self.old.hold.history) (adapted_room (shows self.old.hold.history) self.old.hold.limits.window) line.side))
-            (λ p. MatchOption self.old.service ⊥ (λ line. W.past line.wire p)) (λ p. MatchOption self.new.service ⊥ (λ line. W.past line.wire p)) }
-        ensures waits_next { side ≡ Side.NextHop → (shows self.old.hold.history).closed ≡ false → result ≡ Turned.Waiting → (IsChosen (shows self.old.hold.history) → ⊥) ⊎ (Waited (K.rests (shows self.old.hold.history) self.new.next) (λ past. past.write_waits) (C.past self.old.next_wire) (C.past self.new.next_wire)
-            ⊎ Waited (K.rests (shows self.old.hold.history) self.new.back) (λ past. past.write_waits) (A.past self.old.source_wire) (A.past self.new.source_wire)) }
-        ensures fails_source { side ≡ Side.Source → (shows self.old.hold.history).closed ≡ false → (cause : Cause) → self.new.outcome ≡ Outcome.Fail cause
-            → ((cause ≡ Deadline) × (self.old.last_moved + self.old.deadline ≤ now)) ⊎ (S.agrees (shows self.old.hold.history) self.old.source → Blamed Device source_cause cause (S.fault self.old.source) (S.fault self.new.source) (A.past self.old.source_wire) (A.past self.new.source_wire)) }
-        ensures fails_service { side ≡ Side.Service → (shows self.old.hold.history).closed ≡ false → (cause : Cause) → self.new.outcome ≡ Outcome.Fail cause
-            → ((cause ≡ Deadline) × (self.old.last_moved + self.old.deadline ≤ now)) ⊎ BlamedService cause (fault_of (λ line. V.fault line.side) self.old.service) (fault_of (λ line. V.fault line.side) self.new.service) (λ p. MatchOption self.old.service ⊥ (λ line. W.past line.wire p)) (λ p. MatchOption self.new.service ⊥ (λ line. W.past line.wire p)) }
-        ensures unbroken { side ≡ Side.Service → (shows self.old.hold.history).closed ≡ false → (cause : Cause) → self.new.outcome ≡ Outcome.Fail cause
-            → ((cause ≡ Deadline) × (self.old.last_moved + self.old.deadline ≤ now)) ⊎ FailsFor cause self.old.reused (fault_of (λ line. V.fault line.side) self.new.service) self.new.hold }
-        ensures fails_next { side ≡ Side.NextHop → (shows self.old.hold.history).closed ≡ false → (cause : Cause) → self.new.outcome ≡ Outcome.Fail cause
-            → ((cause ≡ Deadline) × (self.old.last_moved + self.old.deadline ≤ now)) ⊎ (((K.gift self.old.next ≡ nothing) × (K.gift self.old.back ≡ nothing)
-            × MakesNoneAt (F.makes_none self.old.forward (S.head self.old.source)) (adapted_of V.adapted_head self.old.service) (response_of V.is_response self.old.service) (shows self.old.hold.history) cause) ⊎ (Blamed Device hop_cause cause (K.fault self.old.next) (K.fault self.new.next) (C.past self.old.next_wire) (C.past self.new.next_wire)
-            ⊎ Blamed Device hop_cause cause (K.fault self.old.back) (K.fault self.new.back) (A.past self.old.source_wire) (A.past self.new.source_wire))) }
+        ensures fails { (shows self.old.hold.history).closed ≡ false → (cause : Cause) → self.new.outcome ≡ Outcome.Fail cause → ⟦<Self as Answering>⟧.fails self.old side now self.new cause }
         ensures timely { (shows self.old.hold.history).closed ≡ false → self.new.outcome ≡ Outcome.Fail Deadline
             → (self.old.last_moved + self.old.deadline ≤ now) ⊎ ((side ≡ Side.NextHop) × MakesNoneAt (F.makes_none self.old.forward (S.head self.old.source)) (adapted_of V.adapted_head self.old.service) (response_of V.is_response self.old.service) (shows self.old.hold.history) Deadline) }
         ensures unstopped { (shows self.old.hold.history).closed ≡ false → self.new.outcome ≡ Outcome.Fail Stopping → (side ≡ Side.NextHop) × MakesNoneAt (F.makes_none self.old.forward (S.head self.old.source)) (adapted_of V.adapted_head self.old.service) (response_of V.is_response self.old.service) (shows self.old.hold.history) Stopping }
@@ -136,7 +105,7 @@ impl<B: Ledgers, S: Source, V: Service, K: Hop, F: Forward<S, K>, A: Wire, W: Wi
         ensures open { (outcome : Outcome) → result ≡ Turned.Finished outcome → ⊥ }
         ensures waiting { result ≡ Turned.Waiting → (passed.waiting ≡ true) × (moved ≡ 0) }
         ensures broken { result ≡ Turned.Broken → passed.broken ≡ true }
-        ensures marked { (self.new.broken ≡ true → (self.old.broken ≡ true) ⊎ (result ≡ Turned.Broken)) × (self.new.reused ≡ self.old.reused) }
+        ensures marked { (self.new.broken ≡ true ↔ (self.old.broken ≡ true) ⊎ (result ≡ Turned.Broken)) × (self.new.reused ≡ self.old.reused) }
         ensures hold { self.new.hold ≡ self.old.hold }
         ensures outcome { self.new.outcome ≡ self.old.outcome }
         ensures moved { (n : ℕ) → result ≡ Turned.Moved n → n ≡ moved }
@@ -160,11 +129,15 @@ impl<B: Ledgers, S: Source, V: Service, K: Hop, F: Forward<S, K>, A: Wire, W: Wi
     pub fn drive(&mut self, rt: &impl Wait, bank: &Bank<B>, schedule: &[Side])
         ensures goes { ⟦<Self as Going>⟧.goes self.old self.new }
         ensures timed { (self.new.last_moved ≡ self.old.last_moved) × (self.new.deadline ≡ self.old.deadline) }
-        ensures closed { (shows self.old.hold.history).closed ≡ true → (self.new.hold ≡ self.old.hold) × (self.new.outcome ≡ self.old.outcome) }
+        ensures turns { Drives (λ old side new. (turned : TurnAnswer) × ⟦<Self as Answering>⟧.answers old side new turned
+            × ((shows old.hold.history).closed ≡ false → (cause : Cause) → new.outcome ≡ Outcome.Fail cause → ⟦<Self as Answering>⟧.fails old side old.last_moved new cause)) self.old schedule.now self.new }
+        ensures closed { (shows self.old.hold.history).closed ≡ true → (self.new.hold ≡ self.old.hold) × (self.new.outcome ≡ self.old.outcome) × (self.new.refusing ≡ self.old.refusing) }
         ensures deadline { (shows self.old.hold.history).closed ≡ false → self.old.deadline ≡ 0 → 0 < length schedule.now
             → (self.new.hold ≡ moved self.old.hold (Fail Deadline) []) × (self.new.outcome ≡ Outcome.Fail Deadline) }
         ensures refuses { (shows self.old.hold.history).closed ≡ false → (cause : Cause) → self.new.outcome ≡ Outcome.Fail cause → ⟦<Self as Refusing>⟧.refuses self.new cause }
         ensures refuses_on { (shows self.old.hold.history).closed ≡ true → (cause : Cause) → ⟦<Self as Refusing>⟧.refuses self.old cause → ⟦<Self as Refusing>⟧.refuses self.new cause }
+        ensures unstopped { ((maker : F) (head : S.Head) (x : Seen) (adapted : Option (List ℕ)) (is_response : Bool) → F.makes_none maker head x adapted is_response Stopping → ⊥)
+            → (shows self.old.hold.history).closed ≡ false → self.new.outcome ≡ Outcome.Fail Stopping → ⊥ }
         ensures timely { ((maker : F) (head : S.Head) (x : Seen) (adapted : Option (List ℕ)) (is_response : Bool) → F.makes_none maker head x adapted is_response Deadline → ⊥)
             → (shows self.old.hold.history).closed ≡ false → self.new.outcome ≡ Outcome.Fail Deadline → self.old.deadline ≡ 0 }
     {
@@ -186,6 +159,7 @@ impl<B: Ledgers, S: Source, V: Service, K: Hop, F: Forward<S, K>, A: Wire, W: Wi
         ensures halted { (shows self.old.hold.history).closed ≡ false
             → (self.new.hold ≡ moved self.old.hold (Fail Stopping) []) × (self.new.outcome ≡ Outcome.Fail Stopping) }
         ensures refuses { (shows self.old.hold.history).closed ≡ false → ⟦<Self as Refusing>⟧.refuses self.new Stopping }
+        ensures still { (shows self.old.hold.history).closed ≡ true → self.new ≡ self.old }
         ensures over { (shows self.new.hold.history).closed ≡ true }
     {
         if !self.is_closed() {

@@ -10,6 +10,7 @@ use Rattle.std.proofs.Common.{arith}
 use Rattle.adapt_turn.specs.declared.turned.Side.TheVariants.{NextHop}
 use Rattle.adapt_turn.proofs.Reasons.{part_still}
 use Rattle.adapt_turn.proofs.Rows.{part_acts, of_hop}
+use Rattle.adapt_turn.proofs.ByTurn.{of_next, of_back}
 use Rattle.adapt_turn.proofs.tx.Tx.give_pass.Goals as goal
 
 pub returns-then-is_idle-clause-goes : goal.returns-then-is_idle-clause-goes
@@ -36,7 +37,7 @@ pub returns-then-is_idle-clause-idle : goal.returns-then-is_idle-clause-idle
 returns-then-is_idle-clause-idle g c = λ e. part_idle _ _ _ _ _ _ _ _ _ _ _ _ _ _ _ _ _ c.give-passed.ensures.part.part e
 
 pub returns-then-is_idle-clause-waits : goal.returns-then-is_idle-clause-waits
-returns-then-is_idle-clause-waits g c = λ e. inl (part_waits _ _ _ _ _ _ _ _ _ _ _ _ _ _ _ _ _ c.give-passed.ensures.part.part e)
+returns-then-is_idle-clause-waits g c = λ e. of_next _ _ _ (c.is_idle.ensures.idle c.if-is_idle.true) (part_waits _ _ _ _ _ _ _ _ _ _ _ _ _ _ _ _ _ c.give-passed.ensures.part.part e)
 
 pub returns-then-is_idle-clause-blames : goal.returns-then-is_idle-clause-blames
 returns-then-is_idle-clause-blames g c = λ cause e. inl (part_blames _ _ _ _ _ _ _ _ _ _ _ _ _ _ _ _ _ c.give-passed.ensures.part.part cause e)
@@ -45,7 +46,7 @@ pub returns-else-is_idle-clause-idle : goal.returns-else-is_idle-clause-idle
 returns-else-is_idle-clause-idle g c = λ e. part_idle _ _ _ _ _ _ _ _ _ _ _ _ _ _ _ _ _ c.give-passed-else-is_idle.ensures.part.part e
 
 pub returns-else-is_idle-clause-waits : goal.returns-else-is_idle-clause-waits
-returns-else-is_idle-clause-waits g c = λ e. inr (part_waits _ _ _ _ _ _ _ _ _ _ _ _ _ _ _ _ _ c.give-passed-else-is_idle.ensures.part.part e)
+returns-else-is_idle-clause-waits g c = λ e. of_back _ _ _ (λ n. c.is_idle.ensures.busy c.if-is_idle.false (sym c.give-passed-else-is_idle.ensures.gift ∙ n)) (part_waits _ _ _ _ _ _ _ _ _ _ _ _ _ _ _ _ _ c.give-passed-else-is_idle.ensures.part.part e)
 
 pub returns-else-is_idle-clause-blames : goal.returns-else-is_idle-clause-blames
 returns-else-is_idle-clause-blames g c = λ cause e. inr (part_blames _ _ _ _ _ _ _ _ _ _ _ _ _ _ _ _ _ c.give-passed-else-is_idle.ensures.part.part cause e)
@@ -63,7 +64,7 @@ pub returns-else-is_idle-clause-still : goal.returns-else-is_idle-clause-still
 returns-else-is_idle-clause-still g c = λ e. part_still _ _ _ _ _ _ _ _ _ _ _ _ _ _ _ _ _ c.give-passed-else-is_idle.ensures.part.part e
 
 pub returns-then-is_idle-clause-active : goal.returns-then-is_idle-clause-active
-returns-then-is_idle-clause-active g c = λ w. inl (part_acts NextHop _ _ _ _ _ _ _ _ _ _ _ _ _ _ _ _ _ of_hop (omega arith) c.state-state.ensures.tied c.give-passed.ensures.part.part w c.give-passed.ensures.whole)
+returns-then-is_idle-clause-active g c = λ w. of_next _ _ _ (c.is_idle.ensures.idle c.if-is_idle.true) (part_acts NextHop _ _ _ _ _ _ _ _ _ _ _ _ _ _ _ _ _ of_hop (omega arith) c.state-state.ensures.tied c.give-passed.ensures.part.part w c.give-passed.ensures.whole)
 
 pub returns-else-is_idle-clause-active : goal.returns-else-is_idle-clause-active
-returns-else-is_idle-clause-active g c = λ w. inr (part_acts NextHop _ _ _ _ _ _ _ _ _ _ _ _ _ _ _ _ _ of_hop (omega arith) c.state-state.ensures.tied c.give-passed-else-is_idle.ensures.part.part w c.give-passed-else-is_idle.ensures.whole)
+returns-else-is_idle-clause-active g c = λ w. of_back _ _ _ (λ n. c.is_idle.ensures.busy c.if-is_idle.false (sym c.give-passed-else-is_idle.ensures.gift ∙ n)) (part_acts NextHop _ _ _ _ _ _ _ _ _ _ _ _ _ _ _ _ _ of_hop (omega arith) c.state-state.ensures.tied c.give-passed-else-is_idle.ensures.part.part w c.give-passed-else-is_idle.ensures.whole)

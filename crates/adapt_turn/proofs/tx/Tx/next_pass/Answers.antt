@@ -1,10 +1,11 @@
 use Rattle.adapt_turn.proofs.Together.{goes_none, goes_then}
-use Rattle.std.proofs.Common.{inl, inr, ◌∙◌}
+use Rattle.std.proofs.Common.{inl, inr, refl, ◌∙◌}
 use Rattle.adapt_hold.specs.Holding.{shows}
 use Rattle.adapt_turn.proofs.Reasons.{waits_moved, blamed_from}
 use Rattle.adapt_turn.specs.declared.turned.Side.TheVariants.{NextHop}
 use Rattle.adapt_turn.specs.Rows.{may_step}
 use Rattle.adapt_turn.proofs.Rows.{acts_moved, acts_kept, fail_advances}
+use Rattle.adapt_turn.proofs.ByTurn.{of_either}
 use Rattle.adapt_turn.proofs.tx.Tx.next_pass.Goals as goal
 
 pub returns-then-not-is_chosen-clause-goes : goal.returns-then-not-is_chosen-clause-goes
@@ -20,10 +21,10 @@ pub returns-in-Some-clause-blames : goal.returns-in-Some-clause-blames
 returns-in-Some-clause-blames g c = λ cause e. inl (c.begin.ensures.none cause (c.in-Some.is ∙ e))
 
 pub returns-in-None-clause-waits : goal.returns-in-None-clause-waits
-returns-in-None-clause-waits g c = λ e. inr (elim (c.give_pass.ensures.waits e) [
-  | inl w ↦ inl (waits_moved c.args.self.now.hold c.begin.new.self.hold (λ h. g.K.Hop.rests (shows h.history) c.give_pass.new.self.next) g.C.Wire.past _ _ c.args.self.now.next_wire c.begin.new.self.next_wire (c.begin.ensures.begun c.in-None.is) c.begin.ensures.kept.1 w)
-  | inr w ↦ inr (waits_moved c.args.self.now.hold c.begin.new.self.hold (λ h. g.K.Hop.rests (shows h.history) c.give_pass.new.self.back) g.A.Wire.past _ _ c.args.self.now.source_wire c.begin.new.self.source_wire (c.begin.ensures.begun c.in-None.is) c.begin.ensures.kept.0 w)
-])
+returns-in-None-clause-waits g c = λ e. inr (of_either _ _ _ _ _ _ refl
+    (λ w. waits_moved c.args.self.now.hold c.begin.new.self.hold (λ h. g.K.Hop.rests (shows h.history) c.give_pass.new.self.next) g.C.Wire.past _ _ c.args.self.now.next_wire c.begin.new.self.next_wire (c.begin.ensures.begun c.in-None.is) c.begin.ensures.kept.1 w)
+    (λ w. waits_moved c.args.self.now.hold c.begin.new.self.hold (λ h. g.K.Hop.rests (shows h.history) c.give_pass.new.self.back) g.A.Wire.past _ _ c.args.self.now.source_wire c.begin.new.self.source_wire (c.begin.ensures.begun c.in-None.is) c.begin.ensures.kept.0 w)
+    (c.give_pass.ensures.waits e))
 
 pub returns-in-None-clause-blames : goal.returns-in-None-clause-blames
 returns-in-None-clause-blames g c = λ cause e. inr (elim (c.give_pass.ensures.blames cause e) [
@@ -35,10 +36,12 @@ pub returns-in-None-clause-still : goal.returns-in-None-clause-still
 returns-in-None-clause-still g c = λ e. c.give_pass.ensures.still e ∙ c.begin.ensures.begun c.in-None.is
 
 pub returns-in-Some-clause-active : goal.returns-in-Some-clause-active
-returns-in-Some-clause-active g c = λ w. inl (acts_kept _ g.C.Wire.past c.args.self.now.next_wire c.begin.new.self.next_wire c.begin.ensures.kept.1 (fail_advances NextHop c.args.self.now.hold c.begin.new.self.hold c.in-Some.cause c.requires.running (c.begin.ensures.failed c.in-Some.cause c.in-Some.is)))
+returns-in-Some-clause-active g c = λ w.
+    let step = fail_advances NextHop c.args.self.now.hold c.begin.new.self.hold c.in-Some.cause c.requires.running (c.begin.ensures.failed c.in-Some.cause c.in-Some.is) in
+    (λ k. acts_kept _ g.C.Wire.past c.args.self.now.next_wire c.begin.new.self.next_wire c.begin.ensures.kept.1 step, λ k. acts_kept _ g.A.Wire.past c.args.self.now.source_wire c.begin.new.self.source_wire c.begin.ensures.kept.0 step)
 
 pub returns-in-None-clause-active : goal.returns-in-None-clause-active
-returns-in-None-clause-active g c = λ w. elim (c.give_pass.ensures.active w) [
-  | inl v ↦ inl (acts_moved (may_step NextHop) c.args.self.now.hold c.begin.new.self.hold c.give_pass.new.self.hold g.C.Wire.past _ c.args.self.now.next_wire c.begin.new.self.next_wire (c.begin.ensures.begun c.in-None.is) c.begin.ensures.kept.1 v)
-  | inr v ↦ inr (acts_moved (may_step NextHop) c.args.self.now.hold c.begin.new.self.hold c.give_pass.new.self.hold g.A.Wire.past _ c.args.self.now.source_wire c.begin.new.self.source_wire (c.begin.ensures.begun c.in-None.is) c.begin.ensures.kept.0 v)
-]
+returns-in-None-clause-active g c = λ w. of_either _ _ _ _ _ _ refl
+    (λ v. acts_moved (may_step NextHop) c.args.self.now.hold c.begin.new.self.hold c.give_pass.new.self.hold g.C.Wire.past _ c.args.self.now.next_wire c.begin.new.self.next_wire (c.begin.ensures.begun c.in-None.is) c.begin.ensures.kept.1 v)
+    (λ v. acts_moved (may_step NextHop) c.args.self.now.hold c.begin.new.self.hold c.give_pass.new.self.hold g.A.Wire.past _ c.args.self.now.source_wire c.begin.new.self.source_wire (c.begin.ensures.begun c.in-None.is) c.begin.ensures.kept.0 v)
+    (c.give_pass.ensures.active w)

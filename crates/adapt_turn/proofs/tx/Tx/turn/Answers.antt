@@ -17,6 +17,9 @@ use Rattle.adapt_turn.specs.Stands.{user_gift}
 use Rattle.adapt_turn.specs.Refusals.{refusal_status, user_untouched, HasRefusal}
 use Rattle.adapt_turn.proofs.Refusals.{by_point}
 use Rattle.adapt_turn.proofs.Told.{failed_over}
+use Rattle.adapt_turn.proofs.ByTurn.{by_answer, for_side, of_either, of_one}
+use Rattle.adapt_turn.specs.declared.turned.Turned.TheVariants as answers
+use Rattle.std.proofs.Common.{Some, None}
 use Rattle.adapt_turn.proofs.tx.Tx.turn.Goals as goal
 
 pub returns-then-is_broken-clause-goes : goal.returns-then-is_broken-clause-goes
@@ -25,55 +28,12 @@ returns-then-is_broken-clause-goes g c = goes_none _ _ _ _
 pub returns-clause-goes : goal.returns-clause-goes
 returns-clause-goes g c = goes_then _ _ _ _ _ _ _ _ _ _ _ _ c.pass-passed.ensures.goes c.after_pass.ensures.goes
 
-pub returns-clause-waits_source : goal.returns-clause-waits_source
-returns-clause-waits_source g c = λ s o w. waits_kept (λ z. g.S.Source.rests (original_room (shows c.args.self.now.hold.history) c.args.self.now.hold.claim c.args.self.now.hold.limits.window) z) g.A.Wire.past _ _ c.pass-passed.new.self.source c.after_pass.new.self.source c.pass-passed.new.self.source_wire c.after_pass.new.self.source_wire c.after_pass.ensures.kept.0 c.after_pass.ensures.kept.1 (c.pass-passed.ensures.waits_source s (c.after_pass.ensures.waiting w).0)
-
-pub returns-clause-waits_service : goal.returns-clause-waits_service
-returns-clause-waits_service g c = λ s o w. both_kept (λ l. g.V.Service.rests_writing (shows c.args.self.now.hold.history) l.side) (λ l. g.V.Service.rests_reading (shows c.args.self.now.hold.history) (adapted_room (shows c.args.self.now.hold.history) c.args.self.now.hold.limits.window) l.side) (λ l p. g.W.Wire.past l.wire p) _ c.pass-passed.new.self.service c.after_pass.new.self.service c.after_pass.ensures.kept.2 (c.pass-passed.ensures.waits_service s (c.after_pass.ensures.waiting w).0)
-
-pub returns-clause-waits_next : goal.returns-clause-waits_next
-returns-clause-waits_next g c = λ s o w. elim (c.pass-passed.ensures.waits_next s (c.after_pass.ensures.waiting w).0) [
-  | inl u ↦ inl u
-  | inr (inl v) ↦ inr (inl (waits_kept (λ z. g.K.Hop.rests (shows c.args.self.now.hold.history) z) g.C.Wire.past _ _ c.pass-passed.new.self.next c.after_pass.new.self.next c.pass-passed.new.self.next_wire c.after_pass.new.self.next_wire (c.after_pass.ensures.same (c.pass-passed.ensures.idle (c.after_pass.ensures.waiting w).0)).0 c.after_pass.ensures.kept.3 v))
-  | inr (inr v) ↦ inr (inr (waits_kept (λ z. g.K.Hop.rests (shows c.args.self.now.hold.history) z) g.A.Wire.past _ _ c.pass-passed.new.self.back c.after_pass.new.self.back c.pass-passed.new.self.source_wire c.after_pass.new.self.source_wire (c.after_pass.ensures.same (c.pass-passed.ensures.idle (c.after_pass.ensures.waiting w).0)).1 c.after_pass.ensures.kept.1 v))
-]
-
-pub returns-clause-fails_source : goal.returns-clause-fails_source
-returns-clause-fails_source g c = λ s o cause e. inr (λ a. blamed_kept _ _ cause g.A.Wire.past _ _ (g.S.Source.fault c.pass-passed.new.self.source) (g.S.Source.fault c.after_pass.new.self.source) c.pass-passed.new.self.source_wire c.after_pass.new.self.source_wire (ap g.S.Source.fault c.after_pass.ensures.kept.0) c.after_pass.ensures.kept.1 (c.pass-passed.ensures.blames_source s cause (outcome_fails c.pass-passed.result.failed c.after_pass.new.self.outcome cause (c.after_pass.ensures.outcome ∙ c.pass-passed.ensures.outcome) e) a))
-
-pub returns-clause-fails_service : goal.returns-clause-fails_service
-returns-clause-fails_service g c = λ s o cause e. inr (line_blamed_kept (λ l. g.V.Service.fault l.side) (λ l p. g.W.Wire.past l.wire p) cause _ _ c.pass-passed.new.self.service c.after_pass.new.self.service c.after_pass.ensures.kept.2 (c.pass-passed.ensures.blames_service s cause (outcome_fails c.pass-passed.result.failed c.after_pass.new.self.outcome cause (c.after_pass.ensures.outcome ∙ c.pass-passed.ensures.outcome) e)))
-
-pub returns-clause-fails_next : goal.returns-clause-fails_next
-returns-clause-fails_next g c = λ s o cause e. inr (elim (c.pass-passed.ensures.blames_next s cause (outcome_fails c.pass-passed.result.failed c.after_pass.new.self.outcome cause (c.after_pass.ensures.outcome ∙ c.pass-passed.ensures.outcome) e)) [
-  | inl u ↦ inl u
-  | inr (inl v) ↦ inr (inl (blamed_kept _ _ cause g.C.Wire.past _ _ (g.K.Hop.fault c.pass-passed.new.self.next) (g.K.Hop.fault c.after_pass.new.self.next) c.pass-passed.new.self.next_wire c.after_pass.new.self.next_wire c.after_pass.ensures.kept.4 c.after_pass.ensures.kept.3 v))
-  | inr (inr v) ↦ inr (inr (blamed_kept _ _ cause g.A.Wire.past _ _ (g.K.Hop.fault c.pass-passed.new.self.back) (g.K.Hop.fault c.after_pass.new.self.back) c.pass-passed.new.self.source_wire c.after_pass.new.self.source_wire c.after_pass.ensures.kept.5 c.after_pass.ensures.kept.1 v))
-])
-
-pub returns-clause-moved : goal.returns-clause-moved
-returns-clause-moved g c = λ n e. moves_of g.A.Wire.past (λ l p. g.W.Wire.past l.wire p) g.C.Wire.past c.args.self.now.source_wire c.pass-passed.new.self.source_wire c.after_pass.new.self.source_wire
-    c.args.self.now.service c.pass-passed.new.self.service c.after_pass.new.self.service c.args.self.now.next_wire c.pass-passed.new.self.next_wire c.after_pass.new.self.next_wire _ _ _ _ _ _ n
-    c.counts-before.ensures.source c.counts.ensures.source c.counts-before.ensures.service c.counts.ensures.service c.counts-before.ensures.next c.counts.ensures.next
-    c.pass-passed.ensures.served c.after_pass.ensures.kept.1 c.after_pass.ensures.kept.2 c.after_pass.ensures.kept.3 (c.after_pass.ensures.moved n e ∙ c.since-moved.ensures)
-
-pub returns-clause-idle : goal.returns-clause-idle
-returns-clause-idle g c = λ w. moves_of g.A.Wire.past (λ l p. g.W.Wire.past l.wire p) g.C.Wire.past c.args.self.now.source_wire c.pass-passed.new.self.source_wire c.after_pass.new.self.source_wire
-    c.args.self.now.service c.pass-passed.new.self.service c.after_pass.new.self.service c.args.self.now.next_wire c.pass-passed.new.self.next_wire c.after_pass.new.self.next_wire _ _ _ _ _ _ 0
-    c.counts-before.ensures.source c.counts.ensures.source c.counts-before.ensures.service c.counts.ensures.service c.counts-before.ensures.next c.counts.ensures.next
-    c.pass-passed.ensures.served c.after_pass.ensures.kept.1 c.after_pass.ensures.kept.2 c.after_pass.ensures.kept.3 (sym (c.after_pass.ensures.waiting w).1 ∙ c.since-moved.ensures)
-
 pub returns-clause-refreshed : goal.returns-clause-refreshed
 returns-clause-refreshed g c = refreshed_by c.since-moved.result _ _ _ (λ z. c.after_pass.ensures.clock.0 z ∙ c.pass-passed.ensures.timed.0)
     (moves_of g.A.Wire.past (λ l p. g.W.Wire.past l.wire p) g.C.Wire.past c.args.self.now.source_wire c.pass-passed.new.self.source_wire c.after_pass.new.self.source_wire
     c.args.self.now.service c.pass-passed.new.self.service c.after_pass.new.self.service c.args.self.now.next_wire c.pass-passed.new.self.next_wire c.after_pass.new.self.next_wire _ _ _ _ _ _ c.since-moved.result
     c.counts-before.ensures.source c.counts.ensures.source c.counts-before.ensures.service c.counts.ensures.service c.counts-before.ensures.next c.counts.ensures.next
     c.pass-passed.ensures.served c.after_pass.ensures.kept.1 c.after_pass.ensures.kept.2 c.after_pass.ensures.kept.3 c.since-moved.ensures)
-
-pub returns-clause-broken : goal.returns-clause-broken
-returns-clause-broken g c = λ b. let w = c.pass-passed.ensures.breaks (c.after_pass.ensures.broken b) in
-    let k = breaks_kept (λ l. g.V.Service.fault l.side) c.args.self.now.reused c.pass-passed.new.self.hold c.after_pass.new.self.hold c.pass-passed.new.self.service c.after_pass.new.self.service c.after_pass.ensures.kept.2 c.after_pass.ensures.hold w.2 in
-    (w.0, sym c.is_closed.ensures ∙ c.if-is_closed.false, k.0, inr k.1)
 
 pub returns-clause-timely : goal.returns-clause-timely
 returns-clause-timely g c = λ o e. elim (c.pass-passed.ensures.of_side Deadline (outcome_fails c.pass-passed.result.failed c.after_pass.new.self.outcome Deadline (c.after_pass.ensures.outcome ∙ c.pass-passed.ensures.outcome) e)) [
@@ -93,37 +53,6 @@ returns-clause-moment g c = elim c.after_pass.ensures.moment [
   | inr e ↦ inr e
 ]
 
-pub returns-then-now-self-2-clause-moved : goal.returns-then-now-self-2-clause-moved
-returns-then-now-self-2-clause-moved g c = λ n e. moves_none g.A.Wire.past (λ l p. g.W.Wire.past l.wire p) g.C.Wire.past c.args.self.now.source_wire c.fail_by.new.self.source_wire
-    c.args.self.now.service c.fail_by.new.self.service c.args.self.now.next_wire c.fail_by.new.self.next_wire _ _ _ n
-    c.counts-before.ensures.source c.counts-before.ensures.service c.counts-before.ensures.next c.fail_by.ensures.kept.0 c.fail_by.ensures.kept.1 c.fail_by.ensures.kept.2 cc
-
-pub returns-then-is_closed-clause-done : goal.returns-then-is_closed-clause-done
-returns-then-is_closed-clause-done g c = λ e. done_told c.args.self.now.hold c.closed_turn.new.self.hold c.args.self.now.outcome c.args.self.now.told c.closed_turn.ensures.hold (sym c.is_closed.ensures ∙ c.if-is_closed.true) (c.closed_turn.ensures.outcome outcomes.Done e)
-
-pub returns-clause-held : goal.returns-clause-held
-returns-clause-held g c = λ w. c.after_pass.ensures.hold ∙ c.pass-passed.ensures.still (c.after_pass.ensures.waiting w).0
-
-pub returns-then-now-self-2-clause-active : goal.returns-then-now-self-2-clause-active
-returns-then-now-self-2-clause-active g c = λ o e p q r a b d. fail_advances c.args.side c.args.self.now.hold c.fail_by.new.self.hold Deadline o c.fail_by.ensures.hold
-
-pub returns-clause-active : goal.returns-clause-active
-returns-clause-active g c = λ o e p q r a b d.
-    let w = waiting_not c.pass-passed.result.waiting (c.after_pass.ensures.active 0 e).0 in
-    let k = none_over _ _ _ (moves_of g.A.Wire.past (λ l x. g.W.Wire.past l.wire x) g.C.Wire.past c.args.self.now.source_wire c.pass-passed.new.self.source_wire c.pass-passed.new.self.source_wire
-    c.args.self.now.service c.pass-passed.new.self.service c.pass-passed.new.self.service c.args.self.now.next_wire c.pass-passed.new.self.next_wire c.pass-passed.new.self.next_wire _ _ _ _ _ _ 0
-    c.counts-before.ensures.source c.counts.ensures.source c.counts-before.ensures.service c.counts.ensures.service c.counts-before.ensures.next c.counts.ensures.next
-    c.pass-passed.ensures.served refl refl refl (c.after_pass.ensures.moved 0 e ∙ c.since-moved.ensures)) in
-    subst (λ h. Advances (may_step c.args.side) c.args.self.now.hold h) (sym c.after_pass.ensures.hold)
-    (by_side c.args.side (λ side. Advances (may_step side) c.args.self.now.hold c.pass-passed.new.self.hold)
-    (λ s. let v = c.pass-passed.ensures.active_source s w p a in v.4 (k.0 p v.0 a v.1))
-    (λ s. some_line (λ l x. g.W.Wire.past l.wire x) c.args.self.now.service c.pass-passed.new.self.service _ q b k.1
-    (λ n. false≢true (sym w ∙ c.pass-passed.ensures.absent s n)) (c.pass-passed.ensures.active_service s w (c.after_pass.ensures.active 0 e).1))
-    (λ s. elim (c.pass-passed.ensures.active_next s w) [
-      | inl act ↦ (let v = act r d in v.4 (k.2 r v.0 d v.1))
-      | inr act ↦ (let v = act p a in v.4 (k.0 p v.0 a v.1))
-    ]))
-
 pub returns-clause-refuses : goal.returns-clause-refuses
 returns-clause-refuses g c = λ o cause e. c.after_pass.ensures.refuses cause (outcome_fails c.pass-passed.result.failed c.after_pass.new.self.outcome cause (c.after_pass.ensures.outcome ∙ c.pass-passed.ensures.outcome) e)
 
@@ -137,13 +66,97 @@ returns-then-now-self-2-clause-refuses g c = λ o cause e.
 pub returns-then-is_broken-clause-refuses : goal.returns-then-is_broken-clause-refuses
 returns-then-is_broken-clause-refuses g c = λ o cause e. absurd (false≢true (sym o ∙ failed_over c.args.self.now.hold.history c.args.self.now.outcome cause c.args.self.now.told e))
 
-pub returns-then-is_closed-clause-moves_closed : goal.returns-then-is_closed-clause-moves_closed
-returns-then-is_closed-clause-moves_closed g c = λ o e p r a b.
-    let k = none_over _ _ _ (c.closed_turn.ensures.moved 0 e) in
-    let m = c.closed_turn.ensures.moves e in
-    by_point c.args.self.now.hold.history.plan.point ⊥
-    (λ s. let v = m.0 s r b in v.4 (k.2 r v.0 b v.1))
-    (λ s. let v = m.1 s p a in v.4 (k.0 p v.0 a v.1))
+pub returns-clause-answers : goal.returns-clause-answers
+returns-clause-answers g c = by_answer c.after_pass.result _ _ _ _
+    (λ w. (
+      c.after_pass.ensures.hold ∙ c.pass-passed.ensures.still (c.after_pass.ensures.waiting w).0,
+      moves_of g.A.Wire.past (λ l p. g.W.Wire.past l.wire p) g.C.Wire.past c.args.self.now.source_wire c.pass-passed.new.self.source_wire c.after_pass.new.self.source_wire
+          c.args.self.now.service c.pass-passed.new.self.service c.after_pass.new.self.service c.args.self.now.next_wire c.pass-passed.new.self.next_wire c.after_pass.new.self.next_wire _ _ _ _ _ _ 0
+          c.counts-before.ensures.source c.counts.ensures.source c.counts-before.ensures.service c.counts.ensures.service c.counts-before.ensures.next c.counts.ensures.next
+          c.pass-passed.ensures.served c.after_pass.ensures.kept.1 c.after_pass.ensures.kept.2 c.after_pass.ensures.kept.3 (sym (c.after_pass.ensures.waiting w).1 ∙ c.since-moved.ensures),
+      λ k. absurd (false≢true (sym (sym c.is_closed.ensures ∙ c.if-is_closed.false) ∙ k)),
+      λ k. for_side c.args.side _ _ _
+          (λ s. waits_kept (λ z. g.S.Source.rests (original_room (shows c.args.self.now.hold.history) c.args.self.now.hold.claim c.args.self.now.hold.limits.window) z) g.A.Wire.past _ _ c.pass-passed.new.self.source c.after_pass.new.self.source c.pass-passed.new.self.source_wire c.after_pass.new.self.source_wire c.after_pass.ensures.kept.0 c.after_pass.ensures.kept.1 (c.pass-passed.ensures.waits_source s (c.after_pass.ensures.waiting w).0))
+          (λ s. both_kept (λ l. g.V.Service.rests_writing (shows c.args.self.now.hold.history) l.side) (λ l. g.V.Service.rests_reading (shows c.args.self.now.hold.history) (adapted_room (shows c.args.self.now.hold.history) c.args.self.now.hold.limits.window) l.side) (λ l p. g.W.Wire.past l.wire p) _ c.pass-passed.new.self.service c.after_pass.new.self.service c.after_pass.ensures.kept.2 (c.pass-passed.ensures.waits_service s (c.after_pass.ensures.waiting w).0))
+          (λ s. elim (c.pass-passed.ensures.waits_next s (c.after_pass.ensures.waiting w).0) [
+            | inl u ↦ inl u
+            | inr v ↦ inr (of_either _ _ _ _ _ _ (ap g.K.Hop.gift (c.after_pass.ensures.same (c.pass-passed.ensures.idle (c.after_pass.ensures.waiting w).0)).1)
+                (λ z. waits_kept (λ k. g.K.Hop.rests (shows c.args.self.now.hold.history) k) g.C.Wire.past _ _ c.pass-passed.new.self.next c.after_pass.new.self.next c.pass-passed.new.self.next_wire c.after_pass.new.self.next_wire (c.after_pass.ensures.same (c.pass-passed.ensures.idle (c.after_pass.ensures.waiting w).0)).0 c.after_pass.ensures.kept.3 z)
+                (λ z. waits_kept (λ k. g.K.Hop.rests (shows c.args.self.now.hold.history) k) g.A.Wire.past _ _ c.pass-passed.new.self.back c.after_pass.new.self.back c.pass-passed.new.self.source_wire c.after_pass.new.self.source_wire (c.after_pass.ensures.same (c.pass-passed.ensures.idle (c.after_pass.ensures.waiting w).0)).1 c.after_pass.ensures.kept.1 z)
+                v)
+          ]),
+    ))
+    (λ n m. (
+      moves_of g.A.Wire.past (λ l p. g.W.Wire.past l.wire p) g.C.Wire.past c.args.self.now.source_wire c.pass-passed.new.self.source_wire c.after_pass.new.self.source_wire
+          c.args.self.now.service c.pass-passed.new.self.service c.after_pass.new.self.service c.args.self.now.next_wire c.pass-passed.new.self.next_wire c.after_pass.new.self.next_wire _ _ _ _ _ _ n
+          c.counts-before.ensures.source c.counts.ensures.source c.counts-before.ensures.service c.counts.ensures.service c.counts-before.ensures.next c.counts.ensures.next
+          c.pass-passed.ensures.served c.after_pass.ensures.kept.1 c.after_pass.ensures.kept.2 c.after_pass.ensures.kept.3 (c.after_pass.ensures.moved n m ∙ c.since-moved.ensures),
+      λ z p q r a b d.
+          let o = (sym c.is_closed.ensures ∙ c.if-is_closed.false) in
+          let e = m ∙ ap answers.Moved z in (
+            o,
+            let w = waiting_not c.pass-passed.result.waiting (c.after_pass.ensures.active 0 e).0 in
+                let k = none_over _ _ _ (moves_of g.A.Wire.past (λ l x. g.W.Wire.past l.wire x) g.C.Wire.past c.args.self.now.source_wire c.pass-passed.new.self.source_wire c.pass-passed.new.self.source_wire
+                c.args.self.now.service c.pass-passed.new.self.service c.pass-passed.new.self.service c.args.self.now.next_wire c.pass-passed.new.self.next_wire c.pass-passed.new.self.next_wire _ _ _ _ _ _ 0
+                c.counts-before.ensures.source c.counts.ensures.source c.counts-before.ensures.service c.counts.ensures.service c.counts-before.ensures.next c.counts.ensures.next
+                c.pass-passed.ensures.served refl refl refl (c.after_pass.ensures.moved 0 e ∙ c.since-moved.ensures)) in
+                subst (λ h. Advances (may_step c.args.side) c.args.self.now.hold h) (sym c.after_pass.ensures.hold)
+                (by_side c.args.side (λ side. Advances (may_step side) c.args.self.now.hold c.pass-passed.new.self.hold)
+                (λ s. let v = c.pass-passed.ensures.active_source s w p a in v.4 (k.0 p v.0 a v.1))
+                (λ s. some_line (λ l x. g.W.Wire.past l.wire x) c.args.self.now.service c.pass-passed.new.self.service _ q b k.1
+                (λ n. false≢true (sym w ∙ c.pass-passed.ensures.absent s n)) (c.pass-passed.ensures.active_service s w (c.after_pass.ensures.active 0 e).1))
+                (λ s. of_one _ _ _ _ (λ act. let v = act r d in v.4 (k.2 r v.0 d v.1)) (λ act. let v = act p a in v.4 (k.0 p v.0 a v.1)) (c.pass-passed.ensures.active_next s w))),
+          ),
+    ))
+    (λ b. let w = c.pass-passed.ensures.breaks (c.after_pass.ensures.broken b) in
+    let k = breaks_kept (λ l. g.V.Service.fault l.side) c.args.self.now.reused c.pass-passed.new.self.hold c.after_pass.new.self.hold c.pass-passed.new.self.service c.after_pass.new.self.service c.after_pass.ensures.kept.2 c.after_pass.ensures.hold w.2 in
+    (w.0, sym c.is_closed.ensures ∙ c.if-is_closed.false, k.0, inr k.1))
+    (λ outcome e. absurd (c.after_pass.ensures.open outcome e))
 
-pub returns-clause-unbroken : goal.returns-clause-unbroken
-returns-clause-unbroken g c = λ s o cause e. inr (fails_kept (λ l. g.V.Service.fault l.side) cause c.args.self.now.reused c.pass-passed.new.self.hold c.after_pass.new.self.hold c.pass-passed.new.self.service c.after_pass.new.self.service c.after_pass.ensures.hold c.after_pass.ensures.kept.2 (c.pass-passed.ensures.unbroken s cause (outcome_fails c.pass-passed.result.failed c.after_pass.new.self.outcome cause (c.after_pass.ensures.outcome ∙ c.pass-passed.ensures.outcome) e)))
+pub returns-then-is_closed-clause-answers : goal.returns-then-is_closed-clause-answers
+returns-then-is_closed-clause-answers g c = by_answer c.closed_turn.result _ _ _ _
+    (λ w. (c.closed_turn.ensures.hold, c.closed_turn.ensures.idle w, λ k. c.closed_turn.ensures.waits w, λ k. absurd (false≢true (sym k ∙ (sym c.is_closed.ensures ∙ c.if-is_closed.true)))))
+    (λ n m. (
+      c.closed_turn.ensures.moved n m,
+      λ z p q r a b d.
+          let e = m ∙ ap answers.Moved z in
+          absurd (let k = none_over _ _ _ (c.closed_turn.ensures.moved 0 e) in
+          let m = c.closed_turn.ensures.moves e in
+          by_point c.args.self.now.hold.history.plan.point ⊥
+          (λ s. let v = m.0 s r d in v.4 (k.2 r v.0 d v.1))
+          (λ s. let v = m.1 s p a in v.4 (k.0 p v.0 a v.1))),
+    ))
+    (λ b. absurd (c.closed_turn.ensures.whole b))
+    (λ outcome e. (
+      (sym c.is_closed.ensures ∙ c.if-is_closed.true),
+      c.closed_turn.ensures.outcome outcome e,
+      c.closed_turn.ensures.is_over outcome e,
+      λ d. done_told c.args.self.now.hold c.closed_turn.new.self.hold c.args.self.now.outcome c.args.self.now.told c.closed_turn.ensures.hold (sym c.is_closed.ensures ∙ c.if-is_closed.true) (sym d ∙ c.closed_turn.ensures.outcome outcome e),
+    ))
+
+pub returns-then-now-self-2-clause-answers : goal.returns-then-now-self-2-clause-answers
+returns-then-now-self-2-clause-answers g c = (
+  moves_none g.A.Wire.past (λ l p. g.W.Wire.past l.wire p) g.C.Wire.past c.args.self.now.source_wire c.fail_by.new.self.source_wire
+      c.args.self.now.service c.fail_by.new.self.service c.args.self.now.next_wire c.fail_by.new.self.next_wire _ _ _ 0
+      c.counts-before.ensures.source c.counts-before.ensures.service c.counts-before.ensures.next c.fail_by.ensures.kept.0 c.fail_by.ensures.kept.1 c.fail_by.ensures.kept.2 refl,
+  λ z p q r a b d. ((sym c.is_closed.ensures ∙ c.if-is_closed.false), fail_advances c.args.side c.args.self.now.hold c.fail_by.new.self.hold Deadline (sym c.is_closed.ensures ∙ c.if-is_closed.false) c.fail_by.ensures.hold),
+)
+
+pub returns-clause-fails : goal.returns-clause-fails
+returns-clause-fails g c = λ o cause e.
+    let f = outcome_fails c.pass-passed.result.failed c.after_pass.new.self.outcome cause (c.after_pass.ensures.outcome ∙ c.pass-passed.ensures.outcome) e in
+    inr (for_side c.args.side _ _ _
+    (λ s a. blamed_kept _ _ cause g.A.Wire.past _ _ (g.S.Source.fault c.pass-passed.new.self.source) (g.S.Source.fault c.after_pass.new.self.source) c.pass-passed.new.self.source_wire c.after_pass.new.self.source_wire (ap g.S.Source.fault c.after_pass.ensures.kept.0) c.after_pass.ensures.kept.1 (c.pass-passed.ensures.blames_source s cause f a))
+    (λ s. (
+      λ n. (let d : None ≡ Some cause = sym (c.pass-passed.ensures.idle (c.pass-passed.ensures.absent s n)) ∙ f in absurd cc),
+      line_blamed_kept (λ l. g.V.Service.fault l.side) (λ l p. g.W.Wire.past l.wire p) cause _ _ c.pass-passed.new.self.service c.after_pass.new.self.service c.after_pass.ensures.kept.2 (c.pass-passed.ensures.blames_service s cause f),
+      fails_kept (λ l. g.V.Service.fault l.side) cause c.args.self.now.reused c.pass-passed.new.self.hold c.after_pass.new.self.hold c.pass-passed.new.self.service c.after_pass.new.self.service c.after_pass.ensures.hold c.after_pass.ensures.kept.2 (c.pass-passed.ensures.unbroken s cause f),
+    ))
+    (λ s. elim (c.pass-passed.ensures.blames_next s cause f) [
+      | inl u ↦ inl u
+      | inr (inl v) ↦ inr (inl (blamed_kept _ _ cause g.C.Wire.past _ _ (g.K.Hop.fault c.pass-passed.new.self.next) (g.K.Hop.fault c.after_pass.new.self.next) c.pass-passed.new.self.next_wire c.after_pass.new.self.next_wire c.after_pass.ensures.kept.4 c.after_pass.ensures.kept.3 v))
+      | inr (inr v) ↦ inr (inr (blamed_kept _ _ cause g.A.Wire.past _ _ (g.K.Hop.fault c.pass-passed.new.self.back) (g.K.Hop.fault c.after_pass.new.self.back) c.pass-passed.new.self.source_wire c.after_pass.new.self.source_wire c.after_pass.ensures.kept.5 c.after_pass.ensures.kept.1 v))
+    ]))
+
+pub returns-then-is_broken-clause-fails : goal.returns-then-is_broken-clause-fails
+returns-then-is_broken-clause-fails g c = λ o cause e. absurd (false≢true (sym o ∙ failed_over c.args.self.now.hold.history c.args.self.now.outcome cause c.args.self.now.told e))

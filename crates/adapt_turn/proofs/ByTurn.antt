@@ -1,0 +1,55 @@
+-- What is so for each answer, for each side and of the writer that has the message.
+use Rattle.std.proofs.Common.{◌≡◌, ℕ, ◌-◌, ◌<◌, ◌≤◌, List, [], ◌∷◌, length, take, drop, get_or, arith, refl, ◌∙◌, sym, ap, subst}
+use Rattle.std.proofs.Math.Seq.{take-length}
+use Rattle.adapt_sides.specs.Turns.{Gift}
+use Rattle.adapt_sides.specs.Turns.Gift.{nothing, message, refusal}
+use Rattle.adapt_turn.specs.declared.turned.Side.{Side}
+use Rattle.adapt_turn.specs.declared.turned.Side.TheVariants.{Source, Service, NextHop}
+use Rattle.adapt_turn.specs.declared.turned.Outcome.{Outcome}
+use Rattle.adapt_turn.specs.declared.turned.Turned.{Turned}
+use Rattle.adapt_turn.specs.declared.turned.Turned.TheVariants as answers
+use Rattle.adapt_turn.specs.ByTurn.{BySide, OfWriter, ByAnswer, Drives}
+
+pub by_answer : (turned : Turned) (waiting : Type 0) (moved : ℕ → Type 0) (broken : Type 0) (finished : Outcome → Type 0)
+    → (turned ≡ answers.Waiting → waiting) → ((n : ℕ) → turned ≡ answers.Moved n → moved n) → (turned ≡ answers.Broken → broken) → ((outcome : Outcome) → turned ≡ answers.Finished outcome → finished outcome)
+    → ByAnswer turned waiting moved broken finished
+by_answer answers.Waiting waiting moved broken finished w m b f = w refl
+by_answer (answers.Moved n) waiting moved broken finished w m b f = m n refl
+by_answer answers.Broken waiting moved broken finished w m b f = b refl
+by_answer (answers.Finished outcome) waiting moved broken finished w m b f = f outcome refl
+
+pub for_side : (side : Side) (source service next : Type 0) → (side ≡ Source → source) → (side ≡ Service → service) → (side ≡ NextHop → next) → BySide side source service next
+for_side Source source service next a b c = a refl
+for_side Service source service next a b c = b refl
+for_side NextHop source service next a b c = c refl
+
+-- nothing is begun back to the user
+pub of_next : (gift : Gift) (next back : Type 0) → gift ≡ nothing → next → OfWriter gift next back
+of_next gift next back idle n = (λ e. n, λ busy. absurd (busy idle))
+
+pub of_back : (gift : Gift) (next back : Type 0) → (gift ≡ nothing → ⊥) → back → OfWriter gift next back
+of_back gift next back busy b = (λ e. absurd (busy e), λ k. b)
+
+-- the same of what follows of both
+pub of_either : (gift gift' : Gift) (next back next' back' : Type 0) → gift' ≡ gift → (next → next') → (back → back') → OfWriter gift next back → OfWriter gift' next' back'
+of_either gift gift' next back next' back' same n b w = (λ e. n (w.0 (sym same ∙ e)), λ k. b (w.1 (λ e. k (same ∙ e))))
+
+-- what follows of either follows
+pub of_one : (gift : Gift) (next back this : Type 0) → (next → this) → (back → this) → OfWriter gift next back → this
+of_one nothing next back this n b w = n (w.0 refl)
+of_one message next back this n b w = b (w.1 (λ e. let d : message ≡ nothing = e in absurd cc))
+of_one (refusal status) next back this n b w = b (w.1 (λ e. let d : refusal status ≡ nothing = e in absurd cc))
+
+-- Turns in a row.
+
+pub drives_none : {T : Type 0} (turns : T → Side → T → Type 0) (old : T) (sides : List Side) → length sides < 1 → Drives turns old sides old
+drives_none turns old [] l = refl
+drives_none turns old (side ∷ sides) l = absurd (omega (arith, l))
+
+tail_is : (side : Side) (sides : List Side) → take (length (side ∷ sides) - 1) (drop 1 (side ∷ sides)) ≡ sides
+tail_is side sides = let n : length (side ∷ sides) - 1 ≡ length sides = omega arith in ap (λ (k : ℕ). take k sides) n ∙ take-length sides
+
+pub drives_more : {T : Type 0} (turns : T → Side → T → Type 0) (old mid new : T) (sides : List Side) (none : Side) → 1 ≤ length sides → turns old (get_or sides 0 none) mid
+    → Drives turns mid (take (length sides - 1) (drop 1 sides)) new → Drives turns old sides new
+drives_more turns old mid new [] none l first others = absurd (omega (arith, l))
+drives_more turns old mid new (side ∷ sides) none l first others = (mid, first, subst (λ (ks : List Side). Drives turns mid ks new) (tail_is side sides) others)

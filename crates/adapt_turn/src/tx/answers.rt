@@ -1,0 +1,78 @@
+//! What a turn answers, and why a transaction fails in it.
+
+ghost use Rattle.std.specs.Prelude.{◌≡◌, ℕ, ◌+◌, ◌<◌, ◌≤◌, ◌⊎◌, true, false, None, MatchOption, ⊤};
+ghost use Rattle.trace_core.specs.declared.history.Event.TheVariants.{Retry};
+ghost use Rattle.trace_core.specs.declared.history.Cause.{Cause};
+ghost use Rattle.trace_core.specs.declared.history.Cause.TheVariants.{Deadline};
+ghost use Rattle.trace_core.specs.Legal.{MayFollow};
+ghost use Rattle.plan_rules.specs.Room.{original_room, adapted_room};
+ghost use Rattle.wire_kit.specs.Past.{Past};
+ghost use Rattle.adapt_sides.specs.declared.fault.RelayFault.TheVariants.{Device};
+ghost use Rattle.adapt_sides.specs.Turns.{Gift};
+ghost use Rattle.adapt_sides.specs.Turns.Gift.{nothing};
+ghost use Rattle.adapt_hold.specs.Holding.{shows};
+ghost use Rattle.adapt_turn.specs.declared.turned.Side.{Side};
+ghost use Rattle.adapt_turn.specs.declared.turned.Side.TheVariants as sides;
+ghost use Rattle.adapt_turn.specs.declared.turned.Turned.{Turned};
+ghost use Rattle.adapt_turn.specs.declared.turned.Outcome.TheVariants as outcomes;
+ghost use Rattle.adapt_turn.specs.Made.{MakesNoneAt, adapted_of, response_of};
+ghost use Rattle.adapt_turn.specs.Parts.{Breaks, FailsFor, source_cause, hop_cause, fault_of};
+ghost use Rattle.adapt_turn.specs.Rows.{may_step, Advances};
+ghost use Rattle.adapt_turn.specs.Stands.{IsChosen, IsDone, Waited, WaitedBoth, Blamed, BlamedService};
+ghost use Rattle.adapt_turn.specs.ByTurn.{BySide, OfWriter, ByAnswer};
+
+use crate::forward::Forward;
+use crate::tx::{Going, Refusing, Tx};
+use adapt_sides::{Hop, Service, Source};
+use span_bank::Ledgers;
+use wire_kit::Wire;
+
+/// What a turn of a side answers, and why a transaction fails in it.
+pub trait Answering {
+    // Waiting: no byte moved and nothing was stepped, and each wire that the turn may use answered Wait, or nothing was due on it.
+    // Moved: so many bytes moved; where none did, an event of the side was stepped. Broken: the service's connection broke, and the
+    // request may begin anew. Finished: so it had ended before, and a refusal that was due is out, or its wire has failed.
+    ghost answers: { Self → Side → Self → Turned → Type 0 };
+
+    // at this moment the deadline has passed, or the cause is that of the side's fault
+    ghost fails: { Self → Side → ℕ → Self → Cause → Type 0 };
+}
+
+impl<
+    B: Ledgers,
+    S: Source,
+    V: Service,
+    K: Hop,
+    F: Forward<S, K>,
+    A: Wire,
+    W: Wire,
+    C: Wire,
+> Answering for Tx<B, S, V, K, F, A, W, C> {
+    ghost answers = { λ old side new turned. ByAnswer turned
+        ((new.hold ≡ old.hold) × ⟦<Tx<B, S, V, K, F, A, W, C> as Going>⟧.moves old new 0
+        × ((shows old.hold.history).closed ≡ true → ⟦<Tx<B, S, V, K, F, A, W, C> as Refusing>⟧.refusal_waits old new)
+        × ((shows old.hold.history).closed ≡ false → BySide side
+        (Waited (S.rests (original_room (shows old.hold.history) old.hold.claim old.hold.limits.window) new.source) (λ past. past.read_waits) (A.past old.source_wire) (A.past new.source_wire))
+        (WaitedBoth (MatchOption new.service ⊤ (λ line. V.rests_writing (shows old.hold.history) line.side)) (MatchOption new.service ⊤ (λ line. V.rests_reading (shows old.hold.history) (adapted_room (shows old.hold.history) old.hold.limits.window) line.side))
+        (λ p. MatchOption old.service ⊥ (λ line. W.past line.wire p)) (λ p. MatchOption new.service ⊥ (λ line. W.past line.wire p)))
+        ((IsChosen (shows old.hold.history) → ⊥) ⊎ OfWriter (K.gift new.back)
+        (Waited (K.rests (shows old.hold.history) new.next) (λ past. past.write_waits) (C.past old.next_wire) (C.past new.next_wire))
+        (Waited (K.rests (shows old.hold.history) new.back) (λ past. past.write_waits) (A.past old.source_wire) (A.past new.source_wire)))))
+        (λ n. ⟦<Tx<B, S, V, K, F, A, W, C> as Going>⟧.moves old new n
+        × (n ≡ 0 → (p q r : Past) → A.past old.source_wire p → MatchOption old.service ⊤ (λ line. W.past line.wire q) → C.past old.next_wire r
+        → ((shows old.hold.history).closed ≡ false) × Advances (may_step side) old.hold new.hold))
+        ((side ≡ sides.Service) × ((shows old.hold.history).closed ≡ false) × MayFollow new.hold.history.plan new.hold.history.events Retry
+        × ((old.broken ≡ true) ⊎ MatchOption new.service ⊥ (λ line. Breaks new.hold.history old.reused (V.fault line.side))))
+        (λ outcome. ((shows old.hold.history).closed ≡ true) × (outcome ≡ old.outcome) × ((old.refusing ≡ false) ⊎ ⟦<Tx<B, S, V, K, F, A, W, C> as Refusing>⟧.refusal_is_over new)
+        × (outcome ≡ outcomes.Done → IsDone new.hold.history)) };
+
+    ghost fails = { λ old side now new cause. ((cause ≡ Deadline) × (old.last_moved + old.deadline ≤ now)) ⊎ BySide side
+        (S.agrees (shows old.hold.history) old.source → Blamed Device source_cause cause (S.fault old.source) (S.fault new.source) (A.past old.source_wire) (A.past new.source_wire))
+        ((old.service ≡ None → ⊥) × BlamedService cause (fault_of (λ line. V.fault line.side) old.service) (fault_of (λ line. V.fault line.side) new.service)
+        (λ p. MatchOption old.service ⊥ (λ line. W.past line.wire p)) (λ p. MatchOption new.service ⊥ (λ line. W.past line.wire p))
+        × FailsFor cause old.reused (fault_of (λ line. V.fault line.side) new.service) new.hold)
+        (((K.gift old.next ≡ nothing) × (K.gift old.back ≡ nothing)
+        × MakesNoneAt (F.makes_none old.forward (S.head old.source)) (adapted_of V.adapted_head old.service) (response_of V.is_response old.service) (shows old.hold.history) cause)
+        ⊎ (Blamed Device hop_cause cause (K.fault old.next) (K.fault new.next) (C.past old.next_wire) (C.past new.next_wire)
+        ⊎ Blamed Device hop_cause cause (K.fault old.back) (K.fault new.back) (A.past old.source_wire) (A.past new.source_wire))) };
+}
