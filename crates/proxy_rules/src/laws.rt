@@ -1,7 +1,9 @@
 //! What holds of every head that goes on: each law is the contract of a function that does nothing.
 
-ghost use Rattle.std.specs.Prelude.{◌≡◌, true, false, codes};
-ghost use Rattle.adapt_hold.specs.Holding.{IsTied};
+ghost use Rattle.std.specs.Prelude.{◌≡◌, ◌↔◌, ℕ, true, false, codes};
+ghost use Rattle.trace_core.specs.declared.tape.Tape.TheVariants.{Original, Adapted};
+ghost use Rattle.trace_core.specs.Held.{IsIn, IsNeeded};
+ghost use Rattle.adapt_hold.specs.Holding.{IsTied, interval};
 ghost use Rattle.adapt_turn.specs.Stands.{Texts};
 ghost use Rattle.http_side.specs.declared.forward.Forward.{Forward as Sent};
 ghost use Rattle.http_side.specs.Forward.{is_response, is_named_by, closes};
@@ -30,6 +32,17 @@ pub fn the_wires_take_one_message<B: Ledgers, A: Wire, W: Wire, C: Wire>(
 )
     ensures tied { IsTied tx.now.hold }
     ensures took { (t : Texts) → ⟦<Tx<B, SourceSide, ServiceSide, NextHop, HeadMaker, A, W, C> as Standing>⟧.stands tx.now t → WiresTook tx.now.hold t }
+{
+    let _ = tx.seen();
+}
+
+/// Of a transaction, wherever it stands, each byte that is held is one that some legal continuation still sends, and each byte that a
+/// continuation sends is held, or comes within it.
+pub fn each_held_byte_is_needed<B: Ledgers, A: Wire, W: Wire, C: Wire>(
+    tx: &Tx<B, SourceSide, ServiceSide, NextHop, HeadMaker, A, W, C>,
+)
+    ensures original { (place : ℕ) → IsIn (interval tx.now.hold.original) place ↔ IsNeeded Original tx.now.hold.history.plan tx.now.hold.history.events place }
+    ensures adapted { (place : ℕ) → IsIn (interval tx.now.hold.adapted) place ↔ IsNeeded Adapted tx.now.hold.history.plan tx.now.hold.history.events place }
 {
     let _ = tx.seen();
 }

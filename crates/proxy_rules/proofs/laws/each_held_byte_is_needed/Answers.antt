@@ -1,0 +1,18 @@
+use Rattle.std.proofs.Common.{ℕ, sym, subst}
+use Rattle.std.specs.Prelude.{◌↔◌}
+use Rattle.trace_core.specs.declared.tape.Tape.TheVariants.{Original, Adapted}
+use Rattle.trace_core.specs.Held.{IsIn, IsNeeded}
+use Rattle.need_witness.proofs.Needed.{held_needed, needed_held}
+use Rattle.proxy_rules.proofs.laws.each_held_byte_is_needed.Goals as goal
+
+pub returns-clause-original : goal.returns-clause-original
+returns-clause-original g c = λ place.
+    let history = c.args.tx.now.hold.history in
+    subst (λ (i : ℕ × ℕ). IsIn i place ↔ IsNeeded Original history.plan history.events place) (sym c.seen.ensures.tied.original)
+    (held_needed Original history.plan history.events place c.seen.ensures.tied.legal, needed_held Original history.plan history.events place)
+
+pub returns-clause-adapted : goal.returns-clause-adapted
+returns-clause-adapted g c = λ place.
+    let history = c.args.tx.now.hold.history in
+    subst (λ (i : ℕ × ℕ). IsIn i place ↔ IsNeeded Adapted history.plan history.events place) (sym c.seen.ensures.tied.adapted)
+    (held_needed Adapted history.plan history.events place c.seen.ensures.tied.legal, needed_held Adapted history.plan history.events place)
