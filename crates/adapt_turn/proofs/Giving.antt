@@ -21,7 +21,7 @@ use Rattle.adapt_turn.specs.Stands.{Stands, Goes, HopsAre, IsRefusing, user_gift
 use Rattle.adapt_turn.proofs.Advance.{Others, give_stands}
 use Rattle.adapt_turn.proofs.Stepped.{part_shows}
 use Rattle.adapt_turn.proofs.Made.{KeepsMade, made_all}
-use Rattle.adapt_turn.proofs.Hops.{next_gives, back_gives, next_whole, back_whole, next_begins, back_begins, BeginsWith, next_refuses, back_refuses, next_refuses_on, back_refuses_on}
+use Rattle.adapt_turn.proofs.Hops.{next_gives, back_gives, next_whole, back_whole, next_begins, back_begins, BeginsWith, next_refuses, back_refuses, next_refuses_on, back_refuses_on, other_of_next, other_of_back, other_at_respmod, other_at_reqmod}
 use Rattle.adapt_turn.proofs.Together.{goes_still, of_five, still, rehop}
 
 -- What a writer did to a message whose head is a made one.
@@ -101,8 +101,11 @@ back_goes h k agrees read sent heard ng bg bg' go gn ngiven ao an naside refusin
 
 -- A message is begun.
 
-begin_open : (refusing : Bool) (ng ng' bg bg' : Gift) (x : Seen) → x.closed ≡ false → IsRefusing refusing ng bg x → IsRefusing refusing ng' bg' x
-begin_open refusing ng ng' bg bg' x c r = λ e. absurd (false≢true (sym c ∙ (r e).0))
+next_open : (refusing : Bool) (ng ng' bg : Gift) (x : Seen) → x.closed ≡ false → ng' ≡ message → IsRefusing refusing ng bg x → IsRefusing refusing ng' bg x
+next_open refusing ng ng' bg x c m r = (λ e. absurd (false≢true (sym c ∙ (r.0 e).0)), other_of_next x.plan.point ng ng' bg m r.1)
+
+back_open : (refusing : Bool) (ng bg bg' : Gift) (x : Seen) → x.closed ≡ false → bg' ≡ message → IsRefusing refusing ng bg x → IsRefusing refusing ng bg' x
+back_open refusing ng bg bg' x c m r = (λ e. absurd (false≢true (sym c ∙ (r.0 e).0)), other_of_back x.plan.point ng bg bg' m r.1)
 
 pub next_begin_goes : (h : Holding) (agrees : Seen → Type 0) (read sent heard : Seen → List ℕ → List ℕ → Type 0) (ng ng' bg : Gift) (go gn bgo bgn : Seen → List ℕ → List ℕ → List ℕ → Type 0) (ao an baside : List ℕ → Type 0) (refusing : Bool) (done done' : List ℕ → List ℕ → List ℕ → Type 0) (head : List ℕ) (source service next : Past → Type 0)
     → (shows h.history).closed ≡ false → ng ≡ nothing → bg ≡ nothing → ng' ≡ message → BeginsWith (shows h.history) head ao gn
@@ -111,7 +114,7 @@ pub next_begin_goes : (h : Holding) (agrees : Seen → Type 0) (read sent heard 
 next_begin_goes h agrees read sent heard ng ng' bg go gn bgo bgn ao an baside refusing done done' head source service next c n b m begin =
     goes_still _ _ source service next (λ t o. rehop h agrees read sent heard (HopsAre ng bg go ao bgo baside) (HopsAre ng' bg gn an bgn baside) (IsRefusing refusing ng bg) (IsRefusing refusing ng' bg) done done' t t.next_taken t.back_taken
     (λ body p. next_begins ng ng' bg go gn bgo bgn ao an baside (shows h.history) head body t.next_taken t.back_taken c n b m begin p)
-    (begin_open refusing ng ng' bg bg (shows h.history) c) (λ w body p. absurd (false≢true (sym c ∙ w.0))) o)
+    (next_open refusing ng ng' bg (shows h.history) c m) (λ w body p. absurd (false≢true (sym c ∙ w.0))) o)
 
 pub back_begin_goes : (h : Holding) (agrees : Seen → Type 0) (read sent heard : Seen → List ℕ → List ℕ → Type 0) (ng bg bg' : Gift) (go gn ngo ngn : Seen → List ℕ → List ℕ → List ℕ → Type 0) (ao an naside : List ℕ → Type 0) (refusing : Bool) (done done' : List ℕ → List ℕ → List ℕ → Type 0) (head : List ℕ) (source service next : Past → Type 0)
     → (shows h.history).closed ≡ false → ng ≡ nothing → bg ≡ nothing → bg' ≡ message → BeginsWith (shows h.history) head ao gn
@@ -120,7 +123,7 @@ pub back_begin_goes : (h : Holding) (agrees : Seen → Type 0) (read sent heard 
 back_begin_goes h agrees read sent heard ng bg bg' go gn ngo ngn ao an naside refusing done done' head source service next c n b m begin =
     goes_still _ _ source service next (λ t o. rehop h agrees read sent heard (HopsAre ng bg ngo naside go ao) (HopsAre ng bg' ngn naside gn an) (IsRefusing refusing ng bg) (IsRefusing refusing ng bg') done done' t t.next_taken t.back_taken
     (λ body p. back_begins ng bg bg' go gn ngo ngn ao an naside (shows h.history) head body t.next_taken t.back_taken c n b m begin p)
-    (begin_open refusing ng ng bg bg' (shows h.history) c) (λ w body p. absurd (false≢true (sym c ∙ w.0))) o)
+    (back_open refusing ng bg bg' (shows h.history) c m) (λ w body p. absurd (false≢true (sym c ∙ w.0))) o)
 
 -- A refusal takes the message's place.
 
@@ -141,11 +144,11 @@ next_refuse_goes {K} given aside gift untouched h agrees read sent heard next ne
     (λ body p. next_refuses (gift next) (gift next') (gift back) (λ x head body taken. given x head body taken next) (λ x head body taken. given x head body taken next') (λ x head body taken. given x head body taken back)
     (λ taken. aside taken next) (λ taken. aside taken next') (λ taken. aside taken back) (shows h.history) body t.next_taken t.back_taken c
     (λ x head body taken q. lg x head body taken next (u refl) q) (λ taken q. la taken next (u refl) q) (a refl) p)
-    (λ r e. (c, λ m. refusal_no_message (gift next') status (g refl) (subst (λ (z : Point). user_gift z (gift next') (gift back) ≡ message) point m))) (λ w body p. absurd (undone w)) o)
+    (λ r. (λ e. (c, λ m. refusal_no_message (gift next') status (g refl) (subst (λ (z : Point). user_gift z (gift next') (gift back) ≡ message) point m)), other_at_respmod (shows h.history).plan.point (gift next) (gift next') (gift back) point r.1)) (λ w body p. absurd (undone w)) o)
 next_refuse_goes {K} given aside gift untouched h agrees read sent heard next next' back refusing false done done' status source service wire lg la c undone point u g a same =
     goes_still _ _ source service wire (λ t o.
     subst (λ (z : K). Stands h agrees read sent heard (HopsAre (gift z) (gift back) (λ x head body taken. given x head body taken z) (λ taken. aside taken z) (λ x head body taken. given x head body taken back) (λ taken. aside taken back)) (IsRefusing false (gift z) (gift back)) done' t) (sym (same refl))
-    (rehop h agrees read sent heard _ _ (IsRefusing refusing (gift next) (gift back)) (IsRefusing false (gift next) (gift back)) done done' t t.next_taken t.back_taken (λ body p. p) (λ r e. absurd (false≢true e)) (λ w body p. absurd (undone w)) o))
+    (rehop h agrees read sent heard _ _ (IsRefusing refusing (gift next) (gift back)) (IsRefusing false (gift next) (gift back)) done done' t t.next_taken t.back_taken (λ body p. p) (λ r. (λ e. absurd (false≢true e), r.1)) (λ w body p. absurd (undone w)) o))
 
 pub back_refuse_goes : {K : Type 0} (given : Seen → List ℕ → List ℕ → List ℕ → K → Type 0) (aside : List ℕ → K → Type 0) (gift : K → Gift) (untouched : K → Bool)
     (h : Holding) (agrees : Seen → Type 0) (read sent heard : Seen → List ℕ → List ℕ → Type 0) (next back back' : K) (refusing r : Bool) (done done' : List ℕ → List ℕ → List ℕ → Type 0) (status : ℕ) (source service wire : Past → Type 0)
@@ -161,11 +164,11 @@ back_refuse_goes {K} given aside gift untouched h agrees read sent heard next ba
     (λ body p. back_refuses (gift next) (gift back) (gift back') (λ x head body taken. given x head body taken back) (λ x head body taken. given x head body taken back') (λ x head body taken. given x head body taken next)
     (λ taken. aside taken back) (λ taken. aside taken back') (λ taken. aside taken next) (shows h.history) body t.next_taken t.back_taken c
     (λ x head body taken q. lg x head body taken back (u refl) q) (λ taken q. la taken back (u refl) q) (a refl) p)
-    (λ r e. (c, λ m. refusal_no_message (gift back') status (g refl) (subst (λ (z : Point). user_gift z (gift next) (gift back') ≡ message) point m))) (λ w body p. absurd (undone w)) o)
+    (λ r. (λ e. (c, λ m. refusal_no_message (gift back') status (g refl) (subst (λ (z : Point). user_gift z (gift next) (gift back') ≡ message) point m)), other_at_reqmod (shows h.history).plan.point (gift next) (gift back) (gift back') point r.1)) (λ w body p. absurd (undone w)) o)
 back_refuse_goes {K} given aside gift untouched h agrees read sent heard next back back' refusing false done done' status source service wire lg la c undone point u g a same =
     goes_still _ _ source service wire (λ t o.
     subst (λ (z : K). Stands h agrees read sent heard (HopsAre (gift next) (gift z) (λ x head body taken. given x head body taken next) (λ taken. aside taken next) (λ x head body taken. given x head body taken z) (λ taken. aside taken z)) (IsRefusing false (gift next) (gift z)) done' t) (sym (same refl))
-    (rehop h agrees read sent heard _ _ (IsRefusing refusing (gift next) (gift back)) (IsRefusing false (gift next) (gift back)) done done' t t.next_taken t.back_taken (λ body p. p) (λ r e. absurd (false≢true e)) (λ w body p. absurd (undone w)) o))
+    (rehop h agrees read sent heard _ _ (IsRefusing refusing (gift next) (gift back)) (IsRefusing false (gift next) (gift back)) done done' t t.next_taken t.back_taken (λ body p. p) (λ r. (λ e. absurd (false≢true e), r.1)) (λ w body p. absurd (undone w)) o))
 
 -- More of a refusal goes out.
 
@@ -182,7 +185,7 @@ next_refusal_goes h agrees read sent heard ng ng' bg go gn bgiven ao an baside r
       (sym (append-nil t.source_read)) (sym (append-nil t.service_read)) (sym (append-nil t.service_taken)) refl (sym (append-nil t.back_taken))
       (rehop h agrees read sent heard (HopsAre ng bg go ao bgiven baside) (HopsAre ng' bg gn an bgiven baside) (IsRefusing refusing ng bg) (IsRefusing refusing ng' bg) done done' t (t.next_taken ++ d.delta) t.back_taken
       (λ body p. next_refuses_on ng ng' bg go gn bgiven ao an baside (shows h.history) body t.next_taken t.back_taken d.delta
-      (λ m. (o.refuses_is due).1 (subst (λ (z : Point). user_gift z ng bg ≡ message) (sym point) m)) same d.aside p)
+      (λ m. (o.refuses_is.0 due).1 (subst (λ (z : Point). user_gift z ng bg ≡ message) (sym point) m)) same d.aside p)
       (λ r. subst (λ (z : Gift). IsRefusing refusing z bg (shows h.history)) (sym same) r) (λ w body p. absurd (false≢true (sym (none body t.next_taken t.back_taken p) ∙ due))) o);
   source = λ p b. still source p b;
   service = λ p b. still service p b;
@@ -199,7 +202,7 @@ back_refusal_goes h agrees read sent heard ng bg bg' go gn ngiven ao an naside r
       (sym (append-nil t.source_read)) (sym (append-nil t.service_read)) (sym (append-nil t.service_taken)) (sym (append-nil t.next_taken)) refl
       (rehop h agrees read sent heard (HopsAre ng bg ngiven naside go ao) (HopsAre ng bg' ngiven naside gn an) (IsRefusing refusing ng bg) (IsRefusing refusing ng bg') done done' t t.next_taken (t.back_taken ++ d.delta)
       (λ body p. back_refuses_on ng bg bg' go gn ngiven ao an naside (shows h.history) body t.next_taken t.back_taken d.delta
-      (λ m. (o.refuses_is due).1 (subst (λ (z : Point). user_gift z ng bg ≡ message) (sym point) m)) same d.aside p)
+      (λ m. (o.refuses_is.0 due).1 (subst (λ (z : Point). user_gift z ng bg ≡ message) (sym point) m)) same d.aside p)
       (λ r. subst (λ (z : Gift). IsRefusing refusing ng z (shows h.history)) (sym same) r) (λ w body p. absurd (false≢true (sym (none body t.next_taken t.back_taken p) ∙ due))) o);
   source = d.wire;
   service = λ p b. still service p b;

@@ -4,6 +4,8 @@ use Rattle.std.proofs.lemmas.Bool.{false≢true}
 use Rattle.std.specs.Prelude.{if◌then◌else◌}
 use Rattle.trace_core.specs.declared.history.Seen.{Seen}
 use Rattle.trace_core.specs.declared.history.Plan.{Plan}
+use Rattle.trace_core.specs.declared.history.Point.{Point}
+use Rattle.trace_core.specs.declared.history.Point.TheVariants.{Reqmod, Respmod}
 use Rattle.trace_core.specs.declared.history.Event.{Event}
 use Rattle.trace_core.specs.declared.history.Event.TheVariants.{Usr}
 use Rattle.trace_core.specs.History.{seen, in_bytes, ad_bytes, usr_bytes, is_plain}
@@ -12,8 +14,8 @@ use Rattle.trace_core.specs.View.{after}
 use Rattle.trace_core.specs.Turns.{is_of_hop}
 use Rattle.adapt_sides.specs.Tapes.{chosen}
 use Rattle.adapt_sides.specs.Turns.{Gift}
-use Rattle.adapt_sides.specs.Turns.Gift.{nothing, message}
-use Rattle.adapt_turn.specs.Stands.{IsUndelivered, HopsAre, IsRefusing, IsDelivered}
+use Rattle.adapt_sides.specs.Turns.Gift.{nothing, message, refusal}
+use Rattle.adapt_turn.specs.Stands.{IsUndelivered, HopsAre, IsRefusing, other_gift, IsDelivered}
 use Rattle.adapt_turn.proofs.Carry.{off_hop, not_true, KeepsChosen}
 
 -- what a writer says of the events of others
@@ -106,7 +108,7 @@ back_gives ng bg bg' go gn ngiven ao an naside x y body next back delta c busy s
 -- and where the history is closed by it, the whole message
 
 not_refusing : (refusing : Bool) (ng bg : Gift) (x : Seen) → x.closed ≡ false → IsRefusing refusing ng bg x → refusing ≡ false
-not_refusing true ng bg x c r = absurd (false≢true (sym c ∙ (r refl).0))
+not_refusing true ng bg x c r = absurd (false≢true (sym c ∙ (r.0 refl).0))
 not_refusing false ng bg x c r = refl
 
 pub next_whole : (refusing : Bool) (ng ng' bg : Gift) (go bgiven : Seen → List ℕ → List ℕ → List ℕ → Type 0) (whole bwhole : List ℕ → List ℕ → List ℕ → Type 0) (ao an baside : List ℕ → Type 0) (x : Seen) (body next back delta : List ℕ)
@@ -136,6 +138,31 @@ back_whole refusing ng bg bg' go ngiven whole nwhole ao an naside x body next ba
     | inr (inr (inr over)) ↦ absurd (false≢true (sym c ∙ over.over))
   ],
 )
+
+-- the writer that isn't the user's has no refusal
+
+unrefused : (gift gift' : Gift) (status : ℕ) → gift' ≡ message → gift' ≡ refusal status → ⊥
+unrefused gift gift' status m e = let d : message ≡ refusal status = sym m ∙ e in absurd cc
+
+pub other_of_next : (point : Point) (ng ng' bg : Gift) → ng' ≡ message → ((status : ℕ) → other_gift point ng bg ≡ refusal status → ⊥) → (status : ℕ) → other_gift point ng' bg ≡ refusal status → ⊥
+other_of_next Reqmod ng ng' bg m none status = unrefused ng ng' status m
+other_of_next Respmod ng ng' bg m none status = none status
+
+pub other_of_back : (point : Point) (ng bg bg' : Gift) → bg' ≡ message → ((status : ℕ) → other_gift point ng bg ≡ refusal status → ⊥) → (status : ℕ) → other_gift point ng bg' ≡ refusal status → ⊥
+other_of_back Reqmod ng bg bg' m none status = none status
+other_of_back Respmod ng bg bg' m none status = unrefused bg bg' status m
+
+pub other_at_respmod : (point : Point) (ng ng' bg : Gift) → point ≡ Respmod → ((status : ℕ) → other_gift point ng bg ≡ refusal status → ⊥) → (status : ℕ) → other_gift point ng' bg ≡ refusal status → ⊥
+other_at_respmod Reqmod ng ng' bg e none status = let d : Reqmod ≡ Respmod = e in absurd cc
+other_at_respmod Respmod ng ng' bg e none status = none status
+
+pub other_at_reqmod : (point : Point) (ng bg bg' : Gift) → point ≡ Reqmod → ((status : ℕ) → other_gift point ng bg ≡ refusal status → ⊥) → (status : ℕ) → other_gift point ng bg' ≡ refusal status → ⊥
+other_at_reqmod Reqmod ng bg bg' e none status = none status
+other_at_reqmod Respmod ng bg bg' e none status = let d : Respmod ≡ Reqmod = e in absurd cc
+
+pub other_idle : (point : Point) (ng bg : Gift) → ng ≡ nothing → bg ≡ nothing → (status : ℕ) → other_gift point ng bg ≡ refusal status → ⊥
+other_idle Reqmod ng bg n b status e = let d : nothing ≡ refusal status = sym n ∙ e in absurd cc
+other_idle Respmod ng bg n b status e = let d : nothing ≡ refusal status = sym b ∙ e in absurd cc
 
 -- a message is begun
 

@@ -28,7 +28,7 @@ use Rattle.adapt_turn.specs.Made.{OfHead}
 use Rattle.adapt_turn.proofs.Carry.{off_sending, off_replies, not_true, both_not}
 use Rattle.adapt_turn.proofs.Passes.{fail_runs}
 use Rattle.adapt_turn.proofs.Advance.{Others, source_stands, send_stands, hear_stands, fail_stands, retry_stands}
-use Rattle.adapt_turn.proofs.Hops.{hops_others}
+use Rattle.adapt_turn.proofs.Hops.{other_idle, hops_others}
 use Rattle.adapt_turn.proofs.Made.{KeepsMade}
 
 -- The laws of the three sides, together.
@@ -85,7 +85,7 @@ others_of agrees has_read has_sent has_heard has_given gift aside made la lr ls 
       (lm next (seen plan before) event head l.0.0 l.0.1 p.0, lg plan before event head original adapted bytes more taken next l o a b c d p.1))
       (λ plan before event head original adapted bytes more taken l o a b c d p.
       (lm back (seen plan before) event head l.0.0 l.0.1 p.0, lg plan before event head original adapted bytes more taken back l o a b c d p.1));
-  refuses_on = λ x event r e. let w = r e in (stays_closed (is_close event) x.closed w.0, w.1);
+  refuses_on = λ x event r. (λ e. let w = r.0 e in (stays_closed (is_close event) x.closed w.0, w.1), r.1);
 }
 
 -- Wires.
@@ -304,7 +304,7 @@ begins {V} {W} {K} has_sent has_heard has_given is_whole gift aside h plan agree
   sent_is = subst (λ (y : History). MatchOption line (nil ≡ nil) (λ l. has_sent (shows y) [] [] l.side)) (sym eh) (sent line sides);
   heard_is = subst (λ (y : History). MatchOption line ((nil ≡ nil) × (nil ≡ nil)) (λ l. has_heard (shows y) [] [] l.side)) (sym eh) (heard line sides);
   hops_are = inl (record { next_is = ng; back_is = bg; none = subst (λ (y : History). IsUndelivered (shows y)) (sym eh) (refl, refl); next_aside_is = na; back_aside_is = ba });
-  refuses_is = λ e. absurd (false≢true e);
+  refuses_is = (λ e. absurd (false≢true e), other_idle (shows h.history).plan.point (gift next) (gift back) ng bg);
   done_is = λ d. absurd (false≢true (subst (λ (y : History). (shows y).closed ≡ true) eh d.0));
 }
   where

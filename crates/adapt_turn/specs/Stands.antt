@@ -10,7 +10,7 @@ use Rattle.adapt_sides.specs.declared.fault.ClientFault.{ClientFault}
 use Rattle.adapt_sides.specs.declared.fault.ClientFault.TheVariants as client
 use Rattle.adapt_sides.specs.Tapes.{chosen}
 use Rattle.adapt_sides.specs.Turns.{Gift}
-use Rattle.adapt_sides.specs.Turns.Gift.{nothing, message}
+use Rattle.adapt_sides.specs.Turns.Gift.{nothing, message, refusal}
 use Rattle.adapt_hold.specs.Spans.{Span, EndsBody}
 use Rattle.adapt_hold.specs.Holding.{Holding, shows}
 use Rattle.trace_core.specs.History.{History}
@@ -89,10 +89,16 @@ HopsAre next_gift back_gift next_given next_aside back_given back_aside x body n
     ⊎ (MessageOn back_given back_gift next_aside next_gift x body back next
     ⊎ IsRefused next_aside back_aside x next back))
 
--- a refusal is due only once the history is closed, and where the user's writer has no message
+-- and what the other writer has
+abbrev pub other_gift : Point → Gift → Gift → Gift
+other_gift Reqmod next back = next
+other_gift Respmod next back = back
+
+-- a refusal is due only once the history is closed, and where the user's writer has no message; the other writer has none
 abbrev pub IsRefusing : (refusing : Bool) → (next_gift back_gift : Gift) → Seen → Type 0
 IsRefusing refusing next_gift back_gift x =
-    refusing ≡ true → (x.closed ≡ true) × (user_gift x.plan.point next_gift back_gift ≡ message → ⊥)
+    (refusing ≡ true → (x.closed ≡ true) × (user_gift x.plan.point next_gift back_gift ≡ message → ⊥))
+    × ((status : ℕ) → other_gift x.plan.point next_gift back_gift ≡ refusal status → ⊥)
 
 -- Done stands
 abbrev pub IsDone : History → Type 0
