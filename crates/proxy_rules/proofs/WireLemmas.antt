@@ -2,6 +2,8 @@
 use Rattle.std.proofs.Common.{◌≡◌, ℕ, ◌⊎◌, inl, inr, Bool, true, false, List, [], ◌∷◌, ◌++◌, length, take, Option, Some, None, MatchOption, if◌then◌else◌, refl, ap, sym, subst, ◌∙◌, arith}
 use Rattle.std.proofs.lemmas.List.{take_all}
 use Rattle.trace_core.specs.declared.history.Seen.{Seen}
+use Rattle.trace_core.specs.declared.history.Point.{Point}
+use Rattle.trace_core.specs.declared.history.Point.TheVariants.{Reqmod, Respmod}
 use Rattle.trace_core.specs.Faults.{chooses_original}
 use Rattle.trace_core.specs.History.{is_plain}
 use Rattle.trace_core.proofs.Sound.{Sound, sound}
@@ -11,11 +13,11 @@ use Rattle.http_side.specs.Refusals.{refusal}
 use Rattle.http_side.specs.declared.body.Framing.{Framing}
 use Rattle.adapt_sides.specs.Tapes.{chosen, chosen_received, chosen_delivered}
 use Rattle.adapt_sides.specs.Turns.{Gift}
-use Rattle.adapt_sides.specs.Turns.Gift.{message}
+use Rattle.adapt_sides.specs.Turns.Gift.{message, refusal as refused_by}
 use Rattle.adapt_hold.specs.Spans.{EndsBody}
 use Rattle.adapt_hold.specs.Holding.{Holding, IsTied, shows}
 use Rattle.adapt_turn.specs.declared.start.Line.{Line}
-use Rattle.adapt_turn.specs.Stands.{HopsAre}
+use Rattle.adapt_turn.specs.Stands.{HopsAre, other_gift}
 use Rattle.icap_client.specs.Turns.{Service, ServiceSent}
 use Rattle.icap_client.specs.RequestText.{IsFrontOfRequest}
 use Rattle.icap_client.proofs.Prefixes.{sent_is_front_legal}
@@ -24,7 +26,7 @@ use Rattle.http_relay.specs.declared.hop.Stage.TheVariants as at
 use Rattle.http_relay.specs.Message.{IsFrontOfMessage}
 use Rattle.http_relay.specs.Giving.{Hop, HasGiven, GivenAt, IsAside, AsideAt, gift_of}
 use Rattle.http_relay.proofs.Whole.{out_front_at, whole_front_at}
-use Rattle.proxy_rules.specs.Wires.{TookNoMessage, TookOne}
+use Rattle.proxy_rules.specs.Wires.{TookNoMessage, TookFront, TookOne, TookNoRefusal, other_taken}
 
 pub received_is : (h : Holding) (body : List ℕ) → IsTied h → EndsBody h.original body → length body ≡ (shows h.history).received
 received_is h body t e = sym e.end ∙ ap (λ (p : ℕ × ℕ). p.1) t.original
@@ -62,16 +64,29 @@ aside_at (at.Refusal status) taken w a = inr (status, record { rest = waiting w;
 pub aside_none : (taken : List ℕ) (h : Hop) → IsAside taken h → TookNoMessage taken
 aside_none taken h a = aside_at h.stage taken h.writer a.text
 
-given_at : (stage : Stage) (x : Seen) (f : Framing) (head body taken : List ℕ) (w : Writer) → gift_of stage ≡ message → length body ≡ chosen_received x → GivenAt stage x f head body taken w → TookOne body taken
-given_at at.Empty x f head body taken w m l g = cc
-given_at at.Message x f head body taken w m l g = inr (f, head, chosen_delivered x, out_front_at at.Message x f head body taken w refl l g)
-given_at at.Whole x f head body taken w m l g =
+front_at : (stage : Stage) (x : Seen) (f : Framing) (head body taken : List ℕ) (w : Writer) → gift_of stage ≡ message → length body ≡ chosen_received x → GivenAt stage x f head body taken w → TookFront body taken
+front_at at.Empty x f head body taken w m l g = cc
+front_at at.Message x f head body taken w m l g = (f, head, chosen_delivered x, out_front_at at.Message x f head body taken w refl l g)
+front_at at.Whole x f head body taken w m l g =
     let all : take (length body) body ≡ body = take_all (length body) body (omega arith) in
-    inr (f, head, length body, subst (λ (b : List ℕ). IsFrontOfMessage f head b taken) (sym all) (whole_front_at at.Whole x f head body taken w refl l g))
-given_at (at.Refusal status) x f head body taken w m l g = cc
+    (f, head, length body, subst (λ (b : List ℕ). IsFrontOfMessage f head b taken) (sym all) (whole_front_at at.Whole x f head body taken w refl l g))
+front_at (at.Refusal status) x f head body taken w m l g = cc
+
+pub front_one : (x : Seen) (head body taken : List ℕ) (h : Hop) → gift_of h.stage ≡ message → length body ≡ chosen_received x → HasGiven x head body taken h → TookFront body taken
+front_one x head body taken h m l g = front_at h.stage x h.framing head body taken h.writer m l g.given
 
 pub given_one : (x : Seen) (head body taken : List ℕ) (h : Hop) → gift_of h.stage ≡ message → length body ≡ chosen_received x → HasGiven x head body taken h → TookOne body taken
-given_one x head body taken h m l g = given_at h.stage x h.framing head body taken h.writer m l g.given
+given_one x head body taken h m l g = inr (front_one x head body taken h m l g)
+
+-- a writer without a refusal took nothing beside a message
+unrefused_at : (stage : Stage) (taken : List ℕ) (w : Writer) → ((status : ℕ) → gift_of stage ≡ refused_by status → ⊥) → AsideAt stage taken w → taken ≡ []
+unrefused_at at.Empty taken w none a = first_none taken (waiting w) a
+unrefused_at at.Message taken w none a = absurd a
+unrefused_at at.Whole taken w none a = absurd a
+unrefused_at (at.Refusal status) taken w none a = absurd (none status refl)
+
+unrefused : (taken : List ℕ) (h : Hop) → ((status : ℕ) → gift_of h.stage ≡ refused_by status → ⊥) → IsAside taken h → taken ≡ []
+unrefused taken h none a = unrefused_at h.stage taken h.writer none a.text
 
 pub service_one : {W : Type 0} (h : Holding) (original taken : List ℕ) (service : Option (Line Service W)) → IsTied h → EndsBody h.original original → is_plain (shows h.history).plan.kind ≡ false
     → MatchOption service (taken ≡ []) (λ line. ServiceSent (shows h.history) original taken line.side) → (taken ≡ []) ⊎ ((head : List ℕ) × IsFrontOfRequest (shows h.history) head original taken)
@@ -93,3 +108,24 @@ hops_one h next back next_given back_given original adapted to_next to_back t o 
     let body = chosen x original adapted in
     inr (aside_none to_next next m.aside_is, given_one x m.head body to_back back m.begun (chosen_is h original adapted t o a) (as_back x m.head body to_back m.given_is))
 hops_one h next back next_given back_given original adapted to_next to_back t o a as_next as_back (inr (inr (inr m))) = inl (inl (aside_none to_next next m.next_aside_is), aside_none to_back back m.back_aside_is)
+
+pub other_one : (point : Point) (h : Holding) (next back : Hop) (next_given back_given : Seen → List ℕ → List ℕ → List ℕ → Type 0) (original adapted to_next to_back : List ℕ)
+    → IsTied h → EndsBody h.original original → EndsBody h.adapted adapted
+    → ((x : Seen) (head body taken : List ℕ) → next_given x head body taken → HasGiven x head body taken next) → ((x : Seen) (head body taken : List ℕ) → back_given x head body taken → HasGiven x head body taken back)
+    → ((status : ℕ) → other_gift point (gift_of next.stage) (gift_of back.stage) ≡ refused_by status → ⊥)
+    → HopsAre (gift_of next.stage) (gift_of back.stage) next_given (λ taken. IsAside taken next) back_given (λ taken. IsAside taken back) (shows h.history) (chosen (shows h.history) original adapted) to_next to_back
+    → TookNoRefusal (chosen (shows h.history) original adapted) (other_taken point to_next to_back)
+other_one Reqmod h next back next_given back_given original adapted to_next to_back t o a as_next as_back none (inl m) = inl (unrefused to_next next none m.next_aside_is)
+other_one Reqmod h next back next_given back_given original adapted to_next to_back t o a as_next as_back none (inr (inl m)) =
+    let x = shows h.history in
+    let body = chosen x original adapted in
+    inr (front_one x m.head body to_next next m.begun (chosen_is h original adapted t o a) (as_next x m.head body to_next m.given_is))
+other_one Reqmod h next back next_given back_given original adapted to_next to_back t o a as_next as_back none (inr (inr (inl m))) = inl (unrefused to_next next none m.aside_is)
+other_one Reqmod h next back next_given back_given original adapted to_next to_back t o a as_next as_back none (inr (inr (inr m))) = inl (unrefused to_next next none m.next_aside_is)
+other_one Respmod h next back next_given back_given original adapted to_next to_back t o a as_next as_back none (inl m) = inl (unrefused to_back back none m.back_aside_is)
+other_one Respmod h next back next_given back_given original adapted to_next to_back t o a as_next as_back none (inr (inl m)) = inl (unrefused to_back back none m.aside_is)
+other_one Respmod h next back next_given back_given original adapted to_next to_back t o a as_next as_back none (inr (inr (inl m))) =
+    let x = shows h.history in
+    let body = chosen x original adapted in
+    inr (front_one x m.head body to_back back m.begun (chosen_is h original adapted t o a) (as_back x m.head body to_back m.given_is))
+other_one Respmod h next back next_given back_given original adapted to_next to_back t o a as_next as_back none (inr (inr (inr m))) = inl (unrefused to_back back none m.back_aside_is)

@@ -1,5 +1,7 @@
 -- What the wires of a transaction of the proxy's own sides took.
 use Rattle.std.specs.Prelude.{◌≡◌, ℕ, ◌⊎◌, false, List, [], take}
+use Rattle.trace_core.specs.declared.history.Point.{Point}
+use Rattle.trace_core.specs.declared.history.Point.TheVariants.{Reqmod, Respmod}
 use Rattle.trace_core.specs.History.{is_plain}
 use Rattle.chunk_writer.specs.Cut.{IsPrefixOf}
 use Rattle.http_side.specs.Refusals.{refusal}
@@ -15,13 +17,26 @@ use Rattle.http_relay.specs.Message.{IsFrontOfMessage}
 abbrev pub TookNoMessage : List ℕ → Type 0
 TookNoMessage taken = (taken ≡ []) ⊎ ((status : ℕ) × IsPrefixOf taken (refusal status))
 
--- that, or a front of one message with a front of this body
+-- a front of one message with a front of this body
+abbrev pub TookFront : List ℕ → List ℕ → Type 0
+TookFront body taken = (framing : Framing) × (head : List ℕ) × (count : ℕ) × IsFrontOfMessage framing head (take count body) taken
+
+-- one of these
 abbrev pub TookOne : List ℕ → List ℕ → Type 0
-TookOne body taken = TookNoMessage taken ⊎ ((framing : Framing) × (head : List ℕ) × (count : ℕ) × IsFrontOfMessage framing head (take count body) taken)
+TookOne body taken = TookNoMessage taken ⊎ TookFront body taken
+
+-- nothing, or a front of one message
+abbrev pub TookNoRefusal : List ℕ → List ℕ → Type 0
+TookNoRefusal body taken = (taken ≡ []) ⊎ TookFront body taken
+
+-- what the wire took that isn't the user's: at REQMOD the user is the source, at RESPMOD the next hop
+abbrev pub other_taken : Point → (next back : List ℕ) → List ℕ
+other_taken Reqmod next back = next
+other_taken Respmod next back = back
 
 -- The service's wire took a front of one request with the original. Of the wires to the next hop and back to the user one took a
--- front of one message with the chosen body, or of a refusal, and the other one nothing of a message. The tapes have the ends of
--- both bodies.
+-- front of one message with the chosen body, or of a refusal, and the other one nothing of a message. A refusal is the user's alone.
+-- The tapes have the ends of both bodies.
 pub record WiresTook (h : Holding) (t : Texts) : Type 0 where
   pub original : List ℕ
   pub adapted : List ℕ
@@ -30,3 +45,4 @@ pub record WiresTook (h : Holding) (t : Texts) : Type 0 where
   pub service : is_plain (shows h.history).plan.kind ≡ false → (t.service_taken ≡ []) ⊎ ((head : List ℕ) × IsFrontOfRequest (shows h.history) head original t.service_taken)
   pub next_and_back : (TookOne (chosen (shows h.history) original adapted) t.next_taken × TookNoMessage t.back_taken)
       ⊎ (TookNoMessage t.next_taken × TookOne (chosen (shows h.history) original adapted) t.back_taken)
+  pub other : TookNoRefusal (chosen (shows h.history) original adapted) (other_taken (shows h.history).plan.point t.next_taken t.back_taken)

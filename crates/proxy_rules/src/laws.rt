@@ -26,7 +26,7 @@ pub fn says_close_where_it_ends()
 
 /// Of a transaction of the proxy's own sides, wherever it stands: its service's wire took a front of one request with the original;
 /// one of the wires to the next hop and to the user took a front of one message with the chosen body, or of a refusal alone, and the
-/// other one nothing of a message. What is held of both bodies is just what the history needs.
+/// other one nothing of a message; a refusal goes to the user alone. What is held of both bodies is just what the history needs.
 pub fn the_wires_take_one_message<B: Ledgers, A: Wire, W: Wire, C: Wire>(
     tx: &Tx<B, SourceSide, ServiceSide, NextHop, HeadMaker, A, W, C>,
 )

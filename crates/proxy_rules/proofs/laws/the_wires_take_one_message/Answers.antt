@@ -1,5 +1,6 @@
 use Rattle.std.proofs.Common.{ℕ, List}
-use Rattle.proxy_rules.proofs.WireLemmas.{service_one, hops_one}
+use Rattle.adapt_hold.specs.Holding.{shows}
+use Rattle.proxy_rules.proofs.WireLemmas.{service_one, hops_one, other_one}
 use Rattle.proxy_rules.proofs.laws.the_wires_take_one_message.Goals as goal
 
 pub returns-clause-took : goal.returns-clause-took
@@ -12,4 +13,7 @@ returns-clause-took g c = λ t s. record {
   next_and_back =
       hops_one c.args.tx.now.hold c.args.tx.now.next c.args.tx.now.back _ _ s.original s.adapted t.next_taken t.back_taken c.seen.ensures.tied s.original_is s.adapted_is
       (λ x head body taken h. h.1) (λ x head body taken h. h.1) s.hops_are;
+  other =
+      other_one (shows c.args.tx.now.hold.history).plan.point c.args.tx.now.hold c.args.tx.now.next c.args.tx.now.back _ _ s.original s.adapted t.next_taken t.back_taken c.seen.ensures.tied s.original_is s.adapted_is
+      (λ x head body taken h. h.1) (λ x head body taken h. h.1) s.refuses_is.1 s.hops_are;
 }
