@@ -1,5 +1,6 @@
 -- The front of a reply's head, which is judged where a line has ended.
 use Rattle.std.specs.Prelude.{◌≡◌, ℕ, ◌<◌, ◌⊎◌, Bool, false, ◌==◌, List, length, take, drop}
+use Rattle.adapt_bytes.specs.declared.limits.TheConstants.{MAX_HEAD}
 use Rattle.adapt_bytes.specs.Text.{has_line}
 use Rattle.icap_head.specs.Heads.{RefusesIcapHead}
 use Rattle.icap_head.specs.StartLines.{StatusForm}
@@ -23,7 +24,7 @@ pub record IsHeadFront (bytes : List ℕ) : Type 0 where
   pub judged : ℕ
   pub more : IsJudged judged bytes
   pub no_line : has_line (drop judged bytes) ≡ false
-  pub short : length bytes < 16384
+  pub short : length bytes < MAX_HEAD
 
 -- a side has to wait for more bytes, with room for so many adapted ones
 abbrev pub HasToWait : Stage → List ℕ → ℕ → Type 0

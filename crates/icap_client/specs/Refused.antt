@@ -1,5 +1,6 @@
 -- Why the bytes behind those that were framed are refused.
 use Rattle.std.specs.Prelude.{◌≡◌, ◌≢◌, ℕ, ◌<◌, ◌≤◌, ◌⊎◌, ⊤, Bool, Some, List, [], ◌++◌, length, take}
+use Rattle.adapt_bytes.specs.declared.limits.TheConstants.{MAX_HEAD}
 use Rattle.icap_head.specs.Heads.{Response, HasResponse, RefusesIcapHead}
 use Rattle.icap_head.specs.StartLines.{StatusForm}
 use Rattle.icap_head.specs.declared.reading.HeadFault.{HeadFault}
@@ -122,4 +123,4 @@ SpellsNoReply _ point value = ⊥
 abbrev pub LimitsOf : Reply → Type 0
 LimitsOf replies.Continue = Unit {0}
 LimitsOf replies.NoMod = Unit {0}
-LimitsOf (replies.Mod layout) = (1 ≤ layout.offset) × (layout.offset ≤ 16384)
+LimitsOf (replies.Mod layout) = (1 ≤ layout.offset) × (layout.offset ≤ MAX_HEAD)

@@ -2,6 +2,7 @@
 -- which is a 204 alone, or a 200 with the heads that its list names and then a chunked body or none.
 use Rattle.std.specs.Prelude.{◌≡◌, ◌≢◌, ℕ, ◌-◌, ◌<◌, ◌≤◌, ◌⊎◌, ⊤, Bool, true, false, ◌&&◌, ◌||◌, nat_le, ◌==◌, List, [], ◌∷◌, ◌++◌, length, take, slice_index, codes, Option, Some, None}
 use Rattle.adapt_bytes.specs.Fields.{values_of}
+use Rattle.adapt_bytes.specs.declared.limits.TheConstants.{MAX_HEAD}
 use Rattle.icap_head.specs.Heads.{Response, HasResponse}
 use Rattle.encapsulated.specs.Layouts.{IsLayout}
 use Rattle.encapsulated.specs.declared.offsets.Layout.{Layout}
@@ -42,11 +43,11 @@ HasLayout point [] layout = ⊥
 HasLayout point (list ∷ []) layout = IsLayout (method_of point) directions.Response list layout
 HasLayout point (list ∷ other ∷ more) layout = ⊥
 
--- one head comes first, of 1 to 16,384 bytes; a response has no second one
+-- one head comes first, of 1 to MAX_HEAD bytes; a response has no second one
 pub record HasAdaptedHead (layout : Layout) : Type 0 where
   pub first : (layout.req_hdr ≡ Some 0) ⊎ (layout.res_hdr ≡ Some 0)
   pub some : 1 ≤ layout.offset
-  pub most : layout.offset ≤ 16384
+  pub most : layout.offset ≤ MAX_HEAD
 
 -- ---- heads
 

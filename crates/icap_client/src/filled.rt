@@ -1,14 +1,13 @@
 //! One read of the service's wire.
 
 ghost use Rattle.std.specs.Prelude.{◌≡◌, ◌-◌, ◌<◌, ◌≤◌, length, take, drop};
+ghost use Rattle.adapt_bytes.specs.declared.limits.TheConstants.{MAX_HEAD};
 ghost use Rattle.wire_kit.specs.Past.{Past, Fits, after_read};
 ghost use Rattle.icap_client.specs.Reading.{IsFilled};
 
+use adapt_bytes::MAX_HEAD;
 use bytes::BytesMut;
 use wire_kit::{Got, Wire};
-
-/// The most bytes that are kept without being framed.
-pub(crate) const MAX_RAW: usize = 16_384;
 
 /// The most bytes of one read.
 const MAX_READ: usize = 4096;
@@ -39,15 +38,15 @@ fn read_behind<W: Wire>(bytes: &mut [u8], at: usize, wire: &mut W) -> Got
     wire.try_read(&mut bytes[at..])
 }
 
-/// Reads once behind the raw bytes, into room that is taken for them first.
+/// Reads once behind the raw bytes, into room that is taken for them first: they are never more than a head may have.
 #[tactic(auto, using(crate::proofs::Read::same_front))]
 pub(crate) fn fill<W: Wire>(raw: &mut BytesMut, wire: &mut W) -> Filled
-    requires { length raw.old.items < 16384 }
+    requires { length raw.old.items < MAX_HEAD }
     ensures filled { IsFilled (W.past wire.old) (W.past wire.new) raw.old.items raw.new.items result }
-    ensures fits { length raw.new.items ≤ 16384 }
+    ensures fits { length raw.new.items ≤ MAX_HEAD }
 {
     let len = raw.len();
-    let most = (MAX_RAW - len).min(MAX_READ);
+    let most = (MAX_HEAD - len).min(MAX_READ);
     if raw.reserve(most).is_err() {
         return Filled::NoMemory;
     }

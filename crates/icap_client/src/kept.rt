@@ -5,12 +5,14 @@ ghost use Rattle.std.specs.List.{list_any};
 ghost use Rattle.icap_head.specs.Heads.{RefusesIcapHead};
 ghost use Rattle.icap_head.specs.StartLines.{StatusForm};
 ghost use Rattle.icap_head.specs.declared.reading.HeadFault.TheVariants.{More};
+ghost use Rattle.adapt_bytes.specs.declared.limits.TheConstants.{MAX_HEAD};
 ghost use Rattle.adapt_bytes.specs.Text.{has_line};
 ghost use Rattle.icap_client.specs.HeadFront.{IsHeadFront};
 ghost use Rattle.icap_client.specs.Reading.{IsFilled};
 
 use crate::blank_line::behind;
-use crate::filled::{Filled, MAX_RAW, fill};
+use crate::filled::{Filled, fill};
+use adapt_bytes::MAX_HEAD;
 use bytes::BytesMut;
 use std::alloc::Global;
 use std::marker::Model;
@@ -25,13 +27,14 @@ pub(crate) struct Kept {
 
 impl Model for Kept {
     ghost use Rattle.std.specs.Prelude.{◌≤◌, length};
+    ghost use Rattle.adapt_bytes.specs.declared.limits.TheConstants.{MAX_HEAD};
     ghost use Rattle.icap_client.specs.HeadFront.{Store, IsJudged};
 
     ghost Value = { Store };
 
     ghost view = { λ k. record { bytes = k.bytes.items; judged = k.judged; room = k.bytes.spare } };
 
-    ghost invariant = { λ k. (length k.bytes.items ≤ 16384) × (k.judged ≤ length k.bytes.items) × IsJudged k.judged k.bytes.items };
+    ghost invariant = { λ k. (length k.bytes.items ≤ MAX_HEAD) × (k.judged ≤ length k.bytes.items) × IsJudged k.judged k.bytes.items };
 }
 
 /// Whether a line ends in the bytes.
@@ -60,7 +63,7 @@ impl Kept {
     /// How many there are.
     pub(crate) fn len(&self) -> usize
         ensures len { result ≡ length self.now.bytes }
-        ensures limit { result ≤ 16384 }
+        ensures limit { result ≤ MAX_HEAD }
     {
         self.bytes.len()
     }
@@ -89,7 +92,7 @@ impl Kept {
     pub(crate) fn is_front(&self) -> bool
         ensures { result ≡ true → IsHeadFront self.now.bytes }
     {
-        self.bytes.len() < MAX_RAW && !has_line(behind(self.bytes.as_slice(), self.judged))
+        self.bytes.len() < MAX_HEAD && !has_line(behind(self.bytes.as_slice(), self.judged))
     }
 
     /// Gives back the room, where no byte is there.
@@ -105,7 +108,7 @@ impl Kept {
 
     /// Reads once behind them.
     pub(crate) fn fill<W: Wire>(&mut self, wire: &mut W) -> Filled
-        requires { length self.old.bytes < 16384 }
+        requires { length self.old.bytes < MAX_HEAD }
         ensures filled { IsFilled (W.past wire.old) (W.past wire.new) self.old.bytes self.new.bytes result }
     {
         fill(&mut self.bytes, wire)

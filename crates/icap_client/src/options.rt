@@ -1,6 +1,7 @@
 //! Asking a service what it offers: one OPTIONS request and its answer, over a Wire (RFC 3507, section 4.10).
 
 ghost use Rattle.std.specs.Prelude.{◌≡◌, ℕ, ◌+◌, ◌<◌, ◌≤◌, ◌⊎◌, Bool, List, [], ◌∷◌, ◌++◌, length, drop, take, OnOk, IfOk, IfErr, IfSome, IfNone, Some, None, Err, is_some, codes, true, false, option_map};
+ghost use Rattle.adapt_bytes.specs.declared.limits.TheConstants.{MAX_HEAD};
 ghost use Rattle.adapt_bytes.specs.Numeral.{numeral};
 ghost use Rattle.encapsulated.specs.declared.message.Method.TheVariants as methods;
 ghost use Rattle.adapt_bytes.specs.Fields.{values_of};
@@ -91,7 +92,7 @@ impl OptionsSide {
     /// The raw bytes left over.
     pub fn raw_left(&self) -> usize
         ensures left { result ≡ length self.now.raw }
-        ensures limit { result ≤ 16384 }
+        ensures limit { result ≤ MAX_HEAD }
     {
         self.raw.len()
     }

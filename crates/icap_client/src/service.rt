@@ -2,7 +2,7 @@
 
 ghost use Rattle.arrayvec.specs.ArrayVec.{array_vec_len};
 ghost use Rattle.std.specs.Prelude.{option_copied, ◌≡◌, ℕ, List, ◌+◌, ◌≤◌, ◌++◌, ◌∷◌, ◌↔◌, IsTrue, IfSome, IfOk, IfErr, OnOk, Err, true, false, Some, None, ◌⊎◌, [], length, ◌<◌, MatchOption};
-ghost use Rattle.adapt_bytes.specs.declared.limits.TheConstants.{COUNT_LIMIT};
+ghost use Rattle.adapt_bytes.specs.declared.limits.TheConstants.{COUNT_LIMIT, MAX_HEAD};
 ghost use Rattle.trace_core.specs.declared.history.Seen.{Seen};
 ghost use Rattle.trace_core.specs.History.{seen};
 ghost use Rattle.wire_kit.specs.Past.{Past};
@@ -150,7 +150,7 @@ impl ServiceSide {
     /// The raw bytes left over.
     pub fn raw_left(&self) -> usize
         ensures left { result ≡ length self.now.replies.raw }
-        ensures limit { result ≤ 16384 }
+        ensures limit { result ≤ MAX_HEAD }
     {
         self.replies.raw_left()
     }

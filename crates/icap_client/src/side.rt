@@ -1,6 +1,7 @@
 //! The reading half of the service's side: the reader over a wire.
 
 ghost use Rattle.std.specs.Prelude.{option_copied, is_none, not, ◌&&◌, ◌==◌, ◌≡◌, ◌<◌, ◌≤◌, ◌↔◌, [], length, take, IsTrue, IfOk, IfErr, IfSome, OnOk, None, Some, Bool, true, false, Err, MatchOption};
+ghost use Rattle.adapt_bytes.specs.declared.limits.TheConstants.{MAX_HEAD};
 ghost use Rattle.trace_core.specs.History.{seen};
 ghost use Rattle.icap_client.specs.Events.{May, ad_sum};
 ghost use Rattle.icap_client.specs.HeadFront.{HasToWait, IsHeadFront};
@@ -91,7 +92,7 @@ impl ReplySide {
     /// The raw bytes left over.
     pub fn raw_left(&self) -> usize
         ensures left { result ≡ length self.now.raw }
-        ensures limit { result ≤ 16384 }
+        ensures limit { result ≤ MAX_HEAD }
     {
         self.raw.len()
     }
@@ -206,7 +207,7 @@ impl ReplySide {
         wire: &mut W,
         out: &mut [u8],
     ) -> Result<Turn, ClientFault>
-        requires short { length self.old.raw < 16384 }
+        requires short { length self.old.raw < MAX_HEAD }
         requires waits { HasToWait self.old.reader.stage self.old.raw (length out.old) }
         requires room { 0 < length out.old }
         requires going_on { self.old.reader.stage ≡ Stage.Over → ⊥ }
@@ -240,7 +241,7 @@ impl ReplySide {
         wire: &mut W,
         out: &mut [u8],
     ) -> Result<Turn, ClientFault>
-        requires short { length self.old.raw < 16384 }
+        requires short { length self.old.raw < MAX_HEAD }
         requires waits { HasToWait self.old.reader.stage self.old.raw (length out.old) }
         requires room { 0 < length out.old }
         requires going_on { self.old.reader.stage ≡ Stage.Over → ⊥ }

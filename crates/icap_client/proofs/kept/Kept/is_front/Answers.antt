@@ -4,8 +4,8 @@ use Rattle.icap_client.specs.HeadFront.{Store, IsHeadFront}
 use Rattle.icap_client.proofs.Judged.{is_false}
 use Rattle.icap_client.proofs.kept.Kept.is_front.Goals as goal
 
-pub returns-then-len-lt-MAX_RAW : goal.returns-then-len-lt-MAX_RAW
-returns-then-len-lt-MAX_RAW c = λ e.
+pub returns-then-len-lt-MAX_HEAD : goal.returns-then-len-lt-MAX_HEAD
+returns-then-len-lt-MAX_HEAD c = λ e.
     let bytes = c.self.inside.bytes.items in
     let judged = c.self.inside.judged in
     let short : length bytes < 16384 = search rules in
