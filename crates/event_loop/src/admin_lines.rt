@@ -3,20 +3,17 @@
 ghost use Rattle.std.specs.Prelude.{ℕ, IfSome, IfNone};
 ghost use Rattle.event_loop.specs.Requests.{Asks, SpellsSize};
 
-use adapt_bytes::read_decimal;
+use adapt_bytes::{MAX_CAPACITY, read_decimal};
 
 /// The most bytes of a line, its LF aside.
 pub const MAX_ADMIN_LINE: usize = 256;
-
-/// The largest buffer budget, `2^40` bytes.
-const MAX_CAPACITY: u64 = 1_099_511_627_776;
 
 /// What the administrator asks for.
 #[derive(Clone, Copy, Debug, PartialEq, Eq)]
 pub enum Request {
     /// `book`: the usage totals of the buffer budget.
     Book,
-    /// `capacity N`: another size of the buffer budget, 1 to `2^40` bytes.
+    /// `capacity N`: another size of the buffer budget, 1 to [`MAX_CAPACITY`] bytes.
     Capacity(u64),
     /// `stop`: every transaction fails, and the program ends.
     Stop,
