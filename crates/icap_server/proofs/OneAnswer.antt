@@ -36,7 +36,8 @@ use Rattle.icap_services.specs.Texts.{Shown}
 use Rattle.icap_server.specs.declared.call.Call.{Call}
 use Rattle.icap_server.specs.declared.call.Verdict.{Verdict}
 use Rattle.icap_server.specs.declared.call.Verdict.TheVariants.{Refused, Describes, Offers}
-use Rattle.icap_server.specs.Answers.{First, Opens, IsFirst, Follows, ReadsBody, ReadsChunks, EndsBody, EndsFirst, ReadsRest, EndsRest, Leads, Answers, IsOver, body_limit, due_to}
+use Rattle.icap_server.specs.declared.side.body.TheConstants.{MAX_BODY}
+use Rattle.icap_server.specs.Answers.{First, Opens, IsFirst, Follows, ReadsBody, ReadsChunks, EndsBody, EndsFirst, ReadsRest, EndsRest, Leads, Answers, IsOver, due_to}
 use Rattle.icap_server.specs.Answers.First.{whole, last}
 use Rattle.icap_server.specs.Answers.Leads.{here, behind}
 use Rattle.icap_server.specs.HeadParts.{IsHead, BreaksHead, OpenHead, HeadsWhole, HeadsBroken, HeadsOpen, middle, has_head_sizes}
@@ -86,8 +87,8 @@ ends_rest_one s call heads preview text body (Ended ieof used) f f' e e' = e ∙
 
 rest_one : (s : Shown) (call : Call) (heads preview text : List ℕ) (f f' : First) → ReadsRest s call heads preview text f → ReadsRest s call heads preview text f' → f ≡ f'
 rest_one s call heads preview text f f' (inl (over, e)) (inl (over', e')) = e ∙ sym e'
-rest_one s call heads preview text f f' (inl (over, e)) (inr (body, outcome, reading, fits, h)) = absurd (not_over (body_limit - length preview) text body outcome reading (omega (arith, fits)) over)
-rest_one s call heads preview text f f' (inr (body, outcome, reading, fits, h)) (inl (over, e)) = absurd (not_over (body_limit - length preview) text body outcome reading (omega (arith, fits)) over)
+rest_one s call heads preview text f f' (inl (over, e)) (inr (body, outcome, reading, fits, h)) = absurd (not_over (MAX_BODY - length preview) text body outcome reading (omega (arith, fits)) over)
+rest_one s call heads preview text f f' (inr (body, outcome, reading, fits, h)) (inl (over, e)) = absurd (not_over (MAX_BODY - length preview) text body outcome reading (omega (arith, fits)) over)
 rest_one s call heads preview text f f' (inr (body, outcome, reading, fits, h)) (inr (body', outcome', reading', fits', h')) =
     let same = one_outcome text body body' outcome outcome' reading reading' in
     let P : List ℕ → Type 0 = λ b. EndsRest s call heads preview text b outcome' f' in
@@ -108,8 +109,8 @@ ends_body_one s call heads text body (Ended ieof used) f f' h h' = ends_first_on
 
 chunks_one : (s : Shown) (call : Call) (heads text : List ℕ) (f f' : First) → ReadsChunks s call heads text f → ReadsChunks s call heads text f' → f ≡ f'
 chunks_one s call heads text f f' (inl (over, e)) (inl (over', e')) = e ∙ sym e'
-chunks_one s call heads text f f' (inl (over, e)) (inr (body, outcome, reading, fits, h)) = absurd (not_over body_limit text body outcome reading fits over)
-chunks_one s call heads text f f' (inr (body, outcome, reading, fits, h)) (inl (over, e)) = absurd (not_over body_limit text body outcome reading fits over)
+chunks_one s call heads text f f' (inl (over, e)) (inr (body, outcome, reading, fits, h)) = absurd (not_over MAX_BODY text body outcome reading fits over)
+chunks_one s call heads text f f' (inr (body, outcome, reading, fits, h)) (inl (over, e)) = absurd (not_over MAX_BODY text body outcome reading fits over)
 chunks_one s call heads text f f' (inr (body, outcome, reading, fits, h)) (inr (body', outcome', reading', fits', h')) =
     let same = one_outcome text body body' outcome outcome' reading reading' in
     let P : List ℕ → Type 0 = λ b. EndsBody s call heads text b outcome' f' in

@@ -26,7 +26,8 @@ use Rattle.icap_services.specs.Texts.{Shown, options_text, continue_text, error_
 use Rattle.icap_server.specs.declared.call.Call.{Call}
 use Rattle.icap_server.specs.declared.call.Verdict.{Verdict}
 use Rattle.icap_server.specs.declared.call.Verdict.TheVariants.{Refused, Describes, Offers}
-use Rattle.icap_server.specs.Answers.{First, IsFirst, Follows, ReadsBody, ReadsChunks, EndsBody, EndsFirst, ReadsRest, EndsRest, Answers, IsOver, body_limit, due_to, answered, null_preview}
+use Rattle.icap_server.specs.declared.side.body.TheConstants.{MAX_BODY}
+use Rattle.icap_server.specs.Answers.{First, IsFirst, Follows, ReadsBody, ReadsChunks, EndsBody, EndsFirst, ReadsRest, EndsRest, Answers, IsOver, due_to, answered, null_preview}
 use Rattle.icap_server.specs.Answers.First.{whole, last}
 use Rattle.icap_server.specs.Answers.Leads.{here, behind}
 use Rattle.icap_server.specs.HeadParts.{IsHead, BreaksHead, OpenHead, HeadsWhole, HeadsBroken, HeadsOpen, middle, ends_blank, has_head_sizes}
@@ -60,17 +61,17 @@ some_rest_end s call heads preview text body Begun = (_, refl, tt)
 some_rest_end s call heads preview text body (Faulted fault) = (_, refl, tt)
 some_rest_end s call heads preview text body (Ended ieof used) = (_, refl, dropped used text)
 
-some_rest : (s : Shown) (call : Call) (heads preview text : List ℕ) → length preview ≤ body_limit → Some_first (ReadsRest s call heads preview text) (length text)
+some_rest : (s : Shown) (call : Call) (heads preview text : List ℕ) → length preview ≤ MAX_BODY → Some_first (ReadsRest s call heads preview text) (length text)
 some_rest s call heads preview text short =
     let read = some_reading text in
-    elim (cases_lt (body_limit - length preview) (length read.0)) [
-      | inl over ↦ (last (continue_text ++ error_text s ServerError), inl (all_over (body_limit - length preview) text read.0 read.1 read.2 over, refl), tt)
+    elim (cases_lt (MAX_BODY - length preview) (length read.0)) [
+      | inl over ↦ (last (continue_text ++ error_text s ServerError), inl (all_over (MAX_BODY - length preview) text read.0 read.1 read.2 over, refl), tt)
       | inr fits ↦
           let end = some_rest_end s call heads preview text read.0 read.1 in
           (end.0, inr (read.0, read.1, read.2, omega (arith, short, fits), end.1), end.2)
     ]
 
-some_first_end : (s : Shown) (call : Call) (heads body : List ℕ) (ieof preview : Bool) (rest : List ℕ) → length body ≤ body_limit
+some_first_end : (s : Shown) (call : Call) (heads body : List ℕ) (ieof preview : Bool) (rest : List ℕ) → length body ≤ MAX_BODY
     → Some_first (EndsFirst s call heads body ieof preview rest) (length rest)
 some_first_end s call heads body ieof false rest short = (_, refl, omega arith)
 some_first_end s call heads body ieof true rest short = elim (cases_Bool (wants_rest call.service ieof)) [
@@ -78,7 +79,7 @@ some_first_end s call heads body ieof true rest short = elim (cases_Bool (wants_
   | inr enough ↦ (whole (answered s call heads (Some body) (Some ieof)) rest, inl (enough, refl), omega arith)
 ]
 
-some_body_end : (s : Shown) (call : Call) (heads text body : List ℕ) (outcome : Outcome) → length body ≤ body_limit → Some_first (EndsBody s call heads text body outcome) (length text)
+some_body_end : (s : Shown) (call : Call) (heads text body : List ℕ) (outcome : Outcome) → length body ≤ MAX_BODY → Some_first (EndsBody s call heads text body outcome) (length text)
 some_body_end s call heads text body Begun short = (_, refl, tt)
 some_body_end s call heads text body (Faulted fault) short = (_, refl, tt)
 some_body_end s call heads text body (Ended ieof used) short =
@@ -88,8 +89,8 @@ some_body_end s call heads text body (Ended ieof used) short =
 some_chunks : (s : Shown) (call : Call) (heads text : List ℕ) → Some_first (ReadsChunks s call heads text) (length text)
 some_chunks s call heads text =
     let read = some_reading text in
-    elim (cases_lt body_limit (length read.0)) [
-      | inl over ↦ (last (error_text s ServerError), inl (all_over body_limit text read.0 read.1 read.2 over, refl), tt)
+    elim (cases_lt MAX_BODY (length read.0)) [
+      | inl over ↦ (last (error_text s ServerError), inl (all_over MAX_BODY text read.0 read.1 read.2 over, refl), tt)
       | inr fits ↦ let end = some_body_end s call heads text read.0 read.1 fits in (end.0, inr (read.0, read.1, read.2, fits, end.1), end.2)
     ]
 

@@ -2,7 +2,7 @@
 ghost use Rattle.std.specs.Prelude.{◌≡◌, ◌<◌, ◌≤◌, ◌++◌, true, false, length, take, IfOk};
 ghost use Rattle.icap_services.specs.Texts.{shown};
 ghost use Rattle.icap_server.specs.declared.stage.Stage.TheVariants.{Body, Rest};
-ghost use Rattle.icap_server.specs.Answers.{body_limit};
+ghost use Rattle.icap_server.specs.declared.side.body.TheConstants.{MAX_BODY};
 ghost use Rattle.icap_server.specs.Served.{HasServedOn, HasServedSome};
 
 use crate::NoMemory;
@@ -97,8 +97,8 @@ impl ServerSide {
     /// Keeps more of the body, unless that were too much.
     fn keep(&mut self, part: &[u8]) -> Result<bool, NoMemory>
         ensures kept { IfOk result (λ kept. kept ≡ true → (self.new.body.items ≡ self.old.body.items ++ part.now)
-            × (length self.new.body.items ≤ body_limit)) }
-        ensures over { IfOk result (λ kept. kept ≡ false → body_limit < length (self.old.body.items ++ part.now)) }
+            × (length self.new.body.items ≤ MAX_BODY)) }
+        ensures over { IfOk result (λ kept. kept ≡ false → MAX_BODY < length (self.old.body.items ++ part.now)) }
         ensures stage { self.new.stage ≡ self.old.stage }
         ensures input { self.new.input.items ≡ self.old.input.items }
         ensures settings { shown self.new.settings ≡ shown self.old.settings }
