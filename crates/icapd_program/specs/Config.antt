@@ -1,13 +1,15 @@
 -- The configuration of `icapd serve`: what each key may hold, and which fault is answered.
-use Rattle.std.specs.Prelude.{◌≡◌, ◌≢◌, ℕ, ◌≤◌, ◌<◌, ◌^◌, ◌⊎◌, Bool, true, false, ℤ, pos, List, length, codes, Option, Some, None, is_some, option_and_then, IsUtf8, string_bytes}
+use Rattle.std.specs.Prelude.{◌≡◌, ◌≢◌, ℕ, ◌≤◌, ◌<◌, ◌⊎◌, Bool, true, false, ℤ, pos, List, length, codes, Option, Some, None, is_some, option_and_then, IsUtf8, string_bytes}
 use Rattle.std.specs.Net.Grammar.{IsSocketV4Text}
 use Rattle.std.specs.Net.Socket.{v4_port}
 use Rattle.std.specs.declared.net.socket_addr.SocketAddrV4.{SocketAddrV4}
 use Rattle.toml.specs.Data.{Members, get_member, as_str, as_integer}
 use Rattle.toml.specs.Parse.{parse_document}
+use Rattle.icap_services.specs.declared.settings.TheConstants.{MAX_TTL}
 use Rattle.icap_services.specs.Ranges.{IsTag}
 use Rattle.icap_services.specs.Texts.{Shown}
-use Rattle.adapt_bytes.specs.declared.limits.TheConstants.{MAX_INPUT}
+use Rattle.adapt_bytes.specs.declared.limits.TheConstants.{MAX_CONNECTIONS, MAX_INPUT, MAX_PREVIEW}
+use Rattle.icapd_program.specs.declared.config.TheConstants.{DEFAULT_MAX, DEFAULT_PREVIEW, DEFAULT_TTL}
 use Rattle.icapd_program.specs.declared.error.Error.{Error}
 use Rattle.icapd_program.specs.declared.error.Error.TheVariants.{InputTooLong, Config as NoTable, NoMemory, Key as OfKey}
 use Rattle.icapd_program.specs.declared.error.Key.{Key}
@@ -41,13 +43,13 @@ NumberIs key least most default table n =
     ⊎ ((is_at key table ≡ true) × (integer_at key table ≡ Some (pos n)) × (least ≤ n) × (n ≤ most))
 
 abbrev pub MaxIs : Members → ℕ → Type 0
-MaxIs table n = NumberIs (codes "max") 1 1024 16 table n
+MaxIs table n = NumberIs (codes "max") 1 MAX_CONNECTIONS DEFAULT_MAX table n
 
 abbrev pub TtlIs : Members → ℕ → Type 0
-TtlIs table n = NumberIs (codes "ttl") 0 (2 ^ 31) 3600 table n
+TtlIs table n = NumberIs (codes "ttl") 0 MAX_TTL DEFAULT_TTL table n
 
 abbrev pub PreviewIs : Members → ℕ → Type 0
-PreviewIs table n = NumberIs (codes "preview") 0 65536 1024 table n
+PreviewIs table n = NumberIs (codes "preview") 0 MAX_PREVIEW DEFAULT_PREVIEW table n
 
 -- a key that a configuration may have
 abbrev pub IsKnown : List ℕ → Type 0

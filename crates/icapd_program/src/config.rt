@@ -12,6 +12,15 @@ use std::alloc::Global;
 use std::net::SocketAddrV4;
 use toml::Table;
 
+/// How many connections are served at once, where nothing else is said.
+pub(crate) const DEFAULT_MAX: u64 = 16;
+
+/// For how many seconds an OPTIONS answer may be kept, where nothing else is said.
+pub(crate) const DEFAULT_TTL: u64 = 3600;
+
+/// How many bytes of a body a preview may have, where nothing else is said.
+pub(crate) const DEFAULT_PREVIEW: u64 = 1024;
+
 /// Where `icapd serve` listens, and what its answers say of it.
 #[derive(Debug, Drop)]
 pub struct Config {
@@ -54,13 +63,13 @@ fn read_table(alloc: Global, table: &Table) -> Result<Config, Error>
     let Some(istag) = tag_of(table) else {
         return Err(Error::Key(Key::Istag));
     };
-    let Some(max) = number_of(table, "max", 1, MAX_CONNECTIONS, 16) else {
+    let Some(max) = number_of(table, "max", 1, MAX_CONNECTIONS, DEFAULT_MAX) else {
         return Err(Error::Key(Key::Max));
     };
-    let Some(ttl) = number_of(table, "ttl", 0, MAX_TTL, 3600) else {
+    let Some(ttl) = number_of(table, "ttl", 0, MAX_TTL, DEFAULT_TTL) else {
         return Err(Error::Key(Key::Ttl));
     };
-    let Some(preview) = number_of(table, "preview", 0, MAX_PREVIEW, 1024) else {
+    let Some(preview) = number_of(table, "preview", 0, MAX_PREVIEW, DEFAULT_PREVIEW) else {
         return Err(Error::Key(Key::Preview));
     };
     if let Some(key) = unknown_of(table) {
