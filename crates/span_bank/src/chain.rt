@@ -3,13 +3,11 @@ ghost use Rattle.std.specs.Prelude.{◌≡◌, ◌+◌, ◌-◌, ◌≤◌, ◌<
 ghost use Rattle.span_bank.specs.Chain.{contents_of, text_of};
 
 use crate::NoMemory;
+use crate::step::PAGE_BYTES;
 use std::alloc::Global;
 use std::boxed::Box;
 use std::marker::Model;
 use std::mem;
-
-/// The bytes of a page.
-pub const PAGE: usize = 4096;
 
 /// The most pages of a chain.
 pub const MAX_PAGES: u64 = 1 << 40;
@@ -18,7 +16,7 @@ pub const MAX_PAGES: u64 = 1 << 40;
 #[cycle(chain)]
 #[derive(Drop)]
 pub struct Page {
-    bytes: [u8; PAGE],
+    bytes: [u8; PAGE_BYTES as usize],
     rest: Chain,
 }
 
@@ -37,18 +35,19 @@ pub struct Chain {
 }
 
 impl Model for Chain {
-    ghost use Rattle.std.specs.Prelude.{◌≡◌, ◌≤◌, ◌*◌, ◌^◌, ℕ, List, length};
+    ghost use Rattle.std.specs.Prelude.{◌≡◌, ◌≤◌, ◌*◌, ℕ, List, length};
 
     ghost Value = { List (List ℕ) };
 
     ghost use Rattle.span_bank.specs.Chain.{contents_of, text_of};
-    ghost use Rattle.span_bank.specs.declared.chain.TheConstants.{PAGE};
+    ghost use Rattle.span_bank.specs.declared.chain.TheConstants.{MAX_PAGES};
+    ghost use Rattle.span_bank.specs.declared.step.TheConstants.{PAGE_BYTES};
     ghost use Rattle.std.proofs.Common.{arith};
 
     ghost view = { λ p. contents_of p.top };
 
-    ghost invariant = { λ p. (p.count ≡ length (contents_of p.top)) × (p.count ≤ 2 ^ 40)
-        × (length (text_of (contents_of p.top)) ≡ PAGE * p.count) };
+    ghost invariant = { λ p. (p.count ≡ length (contents_of p.top)) × (p.count ≤ MAX_PAGES)
+        × (length (text_of (contents_of p.top)) ≡ PAGE_BYTES * p.count) };
 
     ghost size = { λ ps. length ps };
 
@@ -62,7 +61,7 @@ pub(crate) fn blank(alloc: Global) -> Result<Box<Page>, NoMemory>
     Ok(Box::new(
         alloc,
         Page {
-            bytes: [0; PAGE],
+            bytes: [0; PAGE_BYTES as usize],
             rest: Chain::none(),
         },
     )?)
@@ -72,14 +71,14 @@ impl Page {
     /// What stands on it.
     pub fn bytes(&self) -> &[u8]
         ensures bytes { result.now ≡ self.now.bytes }
-        ensures size { length self.now.bytes ≡ PAGE }
+        ensures size { length self.now.bytes ≡ PAGE_BYTES }
     {
         &self.bytes[..]
     }
 
     /// Writes bytes at a place.
     pub fn write(&mut self, at: usize, bytes: &[u8])
-        requires { at + length bytes.now ≤ PAGE }
+        requires { at + length bytes.now ≤ PAGE_BYTES }
         ensures written { self.new.bytes ≡ take at self.old.bytes ++ bytes.now ++ drop (at + length bytes.now) self.old.bytes }
         ensures rest { self.new.rest ≡ self.old.rest }
     {
@@ -102,7 +101,7 @@ impl Chain {
     pub fn count(&self) -> u64
         ensures count { result ≡ length self.now }
         ensures within { length self.now ≤ MAX_PAGES }
-        ensures text { length (text_of self.now) ≡ PAGE * length self.now }
+        ensures text { length (text_of self.now) ≡ PAGE_BYTES * length self.now }
     {
         self.count
     }
@@ -128,7 +127,7 @@ impl Chain {
     /// Takes the first page.
     pub fn pop(&mut self) -> Option<Box<Page>>
         ensures some { IfSome result (λ p. (p.value.rest ≡ []) × (self.old ≡ p.value.bytes ∷ self.new)) }
-        ensures size { IfSome result (λ p. length p.value.bytes ≡ PAGE) }
+        ensures size { IfSome result (λ p. length p.value.bytes ≡ PAGE_BYTES) }
         ensures none { IfNone result ((self.old ≡ []) × (self.new ≡ [])) }
     {
         match mem::replace(self, Chain::none()).into_top().first() {
@@ -153,7 +152,7 @@ impl Chain {
     /// The first page, read in place, and those behind it.
     pub fn first(&self) -> Option<(&Page, &Chain)>
         ensures some { IfSome result (λ p. self.now ≡ p.0.now.bytes ∷ p.1.now) }
-        ensures size { IfSome result (λ p. length p.0.now.bytes ≡ PAGE) }
+        ensures size { IfSome result (λ p. length p.0.now.bytes ≡ PAGE_BYTES) }
         ensures none { IfNone result (self.now ≡ []) }
     {
         match &self.top {

@@ -17,7 +17,7 @@ mod tests;
 mod window;
 
 pub use crate::bank::{Bank, Book};
-pub use crate::chain::{Chain, MAX_PAGES, PAGE, Page};
+pub use crate::chain::{Chain, MAX_PAGES, Page};
 pub use crate::journal::Journal;
 pub use crate::ledgers::{Blanks, Four, Ledgers};
 pub use crate::locked::Locked;

@@ -1,5 +1,6 @@
 //! A reservation: one transaction's part of the budget.
-ghost use Rattle.std.specs.Prelude.{◌≡◌, ◌+◌, ◌-◌, ◌*◌, ◌≤◌, ◌<◌, ◌^◌};
+ghost use Rattle.std.specs.Prelude.{◌≡◌, ◌+◌, ◌-◌, ◌*◌, ◌≤◌, ◌<◌};
+ghost use Rattle.adapt_bytes.specs.declared.limits.TheConstants.{MAX_CAPACITY};
 ghost use Rattle.span_bank.specs.Ledgers.{Amounts, no_amounts, plus};
 ghost use Rattle.span_bank.specs.Stakes.{most_pages};
 
@@ -20,8 +21,9 @@ pub struct Stake<B: Ledgers> {
 }
 
 impl<B: Ledgers> Model for Stake<B> {
-    ghost use Rattle.std.specs.Prelude.{◌≡◌, ◌+◌, ◌*◌, ◌≤◌, ◌^◌};
+    ghost use Rattle.std.specs.Prelude.{◌≡◌, ◌+◌, ◌*◌, ◌≤◌};
     ghost use Rattle.span_bank.specs.Stakes.{Shown};
+    ghost use Rattle.adapt_bytes.specs.declared.limits.TheConstants.{MAX_CAPACITY};
     ghost use Rattle.span_bank.specs.declared.step.TheConstants.{PAGE_BYTES, SPARE_PAGES};
 
     ghost Value = { Shown };
@@ -30,7 +32,7 @@ impl<B: Ledgers> Model for Stake<B> {
 
     // one part of each ledger, with the bytes held, the rest of the claim, the bytes of the pages
     // that may still be had, and the pages as their amounts
-    ghost invariant = { λ s. (s.claim ≤ 2 ^ 40) × (s.parts.parts ≡ 1) × (s.parts.amounts.held ≡ s.held)
+    ghost invariant = { λ s. (s.claim ≤ MAX_CAPACITY) × (s.parts.parts ≡ 1) × (s.parts.amounts.held ≡ s.held)
         × (s.held + s.parts.amounts.free ≡ s.claim)
         × (s.parts.amounts.slack + PAGE_BYTES * s.pages ≡ s.held + SPARE_PAGES * PAGE_BYTES)
         × (s.parts.amounts.pages ≡ s.pages) };
@@ -38,7 +40,7 @@ impl<B: Ledgers> Model for Stake<B> {
 
 // A reservation of `claim` bytes that holds none, with a part of those that stay under the lock.
 pub(crate) fn lend<B: Ledgers>(books: &mut Books<B>, rest: &mut Parts<B>, claim: u64) -> Stake<B>
-    requires claim { claim ≤ 2 ^ 40 }
+    requires claim { claim ≤ MAX_CAPACITY }
     requires parts { 1 < rest.old.parts }
     ensures stake { result ≡ record { held = 0; claim = claim; pages = 0 } }
     ensures books { books.new ≡ plus books.old (record no_amounts { free = claim; slack = SPARE_PAGES * PAGE_BYTES }) }

@@ -5,7 +5,7 @@ ghost use Rattle.span_bank.specs.Chain.{text_of, down_of};
 ghost use Rattle.span_tape.specs.Queue.{Paged};
 ghost use Rattle.span_tape.specs.Tape.{page_count};
 
-use span_bank::{Chain, PAGE, PAGE_BYTES, Page, Pages};
+use span_bank::{Chain, PAGE_BYTES, Page, Pages};
 use std::boxed::Box;
 use std::marker::Model;
 use std::mem;
@@ -214,7 +214,7 @@ fn fill_last(back: &mut Chain, at: u64, bytes: &[u8]) -> usize
         Some(page) => {
             // Shows how many bytes the pages have.
             let _whole = back.count();
-            let done = bytes.len().min(PAGE - used);
+            let done = bytes.len().min(PAGE_BYTES as usize - used);
             put_last(back, page, used, &bytes[..done]);
             done
         }
@@ -237,7 +237,7 @@ fn append_last(back: &mut Chain, at: u64, bytes: &[u8], pages: &mut Pages)
         match pages.pop() {
             None => unreachable!(),
             Some(page) => {
-                let more = (bytes.len() - done).min(PAGE);
+                let more = (bytes.len() - done).min(PAGE_BYTES as usize);
                 put_last(back, page, 0, &bytes[done..done + more]);
                 done += more;
             }
@@ -254,7 +254,7 @@ fn copy_page(page: &Page, from: usize, out: &mut [u8], done: usize) -> usize
     ensures count { result ≡ min (length out.old) (done + (PAGE_BYTES - from)) }
     ensures text { take result out.new ≡ take done out.old ++ take (result - done) (drop from page.now.bytes) }
 {
-    let more = (out.len() - done).min(PAGE - from);
+    let more = (out.len() - done).min(PAGE_BYTES as usize - from);
     out[done..done + more].copy_from_slice(&page.bytes()[from..from + more]);
     done + more
 }
