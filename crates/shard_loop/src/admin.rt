@@ -1,6 +1,7 @@
 //! The answers of the admin port.
 
 use crate::desk::Desk;
+use adapt_bytes::MAX_CAPACITY;
 use event_loop::Request;
 use span_bank::{CapacityFault, Ledgers};
 use std::alloc::AllocError;
@@ -31,7 +32,7 @@ impl<'a, B: Ledgers, Q: Ledger, A: Ledger, G: Gate> Desk<'a, B, Q, A, G> {
     }
 
     fn set_capacity<R: Wait>(&mut self, rt: &R, n: u64) -> Result<Vec<u8>, AllocError> {
-        let size = n.max(1).min(1_099_511_627_776);
+        let size = n.max(1).min(MAX_CAPACITY);
         match self.shared.bank.set_capacity(rt, size) {
             Ok(()) => b"ok\n".to_vec(self.alloc),
             Err(CapacityFault::TooLow { claimed }) => {
