@@ -206,13 +206,8 @@ fn source_of<'a>(
     }
 }
 
-/// Passes so many messages of the case on, one behind the other.
-pub(super) fn pass_all(
-    alloc: Global,
-    case: Case<'_>,
-    count: usize,
-    kept: &mut Kept,
-) -> Result<Option<Passed>, HttpFault> {
+/// The case's first message between its wires, before its first turn.
+fn exchange_of(alloc: Global, case: Case<'_>) -> Result<Option<Exchange>, HttpFault> {
     let (source, bytes, user) = source_of(alloc, case.input)?;
     let Some(state) = plain() else {
         return Ok(None);
@@ -229,13 +224,25 @@ pub(super) fn pass_all(
         Vec::new(alloc),
         case.writes.to_vec(alloc)?,
     )?;
-    let mut exchange = Exchange {
+    Ok(Some(Exchange {
         user,
         source,
         from,
         hop: NextHop::new(alloc),
         to,
         state,
+    }))
+}
+
+/// Passes so many messages of the case on, one behind the other.
+pub(super) fn pass_all(
+    alloc: Global,
+    case: Case<'_>,
+    count: usize,
+    kept: &mut Kept,
+) -> Result<Option<Passed>, HttpFault> {
+    let Some(mut exchange) = exchange_of(alloc, case)? else {
+        return Ok(None);
     };
     let mut end = exchange.pass(alloc, kept)?;
     for _ in 1..count {
