@@ -89,9 +89,10 @@ fn responses_without_a_body(rt: HostRuntime) {
     check_framings(&rt, &cases);
 }
 
+/// A length, or a list of lengths, of a form that is refused, whatever the status and the coding.
 #[test]
-fn refused_framings(rt: HostRuntime) {
-    let cases: [FramingCase<'_>; 9] = [
+fn refused_lengths(rt: HostRuntime) {
+    let cases: [FramingCase<'_>; 4] = [
         (
             b"HTTP/1.1 200 OK\r\nContent-Length: x\r\nTransfer-Encoding: chunked\r\n\r\n",
             false,
@@ -112,6 +113,14 @@ fn refused_framings(rt: HostRuntime) {
             false,
             Err(HttpFault::Lengths),
         ),
+    ];
+    check_framings(&rt, &cases);
+}
+
+/// Another coding than one `chunked`, whatever the status.
+#[test]
+fn refused_codings(rt: HostRuntime) {
+    let cases: [FramingCase<'_>; 3] = [
         (
             b"HTTP/1.1 200 OK\r\nTransfer-Encoding: chunked\r\nTransfer-Encoding:\r\n\r\n",
             false,
@@ -127,6 +136,14 @@ fn refused_framings(rt: HostRuntime) {
             false,
             Err(HttpFault::Coding),
         ),
+    ];
+    check_framings(&rt, &cases);
+}
+
+/// A status line that is none.
+#[test]
+fn refused_status_lines(rt: HostRuntime) {
+    let cases: [FramingCase<'_>; 2] = [
         (b"HTTP/1.1 20 OK\r\n\r\n", false, Err(HttpFault::Bad)),
         (b"HTTP/1.1 200 O\0K\r\n\r\n", false, Err(HttpFault::Bad)),
     ];
