@@ -145,45 +145,50 @@ const RESPONSES: [&[u8]; 4] = [
     b"HTTP/1.1 200 OK\r\nVia: 1.1 a\r\nConnection: close\r\nTransfer-Encoding: chunked\r\n\r\n",
 ];
 
-/// How many fronts of these requests aren't `More`, and how many of them aren't read whole.
-fn misread_requests(alloc: Global, heads: &[&[u8]]) -> u64 {
-    let mut count: u64 = 0;
+/// Where a head is answered otherwise than `More` before its end, or isn't read whole: its text so far, and the answer.
+type Misread = Option<(&'static [u8], Option<HttpFault>)>;
+
+/// The first front of these requests that is misread.
+fn misread_requests(alloc: Global, heads: &[&'static [u8]]) -> Misread {
     for head in heads {
-        let text: &[u8] = *head;
+        let text: &'static [u8] = *head;
         for end in 0..text.len() {
-            if read_request(alloc, &text[..end], false).err() != Some(HttpFault::More) {
-                count = count.saturating_add(1);
+            let found = read_request(alloc, &text[..end], false).err();
+            if found != Some(HttpFault::More) {
+                return Some((&text[..end], found));
             }
         }
-        if read_request(alloc, text, false).is_err() {
-            count = count.saturating_add(1);
+        let found = read_request(alloc, text, false).err();
+        if found.is_some() {
+            return Some((text, found));
         }
     }
-    count
+    None
 }
 
 /// The same of responses.
-fn misread_responses(alloc: Global, heads: &[&[u8]]) -> u64 {
-    let mut count: u64 = 0;
+fn misread_responses(alloc: Global, heads: &[&'static [u8]]) -> Misread {
     for head in heads {
-        let text: &[u8] = *head;
+        let text: &'static [u8] = *head;
         for end in 0..text.len() {
-            if read_response(alloc, &text[..end], false).err() != Some(HttpFault::More) {
-                count = count.saturating_add(1);
+            let found = read_response(alloc, &text[..end], false).err();
+            if found != Some(HttpFault::More) {
+                return Some((&text[..end], found));
             }
         }
-        if read_response(alloc, text, false).is_err() {
-            count = count.saturating_add(1);
+        let found = read_response(alloc, text, false).err();
+        if found.is_some() {
+            return Some((text, found));
         }
     }
-    count
+    None
 }
 
 /// A head that is cut before its last byte is `More`.
 #[test]
 fn cut_at_every_byte(rt: HostRuntime) {
-    assert_eq!(rt; misread_requests(rt.alloc(), &REQUESTS), 0);
-    assert_eq!(rt; misread_responses(rt.alloc(), &RESPONSES), 0);
+    assert_eq!(rt; misread_requests(rt.alloc(), &REQUESTS), None);
+    assert_eq!(rt; misread_responses(rt.alloc(), &RESPONSES), None);
 }
 
 /// A response with this many fields.

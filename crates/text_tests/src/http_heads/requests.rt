@@ -6,15 +6,16 @@ fn fault(alloc: Global, text: &[u8]) -> Option<HttpFault> {
     read_request(alloc, text, false).err()
 }
 
-/// The first of these requests that is answered otherwise.
+/// The first of these requests that is answered otherwise, and what is answered.
 fn first_other(
     alloc: Global,
     texts: &[&'static [u8]],
     want: Option<HttpFault>,
-) -> Option<&'static [u8]> {
+) -> Option<(&'static [u8], Option<HttpFault>)> {
     for text in texts {
-        if fault(alloc, *text) != want {
-            return Some(*text);
+        let found = fault(alloc, *text);
+        if found != want {
+            return Some((*text, found));
         }
     }
     None

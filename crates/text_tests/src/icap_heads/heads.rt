@@ -23,8 +23,8 @@ fn read_requests(rt: &impl Abort, alloc: Global, cases: &[RequestCase<'_>]) -> R
         assert_eq!(rt; head.value.fields.len(), *count);
         assert!(rt; head.value.fields.first(name) == Some(*value));
         for cut in 0..text.len() {
-            let read = read_request(alloc, &text[..cut]);
-            assert!(rt; matches!(read, Err(HeadFault::More)), "at {cut}");
+            let read = read_request(alloc, &text[..cut]).err();
+            assert_eq!(rt; read, Some(HeadFault::More), "at {cut}");
         }
     }
     Ok(())
@@ -40,8 +40,8 @@ fn read_responses(rt: &impl Abort, alloc: Global, cases: &[ResponseCase<'_>]) ->
         assert_eq!(rt; head.value.fields.len(), *count);
         assert!(rt; head.value.fields.first(name) == Some(*value));
         for cut in 0..text.len() {
-            let read = read_response(alloc, &text[..cut]);
-            assert!(rt; matches!(read, Err(HeadFault::More)), "at {cut}");
+            let read = read_response(alloc, &text[..cut]).err();
+            assert_eq!(rt; read, Some(HeadFault::More), "at {cut}");
         }
     }
     Ok(())
@@ -272,8 +272,8 @@ fn status_lines(rt: HostRuntime) -> Result<(), Fail> {
         assert_eq!(rt; head.value.phrase.as_slice(), phrase);
         assert_eq!(rt; head.length, length);
         for cut in 0..length.min(text.len()) {
-            let found = read_response(rt.alloc(), &text[..cut]);
-            assert!(rt; matches!(found, Err(HeadFault::More)), "at {cut}");
+            let found = read_response(rt.alloc(), &text[..cut]).err();
+            assert_eq!(rt; found, Some(HeadFault::More), "at {cut}");
         }
     }
     Ok(())
@@ -309,8 +309,8 @@ fn request_lines(rt: HostRuntime) -> Result<(), Fail> {
         assert_eq!(rt; head.length, length);
         assert!(rt; matches!(&head.value.method, Method::Reqmod));
         for cut in 0..length.min(text.len()) {
-            let found = read_request(rt.alloc(), &text[..cut]);
-            assert!(rt; matches!(found, Err(HeadFault::More)), "at {cut}");
+            let found = read_request(rt.alloc(), &text[..cut]).err();
+            assert_eq!(rt; found, Some(HeadFault::More), "at {cut}");
         }
     }
     Ok(())

@@ -17,8 +17,8 @@ fn with_fields(alloc: Global, count: usize) -> Result<Vec<u8>, NoMemory> {
 fn a_hundred_fields_are_read(rt: HostRuntime) -> Result<(), Fail> {
     for count in [0, 99, 100] {
         let mut text = with_fields(rt.alloc(), count)?;
-        let read = read_response(rt.alloc(), &text);
-        assert!(rt; matches!(read, Err(HeadFault::More)), "{count} fields");
+        let read = read_response(rt.alloc(), &text).err();
+        assert_eq!(rt; read, Some(HeadFault::More), "{count} fields");
         text.extend_from_slice(b"\r\n")?;
         let head = read_response(rt.alloc(), &text)?;
         assert_eq!(rt; head.value.fields.len(), count);
@@ -31,15 +31,15 @@ fn a_hundred_fields_are_read(rt: HostRuntime) -> Result<(), Fail> {
 fn the_end_of_line_101_is_too_many(rt: HostRuntime) -> Result<(), Fail> {
     let mut text = with_fields(rt.alloc(), 100)?;
     text.extend_from_slice(b"a: b\r")?;
-    let read = read_response(rt.alloc(), &text);
-    assert!(rt; matches!(read, Err(HeadFault::More)));
-    text.push(b'\n')?;
-    let read = read_response(rt.alloc(), &text);
-    assert!(rt; matches!(read, Err(HeadFault::TooMany)));
+    let read = read_response(rt.alloc(), &text).err();
+    assert_eq!(rt; read, Some(HeadFault::More));
+    text.extend_from_slice(b"\n")?;
+    let read = read_response(rt.alloc(), &text).err();
+    assert_eq!(rt; read, Some(HeadFault::TooMany));
     for more in [b"\r\n".as_slice(), b"no field", b"a: b\r\n\r\n"] {
         text.extend_from_slice(more)?;
-        let read = read_response(rt.alloc(), &text);
-        assert!(rt; matches!(read, Err(HeadFault::TooMany)));
+        let read = read_response(rt.alloc(), &text).err();
+        assert_eq!(rt; read, Some(HeadFault::TooMany));
     }
     Ok(())
 }
@@ -49,8 +49,8 @@ fn a_bad_line_before_line_101_is_a_field_fault(rt: HostRuntime) -> Result<(), Fa
     let mut text = with_fields(rt.alloc(), 100)?;
     text.extend_from_slice(b"no field\r\n")?;
     for _ in 0..10 {
-        let read = read_response(rt.alloc(), &text);
-        assert!(rt; matches!(read, Err(HeadFault::Field)));
+        let read = read_response(rt.alloc(), &text).err();
+        assert_eq!(rt; read, Some(HeadFault::Field));
         text.extend_from_slice(b"a: b\r\n")?;
     }
     Ok(())
@@ -72,8 +72,8 @@ fn the_limit_of_bytes_is_exact(rt: HostRuntime) -> Result<(), Fail> {
     for size in [16_383, 16_384] {
         let mut text = of_size(rt.alloc(), size)?;
         assert_eq!(rt; text.len(), size);
-        let cut = read_request(rt.alloc(), &text[..size - 1]);
-        assert!(rt; matches!(cut, Err(HeadFault::More)), "{size} bytes");
+        let cut = read_request(rt.alloc(), &text[..size - 1]).err();
+        assert_eq!(rt; cut, Some(HeadFault::More), "{size} bytes");
         text.extend_from_slice(b"what follows")?;
         let head = read_request(rt.alloc(), &text)?;
         assert_eq!(rt; head.length, size);
@@ -90,11 +90,11 @@ fn front(text: &[u8], size: usize) -> &[u8] {
 fn one_more_byte_is_too_long(rt: HostRuntime) -> Result<(), Fail> {
     let text = of_size(rt.alloc(), 16_385)?;
     assert_eq!(rt; text.len(), 16_385);
-    let cut = read_request(rt.alloc(), front(&text, 16_383));
-    assert!(rt; matches!(cut, Err(HeadFault::More)));
+    let cut = read_request(rt.alloc(), front(&text, 16_383)).err();
+    assert_eq!(rt; cut, Some(HeadFault::More));
     for size in [16_384, 16_385] {
-        let read = read_request(rt.alloc(), front(&text, size));
-        assert!(rt; matches!(read, Err(HeadFault::TooLong)), "{size} bytes");
+        let read = read_request(rt.alloc(), front(&text, size)).err();
+        assert_eq!(rt; read, Some(HeadFault::TooLong), "{size} bytes");
     }
     Ok(())
 }
@@ -103,16 +103,16 @@ fn one_more_byte_is_too_long(rt: HostRuntime) -> Result<(), Fail> {
 fn a_line_without_end_is_too_long(rt: HostRuntime) -> Result<(), Fail> {
     let mut text = Vec::new(rt.alloc());
     for _ in 1..MAX_HEAD {
-        text.push(b' ')?;
+        text.extend_from_slice(b" ")?;
     }
-    let read = read_response(rt.alloc(), &text);
-    assert!(rt; matches!(read, Err(HeadFault::More)));
-    text.push(b' ')?;
-    let read = read_response(rt.alloc(), &text);
-    assert!(rt; matches!(read, Err(HeadFault::TooLong)));
-    text.push(b'\n')?;
-    let read = read_response(rt.alloc(), &text);
-    assert!(rt; matches!(read, Err(HeadFault::TooLong)));
+    let read = read_response(rt.alloc(), &text).err();
+    assert_eq!(rt; read, Some(HeadFault::More));
+    text.extend_from_slice(b" ")?;
+    let read = read_response(rt.alloc(), &text).err();
+    assert_eq!(rt; read, Some(HeadFault::TooLong));
+    text.extend_from_slice(b"\n")?;
+    let read = read_response(rt.alloc(), &text).err();
+    assert_eq!(rt; read, Some(HeadFault::TooLong));
     Ok(())
 }
 
@@ -128,17 +128,17 @@ fn a_fault_within_the_limit_goes_before_too_long(rt: HostRuntime) -> Result<(), 
     for (front, fault) in cases {
         let mut text = front.to_vec(rt.alloc())?;
         for _ in 0..MAX_HEAD {
-            text.push(b'x')?;
+            text.extend_from_slice(b"x")?;
         }
         text.extend_from_slice(b": y\r\n\r\n")?;
-        let read = read_response(rt.alloc(), &text);
-        assert!(rt; matches!(read, Err(found) if found == fault));
+        let read = read_response(rt.alloc(), &text).err();
+        assert_eq!(rt; read, Some(fault));
     }
     let mut text = with_fields(rt.alloc(), 101)?;
     for _ in 0..MAX_HEAD {
-        text.push(b'x')?;
+        text.extend_from_slice(b"x")?;
     }
-    let read = read_response(rt.alloc(), &text);
-    assert!(rt; matches!(read, Err(HeadFault::TooMany)));
+    let read = read_response(rt.alloc(), &text).err();
+    assert_eq!(rt; read, Some(HeadFault::TooMany));
     Ok(())
 }

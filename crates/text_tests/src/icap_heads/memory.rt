@@ -85,37 +85,49 @@ fn words_of_requests_whatever_memory_says(rt: HostRuntime) {
     }
 }
 
+/// Requests, the fault of their start line, and what is answered behind it.
+const REQUESTS: [(&[u8], HeadFault, HeadFault); 7] = [
+    (
+        b"REQMOD http://h/x ICAP/1.0\r\n\r\n",
+        HeadFault::StartLine,
+        HeadFault::NoMemory,
+    ),
+    (
+        b"REQMOD icap://h/x ICAP/1.1\r\n\r\n",
+        HeadFault::Version,
+        HeadFault::NoMemory,
+    ),
+    (
+        b"REQMOD http://h/x ICAP/1.0\r\n \r\n",
+        HeadFault::StartLine,
+        HeadFault::Field,
+    ),
+    (
+        b"REQMOD icap://h/x ICAP/1.1\r\n \r\n",
+        HeadFault::Version,
+        HeadFault::Field,
+    ),
+    (
+        b"REQMOD http://h/x ICAP/1.0\r\n",
+        HeadFault::StartLine,
+        HeadFault::More,
+    ),
+    (
+        b"OPTIONS icap://h/x ICAP/1.1\r\n",
+        HeadFault::Version,
+        HeadFault::More,
+    ),
+    (
+        b"OPTIONS icap://h/x ICAP/1.1\r\nHost : h\r\n",
+        HeadFault::Version,
+        HeadFault::Field,
+    ),
+];
+
 /// Where the URI finds no memory, the fault behind its line is answered, and `NoMemory` where there is none.
 #[test]
 fn start_lines_of_requests_or_what_stands_behind_them(rt: HostRuntime) {
-    let requests: [(&[u8], HeadFault, HeadFault); 5] = [
-        (
-            b"REQMOD http://h/x ICAP/1.0\r\n\r\n",
-            HeadFault::StartLine,
-            HeadFault::NoMemory,
-        ),
-        (
-            b"REQMOD icap://h/x ICAP/1.1\r\n\r\n",
-            HeadFault::Version,
-            HeadFault::NoMemory,
-        ),
-        (
-            b"REQMOD http://h/x ICAP/1.0\r\n \r\n",
-            HeadFault::StartLine,
-            HeadFault::Field,
-        ),
-        (
-            b"REQMOD icap://h/x ICAP/1.1\r\n \r\n",
-            HeadFault::Version,
-            HeadFault::Field,
-        ),
-        (
-            b"REQMOD http://h/x ICAP/1.0\r\n",
-            HeadFault::StartLine,
-            HeadFault::More,
-        ),
-    ];
-    for (text, first, behind) in requests {
+    for (text, first, behind) in REQUESTS {
         let read = read_request(rt.alloc(), text);
         assert!(rt;
             matches!(read, Err(found) if found == first || found == behind),
