@@ -6,13 +6,15 @@
 
 ghost use Rattle.std.specs.Prelude.{◌<◌, ◌≡◌, IfOk};
 
+mod counted;
 mod measured;
 #[cfg(test)]
 mod tests;
 mod worked;
 
 use adapt_bytes::read_decimal;
-use measured::{Measured, is_empty, measure};
+use counted::Calls;
+use measured::{Measured, WireCalls, is_empty, measure};
 use span_bank::{Bank, Blanks, Four};
 use std::alloc::{AllocError, Global};
 use std::marker::Brand;
@@ -27,7 +29,11 @@ use worked::Moving;
 const CAPACITY: u64 = 65536;
 
 /// What is told where a reservation is left: no exchange was whole.
-const LEFT: Measured = Measured { whole: 0, nanos: 0 };
+const LEFT: Measured = Measured {
+    whole: 0,
+    nanos: 0,
+    calls: WireCalls::NONE,
+};
 
 /// All measurements on one budget, which is empty behind them.
 fn run<H: Ledger, F: Ledger, S: Ledger, P: Ledger, R: Wait + Clock>(
@@ -61,11 +67,24 @@ fn main(rt: HostRuntime) -> io::Result<()> {
         blanks,
         times,
     )?;
-    let Measured { whole, nanos } = measured;
+    let Measured {
+        whole,
+        nanos,
+        calls,
+    } = measured;
     let each = nanos / u128::from(times);
-    eprintln!(rt;
-        "{each} ns an exchange of three reads and four writes; a transaction has {size} bytes"
-    )?;
+    eprintln!(rt; "{each} ns an exchange; a transaction has {size} bytes")?;
+    let WireCalls {
+        origin,
+        service,
+        user,
+    } = calls;
+    for (name, calls) in [("origin", origin), ("service", service), ("user", user)] {
+        let Calls { reads, writes } = calls;
+        eprintln!(rt;
+            "wire of the {name}: {reads} reads and {writes} writes in {times} exchanges"
+        )?;
+    }
     println!(rt; "whole {whole}")
 }
 

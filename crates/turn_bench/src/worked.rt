@@ -3,6 +3,7 @@
 ghost use Rattle.std.specs.Prelude.{◌≡◌, ◌≤◌, ◌^◌, IfSome};
 ghost use Rattle.plan_rules.specs.Claims.{claim_of};
 
+use crate::counted::{Calls, CountedWire};
 use adapt_turn::{Line, Outcome, Parts, Start, Tx};
 use http_relay::{NextHop, RelayFault, SourceSide};
 use icap_client::ServiceSide;
@@ -39,9 +40,9 @@ const UNAVAILABLE: &[u8] =
     b"HTTP/1.1 503 Service Unavailable\r\nContent-Length: 0\r\nConnection: close\r\n\r\n";
 
 /// Where the service is.
-const HOST: &[u8] = b"127.0.0.1";
+pub const HOST: &[u8] = b"127.0.0.1";
 
-const PORT: u16 = 1344;
+pub const PORT: u16 = 1344;
 
 const PATH: &[u8] = b"/respmod/upper";
 
@@ -51,7 +52,7 @@ pub const DEADLINE: u64 = 60;
 /// The moment at which an exchange begins, in seconds.
 pub const BEGIN: u64 = 100;
 
-/// A transaction over wires in memory, the origin's being one of these.
+/// A transaction over wires in memory, the source's being one of these.
 pub type MovingOn<B, A> = Tx<
     B,
     SourceSide,
@@ -59,12 +60,12 @@ pub type MovingOn<B, A> = Tx<
     NextHop,
     HeadMaker,
     A,
-    MemoryWire,
-    MemoryWire,
+    CountedWire,
+    CountedWire,
 >;
 
 /// A transaction whose wires are all of one kind.
-pub type Moving<B> = MovingOn<B, MemoryWire>;
+pub type Moving<B> = MovingOn<B, CountedWire>;
 
 /// What a transaction begins with.
 type Starting<B, A> = Start<
@@ -74,39 +75,56 @@ type Starting<B, A> = Start<
     NextHop,
     HeadMaker,
     A,
-    MemoryWire,
-    MemoryWire,
+    CountedWire,
+    CountedWire,
 >;
 
-/// The wires of an exchange.
+/// The wires of a transaction.
 #[derive(Drop)]
 pub struct Wires<A: Drop> {
-    pub origin: A,
-    pub service: MemoryWire,
-    pub user: MemoryWire,
+    pub source: A,
+    pub service: CountedWire,
+    pub next_hop: CountedWire,
 }
 
-/// What stands of an exchange before its reservation.
+/// What stands of a transaction before its reservation.
 #[derive(Drop)]
-struct Sides {
-    source: SourceSide,
-    service: ServiceSide,
-    heads: HeadMaker,
+pub struct Sides {
+    pub source: SourceSide,
+    pub service: ServiceSide,
+    pub heads: HeadMaker,
 }
 
-/// How an exchange ended, and what its wires took.
+/// How a transaction ended, and its wires.
 #[derive(Drop)]
-pub struct Ended {
+pub struct Ended<A: Drop> {
     pub outcome: Outcome,
-    pub to_service: Vec<u8>,
-    pub to_user: Vec<u8>,
+    pub source: A,
+    pub service: Option<CountedWire>,
+    pub next_hop: CountedWire,
 }
 
-impl Ended {
+impl<A: Drop> Ended<A> {
+    /// What the service's wire took.
+    pub fn to_service(&self) -> &[u8] {
+        match &self.service {
+            Some(wire) => wire.taken(),
+            None => &[],
+        }
+    }
+
+    /// How often the service's wire was called.
+    pub fn service_calls(&self) -> Calls {
+        match &self.service {
+            Some(wire) => wire.calls(),
+            None => Calls::NONE,
+        }
+    }
+
     /// Whether the user got the whole message, and no other end was told. An error where memory was wanted, and the user
     /// got the proxy's own answer alone or a front of the message, behind which it is cut.
     pub fn is_whole(&self) -> Result<bool, AllocError> {
-        let user = self.to_user.as_slice();
+        let user = self.next_hop.taken();
         match self.outcome {
             Outcome::Done => Ok(user == TO_USER),
             Outcome::Fail(Cause::Memory) if user == UNAVAILABLE || TO_USER.starts_with(user) => {
@@ -118,7 +136,7 @@ impl Ended {
 }
 
 /// Reads a head, which the wire gives in these many answers at most. An error where no memory is found for it.
-fn read_head(
+pub fn read_head(
     side: &mut SourceSide,
     wire: &mut impl Wire,
     answers: usize,
@@ -144,7 +162,7 @@ fn user_side(alloc: Global) -> Result<SourceSide, AllocError> {
 }
 
 /// The plan: a preview of four bytes. One that may begin anew is kept whole, so that a 204 may answer it at any moment.
-fn plan_of(retry: bool) -> Plan {
+pub fn plan_of(retry: bool) -> Plan {
     Plan {
         kind: Kind::Preview(4),
         allow: retry,
@@ -164,16 +182,11 @@ fn limits_of(retry: bool) -> Limits {
     }
 }
 
-/// All sides of the exchange. The origin gives its head in these many answers at most.
-fn make_sides(
-    alloc: Global,
-    origin: &mut impl Wire,
-    plan: &Plan,
-    answers: usize,
-) -> Result<Sides, AllocError> {
+/// All sides of the exchange.
+pub fn make_sides(alloc: Global, origin: &mut impl Wire, plan: &Plan) -> Result<Sides, AllocError> {
     let user = user_side(alloc)?;
     let mut source = SourceSide::response(alloc, false);
-    read_head(&mut source, origin, answers)?;
+    read_head(&mut source, origin, RESPONSE.len())?;
     let service = ServiceSide::new(alloc, plan, HOST, PORT, PATH, REQUEST, RESPONSE)?;
     Ok(Sides {
         source,
@@ -188,19 +201,30 @@ pub fn begin<B: Ledgers, A: Wire + Drop>(
     alloc: Global,
     bank: &Bank<B>,
     wires: Wires<A>,
-    retry: bool,
 ) -> Result<Option<MovingOn<B, A>>, AllocError> {
     let mut wires = wires;
-    let plan = plan_of(retry);
-    let limits = limits_of(retry);
-    let sides = make_sides(alloc, &mut wires.origin, &plan, RESPONSE.len())?;
+    let plan = plan_of(false);
+    let sides = make_sides(alloc, &mut wires.source, &plan)?;
+    Ok(reserve(rt, alloc, bank, wires, sides, plan))
+}
+
+/// Begins a transaction of this plan. `None` where it can't begin.
+pub fn reserve<B: Ledgers, A: Wire + Drop>(
+    rt: &impl Wait,
+    alloc: Global,
+    bank: &Bank<B>,
+    wires: Wires<A>,
+    sides: Sides,
+    plan: Plan,
+) -> Option<MovingOn<B, A>> {
+    let limits = limits_of(plan.retry);
     let bytes = claim(&plan, &limits);
     if bytes == 0 {
-        return Ok(None);
+        return None;
     }
     match bank.open(rt, bytes) {
-        Ok(stake) => Ok(start(rt, alloc, bank, wires, sides, plan, limits, stake)),
-        Err(_) => Ok(None),
+        Ok(stake) => start(rt, alloc, bank, wires, sides, plan, limits, stake),
+        Err(_) => None,
     }
 }
 
@@ -225,21 +249,21 @@ fn start<B: Ledgers, A: Wire + Drop>(
         heads,
     } = sides;
     let Wires {
-        origin,
+        source: source_wire,
         service: service_wire,
-        user,
+        next_hop,
     } = wires;
     let beginning = Beginning {
         plan,
         limits,
         stake,
         source,
-        source_wire: origin,
+        source_wire,
         service: Some(Line {
             side: service,
             wire: service_wire,
         }),
-        next_wire: user,
+        next_wire: next_hop,
         heads,
         deadline: DEADLINE,
         now: BEGIN,
@@ -277,13 +301,12 @@ fn undo<B: Ledgers, A: Wire + Drop>(rt: &impl Wait, bank: &Bank<B>, start: Start
     bank.close(rt, stake, Pages::none());
 }
 
-/// Ends the exchange: one that isn't over fails. Its reservation is closed.
+/// Ends a transaction: one that isn't over fails. Its reservation is closed.
 pub fn end<B: Ledgers, A: Wire + Drop>(
     rt: &impl Wait,
-    alloc: Global,
     bank: &Bank<B>,
     tx: MovingOn<B, A>,
-) -> Result<Ended, AllocError> {
+) -> Ended<A> {
     let mut tx = tx;
     tx.halt(rt, bank);
     match tx.into_parts() {
@@ -291,7 +314,7 @@ pub fn end<B: Ledgers, A: Wire + Drop>(
             let Parts {
                 stake,
                 source: _,
-                source_wire: _,
+                source_wire,
                 service,
                 next: _,
                 next_wire,
@@ -301,15 +324,15 @@ pub fn end<B: Ledgers, A: Wire + Drop>(
                 seen: _,
             } = parts;
             bank.close(rt, stake, Pages::none());
-            let to_service = match service {
-                Some(Line { side: _, wire }) => wire.taken().to_vec(alloc)?,
-                None => Vec::new(alloc),
-            };
-            Ok(Ended {
+            Ended {
                 outcome,
-                to_service,
-                to_user: next_wire.taken().to_vec(alloc)?,
-            })
+                source: source_wire,
+                service: match service {
+                    Some(Line { side: _, wire }) => Some(wire),
+                    None => None,
+                },
+                next_hop: next_wire,
+            }
         }
         Err(_) => unreachable!(),
     }

@@ -1,8 +1,11 @@
 //! What the wires of the exchange have to take, and wires that answer otherwise.
 
-use crate::worked::{ADAPTED, ANSWER, GO_ON, Wires, reads, writes};
+use crate::counted::CountedWire;
+use crate::worked::{ADAPTED, ANSWER, TO_USER, Wires, reads, writes};
+use adapt_turn::Outcome;
 use std::alloc::{AllocError, Global};
-use wire_kit::{MemoryWire, ReadAnswer, WriteAnswer};
+use trace_core::Cause;
+use wire_kit::{ReadAnswer, WriteAnswer};
 
 /// All that the service gets: the preview, and behind the 100 the rest.
 pub const TO_SERVICE: &[u8] =
@@ -12,97 +15,169 @@ pub const TO_SERVICE: &[u8] =
 pub const TO_SERVICE_WITH_ALLOW: &[u8] =
     b"RESPMOD icap://127.0.0.1:1344/respmod/upper ICAP/1.0\r\nHost: 127.0.0.1:1344\r\nAllow: 204\r\nPreview: 4\r\nEncapsulated: req-hdr=0, res-hdr=50, res-body=88\r\n\r\nGET http://o.test/a.txt HTTP/1.1\r\nHost: o.test\r\n\r\nHTTP/1.1 200 OK\r\nContent-Length: 6\r\n\r\n4\r\nabcd\r\n0\r\n\r\n2\r\nef\r\n0\r\n\r\n";
 
+/// How many bytes of both stand behind the preview.
+pub const REST: usize = 12;
+
+/// What the service answers: the 100, and behind it the adapted answer.
+pub const REPLIES: &[u8] =
+    b"ICAP/1.0 100 Continue\r\n\r\nICAP/1.0 200 OK\r\nISTag: \"adapt-1\"\r\nEncapsulated: res-hdr=0, res-body=38\r\n\r\nHTTP/1.1 200 OK\r\nContent-Length: 6\r\n\r\n6\r\nABCDEF\r\n0\r\n\r\n";
+
 /// The proxy's own answer where the service failed.
 pub const BAD_GATEWAY: &[u8] =
     b"HTTP/1.1 502 Bad Gateway\r\nContent-Length: 0\r\nConnection: close\r\n\r\n";
 
-/// The most answers of a wire.
+/// The bytes of the adapted answer up to the end of its heads, and up to its body's first byte.
+const HEADS: usize = 113;
+
+const BODY: usize = 116;
+
+/// The bytes of the body.
+pub const BODY_LEN: usize = 6;
+
+/// The most answers of a writer.
 const MOST: usize = 400;
 
-/// How the wires of an exchange answer.
+/// What a wire gives.
+#[derive(Clone, Copy, Debug)]
+pub struct Input {
+    pub text: &'static [u8],
+    /// So many bytes of the text, in all.
+    pub bytes: usize,
+    /// So many at once.
+    pub size: usize,
+    /// So often nothing behind them.
+    pub waits: usize,
+    /// What the wire answers at last.
+    pub then: ReadAnswer,
+}
+
+/// What a wire takes.
+#[derive(Clone, Copy, Debug)]
+pub struct Output {
+    /// So often it takes bytes.
+    pub times: usize,
+    /// So many at once.
+    pub size: usize,
+    /// What the wire answers at last.
+    pub then: WriteAnswer,
+}
+
+/// How the wires of a transaction answer.
 #[derive(Clone, Copy, Debug)]
 pub struct Pace {
-    /// The most bytes that a read gives, and that a write takes.
-    pub size: usize,
-    /// So many bytes the origin gives, in all, behind which its answers are `then`.
-    pub origin: usize,
-    pub service: usize,
-    /// How often the service's wire takes bytes, and the user's.
-    pub to_service: usize,
-    pub to_user: usize,
-    /// What reads answer behind the last byte, and writes behind the last that took some.
-    pub then: ReadAnswer,
-    pub refuse: WriteAnswer,
+    /// What the source gives, and the service.
+    pub given: Input,
+    pub heard: Input,
+    /// What the service takes, the next hop, and the source, where it is the user.
+    pub sent: Output,
+    pub taken: Output,
+    pub back: Output,
 }
 
-/// The answers of reads that give so many bytes, a few at a time, and then answer otherwise.
-fn reads_then(
-    alloc: Global,
-    bytes: usize,
-    size: usize,
-    then: ReadAnswer,
-) -> Result<Vec<ReadAnswer>, AllocError> {
-    let mut answers = reads(alloc, bytes / size.max(1), size)?;
-    let rest = bytes % size.max(1);
-    if rest > 0 {
-        answers.push(ReadAnswer::Bytes(rest))?;
+impl Input {
+    /// All of a text, so many bytes at once.
+    pub fn whole(text: &'static [u8], size: usize) -> Input {
+        Input {
+            text,
+            bytes: text.len(),
+            size,
+            waits: 0,
+            then: ReadAnswer::Wait,
+        }
     }
-    for _ in 0..4 {
-        answers.push(then)?;
+
+    /// The answers of its reads.
+    fn answers(&self, alloc: Global) -> Result<Vec<ReadAnswer>, AllocError> {
+        let size = self.size.max(1);
+        let mut answers = reads(alloc, self.bytes / size, size)?;
+        let rest = self.bytes % size;
+        if rest > 0 {
+            answers.push(ReadAnswer::Bytes(rest))?;
+        }
+        for _ in 0..self.waits {
+            answers.push(ReadAnswer::Wait)?;
+        }
+        answers.push(self.then)?;
+        Ok(answers)
     }
-    Ok(answers)
 }
 
-/// The answers of writes that take bytes so often, and then answer otherwise.
-fn writes_then(
-    alloc: Global,
-    count: usize,
-    size: usize,
-    then: WriteAnswer,
-) -> Result<Vec<WriteAnswer>, AllocError> {
-    let mut answers = writes(alloc, count, size)?;
-    for _ in 0..4 {
-        answers.push(then)?;
+impl Output {
+    /// All that is offered, so many bytes at once.
+    pub fn whole(size: usize) -> Output {
+        Output {
+            times: MOST,
+            size,
+            then: WriteAnswer::Wait,
+        }
     }
-    Ok(answers)
+
+    /// The answers of its writes.
+    fn answers(&self, alloc: Global) -> Result<Vec<WriteAnswer>, AllocError> {
+        let mut answers = writes(alloc, self.times.min(MOST), self.size)?;
+        answers.push(self.then)?;
+        Ok(answers)
+    }
 }
 
-/// The wires of an exchange that go by this pace. The service's 100 comes in reads of its own.
-pub fn paced(alloc: Global, pace: &Pace) -> Result<Wires<MemoryWire>, AllocError> {
-    let mut replies = GO_ON.to_vec(alloc)?;
-    replies.extend_from_slice(ADAPTED)?;
-    let given = reads_then(alloc, pace.origin, pace.size, pace.then)?;
-    let mut heard = reads_then(
-        alloc,
-        pace.service.min(GO_ON.len()),
-        pace.size,
-        ReadAnswer::Wait,
-    )?;
-    let last = reads_then(
-        alloc,
-        pace.service.saturating_sub(GO_ON.len()),
-        pace.size,
-        pace.then,
-    )?;
-    heard.extend_from_slice(&last)?;
-    let sent = writes_then(alloc, pace.to_service.min(MOST), pace.size, pace.refuse)?;
-    let taken = writes_then(alloc, pace.to_user.min(MOST), pace.size, pace.refuse)?;
-    Ok(Wires {
-        origin: MemoryWire::new(alloc, ANSWER.to_vec(alloc)?, given, Vec::new(alloc))?,
-        service: MemoryWire::new(alloc, replies, heard, sent)?,
-        user: MemoryWire::new(alloc, Vec::new(alloc), Vec::new(alloc), taken)?,
-    })
+impl Pace {
+    /// All of the exchange, so many bytes at once.
+    pub fn whole(size: usize) -> Pace {
+        Pace {
+            given: Input::whole(ANSWER, size),
+            heard: Input::whole(REPLIES, size),
+            sent: Output::whole(size),
+            taken: Output::whole(size),
+            back: Output::whole(size),
+        }
+    }
+
+    /// The wires of a transaction that go by it.
+    pub fn wires(&self, alloc: Global) -> Result<Wires<CountedWire>, AllocError> {
+        let Pace {
+            given,
+            heard,
+            sent,
+            taken,
+            back,
+        } = *self;
+        Ok(Wires {
+            source: wire(alloc, &given, &back)?,
+            service: wire(alloc, &heard, &sent)?,
+            next_hop: wire(alloc, &Input::whole(&[], 1), &taken)?,
+        })
+    }
 }
 
-/// All of the exchange, so many bytes at a time.
-pub fn whole(size: usize) -> Pace {
-    Pace {
-        size,
-        origin: ANSWER.len(),
-        service: GO_ON.len() + ADAPTED.len(),
-        to_service: MOST,
-        to_user: MOST,
-        then: ReadAnswer::Wait,
-        refuse: WriteAnswer::Wait,
+/// A wire of this input and this output.
+fn wire(alloc: Global, input: &Input, output: &Output) -> Result<CountedWire, AllocError> {
+    let text = input.text.to_vec(alloc)?;
+    CountedWire::new(alloc, text, input.answers(alloc)?, output.answers(alloc)?)
+}
+
+/// The ways in which a wire gives no more.
+pub const ENDS: [ReadAnswer; 2] = [ReadAnswer::Ended, ReadAnswer::Fault];
+
+/// All that the user gets where so many bytes of the adapted answer came: the proxy's own answer before its heads are whole,
+/// and then the head that goes on and the body's bytes that came.
+pub fn due(came: usize) -> &'static [u8] {
+    if came < HEADS {
+        return BAD_GATEWAY;
+    }
+    let missing = BODY_LEN - came.saturating_sub(BODY).min(BODY_LEN);
+    &TO_USER[..TO_USER.len() - missing]
+}
+
+/// Behind how many bytes of this text the adapted answer begins.
+pub fn behind(text: &[u8]) -> usize {
+    text.len().saturating_sub(ADAPTED.len())
+}
+
+/// How the exchange ends where the adapted answer came whole, and else for this cause.
+pub fn outcome(came: usize, cause: Cause) -> Outcome {
+    if came == ADAPTED.len() {
+        Outcome::Done
+    } else {
+        Outcome::Fail(cause)
     }
 }

@@ -1,100 +1,92 @@
 //! Wires that move a byte at a time, and wires that end or fail behind each byte.
 
-use super::cases::{BAD_GATEWAY, Pace, TO_SERVICE, paced, whole};
+use super::cases::{
+    BAD_GATEWAY, BODY_LEN, ENDS, Input, Output, Pace, REPLIES, TO_SERVICE, behind, due, outcome,
+};
 use super::{Rounds, ended};
-use crate::worked::{ADAPTED, ANSWER, Ended, GO_ON, TO_USER};
+use crate::worked::{ADAPTED, ANSWER, RESPONSE, TO_USER};
 use adapt_turn::Outcome;
 use std::test::Fail;
 use trace_core::Cause;
-use wire_kit::{ReadAnswer, WriteAnswer};
+use wire_kit::WriteAnswer;
 
 /// Rounds enough for a byte a turn.
-const ROUNDS: u32 = 500;
+const ROUNDS: usize = 500;
 
-/// Whether each wire took a front of its text, the user's a front of the message or the proxy's own answer alone.
-fn is_front(ended: &Ended) -> bool {
-    let user = ended.to_user.as_slice();
-    TO_SERVICE.starts_with(&ended.to_service) && (TO_USER.starts_with(user) || user == BAD_GATEWAY)
-}
+/// Behind so many bytes of the adapted answer a wire ends or fails in mid-exchange: round each border of its parts.
+const MOMENTS: [usize; 14] = [0, 1, 2, 74, 75, 112, 113, 115, 116, 117, 119, 122, 128, 129];
 
 #[test]
 fn any_bytes_at_a_time(rt: HostRuntime) -> Result<(), Fail> {
     for size in [1, 2, 3, 7, 16, 64, 256] {
-        let wires = paced(rt.alloc(), &whole(size))?;
-        let ended = ended(&rt, rt.alloc(), wires, &mut Rounds(ROUNDS))?.expect(
-            &rt,
-            "a transaction",
-        );
+        let ended = ended(&rt, rt.alloc(), &Pace::whole(size), &mut Rounds(ROUNDS))?;
         assert_eq!(rt; ended.outcome, Outcome::Done, "{size}");
-        assert_eq!(rt; ended.to_service.as_slice(), TO_SERVICE, "{size}");
-        assert_eq!(rt; ended.to_user.as_slice(), TO_USER, "{size}");
+        assert_eq!(rt; ended.to_service(), TO_SERVICE, "{size}");
+        assert_eq!(rt; ended.next_hop.taken(), TO_USER, "{size}");
     }
     Ok(())
 }
 
+/// The service answers the preview by the adapted answer, or by a 100 before it, and ends or fails behind each byte; what
+/// came goes to the user at once.
 #[test]
-fn a_service_that_closes_behind_each_byte_of_its_answer(rt: HostRuntime) -> Result<(), Fail> {
-    for bytes in 0..ADAPTED.len() {
-        let pace = Pace {
-            service: GO_ON.len() + bytes,
-            then: ReadAnswer::Ended,
-            ..whole(512)
-        };
-        let ended = ended(
-            &rt,
-            rt.alloc(),
-            paced(rt.alloc(), &pace)?,
-            &mut Rounds(ROUNDS),
-        )?
-        .expect(&rt, "a transaction");
-        assert_eq!(rt; ended.outcome, Outcome::Fail(Cause::Service), "{bytes}");
-        assert!(rt; is_front(&ended), "{bytes}");
-        // Before the adapted head is whole, no byte has gone to the user.
-        if bytes < 113 {
-            assert_eq!(rt; ended.to_user.as_slice(), BAD_GATEWAY, "{bytes}");
+fn a_service_that_breaks_behind_each_byte_of_its_answer(rt: HostRuntime) -> Result<(), Fail> {
+    for text in [ADAPTED, REPLIES] {
+        for then in ENDS {
+            for bytes in 0..=text.len() {
+                for size in [1, 512] {
+                    let pace = Pace {
+                        heard: Input {
+                            bytes,
+                            then,
+                            ..Input::whole(text, size)
+                        },
+                        ..Pace::whole(512)
+                    };
+                    let ended = ended(&rt, rt.alloc(), &pace, &mut Rounds(bytes / size + 8))?;
+                    let came = bytes.saturating_sub(behind(text));
+                    assert_eq!(rt; ended.next_hop.taken(), due(came), "{pace:?}");
+                    assert_eq!(rt; ended.outcome, outcome(came, Cause::Service), "{pace:?}");
+                }
+            }
         }
     }
     Ok(())
 }
 
+/// The origin ends or fails behind each byte of its body, once so many bytes of the service's answer came. No answer comes
+/// before the preview of four bytes is whole.
 #[test]
-fn a_service_that_fails_behind_each_byte(rt: HostRuntime) -> Result<(), Fail> {
-    for bytes in 0..GO_ON.len() + ADAPTED.len() {
-        let pace = Pace {
-            service: bytes,
-            then: ReadAnswer::Fault,
-            ..whole(1)
-        };
-        let ended = ended(
-            &rt,
-            rt.alloc(),
-            paced(rt.alloc(), &pace)?,
-            &mut Rounds(ROUNDS),
-        )?
-        .expect(&rt, "a transaction");
-        assert!(rt; ended.outcome != Outcome::Done, "{bytes}");
-        assert!(rt; is_front(&ended), "{bytes}");
-    }
-    Ok(())
-}
-
-#[test]
-fn an_origin_that_ends_behind_each_byte_of_its_body(rt: HostRuntime) -> Result<(), Fail> {
-    for bytes in 38..ANSWER.len() {
-        let pace = Pace {
-            origin: bytes,
-            then: ReadAnswer::Ended,
-            ..whole(1)
-        };
-        let ended = ended(
-            &rt,
-            rt.alloc(),
-            paced(rt.alloc(), &pace)?,
-            &mut Rounds(ROUNDS),
-        )?
-        .expect(&rt, "a transaction");
-        assert_eq!(rt; ended.outcome, Outcome::Fail(Cause::Source), "{bytes}");
-        assert!(rt; is_front(&ended), "{bytes}");
+fn an_origin_that_breaks_behind_each_byte_of_its_body(rt: HostRuntime) -> Result<(), Fail> {
+    for then in ENDS {
+        for text in [ADAPTED, REPLIES] {
+            for body in 0..BODY_LEN {
+                for moment in MOMENTS {
+                    // The preview goes in the first round, and then a byte of the answer comes in each. The origin's first
+                    // byte of the body was read with its head.
+                    let heard = behind(text).saturating_add(moment);
+                    let pace = Pace {
+                        given: Input {
+                            bytes: RESPONSE.len() + body,
+                            waits: heard.saturating_sub(1),
+                            then,
+                            ..Input::whole(ANSWER, 512)
+                        },
+                        heard: Input::whole(text, 1),
+                        ..Pace::whole(512)
+                    };
+                    let ended = ended(
+                        &rt,
+                        rt.alloc(),
+                        &pace,
+                        &mut Rounds(heard.saturating_add(8)),
+                    )?;
+                    let came = if body < 4 { 0 } else { moment };
+                    assert_eq!(rt; ended.next_hop.taken(), due(came), "{pace:?}");
+                    assert_eq!(rt; ended.outcome, outcome(came, Cause::Source), "{pace:?}");
+                }
+            }
+        }
     }
     Ok(())
 }
@@ -103,37 +95,30 @@ fn an_origin_that_ends_behind_each_byte_of_its_body(rt: HostRuntime) -> Result<(
 fn outputs_that_fail_behind_each_byte(rt: HostRuntime) -> Result<(), Fail> {
     for bytes in 0..TO_SERVICE.len() {
         let pace = Pace {
-            to_service: bytes,
-            refuse: WriteAnswer::Fault,
-            ..whole(1)
+            sent: Output {
+                times: bytes,
+                size: 1,
+                then: WriteAnswer::Fault,
+            },
+            ..Pace::whole(1)
         };
-        let ended = ended(
-            &rt,
-            rt.alloc(),
-            paced(rt.alloc(), &pace)?,
-            &mut Rounds(ROUNDS),
-        )?
-        .expect(&rt, "a transaction");
-        assert!(rt;
-            ended.to_service.len() == bytes && is_front(&ended),
-            "{bytes}"
-        );
+        let ended = ended(&rt, rt.alloc(), &pace, &mut Rounds(ROUNDS))?;
+        assert_eq!(rt; ended.to_service(), &TO_SERVICE[..bytes], "{bytes}");
+        assert_eq!(rt; ended.next_hop.taken(), BAD_GATEWAY, "{bytes}");
+        assert_eq!(rt; ended.outcome, Outcome::Fail(Cause::Service), "{bytes}");
     }
     for bytes in 0..TO_USER.len() {
         let pace = Pace {
-            to_user: bytes,
-            refuse: WriteAnswer::Fault,
-            ..whole(1)
+            taken: Output {
+                times: bytes,
+                size: 1,
+                then: WriteAnswer::Fault,
+            },
+            ..Pace::whole(1)
         };
-        let ended = ended(
-            &rt,
-            rt.alloc(),
-            paced(rt.alloc(), &pace)?,
-            &mut Rounds(ROUNDS),
-        )?
-        .expect(&rt, "a transaction");
+        let ended = ended(&rt, rt.alloc(), &pace, &mut Rounds(ROUNDS))?;
+        assert_eq!(rt; ended.next_hop.taken(), &TO_USER[..bytes], "{bytes}");
         assert_eq!(rt; ended.outcome, Outcome::Fail(Cause::NextHop), "{bytes}");
-        assert!(rt; ended.to_user.len() == bytes && is_front(&ended), "{bytes}");
     }
     Ok(())
 }

@@ -76,6 +76,22 @@ fn drive_to_end<B: Ledgers, A: Wire, R: Wait>(
     matches!(tx.turn(rt, bank, Side::Source, BEGIN), Turned::Finished(_))
 }
 
+/// What stays of an exchange without its origin's wire.
+fn without_source<A: Drop>(ended: Ended<A>) -> Ended<()> {
+    let Ended {
+        outcome,
+        source: _,
+        service,
+        next_hop,
+    } = ended;
+    Ended {
+        outcome,
+        source: (),
+        service,
+        next_hop,
+    }
+}
+
 /// The exchange whose body doesn't come before the other is finished. Its origin answers by this list.
 fn first<'a, B: Ledgers, R: Wait + Clock>(
     rt: &'a R,
@@ -83,9 +99,13 @@ fn first<'a, B: Ledgers, R: Wait + Clock>(
     bank: &Bank<B>,
     gate: &'a HoldGate,
     answers: &'a Answers,
-) -> Result<Option<Ended>, AllocError> {
-    let Wires { service, user, .. } = wires(alloc)?;
-    let origin = HeldWire {
+) -> Result<Option<Ended<()>>, AllocError> {
+    let Wires {
+        service,
+        next_hop,
+        ..
+    } = wires(alloc)?;
+    let source = HeldWire {
         rt,
         gate,
         wire: SharedWire::new(alloc, answers, ANSWER.to_vec(alloc)?, 0)?,
@@ -93,15 +113,15 @@ fn first<'a, B: Ledgers, R: Wait + Clock>(
         reads: 0,
     };
     let held = Wires {
-        origin,
+        source,
         service,
-        user,
+        next_hop,
     };
-    let Some(mut tx) = begin(rt, alloc, bank, held, false)? else {
+    let Some(mut tx) = begin(rt, alloc, bank, held)? else {
         return Ok(None);
     };
     drive_to_end(rt, bank, &mut tx);
-    Ok(Some(end(rt, alloc, bank, tx)?))
+    Ok(Some(without_source(end(rt, bank, tx))))
 }
 
 /// The same with its answers.
@@ -110,7 +130,7 @@ fn first_of_all<B: Ledgers, R: Wait + Clock>(
     alloc: Global,
     bank: &Bank<B>,
     gate: &HoldGate,
-) -> Result<Option<Ended>, AllocError> {
+) -> Result<Option<Ended<()>>, AllocError> {
     let answers = held_answers(alloc)?;
     first(rt, alloc, bank, gate, &answers)
 }
@@ -121,20 +141,20 @@ fn second<B: Ledgers, R: Wait>(
     alloc: Global,
     bank: &Bank<B>,
     gate: &HoldGate,
-) -> Result<Option<Ended>, AllocError> {
-    let Some(mut tx) = begin(rt, alloc, bank, wires(alloc)?, false)? else {
+) -> Result<Option<Ended<()>>, AllocError> {
+    let Some(mut tx) = begin(rt, alloc, bank, wires(alloc)?)? else {
         return Ok(None);
     };
     if drive_to_end(rt, bank, &mut tx) {
         gate.answered();
     }
-    Ok(Some(end(rt, alloc, bank, tx)?))
+    Ok(Some(without_source(end(rt, bank, tx))))
 }
 
 /// How both ended.
 type Ends = (
-    Result<Option<Ended>, AllocError>,
-    Result<Option<Ended>, AllocError>,
+    Result<Option<Ended<()>>, AllocError>,
+    Result<Option<Ended<()>>, AllocError>,
 );
 
 /// Both, each in a thread of its own.
@@ -206,8 +226,8 @@ fn two_threads_share_a_budget(rt: HostRuntime) -> Result<(), Fail> {
     let second = second?.expect(&rt, "the second transaction");
     for ended in [first, second] {
         assert_eq!(rt; ended.outcome, Outcome::Done);
-        assert_eq!(rt; ended.to_service.as_slice(), TO_SERVICE);
-        assert_eq!(rt; ended.to_user.as_slice(), TO_USER);
+        assert_eq!(rt; ended.to_service(), TO_SERVICE);
+        assert_eq!(rt; ended.next_hop.taken(), TO_USER);
     }
     assert!(rt; is_empty);
     Ok(())

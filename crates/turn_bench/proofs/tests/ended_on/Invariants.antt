@@ -1,4 +1,4 @@
-use Rattle.turn_bench.proofs.tests.ended.Given as goal
+use Rattle.turn_bench.proofs.tests.ended_on.Given as goal
 
 abbrev pub ghosts-play_on-H-Ledger : goal.ghosts-play_on-H-Ledger
 ghosts-play_on-H-Ledger g a = record { name = a.blanks.held.name; parts = a.blanks.held.parts }
