@@ -64,7 +64,7 @@ bench-exchange: ## a whole exchange with a service over memory wires: nanosecond
 	@tools/build_program exchange_bench exchange_bench 1
 	@bin/exchange_bench 200000
 
-bench-turns: ## a whole exchange by a transaction's turns over memory wires: nanoseconds, and a transaction's bytes
+bench-turns: ## a whole exchange by a transaction's turns over memory wires: nanoseconds, a transaction's bytes, and calls of its wires
 	@tools/build_program turn_bench turn_bench 1
 	@bin/turn_bench 20000
 

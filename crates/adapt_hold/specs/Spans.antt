@@ -1,5 +1,6 @@
 -- The bytes of a tape by their places, whatever pages they lie on; and the tapes of a reservation with their pages.
-use Rattle.std.specs.Prelude.{◌≡◌, ℕ, ◌+◌, ◌-◌, ◌<◌, ◌≤◌, ◌^◌, List, length, drop}
+use Rattle.std.specs.Prelude.{◌≡◌, ℕ, ◌+◌, ◌-◌, ◌<◌, ◌≤◌, List, length, drop}
+use Rattle.adapt_bytes.specs.declared.limits.TheConstants.{MAX_CAPACITY}
 use Rattle.span_tape.specs.Tape.{Tape, pages_in}
 use Rattle.span_bank.specs.declared.step.TheConstants.{PAGE_BYTES}
 use Rattle.span_bank.specs.Stakes.{Shown}
@@ -44,5 +45,5 @@ pub record IsStocked (original adapted : Tape) (stake : Shown) : Type 0 where
   pub adapted_paged : IsPaged adapted
   pub held : stake.held ≡ length original.bytes + length adapted.bytes
   pub within : stake.held ≤ stake.claim
-  pub small : stake.claim ≤ 2 ^ 40
+  pub small : stake.claim ≤ MAX_CAPACITY
   pub pages : stake.pages ≡ pages_in original + pages_in adapted

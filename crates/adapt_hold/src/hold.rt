@@ -1,6 +1,7 @@
 //! A transaction's history, the body bytes that it holds, and its reservation, kept in step.
 
-ghost use Rattle.std.specs.Prelude.{◌≡◌, ◌+◌, ◌-◌, ◌≤◌, ◌<◌, ◌^◌, ℕ, List, [], ◌∷◌, ◌++◌, length, Some, None, true, false, OnOk, OnErr, MatchResult};
+ghost use Rattle.std.specs.Prelude.{◌≡◌, ◌+◌, ◌-◌, ◌≤◌, ◌<◌, ℕ, List, [], ◌∷◌, ◌++◌, length, Some, None, true, false, OnOk, OnErr, MatchResult};
+ghost use Rattle.adapt_bytes.specs.declared.limits.TheConstants.{MAX_CAPACITY};
 ghost use Rattle.trace_core.specs.History.{seen};
 ghost use Rattle.trace_core.specs.Legal.{MayFollow};
 ghost use Rattle.trace_core.specs.Faults.{first_fault};
@@ -90,7 +91,7 @@ impl<B: Ledgers> Hold<B> {
     pub fn new(plan: Plan, limits: Limits, stake: Stake<B>) -> Hold<B>
         requires empty { (stake.held ≡ 0) × (stake.pages ≡ 0) }
         requires claim { stake.claim ≡ claim_of plan limits.window }
-        requires small { stake.claim ≤ 2 ^ 40 }
+        requires small { stake.claim ≤ MAX_CAPACITY }
         ensures { result ≡ record { history = record { plan = plan; events = [] }; limits = limits; original = record { base = 0; bytes = [] }; adapted = record { base = 0; bytes = [] }; held = 0; claim = claim_of plan limits.window } }
     {
         Hold {

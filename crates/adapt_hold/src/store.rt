@@ -1,6 +1,7 @@
 //! The bytes that a transaction holds, on the pages of its reservation.
 
 ghost use Rattle.std.specs.Prelude.{◌≡◌, ◌+◌, ◌-◌, ◌≤◌, ◌<◌, ◌^◌, ◌++◌, [], length};
+ghost use Rattle.adapt_bytes.specs.declared.limits.TheConstants.{COUNT_LIMIT, MAX_CAPACITY};
 ghost use Rattle.span_tape.specs.Tape.{end_of, from_place, page_count, pages_in};
 ghost use Rattle.span_bank.specs.Stakes.{most_pages};
 ghost use Rattle.adapt_hold.specs.Spans.{span_of, span_end, span_from, IsPaged};
@@ -38,7 +39,7 @@ fn keep<B: Ledgers>(
 )
     requires some { 1 ≤ length bytes.now }
     requires room { stake.old.held + length bytes.now ≤ stake.old.claim }
-    requires fits { end_of tape.old + length bytes.now < 2 ^ 62 }
+    requires fits { end_of tape.old + length bytes.now < COUNT_LIMIT }
     requires small { length tape.old.bytes + length bytes.now ≤ 2 ^ 50 }
     requires pages { stake.old.pages + page_count (tape.old.start + length tape.old.bytes + length bytes.now)
         ≤ most_pages (stake.old.held + length bytes.now) + pages_in tape.old }
@@ -81,7 +82,7 @@ fn release(tape: &mut SpanTape, place: u64) -> (u64, Pages)
     ensures end { end_of tape.new ≡ end_of tape.old }
     ensures freed { length tape.new.bytes + result.0 ≡ length tape.old.bytes }
     ensures place { result.0 + tape.old.base ≡ place }
-    ensures small { result.0 < 2 ^ 62 }
+    ensures small { result.0 < COUNT_LIMIT }
     ensures pages { result.1 + pages_in tape.new ≡ pages_in tape.old }
     ensures none { result.0 ≡ 0 → result.1 ≡ 0 }
     ensures paged { IsPaged tape.new }
@@ -96,7 +97,7 @@ impl<B: Ledgers> Store<B> {
     /// Nothing, on a reservation that is free.
     pub(crate) fn new(stake: Stake<B>) -> Store<B>
         requires empty { (stake.held ≡ 0) × (stake.pages ≡ 0) }
-        requires small { stake.claim ≤ 2 ^ 40 }
+        requires small { stake.claim ≤ MAX_CAPACITY }
         ensures { result ≡ record { original = record { base = 0; bytes = [] }; adapted = record { base = 0; bytes = [] }; held = 0; claim = stake.claim } }
     {
         Store {
@@ -131,7 +132,7 @@ impl<B: Ledgers> Store<B> {
     pub(crate) fn keep_original(&mut self, rt: &impl Wait, bank: &Bank<B>, bytes: &[u8])
         requires some { 1 ≤ length bytes.now }
         requires room { self.old.held + length bytes.now ≤ self.old.claim }
-        requires fits { span_end self.old.original + length bytes.now < 2 ^ 62 }
+        requires fits { span_end self.old.original + length bytes.now < COUNT_LIMIT }
         ensures { self.new ≡ record self.old { original = record self.old.original { bytes = self.old.original.bytes ++ bytes.now }; held = self.old.held + length bytes.now } }
     {
         keep(rt, bank, &mut self.stake, &mut self.original, bytes);
@@ -141,7 +142,7 @@ impl<B: Ledgers> Store<B> {
     pub(crate) fn keep_adapted(&mut self, rt: &impl Wait, bank: &Bank<B>, bytes: &[u8])
         requires some { 1 ≤ length bytes.now }
         requires room { self.old.held + length bytes.now ≤ self.old.claim }
-        requires fits { span_end self.old.adapted + length bytes.now < 2 ^ 62 }
+        requires fits { span_end self.old.adapted + length bytes.now < COUNT_LIMIT }
         ensures { self.new ≡ record self.old { adapted = record self.old.adapted { bytes = self.old.adapted.bytes ++ bytes.now }; held = self.old.held + length bytes.now } }
     {
         keep(rt, bank, &mut self.stake, &mut self.adapted, bytes);
@@ -151,7 +152,7 @@ impl<B: Ledgers> Store<B> {
     pub(crate) fn skip_original(&mut self, place: u64)
         requires empty { length self.old.original.bytes ≡ 0 }
         requires low { self.old.original.base ≤ place }
-        requires small { place < 2 ^ 62 }
+        requires small { place < COUNT_LIMIT }
         ensures { self.new ≡ record self.old { original = span_from self.old.original place } }
     {
         self.original.drop_to(place);

@@ -1,6 +1,7 @@
 //! One transaction with its three sides and their wires.
 
-ghost use Rattle.std.specs.Prelude.{◌≡◌, ℕ, List, ◌≤◌, ◌^◌, ◌↔◌, true, false, [], Some, None, IsOk, IfOk, IfErr, IfSome};
+ghost use Rattle.std.specs.Prelude.{◌≡◌, ℕ, List, ◌≤◌, ◌↔◌, true, false, [], Some, None, IsOk, IfOk, IfErr, IfSome};
+ghost use Rattle.adapt_bytes.specs.declared.limits.TheConstants.{MAX_CAPACITY};
 ghost use Rattle.trace_core.specs.declared.history.Event.TheVariants.{Retry};
 ghost use Rattle.trace_core.specs.declared.history.Cause.{Cause};
 ghost use Rattle.trace_core.specs.Legal.{MayFollow};
@@ -185,7 +186,7 @@ impl<B: Ledgers, S: Source, V: Service, K: Hop, F: Forward<S, K>, A: Wire, W: Wi
     ) -> Result<Tx<B, S, V, K, F, A, W, C>, Start<B, S, V, K, F, A, W, C>>
         requires empty { (start.stake.held ≡ 0) × (start.stake.pages ≡ 0) }
         requires claim { start.stake.claim ≡ claim_of start.plan start.limits.window }
-        requires small { start.stake.claim ≤ 2 ^ 40 }
+        requires small { start.stake.claim ≤ MAX_CAPACITY }
         ensures begun { IfOk result (λ tx. tx.hold.history ≡ record { plan = start.plan; events = [] }) }
         ensures clock { IfOk result (λ tx. (tx.last_moved ≡ start.now) × (tx.deadline ≡ start.deadline)) }
         ensures line { IfOk result (λ tx. (tx.broken ≡ false) × (tx.reused ≡ start.reused)) }
@@ -311,7 +312,7 @@ impl<B: Ledgers, S: Source, V: Service, K: Hop, F: Forward<S, K>, A: Wire, W: Wi
 fn begin_hold<B: Ledgers>(plan: Plan, limits: Limits, stake: Stake<B>) -> Hold<B>
     requires empty { (stake.held ≡ 0) × (stake.pages ≡ 0) }
     requires claim { stake.claim ≡ claim_of plan limits.window }
-    requires small { stake.claim ≤ 2 ^ 40 }
+    requires small { stake.claim ≤ MAX_CAPACITY }
     ensures history { result.history ≡ record { plan = plan; events = [] } }
     ensures empty { (result.original ≡ record { base = 0; bytes = [] }) × (result.adapted ≡ record { base = 0; bytes = [] }) }
     ensures roomy { IsRoomy result }

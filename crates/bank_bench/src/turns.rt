@@ -1,5 +1,6 @@
 //! What one thread does with a reservation and its tape, and how long that takes.
-ghost use Rattle.std.specs.Prelude.{◌≡◌, ◌+◌, ◌*◌, ◌≤◌, ◌<◌, ◌^◌, length};
+ghost use Rattle.std.specs.Prelude.{◌≡◌, ◌+◌, ◌*◌, ◌≤◌, ◌<◌, length};
+ghost use Rattle.adapt_bytes.specs.declared.limits.TheConstants.{COUNT_LIMIT, MAX_CAPACITY};
 ghost use Rattle.span_tape.specs.Tape.{end_of};
 
 use crate::PIECE;
@@ -112,9 +113,9 @@ fn turn<B: Ledgers>(
     requires input { length input.now ≡ 4096 }
     requires out { length out.old ≡ 4096 }
     requires room { stake.old.held + 4096 ≤ stake.old.claim }
-    requires claim { stake.old.claim ≤ 2 ^ 40 }
+    requires claim { stake.old.claim ≤ MAX_CAPACITY }
     requires pieces { (stake.old.held ≡ 4096 * stake.old.pages) × (length tape.old.bytes ≡ stake.old.held) × (tape.old.start ≡ 0) }
-    requires fits { end_of tape.old + 4096 < 2 ^ 62 }
+    requires fits { end_of tape.old + 4096 < COUNT_LIMIT }
     ensures stake { stake.new ≡ stake.old }
     ensures tape { (length tape.new.bytes ≡ stake.old.held) × (tape.new.start ≡ 0) × (tape.new.base ≡ tape.old.base + 4096) }
     ensures out { length out.new ≡ 4096 }

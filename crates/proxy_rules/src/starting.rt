@@ -1,6 +1,7 @@
 //! The beginning of a transaction of the proxy's own sides.
 
-ghost use Rattle.std.specs.Prelude.{◌≡◌, ◌≤◌, ◌^◌, List, ℕ, [], IfOk, IfErr, IfSome};
+ghost use Rattle.std.specs.Prelude.{◌≡◌, ◌≤◌, List, ℕ, [], IfOk, IfErr, IfSome};
+ghost use Rattle.adapt_bytes.specs.declared.limits.TheConstants.{MAX_CAPACITY};
 ghost use Rattle.plan_rules.specs.Claims.{claim_of};
 ghost use Rattle.http_relay.specs.Reading.{Begins};
 ghost use Rattle.adapt_turn.specs.Stands.{no_texts};
@@ -50,7 +51,7 @@ pub fn begin<B: Ledgers, A: Wire, W: Wire, C: Wire>(
 >
     requires empty { (beginning.stake.held ≡ 0) × (beginning.stake.pages ≡ 0) }
     requires claim { beginning.stake.claim ≡ claim_of beginning.plan beginning.limits.window }
-    requires small { beginning.stake.claim ≤ 2 ^ 40 }
+    requires small { beginning.stake.claim ≤ MAX_CAPACITY }
     ensures begun { IfOk result (λ tx. tx.hold.history ≡ record { plan = beginning.plan; events = [] }) }
     ensures clock { IfOk result (λ tx. (tx.last_moved ≡ beginning.now) × (tx.deadline ≡ beginning.deadline)) }
     ensures stands { IfOk result (λ tx. (read : List ℕ) → Begins read beginning.source → IfSome beginning.service (λ line. IsUnused line.side)

@@ -1,6 +1,7 @@
 //! The start of a transaction: what it stands over, and what becomes of that where it can't start.
 
-ghost use Rattle.std.specs.Prelude.{◌≡◌, ◌≤◌, ◌^◌};
+ghost use Rattle.std.specs.Prelude.{◌≡◌, ◌≤◌};
+ghost use Rattle.adapt_bytes.specs.declared.limits.TheConstants.{MAX_CAPACITY};
 ghost use Rattle.plan_rules.specs.Claims.{claim_of};
 
 use crate::begin::Message;
@@ -101,7 +102,7 @@ impl<'a, B: Ledgers, Q: Ledger, A: Ledger, G: Gate> Desk<'a, B, Q, A, G> {
     ) -> Step<B, Q, A>
         requires empty { (stake.held ≡ 0) × (stake.pages ≡ 0) }
         requires claim { stake.claim ≡ claim_of message.plan self.old.limits.window }
-        requires small { stake.claim ≤ 2 ^ 40 }
+        requires small { stake.claim ≤ MAX_CAPACITY }
     {
         let limits = self.limits;
         match self.sides(rt, at, ends, &message) {
@@ -157,7 +158,7 @@ impl<'a, B: Ledgers, Q: Ledger, A: Ledger, G: Gate> Desk<'a, B, Q, A, G> {
     ) -> Step<B, Q, A>
         requires empty { (stake.held ≡ 0) × (stake.pages ≡ 0) }
         requires claim { stake.claim ≡ claim_of message.plan limits.window }
-        requires small { stake.claim ≤ 2 ^ 40 }
+        requires small { stake.claim ≤ MAX_CAPACITY }
     {
         let Message { plan, side, .. } = message;
         let (service, lease) = self.engage(rt, at, side, line);
@@ -198,7 +199,7 @@ impl<'a, B: Ledgers, Q: Ledger, A: Ledger, G: Gate> Desk<'a, B, Q, A, G> {
     ) -> Step<B, Q, A>
         requires empty { (beginning.stake.held ≡ 0) × (beginning.stake.pages ≡ 0) }
         requires claim { beginning.stake.claim ≡ claim_of beginning.plan beginning.limits.window }
-        requires small { beginning.stake.claim ≤ 2 ^ 40 }
+        requires small { beginning.stake.claim ≤ MAX_CAPACITY }
     {
         match begin(self.alloc, beginning) {
             Ok(tx) => match Box::new(self.alloc, tx) {

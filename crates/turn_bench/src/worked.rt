@@ -1,6 +1,7 @@
 //! One exchange: an answer of six bytes reaches its user by a service that makes its letters capital (RFC 3507, section 4.5).
 
-ghost use Rattle.std.specs.Prelude.{◌≡◌, ◌≤◌, ◌^◌, IfSome};
+ghost use Rattle.std.specs.Prelude.{◌≡◌, ◌≤◌, IfSome};
+ghost use Rattle.adapt_bytes.specs.declared.limits.TheConstants.{MAX_CAPACITY};
 ghost use Rattle.plan_rules.specs.Claims.{claim_of};
 
 use crate::counted::{Calls, CountedWire};
@@ -241,7 +242,7 @@ fn start<B: Ledgers, A: Wire + Drop>(
 ) -> Option<MovingOn<B, A>>
     requires empty { (stake.held ≡ 0) × (stake.pages ≡ 0) }
     requires claim { stake.claim ≡ claim_of plan limits.window }
-    requires small { stake.claim ≤ 2 ^ 40 }
+    requires small { stake.claim ≤ MAX_CAPACITY }
 {
     let Sides {
         source,
