@@ -4,14 +4,13 @@ ghost use Rattle.std.specs.Prelude.{◌≡◌, true};
 ghost use Rattle.trace_core.specs.History.{seen};
 ghost use Rattle.adapt_sides.specs.Tapes.{KeepsUnsent};
 
-use crate::counted::Counted;
 use adapt_sides::Turn;
 use icap_client::ServiceSide;
 use span_bank::Pages;
 use span_tape::SpanTape;
 use std::alloc::{AllocError, Global};
 use trace_core::{Event, Kind, Plan, Point, State};
-use wire_kit::{MemoryWire, ReadAnswer, WriteAnswer};
+use wire_kit::{Calls, CountedWire, MemoryWire, ReadAnswer, WriteAnswer};
 
 /// What the service answers.
 const REPLIES: &[u8] = b"ICAP/1.0 100 Continue\r\n\r\nICAP/1.0 200 OK\r\nISTag: \"adapt-1\"\r\n\
@@ -56,11 +55,16 @@ impl Offer {
 }
 
 /// A wire that gives the replies, in two reads.
-fn new_wire(alloc: Global) -> Result<Counted<MemoryWire>, AllocError> {
+fn new_wire(alloc: Global) -> Result<CountedWire<MemoryWire>, AllocError> {
     let reads = vec![in alloc; ReadAnswer::Bytes(CONTINUE_LEN), ReadAnswer::Bytes(4096)]?;
     let writes = vec![in alloc; WriteAnswer::Took(4096), WriteAnswer::Took(4096)]?;
     let wire = MemoryWire::new(alloc, REPLIES.to_vec(alloc)?, reads, writes)?;
-    Ok(Counted::new(wire))
+    Ok(CountedWire::new(wire))
+}
+
+/// Reads and writes together.
+fn all_of(calls: Calls) -> u64 {
+    calls.reads.saturating_add(calls.writes)
 }
 
 /// Makes so many wires and sides.
@@ -70,7 +74,7 @@ pub fn make_ends(alloc: Global, offer: &Offer, times: u64) -> Result<u64, AllocE
         let wire = new_wire(alloc)?;
         let side = offer.side(alloc)?;
         if !side.request_whole() {
-            made = made.saturating_add(1).saturating_add(wire.calls());
+            made = made.saturating_add(1).saturating_add(all_of(wire.calls()));
         }
     }
     Ok(made)
@@ -85,7 +89,7 @@ pub fn run_exchanges(alloc: Global, offer: &Offer, times: u64) -> Result<Option<
         if !run_exchange(&mut side, offer.plan, &offer.body, &mut wire) {
             return Ok(None);
         }
-        calls = calls.saturating_add(wire.calls());
+        calls = calls.saturating_add(all_of(wire.calls()));
     }
     Ok(Some(calls))
 }
@@ -95,7 +99,7 @@ fn run_exchange(
     side: &mut ServiceSide,
     plan: Plan,
     body: &SpanTape,
-    wire: &mut Counted<MemoryWire>,
+    wire: &mut CountedWire<MemoryWire>,
 ) -> bool {
     let mut state = State::begin(plan);
     let mut out = [0; 64];
@@ -118,7 +122,7 @@ fn write(
     side: &mut ServiceSide,
     state: &mut State,
     body: &SpanTape,
-    wire: &mut Counted<MemoryWire>,
+    wire: &mut CountedWire<MemoryWire>,
 ) -> bool {
     if !is_tape_of(state, body) {
         return false;
@@ -133,7 +137,7 @@ fn write(
 fn read(
     side: &mut ServiceSide,
     state: &mut State,
-    wire: &mut Counted<MemoryWire>,
+    wire: &mut CountedWire<MemoryWire>,
     out: &mut [u8],
 ) -> bool {
     match side.read_turn(state, wire, out) {

@@ -5,7 +5,6 @@
 
 ghost use Rattle.std.specs.Prelude.{◌<◌, IfOk};
 
-mod counted;
 mod exchange;
 mod page;
 

@@ -13,7 +13,6 @@ mod tests;
 mod worked;
 
 use adapt_bytes::read_decimal;
-use counted::Calls;
 use measured::{Measured, WireCalls, is_empty, measure};
 use span_bank::{Bank, Blanks, Four};
 use std::alloc::{AllocError, Global};
@@ -23,6 +22,7 @@ use std::sync::Wait;
 use std::sync::ledger::Ledger;
 use std::time::Clock;
 use std::{env, io, mem};
+use wire_kit::Calls;
 use worked::Moving;
 
 /// The capacity of the budget.

@@ -1,6 +1,6 @@
 //! The time that exchanges take.
 
-use crate::counted::{Calls, CountedWire};
+use crate::counted::{CountedWire, counted_wire};
 use crate::worked::{ADAPTED, ANSWER, Ended, GO_ON, Wires, begin, end};
 use adapt_turn::Side;
 use span_bank::{Bank, Ledgers};
@@ -8,7 +8,7 @@ use std::alloc::{AllocError, Global};
 use std::io;
 use std::sync::Wait;
 use std::time::{Clock, Duration, Instant};
-use wire_kit::{ReadAnswer, WriteAnswer};
+use wire_kit::{Calls, ReadAnswer, WriteAnswer};
 
 /// A turn of each side.
 pub const ROUND: [Side; 3] = [Side::Source, Side::Service, Side::NextHop];
@@ -80,9 +80,9 @@ pub fn wires(alloc: Global) -> Result<Wires<CountedWire>, AllocError> {
     let sent = vec![in alloc; WriteAnswer::Took(512), WriteAnswer::Took(512)]?;
     let taken = vec![in alloc; WriteAnswer::Took(512), WriteAnswer::Took(512)]?;
     Ok(Wires {
-        source: CountedWire::new(alloc, ANSWER.to_vec(alloc)?, given, Vec::new(alloc))?,
-        service: CountedWire::new(alloc, replies, heard, sent)?,
-        next_hop: CountedWire::new(alloc, Vec::new(alloc), Vec::new(alloc), taken)?,
+        source: counted_wire(alloc, ANSWER.to_vec(alloc)?, given, Vec::new(alloc))?,
+        service: counted_wire(alloc, replies, heard, sent)?,
+        next_hop: counted_wire(alloc, Vec::new(alloc), Vec::new(alloc), taken)?,
     })
 }
 

@@ -9,7 +9,7 @@ mod requests;
 mod retries;
 mod threads;
 
-use crate::counted::{Calls, CountedWire};
+use crate::counted::CountedWire;
 use crate::measured::{ROUND, ROUNDS, WireCalls, wires};
 use crate::worked::{Ended, Moving, TO_USER, Wires, end, make_sides, plan_of, reserve};
 use adapt_turn::Outcome;
@@ -21,6 +21,7 @@ use std::sync::Wait;
 use std::sync::ledger::Ledger;
 use std::test::*;
 use trace_core::{Plan, Point};
+use wire_kit::Calls;
 
 /// What happens to a transaction.
 trait Play {

@@ -4,7 +4,7 @@ ghost use Rattle.std.specs.Prelude.{◌≡◌, ◌≤◌, IfSome};
 ghost use Rattle.adapt_bytes.specs.declared.limits.TheConstants.{MAX_CAPACITY};
 ghost use Rattle.plan_rules.specs.Claims.{claim_of};
 
-use crate::counted::{Calls, CountedWire};
+use crate::counted::CountedWire;
 use adapt_turn::{Line, Outcome, Parts, Start, Tx};
 use http_relay::{NextHop, RelayFault, SourceSide};
 use icap_client::ServiceSide;
@@ -14,7 +14,7 @@ use span_bank::{Bank, Ledgers, Pages, Stake};
 use std::alloc::{AllocError, Global};
 use std::sync::Wait;
 use trace_core::{Cause, Kind, Plan, Point};
-use wire_kit::{MemoryWire, ReadAnswer, Wire, WriteAnswer};
+use wire_kit::{Calls, MemoryWire, ReadAnswer, Wire, WriteAnswer};
 
 /// What the user asks for.
 pub const REQUEST: &[u8] = b"GET http://o.test/a.txt HTTP/1.1\r\nHost: o.test\r\n\r\n";

@@ -1,12 +1,14 @@
 //! Non-blocking byte streams as a trait, and scripted ones in memory.
 #![tactic(auto)]
 
+mod counted;
 mod gate;
 mod memory;
 mod shared;
 mod stream;
 mod wire;
 
+pub use counted::{Calls, CountedWire};
 pub use gate::{Gate, HoldGate, OpenGate};
 pub use memory::MemoryWire;
 pub use shared::{Answer, Answers, SharedWire};

@@ -1,6 +1,6 @@
 //! What the wires of the exchange have to take, and wires that answer otherwise.
 
-use crate::counted::CountedWire;
+use crate::counted::{CountedWire, counted_wire};
 use crate::worked::{ADAPTED, ANSWER, TO_USER, Wires, reads, writes};
 use adapt_turn::Outcome;
 use std::alloc::{AllocError, Global};
@@ -152,7 +152,7 @@ impl Pace {
 /// A wire of this input and this output.
 fn wire(alloc: Global, input: &Input, output: &Output) -> Result<CountedWire, AllocError> {
     let text = input.text.to_vec(alloc)?;
-    CountedWire::new(alloc, text, input.answers(alloc)?, output.answers(alloc)?)
+    counted_wire(alloc, text, input.answers(alloc)?, output.answers(alloc)?)
 }
 
 /// The ways in which a wire gives no more.

@@ -2,7 +2,6 @@
 
 use super::cases::{BAD_GATEWAY, Input, Output, Pace};
 use super::{Play, ended};
-use crate::counted::Calls;
 use crate::measured::{ROUND, WireCalls};
 use crate::worked::{Moving, plan_of};
 use adapt_turn::{Outcome, Side, Turned};
@@ -10,7 +9,7 @@ use span_bank::{Bank, Ledgers};
 use std::sync::Wait;
 use std::test::Fail;
 use trace_core::{Cause, Plan};
-use wire_kit::{ReadAnswer, WriteAnswer};
+use wire_kit::{Calls, ReadAnswer, WriteAnswer};
 
 /// The end of a transaction whose service failed.
 const SERVICE_FAILED: Outcome = Outcome::Fail(Cause::Service);
