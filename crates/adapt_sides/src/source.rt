@@ -1,6 +1,7 @@
 //! The side that a message comes from.
 
-ghost use Rattle.std.specs.Prelude.{◌≡◌, ℕ, ◌⊎◌, List, [], length, Option, true, false};
+ghost use Rattle.std.specs.Prelude.{◌≡◌, ◌↔◌, ℕ, ◌⊎◌, List, [], length, Option, true, false};
+ghost use Rattle.trace_core.specs.declared.history.Plan.{Plan as Planned};
 ghost use Rattle.trace_core.specs.declared.history.Event.{Event};
 ghost use Rattle.trace_core.specs.declared.history.Seen.{Seen};
 ghost use Rattle.trace_core.specs.History.{seen};
@@ -31,13 +32,17 @@ pub trait Source {
     // its numbers are those of what is seen: the bytes that came, the end, and a known length
     ghost agrees: { Seen → Self → Type 0 };
 
+    // a message of this plan may begin here
+    ghost may_begin: { Planned → Self → Type 0 };
+
     // with so much room there is nothing to read
     ghost rests: { ℕ → Self → Type 0 };
 
     /// Whether a message of this plan may begin here: its head was read, nothing behind it was framed yet, and a length that the
     /// plan knows is its own.
     fn begins(&self, plan: &Plan) -> bool
-        ensures { result ≡ true → agrees (seen plan.now []) self.now };
+        ensures may { result ≡ true ↔ may_begin plan.now self.now }
+        ensures agrees { result ≡ true → agrees (seen plan.now []) self.now };
 
     /// Whether its numbers are those of this history: the bytes that came, the end, and a known length.
     fn agrees_with(&self, state: &State) -> bool

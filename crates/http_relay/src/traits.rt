@@ -9,6 +9,9 @@ use trace_core::{Plan, State};
 use wire_kit::Wire;
 
 impl Source for SourceSide {
+    ghost use Rattle.std.specs.Prelude.{◌≡◌, [], None};
+    ghost use Rattle.trace_core.specs.History.{seen};
+    ghost use Rattle.http_relay.specs.declared.side.SourceHead.TheVariants as unread;
     ghost use Rattle.http_relay.specs.Source.{Agrees};
     ghost use Rattle.http_relay.specs.Reading.{SideRead, Rests};
     ghost use Rattle.http_relay.specs.SourceLaws as laws;
@@ -22,6 +25,8 @@ impl Source for SourceSide {
     ghost has_read = { SideRead };
 
     ghost agrees = { λ x s. Agrees x s.body };
+
+    ghost may_begin = { λ plan s. (s.head ≡ unread.Unread → ⊥) × (s.fault ≡ None) × Agrees (seen plan []) s.body };
 
     ghost rests = { Rests };
 
