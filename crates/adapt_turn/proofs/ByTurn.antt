@@ -23,6 +23,9 @@ for_side Source source service next a b c = a refl
 for_side Service source service next a b c = b refl
 for_side NextHop source service next a b c = c refl
 
+pub idle_no_message : (gift : Gift) → gift ≡ nothing → gift ≡ message → ⊥
+idle_no_message gift n m = let d : nothing ≡ message = sym n ∙ m in absurd cc
+
 -- nothing is begun back to the user
 pub of_next : (gift : Gift) (next back : Type 0) → gift ≡ nothing → next → OfWriter gift next back
 of_next gift next back idle n = (λ e. n, λ busy. absurd (busy idle))

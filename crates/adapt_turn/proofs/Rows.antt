@@ -61,6 +61,12 @@ some_stepped test h k (event ∷ events) o t n = (event, events, o, t)
 pub fail_advances : (side : Side) (h k : Holding) (cause : Cause) → (shows h.history).closed ≡ false → k ≡ moved h (Fail cause) [] → Advances (may_step side) h k
 fail_advances side h k cause c e = (Fail cause, [], (refl, tt), ([], k, ((c, tt), e), refl))
 
+pub took_fail : (side : Side) (h k : Holding) (cause : Cause) → (shows h.history).closed ≡ false → k ≡ moved h (Fail cause) [] → TookBy (may_step side) h k
+took_fail side h k cause c e = let a = fail_advances side h k cause c e in (a.0 ∷ a.1, a.2, a.3)
+
+pub took_both : (test : Event → Bool) (h m k : Holding) → TookBy test h m → TookBy test m k → TookBy test h k
+took_both test h m k a b = (a.0 ++ b.0, all_both test a.0 b.0 a.1 b.1, took_then h m k a.0 b.0 a.2 b.2)
+
 -- The parts of a turn.
 
 or_right : (a b : Bool) → b ≡ true → a || b ≡ true

@@ -1,6 +1,8 @@
 -- The head that a message begins with: made of the heads that were read, as it was chosen.
-use Rattle.std.specs.Prelude.{◌≡◌, ℕ, ◌&&◌, Bool, false, List, Option, Some, None, if◌then◌else◌}
+use Rattle.std.specs.Prelude.{◌≡◌, ℕ, ◌&&◌, Bool, true, false, List, Option, Some, None, if◌then◌else◌}
 use Rattle.trace_core.specs.declared.history.Seen.{Seen}
+use Rattle.trace_core.specs.declared.history.Point.{Point}
+use Rattle.trace_core.specs.declared.history.Point.TheVariants.{Reqmod, Respmod}
 use Rattle.trace_core.specs.declared.history.Event.{Event}
 use Rattle.trace_core.specs.declared.history.Cause.{Cause}
 use Rattle.trace_core.specs.History.{seen}
@@ -18,6 +20,14 @@ adapted_of adapted_head (Some line) = adapted_head line.side
 abbrev pub response_of : {V W : Type 0} → (V → Bool) → Option (Line V W) → Bool
 response_of is_response None = false
 response_of is_response (Some line) = is_response line.side
+
+abbrev pub is_reqmod : Point → Bool
+is_reqmod Reqmod = true
+is_reqmod Respmod = false
+
+-- the chosen message is an answer to the user, though a request was offered: it goes back
+abbrev pub answers_user : Seen → (is_response : Bool) → Bool
+answers_user x is_response = (is_response && x.modified) && is_reqmod x.plan.point
 
 -- what a maker of heads is given, where this is seen: the service's head only where its message was chosen
 abbrev pub MakesAt : {Framing : Type 0} → (Seen → Option (List ℕ) → Bool → List ℕ → Framing → Type 0) → Option (List ℕ) → Bool → Seen → List ℕ → Framing → Type 0

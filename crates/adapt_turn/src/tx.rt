@@ -187,6 +187,7 @@ impl<B: Ledgers, S: Source, V: Service, K: Hop, F: Forward<S, K>, A: Wire, W: Wi
         requires empty { (start.stake.held ≡ 0) × (start.stake.pages ≡ 0) }
         requires claim { start.stake.claim ≡ claim_of start.plan start.limits.window }
         requires small { start.stake.claim ≤ MAX_CAPACITY }
+        ensures accepts { IsOk result ↔ S.may_begin start.plan start.source }
         ensures begun { IfOk result (λ tx. tx.hold.history ≡ record { plan = start.plan; events = [] }) }
         ensures clock { IfOk result (λ tx. (tx.last_moved ≡ start.now) × (tx.deadline ≡ start.deadline)) }
         ensures line { IfOk result (λ tx. (tx.broken ≡ false) × (tx.reused ≡ start.reused)) }
@@ -266,7 +267,7 @@ impl<B: Ledgers, S: Source, V: Service, K: Hop, F: Forward<S, K>, A: Wire, W: Wi
     pub fn into_parts(self) -> Result<Parts<B, S, V, K, F, A, W, C>, Tx<B, S, V, K, F, A, W, C>>
         ensures closed { IsOk result ↔ ((shows self.hold.history).closed ≡ true) }
         ensures outcome { IfOk result (λ parts. parts.outcome ≡ self.outcome) }
-        ensures stake { IfOk result (λ parts. (parts.stake.held ≡ 0) × (parts.stake.pages ≡ 0)) }
+        ensures stake { IfOk result (λ parts. (parts.stake.held ≡ 0) × (parts.stake.pages ≡ 0) × (parts.stake.claim ≡ self.hold.claim)) }
         ensures seen { IfOk result (λ parts. parts.seen ≡ shows self.hold.history) }
         ensures fields { IfOk result (λ parts. (parts.source ≡ self.source) × (parts.source_wire ≡ self.source_wire) × (parts.service ≡ self.service) × (parts.next ≡ self.next) × (parts.next_wire ≡ self.next_wire)
             × (parts.back ≡ self.back) × (parts.forward ≡ self.forward)) }

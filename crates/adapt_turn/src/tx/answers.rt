@@ -4,20 +4,22 @@ ghost use Rattle.std.specs.Prelude.{◌≡◌, ℕ, ◌+◌, ◌<◌, ◌≤◌,
 ghost use Rattle.trace_core.specs.declared.history.Event.TheVariants.{Retry};
 ghost use Rattle.trace_core.specs.declared.history.Cause.{Cause};
 ghost use Rattle.trace_core.specs.declared.history.Cause.TheVariants.{Deadline};
+ghost use Rattle.trace_core.specs.declared.history.Cause.TheVariants as causes;
+ghost use Rattle.trace_core.specs.declared.history.Point.TheVariants.{Reqmod, Respmod};
 ghost use Rattle.trace_core.specs.Legal.{MayFollow};
 ghost use Rattle.plan_rules.specs.Room.{original_room, adapted_room};
 ghost use Rattle.wire_kit.specs.Past.{Past};
 ghost use Rattle.adapt_sides.specs.declared.fault.RelayFault.TheVariants.{Device};
 ghost use Rattle.adapt_sides.specs.Turns.{Gift};
-ghost use Rattle.adapt_sides.specs.Turns.Gift.{nothing};
+ghost use Rattle.adapt_sides.specs.Turns.Gift.{nothing, message};
 ghost use Rattle.adapt_hold.specs.Holding.{shows};
 ghost use Rattle.adapt_turn.specs.declared.turned.Side.{Side};
 ghost use Rattle.adapt_turn.specs.declared.turned.Side.TheVariants as sides;
 ghost use Rattle.adapt_turn.specs.declared.turned.Turned.{Turned};
 ghost use Rattle.adapt_turn.specs.declared.turned.Outcome.TheVariants as outcomes;
-ghost use Rattle.adapt_turn.specs.Made.{MakesNoneAt, adapted_of, response_of};
+ghost use Rattle.adapt_turn.specs.Made.{MakesNoneAt, adapted_of, response_of, answers_user};
 ghost use Rattle.adapt_turn.specs.Parts.{Breaks, FailsFor, source_cause, hop_cause, fault_of};
-ghost use Rattle.adapt_turn.specs.Rows.{may_step, Advances};
+ghost use Rattle.adapt_turn.specs.Rows.{may_step, TookBy, Advances};
 ghost use Rattle.adapt_turn.specs.Stands.{IsChosen, IsDone, Waited, WaitedBoth, Blamed, BlamedService};
 ghost use Rattle.adapt_turn.specs.ByTurn.{BySide, OfWriter, ByAnswer};
 
@@ -33,6 +35,11 @@ pub trait Answering {
     // Moved: so many bytes moved; where none did, an event of the side was stepped. Broken: the service's connection broke, and the
     // request may begin anew. Finished: so it had ended before, and a refusal that was due is out, or its wire has failed.
     ghost answers: { Self → Side → Self → Turned → Type 0 };
+
+    // Of an open one a turn steps events of its side, or Fail, and leaves the other sides and wires as they were; a message that is
+    // begun goes back to the user exactly where a request was offered and the service answers it. Of a closed one it leaves all but
+    // the user's writer and wire.
+    ghost keeps: { Self → Side → Self → Type 0 };
 
     // at this moment the deadline has passed, or the cause is that of the side's fault
     ghost fails: { Self → Side → ℕ → Self → Cause → Type 0 };
@@ -55,9 +62,9 @@ impl<
         (Waited (S.rests (original_room (shows old.hold.history) old.hold.claim old.hold.limits.window) new.source) (λ past. past.read_waits) (A.past old.source_wire) (A.past new.source_wire))
         (WaitedBoth (MatchOption new.service ⊤ (λ line. V.rests_writing (shows old.hold.history) line.side)) (MatchOption new.service ⊤ (λ line. V.rests_reading (shows old.hold.history) (adapted_room (shows old.hold.history) old.hold.limits.window) line.side))
         (λ p. MatchOption old.service ⊥ (λ line. W.past line.wire p)) (λ p. MatchOption new.service ⊥ (λ line. W.past line.wire p)))
-        ((IsChosen (shows old.hold.history) → ⊥) ⊎ OfWriter (K.gift new.back)
+        ((IsChosen (shows old.hold.history) → ⊥) ⊎ ((K.gift new.next ≡ nothing → K.gift new.back ≡ nothing → ⊥) × OfWriter (K.gift new.back)
         (Waited (K.rests (shows old.hold.history) new.next) (λ past. past.write_waits) (C.past old.next_wire) (C.past new.next_wire))
-        (Waited (K.rests (shows old.hold.history) new.back) (λ past. past.write_waits) (A.past old.source_wire) (A.past new.source_wire)))))
+        (Waited (K.rests (shows old.hold.history) new.back) (λ past. past.write_waits) (A.past old.source_wire) (A.past new.source_wire))))))
         (λ n. ⟦<Tx<B, S, V, K, F, A, W, C> as Going>⟧.moves old new n
         × (n ≡ 0 → (p q r : Past) → A.past old.source_wire p → MatchOption old.service ⊤ (λ line. W.past line.wire q) → C.past old.next_wire r
         → ((shows old.hold.history).closed ≡ false) × Advances (may_step side) old.hold new.hold))
@@ -66,12 +73,22 @@ impl<
         (λ outcome. ((shows old.hold.history).closed ≡ true) × (outcome ≡ old.outcome) × ((old.refusing ≡ false) ⊎ ⟦<Tx<B, S, V, K, F, A, W, C> as Refusing>⟧.refusal_is_over new)
         × (outcome ≡ outcomes.Done → IsDone new.hold.history)) };
 
+    ghost keeps = { λ old side new. ((shows old.hold.history).closed ≡ false → TookBy (may_step side) old.hold new.hold
+        × BySide side ((new.service ≡ old.service) × (new.next_wire ≡ old.next_wire))
+        ((new.source ≡ old.source) × (new.source_wire ≡ old.source_wire) × (new.next_wire ≡ old.next_wire))
+        ((new.source ≡ old.source) × (new.service ≡ old.service))
+        × (K.gift old.back ≡ nothing → K.gift new.back ≡ message → answers_user (shows old.hold.history) (response_of V.is_response old.service) ≡ true)
+        × (K.gift old.next ≡ nothing → K.gift new.next ≡ message → answers_user (shows old.hold.history) (response_of V.is_response old.service) ≡ false))
+        × ((shows old.hold.history).closed ≡ true → (new.source ≡ old.source) × (new.service ≡ old.service)
+        × (old.hold.history.plan.point ≡ Respmod → new.source_wire ≡ old.source_wire) × (old.hold.history.plan.point ≡ Reqmod → new.next_wire ≡ old.next_wire)) };
+
     ghost fails = { λ old side now new cause. ((cause ≡ Deadline) × (old.last_moved + old.deadline ≤ now)) ⊎ BySide side
-        (S.agrees (shows old.hold.history) old.source → Blamed Device source_cause cause (S.fault old.source) (S.fault new.source) (A.past old.source_wire) (A.past new.source_wire))
+        ((S.agrees (shows old.hold.history) old.source → Blamed Device source_cause cause (S.fault old.source) (S.fault new.source) (A.past old.source_wire) (A.past new.source_wire))
+        × ((S.agrees (shows old.hold.history) old.source → ⊥) → cause ≡ causes.Source))
         ((old.service ≡ None → ⊥) × BlamedService cause (fault_of (λ line. V.fault line.side) old.service) (fault_of (λ line. V.fault line.side) new.service)
         (λ p. MatchOption old.service ⊥ (λ line. W.past line.wire p)) (λ p. MatchOption new.service ⊥ (λ line. W.past line.wire p))
         × FailsFor cause old.reused (fault_of (λ line. V.fault line.side) new.service) new.hold)
-        (((K.gift old.next ≡ nothing) × (K.gift old.back ≡ nothing)
+        ((IsChosen (shows old.hold.history) × (K.gift old.next ≡ nothing) × (K.gift old.back ≡ nothing)
         × MakesNoneAt (F.makes_none old.forward (S.head old.source)) (adapted_of V.adapted_head old.service) (response_of V.is_response old.service) (shows old.hold.history) cause)
         ⊎ (Blamed Device hop_cause cause (K.fault old.next) (K.fault new.next) (C.past old.next_wire) (C.past new.next_wire)
         ⊎ Blamed Device hop_cause cause (K.fault old.back) (K.fault new.back) (A.past old.source_wire) (A.past new.source_wire))) };

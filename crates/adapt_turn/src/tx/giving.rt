@@ -5,11 +5,11 @@ ghost use Rattle.trace_core.specs.declared.history.Event.TheVariants.{Fail};
 ghost use Rattle.trace_core.specs.declared.history.Cause.{Cause};
 ghost use Rattle.adapt_sides.specs.declared.fault.RelayFault.TheVariants.{Device};
 ghost use Rattle.adapt_sides.specs.Turns.{Gift};
-ghost use Rattle.adapt_sides.specs.Turns.Gift.{nothing};
+ghost use Rattle.adapt_sides.specs.Turns.Gift.{nothing, message};
 ghost use Rattle.adapt_hold.specs.Holding.{shows, moved, IsTied};
-ghost use Rattle.adapt_turn.specs.Made.{MakesAt, MakesNoneAt, adapted_of, response_of};
+ghost use Rattle.adapt_turn.specs.Made.{MakesAt, MakesNoneAt, adapted_of, response_of, is_reqmod, answers_user};
 ghost use Rattle.adapt_turn.specs.Parts.{IsOfSide, hop_cause, outcome_by};
-ghost use Rattle.adapt_turn.specs.Rows.{may_step, Advances, BytesOr};
+ghost use Rattle.adapt_turn.specs.Rows.{may_step, TookBy, Advances, BytesOr};
 ghost use Rattle.adapt_turn.specs.Stands.{IsChosen, Waited, Blamed};
 ghost use Rattle.adapt_turn.specs.ByTurn.{OfWriter};
 
@@ -26,6 +26,13 @@ use std::alloc::Global;
 use std::sync::Wait;
 use trace_core::{Cause, Point};
 use wire_kit::Wire;
+
+/// Whether requests are offered here.
+fn is_reqmod(point: Point) -> bool
+    ensures { result ≡ is_reqmod point }
+{
+    matches!(point, Point::Reqmod)
+}
 
 /// The head of the chosen message, and how its body goes.
 fn forwarded<B: Ledgers, S: Source, V: Service, K: Hop, F: Forward<S, K>, W>(
@@ -72,12 +79,12 @@ impl<B: Ledgers, S: Source, V: Service, K: Hop, F: Forward<S, K>, A: Wire, W: Wi
     }
 
     /// Whether the adapted message is an answer to the user, though a request was offered.
-    fn answers_user(&self) -> bool {
+    fn answers_user(&self) -> bool
+        ensures { result ≡ answers_user (shows self.now.hold.history) (response_of V.is_response self.now.service) }
+    {
         let seen = self.hold.state().seen();
         match &self.service {
-            Some(line) => seen.modified
-                && matches!(seen.plan.point, Point::Reqmod)
-                && line.side.is_response(),
+            Some(line) => line.side.is_response() && seen.modified && is_reqmod(seen.plan.point),
             None => false,
         }
     }
@@ -94,6 +101,9 @@ impl<B: Ledgers, S: Source, V: Service, K: Hop, F: Forward<S, K>, A: Wire, W: Wi
         ensures none { (cause : Cause) → result ≡ Some cause → (K.gift self.old.next ≡ nothing) × (K.gift self.old.back ≡ nothing)
             × MakesNoneAt (F.makes_none self.old.forward (S.head self.old.source)) (adapted_of V.adapted_head self.old.service) (response_of V.is_response self.old.service) (shows self.old.hold.history) cause }
         ensures kept { (self.new.source_wire ≡ self.old.source_wire) × (self.new.next_wire ≡ self.old.next_wire) × (K.fault self.new.next ≡ K.fault self.old.next) × (K.fault self.new.back ≡ K.fault self.old.back) }
+        ensures apart { self.new.source ≡ self.old.source }
+        ensures way { (K.gift self.old.back ≡ nothing → K.gift self.new.back ≡ message → answers_user (shows self.old.hold.history) (response_of V.is_response self.old.service) ≡ true)
+            × (K.gift self.old.next ≡ nothing → K.gift self.new.next ≡ message → answers_user (shows self.old.hold.history) (response_of V.is_response self.old.service) ≡ false) }
         ensures outcome { self.new.outcome ≡ outcome_by result }
         ensures served { self.new.service ≡ self.old.service }
         ensures timed { (self.new.last_moved ≡ self.old.last_moved) × (self.new.deadline ≡ self.old.deadline) }
@@ -122,6 +132,9 @@ impl<B: Ledgers, S: Source, V: Service, K: Hop, F: Forward<S, K>, A: Wire, W: Wi
             → MakesNoneAt (F.makes_none self.old.forward (S.head self.old.source)) (adapted_of V.adapted_head self.old.service) (response_of V.is_response self.old.service) (shows self.old.hold.history) cause }
         ensures busy { result ≡ None → K.gift self.new.next ≡ nothing → K.gift self.new.back ≡ nothing → ⊥ }
         ensures kept { (self.new.source_wire ≡ self.old.source_wire) × (self.new.next_wire ≡ self.old.next_wire) × (K.fault self.new.next ≡ K.fault self.old.next) × (K.fault self.new.back ≡ K.fault self.old.back) }
+        ensures apart { self.new.source ≡ self.old.source }
+        ensures way { (K.gift self.old.back ≡ nothing → K.gift self.new.back ≡ message → answers_user (shows self.old.hold.history) (response_of V.is_response self.old.service) ≡ true)
+            × (K.gift self.old.next ≡ nothing → K.gift self.new.next ≡ message → answers_user (shows self.old.hold.history) (response_of V.is_response self.old.service) ≡ false) }
         ensures outcome { self.new.outcome ≡ outcome_by result }
         ensures served { self.new.service ≡ self.old.service }
         ensures timed { (self.new.last_moved ≡ self.old.last_moved) × (self.new.deadline ≡ self.old.deadline) }
@@ -165,6 +178,9 @@ impl<B: Ledgers, S: Source, V: Service, K: Hop, F: Forward<S, K>, A: Wire, W: Wi
         ensures waits { result.waiting ≡ true → OfWriter (K.gift self.new.back) (Waited (K.rests (shows self.old.hold.history) self.new.next) (λ past. past.write_waits) (C.past self.old.next_wire) (C.past self.new.next_wire))
             (Waited (K.rests (shows self.old.hold.history) self.new.back) (λ past. past.write_waits) (A.past self.old.source_wire) (A.past self.new.source_wire)) }
         ensures still { result.waiting ≡ true → self.new.hold ≡ self.old.hold }
+        ensures took { TookBy (may_step Side.NextHop) self.old.hold self.new.hold }
+        ensures apart { self.new.source ≡ self.old.source }
+        ensures gifts { (K.gift self.new.next ≡ K.gift self.old.next) × (K.gift self.new.back ≡ K.gift self.old.back) }
         ensures active { result.waiting ≡ false → OfWriter (K.gift self.new.back) (BytesOr (Advances (may_step Side.NextHop) self.old.hold self.new.hold) (C.past self.old.next_wire) (C.past self.new.next_wire))
             (BytesOr (Advances (may_step Side.NextHop) self.old.hold self.new.hold) (A.past self.old.source_wire) (A.past self.new.source_wire)) }
         ensures blames { (cause : Cause) → result.failed ≡ Some cause → (Blamed Device hop_cause cause (K.fault self.old.next) (K.fault self.new.next) (C.past self.old.next_wire) (C.past self.new.next_wire)
@@ -206,12 +222,16 @@ impl<B: Ledgers, S: Source, V: Service, K: Hop, F: Forward<S, K>, A: Wire, W: Wi
         ensures over { (cause : Cause) → result.failed ≡ Some cause → (shows self.new.hold.history).closed ≡ true }
         ensures whole { result.broken ≡ false }
         ensures idle { result.waiting ≡ true → result.failed ≡ None }
-        ensures waits { result.waiting ≡ true → (IsChosen (shows self.old.hold.history) → ⊥) ⊎ OfWriter (K.gift self.new.back) (Waited (K.rests (shows self.old.hold.history) self.new.next) (λ past. past.write_waits) (C.past self.old.next_wire) (C.past self.new.next_wire))
-            (Waited (K.rests (shows self.old.hold.history) self.new.back) (λ past. past.write_waits) (A.past self.old.source_wire) (A.past self.new.source_wire)) }
+        ensures waits { result.waiting ≡ true → (IsChosen (shows self.old.hold.history) → ⊥) ⊎ ((K.gift self.new.next ≡ nothing → K.gift self.new.back ≡ nothing → ⊥) × OfWriter (K.gift self.new.back) (Waited (K.rests (shows self.old.hold.history) self.new.next) (λ past. past.write_waits) (C.past self.old.next_wire) (C.past self.new.next_wire))
+            (Waited (K.rests (shows self.old.hold.history) self.new.back) (λ past. past.write_waits) (A.past self.old.source_wire) (A.past self.new.source_wire))) }
         ensures still { result.waiting ≡ true → self.new.hold ≡ self.old.hold }
+        ensures took { TookBy (may_step Side.NextHop) self.old.hold self.new.hold }
+        ensures apart { self.new.source ≡ self.old.source }
+        ensures way { (K.gift self.old.back ≡ nothing → K.gift self.new.back ≡ message → answers_user (shows self.old.hold.history) (response_of V.is_response self.old.service) ≡ true)
+            × (K.gift self.old.next ≡ nothing → K.gift self.new.next ≡ message → answers_user (shows self.old.hold.history) (response_of V.is_response self.old.service) ≡ false) }
         ensures active { result.waiting ≡ false → OfWriter (K.gift self.new.back) (BytesOr (Advances (may_step Side.NextHop) self.old.hold self.new.hold) (C.past self.old.next_wire) (C.past self.new.next_wire))
             (BytesOr (Advances (may_step Side.NextHop) self.old.hold self.new.hold) (A.past self.old.source_wire) (A.past self.new.source_wire)) }
-        ensures blames { (cause : Cause) → result.failed ≡ Some cause → ((K.gift self.old.next ≡ nothing) × (K.gift self.old.back ≡ nothing)
+        ensures blames { (cause : Cause) → result.failed ≡ Some cause → (IsChosen (shows self.old.hold.history) × (K.gift self.old.next ≡ nothing) × (K.gift self.old.back ≡ nothing)
             × MakesNoneAt (F.makes_none self.old.forward (S.head self.old.source)) (adapted_of V.adapted_head self.old.service) (response_of V.is_response self.old.service) (shows self.old.hold.history) cause) ⊎ (Blamed Device hop_cause cause (K.fault self.old.next) (K.fault self.new.next) (C.past self.old.next_wire) (C.past self.new.next_wire)
             ⊎ Blamed Device hop_cause cause (K.fault self.old.back) (K.fault self.new.back) (A.past self.old.source_wire) (A.past self.new.source_wire)) }
         ensures of_side { (cause : Cause) → result.failed ≡ Some cause → IsOfSide cause ⊎ MakesNoneAt (F.makes_none self.old.forward (S.head self.old.source)) (adapted_of V.adapted_head self.old.service) (response_of V.is_response self.old.service) (shows self.old.hold.history) cause }

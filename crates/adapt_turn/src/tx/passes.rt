@@ -6,9 +6,9 @@ ghost use Rattle.trace_core.specs.declared.history.Seen.{Seen};
 ghost use Rattle.plan_rules.specs.Room.{original_room, adapted_room};
 ghost use Rattle.adapt_sides.specs.declared.fault.RelayFault.TheVariants.{Device};
 ghost use Rattle.adapt_sides.specs.Turns.{Gift};
-ghost use Rattle.adapt_sides.specs.Turns.Gift.{nothing};
+ghost use Rattle.adapt_sides.specs.Turns.Gift.{nothing, message};
 ghost use Rattle.adapt_hold.specs.Holding.{shows};
-ghost use Rattle.adapt_turn.specs.Made.{MakesNoneAt, adapted_of, response_of};
+ghost use Rattle.adapt_turn.specs.Made.{MakesNoneAt, adapted_of, response_of, answers_user};
 ghost use Rattle.adapt_turn.specs.Parts.{Breaks, FailsFor, IsOfSide, source_cause, hop_cause, outcome_by, fault_of};
 ghost use Rattle.adapt_turn.specs.Rows.{may_step, TookBy, Advances, BytesOr};
 ghost use Rattle.adapt_turn.specs.Stands.{IsChosen, Waited, WaitedBeside, WaitedBoth, Blamed, BlamedService};
@@ -61,8 +61,10 @@ impl<B: Ledgers, S: Source, V: Service, K: Hop, F: Forward<S, K>, A: Wire, W: Wi
         ensures idle { result.waiting ≡ true → result.failed ≡ None }
         ensures waits { result.waiting ≡ true → Waited (S.rests (original_room (shows self.old.hold.history) self.old.hold.claim self.old.hold.limits.window) self.new.source) (λ past. past.read_waits) (A.past self.old.source_wire) (A.past self.new.source_wire) }
         ensures still { result.waiting ≡ true → self.new.hold ≡ self.old.hold }
+        ensures took { TookBy (may_step Side.Source) self.old.hold self.new.hold }
+        ensures apart { (self.new.service ≡ self.old.service) × (self.new.next_wire ≡ self.old.next_wire) × (self.new.next ≡ self.old.next) × (self.new.back ≡ self.old.back) }
         ensures active { result.waiting ≡ false → BytesOr (Advances (may_step Side.Source) self.old.hold self.new.hold) (A.past self.old.source_wire) (A.past self.new.source_wire) }
-        ensures blames { (cause : Cause) → result.failed ≡ Some cause → (S.agrees (shows self.old.hold.history) self.old.source → Blamed Device source_cause cause (S.fault self.old.source) (S.fault self.new.source) (A.past self.old.source_wire) (A.past self.new.source_wire)) }
+        ensures blames { (cause : Cause) → result.failed ≡ Some cause → (S.agrees (shows self.old.hold.history) self.old.source → Blamed Device source_cause cause (S.fault self.old.source) (S.fault self.new.source) (A.past self.old.source_wire) (A.past self.new.source_wire)) × ((S.agrees (shows self.old.hold.history) self.old.source → ⊥) → cause ≡ Cause.Source) }
         ensures of_side { (cause : Cause) → result.failed ≡ Some cause → IsOfSide cause }
         ensures whole { result.broken ≡ false }
         ensures outcome { self.new.outcome ≡ outcome_by result.failed }
@@ -95,6 +97,8 @@ impl<B: Ledgers, S: Source, V: Service, K: Hop, F: Forward<S, K>, A: Wire, W: Wi
         ensures over { (cause : Cause) → result.failed ≡ Some cause → (shows self.new.hold.history).closed ≡ true }
         ensures idle { result.waiting ≡ true → result.failed ≡ None }
         ensures still { result.waiting ≡ true → self.new.hold ≡ self.old.hold }
+        ensures took { TookBy (may_step Side.Service) self.old.hold self.new.hold }
+        ensures apart { (self.new.source ≡ self.old.source) × (self.new.source_wire ≡ self.old.source_wire) × (self.new.next_wire ≡ self.old.next_wire) × (self.new.next ≡ self.old.next) × (self.new.back ≡ self.old.back) }
         ensures waits { result.waiting ≡ true → WaitedBeside (MatchOption self.new.service ⊤ (λ line. V.rests_writing (shows self.old.hold.history) line.side)) (λ past. past.write_waits) (λ past. past.read_waits)
             (λ p. MatchOption self.old.service ⊥ (λ line. W.past line.wire p)) (λ p. MatchOption self.new.service ⊥ (λ line. W.past line.wire p)) }
         ensures active { result.waiting ≡ false → result.broken ≡ false → BytesOr (Advances (may_step Side.Service) self.old.hold self.new.hold) (λ p. MatchOption self.old.service ⊥ (λ line. W.past line.wire p)) (λ p. MatchOption self.new.service ⊥ (λ line. W.past line.wire p)) }
@@ -138,6 +142,7 @@ impl<B: Ledgers, S: Source, V: Service, K: Hop, F: Forward<S, K>, A: Wire, W: Wi
         ensures waits { result.waiting ≡ true → WaitedBeside (MatchOption self.new.service ⊤ (λ line. V.rests_reading (shows self.old.hold.history) (adapted_room (shows self.old.hold.history) self.old.hold.limits.window) line.side)) (λ past. past.read_waits) (λ past. past.write_waits)
             (λ p. MatchOption self.old.service ⊥ (λ line. W.past line.wire p)) (λ p. MatchOption self.new.service ⊥ (λ line. W.past line.wire p)) }
         ensures still { result.waiting ≡ true → self.new.hold ≡ self.old.hold }
+        ensures apart { (self.new.source ≡ self.old.source) × (self.new.source_wire ≡ self.old.source_wire) × (self.new.next_wire ≡ self.old.next_wire) × (self.new.next ≡ self.old.next) × (self.new.back ≡ self.old.back) }
         ensures took { TookBy (may_step Side.Service) self.old.hold self.new.hold }
         ensures active { result.waiting ≡ false → result.broken ≡ false → BytesOr (Advances (may_step Side.Service) self.old.hold self.new.hold) (λ p. MatchOption self.old.service ⊥ (λ line. W.past line.wire p)) (λ p. MatchOption self.new.service ⊥ (λ line. W.past line.wire p)) }
         ensures rests { (x : Seen) → MatchOption self.old.service ⊤ (λ line. V.rests_writing x line.side) → MatchOption self.new.service ⊤ (λ line. V.rests_writing x line.side) }
@@ -179,6 +184,8 @@ impl<B: Ledgers, S: Source, V: Service, K: Hop, F: Forward<S, K>, A: Wire, W: Wi
         ensures waits { result.waiting ≡ true → WaitedBoth (MatchOption self.new.service ⊤ (λ line. V.rests_writing (shows self.old.hold.history) line.side)) (MatchOption self.new.service ⊤ (λ line. V.rests_reading (shows self.old.hold.history) (adapted_room (shows self.old.hold.history) self.old.hold.limits.window) line.side))
             (λ p. MatchOption self.old.service ⊥ (λ line. W.past line.wire p)) (λ p. MatchOption self.new.service ⊥ (λ line. W.past line.wire p)) }
         ensures still { result.waiting ≡ true → self.new.hold ≡ self.old.hold }
+        ensures took { TookBy (may_step Side.Service) self.old.hold self.new.hold }
+        ensures apart { (self.new.source ≡ self.old.source) × (self.new.source_wire ≡ self.old.source_wire) × (self.new.next_wire ≡ self.old.next_wire) × (self.new.next ≡ self.old.next) × (self.new.back ≡ self.old.back) }
         ensures active { result.waiting ≡ false → result.broken ≡ false → BytesOr (Advances (may_step Side.Service) self.old.hold self.new.hold) (λ p. MatchOption self.old.service ⊥ (λ line. W.past line.wire p)) (λ p. MatchOption self.new.service ⊥ (λ line. W.past line.wire p)) }
         ensures blames { (cause : Cause) → result.failed ≡ Some cause → BlamedService cause (fault_of (λ line. V.fault line.side) self.old.service) (fault_of (λ line. V.fault line.side) self.new.service) (λ p. MatchOption self.old.service ⊥ (λ line. W.past line.wire p)) (λ p. MatchOption self.new.service ⊥ (λ line. W.past line.wire p)) }
         ensures unbroken { (cause : Cause) → result.failed ≡ Some cause → FailsFor cause self.old.reused (fault_of (λ line. V.fault line.side) self.new.service) self.new.hold }
@@ -214,17 +221,25 @@ impl<B: Ledgers, S: Source, V: Service, K: Hop, F: Forward<S, K>, A: Wire, W: Wi
         ensures waits_source { side ≡ Side.Source → result.waiting ≡ true → Waited (S.rests (original_room (shows self.old.hold.history) self.old.hold.claim self.old.hold.limits.window) self.new.source) (λ past. past.read_waits) (A.past self.old.source_wire) (A.past self.new.source_wire) }
         ensures waits_service { side ≡ Side.Service → result.waiting ≡ true → WaitedBoth (MatchOption self.new.service ⊤ (λ line. V.rests_writing (shows self.old.hold.history) line.side)) (MatchOption self.new.service ⊤ (λ line. V.rests_reading (shows self.old.hold.history) (adapted_room (shows self.old.hold.history) self.old.hold.limits.window) line.side))
             (λ p. MatchOption self.old.service ⊥ (λ line. W.past line.wire p)) (λ p. MatchOption self.new.service ⊥ (λ line. W.past line.wire p)) }
-        ensures waits_next { side ≡ Side.NextHop → result.waiting ≡ true → (IsChosen (shows self.old.hold.history) → ⊥) ⊎ OfWriter (K.gift self.new.back) (Waited (K.rests (shows self.old.hold.history) self.new.next) (λ past. past.write_waits) (C.past self.old.next_wire) (C.past self.new.next_wire))
-            (Waited (K.rests (shows self.old.hold.history) self.new.back) (λ past. past.write_waits) (A.past self.old.source_wire) (A.past self.new.source_wire)) }
+        ensures waits_next { side ≡ Side.NextHop → result.waiting ≡ true → (IsChosen (shows self.old.hold.history) → ⊥) ⊎ ((K.gift self.new.next ≡ nothing → K.gift self.new.back ≡ nothing → ⊥) × OfWriter (K.gift self.new.back) (Waited (K.rests (shows self.old.hold.history) self.new.next) (λ past. past.write_waits) (C.past self.old.next_wire) (C.past self.new.next_wire))
+            (Waited (K.rests (shows self.old.hold.history) self.new.back) (λ past. past.write_waits) (A.past self.old.source_wire) (A.past self.new.source_wire))) }
         ensures still { result.waiting ≡ true → self.new.hold ≡ self.old.hold }
+        ensures took_source { side ≡ Side.Source → TookBy (may_step Side.Source) self.old.hold self.new.hold }
+        ensures took_service { side ≡ Side.Service → TookBy (may_step Side.Service) self.old.hold self.new.hold }
+        ensures took_next { side ≡ Side.NextHop → TookBy (may_step Side.NextHop) self.old.hold self.new.hold }
+        ensures apart_source { side ≡ Side.Source → (self.new.service ≡ self.old.service) × (self.new.next_wire ≡ self.old.next_wire) × (self.new.next ≡ self.old.next) × (self.new.back ≡ self.old.back) }
+        ensures apart_service { side ≡ Side.Service → (self.new.source ≡ self.old.source) × (self.new.source_wire ≡ self.old.source_wire) × (self.new.next_wire ≡ self.old.next_wire) × (self.new.next ≡ self.old.next) × (self.new.back ≡ self.old.back) }
+        ensures apart_next { side ≡ Side.NextHop → (self.new.source ≡ self.old.source) × (self.new.service ≡ self.old.service) }
+        ensures way { side ≡ Side.NextHop → (K.gift self.old.back ≡ nothing → K.gift self.new.back ≡ message → answers_user (shows self.old.hold.history) (response_of V.is_response self.old.service) ≡ true)
+            × (K.gift self.old.next ≡ nothing → K.gift self.new.next ≡ message → answers_user (shows self.old.hold.history) (response_of V.is_response self.old.service) ≡ false) }
         ensures active_source { side ≡ Side.Source → result.waiting ≡ false → BytesOr (Advances (may_step Side.Source) self.old.hold self.new.hold) (A.past self.old.source_wire) (A.past self.new.source_wire) }
         ensures active_service { side ≡ Side.Service → result.waiting ≡ false → result.broken ≡ false → BytesOr (Advances (may_step Side.Service) self.old.hold self.new.hold) (λ p. MatchOption self.old.service ⊥ (λ line. W.past line.wire p)) (λ p. MatchOption self.new.service ⊥ (λ line. W.past line.wire p)) }
         ensures active_next { side ≡ Side.NextHop → result.waiting ≡ false → OfWriter (K.gift self.new.back) (BytesOr (Advances (may_step Side.NextHop) self.old.hold self.new.hold) (C.past self.old.next_wire) (C.past self.new.next_wire))
             (BytesOr (Advances (may_step Side.NextHop) self.old.hold self.new.hold) (A.past self.old.source_wire) (A.past self.new.source_wire)) }
-        ensures blames_source { side ≡ Side.Source → (cause : Cause) → result.failed ≡ Some cause → (S.agrees (shows self.old.hold.history) self.old.source → Blamed Device source_cause cause (S.fault self.old.source) (S.fault self.new.source) (A.past self.old.source_wire) (A.past self.new.source_wire)) }
+        ensures blames_source { side ≡ Side.Source → (cause : Cause) → result.failed ≡ Some cause → (S.agrees (shows self.old.hold.history) self.old.source → Blamed Device source_cause cause (S.fault self.old.source) (S.fault self.new.source) (A.past self.old.source_wire) (A.past self.new.source_wire)) × ((S.agrees (shows self.old.hold.history) self.old.source → ⊥) → cause ≡ Cause.Source) }
         ensures blames_service { side ≡ Side.Service → (cause : Cause) → result.failed ≡ Some cause → BlamedService cause (fault_of (λ line. V.fault line.side) self.old.service) (fault_of (λ line. V.fault line.side) self.new.service) (λ p. MatchOption self.old.service ⊥ (λ line. W.past line.wire p)) (λ p. MatchOption self.new.service ⊥ (λ line. W.past line.wire p)) }
         ensures unbroken { side ≡ Side.Service → (cause : Cause) → result.failed ≡ Some cause → FailsFor cause self.old.reused (fault_of (λ line. V.fault line.side) self.new.service) self.new.hold }
-        ensures blames_next { side ≡ Side.NextHop → (cause : Cause) → result.failed ≡ Some cause → ((K.gift self.old.next ≡ nothing) × (K.gift self.old.back ≡ nothing)
+        ensures blames_next { side ≡ Side.NextHop → (cause : Cause) → result.failed ≡ Some cause → (IsChosen (shows self.old.hold.history) × (K.gift self.old.next ≡ nothing) × (K.gift self.old.back ≡ nothing)
             × MakesNoneAt (F.makes_none self.old.forward (S.head self.old.source)) (adapted_of V.adapted_head self.old.service) (response_of V.is_response self.old.service) (shows self.old.hold.history) cause) ⊎ (Blamed Device hop_cause cause (K.fault self.old.next) (K.fault self.new.next) (C.past self.old.next_wire) (C.past self.new.next_wire)
             ⊎ Blamed Device hop_cause cause (K.fault self.old.back) (K.fault self.new.back) (A.past self.old.source_wire) (A.past self.new.source_wire)) }
         ensures of_side { (cause : Cause) → result.failed ≡ Some cause → IsOfSide cause ⊎ ((side ≡ Side.NextHop) × MakesNoneAt (F.makes_none self.old.forward (S.head self.old.source)) (adapted_of V.adapted_head self.old.service) (response_of V.is_response self.old.service) (shows self.old.hold.history) cause) }

@@ -4,7 +4,7 @@ ghost use Rattle.std.specs.Prelude.{◌≡◌, ℕ, ◌⊎◌, true, false, [], 
 ghost use Rattle.trace_core.specs.declared.history.Event.TheVariants.{Fail};
 ghost use Rattle.trace_core.specs.declared.history.Cause.{Cause};
 ghost use Rattle.adapt_sides.specs.Turns.{Gift, IsOwnStatus};
-ghost use Rattle.adapt_sides.specs.Turns.Gift.{refusal};
+ghost use Rattle.adapt_sides.specs.Turns.Gift.{refusal, message};
 ghost use Rattle.adapt_hold.specs.Holding.{shows, moved};
 ghost use Rattle.adapt_turn.specs.Parts.{outcome_by};
 ghost use Rattle.adapt_turn.specs.Refusals.{refusal_status, IsOver};
@@ -71,6 +71,7 @@ fn refuse_on<K: Hop>(hop: &mut K, status: u16) -> bool
     ensures same { result ≡ false → hop.new ≡ hop.old }
     ensures touched { result ≡ false → K.untouched hop.new ≡ false }
     ensures fault { K.fault hop.new ≡ K.fault hop.old }
+    ensures message { K.gift hop.new ≡ message → K.gift hop.old ≡ message }
 {
     if hop.untouched() {
         hop.refuse(status);
@@ -106,6 +107,7 @@ impl<B: Ledgers, S: Source, V: Service, K: Hop, F: Forward<S, K>, A: Wire, W: Wi
         ensures timed { (self.new.last_moved ≡ self.old.last_moved) × (self.new.deadline ≡ self.old.deadline) }
         ensures marked { (self.new.broken ≡ self.old.broken) × (self.new.reused ≡ self.old.reused) }
         ensures hold { self.new.hold ≡ self.old.hold }
+        ensures messages { (K.gift self.new.next ≡ message → K.gift self.old.next ≡ message) × (K.gift self.new.back ≡ message → K.gift self.old.back ≡ message) }
         ensures outcome { self.new.outcome ≡ self.old.outcome }
         ensures refuses { ⟦<Self as Refusing>⟧.refuses self.new cause }
         ensures kept { (self.new.source ≡ self.old.source) × (self.new.source_wire ≡ self.old.source_wire) × (self.new.service ≡ self.old.service) × (self.new.next_wire ≡ self.old.next_wire)
@@ -124,6 +126,7 @@ impl<B: Ledgers, S: Source, V: Service, K: Hop, F: Forward<S, K>, A: Wire, W: Wi
         ensures timed { (self.new.last_moved ≡ self.old.last_moved) × (self.new.deadline ≡ self.old.deadline) }
         ensures marked { (self.new.broken ≡ self.old.broken) × (self.new.reused ≡ self.old.reused) }
         ensures hold { self.new.hold ≡ self.old.hold }
+        ensures messages { (K.gift self.new.next ≡ message → K.gift self.old.next ≡ message) × (K.gift self.new.back ≡ message → K.gift self.old.back ≡ message) }
         ensures outcome { self.new.outcome ≡ self.old.outcome }
         ensures refuses { ⟦<Self as Refusing>⟧.refuses self.new cause }
         ensures kept { (self.new.source ≡ self.old.source) × (self.new.source_wire ≡ self.old.source_wire) × (self.new.service ≡ self.old.service) × (self.new.next_wire ≡ self.old.next_wire)
@@ -141,6 +144,7 @@ impl<B: Ledgers, S: Source, V: Service, K: Hop, F: Forward<S, K>, A: Wire, W: Wi
         ensures timed { (self.new.last_moved ≡ self.old.last_moved) × (self.new.deadline ≡ self.old.deadline) }
         ensures marked { (self.new.broken ≡ self.old.broken) × (self.new.reused ≡ self.old.reused) }
         ensures hold { self.new.hold ≡ self.old.hold }
+        ensures messages { (K.gift self.new.next ≡ message → K.gift self.old.next ≡ message) × (K.gift self.new.back ≡ message → K.gift self.old.back ≡ message) }
         ensures outcome { self.new.outcome ≡ self.old.outcome }
         ensures refuses { ⟦<Self as Refusing>⟧.refuses self.new cause }
         ensures kept { (self.new.source ≡ self.old.source) × (self.new.source_wire ≡ self.old.source_wire) × (self.new.service ≡ self.old.service) × (self.new.next_wire ≡ self.old.next_wire)
@@ -160,6 +164,7 @@ impl<B: Ledgers, S: Source, V: Service, K: Hop, F: Forward<S, K>, A: Wire, W: Wi
         ensures timed { (self.new.last_moved ≡ self.old.last_moved) × (self.new.deadline ≡ self.old.deadline) }
         ensures marked { (self.new.broken ≡ self.old.broken) × (self.new.reused ≡ self.old.reused) }
         ensures hold { self.new.hold ≡ self.old.hold }
+        ensures messages { (K.gift self.new.next ≡ message → K.gift self.old.next ≡ message) × (K.gift self.new.back ≡ message → K.gift self.old.back ≡ message) }
         ensures outcome { self.new.outcome ≡ self.old.outcome }
         ensures refuses { (cause : Cause) → failed ≡ Some cause → ⟦<Self as Refusing>⟧.refuses self.new cause }
         ensures kept { (self.new.source ≡ self.old.source) × (self.new.source_wire ≡ self.old.source_wire) × (self.new.service ≡ self.old.service) × (self.new.next_wire ≡ self.old.next_wire)
@@ -180,9 +185,10 @@ impl<B: Ledgers, S: Source, V: Service, K: Hop, F: Forward<S, K>, A: Wire, W: Wi
         ensures marked { (self.new.broken ≡ self.old.broken) × (self.new.reused ≡ self.old.reused) }
         ensures hold { self.new.hold ≡ moved self.old.hold (Fail cause) [] }
         ensures over { (shows self.new.hold.history).closed ≡ true }
+        ensures messages { (K.gift self.new.next ≡ message → K.gift self.old.next ≡ message) × (K.gift self.new.back ≡ message → K.gift self.old.back ≡ message) }
         ensures outcome { self.new.outcome ≡ Outcome.Fail cause }
         ensures refuses { ⟦<Self as Refusing>⟧.refuses self.new cause }
-        ensures kept { (self.new.source_wire ≡ self.old.source_wire) × (self.new.service ≡ self.old.service) × (self.new.next_wire ≡ self.old.next_wire) }
+        ensures kept { (self.new.source_wire ≡ self.old.source_wire) × (self.new.service ≡ self.old.service) × (self.new.next_wire ≡ self.old.next_wire) × (self.new.source ≡ self.old.source) }
     {
         let _state = self.hold.state();
         fail(rt, bank, &mut self.hold, cause);
@@ -204,6 +210,7 @@ impl<B: Ledgers, S: Source, V: Service, K: Hop, F: Forward<S, K>, A: Wire, W: Wi
         ensures refusing { self.new.refusing ≡ self.old.refusing }
         ensures timed { (self.new.last_moved ≡ self.old.last_moved) × (self.new.deadline ≡ self.old.deadline) }
         ensures marked { (self.new.broken ≡ self.old.broken) × (self.new.reused ≡ self.old.reused) }
+        ensures apart { (self.new.source ≡ self.old.source) × (self.new.source_wire ≡ self.old.source_wire) }
         ensures served { self.new.service ≡ self.old.service }
         ensures hold { self.new.hold ≡ self.old.hold }
         ensures outcome { self.new.outcome ≡ self.old.outcome }
@@ -225,6 +232,7 @@ impl<B: Ledgers, S: Source, V: Service, K: Hop, F: Forward<S, K>, A: Wire, W: Wi
         ensures refusing { self.new.refusing ≡ self.old.refusing }
         ensures timed { (self.new.last_moved ≡ self.old.last_moved) × (self.new.deadline ≡ self.old.deadline) }
         ensures marked { (self.new.broken ≡ self.old.broken) × (self.new.reused ≡ self.old.reused) }
+        ensures apart { (self.new.source ≡ self.old.source) × (self.new.next_wire ≡ self.old.next_wire) }
         ensures served { self.new.service ≡ self.old.service }
         ensures hold { self.new.hold ≡ self.old.hold }
         ensures outcome { self.new.outcome ≡ self.old.outcome }
@@ -245,6 +253,8 @@ impl<B: Ledgers, S: Source, V: Service, K: Hop, F: Forward<S, K>, A: Wire, W: Wi
         ensures refusing { self.new.refusing ≡ self.old.refusing }
         ensures timed { (self.new.last_moved ≡ self.old.last_moved) × (self.new.deadline ≡ self.old.deadline) }
         ensures marked { (self.new.broken ≡ self.old.broken) × (self.new.reused ≡ self.old.reused) }
+        ensures apart { (self.new.source ≡ self.old.source) × (self.new.service ≡ self.old.service) × (self.old.hold.history.plan.point ≡ Point.Respmod → self.new.source_wire ≡ self.old.source_wire)
+            × (self.old.hold.history.plan.point ≡ Point.Reqmod → self.new.next_wire ≡ self.old.next_wire) }
         ensures served { self.new.service ≡ self.old.service }
         ensures hold { self.new.hold ≡ self.old.hold }
         ensures outcome { self.new.outcome ≡ self.old.outcome }
@@ -262,6 +272,8 @@ impl<B: Ledgers, S: Source, V: Service, K: Hop, F: Forward<S, K>, A: Wire, W: Wi
         ensures timed { (self.new.last_moved ≡ self.old.last_moved) × (self.new.deadline ≡ self.old.deadline) }
         ensures marked { (self.new.broken ≡ self.old.broken) × (self.new.reused ≡ self.old.reused) }
         ensures hold { self.new.hold ≡ self.old.hold }
+        ensures apart { (self.new.source ≡ self.old.source) × (self.new.service ≡ self.old.service) × (self.old.hold.history.plan.point ≡ Point.Respmod → self.new.source_wire ≡ self.old.source_wire)
+            × (self.old.hold.history.plan.point ≡ Point.Reqmod → self.new.next_wire ≡ self.old.next_wire) }
         ensures outcome { (outcome : Outcome) → result ≡ Turned.Finished outcome → outcome ≡ self.old.outcome }
         ensures same { self.new.outcome ≡ self.old.outcome }
         ensures whole { result ≡ Turned.Broken → ⊥ }

@@ -62,6 +62,7 @@ impl<B: Ledgers, S: Source, V: Service, K: Hop, F: Forward<S, K>, A: Wire, W: Wi
         ensures hold { self.new.hold ≡ moved self.old.hold (Fail Service) [] }
         ensures outcome { self.new.outcome ≡ Outcome.Fail Service }
         ensures refuses { ⟦<Self as Refusing>⟧.refuses self.new Service }
+        ensures kept { (self.new.source_wire ≡ self.old.source_wire) × (self.new.service ≡ self.old.service) × (self.new.next_wire ≡ self.old.next_wire) × (self.new.source ≡ self.old.source) }
         ensures over { (shows self.new.hold.history).closed ≡ true }
     {
         self.fail_by(rt, bank, Cause::Service);

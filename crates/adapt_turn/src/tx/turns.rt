@@ -5,6 +5,8 @@ ghost use Rattle.trace_core.specs.declared.history.Event.TheVariants.{Fail};
 ghost use Rattle.trace_core.specs.declared.history.Cause.{Cause};
 ghost use Rattle.trace_core.specs.declared.history.Cause.TheVariants.{Deadline, Stopping};
 ghost use Rattle.trace_core.specs.declared.history.Seen.{Seen};
+ghost use Rattle.adapt_sides.specs.Turns.{Gift};
+ghost use Rattle.adapt_sides.specs.Turns.Gift.{message};
 ghost use Rattle.adapt_hold.specs.Holding.{shows, moved};
 ghost use Rattle.adapt_turn.specs.Made.{MakesNoneAt, adapted_of, response_of};
 ghost use Rattle.adapt_turn.specs.declared.turned.Turned.{Turned as TurnAnswer};
@@ -64,14 +66,16 @@ impl<B: Ledgers, S: Source, V: Service, K: Hop, F: Forward<S, K>, A: Wire, W: Wi
     pub fn turn(&mut self, rt: &impl Wait, bank: &Bank<B>, side: Side, now: u64) -> Turned
         ensures goes { ⟦<Self as Going>⟧.goes self.old self.new }
         ensures answers { ⟦<Self as Answering>⟧.answers self.old side self.new result }
+        ensures keeps { ⟦<Self as Answering>⟧.keeps self.old side self.new }
         ensures deadline { (shows self.old.hold.history).closed ≡ false → self.old.last_moved + self.old.deadline ≤ now
             → (self.new.hold ≡ moved self.old.hold (Fail Deadline) []) × (result ≡ Turned.Moved 0) × (self.new.outcome ≡ Outcome.Fail Deadline) }
         ensures closed { (shows self.old.hold.history).closed ≡ true → (self.new.hold ≡ self.old.hold) × (self.new.outcome ≡ self.old.outcome) × (self.new.refusing ≡ self.old.refusing) }
         ensures finishes { (shows self.old.hold.history).closed ≡ true → (self.old.refusing ≡ false) ⊎ ⟦<Self as Refusing>⟧.refusal_is_over self.old → result ≡ Turned.Finished self.old.outcome }
         ensures moment { (self.new.last_moved ≡ self.old.last_moved) ⊎ (self.new.last_moved ≡ now) }
-        ensures clock { (n : ℕ) → result ≡ Turned.Moved n → (shows self.old.hold.history).closed ≡ false → (n ≡ 0 → self.new.last_moved ≡ self.old.last_moved) × (0 < n → self.new.last_moved ≡ now) }
+        ensures clock { (shows self.old.hold.history).closed ≡ false → (n : ℕ) × ⟦<Self as Going>⟧.moves self.old self.new n × (n ≡ 0 → self.new.last_moved ≡ self.old.last_moved) × (0 < n → self.new.last_moved ≡ now)
+            × ((m : ℕ) → result ≡ Turned.Moved m → m ≡ n) }
         ensures still { result ≡ Turned.Waiting → self.new.last_moved ≡ self.old.last_moved }
-        ensures refreshed { (self.new.last_moved ≡ self.old.last_moved) ⊎ ((n : ℕ) × (0 < n) × ⟦<Self as Going>⟧.moves self.old self.new n) }
+        ensures rests { (shows self.old.hold.history).closed ≡ true → self.new.last_moved ≡ self.old.last_moved }
         ensures limit { self.new.deadline ≡ self.old.deadline }
         ensures marked { (self.new.broken ≡ true ↔ (self.old.broken ≡ true) ⊎ (result ≡ Turned.Broken)) × (self.new.reused ≡ self.old.reused) }
         ensures refuses { (shows self.old.hold.history).closed ≡ false → (cause : Cause) → self.new.outcome ≡ Outcome.Fail cause → ⟦<Self as Refusing>⟧.refuses self.new cause }
@@ -115,6 +119,7 @@ impl<B: Ledgers, S: Source, V: Service, K: Hop, F: Forward<S, K>, A: Wire, W: Wi
         ensures limit { self.new.deadline ≡ self.old.deadline }
         ensures kept { (self.new.source ≡ self.old.source) × (self.new.source_wire ≡ self.old.source_wire) × (self.new.service ≡ self.old.service) × (self.new.next_wire ≡ self.old.next_wire)
             × (K.fault self.new.next ≡ K.fault self.old.next) × (K.fault self.new.back ≡ K.fault self.old.back) }
+        ensures messages { (K.gift self.new.next ≡ message → K.gift self.old.next ≡ message) × (K.gift self.new.back ≡ message → K.gift self.old.back ≡ message) }
         ensures refuses { (cause : Cause) → passed.failed ≡ Some cause → ⟦<Self as Refusing>⟧.refuses self.new cause }
         ensures same { passed.failed ≡ None → (self.new.next ≡ self.old.next) × (self.new.back ≡ self.old.back) }
     {
@@ -129,7 +134,8 @@ impl<B: Ledgers, S: Source, V: Service, K: Hop, F: Forward<S, K>, A: Wire, W: Wi
     pub fn drive(&mut self, rt: &impl Wait, bank: &Bank<B>, schedule: &[Side])
         ensures goes { ⟦<Self as Going>⟧.goes self.old self.new }
         ensures timed { (self.new.last_moved ≡ self.old.last_moved) × (self.new.deadline ≡ self.old.deadline) }
-        ensures turns { Drives (λ old side new. (turned : TurnAnswer) × ⟦<Self as Answering>⟧.answers old side new turned
+        ensures turns { Drives (λ old side new. (turned : TurnAnswer) × ⟦<Self as Answering>⟧.answers old side new turned × ⟦<Self as Answering>⟧.keeps old side new
+            × (new.broken ≡ true ↔ (old.broken ≡ true) ⊎ (turned ≡ Turned.Broken)) × (new.reused ≡ old.reused)
             × ((shows old.hold.history).closed ≡ false → (cause : Cause) → new.outcome ≡ Outcome.Fail cause → ⟦<Self as Answering>⟧.fails old side old.last_moved new cause)) self.old schedule.now self.new }
         ensures closed { (shows self.old.hold.history).closed ≡ true → (self.new.hold ≡ self.old.hold) × (self.new.outcome ≡ self.old.outcome) × (self.new.refusing ≡ self.old.refusing) }
         ensures deadline { (shows self.old.hold.history).closed ≡ false → self.old.deadline ≡ 0 → 0 < length schedule.now
@@ -161,6 +167,7 @@ impl<B: Ledgers, S: Source, V: Service, K: Hop, F: Forward<S, K>, A: Wire, W: Wi
         ensures refuses { (shows self.old.hold.history).closed ≡ false → ⟦<Self as Refusing>⟧.refuses self.new Stopping }
         ensures still { (shows self.old.hold.history).closed ≡ true → self.new ≡ self.old }
         ensures over { (shows self.new.hold.history).closed ≡ true }
+        ensures kept { (self.new.source_wire ≡ self.old.source_wire) × (self.new.service ≡ self.old.service) × (self.new.next_wire ≡ self.old.next_wire) × (self.new.source ≡ self.old.source) }
     {
         if !self.is_closed() {
             self.fail_by(rt, bank, Cause::Stopping);

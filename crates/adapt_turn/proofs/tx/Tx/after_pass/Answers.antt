@@ -8,3 +8,6 @@ returns-clause-kept g c = c.refuse_failed.ensures.kept
 
 pub returns-clause-same : goal.returns-clause-same
 returns-clause-same g c = c.refuse_failed.ensures.same
+
+pub returns-clause-messages : goal.returns-clause-messages
+returns-clause-messages g c = c.refuse_failed.ensures.messages

@@ -4,6 +4,8 @@ use Rattle.adapt_turn.specs.Made.{adapted_of, response_of}
 use Rattle.adapt_turn.proofs.Made.{made_by, made_on, made_now, heads_idle}
 use Rattle.adapt_turn.proofs.Together.{others_of, fail_goes}
 use Rattle.adapt_turn.proofs.Giving.{next_begin_goes, back_begin_goes}
+use Rattle.std.proofs.Common.{sym, ◌∙◌}
+use Rattle.adapt_turn.proofs.ByTurn.{idle_no_message}
 use Rattle.adapt_turn.proofs.tx.Tx.begin_message.Goals as goal
 
 pub returns-then-answers-clause-goes : goal.returns-then-answers-clause-goes
@@ -24,3 +26,12 @@ returns-in-Err-clause-goes g c =
     (heads_idle g.K.Hop.gift g.K.Hop.has_given g.K.Hop.aside (made_by (g.F.Forward.makes c.args.self.now.forward) g.K.Hop.body_framing g.V.Service.adapted_head g.V.Service.is_response (g.S.Source.head c.args.self.now.source) c.args.self.now.service) (made_by (g.F.Forward.makes c.forwarded-made.new.forward) g.K.Hop.body_framing g.V.Service.adapted_head g.V.Service.is_response (g.S.Source.head c.args.self.now.source) c.args.self.now.service) c.args.self.now.next c.args.self.now.back (shows c.args.self.now.hold.history) c.requires.running c.requires.next c.requires.back)
     (others_of g.S.Source.agrees g.S.Source.has_read g.V.Service.has_sent g.V.Service.has_heard g.K.Hop.has_given g.K.Hop.gift g.K.Hop.aside (made_by (g.F.Forward.makes c.forwarded-made.new.forward) g.K.Hop.body_framing g.V.Service.adapted_head g.V.Service.is_response (g.S.Source.head c.args.self.now.source) c.args.self.now.service) g.met.S.Source.others_agree g.met.S.Source.others g.met.V.Service.others_sent g.met.V.Service.others_heard g.met.K.Hop.others (λ k. made_on _ _ _ _) c.args.self.now.source c.args.self.now.service c.args.self.now.next c.args.self.now.back c.args.self.now.refusing)
     c.state-state.ensures.tied c.args.self.now.roomy c.requires.running c.fail.ensures.moved
+
+pub returns-then-answers-clause-way : goal.returns-then-answers-clause-way
+returns-then-answers-clause-way g c = (λ n m. sym c.answers_user-answers.ensures ∙ c.if-answers.true, λ n m. absurd (idle_no_message _ n m))
+
+pub returns-else-answers-clause-way : goal.returns-else-answers-clause-way
+returns-else-answers-clause-way g c = (λ n m. absurd (idle_no_message _ n m), λ n m. sym c.answers_user-answers.ensures ∙ c.if-answers.false)
+
+pub returns-in-Err-clause-way : goal.returns-in-Err-clause-way
+returns-in-Err-clause-way g c = (λ n m. absurd (idle_no_message _ n m), λ n m. absurd (idle_no_message _ n m))

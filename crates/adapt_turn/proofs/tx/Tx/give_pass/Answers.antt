@@ -9,7 +9,7 @@ use Rattle.adapt_turn.proofs.Told.{part_told}
 use Rattle.std.proofs.Common.{arith}
 use Rattle.adapt_turn.specs.declared.turned.Side.TheVariants.{NextHop}
 use Rattle.adapt_turn.proofs.Reasons.{part_still}
-use Rattle.adapt_turn.proofs.Rows.{part_acts, of_hop}
+use Rattle.adapt_turn.proofs.Rows.{part_took, part_acts, of_hop}
 use Rattle.adapt_turn.proofs.ByTurn.{of_next, of_back}
 use Rattle.adapt_turn.proofs.tx.Tx.give_pass.Goals as goal
 
@@ -68,3 +68,9 @@ returns-then-is_idle-clause-active g c = λ w. of_next _ _ _ (c.is_idle.ensures.
 
 pub returns-else-is_idle-clause-active : goal.returns-else-is_idle-clause-active
 returns-else-is_idle-clause-active g c = λ w. of_back _ _ _ (λ n. c.is_idle.ensures.busy c.if-is_idle.false (sym c.give-passed-else-is_idle.ensures.gift ∙ n)) (part_acts NextHop _ _ _ _ _ _ _ _ _ _ _ _ _ _ _ _ _ of_hop (omega arith) c.state-state.ensures.tied c.give-passed-else-is_idle.ensures.part.part w c.give-passed-else-is_idle.ensures.whole)
+
+pub returns-then-is_idle-clause-took : goal.returns-then-is_idle-clause-took
+returns-then-is_idle-clause-took g c = part_took NextHop _ _ _ _ _ _ _ _ _ _ _ _ _ _ _ _ _ of_hop c.state-state.ensures.tied c.give-passed.ensures.part.part
+
+pub returns-else-is_idle-clause-took : goal.returns-else-is_idle-clause-took
+returns-else-is_idle-clause-took g c = part_took NextHop _ _ _ _ _ _ _ _ _ _ _ _ _ _ _ _ _ of_hop c.state-state.ensures.tied c.give-passed-else-is_idle.ensures.part.part

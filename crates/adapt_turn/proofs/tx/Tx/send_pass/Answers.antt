@@ -7,10 +7,10 @@ use Rattle.std.proofs.Common.{Option, refl, ◌∙◌, subst}
 use Rattle.std.specs.Prelude.{MatchOption}
 use Rattle.adapt_turn.specs.declared.start.Line.{Line}
 use Rattle.adapt_turn.proofs.Told.{part_told}
-use Rattle.std.proofs.Common.{arith, ap}
+use Rattle.std.proofs.Common.{[], arith, ap}
 use Rattle.adapt_turn.specs.Parts.{fault_of}
 use Rattle.adapt_turn.specs.declared.turned.Side.TheVariants.{Service}
-use Rattle.adapt_turn.proofs.Rows.{part_acts, of_sending, line_acts}
+use Rattle.adapt_turn.proofs.Rows.{part_took, part_acts, of_sending, line_acts}
 use Rattle.adapt_turn.proofs.tx.Tx.send_pass.Goals as goal
 
 pub returns-in-Some-clause-goes : goal.returns-in-Some-clause-goes
@@ -56,3 +56,9 @@ returns-in-Some-clause-sound g c = c.send-passed.ensures.part.part.sound
 
 pub returns-in-None-clause-sound : goal.returns-in-None-clause-sound
 returns-in-None-clause-sound g c = λ n b. ap (λ (z : Option (Line g.row.V.Denot g.row.W.Denot)). fault_of (λ l. g.V.Service.fault l.side) z) c.in-None.is
+
+pub returns-in-Some-clause-took : goal.returns-in-Some-clause-took
+returns-in-Some-clause-took g c = part_took Service _ _ _ _ _ _ _ _ _ _ _ _ _ _ _ _ _ of_sending c.state-state.ensures.tied c.send-passed.ensures.part.part
+
+pub returns-in-None-clause-took : goal.returns-in-None-clause-took
+returns-in-None-clause-took g c = ([], tt, refl)

@@ -9,7 +9,7 @@ use Rattle.std.proofs.Common.{Bool, subst}
 use Rattle.adapt_turn.specs.Parts.{FailsFor, fault_of}
 use Rattle.adapt_turn.specs.declared.turned.Side.TheVariants.{Service}
 use Rattle.adapt_turn.specs.Rows.{may_step}
-use Rattle.adapt_turn.proofs.Rows.{then_acts, acts_then}
+use Rattle.adapt_turn.proofs.Rows.{then_acts, acts_then, took_both}
 use Rattle.adapt_turn.proofs.tx.Tx.service_pass.Goals as goal
 
 pub returns-then-sent-2-clause-goes : goal.returns-then-sent-2-clause-goes
@@ -56,3 +56,15 @@ returns-then-sent-2-clause-unbroken g c = λ cause e. subst (λ (z : Bool). Fail
 
 pub returns-else-sent-2-clause-unbroken : goal.returns-else-sent-2-clause-unbroken
 returns-else-sent-2-clause-unbroken g c = λ cause e. subst (λ (z : Bool). FailsFor cause z (fault_of (λ l. g.V.Service.fault l.side) c.hear_pass-heard.new.self.service) c.hear_pass-heard.new.self.hold) c.send_pass-sent.ensures.marked.1 (c.hear_pass-heard.ensures.unbroken cause e)
+
+pub returns-then-sent-2-clause-took : goal.returns-then-sent-2-clause-took
+returns-then-sent-2-clause-took g c = took_both (may_step Service) c.args.self.now.hold c.send_pass-sent.new.self.hold c.hear_pass-heard.new.self.hold c.send_pass-sent.ensures.took c.hear_pass-heard.ensures.took
+
+pub returns-then-sent-2-clause-apart : goal.returns-then-sent-2-clause-apart
+returns-then-sent-2-clause-apart g c = let a = c.hear_pass-heard.ensures.apart in let b = c.send_pass-sent.ensures.apart in (a.0 ∙ b.0, a.1 ∙ b.1, a.2 ∙ b.2, a.3 ∙ b.3, a.4 ∙ b.4)
+
+pub returns-else-sent-2-clause-took : goal.returns-else-sent-2-clause-took
+returns-else-sent-2-clause-took g c = took_both (may_step Service) c.args.self.now.hold c.send_pass-sent.new.self.hold c.hear_pass-heard.new.self.hold c.send_pass-sent.ensures.took c.hear_pass-heard.ensures.took
+
+pub returns-else-sent-2-clause-apart : goal.returns-else-sent-2-clause-apart
+returns-else-sent-2-clause-apart g c = let a = c.hear_pass-heard.ensures.apart in let b = c.send_pass-sent.ensures.apart in (a.0 ∙ b.0, a.1 ∙ b.1, a.2 ∙ b.2, a.3 ∙ b.3, a.4 ∙ b.4)

@@ -1,6 +1,7 @@
 use Rattle.adapt_turn.proofs.Made.{made_by, made_on, heads_then, source_heads}
 use Rattle.adapt_turn.proofs.Together.{others_of, source_goes, disagree_goes}
-use Rattle.std.proofs.Common.{refl, sym, ◌∙◌, subst}
+use Rattle.std.proofs.Common.{◌≡◌, Some, refl, sym, ap, ◌∙◌, subst}
+use Rattle.adapt_turn.specs.declared.parts.Passed.{Passed}
 use Rattle.trace_core.specs.History.{History}
 use Rattle.adapt_hold.specs.Holding.{shows}
 use Rattle.adapt_turn.proofs.Reasons.{part_idle, part_waits, part_blames}
@@ -9,7 +10,7 @@ use Rattle.std.proofs.Common.{arith}
 use Rattle.trace_core.specs.declared.history.Cause.TheVariants as causes
 use Rattle.adapt_turn.specs.declared.turned.Side.TheVariants.{Source}
 use Rattle.adapt_turn.proofs.Reasons.{part_still}
-use Rattle.adapt_turn.proofs.Rows.{part_acts, of_source, untouched_or, fail_advances}
+use Rattle.adapt_turn.proofs.Rows.{part_took, part_acts, of_source, untouched_or, fail_advances, took_fail}
 use Rattle.adapt_turn.proofs.tx.Tx.source_pass.Goals as goal
 
 pub returns-then-agrees_with-clause-goes : goal.returns-then-agrees_with-clause-goes
@@ -32,10 +33,16 @@ pub returns-then-agrees_with-clause-waits : goal.returns-then-agrees_with-clause
 returns-then-agrees_with-clause-waits g c = λ e. part_waits _ _ _ _ _ _ _ _ _ _ _ _ _ _ _ _ _ c.read_source-passed.ensures.part.part e
 
 pub returns-then-agrees_with-clause-blames : goal.returns-then-agrees_with-clause-blames
-returns-then-agrees_with-clause-blames g c = λ cause e a. part_blames _ _ _ _ _ _ _ _ _ _ _ _ _ _ _ _ _ c.read_source-passed.ensures.part.part cause e
+returns-then-agrees_with-clause-blames g c = λ cause e. (
+  λ a. part_blames _ _ _ _ _ _ _ _ _ _ _ _ _ _ _ _ _ c.read_source-passed.ensures.part.part cause e,
+  λ no. absurd (no (subst (λ (y : History). g.S.Source.agrees (shows y) c.args.self.now.source) c.state-state.ensures.state (c.agrees_with.ensures.yes c.if-agrees_with.true))),
+)
 
 pub returns-else-agrees_with-clause-blames : goal.returns-else-agrees_with-clause-blames
-returns-else-agrees_with-clause-blames g c = λ cause e a. absurd (c.agrees_with.ensures.no c.if-agrees_with.false (subst (λ (y : History). g.S.Source.agrees (shows y) c.args.self.now.source) (sym c.state-state.ensures.state) a))
+returns-else-agrees_with-clause-blames g c = λ cause e. (
+  λ a. absurd (c.agrees_with.ensures.no c.if-agrees_with.false (subst (λ (y : History). g.S.Source.agrees (shows y) c.args.self.now.source) (sym c.state-state.ensures.state) a)),
+  λ no. (let d : Some causes.Source ≡ Some cause = sym (ap (λ (z : Passed). z.failed) c.close-passed.ensures.passed) ∙ e in cc),
+)
 
 pub invariant_of-self : goal.invariant_of-self
 invariant_of-self g c = record { roomy = c.read_source-passed.ensures.roomy; told = c.outcome_by-self.ensures ∙ part_told _ _ _ _ _ _ _ _ _ _ _ _ _ _ _ _ _ (λ cause. refl) c.state-state.ensures.tied c.requires.running c.read_source-passed.ensures.part.part }
@@ -48,3 +55,9 @@ returns-then-agrees_with-clause-active g c = λ w. part_acts Source _ _ _ _ _ _ 
 
 pub returns-else-agrees_with-clause-active : goal.returns-else-agrees_with-clause-active
 returns-else-agrees_with-clause-active g c = λ w. untouched_or _ _ (fail_advances Source c.args.self.now.hold c.close-passed.new.hold causes.Source c.requires.running c.close-passed.ensures.moved)
+
+pub returns-then-agrees_with-clause-took : goal.returns-then-agrees_with-clause-took
+returns-then-agrees_with-clause-took g c = part_took Source _ _ _ _ _ _ _ _ _ _ _ _ _ _ _ _ _ of_source c.state-state.ensures.tied c.read_source-passed.ensures.part.part
+
+pub returns-else-agrees_with-clause-took : goal.returns-else-agrees_with-clause-took
+returns-else-agrees_with-clause-took g c = took_fail Source c.args.self.now.hold c.close-passed.new.hold causes.Source c.requires.running c.close-passed.ensures.moved

@@ -9,17 +9,18 @@ use Rattle.adapt_turn.specs.declared.turned.Outcome.TheVariants as outcomes
 use Rattle.adapt_turn.proofs.Told.{done_told}
 use Rattle.std.proofs.Common.{◌≡◌, refl, subst}
 use Rattle.std.proofs.lemmas.Bool.{false≢true}
-use Rattle.adapt_turn.specs.Rows.{may_step, Advances}
-use Rattle.adapt_turn.proofs.Rows.{by_side, fail_advances}
+use Rattle.adapt_turn.specs.Rows.{may_step, TookBy, Advances}
+use Rattle.adapt_turn.proofs.Rows.{by_side, fail_advances, took_fail}
 use Rattle.adapt_turn.proofs.Moved.{none_over, waiting_not, some_line}
 use Rattle.trace_core.specs.declared.history.Cause.{Cause}
 use Rattle.adapt_turn.specs.Stands.{user_gift}
 use Rattle.adapt_turn.specs.Refusals.{refusal_status, user_untouched, HasRefusal}
 use Rattle.adapt_turn.proofs.Refusals.{by_point}
 use Rattle.adapt_turn.proofs.Told.{failed_over}
-use Rattle.adapt_turn.proofs.ByTurn.{by_answer, for_side, of_either, of_one}
+use Rattle.adapt_turn.proofs.ByTurn.{by_answer, for_side, of_either, of_one, idle_no_message}
 use Rattle.adapt_turn.specs.declared.turned.Turned.TheVariants as answers
-use Rattle.std.proofs.Common.{Some, None}
+use Rattle.std.proofs.Common.{true, false, [], Some, None, arith}
+use Rattle.adapt_turn.specs.Made.{response_of, answers_user}
 use Rattle.adapt_turn.proofs.tx.Tx.turn.Goals as goal
 
 pub returns-then-is_broken-clause-goes : goal.returns-then-is_broken-clause-goes
@@ -27,13 +28,6 @@ returns-then-is_broken-clause-goes g c = goes_none _ _ _ _
 
 pub returns-clause-goes : goal.returns-clause-goes
 returns-clause-goes g c = goes_then _ _ _ _ _ _ _ _ _ _ _ _ c.pass-passed.ensures.goes c.after_pass.ensures.goes
-
-pub returns-clause-refreshed : goal.returns-clause-refreshed
-returns-clause-refreshed g c = refreshed_by c.since-moved.result _ _ _ (λ z. c.after_pass.ensures.clock.0 z ∙ c.pass-passed.ensures.timed.0)
-    (moves_of g.A.Wire.past (λ l p. g.W.Wire.past l.wire p) g.C.Wire.past c.args.self.now.source_wire c.pass-passed.new.self.source_wire c.after_pass.new.self.source_wire
-    c.args.self.now.service c.pass-passed.new.self.service c.after_pass.new.self.service c.args.self.now.next_wire c.pass-passed.new.self.next_wire c.after_pass.new.self.next_wire _ _ _ _ _ _ c.since-moved.result
-    c.counts-before.ensures.source c.counts.ensures.source c.counts-before.ensures.service c.counts.ensures.service c.counts-before.ensures.next c.counts.ensures.next
-    c.pass-passed.ensures.served c.after_pass.ensures.kept.1 c.after_pass.ensures.kept.2 c.after_pass.ensures.kept.3 c.since-moved.ensures)
 
 pub returns-clause-timely : goal.returns-clause-timely
 returns-clause-timely g c = λ o e. elim (c.pass-passed.ensures.of_side Deadline (outcome_fails c.pass-passed.result.failed c.after_pass.new.self.outcome Deadline (c.after_pass.ensures.outcome ∙ c.pass-passed.ensures.outcome) e)) [
@@ -80,10 +74,13 @@ returns-clause-answers g c = by_answer c.after_pass.result _ _ _ _
           (λ s. both_kept (λ l. g.V.Service.rests_writing (shows c.args.self.now.hold.history) l.side) (λ l. g.V.Service.rests_reading (shows c.args.self.now.hold.history) (adapted_room (shows c.args.self.now.hold.history) c.args.self.now.hold.limits.window) l.side) (λ l p. g.W.Wire.past l.wire p) _ c.pass-passed.new.self.service c.after_pass.new.self.service c.after_pass.ensures.kept.2 (c.pass-passed.ensures.waits_service s (c.after_pass.ensures.waiting w).0))
           (λ s. elim (c.pass-passed.ensures.waits_next s (c.after_pass.ensures.waiting w).0) [
             | inl u ↦ inl u
-            | inr v ↦ inr (of_either _ _ _ _ _ _ (ap g.K.Hop.gift (c.after_pass.ensures.same (c.pass-passed.ensures.idle (c.after_pass.ensures.waiting w).0)).1)
-                (λ z. waits_kept (λ k. g.K.Hop.rests (shows c.args.self.now.hold.history) k) g.C.Wire.past _ _ c.pass-passed.new.self.next c.after_pass.new.self.next c.pass-passed.new.self.next_wire c.after_pass.new.self.next_wire (c.after_pass.ensures.same (c.pass-passed.ensures.idle (c.after_pass.ensures.waiting w).0)).0 c.after_pass.ensures.kept.3 z)
-                (λ z. waits_kept (λ k. g.K.Hop.rests (shows c.args.self.now.hold.history) k) g.A.Wire.past _ _ c.pass-passed.new.self.back c.after_pass.new.self.back c.pass-passed.new.self.source_wire c.after_pass.new.self.source_wire (c.after_pass.ensures.same (c.pass-passed.ensures.idle (c.after_pass.ensures.waiting w).0)).1 c.after_pass.ensures.kept.1 z)
-                v)
+            | inr v ↦ inr (
+              λ n b. v.0 (sym (ap g.K.Hop.gift (c.after_pass.ensures.same (c.pass-passed.ensures.idle (c.after_pass.ensures.waiting w).0)).0) ∙ n) (sym (ap g.K.Hop.gift (c.after_pass.ensures.same (c.pass-passed.ensures.idle (c.after_pass.ensures.waiting w).0)).1) ∙ b),
+              of_either _ _ _ _ _ _ (ap g.K.Hop.gift (c.after_pass.ensures.same (c.pass-passed.ensures.idle (c.after_pass.ensures.waiting w).0)).1)
+                  (λ z. waits_kept (λ k. g.K.Hop.rests (shows c.args.self.now.hold.history) k) g.C.Wire.past _ _ c.pass-passed.new.self.next c.after_pass.new.self.next c.pass-passed.new.self.next_wire c.after_pass.new.self.next_wire (c.after_pass.ensures.same (c.pass-passed.ensures.idle (c.after_pass.ensures.waiting w).0)).0 c.after_pass.ensures.kept.3 z)
+                  (λ z. waits_kept (λ k. g.K.Hop.rests (shows c.args.self.now.hold.history) k) g.A.Wire.past _ _ c.pass-passed.new.self.back c.after_pass.new.self.back c.pass-passed.new.self.source_wire c.after_pass.new.self.source_wire (c.after_pass.ensures.same (c.pass-passed.ensures.idle (c.after_pass.ensures.waiting w).0)).1 c.after_pass.ensures.kept.1 z)
+                  v.1,
+            )
           ]),
     ))
     (λ n m. (
@@ -146,7 +143,7 @@ pub returns-clause-fails : goal.returns-clause-fails
 returns-clause-fails g c = λ o cause e.
     let f = outcome_fails c.pass-passed.result.failed c.after_pass.new.self.outcome cause (c.after_pass.ensures.outcome ∙ c.pass-passed.ensures.outcome) e in
     inr (for_side c.args.side _ _ _
-    (λ s a. blamed_kept _ _ cause g.A.Wire.past _ _ (g.S.Source.fault c.pass-passed.new.self.source) (g.S.Source.fault c.after_pass.new.self.source) c.pass-passed.new.self.source_wire c.after_pass.new.self.source_wire (ap g.S.Source.fault c.after_pass.ensures.kept.0) c.after_pass.ensures.kept.1 (c.pass-passed.ensures.blames_source s cause f a))
+    (λ s. (λ a. blamed_kept _ _ cause g.A.Wire.past _ _ (g.S.Source.fault c.pass-passed.new.self.source) (g.S.Source.fault c.after_pass.new.self.source) c.pass-passed.new.self.source_wire c.after_pass.new.self.source_wire (ap g.S.Source.fault c.after_pass.ensures.kept.0) c.after_pass.ensures.kept.1 ((c.pass-passed.ensures.blames_source s cause f).0 a), (c.pass-passed.ensures.blames_source s cause f).1))
     (λ s. (
       λ n. (let d : None ≡ Some cause = sym (c.pass-passed.ensures.idle (c.pass-passed.ensures.absent s n)) ∙ f in absurd cc),
       line_blamed_kept (λ l. g.V.Service.fault l.side) (λ l p. g.W.Wire.past l.wire p) cause _ _ c.pass-passed.new.self.service c.after_pass.new.self.service c.after_pass.ensures.kept.2 (c.pass-passed.ensures.blames_service s cause f),
@@ -160,3 +157,84 @@ returns-clause-fails g c = λ o cause e.
 
 pub returns-then-is_broken-clause-fails : goal.returns-then-is_broken-clause-fails
 returns-then-is_broken-clause-fails g c = λ o cause e. absurd (false≢true (sym o ∙ failed_over c.args.self.now.hold.history c.args.self.now.outcome cause c.args.self.now.told e))
+
+pub returns-clause-clock : goal.returns-clause-clock
+returns-clause-clock g c = λ o. (
+  c.since-moved.result,
+  moves_of g.A.Wire.past (λ l p. g.W.Wire.past l.wire p) g.C.Wire.past c.args.self.now.source_wire c.pass-passed.new.self.source_wire c.after_pass.new.self.source_wire
+      c.args.self.now.service c.pass-passed.new.self.service c.after_pass.new.self.service c.args.self.now.next_wire c.pass-passed.new.self.next_wire c.after_pass.new.self.next_wire _ _ _ _ _ _ c.since-moved.result
+      c.counts-before.ensures.source c.counts.ensures.source c.counts-before.ensures.service c.counts.ensures.service c.counts-before.ensures.next c.counts.ensures.next
+      c.pass-passed.ensures.served c.after_pass.ensures.kept.1 c.after_pass.ensures.kept.2 c.after_pass.ensures.kept.3 c.since-moved.ensures,
+  λ z. c.after_pass.ensures.clock.0 z ∙ c.pass-passed.ensures.timed.0,
+  c.after_pass.ensures.clock.1,
+  λ m e. c.after_pass.ensures.moved m e,
+)
+
+pub returns-then-now-self-2-clause-clock : goal.returns-then-now-self-2-clause-clock
+returns-then-now-self-2-clause-clock g c = λ o. (
+  0,
+  moves_none g.A.Wire.past (λ l p. g.W.Wire.past l.wire p) g.C.Wire.past c.args.self.now.source_wire c.fail_by.new.self.source_wire
+      c.args.self.now.service c.fail_by.new.self.service c.args.self.now.next_wire c.fail_by.new.self.next_wire _ _ _ 0
+      c.counts-before.ensures.source c.counts-before.ensures.service c.counts-before.ensures.next c.fail_by.ensures.kept.0 c.fail_by.ensures.kept.1 c.fail_by.ensures.kept.2 refl,
+  λ z. c.fail_by.ensures.timed.0,
+  λ l. absurd (omega (arith, l)),
+  λ m e. (let d : answers.Moved 0 ≡ answers.Moved m = e in cc),
+)
+
+pub returns-then-is_broken-clause-clock : goal.returns-then-is_broken-clause-clock
+returns-then-is_broken-clause-clock g c = λ o. (
+  0,
+  moves_none g.A.Wire.past (λ l p. g.W.Wire.past l.wire p) g.C.Wire.past c.args.self.now.source_wire c.args.self.now.source_wire c.args.self.now.service c.args.self.now.service c.args.self.now.next_wire c.args.self.now.next_wire _ _ _ 0
+      c.counts-before.ensures.source c.counts-before.ensures.service c.counts-before.ensures.next refl refl refl refl,
+  λ z. refl,
+  λ l. absurd (omega (arith, l)),
+  λ m e. (let d : answers.Broken ≡ answers.Moved m = e in absurd cc),
+)
+
+pub returns-clause-keeps : goal.returns-clause-keeps
+returns-clause-keeps g c = (
+  λ o. (
+    subst (λ h. TookBy (may_step c.args.side) c.args.self.now.hold h) (sym c.after_pass.ensures.hold)
+        (by_side c.args.side (λ side. TookBy (may_step side) c.args.self.now.hold c.pass-passed.new.self.hold) (λ s. c.pass-passed.ensures.took_source s) (λ s. c.pass-passed.ensures.took_service s) (λ s. c.pass-passed.ensures.took_next s)),
+    for_side c.args.side _ _ _
+        (λ s. let a = c.pass-passed.ensures.apart_source s in (c.after_pass.ensures.kept.2 ∙ a.0, c.after_pass.ensures.kept.3 ∙ a.1))
+        (λ s. let a = c.pass-passed.ensures.apart_service s in (c.after_pass.ensures.kept.0 ∙ a.0, c.after_pass.ensures.kept.1 ∙ a.1, c.after_pass.ensures.kept.3 ∙ a.2))
+        (λ s. let a = c.pass-passed.ensures.apart_next s in (c.after_pass.ensures.kept.0 ∙ a.0, c.after_pass.ensures.kept.2 ∙ a.1)),
+    λ n m. let w = c.after_pass.ensures.messages.1 m in
+        by_side c.args.side (λ side. answers_user (shows c.args.self.now.hold.history) (response_of g.V.Service.is_response c.args.self.now.service) ≡ true)
+        (λ s. absurd (idle_no_message _ n (sym (ap g.K.Hop.gift (c.pass-passed.ensures.apart_source s).3) ∙ w)))
+        (λ s. absurd (idle_no_message _ n (sym (ap g.K.Hop.gift (c.pass-passed.ensures.apart_service s).4) ∙ w)))
+        (λ s. (c.pass-passed.ensures.way s).0 n w),
+    λ n m. let w = c.after_pass.ensures.messages.0 m in
+        by_side c.args.side (λ side. answers_user (shows c.args.self.now.hold.history) (response_of g.V.Service.is_response c.args.self.now.service) ≡ false)
+        (λ s. absurd (idle_no_message _ n (sym (ap g.K.Hop.gift (c.pass-passed.ensures.apart_source s).2) ∙ w)))
+        (λ s. absurd (idle_no_message _ n (sym (ap g.K.Hop.gift (c.pass-passed.ensures.apart_service s).3) ∙ w)))
+        (λ s. (c.pass-passed.ensures.way s).1 n w),
+  ),
+  λ k. absurd (false≢true (sym (sym c.is_closed.ensures ∙ c.if-is_closed.false) ∙ k)),
+)
+
+pub returns-then-is_closed-clause-keeps : goal.returns-then-is_closed-clause-keeps
+returns-then-is_closed-clause-keeps g c = (λ o. absurd (false≢true (sym o ∙ (sym c.is_closed.ensures ∙ c.if-is_closed.true))), λ k. c.closed_turn.ensures.apart)
+
+pub returns-then-now-self-2-clause-keeps : goal.returns-then-now-self-2-clause-keeps
+returns-then-now-self-2-clause-keeps g c = (
+  λ o. (
+    took_fail c.args.side c.args.self.now.hold c.fail_by.new.self.hold Deadline (sym c.is_closed.ensures ∙ c.if-is_closed.false) c.fail_by.ensures.hold,
+    for_side c.args.side _ _ _ (λ s. (c.fail_by.ensures.kept.1, c.fail_by.ensures.kept.2)) (λ s. (c.fail_by.ensures.kept.3, c.fail_by.ensures.kept.0, c.fail_by.ensures.kept.2)) (λ s. (c.fail_by.ensures.kept.3, c.fail_by.ensures.kept.1)),
+    λ n m. absurd (idle_no_message _ n (c.fail_by.ensures.messages.1 m)),
+    λ n m. absurd (idle_no_message _ n (c.fail_by.ensures.messages.0 m)),
+  ),
+  λ k. absurd (false≢true (sym (sym c.is_closed.ensures ∙ c.if-is_closed.false) ∙ k)),
+)
+
+pub returns-then-is_broken-clause-keeps : goal.returns-then-is_broken-clause-keeps
+returns-then-is_broken-clause-keeps g c = (
+  λ o. (
+    ([], tt, refl),
+    for_side c.args.side _ _ _ (λ s. (refl, refl)) (λ s. (refl, refl, refl)) (λ s. (refl, refl)),
+    λ n m. absurd (idle_no_message _ n m),
+    λ n m. absurd (idle_no_message _ n m),
+  ),
+  λ k. absurd (false≢true (sym (sym c.is_closed.ensures ∙ c.if-is_closed.false) ∙ k)),
+)
