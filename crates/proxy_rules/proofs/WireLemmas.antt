@@ -26,7 +26,7 @@ use Rattle.http_relay.specs.declared.hop.Stage.TheVariants as at
 use Rattle.http_relay.specs.Message.{IsFrontOfMessage}
 use Rattle.http_relay.specs.Giving.{Hop, HasGiven, GivenAt, IsAside, AsideAt, gift_of}
 use Rattle.http_relay.proofs.Whole.{out_front_at, whole_front_at}
-use Rattle.proxy_rules.specs.Wires.{TookNoMessage, TookFront, TookOne, TookNoRefusal, other_taken}
+use Rattle.proxy_rules.specs.Wires.{TookNoMessage, TookFront, TookOne, OtherTook}
 
 pub received_is : (h : Holding) (body : List ℕ) → IsTied h → EndsBody h.original body → length body ≡ (shows h.history).received
 received_is h body t e = sym e.end ∙ ap (λ (p : ℕ × ℕ). p.1) t.original
@@ -64,19 +64,18 @@ aside_at (at.Refusal status) taken w a = inr (status, record { rest = waiting w;
 pub aside_none : (taken : List ℕ) (h : Hop) → IsAside taken h → TookNoMessage taken
 aside_none taken h a = aside_at h.stage taken h.writer a.text
 
-front_at : (stage : Stage) (x : Seen) (f : Framing) (head body taken : List ℕ) (w : Writer) → gift_of stage ≡ message → length body ≡ chosen_received x → GivenAt stage x f head body taken w → TookFront body taken
+front_at : (stage : Stage) (x : Seen) (f : Framing) (head body taken : List ℕ) (w : Writer) → gift_of stage ≡ message → length body ≡ chosen_received x → GivenAt stage x f head body taken w
+    → (count : ℕ) × IsFrontOfMessage f head (take count body) taken
 front_at at.Empty x f head body taken w m l g = cc
-front_at at.Message x f head body taken w m l g = (f, head, chosen_delivered x, out_front_at at.Message x f head body taken w refl l g)
+front_at at.Message x f head body taken w m l g = (chosen_delivered x, out_front_at at.Message x f head body taken w refl l g)
 front_at at.Whole x f head body taken w m l g =
     let all : take (length body) body ≡ body = take_all (length body) body (omega arith) in
-    (f, head, length body, subst (λ (b : List ℕ). IsFrontOfMessage f head b taken) (sym all) (whole_front_at at.Whole x f head body taken w refl l g))
+    (length body, subst (λ (b : List ℕ). IsFrontOfMessage f head b taken) (sym all) (whole_front_at at.Whole x f head body taken w refl l g))
 front_at (at.Refusal status) x f head body taken w m l g = cc
 
-pub front_one : (x : Seen) (head body taken : List ℕ) (h : Hop) → gift_of h.stage ≡ message → length body ≡ chosen_received x → HasGiven x head body taken h → TookFront body taken
-front_one x head body taken h m l g = front_at h.stage x h.framing head body taken h.writer m l g.given
-
-pub given_one : (x : Seen) (head body taken : List ℕ) (h : Hop) → gift_of h.stage ≡ message → length body ≡ chosen_received x → HasGiven x head body taken h → TookOne body taken
-given_one x head body taken h m l g = inr (front_one x head body taken h m l g)
+pub front_one : (made : List ℕ → Type 0) (x : Seen) (head body taken : List ℕ) (h : Hop) → made head → gift_of h.stage ≡ message → length body ≡ chosen_received x → HasGiven x head body taken h
+    → TookFront made h.framing body taken
+front_one made x head body taken h k m l g = let w = front_at h.stage x h.framing head body taken h.writer m l g.given in (head, k, w.0, w.1)
 
 -- a writer without a refusal took nothing beside a message
 unrefused_at : (stage : Stage) (taken : List ℕ) (w : Writer) → ((status : ℕ) → gift_of stage ≡ refused_by status → ⊥) → AsideAt stage taken w → taken ≡ []
@@ -93,39 +92,46 @@ pub service_one : {W : Type 0} (h : Holding) (original taken : List ℕ) (servic
 service_one h original taken None t o n e = inl e
 service_one h original taken (Some line) t o n g = inr (sent_one h original taken line.side t o n g)
 
-pub hops_one : (h : Holding) (next back : Hop) (next_given back_given : Seen → List ℕ → List ℕ → List ℕ → Type 0) (original adapted to_next to_back : List ℕ)
+pub hops_one : (h : Holding) (next back : Hop) (next_made back_made : List ℕ → Type 0) (next_given back_given : Seen → List ℕ → List ℕ → List ℕ → Type 0) (original adapted to_next to_back : List ℕ)
     → IsTied h → EndsBody h.original original → EndsBody h.adapted adapted
-    → ((x : Seen) (head body taken : List ℕ) → next_given x head body taken → HasGiven x head body taken next) → ((x : Seen) (head body taken : List ℕ) → back_given x head body taken → HasGiven x head body taken back)
+    → ((head body taken : List ℕ) → next_given (shows h.history) head body taken → next_made head × HasGiven (shows h.history) head body taken next)
+    → ((head body taken : List ℕ) → back_given (shows h.history) head body taken → back_made head × HasGiven (shows h.history) head body taken back)
     → HopsAre (gift_of next.stage) (gift_of back.stage) next_given (λ taken. IsAside taken next) back_given (λ taken. IsAside taken back) (shows h.history) (chosen (shows h.history) original adapted) to_next to_back
-    → (TookOne (chosen (shows h.history) original adapted) to_next × TookNoMessage to_back) ⊎ (TookNoMessage to_next × TookOne (chosen (shows h.history) original adapted) to_back)
-hops_one h next back next_given back_given original adapted to_next to_back t o a as_next as_back (inl m) = inl (inl (aside_none to_next next m.next_aside_is), aside_none to_back back m.back_aside_is)
-hops_one h next back next_given back_given original adapted to_next to_back t o a as_next as_back (inr (inl m)) =
+    → (TookOne next_made next.framing (chosen (shows h.history) original adapted) to_next × TookNoMessage to_back) ⊎ (TookNoMessage to_next × TookOne back_made back.framing (chosen (shows h.history) original adapted) to_back)
+hops_one h next back next_made back_made next_given back_given original adapted to_next to_back t o a as_next as_back (inl m) = inl (inl (aside_none to_next next m.next_aside_is), aside_none to_back back m.back_aside_is)
+hops_one h next back next_made back_made next_given back_given original adapted to_next to_back t o a as_next as_back (inr (inl m)) =
     let x = shows h.history in
     let body = chosen x original adapted in
-    inl (given_one x m.head body to_next next m.begun (chosen_is h original adapted t o a) (as_next x m.head body to_next m.given_is), aside_none to_back back m.aside_is)
-hops_one h next back next_given back_given original adapted to_next to_back t o a as_next as_back (inr (inr (inl m))) =
+    let w = as_next m.head body to_next m.given_is in
+    inl (inr (front_one next_made x m.head body to_next next w.0 m.begun (chosen_is h original adapted t o a) w.1), aside_none to_back back m.aside_is)
+hops_one h next back next_made back_made next_given back_given original adapted to_next to_back t o a as_next as_back (inr (inr (inl m))) =
     let x = shows h.history in
     let body = chosen x original adapted in
-    inr (aside_none to_next next m.aside_is, given_one x m.head body to_back back m.begun (chosen_is h original adapted t o a) (as_back x m.head body to_back m.given_is))
-hops_one h next back next_given back_given original adapted to_next to_back t o a as_next as_back (inr (inr (inr m))) = inl (inl (aside_none to_next next m.next_aside_is), aside_none to_back back m.back_aside_is)
+    let w = as_back m.head body to_back m.given_is in
+    inr (aside_none to_next next m.aside_is, inr (front_one back_made x m.head body to_back back w.0 m.begun (chosen_is h original adapted t o a) w.1))
+hops_one h next back next_made back_made next_given back_given original adapted to_next to_back t o a as_next as_back (inr (inr (inr m))) =
+    inl (inl (aside_none to_next next m.next_aside_is), aside_none to_back back m.back_aside_is)
 
-pub other_one : (point : Point) (h : Holding) (next back : Hop) (next_given back_given : Seen → List ℕ → List ℕ → List ℕ → Type 0) (original adapted to_next to_back : List ℕ)
+pub other_one : (point : Point) (h : Holding) (next back : Hop) (next_made back_made : List ℕ → Type 0) (next_given back_given : Seen → List ℕ → List ℕ → List ℕ → Type 0) (original adapted to_next to_back : List ℕ)
     → IsTied h → EndsBody h.original original → EndsBody h.adapted adapted
-    → ((x : Seen) (head body taken : List ℕ) → next_given x head body taken → HasGiven x head body taken next) → ((x : Seen) (head body taken : List ℕ) → back_given x head body taken → HasGiven x head body taken back)
+    → ((head body taken : List ℕ) → next_given (shows h.history) head body taken → next_made head × HasGiven (shows h.history) head body taken next)
+    → ((head body taken : List ℕ) → back_given (shows h.history) head body taken → back_made head × HasGiven (shows h.history) head body taken back)
     → ((status : ℕ) → other_gift point (gift_of next.stage) (gift_of back.stage) ≡ refused_by status → ⊥)
     → HopsAre (gift_of next.stage) (gift_of back.stage) next_given (λ taken. IsAside taken next) back_given (λ taken. IsAside taken back) (shows h.history) (chosen (shows h.history) original adapted) to_next to_back
-    → TookNoRefusal (chosen (shows h.history) original adapted) (other_taken point to_next to_back)
-other_one Reqmod h next back next_given back_given original adapted to_next to_back t o a as_next as_back none (inl m) = inl (unrefused to_next next none m.next_aside_is)
-other_one Reqmod h next back next_given back_given original adapted to_next to_back t o a as_next as_back none (inr (inl m)) =
+    → OtherTook point next_made back_made next.framing back.framing (chosen (shows h.history) original adapted) to_next to_back
+other_one Reqmod h next back next_made back_made next_given back_given original adapted to_next to_back t o a as_next as_back none (inl m) = inl (unrefused to_next next none m.next_aside_is)
+other_one Reqmod h next back next_made back_made next_given back_given original adapted to_next to_back t o a as_next as_back none (inr (inl m)) =
     let x = shows h.history in
     let body = chosen x original adapted in
-    inr (front_one x m.head body to_next next m.begun (chosen_is h original adapted t o a) (as_next x m.head body to_next m.given_is))
-other_one Reqmod h next back next_given back_given original adapted to_next to_back t o a as_next as_back none (inr (inr (inl m))) = inl (unrefused to_next next none m.aside_is)
-other_one Reqmod h next back next_given back_given original adapted to_next to_back t o a as_next as_back none (inr (inr (inr m))) = inl (unrefused to_next next none m.next_aside_is)
-other_one Respmod h next back next_given back_given original adapted to_next to_back t o a as_next as_back none (inl m) = inl (unrefused to_back back none m.back_aside_is)
-other_one Respmod h next back next_given back_given original adapted to_next to_back t o a as_next as_back none (inr (inl m)) = inl (unrefused to_back back none m.aside_is)
-other_one Respmod h next back next_given back_given original adapted to_next to_back t o a as_next as_back none (inr (inr (inl m))) =
+    let w = as_next m.head body to_next m.given_is in
+    inr (front_one next_made x m.head body to_next next w.0 m.begun (chosen_is h original adapted t o a) w.1)
+other_one Reqmod h next back next_made back_made next_given back_given original adapted to_next to_back t o a as_next as_back none (inr (inr (inl m))) = inl (unrefused to_next next none m.aside_is)
+other_one Reqmod h next back next_made back_made next_given back_given original adapted to_next to_back t o a as_next as_back none (inr (inr (inr m))) = inl (unrefused to_next next none m.next_aside_is)
+other_one Respmod h next back next_made back_made next_given back_given original adapted to_next to_back t o a as_next as_back none (inl m) = inl (unrefused to_back back none m.back_aside_is)
+other_one Respmod h next back next_made back_made next_given back_given original adapted to_next to_back t o a as_next as_back none (inr (inl m)) = inl (unrefused to_back back none m.aside_is)
+other_one Respmod h next back next_made back_made next_given back_given original adapted to_next to_back t o a as_next as_back none (inr (inr (inl m))) =
     let x = shows h.history in
     let body = chosen x original adapted in
-    inr (front_one x m.head body to_back back m.begun (chosen_is h original adapted t o a) (as_back x m.head body to_back m.given_is))
-other_one Respmod h next back next_given back_given original adapted to_next to_back t o a as_next as_back none (inr (inr (inr m))) = inl (unrefused to_back back none m.back_aside_is)
+    let w = as_back m.head body to_back m.given_is in
+    inr (front_one back_made x m.head body to_back back w.0 m.begun (chosen_is h original adapted t o a) w.1)
+other_one Respmod h next back next_made back_made next_given back_given original adapted to_next to_back t o a as_next as_back none (inr (inr (inr m))) = inl (unrefused to_back back none m.back_aside_is)

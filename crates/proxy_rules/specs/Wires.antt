@@ -17,32 +17,28 @@ use Rattle.http_relay.specs.Message.{IsFrontOfMessage}
 abbrev pub TookNoMessage : List ℕ → Type 0
 TookNoMessage taken = (taken ≡ []) ⊎ ((status : ℕ) × IsPrefixOf taken (refusal status))
 
--- a front of one message with a front of this body
-abbrev pub TookFront : List ℕ → List ℕ → Type 0
-TookFront body taken = (framing : Framing) × (head : List ℕ) × (count : ℕ) × IsFrontOfMessage framing head (take count body) taken
+-- a front of one message with such a head, whose body goes so, and a front of this body
+abbrev pub TookFront : (made : List ℕ → Type 0) → Framing → List ℕ → List ℕ → Type 0
+TookFront made framing body taken = (head : List ℕ) × made head × (count : ℕ) × IsFrontOfMessage framing head (take count body) taken
 
 -- one of these
-abbrev pub TookOne : List ℕ → List ℕ → Type 0
-TookOne body taken = TookNoMessage taken ⊎ TookFront body taken
+abbrev pub TookOne : (made : List ℕ → Type 0) → Framing → List ℕ → List ℕ → Type 0
+TookOne made framing body taken = TookNoMessage taken ⊎ TookFront made framing body taken
 
--- nothing, or a front of one message
-abbrev pub TookNoRefusal : List ℕ → List ℕ → Type 0
-TookNoRefusal body taken = (taken ≡ []) ⊎ TookFront body taken
-
--- what the wire took that isn't the user's: at REQMOD the user is the source, at RESPMOD the next hop
-abbrev pub other_taken : Point → (next back : List ℕ) → List ℕ
-other_taken Reqmod next back = next
-other_taken Respmod next back = back
+-- what the wire took that isn't the user's, of such a message or of none: at REQMOD the user is the source, at RESPMOD the next hop
+abbrev pub OtherTook : Point → (next_made back_made : List ℕ → Type 0) → (next_framing back_framing : Framing) → (body next back : List ℕ) → Type 0
+OtherTook Reqmod next_made back_made next_framing back_framing body next back = (next ≡ []) ⊎ TookFront next_made next_framing body next
+OtherTook Respmod next_made back_made next_framing back_framing body next back = (back ≡ []) ⊎ TookFront back_made back_framing body back
 
 -- The service's wire took a front of one request with the original. Of the wires to the next hop and back to the user one took a
--- front of one message with the chosen body, or of a refusal, and the other one nothing of a message. A refusal is the user's alone.
+-- front of one message with a head that was made and the chosen body, or of a refusal, and the other one nothing of a message. A refusal is the user's alone.
 -- The tapes have the ends of both bodies.
-pub record WiresTook (h : Holding) (t : Texts) : Type 0 where
+pub record WiresTook (next_made back_made : List ℕ → Type 0) (next_framing back_framing : Framing) (h : Holding) (t : Texts) : Type 0 where
   pub original : List ℕ
   pub adapted : List ℕ
   pub original_is : EndsBody h.original original
   pub adapted_is : EndsBody h.adapted adapted
   pub service : is_plain (shows h.history).plan.kind ≡ false → (t.service_taken ≡ []) ⊎ ((head : List ℕ) × IsFrontOfRequest (shows h.history) head original t.service_taken)
-  pub next_and_back : (TookOne (chosen (shows h.history) original adapted) t.next_taken × TookNoMessage t.back_taken)
-      ⊎ (TookNoMessage t.next_taken × TookOne (chosen (shows h.history) original adapted) t.back_taken)
-  pub other : TookNoRefusal (chosen (shows h.history) original adapted) (other_taken (shows h.history).plan.point t.next_taken t.back_taken)
+  pub next_and_back : (TookOne next_made next_framing (chosen (shows h.history) original adapted) t.next_taken × TookNoMessage t.back_taken)
+      ⊎ (TookNoMessage t.next_taken × TookOne back_made back_framing (chosen (shows h.history) original adapted) t.back_taken)
+  pub other : OtherTook (shows h.history).plan.point next_made back_made next_framing back_framing (chosen (shows h.history) original adapted) t.next_taken t.back_taken

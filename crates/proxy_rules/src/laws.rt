@@ -3,7 +3,8 @@
 ghost use Rattle.std.specs.Prelude.{◌≡◌, ◌↔◌, ℕ, true, false, codes};
 ghost use Rattle.trace_core.specs.declared.tape.Tape.TheVariants.{Original, Adapted};
 ghost use Rattle.trace_core.specs.Held.{IsIn, IsNeeded};
-ghost use Rattle.adapt_hold.specs.Holding.{IsTied, interval};
+ghost use Rattle.adapt_hold.specs.Holding.{IsTied, interval, shows};
+ghost use Rattle.adapt_turn.specs.Made.{IsMade, adapted_of, response_of};
 ghost use Rattle.adapt_turn.specs.Stands.{Texts};
 ghost use Rattle.http_side.specs.declared.forward.Forward.{Forward as Sent};
 ghost use Rattle.http_side.specs.Forward.{is_response, is_named_by, closes};
@@ -11,7 +12,8 @@ ghost use Rattle.http_side.specs.Laws.{forwarded_fields};
 ghost use Rattle.proxy_rules.specs.Wires.{WiresTook};
 
 use crate::head_maker::HeadMaker;
-use adapt_turn::{Standing, Tx};
+use adapt_sides::{Service, Source};
+use adapt_turn::{Forward, Standing, Tx};
 use http_relay::{NextHop, SourceSide};
 use icap_client::ServiceSide;
 use span_bank::Ledgers;
@@ -26,12 +28,17 @@ pub fn says_close_where_it_ends()
 
 /// Of a transaction of the proxy's own sides, wherever it stands: its service's wire took a front of one request with the original;
 /// one of the wires to the next hop and to the user took a front of one message with the chosen body, or of a refusal alone, and the
-/// other one nothing of a message; a refusal goes to the user alone. What is held of both bodies is just what the history needs.
+/// other one nothing of a message; that message's head, and how its body goes, were made at a moment of its history of the heads that
+/// were read; a refusal goes to the user alone. What is held of both bodies is just what the history needs.
 pub fn the_wires_take_one_message<B: Ledgers, A: Wire, W: Wire, C: Wire>(
     tx: &Tx<B, SourceSide, ServiceSide, NextHop, HeadMaker, A, W, C>,
 )
     ensures tied { IsTied tx.now.hold }
-    ensures took { (t : Texts) → ⟦<Tx<B, SourceSide, ServiceSide, NextHop, HeadMaker, A, W, C> as Standing>⟧.stands tx.now t → WiresTook tx.now.hold t }
+    ensures took { (t : Texts) → ⟦<Tx<B, SourceSide, ServiceSide, NextHop, HeadMaker, A, W, C> as Standing>⟧.stands tx.now t → WiresTook (λ head. IsMade (⟦<HeadMaker as Forward<SourceSide, NextHop>>⟧.makes tx.now.forward (⟦<SourceSide as Source>⟧.head tx.now.source))
+        (adapted_of ⟦<ServiceSide as Service>⟧.adapted_head tx.now.service) (response_of ⟦<ServiceSide as Service>⟧.is_response tx.now.service) tx.now.next.framing (shows tx.now.hold.history) head)
+        (λ head. IsMade (⟦<HeadMaker as Forward<SourceSide, NextHop>>⟧.makes tx.now.forward (⟦<SourceSide as Source>⟧.head tx.now.source))
+        (adapted_of ⟦<ServiceSide as Service>⟧.adapted_head tx.now.service) (response_of ⟦<ServiceSide as Service>⟧.is_response tx.now.service) tx.now.back.framing (shows tx.now.hold.history) head)
+        tx.now.next.framing tx.now.back.framing tx.now.hold t }
 {
     let _ = tx.seen();
 }

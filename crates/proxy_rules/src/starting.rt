@@ -1,6 +1,6 @@
 //! The beginning of a transaction of the proxy's own sides.
 
-ghost use Rattle.std.specs.Prelude.{◌≡◌, ◌≤◌, List, ℕ, [], IfOk, IfErr, IfSome};
+ghost use Rattle.std.specs.Prelude.{◌≡◌, ◌≤◌, ◌↔◌, List, ℕ, [], false, IsOk, IfOk, IfErr, IfSome};
 ghost use Rattle.adapt_bytes.specs.declared.limits.TheConstants.{MAX_CAPACITY};
 ghost use Rattle.plan_rules.specs.Claims.{claim_of};
 ghost use Rattle.http_relay.specs.Reading.{Begins};
@@ -8,6 +8,7 @@ ghost use Rattle.adapt_turn.specs.Stands.{no_texts};
 ghost use Rattle.proxy_rules.specs.Offers.{IsUnused};
 
 use crate::head_maker::HeadMaker;
+use adapt_sides::Source;
 use adapt_turn::{Line, Standing, Start, Tx};
 use http_relay::{NextHop, SourceSide};
 use icap_client::ServiceSide;
@@ -52,11 +53,16 @@ pub fn begin<B: Ledgers, A: Wire, W: Wire, C: Wire>(
     requires empty { (beginning.stake.held ≡ 0) × (beginning.stake.pages ≡ 0) }
     requires claim { beginning.stake.claim ≡ claim_of beginning.plan beginning.limits.window }
     requires small { beginning.stake.claim ≤ MAX_CAPACITY }
+    ensures accepts { IsOk result ↔ ⟦<SourceSide as Source>⟧.may_begin beginning.plan beginning.source }
     ensures begun { IfOk result (λ tx. tx.hold.history ≡ record { plan = beginning.plan; events = [] }) }
     ensures clock { IfOk result (λ tx. (tx.last_moved ≡ beginning.now) × (tx.deadline ≡ beginning.deadline)) }
     ensures stands { IfOk result (λ tx. (read : List ℕ) → Begins read beginning.source → IfSome beginning.service (λ line. IsUnused line.side)
         → ⟦<Tx<B, SourceSide, ServiceSide, NextHop, HeadMaker, A, W, C> as Standing>⟧.stands tx (record no_texts { source_read = read })) }
-    ensures back { IfErr result (λ back. back.stake ≡ beginning.stake) }
+    ensures line { IfOk result (λ tx. (tx.broken ≡ false) × (tx.reused ≡ beginning.reused)) }
+    ensures fields { IfOk result (λ tx. (tx.source ≡ beginning.source) × (tx.source_wire ≡ beginning.source_wire) × (tx.service ≡ beginning.service) × (tx.next_wire ≡ beginning.next_wire)
+        × (tx.forward ≡ beginning.heads)) }
+    ensures back { IfErr result (λ back. (back.stake ≡ beginning.stake) × (back.source ≡ beginning.source) × (back.source_wire ≡ beginning.source_wire) × (back.service ≡ beginning.service)
+        × (back.next_wire ≡ beginning.next_wire) × (back.forward ≡ beginning.heads)) }
 {
     let Beginning {
         plan,

@@ -11,9 +11,9 @@ returns-clause-took g c = λ t s. record {
   adapted_is = s.adapted_is;
   service = λ n. service_one c.args.tx.now.hold s.original t.service_taken c.args.tx.now.service c.seen.ensures.tied s.original_is n s.sent_is;
   next_and_back =
-      hops_one c.args.tx.now.hold c.args.tx.now.next c.args.tx.now.back _ _ s.original s.adapted t.next_taken t.back_taken c.seen.ensures.tied s.original_is s.adapted_is
-      (λ x head body taken h. h.1) (λ x head body taken h. h.1) s.hops_are;
+      hops_one c.args.tx.now.hold c.args.tx.now.next c.args.tx.now.back _ _ _ _ s.original s.adapted t.next_taken t.back_taken c.seen.ensures.tied s.original_is s.adapted_is
+      (λ head body taken h. h) (λ head body taken h. h) s.hops_are;
   other =
-      other_one (shows c.args.tx.now.hold.history).plan.point c.args.tx.now.hold c.args.tx.now.next c.args.tx.now.back _ _ s.original s.adapted t.next_taken t.back_taken c.seen.ensures.tied s.original_is s.adapted_is
-      (λ x head body taken h. h.1) (λ x head body taken h. h.1) s.refuses_is.1 s.hops_are;
+      other_one (shows c.args.tx.now.hold.history).plan.point c.args.tx.now.hold c.args.tx.now.next c.args.tx.now.back _ _ _ _ s.original s.adapted t.next_taken t.back_taken c.seen.ensures.tied s.original_is s.adapted_is
+      (λ head body taken h. h) (λ head body taken h. h) s.refuses_is.1 s.hops_are;
 }
