@@ -123,17 +123,23 @@ impl<A: Drop> Ended<A> {
     }
 
     /// Whether the user got the whole message, and no other end was told. An error where memory was wanted, and the user
-    /// got the proxy's own answer alone or a front of the message, behind which it is cut.
+    /// got the proxy's own answer alone, whole, or a front of the message with at least a byte, behind which it is cut. A user
+    /// that got nothing counts as wrong: the transaction had begun.
     pub fn is_whole(&self) -> Result<bool, AllocError> {
         let user = self.next_hop.taken();
         match self.outcome {
             Outcome::Done => Ok(user == TO_USER),
-            Outcome::Fail(Cause::Memory) if user == UNAVAILABLE || TO_USER.starts_with(user) => {
-                Err(AllocError)
-            }
+            Outcome::Fail(Cause::Memory) if user == UNAVAILABLE || is_front(user) => Err(
+                AllocError,
+            ),
             Outcome::Fail(_) => Ok(false),
         }
     }
+}
+
+/// Whether the user got a front of the message, of at least a byte.
+fn is_front(user: &[u8]) -> bool {
+    !user.is_empty() && TO_USER.starts_with(user)
 }
 
 /// Reads a head, which the wire gives in these many answers at most. An error where no memory is found for it.

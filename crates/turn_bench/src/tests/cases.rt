@@ -18,6 +18,20 @@ pub const TO_SERVICE_WITH_ALLOW: &[u8] =
 /// How many bytes of both stand behind the preview.
 pub const REST: usize = 12;
 
+/// What of both stands behind the heads where so many bytes of the source's body came at once and no more: a chunk of them,
+/// or the preview.
+pub const CHUNKS: [&[u8]; BODY_LEN] = [
+    b"",
+    b"1\r\na\r\n",
+    b"2\r\nab\r\n",
+    b"3\r\nabc\r\n",
+    b"4\r\nabcd\r\n0\r\n\r\n",
+    b"4\r\nabcd\r\n0\r\n\r\n",
+];
+
+/// How many bytes the preview has behind the heads.
+pub const PREVIEW_BODY: usize = 14;
+
 /// What the service answers: the 100, and behind it the adapted answer.
 pub const REPLIES: &[u8] =
     b"ICAP/1.0 100 Continue\r\n\r\nICAP/1.0 200 OK\r\nISTag: \"adapt-1\"\r\nEncapsulated: res-hdr=0, res-body=38\r\n\r\nHTTP/1.1 200 OK\r\nContent-Length: 6\r\n\r\n6\r\nABCDEF\r\n0\r\n\r\n";
@@ -112,6 +126,15 @@ impl Output {
         }
     }
 
+    /// A byte at once, and a failure behind so many.
+    pub fn failing(times: usize) -> Output {
+        Output {
+            times,
+            size: 1,
+            then: WriteAnswer::Fault,
+        }
+    }
+
     /// The answers of its writes.
     fn answers(&self, alloc: Global) -> Result<Vec<WriteAnswer>, AllocError> {
         let mut answers = writes(alloc, self.times.min(MOST), self.size)?;
@@ -171,6 +194,16 @@ pub fn due(came: usize) -> &'static [u8] {
 /// Behind how many bytes of this text the adapted answer begins.
 pub fn behind(text: &[u8]) -> usize {
     text.len().saturating_sub(ADAPTED.len())
+}
+
+/// All that the service gets of this text where so many bytes of its own one came: the preview, and the rest once the 100
+/// before the adapted answer is whole.
+pub fn sent(whole: &'static [u8], text: &[u8], came: usize) -> &'static [u8] {
+    if behind(text) > 0 && came >= behind(text) {
+        whole
+    } else {
+        &whole[..whole.len().saturating_sub(REST)]
+    }
 }
 
 /// How the exchange ends where the adapted answer came whole, and else for this cause.

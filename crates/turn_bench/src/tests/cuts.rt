@@ -1,14 +1,14 @@
 //! Wires that move a byte at a time, and wires that end or fail behind each byte.
 
 use super::cases::{
-    BAD_GATEWAY, BODY_LEN, ENDS, Input, Output, Pace, REPLIES, TO_SERVICE, behind, due, outcome,
+    BAD_GATEWAY, BODY_LEN, CHUNKS, ENDS, Input, Output, PREVIEW_BODY, Pace, REPLIES, REST,
+    TO_SERVICE, behind, due, outcome, sent,
 };
 use super::{Rounds, ended};
 use crate::worked::{ADAPTED, ANSWER, RESPONSE, TO_USER};
 use adapt_turn::Outcome;
 use std::test::Fail;
 use trace_core::Cause;
-use wire_kit::WriteAnswer;
 
 /// Rounds enough for a byte a turn.
 const ROUNDS: usize = 500;
@@ -45,6 +45,11 @@ fn a_service_that_breaks_behind_each_byte_of_its_answer(rt: HostRuntime) -> Resu
                     };
                     let ended = ended(&rt, rt.alloc(), &pace, &mut Rounds(bytes / size + 8))?;
                     let came = bytes.saturating_sub(behind(text));
+                    assert_eq!(rt;
+                        ended.to_service(),
+                        sent(TO_SERVICE, text, bytes),
+                        "{pace:?}"
+                    );
                     assert_eq!(rt; ended.next_hop.taken(), due(came), "{pace:?}");
                     assert_eq!(rt; ended.outcome, outcome(came, Cause::Service), "{pace:?}");
                 }
@@ -52,6 +57,27 @@ fn a_service_that_breaks_behind_each_byte_of_its_answer(rt: HostRuntime) -> Resu
         }
     }
     Ok(())
+}
+
+/// The preview, and behind it the fifth byte of the body.
+const FIVE: &[u8] = b"4\r\nabcd\r\n0\r\n\r\n1\r\ne\r\n";
+
+/// The front of what the service gets, up to the end of the heads.
+fn offer() -> &'static [u8] {
+    &TO_SERVICE[..TO_SERVICE.len() - PREVIEW_BODY - REST]
+}
+
+/// What the service gets behind the heads where the origin breaks behind so many bytes of its body, once so many bytes of the
+/// adapted answer came. The fifth byte goes in the round behind the 100, if the origin hasn't failed in it before. Where no byte of
+/// the body came and the origin breaks at once, the service gets no head.
+fn offered(text: &[u8], body: usize, moment: usize) -> Option<&'static [u8]> {
+    if body == 0 && behind(text).saturating_add(moment) <= 1 {
+        return None;
+    }
+    if body == 5 && moment > 0 && behind(text) > 0 {
+        return Some(FIVE);
+    }
+    CHUNKS.get(body).copied()
 }
 
 /// The origin ends or fails behind each byte of its body, once so many bytes of the service's answer came. No answer comes
@@ -82,6 +108,11 @@ fn an_origin_that_breaks_behind_each_byte_of_its_body(rt: HostRuntime) -> Result
                         &mut Rounds(heard.saturating_add(8)),
                     )?;
                     let came = if body < 4 { 0 } else { moment };
+                    assert_eq!(rt;
+                        ended.to_service().strip_prefix(offer()),
+                        offered(text, body, moment),
+                        "{pace:?}"
+                    );
                     assert_eq!(rt; ended.next_hop.taken(), due(came), "{pace:?}");
                     assert_eq!(rt; ended.outcome, outcome(came, Cause::Source), "{pace:?}");
                 }
@@ -95,11 +126,7 @@ fn an_origin_that_breaks_behind_each_byte_of_its_body(rt: HostRuntime) -> Result
 fn outputs_that_fail_behind_each_byte(rt: HostRuntime) -> Result<(), Fail> {
     for bytes in 0..TO_SERVICE.len() {
         let pace = Pace {
-            sent: Output {
-                times: bytes,
-                size: 1,
-                then: WriteAnswer::Fault,
-            },
+            sent: Output::failing(bytes),
             ..Pace::whole(1)
         };
         let ended = ended(&rt, rt.alloc(), &pace, &mut Rounds(ROUNDS))?;
@@ -109,14 +136,11 @@ fn outputs_that_fail_behind_each_byte(rt: HostRuntime) -> Result<(), Fail> {
     }
     for bytes in 0..TO_USER.len() {
         let pace = Pace {
-            taken: Output {
-                times: bytes,
-                size: 1,
-                then: WriteAnswer::Fault,
-            },
+            taken: Output::failing(bytes),
             ..Pace::whole(1)
         };
         let ended = ended(&rt, rt.alloc(), &pace, &mut Rounds(ROUNDS))?;
+        assert_eq!(rt; ended.to_service(), TO_SERVICE, "{bytes}");
         assert_eq!(rt; ended.next_hop.taken(), &TO_USER[..bytes], "{bytes}");
         assert_eq!(rt; ended.outcome, Outcome::Fail(Cause::NextHop), "{bytes}");
     }

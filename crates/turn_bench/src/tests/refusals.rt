@@ -9,7 +9,7 @@ use span_bank::{Bank, Ledgers};
 use std::sync::Wait;
 use std::test::Fail;
 use trace_core::{Cause, Plan};
-use wire_kit::{Calls, ReadAnswer, WriteAnswer};
+use wire_kit::{Calls, ReadAnswer};
 
 /// The end of a transaction whose service failed.
 const SERVICE_FAILED: Outcome = Outcome::Fail(Cause::Service);
@@ -64,11 +64,7 @@ fn refusing(times: usize) -> Pace {
             then: ReadAnswer::Ended,
             ..Input::whole(&[], 1)
         },
-        taken: Output {
-            times,
-            size: 1,
-            then: WriteAnswer::Fault,
-        },
+        taken: Output::failing(times),
         ..Pace::whole(512)
     }
 }

@@ -2,7 +2,7 @@
 
 use super::cases::{
     BAD_GATEWAY, ENDS, Input, Output, Pace, REPLIES, REST, TO_SERVICE_WITH_ALLOW, behind, due,
-    outcome,
+    outcome, sent,
 };
 use super::{Play, ended};
 use crate::counted::CountedWire;
@@ -13,7 +13,7 @@ use span_bank::{Bank, Ledgers};
 use std::sync::Wait;
 use std::test::Fail;
 use trace_core::{Cause, Plan};
-use wire_kit::{ReadAnswer, WriteAnswer};
+use wire_kit::ReadAnswer;
 
 /// Rounds of turns, in which a broken connection of the service, which was used before, is replaced by a fresh one, or fails the
 /// transaction where there is none.
@@ -121,23 +121,27 @@ fn a_connection_that_breaks_behind_a_reply_byte_is_not_tried_again(
             let ended = ended(&rt, rt.alloc(), &closing(bytes, then), &mut play)?;
             let came = bytes.saturating_sub(behind(REPLIES));
             assert_eq!(rt; play.failed, usize::from(bytes == 0), "{bytes}");
+            assert_eq!(rt;
+                ended.to_service(),
+                sent(TO_SERVICE_WITH_ALLOW, REPLIES, bytes),
+                "{bytes}"
+            );
             assert_eq!(rt; ended.next_hop.taken(), due(came), "{bytes}");
             assert_eq!(rt; ended.outcome, outcome(came, Cause::Service), "{bytes}");
         }
     }
-    for times in 0..preview().len() {
+    let preview = preview();
+    for times in 0..preview.len() {
         let pace = Pace {
-            sent: Output {
-                times,
-                size: 1,
-                then: WriteAnswer::Fault,
-            },
+            sent: Output::failing(times),
             ..Pace::whole(512)
         };
         let mut play = Anew::new(times.saturating_add(8), None);
         let ended = ended(&rt, rt.alloc(), &pace, &mut play)?;
-        assert_eq!(rt; (play.failed, ended.to_service().len()), (1, times));
+        assert_eq!(rt; play.failed, 1, "{times}");
+        assert_eq!(rt; ended.to_service(), &preview[..times], "{times}");
         assert_eq!(rt; ended.next_hop.taken(), BAD_GATEWAY, "{times}");
+        assert_eq!(rt; ended.outcome, Outcome::Fail(Cause::Service), "{times}");
     }
     Ok(())
 }
