@@ -16,7 +16,7 @@ pub enum Side {
 /// How a transaction ended.
 #[derive(Clone, Copy, Debug, PartialEq, Eq)]
 pub enum Outcome {
-    /// The next hop took the whole message.
+    /// The whole message was taken: by the next hop, or by the user where an answer went back.
     Done,
     /// It failed.
     Fail(Cause),

@@ -16,11 +16,11 @@ pub struct Head<T> {
     pub length: usize,
 }
 
-/// Why no head was read. Only the first 16,384 bytes are judged, and once the answer isn't
-/// `More` (or `NoMemory`) it is the same whatever follows.
+/// Why no head was read. Only the first 16,384 bytes are judged, and once the answer isn't `More` (or `NoMemory`) it is the same
+/// whatever follows, where memory is found for a request's URI.
 #[derive(Clone, Copy, Debug, PartialEq, Eq)]
 pub enum HeadFault {
-    /// The head isn't whole yet, and nothing in it is wrong so far.
+    /// The head isn't whole yet, and nothing in it is wrong so far, but perhaps a request's URI that no memory was found to judge.
     More = 1,
     /// The start line isn't of its form (RFC 3507, section 4.3).
     StartLine = 2,

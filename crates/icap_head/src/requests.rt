@@ -124,7 +124,7 @@ pub fn write_request(alloc: Global, request: &IcapRequest) -> Result<Vec<u8>, No
     requires { IsRequest (request_parts request.now) }
     ensures text { IfOk result (λ text. text.items ≡ request_text (request_parts request.now)) }
 
-    // It is read again as the same request.
+    // It is a head of the same request.
     ensures again { IfOk result (λ text. IsRequestHead text.items (request_parts request.now)) }
 {
     let mut out = Vec::new(alloc);

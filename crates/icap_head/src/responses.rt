@@ -87,7 +87,7 @@ pub fn write_response(alloc: Global, response: &IcapResponse) -> Result<Vec<u8>,
     requires { IsResponse (response_parts response.now) }
     ensures text { IfOk result (λ text. text.items ≡ response_text (response_parts response.now)) }
 
-    // It is read again as the same response.
+    // It is a head of the same response.
     ensures again { IfOk result (λ text. IsResponseHead text.items (response_parts response.now)) }
 {
     let mut out = Vec::new(alloc);

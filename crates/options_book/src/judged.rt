@@ -34,7 +34,7 @@ pub(crate) struct Verified<'a> {
     numbers: Numbers,
 }
 
-/// IsGood the response of a point's service.
+/// Judges the response of a point's service.
 pub(crate) fn judge(response: &IcapResponse, point: Point) -> Result<Verified<'_>, OptFault>
     ensures ok { IfOk result (λ judged. IsGood point (response_parts response.now) judged.tag.now judged.numbers) }
     ensures err { IfErr result (λ fault. RefusesOptions fault point (response_parts response.now)) }

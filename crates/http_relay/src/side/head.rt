@@ -55,7 +55,7 @@ impl SourceSide {
         self.raw.len() >= MAX_HEAD || self.unjudged().contains(&b'\n')
     }
 
-    /// JudgesHead the raw bytes.
+    /// Judges the raw bytes.
     fn judge(&mut self) -> Result<Judged, RelayFault>
         requires { self.old.head ≡ SourceHead.Unread }
         ensures heads { (read : List ℕ) → AtHead read self.old → JudgesHeadTo result read self.new }
@@ -156,7 +156,7 @@ impl SourceSide {
         }
     }
 
-    /// JudgesHead the raw bytes, and drops interim responses.
+    /// Judges the raw bytes, and drops interim responses.
     fn scan(&mut self) -> Result<bool, RelayFault>
         requires { self.old.head ≡ SourceHead.Unread }
         ensures heads { (read : List ℕ) → AtHead read self.old → ScannedTo result read self.new }
@@ -176,7 +176,7 @@ impl SourceSide {
         }
     }
 
-    /// JudgesHead the raw bytes, and reads the wire once where no head is there.
+    /// Judges the raw bytes, and reads the wire once where no head is there.
     fn scan_or_read<W: Wire>(&mut self, wire: &mut W) -> Result<bool, RelayFault>
         requires { self.old.head ≡ SourceHead.Unread }
         ensures turn { HeadTurn self.old self.new (W.past wire.old) (W.past wire.new) result }
