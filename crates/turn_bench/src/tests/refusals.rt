@@ -69,6 +69,24 @@ fn refusing(times: usize) -> Pace {
     }
 }
 
+/// The calls where so many bytes of the refusal went: no other wire is called any more.
+fn calls_until(times: usize) -> WireCalls {
+    WireCalls {
+        origin: Calls {
+            reads: 1,
+            writes: 0,
+        },
+        service: Calls {
+            reads: 1,
+            writes: 1,
+        },
+        user: Calls {
+            reads: 0,
+            writes: BAD_GATEWAY.len().min(times.saturating_add(1)) as u64,
+        },
+    }
+}
+
 #[test]
 fn a_refusal_goes_a_byte_a_write(rt: HostRuntime) -> Result<(), Fail> {
     let schedules: [&'static [Side]; 3] = [
@@ -92,25 +110,10 @@ fn a_refusal_goes_a_byte_a_write(rt: HostRuntime) -> Result<(), Fail> {
                 finished: TURNS * sides.len() - times,
                 other: 0,
             };
-            // No other wire is called any more.
-            let calls = WireCalls {
-                origin: Calls {
-                    reads: 1,
-                    writes: 0,
-                },
-                service: Calls {
-                    reads: 1,
-                    writes: 1,
-                },
-                user: Calls {
-                    reads: 0,
-                    writes: BAD_GATEWAY.len().min(times + 1) as u64,
-                },
-            };
             assert_eq!(rt; ended.next_hop.taken(), &BAD_GATEWAY[..times], "{times}");
             assert_eq!(rt; ended.outcome, SERVICE_FAILED, "{times}");
             assert_eq!(rt; play.answers, answers, "{times}");
-            assert_eq!(rt; WireCalls::of(&ended), calls, "{times}");
+            assert_eq!(rt; WireCalls::of(&ended), calls_until(times), "{times}");
         }
     }
     Ok(())
