@@ -51,13 +51,13 @@ pub record ReadsBody (old new : Seen → List ℕ → List ℕ → Type 0) (agre
   pub waiting : SaysWaiting (events_of result) delta result
   pub fault : Remembers old_fault new_fault result
 
--- A write to the service's wire, which took these bytes: Svc and Stop.
-pub record Sends (x : Seen) (tape : Tape) (old new : Seen → List ℕ → List ℕ → Type 0) (old_fault new_fault : Option ClientFault) (rests : Type 0) (before after : Past → Type 0) (result : Result Turn ClientFault) : Type 0 where
+-- A write to the service's wire, which took these bytes: Svc and Stop. Of a request with these heads.
+pub record Sends (x : Seen) (tape : Tape) (old new : List ℕ → Seen → List ℕ → List ℕ → Type 0) (old_fault new_fault : Option ClientFault) (rests : Type 0) (before after : Past → Type 0) (result : Result Turn ClientFault) : Type 0 where
   pub delta : List ℕ
   pub wire : (p : Past) → before p → (q : Past) × after q × IsLater p [] delta q × HasReason client.Device p q old_fault rests (λ past. past.write_waits) result
   pub only : AllAre is_of_sending (events_of result)
   pub legal : MayAllFollow x (events_of result)
-  pub goes_on : (came taken : List ℕ) → Follows tape came → old x came taken → new (after_all x (events_of result)) came (taken ++ delta)
+  pub goes_on : (heads came taken : List ℕ) → Follows tape came → old heads x came taken → new heads (after_all x (events_of result)) came (taken ++ delta)
   pub waiting : SaysWaiting (events_of result) delta result
   pub fault : Remembers old_fault new_fault result
 

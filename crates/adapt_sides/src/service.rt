@@ -29,8 +29,8 @@ pub trait Service {
     // the fault that each turn answers
     ghost fault: { Self → Option Fault };
 
-    // of a body of which these bytes came, these bytes of the request were taken
-    ghost has_sent: { Seen → List ℕ → List ℕ → Self → Type 0 };
+    // of the request with these heads, and of a body of which these bytes came, these bytes were taken
+    ghost has_sent: { List ℕ → Seen → List ℕ → List ℕ → Self → Type 0 };
 
     // these adapted bytes came, and these bytes were read
     ghost has_heard: { Seen → List ℕ → List ℕ → Self → Type 0 };
@@ -61,7 +61,7 @@ pub trait Service {
         ensures head { adapted_head self.new ≡ adapted_head self.old }
         ensures response { is_response self.new ≡ is_response self.old }
         ensures turn { Sends (seen state.now.plan state.now.events) tape.now
-            (λ x came taken. has_sent x came taken self.old) (λ x came taken. has_sent x came taken self.new)
+            (λ heads x came taken. has_sent heads x came taken self.old) (λ heads x came taken. has_sent heads x came taken self.new)
             (fault self.old) (fault self.new) (rests_writing (seen state.now.plan state.now.events) self.new)
             (W.past wire.old) (W.past wire.new) result };
 
@@ -73,7 +73,8 @@ pub trait Service {
         out: &mut [u8],
     ) -> Result<Turn, ClientFault>
         ensures keeps { length out.new ≡ length out.old }
-        ensures sent { (x : Seen) (came taken : List ℕ) → has_sent x came taken self.old → has_sent x came taken self.new }
+        ensures sent { (heads came taken : List ℕ) → has_sent heads (seen state.now.plan state.now.events) came taken self.old
+            → has_sent heads (seen state.now.plan state.now.events) came taken self.new }
         ensures rests { (x : Seen) → rests_writing x self.old → rests_writing x self.new }
         ensures head { (seen state.now.plan state.now.events).modified ≡ true → adapted_head self.new ≡ adapted_head self.old }
         ensures response { (seen state.now.plan state.now.events).modified ≡ true → is_response self.new ≡ is_response self.old }
@@ -82,18 +83,18 @@ pub trait Service {
             (fault self.old) (fault self.new) (rests_reading (seen state.now.plan state.now.events) (length out.old) self.new)
             (W.past wire.old) (W.past wire.new) out.new result };
 
-    /// Begins the request anew, for a fresh connection. Before a byte of a reply all of its text is still kept.
+    /// Begins the same request anew, for a fresh connection, where a Retry may follow: all of its text is still kept.
     fn again(&mut self)
-        ensures sent { (x : Seen) (came taken adapted read : List ℕ) → x.heard ≡ false → length came ≡ x.received
-            → has_sent x came taken self.old → has_heard x adapted read self.old → has_sent (after x Retry) came [] self.new }
-        ensures heard { (x : Seen) (came taken adapted read : List ℕ) → x.heard ≡ false → length came ≡ x.received
-            → has_sent x came taken self.old → has_heard x adapted read self.old → has_heard (after x Retry) [] [] self.new }
+        ensures sent { (x : Seen) (heads came taken adapted read : List ℕ) → x.closed ≡ false → Allows x Retry → length came ≡ x.received
+            → has_sent heads x came taken self.old → has_heard x adapted read self.old → has_sent heads (after x Retry) came [] self.new }
+        ensures heard { (x : Seen) (heads came taken adapted read : List ℕ) → x.closed ≡ false → Allows x Retry → length came ≡ x.received
+            → has_sent heads x came taken self.old → has_heard x adapted read self.old → has_heard (after x Retry) [] [] self.new }
         ensures fault { fault self.new ≡ None };
 
     // the other sides' events leave both; what comes from the source stands behind what came
-    ghost others_sent: { (x : Seen) (event : Event) (came bytes taken : List ℕ) (s : Self) → is_of_sending event ≡ false → is_retry event ≡ false
+    ghost others_sent: { (heads : List ℕ) (x : Seen) (event : Event) (came bytes taken : List ℕ) (s : Self) → is_of_sending event ≡ false → is_retry event ≡ false
         → length came ≡ x.received → length bytes ≡ in_bytes event
-        → has_sent x came taken s → has_sent (after x event) (came ++ bytes) taken s };
+        → has_sent heads x came taken s → has_sent heads (after x event) (came ++ bytes) taken s };
 
     ghost others_heard: { (x : Seen) (event : Event) (adapted read : List ℕ) (s : Self) → is_of_replies event ≡ false → is_retry event ≡ false
         → has_heard x adapted read s → has_heard (after x event) adapted read s };

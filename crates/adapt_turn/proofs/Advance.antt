@@ -6,7 +6,7 @@ use Rattle.trace_core.specs.declared.history.Event.{Event}
 use Rattle.trace_core.specs.declared.history.Event.TheVariants.{Fail, Retry}
 use Rattle.trace_core.specs.declared.history.Cause.{Cause}
 use Rattle.trace_core.specs.History.{in_bytes}
-use Rattle.trace_core.specs.Legal.{MayFollow}
+use Rattle.trace_core.specs.Legal.{Allows, MayFollow}
 use Rattle.trace_core.specs.View.{after}
 use Rattle.trace_core.specs.Turns.{after_all, AllAre, is_of_source, is_of_replies, is_of_sending, is_of_hop}
 use Rattle.wire_kit.specs.Past.{Past}
@@ -26,11 +26,11 @@ use Rattle.adapt_turn.proofs.Told.{never_done, done_reported}
 use Rattle.adapt_turn.proofs.Carry.{off_source, off_sending, off_replies, off_hop, source_off, sending_off, replies_off, hop_off, all_then, none_original, none_adapted, carry, carry_body, KeepsChosen, carry_chosen, own_then, own_source, own_replies, same_choices}
 
 -- what the sides say of events that aren't theirs
-pub record Others (agrees : Seen → Type 0) (read sent heard : Seen → List ℕ → List ℕ → Type 0) (hops : Seen → List ℕ → List ℕ → List ℕ → Type 0) (refuses : Seen → Type 0) : Type 0 where
+pub record Others (agrees : Seen → Type 0) (read : Seen → List ℕ → List ℕ → Type 0) (sent : List ℕ → Seen → List ℕ → List ℕ → Type 0) (heard : Seen → List ℕ → List ℕ → Type 0) (hops : Seen → List ℕ → List ℕ → List ℕ → Type 0) (refuses : Seen → Type 0) : Type 0 where
   pub agrees_on : (x : Seen) (event : Event) → off_source event ≡ true → agrees x → agrees (after x event)
   pub read_on : (x : Seen) (event : Event) (body text : List ℕ) → off_source event ≡ true → read x body text → read (after x event) body text
-  pub sent_on : (x : Seen) (event : Event) (came bytes taken : List ℕ) → off_sending event ≡ true → length came ≡ x.received → length bytes ≡ in_bytes event
-      → sent x came taken → sent (after x event) (came ++ bytes) taken
+  pub sent_on : (request : List ℕ) (x : Seen) (event : Event) (came bytes taken : List ℕ) → off_sending event ≡ true → length came ≡ x.received → length bytes ≡ in_bytes event
+      → sent request x came taken → sent request (after x event) (came ++ bytes) taken
   pub heard_on : (x : Seen) (event : Event) (adapted text : List ℕ) → off_replies event ≡ true → heard x adapted text → heard (after x event) adapted text
   pub hops_on : (next back : List ℕ) → KeepsChosen (λ x body. hops x body next back)
   pub refuses_on : (x : Seen) (event : Event) → refuses x → refuses (after x event)
@@ -40,31 +40,31 @@ carry_any P keep [] x p = p
 carry_any P keep (event ∷ events) x p = carry_any P keep events (after x event) (keep x event p)
 
 -- What stands once these events are stepped.
-record Then (x : Seen) (events : List Event) (out original adapted : List ℕ) (agrees : Seen → Type 0) (read sent heard : Seen → List ℕ → List ℕ → Type 0)
-    (hops : Seen → List ℕ → List ℕ → List ℕ → Type 0) (t : Texts) : Type 0 where
+record Then (x : Seen) (events : List Event) (out original adapted : List ℕ) (agrees : Seen → Type 0) (read : Seen → List ℕ → List ℕ → Type 0) (sent : List ℕ → Seen → List ℕ → List ℕ → Type 0) (heard : Seen → List ℕ → List ℕ → Type 0)
+    (hops : Seen → List ℕ → List ℕ → List ℕ → Type 0) (request : List ℕ) (t : Texts) : Type 0 where
   agrees_is : (after_all x events).closed ≡ false → agrees (after_all x events)
   read_is : read (after_all x events) (original ++ all_original events out) t.source_read
-  sent_is : sent (after_all x events) (original ++ all_original events out) t.service_taken
+  sent_is : sent request (after_all x events) (original ++ all_original events out) t.service_taken
   heard_is : heard (after_all x events) (adapted ++ all_adapted events out) t.service_read
   hops_are : hops (after_all x events) (chosen (after_all x events) (original ++ all_original events out) (adapted ++ all_adapted events out)) t.next_taken t.back_taken
 
-assemble : (h k : Holding) (events : List Event) (out original adapted : List ℕ) (agrees : Seen → Type 0) (read sent heard : Seen → List ℕ → List ℕ → Type 0)
-    (hops : Seen → List ℕ → List ℕ → List ℕ → Type 0) (refuses : Seen → Type 0) (delivered : List ℕ → List ℕ → List ℕ → Type 0) (t : Texts)
+assemble : (h k : Holding) (events : List Event) (out original adapted : List ℕ) (agrees : Seen → Type 0) (read : Seen → List ℕ → List ℕ → Type 0) (sent : List ℕ → Seen → List ℕ → List ℕ → Type 0) (heard : Seen → List ℕ → List ℕ → Type 0)
+    (hops : Seen → List ℕ → List ℕ → List ℕ → Type 0) (refuses : Seen → Type 0) (delivered : List ℕ → List ℕ → List ℕ → Type 0) (request : List ℕ) (t : Texts)
     → Ran h events out → k ≡ moved_all h events out → EndsBody h.original original → EndsBody h.adapted adapted
-    → Then (shows h.history) events out original adapted agrees read sent heard hops t → refuses (after_all (shows h.history) events)
+    → Then (shows h.history) events out original adapted agrees read sent heard hops request t → refuses (after_all (shows h.history) events)
     → (IsDone (moved_all h events out).history → delivered (chosen (after_all (shows h.history) events) (original ++ all_original events out) (adapted ++ all_adapted events out)) t.next_taken t.back_taken)
-    → Stands k agrees read sent heard hops refuses delivered t
-assemble h k events out original adapted agrees read sent heard hops refuses delivered t r is fo fa w rf wd =
+    → Stands k agrees read sent heard hops refuses delivered request t
+assemble h k events out original adapted agrees read sent heard hops refuses delivered request t r is fo fa w rf wd =
     let so : List ℕ = original ++ all_original events out in
     let sa : List ℕ = adapted ++ all_adapted events out in
-    subst (λ (y : Holding). Stands y agrees read sent heard hops refuses delivered t) (sym is) (record {
+    subst (λ (y : Holding). Stands y agrees read sent heard hops refuses delivered request t) (sym is) (record {
       original = so;
       adapted = sa;
       original_is = r.original original fo;
       adapted_is = r.adapted adapted fa;
       agrees_is = subst (λ (y : Seen). y.closed ≡ false → agrees y) (sym r.seen) w.agrees_is;
       read_is = subst (λ (y : Seen). read y so t.source_read) (sym r.seen) w.read_is;
-      sent_is = subst (λ (y : Seen). sent y so t.service_taken) (sym r.seen) w.sent_is;
+      sent_is = subst (λ (y : Seen). sent request y so t.service_taken) (sym r.seen) w.sent_is;
       heard_is = subst (λ (y : Seen). heard y sa t.service_read) (sym r.seen) w.heard_is;
       hops_are = subst (λ (y : Seen). hops y (chosen y so sa) t.next_taken t.back_taken) (sym r.seen) w.hops_are;
       refuses_is = subst (λ (y : Seen). refuses y) (sym r.seen) rf;
@@ -111,22 +111,22 @@ hops_kept hops h events out original adapted next back law t o m l p =
 
 -- The source's pass.
 
-pub source_stands : (h k : Holding) (ao an : Seen → Type 0) (ro rn sent heard : Seen → List ℕ → List ℕ → Type 0) (hops : Seen → List ℕ → List ℕ → List ℕ → Type 0) (refuses : Seen → Type 0) (delivered : List ℕ → List ℕ → List ℕ → Type 0)
-    (f0 f1 : Option RelayFault) (rests : Type 0) (before after_ : Past → Type 0) (passed : Passed) (t : Texts)
+pub source_stands : (h k : Holding) (ao an : Seen → Type 0) (ro rn : Seen → List ℕ → List ℕ → Type 0) (sent : List ℕ → Seen → List ℕ → List ℕ → Type 0) (heard : Seen → List ℕ → List ℕ → Type 0) (hops : Seen → List ℕ → List ℕ → List ℕ → Type 0) (refuses : Seen → Type 0) (delivered : List ℕ → List ℕ → List ℕ → Type 0)
+    (f0 f1 : Option RelayFault) (rests : Type 0) (before after_ : Past → Type 0) (passed : Passed) (request : List ℕ) (t : Texts)
     → Others an rn sent heard hops refuses → IsTied h → (shows h.history).closed ≡ false → (d : SourcePart h k ro rn an f0 f1 rests before after_ passed)
-    → Stands h ao ro sent heard hops refuses delivered t → Stands k an rn sent heard hops refuses delivered (record t { source_read = t.source_read ++ d.delta })
-source_stands h k ao an ro rn sent heard hops refuses delivered f0 f1 rests before after_ passed t u tied c d s =
+    → Stands h ao ro sent heard hops refuses delivered request t → Stands k an rn sent heard hops refuses delivered request (record t { source_read = t.source_read ++ d.delta })
+source_stands h k ao an ro rn sent heard hops refuses delivered f0 f1 rests before after_ passed request t u tied c d s =
     let x = shows h.history in
     let events = stepped passed.failed d.reported in
     let l = lengths h s.original s.adapted tied s.original_is s.adapted_is in
     let o = d.part.only in
     let m = d.part.runs in
-    assemble h k events d.out s.original s.adapted an rn sent heard hops refuses delivered (record t { source_read = t.source_read ++ d.delta })
+    assemble h k events d.out s.original s.adapted an rn sent heard hops refuses delivered request (record t { source_read = t.source_read ++ d.delta })
     (part_ran _ _ h k is_of_source d.reported d.out _ _ _ _ _ _ _ _ _ passed tied d.part) d.part.is s.original_is s.adapted_is (record {
       agrees_is = λ c. own_then an x passed.failed d.reported (λ cause a. u.agrees_on x (Fail cause) refl a) d.part.quiet d.agrees;
       read_is = own_source (λ y bs. rn y bs (t.source_read ++ d.delta)) x passed.failed d.reported d.out s.original (λ cause bs p. u.read_on x (Fail cause) bs (t.source_read ++ d.delta) refl p) o d.part.quiet
           (d.goes_on s.original t.source_read s.read_is);
-      sent_is = sent_kept sent h events d.out s.original s.adapted t.service_taken u.sent_on (all_then is_of_source off_sending (λ event q. (source_off event q).0) (λ cause. refl) passed.failed d.reported o) m l s.sent_is;
+      sent_is = sent_kept (sent request) h events d.out s.original s.adapted t.service_taken (u.sent_on request) (all_then is_of_source off_sending (λ event q. (source_off event q).0) (λ cause. refl) passed.failed d.reported o) m l s.sent_is;
       heard_is = heard_kept heard x events d.out s.adapted t.service_read u.heard_on (all_then is_of_source off_replies (λ event q. (source_off event q).1) (λ cause. refl) passed.failed d.reported o) s.heard_is;
       hops_are = hops_kept hops h events d.out s.original s.adapted t.next_taken t.back_taken (u.hops_on t.next_taken t.back_taken) tied (all_then is_of_source off_hop (λ event q. (source_off event q).2) (λ cause. refl) passed.failed d.reported o) m l s.hops_are;
     }) (carry_any refuses u.refuses_on events x s.refuses_is)
@@ -135,12 +135,12 @@ source_stands h k ao an ro rn sent heard hops refuses delivered f0 f1 rests befo
 
 -- The service's pass that writes.
 
-pub send_stands : (h k : Holding) (agrees : Seen → Type 0) (read so sn ho hn : Seen → List ℕ → List ℕ → Type 0) (hops : Seen → List ℕ → List ℕ → List ℕ → Type 0) (refuses : Seen → Type 0) (delivered : List ℕ → List ℕ → List ℕ → Type 0)
-    (f0 f1 : Option ClientFault) (rests : Type 0) (before after_ : Past → Type 0) (passed : Passed) (t : Texts)
+pub send_stands : (h k : Holding) (agrees : Seen → Type 0) (read : Seen → List ℕ → List ℕ → Type 0) (so sn : List ℕ → Seen → List ℕ → List ℕ → Type 0) (ho hn : Seen → List ℕ → List ℕ → Type 0) (hops : Seen → List ℕ → List ℕ → List ℕ → Type 0) (refuses : Seen → Type 0) (delivered : List ℕ → List ℕ → List ℕ → Type 0)
+    (f0 f1 : Option ClientFault) (rests : Type 0) (before after_ : Past → Type 0) (passed : Passed) (request : List ℕ) (t : Texts)
     → Others agrees read sn hn hops refuses → ((x : Seen) (adapted text : List ℕ) → ho x adapted text → hn x adapted text) → IsTied h
     → (shows h.history).closed ≡ false → (d : SendPart h k so sn f0 f1 rests before after_ passed)
-    → Stands h agrees read so ho hops refuses delivered t → Stands k agrees read sn hn hops refuses delivered (record t { service_taken = t.service_taken ++ d.delta })
-send_stands h k agrees read so sn ho hn hops refuses delivered f0 f1 rests before after_ passed t u same tied c d s =
+    → Stands h agrees read so ho hops refuses delivered request t → Stands k agrees read sn hn hops refuses delivered request (record t { service_taken = t.service_taken ++ d.delta })
+send_stands h k agrees read so sn ho hn hops refuses delivered f0 f1 rests before after_ passed request t u same tied c d s =
     let x = shows h.history in
     let events = stepped passed.failed d.reported in
     let l = lengths h s.original s.adapted tied s.original_is s.adapted_is in
@@ -148,15 +148,15 @@ send_stands h k agrees read so sn ho hn hops refuses delivered f0 f1 rests befor
     let m = d.part.runs in
     let os = all_then is_of_sending off_source (λ event q. (sending_off event q).0) (λ cause. refl) passed.failed d.reported o in
     let none : s.original ++ all_original events [] ≡ s.original = ap (λ (bs : List ℕ). s.original ++ bs) (none_original events [] os) ∙ append-nil s.original in
-    assemble h k events [] s.original s.adapted agrees read sn hn hops refuses delivered (record t { service_taken = t.service_taken ++ d.delta })
+    assemble h k events [] s.original s.adapted agrees read sn hn hops refuses delivered request (record t { service_taken = t.service_taken ++ d.delta })
     (part_ran _ _ h k is_of_sending d.reported [] _ _ _ _ _ _ _ _ _ passed tied d.part) d.part.is s.original_is s.adapted_is (record {
       agrees_is = λ w. carry agrees off_source u.agrees_on events x os (s.agrees_is c);
       read_is = read_kept read x events [] s.original t.source_read u.read_on os s.read_is;
-      sent_is = subst (λ (bs : List ℕ). sn (after_all x events) bs (t.service_taken ++ d.delta)) (sym none)
-          (own_then (λ y. sn y s.original (t.service_taken ++ d.delta)) x passed.failed d.reported
-          (λ cause p. subst (λ (bs : List ℕ). sn (after x (Fail cause)) bs (t.service_taken ++ d.delta)) (append-nil s.original)
-          (u.sent_on x (Fail cause) s.original [] (t.service_taken ++ d.delta) refl l.original_is refl p))
-          d.part.quiet (d.goes_on s.original t.service_taken s.original_is s.sent_is));
+      sent_is = subst (λ (bs : List ℕ). sn request (after_all x events) bs (t.service_taken ++ d.delta)) (sym none)
+          (own_then (λ y. sn request y s.original (t.service_taken ++ d.delta)) x passed.failed d.reported
+          (λ cause p. subst (λ (bs : List ℕ). sn request (after x (Fail cause)) bs (t.service_taken ++ d.delta)) (append-nil s.original)
+          (u.sent_on request x (Fail cause) s.original [] (t.service_taken ++ d.delta) refl l.original_is refl p))
+          d.part.quiet (d.goes_on request s.original t.service_taken s.original_is s.sent_is));
       heard_is = heard_kept hn x events [] s.adapted t.service_read u.heard_on (all_then is_of_sending off_replies (λ event q. (sending_off event q).1) (λ cause. refl) passed.failed d.reported o) (same x s.adapted t.service_read s.heard_is);
       hops_are = hops_kept hops h events [] s.original s.adapted t.next_taken t.back_taken (u.hops_on t.next_taken t.back_taken) tied (all_then is_of_sending off_hop (λ event q. (sending_off event q).2) (λ cause. refl) passed.failed d.reported o) m l s.hops_are;
     }) (carry_any refuses u.refuses_on events x s.refuses_is)
@@ -165,24 +165,24 @@ send_stands h k agrees read so sn ho hn hops refuses delivered f0 f1 rests befor
 
 -- The service's pass that reads.
 
-pub hear_stands : (h k : Holding) (agrees : Seen → Type 0) (read so sn ho hn : Seen → List ℕ → List ℕ → Type 0) (hops : Seen → List ℕ → List ℕ → List ℕ → Type 0) (refuses : Seen → Type 0) (delivered : List ℕ → List ℕ → List ℕ → Type 0)
-    (f0 f1 : Option ClientFault) (rests : Type 0) (before after_ : Past → Type 0) (passed : Passed) (t : Texts)
-    → Others agrees read sn hn hops refuses → ((x : Seen) (came text : List ℕ) → so x came text → sn x came text) → IsTied h
+pub hear_stands : (h k : Holding) (agrees : Seen → Type 0) (read : Seen → List ℕ → List ℕ → Type 0) (so sn : List ℕ → Seen → List ℕ → List ℕ → Type 0) (ho hn : Seen → List ℕ → List ℕ → Type 0) (hops : Seen → List ℕ → List ℕ → List ℕ → Type 0) (refuses : Seen → Type 0) (delivered : List ℕ → List ℕ → List ℕ → Type 0)
+    (f0 f1 : Option ClientFault) (rests : Type 0) (before after_ : Past → Type 0) (passed : Passed) (request : List ℕ) (t : Texts)
+    → Others agrees read sn hn hops refuses → ((heads came text : List ℕ) → so heads (shows h.history) came text → sn heads (shows h.history) came text) → IsTied h
     → (shows h.history).closed ≡ false → (d : HearPart h k ho hn f0 f1 rests before after_ passed)
-    → Stands h agrees read so ho hops refuses delivered t → Stands k agrees read sn hn hops refuses delivered (record t { service_read = t.service_read ++ d.delta })
-hear_stands h k agrees read so sn ho hn hops refuses delivered f0 f1 rests before after_ passed t u same tied c d s =
+    → Stands h agrees read so ho hops refuses delivered request t → Stands k agrees read sn hn hops refuses delivered request (record t { service_read = t.service_read ++ d.delta })
+hear_stands h k agrees read so sn ho hn hops refuses delivered f0 f1 rests before after_ passed request t u same tied c d s =
     let x = shows h.history in
     let events = stepped passed.failed d.reported in
     let l = lengths h s.original s.adapted tied s.original_is s.adapted_is in
     let o = d.part.only in
     let m = d.part.runs in
     let os = all_then is_of_replies off_source (λ event q. (replies_off event q).0) (λ cause. refl) passed.failed d.reported o in
-    assemble h k events d.out s.original s.adapted agrees read sn hn hops refuses delivered (record t { service_read = t.service_read ++ d.delta })
+    assemble h k events d.out s.original s.adapted agrees read sn hn hops refuses delivered request (record t { service_read = t.service_read ++ d.delta })
     (part_ran _ _ h k is_of_replies d.reported d.out _ _ _ _ _ _ _ _ _ passed tied d.part) d.part.is s.original_is s.adapted_is (record {
       agrees_is = λ w. carry agrees off_source u.agrees_on events x os (s.agrees_is c);
       read_is = read_kept read x events d.out s.original t.source_read u.read_on os s.read_is;
-      sent_is = sent_kept sn h events d.out s.original s.adapted t.service_taken u.sent_on (all_then is_of_replies off_sending (λ event q. (replies_off event q).1) (λ cause. refl) passed.failed d.reported o) m l
-          (same x s.original t.service_taken s.sent_is);
+      sent_is = sent_kept (sn request) h events d.out s.original s.adapted t.service_taken (u.sent_on request) (all_then is_of_replies off_sending (λ event q. (replies_off event q).1) (λ cause. refl) passed.failed d.reported o) m l
+          (same request s.original t.service_taken s.sent_is);
       heard_is = own_replies (λ y bs. hn y bs (t.service_read ++ d.delta)) x passed.failed d.reported d.out s.adapted (λ cause bs p. u.heard_on x (Fail cause) bs (t.service_read ++ d.delta) refl p) o d.part.quiet
           (d.goes_on s.adapted t.service_read s.heard_is);
       hops_are = hops_kept hops h events d.out s.original s.adapted t.next_taken t.back_taken (u.hops_on t.next_taken t.back_taken) tied (all_then is_of_replies off_hop (λ event q. (replies_off event q).2) (λ cause. refl) passed.failed d.reported o) m l s.hops_are;
@@ -202,8 +202,8 @@ fail_hops hops h original adapted next back cause law t c l p =
     (subst (λ (bs : List ℕ). hops x (chosen x (original ++ []) bs) next back) (append-nil adapted)
     (law h.history.plan h.history.events (Fail cause) original adapted [] [] ((c, tt), t.legal) refl l.original_is l.adapted_is refl refl p))
 
-pub give_stands : (h k : Holding) (agrees : Seen → Type 0) (read sent heard : Seen → List ℕ → List ℕ → Type 0) (hopso hopsn : Seen → List ℕ → List ℕ → List ℕ → Type 0) (refuses : Seen → Type 0) (before_done delivered : List ℕ → List ℕ → List ℕ → Type 0)
-    (go gn : Seen → List ℕ → List ℕ → List ℕ → Type 0) (whole : List ℕ → List ℕ → List ℕ → Type 0) (f0 f1 : Option RelayFault) (rests : Type 0) (before after_ : Past → Type 0) (passed : Passed) (t t' : Texts)
+pub give_stands : (h k : Holding) (agrees : Seen → Type 0) (read : Seen → List ℕ → List ℕ → Type 0) (sent : List ℕ → Seen → List ℕ → List ℕ → Type 0) (heard : Seen → List ℕ → List ℕ → Type 0) (hopso hopsn : Seen → List ℕ → List ℕ → List ℕ → Type 0) (refuses : Seen → Type 0) (before_done delivered : List ℕ → List ℕ → List ℕ → Type 0)
+    (go gn : Seen → List ℕ → List ℕ → List ℕ → Type 0) (whole : List ℕ → List ℕ → List ℕ → Type 0) (f0 f1 : Option RelayFault) (rests : Type 0) (before after_ : Past → Type 0) (passed : Passed) (request : List ℕ) (t t' : Texts)
     → Others agrees read sent heard hopsn refuses → IsTied h → (shows h.history).closed ≡ false → (d : HopPart h k go gn whole f0 f1 rests before after_ passed)
     → (t'.source_read ≡ t.source_read) → (t'.service_taken ≡ t.service_taken) → (t'.service_read ≡ t.service_read)
     → ((original adapted : List ℕ) → EndsBody h.original original → EndsBody h.adapted adapted
@@ -212,8 +212,8 @@ pub give_stands : (h k : Holding) (agrees : Seen → Type 0) (read sent heard : 
     → ((original adapted : List ℕ) → EndsBody h.original original → EndsBody h.adapted adapted → (after_all (shows h.history) d.reported).closed ≡ true
     → hopso (shows h.history) (chosen (shows h.history) original adapted) t.next_taken t.back_taken
     → delivered (chosen (shows h.history) original adapted) t'.next_taken t'.back_taken)
-    → Stands h agrees read sent heard hopso refuses before_done t → Stands k agrees read sent heard hopsn refuses delivered t'
-give_stands h k agrees read sent heard hopso hopsn refuses before_done delivered go gn whole f0 f1 rests before after_ passed t t' u tied c d e1 e2 e3 own whole_then s =
+    → Stands h agrees read sent heard hopso refuses before_done request t → Stands k agrees read sent heard hopsn refuses delivered request t'
+give_stands h k agrees read sent heard hopso hopsn refuses before_done delivered go gn whole f0 f1 rests before after_ passed request t t' u tied c d e1 e2 e3 own whole_then s =
     let x = shows h.history in
     let events = stepped passed.failed d.reported in
     let l = lengths h s.original s.adapted tied s.original_is s.adapted_is in
@@ -225,12 +225,12 @@ give_stands h k agrees read sent heard hopso hopsn refuses before_done delivered
     ap (λ (bs : List ℕ). chosen (after_all x events) bs (s.adapted ++ all_adapted events [])) (ap (λ (bs : List ℕ). s.original ++ bs) (none_original events [] os) ∙ append-nil s.original)
     ∙ ap (λ (bs : List ℕ). chosen (after_all x events) s.original bs) (ap (λ (bs : List ℕ). s.adapted ++ bs) (none_adapted events [] oa) ∙ append-nil s.adapted)
     ∙ same_choices x events s.original s.adapted oa in
-    assemble h k events [] s.original s.adapted agrees read sent heard hopsn refuses delivered t'
+    assemble h k events [] s.original s.adapted agrees read sent heard hopsn refuses delivered request t'
     (part_ran _ _ h k is_of_hop d.reported [] _ _ _ _ _ _ _ _ _ passed tied d.part) d.part.is s.original_is s.adapted_is (record {
       agrees_is = λ w. carry agrees off_source u.agrees_on events x os (s.agrees_is c);
       read_is = subst (λ (bs : List ℕ). read (after_all x events) (s.original ++ all_original events []) bs) (sym e1) (read_kept read x events [] s.original t.source_read u.read_on os s.read_is);
-      sent_is = subst (λ (bs : List ℕ). sent (after_all x events) (s.original ++ all_original events []) bs) (sym e2)
-          (sent_kept sent h events [] s.original s.adapted t.service_taken u.sent_on (all_then is_of_hop off_sending (λ event q. (hop_off event q).1) (λ cause. refl) passed.failed d.reported o) m l s.sent_is);
+      sent_is = subst (λ (bs : List ℕ). sent request (after_all x events) (s.original ++ all_original events []) bs) (sym e2)
+          (sent_kept (sent request) h events [] s.original s.adapted t.service_taken (u.sent_on request) (all_then is_of_hop off_sending (λ event q. (hop_off event q).1) (λ cause. refl) passed.failed d.reported o) m l s.sent_is);
       heard_is = subst (λ (bs : List ℕ). heard (after_all x events) (s.adapted ++ all_adapted events []) bs) (sym e3) (heard_kept heard x events [] s.adapted t.service_read u.heard_on oa s.heard_is);
       hops_are = subst (λ (bs : List ℕ). hopsn (after_all x events) bs t'.next_taken t'.back_taken) (sym body)
           (own_then (λ y. hopsn y (chosen x s.original s.adapted) t'.next_taken t'.back_taken) x passed.failed d.reported
@@ -243,43 +243,43 @@ give_stands h k agrees read sent heard hopso hopsn refuses before_done delivered
 
 -- A failure, and a new beginning, of which every side keeps what it says.
 
-pub fail_stands : (h k : Holding) (cause : Cause) (agrees : Seen → Type 0) (read sent heard : Seen → List ℕ → List ℕ → Type 0) (hops : Seen → List ℕ → List ℕ → List ℕ → Type 0) (refuses : Seen → Type 0) (delivered : List ℕ → List ℕ → List ℕ → Type 0) (t : Texts)
+pub fail_stands : (h k : Holding) (cause : Cause) (agrees : Seen → Type 0) (read : Seen → List ℕ → List ℕ → Type 0) (sent : List ℕ → Seen → List ℕ → List ℕ → Type 0) (heard : Seen → List ℕ → List ℕ → Type 0) (hops : Seen → List ℕ → List ℕ → List ℕ → Type 0) (refuses : Seen → Type 0) (delivered : List ℕ → List ℕ → List ℕ → Type 0) (request : List ℕ) (t : Texts)
     → Others agrees read sent heard hops refuses → IsTied h → MayRun h (Fail cause ∷ []) [] → (shows h.history).closed ≡ false → k ≡ moved h (Fail cause) []
-    → Stands h agrees read sent heard hops refuses delivered t → Stands k agrees read sent heard hops refuses delivered t
-fail_stands h k cause agrees read sent heard hops refuses delivered t u tied m c is s =
+    → Stands h agrees read sent heard hops refuses delivered request t → Stands k agrees read sent heard hops refuses delivered request t
+fail_stands h k cause agrees read sent heard hops refuses delivered request t u tied m c is s =
     let x = shows h.history in
     let events : List Event = Fail cause ∷ [] in
     let l = lengths h s.original s.adapted tied s.original_is s.adapted_is in
-    assemble h k events [] s.original s.adapted agrees read sent heard hops refuses delivered t
+    assemble h k events [] s.original s.adapted agrees read sent heard hops refuses delivered request t
     (ran h events [] tied m.roomy m.may m.carried m.room) is s.original_is s.adapted_is (record {
       agrees_is = λ w. u.agrees_on x (Fail cause) refl (s.agrees_is c);
       read_is = read_kept read x events [] s.original t.source_read u.read_on (refl, tt) s.read_is;
-      sent_is = sent_kept sent h events [] s.original s.adapted t.service_taken u.sent_on (refl, tt) m l s.sent_is;
+      sent_is = sent_kept (sent request) h events [] s.original s.adapted t.service_taken (u.sent_on request) (refl, tt) m l s.sent_is;
       heard_is = heard_kept heard x events [] s.adapted t.service_read u.heard_on (refl, tt) s.heard_is;
       hops_are = hops_kept hops h events [] s.original s.adapted t.next_taken t.back_taken (u.hops_on t.next_taken t.back_taken) tied (refl, tt) m l s.hops_are;
     }) (carry_any refuses u.refuses_on events x s.refuses_is)
     (λ n. absurd (never_done h events [] c m.may (ran h events [] tied m.roomy m.may m.carried m.room) (refl, tt) n))
 
 -- The request begins anew: of the replies nothing was read, and nothing of the request is taken yet.
-pub retry_stands : (h k : Holding) (agrees : Seen → Type 0) (read so sn ho hn : Seen → List ℕ → List ℕ → Type 0) (hops : Seen → List ℕ → List ℕ → List ℕ → Type 0) (refuses : Seen → Type 0) (delivered : List ℕ → List ℕ → List ℕ → Type 0) (t : Texts)
+pub retry_stands : (h k : Holding) (agrees : Seen → Type 0) (read : Seen → List ℕ → List ℕ → Type 0) (so sn : List ℕ → Seen → List ℕ → List ℕ → Type 0) (ho hn : Seen → List ℕ → List ℕ → Type 0) (hops : Seen → List ℕ → List ℕ → List ℕ → Type 0) (refuses : Seen → Type 0) (delivered : List ℕ → List ℕ → List ℕ → Type 0) (request : List ℕ) (t : Texts)
     → Others agrees read sn hn hops refuses → IsTied h → IsRoomy h → MayFollow h.history.plan h.history.events Retry → k ≡ moved h Retry []
-    → ((came taken adapted text : List ℕ) → (shows h.history).heard ≡ false → length came ≡ (shows h.history).received → so (shows h.history) came taken → ho (shows h.history) adapted text → sn (after (shows h.history) Retry) came [])
-    → ((came taken adapted text : List ℕ) → (shows h.history).heard ≡ false → length came ≡ (shows h.history).received → so (shows h.history) came taken → ho (shows h.history) adapted text → hn (after (shows h.history) Retry) [] [])
+    → ((heads came taken adapted text : List ℕ) → (shows h.history).closed ≡ false → Allows (shows h.history) Retry → length came ≡ (shows h.history).received → so heads (shows h.history) came taken → ho (shows h.history) adapted text → sn heads (after (shows h.history) Retry) came [])
+    → ((heads came taken adapted text : List ℕ) → (shows h.history).closed ≡ false → Allows (shows h.history) Retry → length came ≡ (shows h.history).received → so heads (shows h.history) came taken → ho (shows h.history) adapted text → hn (after (shows h.history) Retry) [] [])
     → ((adapted text : List ℕ) → ho (shows h.history) adapted text → (shows h.history).heard ≡ false → (adapted ≡ []) × (text ≡ []))
-    → Stands h agrees read so ho hops refuses delivered t → Stands k agrees read sn hn hops refuses delivered (record t { service_read = []; service_taken = [] })
-retry_stands h k agrees read so sn ho hn hops refuses delivered t u tied roomy f is again_sent again_heard unheard s =
+    → Stands h agrees read so ho hops refuses delivered request t → Stands k agrees read sn hn hops refuses delivered request (record t { service_read = []; service_taken = [] })
+retry_stands h k agrees read so sn ho hn hops refuses delivered request t u tied roomy f is again_sent again_heard unheard s =
     let x = shows h.history in
     let events : List Event = Retry ∷ [] in
     let m : MayRun h events [] = record { may = (f.0, f.1, tt); carried = omega arith; room = (tt, tt); roomy = roomy } in
     let l = lengths h s.original s.adapted tied s.original_is s.adapted_is in
     let quiet = f.1.3 in
     let none : s.adapted ++ [] ≡ [] = append-nil s.adapted ∙ (unheard s.adapted t.service_read s.heard_is quiet).0 in
-    assemble h k events [] s.original s.adapted agrees read sn hn hops refuses delivered (record t { service_read = []; service_taken = [] })
+    assemble h k events [] s.original s.adapted agrees read sn hn hops refuses delivered request (record t { service_read = []; service_taken = [] })
     (ran h events [] tied m.roomy m.may m.carried m.room) is s.original_is s.adapted_is (record {
       agrees_is = λ w. u.agrees_on x Retry refl (s.agrees_is f.0);
       read_is = read_kept read x events [] s.original t.source_read u.read_on (refl, tt) s.read_is;
-      sent_is = subst (λ (bs : List ℕ). sn (after x Retry) bs []) (sym (append-nil s.original)) (again_sent s.original t.service_taken s.adapted t.service_read quiet l.original_is s.sent_is s.heard_is);
-      heard_is = subst (λ (bs : List ℕ). hn (after x Retry) bs []) (sym none) (again_heard s.original t.service_taken s.adapted t.service_read quiet l.original_is s.sent_is s.heard_is);
+      sent_is = subst (λ (bs : List ℕ). sn request (after x Retry) bs []) (sym (append-nil s.original)) (again_sent request s.original t.service_taken s.adapted t.service_read f.0 f.1 l.original_is s.sent_is s.heard_is);
+      heard_is = subst (λ (bs : List ℕ). hn (after x Retry) bs []) (sym none) (again_heard request s.original t.service_taken s.adapted t.service_read f.0 f.1 l.original_is s.sent_is s.heard_is);
       hops_are = hops_kept hops h events [] s.original s.adapted t.next_taken t.back_taken (u.hops_on t.next_taken t.back_taken) tied (refl, tt) m l s.hops_are;
     }) (carry_any refuses u.refuses_on events x s.refuses_is)
     (λ n. absurd (never_done h events [] f.0 m.may (ran h events [] tied m.roomy m.may m.carried m.room) (refl, tt) n))

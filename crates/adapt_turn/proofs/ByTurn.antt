@@ -1,11 +1,14 @@
 -- What is so for each answer, for each side and of the writer that has the message.
-use Rattle.std.proofs.Common.{◌≡◌, ℕ, ◌-◌, ◌<◌, ◌≤◌, List, [], ◌∷◌, length, take, drop, get_or, arith, refl, ◌∙◌, sym, ap, subst}
+use Rattle.std.proofs.Common.{◌≡◌, ℕ, ◌-◌, ◌<◌, ◌≤◌, List, [], ◌∷◌, length, take, drop, get_or, Option, Some, None, arith, refl, ◌∙◌, sym, ap, subst}
 use Rattle.std.proofs.Math.Seq.{take-length}
 use Rattle.adapt_sides.specs.Turns.{Gift}
 use Rattle.adapt_sides.specs.Turns.Gift.{nothing, message, refusal}
 use Rattle.adapt_turn.specs.declared.turned.Side.{Side}
 use Rattle.adapt_turn.specs.declared.turned.Side.TheVariants.{Source, Service, NextHop}
+use Rattle.trace_core.specs.declared.history.Cause.{Cause}
+use Rattle.adapt_turn.specs.Parts.{outcome_by}
 use Rattle.adapt_turn.specs.declared.turned.Outcome.{Outcome}
+use Rattle.adapt_turn.specs.declared.turned.Outcome.TheVariants as outcomes
 use Rattle.adapt_turn.specs.declared.turned.Turned.{Turned}
 use Rattle.adapt_turn.specs.declared.turned.Turned.TheVariants as answers
 use Rattle.adapt_turn.specs.ByTurn.{BySide, OfWriter, ByAnswer, Drives}
@@ -22,6 +25,11 @@ pub for_side : (side : Side) (source service next : Type 0) → (side ≡ Source
 for_side Source source service next a b c = a refl
 for_side Service source service next a b c = b refl
 for_side NextHop source service next a b c = c refl
+
+-- nothing failed where no cause is told
+pub unfailed : (failed : Option Cause) (outcome : Outcome) → outcome ≡ outcome_by failed → ((cause : Cause) → outcome ≡ outcomes.Fail cause → ⊥) → failed ≡ None
+unfailed None outcome e n = refl
+unfailed (Some cause) outcome e n = absurd (n cause e)
 
 pub idle_no_message : (gift : Gift) → gift ≡ nothing → gift ≡ message → ⊥
 idle_no_message gift n m = let d : nothing ≡ message = sym n ∙ m in absurd cc

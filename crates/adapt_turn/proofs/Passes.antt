@@ -386,11 +386,11 @@ source_failed h k fault out ro rn ao an f0 f1 rests n room before after_ cause p
       goes_on = λ body read h0. b.goes_on (shows h.history) body read h0 c;
     }
 
-sends_at : (h : Holding) (history : History) (tape : Tape) (result : Result Turn ClientFault) (so sn : Seen → List ℕ → List ℕ → Type 0) (f0 f1 : Option ClientFault) (rests : Seen → Type 0) (before after_ : Past → Type 0)
+sends_at : (h : Holding) (history : History) (tape : Tape) (result : Result Turn ClientFault) (so sn : List ℕ → Seen → List ℕ → List ℕ → Type 0) (f0 f1 : Option ClientFault) (rests : Seen → Type 0) (before after_ : Past → Type 0)
     → history ≡ h.history → Sends (shows history) tape so sn f0 f1 (rests (shows history)) before after_ result → Sends (shows h.history) tape so sn f0 f1 (rests (shows h.history)) before after_ result
 sends_at h history tape result so sn f0 f1 rests before after_ he b = subst (λ (y : History). Sends (shows y) tape so sn f0 f1 (rests (shows y)) before after_ result) he b
 
-pub send_took : (h k : Holding) (history : History) (tape : Tape) (turn : Turn) (events : List Event) (so sn : Seen → List ℕ → List ℕ → Type 0) (f0 f1 : Option ClientFault) (rests : Seen → Type 0) (before after_ : Past → Type 0) (passed : Passed)
+pub send_took : (h k : Holding) (history : History) (tape : Tape) (turn : Turn) (events : List Event) (so sn : List ℕ → Seen → List ℕ → List ℕ → Type 0) (f0 f1 : Option ClientFault) (rests : Seen → Type 0) (before after_ : Past → Type 0) (passed : Passed)
     → IsRoomy h → history ≡ h.history → span_of tape ≡ h.original → events ≡ turn.events.items
     → Sends (shows history) tape so sn f0 f1 (rests (shows history)) before after_ (Ok turn)
     → k ≡ moved_all h events [] → WentOn turn passed
@@ -402,10 +402,10 @@ send_took h k history tape turn events so sn f0 f1 rests before after_ passed r 
       reported = turn.events.items;
       part = took_part client.Device service_cause h k is_of_sending turn [] [] b.delta b.delta f0 f1 (rests (shows h.history)) (λ past. past.write_waits) before after_ passed went b.wire b.only
           (sending_runs h turn.events.items r b.legal b.only) b.waiting (is ∙ ap (λ (es : List Event). moved_all h es []) e) (b.fault.sound turn refl);
-      goes_on = λ came taken f s. b.goes_on came taken (follows_span tape h.original came te f) s;
+      goes_on = λ request came taken f s. b.goes_on request came taken (follows_span tape h.original came te f) s;
     }
 
-pub send_failed : (h k : Holding) (history : History) (tape : Tape) (fault : ClientFault) (so sn : Seen → List ℕ → List ℕ → Type 0) (f0 f1 : Option ClientFault) (rests : Seen → Type 0) (before after_ : Past → Type 0) (passed : Passed)
+pub send_failed : (h k : Holding) (history : History) (tape : Tape) (fault : ClientFault) (so sn : List ℕ → Seen → List ℕ → List ℕ → Type 0) (f0 f1 : Option ClientFault) (rests : Seen → Type 0) (before after_ : Past → Type 0) (passed : Passed)
     → IsRoomy h → (shows h.history).closed ≡ false → history ≡ h.history → span_of tape ≡ h.original
     → Sends (shows history) tape so sn f0 f1 (rests (shows history)) before after_ (Err fault)
     → (passed.broken ≡ true → (k ≡ h) × (passed ≡ record { waiting = false; failed = None; broken = true }))
@@ -417,7 +417,7 @@ send_failed h k history tape fault so sn f0 f1 rests before after_ passed r c he
       delta = b.delta;
       reported = [];
       part = either_part client.Device service_cause h k is_of_sending fault [] b.delta b.delta f0 f1 (rests (shows h.history)) (λ past. past.write_waits) before after_ passed passed.broken refl b.wire (b.fault.stays fault refl) r c broke shut;
-      goes_on = λ came taken f s. b.goes_on came taken (follows_span tape h.original came te f) s;
+      goes_on = λ request came taken f s. b.goes_on request came taken (follows_span tape h.original came te f) s;
     }
 
 hears_at : (h : Holding) (history : History) (result : Result Turn ClientFault) (out : List ℕ) (so sn : Seen → List ℕ → List ℕ → Type 0) (f0 f1 : Option ClientFault) (rests : Seen → ℕ → Type 0) (n room : ℕ) (before after_ : Past → Type 0)

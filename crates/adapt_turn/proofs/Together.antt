@@ -9,7 +9,7 @@ use Rattle.trace_core.specs.declared.history.Event.{Event}
 use Rattle.trace_core.specs.declared.history.Event.TheVariants.{Fail, Retry}
 use Rattle.trace_core.specs.declared.history.Cause.{Cause}
 use Rattle.trace_core.specs.History.{History, seen, in_bytes, ad_bytes, is_retry, is_close}
-use Rattle.trace_core.specs.Legal.{IsLegal, MayFollow}
+use Rattle.trace_core.specs.Legal.{Allows, IsLegal, MayFollow}
 use Rattle.trace_core.specs.View.{after}
 use Rattle.trace_core.specs.Turns.{is_of_source, is_of_replies, is_of_sending, is_of_hop}
 use Rattle.wire_kit.specs.Past.{Past, IsLater}
@@ -17,7 +17,7 @@ use Rattle.adapt_sides.specs.declared.fault.ClientFault.{ClientFault}
 use Rattle.adapt_sides.specs.declared.fault.RelayFault.{RelayFault}
 use Rattle.adapt_sides.specs.Tapes.{chosen}
 use Rattle.adapt_sides.specs.Turns.{Gift}
-use Rattle.adapt_sides.specs.Turns.Gift.{nothing}
+use Rattle.adapt_sides.specs.Turns.Gift.{nothing, message}
 use Rattle.adapt_hold.specs.Spans.{Span, EndsBody}
 use Rattle.adapt_hold.specs.Holding.{Holding, IsTied, IsRoomy, shows, moved}
 use Rattle.adapt_turn.specs.declared.parts.Passed.{Passed}
@@ -54,12 +54,12 @@ heard_line has_heard law None x event adapted text o p = p
 heard_line has_heard law (Some l) x event adapted text o p =
     let w = both_not (is_of_replies event) (is_retry event) o in law x event adapted text l.side w.0 w.1 p
 
-pub others_of : {S V W K : Type 0} (agrees : Seen → S → Type 0) (has_read : Seen → List ℕ → List ℕ → S → Type 0) (has_sent has_heard : Seen → List ℕ → List ℕ → V → Type 0)
+pub others_of : {S V W K : Type 0} (agrees : Seen → S → Type 0) (has_read : Seen → List ℕ → List ℕ → S → Type 0) (has_sent : List ℕ → Seen → List ℕ → List ℕ → V → Type 0) (has_heard : Seen → List ℕ → List ℕ → V → Type 0)
     (has_given : Seen → List ℕ → List ℕ → List ℕ → K → Type 0) (gift : K → Gift) (aside : List ℕ → K → Type 0) (made : K → Seen → List ℕ → Type 0)
     → ((x : Seen) (event : Event) (s : S) → is_of_source event ≡ false → agrees x s → agrees (after x event) s)
     → ((x : Seen) (event : Event) (body text : List ℕ) (s : S) → is_of_source event ≡ false → has_read x body text s → has_read (after x event) body text s)
-    → ((x : Seen) (event : Event) (came bytes taken : List ℕ) (s : V) → is_of_sending event ≡ false → is_retry event ≡ false
-    → length came ≡ x.received → length bytes ≡ in_bytes event → has_sent x came taken s → has_sent (after x event) (came ++ bytes) taken s)
+    → ((heads : List ℕ) (x : Seen) (event : Event) (came bytes taken : List ℕ) (s : V) → is_of_sending event ≡ false → is_retry event ≡ false
+    → length came ≡ x.received → length bytes ≡ in_bytes event → has_sent heads x came taken s → has_sent heads (after x event) (came ++ bytes) taken s)
     → ((x : Seen) (event : Event) (adapted text : List ℕ) (s : V) → is_of_replies event ≡ false → is_retry event ≡ false → has_heard x adapted text s → has_heard (after x event) adapted text s)
     → ((plan : Plan) (before : List Event) (event : Event) (head original adapted bytes more taken : List ℕ) (s : K)
     → IsLegal plan (event ∷ before) → is_of_hop event ≡ false
@@ -70,7 +70,7 @@ pub others_of : {S V W K : Type 0} (agrees : Seen → S → Type 0) (has_read : 
     → ((s : K) → KeepsMade (made s))
     → (source : S) (line : Option (Line V W)) (next back : K) (refusing : Bool)
     → Others (λ x. agrees x source) (λ x body text. has_read x body text source)
-    (λ x came taken. MatchOption line (taken ≡ []) (λ l. has_sent x came taken l.side))
+    (λ heads x came taken. MatchOption line (taken ≡ []) (λ l. has_sent heads x came taken l.side))
     (λ x adapted text. MatchOption line ((adapted ≡ []) × (text ≡ [])) (λ l. has_heard x adapted text l.side))
     (HopsAre (gift next) (gift back) (OfHead (made next) (λ x head body taken. has_given x head body taken next)) (λ taken. aside taken next)
     (OfHead (made back) (λ x head body taken. has_given x head body taken back)) (λ taken. aside taken back))
@@ -78,14 +78,14 @@ pub others_of : {S V W K : Type 0} (agrees : Seen → S → Type 0) (has_read : 
 others_of agrees has_read has_sent has_heard has_given gift aside made la lr ls lh lg lm source line next back refusing = record {
   agrees_on = λ x event o a. la x event source (not_true (is_of_source event) o) a;
   read_on = λ x event body text o p. lr x event body text source (not_true (is_of_source event) o) p;
-  sent_on = λ x event came bytes taken o n m p. sent_line has_sent ls line x event came bytes taken o n m p;
+  sent_on = λ heads x event came bytes taken o n m p. sent_line (has_sent heads) (ls heads) line x event came bytes taken o n m p;
   heard_on = λ x event adapted text o p. heard_line has_heard lh line x event adapted text o p;
   hops_on = hops_others (gift next) (gift back) (OfHead (made next) (λ x head body taken. has_given x head body taken next)) (OfHead (made back) (λ x head body taken. has_given x head body taken back)) (λ taken. aside taken next) (λ taken. aside taken back)
       (λ plan before event head original adapted bytes more taken l o a b c d p.
       (lm next (seen plan before) event head l.0.0 l.0.1 p.0, lg plan before event head original adapted bytes more taken next l o a b c d p.1))
       (λ plan before event head original adapted bytes more taken l o a b c d p.
       (lm back (seen plan before) event head l.0.0 l.0.1 p.0, lg plan before event head original adapted bytes more taken back l o a b c d p.1));
-  refuses_on = λ x event r. (λ e. let w = r.0 e in (stays_closed (is_close event) x.closed w.0, w.1), r.1);
+  refuses_on = λ x event r. (λ e. let w = r.0 e in (stays_closed (is_close event) x.closed w.0, w.1), r.1, r.2);
 }
 
 -- Wires.
@@ -117,29 +117,29 @@ pub still : (wire : Past → Type 0) (p : Past) → wire p → (q : Past) × wir
 still wire p w = (p, w, no_later p)
 
 -- what stands stands on, where no wire was touched
-pub goes_still : (old new : Texts → Type 0) (source service next : Past → Type 0) → ((t : Texts) → old t → new t) → Goes old new source source service service next next
+pub goes_still : (old new : List ℕ → Texts → Type 0) (source service next : Past → Type 0) → ((request : List ℕ) (t : Texts) → old request t → new request t) → Goes old new source source service service next next
 goes_still old new source service next on_ = record {
   delta = record { source_read = []; service_read = []; service_taken = []; next_taken = []; back_taken = [] };
-  stands = λ t o. of_five new _ _ _ _ _ _ _ _ _ _
-      (sym (append-nil t.source_read)) (sym (append-nil t.service_read)) (sym (append-nil t.service_taken)) (sym (append-nil t.next_taken)) (sym (append-nil t.back_taken)) (on_ t o);
+  stands = λ request t o. of_five (new request) _ _ _ _ _ _ _ _ _ _
+      (sym (append-nil t.source_read)) (sym (append-nil t.service_read)) (sym (append-nil t.service_taken)) (sym (append-nil t.next_taken)) (sym (append-nil t.back_taken)) (on_ request t o);
   source = λ p b. still source p b;
   service = λ p b. still service p b;
   next = λ p b. still next p b;
 }
 
-pub goes_none : (stands : Texts → Type 0) (source service next : Past → Type 0) → Goes stands stands source source service service next next
-goes_none stands source service next = goes_still stands stands source service next (λ t o. o)
+pub goes_none : (stands : List ℕ → Texts → Type 0) (source service next : Past → Type 0) → Goes stands stands source source service service next next
+goes_none stands source service next = goes_still stands stands source service next (λ request t o. o)
 
-pub goes_then : (s0 s1 s2 : Texts → Type 0) (a0 a1 a2 b0 b1 b2 c0 c1 c2 : Past → Type 0) → Goes s0 s1 a0 a1 b0 b1 c0 c1 → Goes s1 s2 a1 a2 b1 b2 c1 c2 → Goes s0 s2 a0 a2 b0 b2 c0 c2
+pub goes_then : (s0 s1 s2 : List ℕ → Texts → Type 0) (a0 a1 a2 b0 b1 b2 c0 c1 c2 : Past → Type 0) → Goes s0 s1 a0 a1 b0 b1 c0 c1 → Goes s1 s2 a1 a2 b1 b2 c1 c2 → Goes s0 s2 a0 a2 b0 b2 c0 c2
 goes_then s0 s1 s2 a0 a1 a2 b0 b1 b2 c0 c1 c2 f g = record {
   delta = joined f.delta g.delta;
-  stands = λ t o. of_five s2 _ _ _ _ _ _ _ _ _ _
+  stands = λ request t o. of_five (s2 request) _ _ _ _ _ _ _ _ _ _
       (append_assoc t.source_read f.delta.source_read g.delta.source_read)
       (append_assoc t.service_read f.delta.service_read g.delta.service_read)
       (append_assoc t.service_taken f.delta.service_taken g.delta.service_taken)
       (append_assoc t.next_taken f.delta.next_taken g.delta.next_taken)
       (append_assoc t.back_taken f.delta.back_taken g.delta.back_taken)
-      (g.stands (joined t f.delta) (f.stands t o));
+      (g.stands request (joined t f.delta) (f.stands request t o));
   source = λ p b. let w = f.source p b in let v = g.source w.0 w.1 in (v.0, v.1, later_then p w.0 v.0 f.delta.source_read f.delta.back_taken g.delta.source_read g.delta.back_taken w.2 v.2);
   service = λ p b. let w = f.service p b in let v = g.service w.0 w.1 in (v.0, v.1, later_then p w.0 v.0 f.delta.service_read f.delta.service_taken g.delta.service_read g.delta.service_taken w.2 v.2);
   next = λ p b. let w = f.next p b in let v = g.next w.0 w.1 in (v.0, v.1, later_then p w.0 v.0 [] f.delta.next_taken [] g.delta.next_taken w.2 v.2);
@@ -148,11 +148,11 @@ goes_then s0 s1 s2 a0 a1 a2 b0 b1 b2 c0 c1 c2 f g = record {
 -- The passes.
 
 -- the same, with what the writers say now
-pub rehop : (h : Holding) (agrees : Seen → Type 0) (read sent heard : Seen → List ℕ → List ℕ → Type 0) (hops hops' : Seen → List ℕ → List ℕ → List ℕ → Type 0) (refuses refuses' : Seen → Type 0) (done done' : List ℕ → List ℕ → List ℕ → Type 0) (t : Texts) (n b : List ℕ)
+pub rehop : (h : Holding) (agrees : Seen → Type 0) (read : Seen → List ℕ → List ℕ → Type 0) (sent : List ℕ → Seen → List ℕ → List ℕ → Type 0) (heard : Seen → List ℕ → List ℕ → Type 0) (hops hops' : Seen → List ℕ → List ℕ → List ℕ → Type 0) (refuses refuses' : Seen → Type 0) (done done' : List ℕ → List ℕ → List ℕ → Type 0) (request : List ℕ) (t : Texts) (n b : List ℕ)
     → ((body : List ℕ) → hops (shows h.history) body t.next_taken t.back_taken → hops' (shows h.history) body n b) → (refuses (shows h.history) → refuses' (shows h.history))
     → (IsDone h.history → (body : List ℕ) → done body t.next_taken t.back_taken → done' body n b)
-    → Stands h agrees read sent heard hops refuses done t → Stands h agrees read sent heard hops' refuses' done' (record t { next_taken = n; back_taken = b })
-rehop h agrees read sent heard hops hops' refuses refuses' done done' t n b f g w s = record {
+    → Stands h agrees read sent heard hops refuses done request t → Stands h agrees read sent heard hops' refuses' done' request (record t { next_taken = n; back_taken = b })
+rehop h agrees read sent heard hops hops' refuses refuses' done done' request t n b f g w s = record {
   original = s.original;
   adapted = s.adapted;
   original_is = s.original_is;
@@ -167,44 +167,44 @@ rehop h agrees read sent heard hops hops' refuses refuses' done done' t n b f g 
 }
 
 -- the same of an open history, whatever stands where one is done
-pub reopen : (h : Holding) (agrees : Seen → Type 0) (read sent heard : Seen → List ℕ → List ℕ → Type 0) (hopso hops : Seen → List ℕ → List ℕ → List ℕ → Type 0) (refuses : Seen → Type 0) (done delivered : List ℕ → List ℕ → List ℕ → Type 0) (t : Texts)
+pub reopen : (h : Holding) (agrees : Seen → Type 0) (read : Seen → List ℕ → List ℕ → Type 0) (sent : List ℕ → Seen → List ℕ → List ℕ → Type 0) (heard : Seen → List ℕ → List ℕ → Type 0) (hopso hops : Seen → List ℕ → List ℕ → List ℕ → Type 0) (refuses : Seen → Type 0) (done delivered : List ℕ → List ℕ → List ℕ → Type 0) (request : List ℕ) (t : Texts)
     → (shows h.history).closed ≡ false → ((body next back : List ℕ) → hopso (shows h.history) body next back → hops (shows h.history) body next back)
-    → Stands h agrees read sent heard hopso refuses done t → Stands h agrees read sent heard hops refuses delivered t
-reopen h agrees read sent heard hopso hops refuses done delivered t c f s =
-    rehop h agrees read sent heard hopso hops refuses refuses done delivered t t.next_taken t.back_taken (λ body p. f body t.next_taken t.back_taken p) (λ r. r) (λ w body p. absurd (false≢true (sym c ∙ w.0))) s
+    → Stands h agrees read sent heard hopso refuses done request t → Stands h agrees read sent heard hops refuses delivered request t
+reopen h agrees read sent heard hopso hops refuses done delivered request t c f s =
+    rehop h agrees read sent heard hopso hops refuses refuses done delivered request t t.next_taken t.back_taken (λ body p. f body t.next_taken t.back_taken p) (λ r. r) (λ w body p. absurd (false≢true (sym c ∙ w.0))) s
 
-pub source_goes : (h k : Holding) (ao an : Seen → Type 0) (ro rn sent heard : Seen → List ℕ → List ℕ → Type 0) (hopso hops : Seen → List ℕ → List ℕ → List ℕ → Type 0) (refuses : Seen → Type 0) (done delivered : List ℕ → List ℕ → List ℕ → Type 0)
+pub source_goes : (h k : Holding) (ao an : Seen → Type 0) (ro rn : Seen → List ℕ → List ℕ → Type 0) (sent : List ℕ → Seen → List ℕ → List ℕ → Type 0) (heard : Seen → List ℕ → List ℕ → Type 0) (hopso hops : Seen → List ℕ → List ℕ → List ℕ → Type 0) (refuses : Seen → Type 0) (done delivered : List ℕ → List ℕ → List ℕ → Type 0)
     (f0 f1 : Option RelayFault) (rests : Type 0) (before after_ service next : Past → Type 0) (passed : Passed)
     → ((body next back : List ℕ) → hopso (shows h.history) body next back → hops (shows h.history) body next back) → Others an rn sent heard hops refuses → IsTied h → (shows h.history).closed ≡ false → SourcePart h k ro rn an f0 f1 rests before after_ passed
     → Goes (Stands h ao ro sent heard hopso refuses done) (Stands k an rn sent heard hops refuses delivered) before after_ service service next next
 source_goes h k ao an ro rn sent heard hopso hops refuses done delivered f0 f1 rests before after_ service next passed conv u tied c d = record {
   delta = record { source_read = d.delta; service_read = []; service_taken = []; next_taken = []; back_taken = [] };
-  stands = λ t o. of_five (Stands k an rn sent heard hops refuses delivered) _ _ _ _ _ _ _ _ _ _ refl (sym (append-nil t.service_read)) (sym (append-nil t.service_taken)) (sym (append-nil t.next_taken)) (sym (append-nil t.back_taken))
-      (source_stands h k ao an ro rn sent heard hops refuses delivered f0 f1 rests before after_ passed t u tied c d (reopen h ao ro sent heard hopso hops refuses done delivered t c conv o));
+  stands = λ request t o. of_five (Stands k an rn sent heard hops refuses delivered request) _ _ _ _ _ _ _ _ _ _ refl (sym (append-nil t.service_read)) (sym (append-nil t.service_taken)) (sym (append-nil t.next_taken)) (sym (append-nil t.back_taken))
+      (source_stands h k ao an ro rn sent heard hops refuses delivered f0 f1 rests before after_ passed request t u tied c d (reopen h ao ro sent heard hopso hops refuses done delivered request t c conv o));
   source = λ p b. let w = d.part.wire p b in (w.0, w.1, w.2);
   service = λ p b. still service p b;
   next = λ p b. still next p b;
 }
 
-pub fail_goes : (h k : Holding) (cause : Cause) (agrees : Seen → Type 0) (read sent heard : Seen → List ℕ → List ℕ → Type 0) (hopso hops : Seen → List ℕ → List ℕ → List ℕ → Type 0) (refuses : Seen → Type 0) (done delivered : List ℕ → List ℕ → List ℕ → Type 0)
+pub fail_goes : (h k : Holding) (cause : Cause) (agrees : Seen → Type 0) (read : Seen → List ℕ → List ℕ → Type 0) (sent : List ℕ → Seen → List ℕ → List ℕ → Type 0) (heard : Seen → List ℕ → List ℕ → Type 0) (hopso hops : Seen → List ℕ → List ℕ → List ℕ → Type 0) (refuses : Seen → Type 0) (done delivered : List ℕ → List ℕ → List ℕ → Type 0)
     (source service next : Past → Type 0)
     → ((body next back : List ℕ) → hopso (shows h.history) body next back → hops (shows h.history) body next back) → Others agrees read sent heard hops refuses → IsTied h → IsRoomy h → (shows h.history).closed ≡ false → k ≡ moved h (Fail cause) []
     → Goes (Stands h agrees read sent heard hopso refuses done) (Stands k agrees read sent heard hops refuses delivered) source source service service next next
 fail_goes h k cause agrees read sent heard hopso hops refuses done delivered source service next conv u tied roomy c is =
-    goes_still _ _ source service next (λ t o. fail_stands h k cause agrees read sent heard hops refuses delivered t u tied (fail_runs h cause [] roomy c) c is (reopen h agrees read sent heard hopso hops refuses done delivered t c conv o))
+    goes_still _ _ source service next (λ request t o. fail_stands h k cause agrees read sent heard hops refuses delivered request t u tied (fail_runs h cause [] roomy c) c is (reopen h agrees read sent heard hopso hops refuses done delivered request t c conv o))
 
 -- a source that doesn't agree never stood
-pub disagree_goes : (h : Holding) (history : History) (agrees : Seen → Type 0) (read sent heard : Seen → List ℕ → List ℕ → Type 0) (hops : Seen → List ℕ → List ℕ → List ℕ → Type 0) (refuses : Seen → Type 0) (delivered : List ℕ → List ℕ → List ℕ → Type 0)
-    (new : Texts → Type 0) (source service next : Past → Type 0)
+pub disagree_goes : (h : Holding) (history : History) (agrees : Seen → Type 0) (read : Seen → List ℕ → List ℕ → Type 0) (sent : List ℕ → Seen → List ℕ → List ℕ → Type 0) (heard : Seen → List ℕ → List ℕ → Type 0) (hops : Seen → List ℕ → List ℕ → List ℕ → Type 0) (refuses : Seen → Type 0) (delivered : List ℕ → List ℕ → List ℕ → Type 0)
+    (new : List ℕ → Texts → Type 0) (source service next : Past → Type 0)
     → (shows h.history).closed ≡ false → history ≡ h.history → (agrees (shows history) → ⊥)
     → Goes (Stands h agrees read sent heard hops refuses delivered) new source source service service next next
 disagree_goes h history agrees read sent heard hops refuses delivered new source service next c e un =
-    goes_still _ new source service next (λ t o. absurd (un (subst (λ (y : History). agrees (shows y)) (sym e) (o.agrees_is c))))
+    goes_still _ new source service next (λ request t o. absurd (un (subst (λ (y : History). agrees (shows y)) (sym e) (o.agrees_is c))))
 
 -- the service's line, where there is one
 
-abbrev pub on_line : {L : Type 0} → (L → Seen → List ℕ → List ℕ → Type 0) → Option L → Seen → List ℕ → List ℕ → Type 0
-on_line said line x came taken = MatchOption line (taken ≡ []) (λ l. said l x came taken)
+abbrev pub on_line : {L : Type 0} → (L → List ℕ → Seen → List ℕ → List ℕ → Type 0) → Option L → List ℕ → Seen → List ℕ → List ℕ → Type 0
+on_line said line heads x came taken = MatchOption line (taken ≡ []) (λ l. said l heads x came taken)
 
 abbrev pub heard_on_line : {L : Type 0} → (L → Seen → List ℕ → List ℕ → Type 0) → Option L → Seen → List ℕ → List ℕ → Type 0
 heard_on_line said line x adapted text = MatchOption line ((adapted ≡ []) × (text ≡ [])) (λ l. said l x adapted text)
@@ -212,7 +212,7 @@ heard_on_line said line x adapted text = MatchOption line ((adapted ≡ []) × (
 abbrev pub past_on : {L : Type 0} → (L → Past → Type 0) → Option L → Past → Type 0
 past_on past line p = MatchOption line ⊥ (λ l. past l p)
 
-pub send_goes : {L : Type 0} (line : Option L) (l m : L) (h k : Holding) (agrees : Seen → Type 0) (read : Seen → List ℕ → List ℕ → Type 0) (said heard : L → Seen → List ℕ → List ℕ → Type 0) (past : L → Past → Type 0)
+pub send_goes : {L : Type 0} (line : Option L) (l m : L) (h k : Holding) (agrees : Seen → Type 0) (read : Seen → List ℕ → List ℕ → Type 0) (said : L → List ℕ → Seen → List ℕ → List ℕ → Type 0) (heard : L → Seen → List ℕ → List ℕ → Type 0) (past : L → Past → Type 0)
     (hopso hops : Seen → List ℕ → List ℕ → List ℕ → Type 0) (refuses : Seen → Type 0) (done delivered : List ℕ → List ℕ → List ℕ → Type 0) (f0 f1 : Option ClientFault) (rests : Type 0) (source next : Past → Type 0) (passed : Passed)
     → line ≡ Some l → ((body next back : List ℕ) → hopso (shows h.history) body next back → hops (shows h.history) body next back) → Others agrees read (said m) (heard m) hops refuses → ((x : Seen) (adapted text : List ℕ) → heard l x adapted text → heard m x adapted text) → IsTied h
     → (shows h.history).closed ≡ false → SendPart h k (said l) (said m) f0 f1 rests (past l) (past m) passed
@@ -222,16 +222,16 @@ send_goes {L} line l m h k agrees read said heard past hopso hops refuses done d
     subst (λ (z : Option L). Goes (Stands h agrees read (on_line said z) (heard_on_line heard z) hopso refuses done) (Stands k agrees read (said m) (heard m) hops refuses delivered) source source (past_on past z) (past m) next next) (sym e)
     (record {
       delta = record { source_read = []; service_read = []; service_taken = d.delta; next_taken = []; back_taken = [] };
-      stands = λ t o. of_five (Stands k agrees read (said m) (heard m) hops refuses delivered) _ _ _ _ _ _ _ _ _ _ (sym (append-nil t.source_read)) (sym (append-nil t.service_read)) refl (sym (append-nil t.next_taken)) (sym (append-nil t.back_taken))
-          (send_stands h k agrees read (said l) (said m) (heard l) (heard m) hops refuses delivered f0 f1 rests (past l) (past m) passed t u same tied c d (reopen h agrees read (said l) (heard l) hopso hops refuses done delivered t c conv o));
+      stands = λ request t o. of_five (Stands k agrees read (said m) (heard m) hops refuses delivered request) _ _ _ _ _ _ _ _ _ _ (sym (append-nil t.source_read)) (sym (append-nil t.service_read)) refl (sym (append-nil t.next_taken)) (sym (append-nil t.back_taken))
+          (send_stands h k agrees read (said l) (said m) (heard l) (heard m) hops refuses delivered f0 f1 rests (past l) (past m) passed request t u same tied c d (reopen h agrees read (said l) (heard l) hopso hops refuses done delivered request t c conv o));
       source = λ p b. still source p b;
       service = λ p b. let w = d.part.wire p b in (w.0, w.1, w.2);
       next = λ p b. still next p b;
     })
 
-pub hear_goes : {L : Type 0} (line : Option L) (l m : L) (h k : Holding) (agrees : Seen → Type 0) (read : Seen → List ℕ → List ℕ → Type 0) (said heard : L → Seen → List ℕ → List ℕ → Type 0) (past : L → Past → Type 0)
+pub hear_goes : {L : Type 0} (line : Option L) (l m : L) (h k : Holding) (agrees : Seen → Type 0) (read : Seen → List ℕ → List ℕ → Type 0) (said : L → List ℕ → Seen → List ℕ → List ℕ → Type 0) (heard : L → Seen → List ℕ → List ℕ → Type 0) (past : L → Past → Type 0)
     (hopso hops : Seen → List ℕ → List ℕ → List ℕ → Type 0) (refuses : Seen → Type 0) (done delivered : List ℕ → List ℕ → List ℕ → Type 0) (f0 f1 : Option ClientFault) (rests : Type 0) (source next : Past → Type 0) (passed : Passed)
-    → line ≡ Some l → ((body next back : List ℕ) → hopso (shows h.history) body next back → hops (shows h.history) body next back) → Others agrees read (said m) (heard m) hops refuses → ((x : Seen) (came text : List ℕ) → said l x came text → said m x came text) → IsTied h
+    → line ≡ Some l → ((body next back : List ℕ) → hopso (shows h.history) body next back → hops (shows h.history) body next back) → Others agrees read (said m) (heard m) hops refuses → ((heads came text : List ℕ) → said l heads (shows h.history) came text → said m heads (shows h.history) came text) → IsTied h
     → (shows h.history).closed ≡ false → HearPart h k (heard l) (heard m) f0 f1 rests (past l) (past m) passed
     → Goes (Stands h agrees read (on_line said line) (heard_on_line heard line) hopso refuses done) (Stands k agrees read (on_line said (Some m)) (heard_on_line heard (Some m)) hops refuses delivered)
     source source (past_on past line) (past_on past (Some m)) next next
@@ -239,8 +239,8 @@ hear_goes {L} line l m h k agrees read said heard past hopso hops refuses done d
     subst (λ (z : Option L). Goes (Stands h agrees read (on_line said z) (heard_on_line heard z) hopso refuses done) (Stands k agrees read (said m) (heard m) hops refuses delivered) source source (past_on past z) (past m) next next) (sym e)
     (record {
       delta = record { source_read = []; service_read = d.delta; service_taken = []; next_taken = []; back_taken = [] };
-      stands = λ t o. of_five (Stands k agrees read (said m) (heard m) hops refuses delivered) _ _ _ _ _ _ _ _ _ _ (sym (append-nil t.source_read)) refl (sym (append-nil t.service_taken)) (sym (append-nil t.next_taken)) (sym (append-nil t.back_taken))
-          (hear_stands h k agrees read (said l) (said m) (heard l) (heard m) hops refuses delivered f0 f1 rests (past l) (past m) passed t u same tied c d (reopen h agrees read (said l) (heard l) hopso hops refuses done delivered t c conv o));
+      stands = λ request t o. of_five (Stands k agrees read (said m) (heard m) hops refuses delivered request) _ _ _ _ _ _ _ _ _ _ (sym (append-nil t.source_read)) refl (sym (append-nil t.service_taken)) (sym (append-nil t.next_taken)) (sym (append-nil t.back_taken))
+          (hear_stands h k agrees read (said l) (said m) (heard l) (heard m) hops refuses delivered f0 f1 rests (past l) (past m) passed request t u same tied c d (reopen h agrees read (said l) (heard l) hopso hops refuses done delivered request t c conv o));
       source = λ p b. still source p b;
       service = λ p b. let w = d.part.wire p b in (w.0, w.1, w.2);
       next = λ p b. still next p b;
@@ -251,70 +251,70 @@ hear_goes {L} line l m h k agrees read said heard past hopso hops refuses done d
 abbrev nil : List ℕ
 nil = []
 
-pub line_again : {V W : Type 0} (has_sent has_heard : Seen → List ℕ → List ℕ → V → Type 0) (line : Option (Line V W)) (l m : Line V W) (h k : Holding)
-    (agrees : Seen → Type 0) (read : Seen → List ℕ → List ℕ → Type 0) (hopso hops : Seen → List ℕ → List ℕ → List ℕ → Type 0) (refuses : Seen → Type 0) (done delivered : List ℕ → List ℕ → List ℕ → Type 0) (t : Texts)
-    → line ≡ Some l → ((body next back : List ℕ) → hopso (shows h.history) body next back → hops (shows h.history) body next back) → Others agrees read (λ x came taken. has_sent x came taken m.side) (λ x adapted text. has_heard x adapted text m.side) hops refuses
+pub line_again : {V W : Type 0} (has_sent : List ℕ → Seen → List ℕ → List ℕ → V → Type 0) (has_heard : Seen → List ℕ → List ℕ → V → Type 0) (line : Option (Line V W)) (l m : Line V W) (h k : Holding)
+    (agrees : Seen → Type 0) (read : Seen → List ℕ → List ℕ → Type 0) (hopso hops : Seen → List ℕ → List ℕ → List ℕ → Type 0) (refuses : Seen → Type 0) (done delivered : List ℕ → List ℕ → List ℕ → Type 0) (request : List ℕ) (t : Texts)
+    → line ≡ Some l → ((body next back : List ℕ) → hopso (shows h.history) body next back → hops (shows h.history) body next back) → Others agrees read (λ heads x came taken. has_sent heads x came taken m.side) (λ x adapted text. has_heard x adapted text m.side) hops refuses
     → IsTied h → IsRoomy h → MayFollow h.history.plan h.history.events Retry → k ≡ moved h Retry []
-    → ((x : Seen) (came taken adapted text : List ℕ) → x.heard ≡ false → length came ≡ x.received → has_sent x came taken l.side → has_heard x adapted text l.side → has_sent (after x Retry) came [] m.side)
-    → ((x : Seen) (came taken adapted text : List ℕ) → x.heard ≡ false → length came ≡ x.received → has_sent x came taken l.side → has_heard x adapted text l.side → has_heard (after x Retry) [] [] m.side)
+    → ((x : Seen) (heads came taken adapted text : List ℕ) → x.closed ≡ false → Allows x Retry → length came ≡ x.received → has_sent heads x came taken l.side → has_heard x adapted text l.side → has_sent heads (after x Retry) came [] m.side)
+    → ((x : Seen) (heads came taken adapted text : List ℕ) → x.closed ≡ false → Allows x Retry → length came ≡ x.received → has_sent heads x came taken l.side → has_heard x adapted text l.side → has_heard (after x Retry) [] [] m.side)
     → ((x : Seen) (adapted text : List ℕ) (s : V) → has_heard x adapted text s → x.heard ≡ false → (adapted ≡ []) × (text ≡ []))
-    → Stands h agrees read (λ x came taken. MatchOption line (taken ≡ []) (λ z. has_sent x came taken z.side)) (λ x adapted text. MatchOption line ((adapted ≡ []) × (text ≡ [])) (λ z. has_heard x adapted text z.side)) hopso refuses done t
-    → Stands k agrees read (λ x came taken. has_sent x came taken m.side) (λ x adapted text. has_heard x adapted text m.side) hops refuses delivered (record t { service_read = []; service_taken = [] })
-line_again {V} {W} has_sent has_heard line l m h k agrees read hopso hops refuses done delivered t e conv u tied roomy f is again_sent again_heard unheard s =
-    retry_stands h k agrees read (λ x came taken. has_sent x came taken l.side) (λ x came taken. has_sent x came taken m.side) (λ x adapted text. has_heard x adapted text l.side) (λ x adapted text. has_heard x adapted text m.side) hops refuses delivered t
+    → Stands h agrees read (λ heads x came taken. MatchOption line (taken ≡ []) (λ z. has_sent heads x came taken z.side)) (λ x adapted text. MatchOption line ((adapted ≡ []) × (text ≡ [])) (λ z. has_heard x adapted text z.side)) hopso refuses done request t
+    → Stands k agrees read (λ heads x came taken. has_sent heads x came taken m.side) (λ x adapted text. has_heard x adapted text m.side) hops refuses delivered request (record t { service_read = []; service_taken = [] })
+line_again {V} {W} has_sent has_heard line l m h k agrees read hopso hops refuses done delivered request t e conv u tied roomy f is again_sent again_heard unheard s =
+    retry_stands h k agrees read (λ heads x came taken. has_sent heads x came taken l.side) (λ heads x came taken. has_sent heads x came taken m.side) (λ x adapted text. has_heard x adapted text l.side) (λ x adapted text. has_heard x adapted text m.side) hops refuses delivered request t
     u tied roomy f is (again_sent (shows h.history)) (again_heard (shows h.history)) (λ adapted text p. unheard (shows h.history) adapted text l.side p)
-    (reopen h agrees read (λ x came taken. has_sent x came taken l.side) (λ x adapted text. has_heard x adapted text l.side) hopso hops refuses done delivered t f.0 conv
-    (subst (λ (z : Option (Line V W)). Stands h agrees read (λ x came taken. MatchOption z (taken ≡ []) (λ y. has_sent x came taken y.side)) (λ x adapted text. MatchOption z ((adapted ≡ []) × (text ≡ [])) (λ y. has_heard x adapted text y.side)) hopso refuses done t) e s))
+    (reopen h agrees read (λ heads x came taken. has_sent heads x came taken l.side) (λ x adapted text. has_heard x adapted text l.side) hopso hops refuses done delivered request t f.0 conv
+    (subst (λ (z : Option (Line V W)). Stands h agrees read (λ heads x came taken. MatchOption z (taken ≡ []) (λ y. has_sent heads x came taken y.side)) (λ x adapted text. MatchOption z ((adapted ≡ []) × (text ≡ [])) (λ y. has_heard x adapted text y.side)) hopso refuses done request t) e s))
 
-pub none_again : {V W : Type 0} (has_sent has_heard : Seen → List ℕ → List ℕ → V → Type 0) (line : Option (Line V W)) (h k : Holding)
-    (agrees : Seen → Type 0) (read : Seen → List ℕ → List ℕ → Type 0) (hops : Seen → List ℕ → List ℕ → List ℕ → Type 0) (refuses : Seen → Type 0) (done delivered : List ℕ → List ℕ → List ℕ → Type 0) (t : Texts)
+pub none_again : {V W : Type 0} (has_sent : List ℕ → Seen → List ℕ → List ℕ → V → Type 0) (has_heard : Seen → List ℕ → List ℕ → V → Type 0) (line : Option (Line V W)) (h k : Holding)
+    (agrees : Seen → Type 0) (read : Seen → List ℕ → List ℕ → Type 0) (hops : Seen → List ℕ → List ℕ → List ℕ → Type 0) (refuses : Seen → Type 0) (done delivered : List ℕ → List ℕ → List ℕ → Type 0) (request : List ℕ) (t : Texts)
     → line ≡ None
-    → Others agrees read (λ x came taken. MatchOption line (taken ≡ []) (λ z. has_sent x came taken z.side)) (λ x adapted text. MatchOption line ((adapted ≡ []) × (text ≡ [])) (λ z. has_heard x adapted text z.side)) hops refuses
+    → Others agrees read (λ heads x came taken. MatchOption line (taken ≡ []) (λ z. has_sent heads x came taken z.side)) (λ x adapted text. MatchOption line ((adapted ≡ []) × (text ≡ [])) (λ z. has_heard x adapted text z.side)) hops refuses
     → IsTied h → IsRoomy h → MayFollow h.history.plan h.history.events Retry → k ≡ moved h Retry []
-    → Stands h agrees read (λ x came taken. MatchOption line (taken ≡ []) (λ z. has_sent x came taken z.side)) (λ x adapted text. MatchOption line ((adapted ≡ []) × (text ≡ [])) (λ z. has_heard x adapted text z.side)) hops refuses done t
-    → Stands k agrees read (λ x came taken. MatchOption line (taken ≡ []) (λ z. has_sent x came taken z.side)) (λ x adapted text. MatchOption line ((adapted ≡ []) × (text ≡ [])) (λ z. has_heard x adapted text z.side)) hops refuses delivered (record t { service_read = []; service_taken = [] })
-none_again {V} {W} has_sent has_heard line h k agrees read hops refuses done delivered t e u tied roomy f is s =
-    retry_stands h k agrees read (λ x came taken. MatchOption line (taken ≡ []) (λ z. has_sent x came taken z.side)) (λ x came taken. MatchOption line (taken ≡ []) (λ z. has_sent x came taken z.side))
-    (λ x adapted text. MatchOption line ((adapted ≡ []) × (text ≡ [])) (λ z. has_heard x adapted text z.side)) (λ x adapted text. MatchOption line ((adapted ≡ []) × (text ≡ [])) (λ z. has_heard x adapted text z.side)) hops refuses delivered t
+    → Stands h agrees read (λ heads x came taken. MatchOption line (taken ≡ []) (λ z. has_sent heads x came taken z.side)) (λ x adapted text. MatchOption line ((adapted ≡ []) × (text ≡ [])) (λ z. has_heard x adapted text z.side)) hops refuses done request t
+    → Stands k agrees read (λ heads x came taken. MatchOption line (taken ≡ []) (λ z. has_sent heads x came taken z.side)) (λ x adapted text. MatchOption line ((adapted ≡ []) × (text ≡ [])) (λ z. has_heard x adapted text z.side)) hops refuses delivered request (record t { service_read = []; service_taken = [] })
+none_again {V} {W} has_sent has_heard line h k agrees read hops refuses done delivered request t e u tied roomy f is s =
+    retry_stands h k agrees read (λ heads x came taken. MatchOption line (taken ≡ []) (λ z. has_sent heads x came taken z.side)) (λ heads x came taken. MatchOption line (taken ≡ []) (λ z. has_sent heads x came taken z.side))
+    (λ x adapted text. MatchOption line ((adapted ≡ []) × (text ≡ [])) (λ z. has_heard x adapted text z.side)) (λ x adapted text. MatchOption line ((adapted ≡ []) × (text ≡ [])) (λ z. has_heard x adapted text z.side)) hops refuses delivered request t
     u tied roomy f is
-    (λ came taken adapted text q n p r. subst (λ (z : Option (Line V W)). MatchOption z (nil ≡ nil) (λ y. has_sent (after (shows h.history) Retry) came [] y.side)) (sym e) refl)
-    (λ came taken adapted text q n p r. subst (λ (z : Option (Line V W)). MatchOption z ((nil ≡ nil) × (nil ≡ nil)) (λ y. has_heard (after (shows h.history) Retry) [] [] y.side)) (sym e) (refl, refl))
+    (λ heads came taken adapted text c q n p r. subst (λ (z : Option (Line V W)). MatchOption z (nil ≡ nil) (λ y. has_sent heads (after (shows h.history) Retry) came [] y.side)) (sym e) refl)
+    (λ heads came taken adapted text c q n p r. subst (λ (z : Option (Line V W)). MatchOption z ((nil ≡ nil) × (nil ≡ nil)) (λ y. has_heard (after (shows h.history) Retry) [] [] y.side)) (sym e) (refl, refl))
     (λ adapted text p q. subst (λ (z : Option (Line V W)). MatchOption z ((adapted ≡ []) × (text ≡ [])) (λ y. has_heard (shows h.history) adapted text y.side)) e p)
-    (reopen h agrees read (λ x came taken. MatchOption line (taken ≡ []) (λ z. has_sent x came taken z.side)) (λ x adapted text. MatchOption line ((adapted ≡ []) × (text ≡ [])) (λ z. has_heard x adapted text z.side)) hops hops refuses done delivered t f.0 (λ body a b p. p) s)
+    (reopen h agrees read (λ heads x came taken. MatchOption line (taken ≡ []) (λ z. has_sent heads x came taken z.side)) (λ x adapted text. MatchOption line ((adapted ≡ []) × (text ≡ [])) (λ z. has_heard x adapted text z.side)) hops hops refuses done delivered request t f.0 (λ body a b p. p) s)
 
 -- the beginning
 
-pub begins : {V W K : Type 0} (has_sent has_heard : Seen → List ℕ → List ℕ → V → Type 0) (has_given : Seen → List ℕ → List ℕ → List ℕ → K → Type 0) (is_whole : List ℕ → List ℕ → List ℕ → K → Type 0) (gift : K → Gift) (aside : List ℕ → K → Type 0)
-    (h : Holding) (plan : Plan) (agrees : Seen → Type 0) (read : Seen → List ℕ → List ℕ → Type 0) (line : Option (Line V W)) (next back : K) (text : List ℕ)
+pub begins : {V W K : Type 0} (has_sent : List ℕ → Seen → List ℕ → List ℕ → V → Type 0) (has_heard : Seen → List ℕ → List ℕ → V → Type 0) (has_given : Seen → List ℕ → List ℕ → List ℕ → K → Type 0) (is_whole : List ℕ → List ℕ → List ℕ → K → Type 0) (gift : K → Gift) (aside : List ℕ → K → Type 0)
+    (h : Holding) (plan : Plan) (agrees : Seen → Type 0) (read : Seen → List ℕ → List ℕ → Type 0) (line : Option (Line V W)) (next back : K) (text request : List ℕ)
     → h.history ≡ record { plan = plan; events = [] } → h.original ≡ record { base = 0; bytes = [] } → h.adapted ≡ record { base = 0; bytes = [] }
-    → agrees (seen plan []) → read (seen plan []) [] text → IfSome line (λ l. has_sent (seen plan []) [] [] l.side × has_heard (seen plan []) [] [] l.side)
+    → agrees (seen plan []) → read (seen plan []) [] text → IfSome line (λ l. has_sent request (seen plan []) [] [] l.side × has_heard (seen plan []) [] [] l.side)
     → gift next ≡ nothing → aside [] next → gift back ≡ nothing → aside [] back
-    → Stands h agrees read (λ x came taken. MatchOption line (taken ≡ []) (λ l. has_sent x came taken l.side)) (λ x adapted text. MatchOption line ((adapted ≡ []) × (text ≡ [])) (λ l. has_heard x adapted text l.side))
+    → Stands h agrees read (λ heads x came taken. MatchOption line (taken ≡ []) (λ l. has_sent heads x came taken l.side)) (λ x adapted text. MatchOption line ((adapted ≡ []) × (text ≡ [])) (λ l. has_heard x adapted text l.side))
     (HopsAre (gift next) (gift back) (λ x head body taken. has_given x head body taken next) (λ taken. aside taken next) (λ x head body taken. has_given x head body taken back) (λ taken. aside taken back))
     (IsRefusing false (gift next) (gift back))
     (IsDelivered false (gift next) (gift back) (λ head body taken. is_whole head body taken next) (λ taken. aside taken next) (λ head body taken. is_whole head body taken back) (λ taken. aside taken back))
-    (record no_texts { source_read = text })
-begins {V} {W} {K} has_sent has_heard has_given is_whole gift aside h plan agrees read line next back text eh eo ea ag re sides ng na bg ba = record {
+    request (record no_texts { source_read = text })
+begins {V} {W} {K} has_sent has_heard has_given is_whole gift aside h plan agrees read line next back text request eh eo ea ag re sides ng na bg ba = record {
   original = [];
   adapted = [];
   original_is = subst (λ (s : Span). EndsBody s []) (sym eo) empty;
   adapted_is = subst (λ (s : Span). EndsBody s []) (sym ea) empty;
   agrees_is = λ c. subst (λ (y : History). agrees (shows y)) (sym eh) ag;
   read_is = subst (λ (y : History). read (shows y) [] text) (sym eh) re;
-  sent_is = subst (λ (y : History). MatchOption line (nil ≡ nil) (λ l. has_sent (shows y) [] [] l.side)) (sym eh) (sent line sides);
+  sent_is = subst (λ (y : History). MatchOption line (nil ≡ nil) (λ l. has_sent request (shows y) [] [] l.side)) (sym eh) (sent line sides);
   heard_is = subst (λ (y : History). MatchOption line ((nil ≡ nil) × (nil ≡ nil)) (λ l. has_heard (shows y) [] [] l.side)) (sym eh) (heard line sides);
   hops_are = inl (record { next_is = ng; back_is = bg; none = subst (λ (y : History). IsUndelivered (shows y)) (sym eh) (refl, refl); next_aside_is = na; back_aside_is = ba });
-  refuses_is = (λ e. absurd (false≢true e), other_idle (shows h.history).plan.point (gift next) (gift back) ng bg);
+  refuses_is = (λ e. absurd (false≢true e), other_idle (shows h.history).plan.point (gift next) (gift back) ng bg, λ q m. let d : nothing ≡ message = sym bg ∙ m in absurd cc);
   done_is = λ d. absurd (false≢true (subst (λ (y : History). (shows y).closed ≡ true) eh d.0));
 }
   where
     empty : EndsBody (record { base = 0; bytes = [] }) []
     empty = record { end = refl; bytes = refl }
 
-    sent : (z : Option (Line V W)) → IfSome z (λ l. has_sent (seen plan []) [] [] l.side × has_heard (seen plan []) [] [] l.side) → MatchOption z (nil ≡ nil) (λ l. has_sent (seen plan []) [] [] l.side)
+    sent : (z : Option (Line V W)) → IfSome z (λ l. has_sent request (seen plan []) [] [] l.side × has_heard (seen plan []) [] [] l.side) → MatchOption z (nil ≡ nil) (λ l. has_sent request (seen plan []) [] [] l.side)
     sent None s = refl
     sent (Some l) s = s.0
 
-    heard : (z : Option (Line V W)) → IfSome z (λ l. has_sent (seen plan []) [] [] l.side × has_heard (seen plan []) [] [] l.side) → MatchOption z ((nil ≡ nil) × (nil ≡ nil)) (λ l. has_heard (seen plan []) [] [] l.side)
+    heard : (z : Option (Line V W)) → IfSome z (λ l. has_sent request (seen plan []) [] [] l.side × has_heard (seen plan []) [] [] l.side) → MatchOption z ((nil ≡ nil) × (nil ≡ nil)) (λ l. has_heard (seen plan []) [] [] l.side)
     heard None s = (refl, refl)
     heard (Some l) s = s.1

@@ -37,7 +37,8 @@ MakesAt makes adapted is_response x head framing = makes x (if x.modified then a
 abbrev pub MakesNoneAt : (Seen → Option (List ℕ) → Bool → Cause → Type 0) → Option (List ℕ) → Bool → Seen → Cause → Type 0
 MakesNoneAt makes_none adapted is_response x cause = makes_none x (if x.modified then adapted else None) (x.modified && is_response) cause
 
--- The head, and how the body goes with it, were made at a moment of this very history, of the message that was chosen then.
+-- The head, and how the body goes with it, were made at a moment of a history that shows the same as this one, of the message that
+-- was chosen then.
 pub record IsMade {Framing : Type 0} (makes : Seen → Option (List ℕ) → Bool → List ℕ → Framing → Type 0) (adapted : Option (List ℕ)) (is_response : Bool) (framing : Framing) (x : Seen) (head : List ℕ) : Type 0 where
   -- the events up to that moment, the newest one first, and those since, the newest one last
   pub before : List Event

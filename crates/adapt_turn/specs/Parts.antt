@@ -108,12 +108,12 @@ pub record SourcePart (old new : Holding) (read_old read_new : Seen → List ℕ
       → read_new (after_all (shows old.history) reported) (body ++ take (in_sum reported) out) (read ++ delta)
 
 -- the service's wire took these bytes
-pub record SendPart (old new : Holding) (sent_old sent_new : Seen → List ℕ → List ℕ → Type 0) (old_fault new_fault : Option ClientFault) (rests : Type 0) (before after : Past → Type 0) (passed : Passed) : Type 0 where
+pub record SendPart (old new : Holding) (sent_old sent_new : List ℕ → Seen → List ℕ → List ℕ → Type 0) (old_fault new_fault : Option ClientFault) (rests : Type 0) (before after : Past → Type 0) (passed : Passed) : Type 0 where
   pub delta : List ℕ
   pub reported : List Event
   pub part : Part client.Device service_cause old new is_of_sending reported [] [] delta delta old_fault new_fault rests (λ past. past.write_waits) before after passed
-  pub goes_on : (came taken : List ℕ) → EndsBody old.original came → sent_old (shows old.history) came taken
-      → sent_new (after_all (shows old.history) reported) came (taken ++ delta)
+  pub goes_on : (request came taken : List ℕ) → EndsBody old.original came → sent_old request (shows old.history) came taken
+      → sent_new request (after_all (shows old.history) reported) came (taken ++ delta)
 
 -- the service's wire gave these bytes
 pub record HearPart (old new : Holding) (heard_old heard_new : Seen → List ℕ → List ℕ → Type 0) (old_fault new_fault : Option ClientFault) (rests : Type 0) (before after : Past → Type 0) (passed : Passed) : Type 0 where

@@ -94,11 +94,13 @@ abbrev pub other_gift : Point → Gift → Gift → Gift
 other_gift Reqmod next back = next
 other_gift Respmod next back = back
 
--- a refusal is due only once the history is closed, and where the user's writer has no message; the other writer has none
+-- a refusal is due only once the history is closed, and where the user's writer has no message; the other writer has none; and at
+-- RESPMOD no message goes back to the source, which is the origin
 abbrev pub IsRefusing : (refusing : Bool) → (next_gift back_gift : Gift) → Seen → Type 0
 IsRefusing refusing next_gift back_gift x =
     (refusing ≡ true → (x.closed ≡ true) × (user_gift x.plan.point next_gift back_gift ≡ message → ⊥))
     × ((status : ℕ) → other_gift x.plan.point next_gift back_gift ≡ refusal status → ⊥)
+    × (x.plan.point ≡ Respmod → back_gift ≡ message → ⊥)
 
 -- Done stands
 abbrev pub IsDone : History → Type 0
@@ -120,26 +122,26 @@ IsDelivered refusing next_gift back_gift next_whole next_aside back_whole back_a
     (refusing ≡ false) × (TookWhole next_whole next_gift back_aside body next back ⊎ TookWhole back_whole back_gift next_aside body back next)
 
 -- The source's bytes spell the original, the service's the adapted body, and the tapes keep the ends of both; what the service's
--- wire took is of a request with the original, and what the next hop's took of one message with the chosen body: where Done stands,
--- it took the whole of it.
-pub record Stands (h : Holding) (agrees : Seen → Type 0) (read sent heard : Seen → List ℕ → List ℕ → Type 0)
-    (hops : Seen → List ℕ → List ℕ → List ℕ → Type 0) (refuses : Seen → Type 0) (delivered : List ℕ → List ℕ → List ℕ → Type 0) (t : Texts) : Type 0 where
+-- wire took is of one request, with these heads and the original, and what the next hop's took of one message with the chosen body:
+-- where Done stands, it took the whole of it.
+pub record Stands (h : Holding) (agrees : Seen → Type 0) (read : Seen → List ℕ → List ℕ → Type 0) (sent : List ℕ → Seen → List ℕ → List ℕ → Type 0) (heard : Seen → List ℕ → List ℕ → Type 0)
+    (hops : Seen → List ℕ → List ℕ → List ℕ → Type 0) (refuses : Seen → Type 0) (delivered : List ℕ → List ℕ → List ℕ → Type 0) (request : List ℕ) (t : Texts) : Type 0 where
   pub original : List ℕ
   pub adapted : List ℕ
   pub original_is : EndsBody h.original original
   pub adapted_is : EndsBody h.adapted adapted
   pub agrees_is : (shows h.history).closed ≡ false → agrees (shows h.history)
   pub read_is : read (shows h.history) original t.source_read
-  pub sent_is : sent (shows h.history) original t.service_taken
+  pub sent_is : sent request (shows h.history) original t.service_taken
   pub heard_is : heard (shows h.history) adapted t.service_read
   pub hops_are : hops (shows h.history) (chosen (shows h.history) original adapted) t.next_taken t.back_taken
   pub refuses_is : refuses (shows h.history)
   pub done_is : IsDone h.history → delivered (chosen (shows h.history) original adapted) t.next_taken t.back_taken
 
--- A pass over the three wires: they gave and took these bytes, and what stood before them stands with them.
-pub record Goes (old_stands new_stands : Texts → Type 0) (source_old source_new service_old service_new next_old next_new : Past → Type 0) : Type 0 where
+-- A pass over the three wires: they gave and took these bytes, and what stood before them, with one request, stands with them.
+pub record Goes (old_stands new_stands : List ℕ → Texts → Type 0) (source_old source_new service_old service_new next_old next_new : Past → Type 0) : Type 0 where
   pub delta : Texts
-  pub stands : (t : Texts) → old_stands t → new_stands (joined t delta)
+  pub stands : (request : List ℕ) (t : Texts) → old_stands request t → new_stands request (joined t delta)
   pub source : (p : Past) → source_old p → (q : Past) × source_new q × IsLater p delta.source_read delta.back_taken q
   pub service : (p : Past) → service_old p → (q : Past) × service_new q × IsLater p delta.service_read delta.service_taken q
   pub next : (p : Past) → next_old p → (q : Past) × next_new q × IsLater p [] delta.next_taken q

@@ -181,7 +181,7 @@ pub(crate) fn send<B: Ledgers, V: Service, W: Wire>(
 ) -> Passed
     requires running { (shows hold.old.history).closed ≡ false }
     requires roomy { IsRoomy hold.old }
-    ensures part { SendPart hold.old hold.new (λ x came taken. V.has_sent x came taken service.old) (λ x came taken. V.has_sent x came taken service.new)
+    ensures part { SendPart hold.old hold.new (λ request x came taken. V.has_sent request x came taken service.old) (λ request x came taken. V.has_sent request x came taken service.new)
         (V.fault service.old) (V.fault service.new) (V.rests_writing (shows hold.old.history) service.new)
         (W.past wire.old) (W.past wire.new) result }
     ensures heard { (x : Seen) (adapted read : List ℕ) → V.has_heard x adapted read service.old → V.has_heard x adapted read service.new }
@@ -219,7 +219,7 @@ pub(crate) fn take_service<B: Ledgers, V: Service, W: Wire>(
     ensures part { HearPart hold.old hold.new (λ x adapted read. V.has_heard x adapted read service.old) (λ x adapted read. V.has_heard x adapted read service.new)
         (V.fault service.old) (V.fault service.new) (V.rests_reading (shows hold.old.history) (adapted_room (shows hold.old.history) hold.old.limits.window) service.new)
         (W.past wire.old) (W.past wire.new) result }
-    ensures sent { (x : Seen) (came taken : List ℕ) → V.has_sent x came taken service.old → V.has_sent x came taken service.new }
+    ensures sent { (request came taken : List ℕ) → V.has_sent request (shows hold.old.history) came taken service.old → V.has_sent request (shows hold.old.history) came taken service.new }
     ensures rests { (x : Seen) → V.rests_writing x service.old → V.rests_writing x service.new }
     ensures head { (shows hold.old.history).modified ≡ true → V.adapted_head service.new ≡ V.adapted_head service.old }
     ensures response { (shows hold.old.history).modified ≡ true → V.is_response service.new ≡ V.is_response service.old }

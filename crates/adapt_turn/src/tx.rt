@@ -35,9 +35,10 @@ use wire_kit::Wire;
 
 /// What stands between a transaction and its wires.
 pub trait Standing {
-    // these bytes may its wires have given and taken since its messages began on them: the source's spell the original, the
-    // service's the adapted body, and what was taken is of one request and of one message, or of a refusal alone
-    ghost stands: { Self → Texts → Type 0 };
+    // the service's request has these heads, and these bytes may its wires have given and taken since its messages began on them:
+    // the source's spell the original, the service's the adapted body, and what was taken is of that request, and of one message
+    // or of a refusal alone
+    ghost stands: { Self → List ℕ → Texts → Type 0 };
 }
 
 /// What a call does to a transaction and its wires.
@@ -111,16 +112,16 @@ impl<
     ghost use Rattle.adapt_turn.specs.Stands.{Stands, HopsAre, IsRefusing, IsDelivered};
     ghost use Rattle.adapt_turn.specs.Made.{IsMade, OfHead, WholeOf, adapted_of, response_of};
 
-    ghost stands = { λ tx t.
+    ghost stands = { λ tx request t.
         let made : K → Seen → List ℕ → Type 0 = λ hop x head. IsMade (F.makes tx.forward (S.head tx.source)) (adapted_of V.adapted_head tx.service) (response_of V.is_response tx.service) (K.body_framing hop) x head in
         Stands tx.hold (λ x. S.agrees x tx.source) (λ x body read. S.has_read x body read tx.source)
-        (λ x came taken. MatchOption tx.service (taken ≡ []) (λ line. V.has_sent x came taken line.side))
+        (λ heads x came taken. MatchOption tx.service (taken ≡ []) (λ line. V.has_sent heads x came taken line.side))
         (λ x adapted read. MatchOption tx.service ((adapted ≡ []) × (read ≡ [])) (λ line. V.has_heard x adapted read line.side))
         (HopsAre (K.gift tx.next) (K.gift tx.back) (OfHead (made tx.next) (λ x head body taken. K.has_given x head body taken tx.next)) (λ taken. K.aside taken tx.next)
         (OfHead (made tx.back) (λ x head body taken. K.has_given x head body taken tx.back)) (λ taken. K.aside taken tx.back))
         (IsRefusing tx.refusing (K.gift tx.next) (K.gift tx.back))
         (IsDelivered tx.refusing (K.gift tx.next) (K.gift tx.back) (WholeOf (made tx.next (shows tx.hold.history)) (λ head body taken. K.is_whole head body taken tx.next)) (λ taken. K.aside taken tx.next)
-        (WholeOf (made tx.back (shows tx.hold.history)) (λ head body taken. K.is_whole head body taken tx.back)) (λ taken. K.aside taken tx.back)) t };
+        (WholeOf (made tx.back (shows tx.hold.history)) (λ head body taken. K.is_whole head body taken tx.back)) (λ taken. K.aside taken tx.back)) request t };
 }
 
 impl<B: Ledgers, S: Source, V: Service, K: Hop, F: Forward<S, K>, A: Wire, W: Wire, C: Wire> Going
@@ -191,10 +192,10 @@ impl<B: Ledgers, S: Source, V: Service, K: Hop, F: Forward<S, K>, A: Wire, W: Wi
         ensures begun { IfOk result (λ tx. tx.hold.history ≡ record { plan = start.plan; events = [] }) }
         ensures clock { IfOk result (λ tx. (tx.last_moved ≡ start.now) × (tx.deadline ≡ start.deadline)) }
         ensures line { IfOk result (λ tx. (tx.broken ≡ false) × (tx.reused ≡ start.reused)) }
-        ensures stands { IfOk result (λ tx. (read : List ℕ) → S.has_read (seen start.plan []) [] read start.source
-            → IfSome start.service (λ line. V.has_sent (seen start.plan []) [] [] line.side × V.has_heard (seen start.plan []) [] [] line.side)
+        ensures stands { IfOk result (λ tx. (read request : List ℕ) → S.has_read (seen start.plan []) [] read start.source
+            → IfSome start.service (λ line. V.has_sent request (seen start.plan []) [] [] line.side × V.has_heard (seen start.plan []) [] [] line.side)
             → K.gift start.next ≡ nothing → K.aside [] start.next → K.gift start.back ≡ nothing → K.aside [] start.back
-            → ⟦<Self as Standing>⟧.stands tx (record no_texts { source_read = read })) }
+            → ⟦<Self as Standing>⟧.stands tx request (record no_texts { source_read = read })) }
         ensures fields { IfOk result (λ tx. (tx.source ≡ start.source) × (tx.source_wire ≡ start.source_wire) × (tx.service ≡ start.service) × (tx.next ≡ start.next) × (tx.next_wire ≡ start.next_wire)
             × (tx.back ≡ start.back) × (tx.forward ≡ start.forward)) }
         ensures back { IfErr result (λ back. back ≡ start) }

@@ -23,7 +23,7 @@ use Rattle.icap_client.specs.declared.stage.Stage.{Stage}
 use Rattle.icap_client.specs.Heard.{Reader, HasHeard}
 use Rattle.icap_client.proofs.Whole.{nothing_heard}
 use Rattle.icap_client.specs.Events.{Follows, ad_sum, is_of_replies}
-use Rattle.icap_client.specs.Sending.{HasSent, IsSent, Came, KeepsUnsent, NothingDue}
+use Rattle.icap_client.specs.Sending.{HasSent, Came, KeepsUnsent, NothingDue}
 use Rattle.icap_client.specs.Reading.{Side, SideHeard, NothingToRead, IsGiven, FitsGot, after_ask, CameOf, ReadTurn}
 use Rattle.icap_client.specs.Turns.{WriteTurn, Fits, FitsAnswer, events_of, waits_of, IsLater, SaysWaiting, Remembers, Sends, Hears}
 use Rattle.adapt_sides.specs.Turns.{HasReason as HasCause}
@@ -90,7 +90,7 @@ says x w bytes answer (Err g) f s = record { idle = λ h. cc; waits = λ t e n d
 
 pub sends_by : (x : Seen) (tape : Tape) (old new : Writer) (fault kept : Option ClientFault) (P Q : Past → Type 0) (result : Result Turn ClientFault) → fault ≡ None → KeepsUnsent x tape
     → WriteTurn x tape old new P Q result → ((turn : Turn) → result ≡ Ok turn → kept ≡ None) → ((g : ClientFault) → result ≡ Err g → kept ≡ Some g)
-    → Sends x tape (λ x came taken. IsSent x came taken old) (λ x came taken. IsSent x came taken new) fault kept (NothingDue x new) P Q result
+    → Sends x tape (λ head x came taken. HasSent head x came taken old) (λ head x came taken. HasSent head x came taken new) fault kept (NothingDue x new) P Q result
 sends_by x tape old new fault kept P Q result none k t sound stays =
     let text = offered old tape t.next in
     record {
@@ -98,20 +98,20 @@ sends_by x tape old new fault kept P Q result none k t sound stays =
       wire = λ p b. (after_offer p text t.answer, t.wire.each p b, later_offer p text t.answer, cause x new p text t.answer fault result t.fits);
       only = t.goes_on.only;
       legal = t.goes_on.legal;
-      goes_on = λ came taken f h. record { head = h.head; sent = t.goes_on.sent h.head came taken (came_by x tape came k f) h.sent };
+      goes_on = λ head came taken f h. t.goes_on.sent head came taken (came_by x tape came k f) h;
       waiting = says x new text t.answer result t.fits t.wire.fits;
       fault = record { sound = sound; again = λ g e. cc; stays = stays };
     }
 
 -- behind a fault nothing is done
 pub sends_none : (x : Seen) (tape : Tape) (w : Writer) (fault : Option ClientFault) (g : ClientFault) (P : Past → Type 0) → fault ≡ Some g
-    → Sends x tape (λ x came taken. IsSent x came taken w) (λ x came taken. IsSent x came taken w) fault fault (NothingDue x w) P P (Err g)
+    → Sends x tape (λ head x came taken. HasSent head x came taken w) (λ head x came taken. HasSent head x came taken w) fault fault (NothingDue x w) P P (Err g)
 sends_none x tape w fault g P e = record {
   delta = [];
   wire = λ p b. (p, b, later_none p, record { device = λ i n. cc; waiting = λ h. cc });
   only = tt;
   legal = tt;
-  goes_on = λ came taken f h. subst (λ (t : List ℕ). IsSent x came t w) (sym (append-nil taken)) h;
+  goes_on = λ head came taken f h. subst (λ (t : List ℕ). HasSent head x came t w) (sym (append-nil taken)) h;
   waiting = record { idle = λ h. cc; waits = λ t i n d. cc };
   fault = record { sound = λ t i. cc; again = λ f i. cc; stays = λ f i. cc };
 }

@@ -12,7 +12,7 @@ use Rattle.chunk_writer.specs.Moves.Moves.{start, passed, begun_chunk, sent, end
 use Rattle.adapt_sides.specs.declared.turn.Turn.{Turn}
 use Rattle.adapt_sides.specs.declared.fault.ClientFault.{ClientFault}
 use Rattle.icap_client.specs.Front.{Front}
-use Rattle.icap_client.specs.Sending.{HasSent, IsSent, LetsGo, NothingDue}
+use Rattle.icap_client.specs.Sending.{HasSent, LetsGo, NothingDue}
 use Rattle.icap_client.specs.Turns.{WriteTurn, Fits, FitsAnswer, is_flushed}
 
 pub sent_still : (head : List ℕ) (x : Seen) (came taken : List ℕ) (old new : Writer) → LetsGo old new → HasSent head x came taken old → HasSent head x came taken new
@@ -24,9 +24,6 @@ sent_still head x came taken old new l h = record {
   in_preview = subst (λ (n : ℕ). IfSome (open_preview x) (λ p. x.sent + n ≤ p)) (sym l.left) h.in_preview;
   framing = subst IsFraming (sym l.framing) h.framing;
 }
-
-pub is_sent_still : (x : Seen) (came taken : List ℕ) (old new : Writer) → LetsGo old new → IsSent x came taken old → IsSent x came taken new
-is_sent_still x came taken old new l h = record { head = h.head; sent = sent_still h.head x came taken old new l h.sent }
 
 pub due_still : (x : Seen) (old new : Writer) → LetsGo old new → NothingDue x old → NothingDue x new
 due_still x old new l n = record { flushed = l.waiting_is ∙ n.flushed; none = n.none; no_stop = n.no_stop }

@@ -5,14 +5,15 @@ use Rattle.trace_core.specs.declared.history.Event.{Event}
 use Rattle.trace_core.specs.declared.history.Event.TheVariants.{Svc, Stop, Retry}
 use Rattle.trace_core.specs.declared.history.Plan.{Plan}
 use Rattle.trace_core.specs.declared.history.Seen.{Seen}
-use Rattle.trace_core.specs.History.{is_continue, is_no_mod, is_mod, is_preview, is_whole}
+use Rattle.trace_core.specs.History.{is_continue, is_no_mod, is_mod, is_preview, is_retry, is_whole}
 use Rattle.trace_core.specs.View.{after}
 use Rattle.span_tape.specs.Tape.{Tape}
 use Rattle.wire_kit.specs.Past.{Past}
 use Rattle.adapt_sides.specs.declared.turn.Turn.{Turn}
 use Rattle.adapt_sides.specs.declared.fault.ClientFault.{ClientFault}
-use Rattle.icap_client.specs.Events.{after_all, is_final}
-use Rattle.icap_client.specs.Sending.{IsSent, NothingDue, turn_events, svc_events}
+use Rattle.icap_client.specs.Events.{May, AllAre, after_all, is_final, is_of_sending}
+use Rattle.icap_client.specs.Marks.{might_retry}
+use Rattle.icap_client.specs.Sending.{HasSent, NothingDue, turn_events, svc_events}
 use Rattle.icap_client.specs.Reading.{Side, SideHeard, HasBegun, NotBegun}
 use Rattle.icap_client.specs.Turns.{Service, ServiceSent, ServiceHeard, Sends, Hears, events_of, is_answered, is_last_at}
 
@@ -123,16 +124,32 @@ last_after x n count from false events i f all = sym (last_still x n (n == 0) re
 
 -- ---- both in a turn
 
+sending_is_no_retry : (event : Event) → is_of_sending event ≡ true → is_retry event ≡ false
+sending_is_no_retry (Svc k) o = refl
+sending_is_no_retry Stop o = refl
+sending_is_no_retry Retry o = cc
+sending_is_no_retry _ o = refl
+
+-- what was sent is no reason against a new beginning
+might_retry_all : (x : Seen) (events : List Event) → AllAre is_of_sending events → May (after_all x events) Retry → May x Retry
+might_retry_all x [] o m = m
+might_retry_all x (event ∷ events) o m = might_retry x event (sending_is_no_retry event o.0) (might_retry_all (after x event) events o.1 m)
+
 pub sends_marked : (x : Seen) (tape : Tape) (old new : Service) (fault kept : Option ClientFault) (P Q : Past → Type 0) (result : Result Turn ClientFault)
     → (old.last_stop ≡ x.last_stop → new.last_stop ≡ (after_all x (events_of result)).last_stop)
-    → Sends x tape (λ x came taken. IsSent x came taken old.writer) (λ x came taken. IsSent x came taken new.writer) fault kept (NothingDue x new.writer) P Q result
-    → Sends x tape (λ x came taken. ServiceSent x came taken old) (λ x came taken. ServiceSent x came taken new) fault kept (NothingDue x new.writer) P Q result
-sends_marked x tape old new fault kept P Q result mark s = record {
+    → (May x Retry → new.writer.head ≡ old.writer.head)
+    → Sends x tape (λ head x came taken. HasSent head x came taken old.writer) (λ head x came taken. HasSent head x came taken new.writer) fault kept (NothingDue x new.writer) P Q result
+    → Sends x tape (λ head x came taken. ServiceSent head x came taken old) (λ head x came taken. ServiceSent head x came taken new) fault kept (NothingDue x new.writer) P Q result
+sends_marked x tape old new fault kept P Q result mark same s = record {
   delta = s.delta;
   wire = s.wire;
   only = s.only;
   legal = s.legal;
-  goes_on = λ came taken f h. record { sent = s.goes_on came taken f h.sent; last_stop = mark h.last_stop };
+  goes_on = λ head came taken f h. record {
+    sent = s.goes_on head came taken f h.sent;
+    kept = λ m. let before = might_retry_all x (events_of result) s.only m in same before ∙ h.kept before;
+    last_stop = mark h.last_stop;
+  };
   waiting = s.waiting;
   fault = s.fault;
 }

@@ -38,8 +38,8 @@ whole_by x adapted read s over none h =
     let text : read ≡ h.framed = h.text_is ∙ (ap (λ (raw : List ℕ). h.framed ++ raw) none ∙ append-nil h.framed) in
     subst (λ (t : List ℕ). IsWhole x adapted t s.reader) (sym text) (answer_whole x adapted h.framed s.reader over h.heard)
 
-pub clean_by : (x : Seen) (came taken adapted read : List ℕ) (s : Service) → is_reusable s ≡ true → ServiceSent x came taken s → ServiceHeard x adapted read s → IsClean x adapted read s
-clean_by x came taken adapted read s e t h =
+pub clean_by : (x : Seen) (head came taken adapted read : List ℕ) (s : Service) → is_reusable s ≡ true → ServiceSent head x came taken s → ServiceHeard x adapted read s → IsClean x adapted read s
+clean_by x head came taken adapted read s e t h =
     let stage = s.replies.reader.stage in
     let behind = (length s.replies.raw == 0) && (not s.replies.reader.closes && is_none s.replies.fault) in
     let request = first_of (is_whole_request s) (is_over stage && behind) e in

@@ -6,7 +6,7 @@ use Rattle.trace_core.specs.declared.history.Event.TheVariants.{In, End, Svc, St
 use Rattle.trace_core.specs.declared.history.Seen.{Seen}
 use Rattle.trace_core.specs.History.{in_bytes, is_retry, is_continue, is_preview}
 use Rattle.trace_core.specs.View.{after}
-use Rattle.icap_client.specs.Events.{after_all, is_of_sending, is_of_replies, is_final}
+use Rattle.icap_client.specs.Events.{May, after_all, is_of_sending, is_of_replies, is_final}
 use Rattle.icap_client.specs.Turns.{Service, ServiceSent, ServiceHeard, is_answered}
 use Rattle.icap_client.specs.OthersSent.{others}
 use Rattle.icap_client.specs.OthersHeard.{Same, same_after, side_keeps}
@@ -27,10 +27,28 @@ last_stop_kept x Done o n = refl
 last_stop_kept x (Fail cause) o n = refl
 last_stop_kept x Retry o n = cc
 
-pub service_others : (x : Seen) (event : Event) (came bytes taken : List ℕ) (s : Service) → is_of_sending event ≡ false → is_retry event ≡ false → length came ≡ x.received → length bytes ≡ in_bytes event
-    → ServiceSent x came taken s → ServiceSent (after x event) (came ++ bytes) taken s
-service_others x event came bytes taken s o n l b h = record {
-  sent = record { head = h.sent.head; sent = others h.sent.head x event came bytes taken s.writer o n l b h.sent.sent };
+-- a request that may begin anew behind an event might before it
+pub might_retry : (x : Seen) (event : Event) → is_retry event ≡ false → May (after x event) Retry → May x Retry
+might_retry x (In k) n m = m
+might_retry x End n m = m
+might_retry x (Svc k) n m = m
+might_retry x Stop n m = m
+might_retry x Heard n m = cc
+might_retry x Continue n m = m
+might_retry x NoMod n m = m
+might_retry x (Mod payload) n m = m
+might_retry x (Ad k) n m = m
+might_retry x AdEnd n m = m
+might_retry x (Usr k) n m = m
+might_retry x Done n m = cc
+might_retry x (Fail cause) n m = cc
+might_retry x Retry n m = cc
+
+pub service_others : (head : List ℕ) (x : Seen) (event : Event) (came bytes taken : List ℕ) (s : Service) → is_of_sending event ≡ false → is_retry event ≡ false → length came ≡ x.received → length bytes ≡ in_bytes event
+    → ServiceSent head x came taken s → ServiceSent head (after x event) (came ++ bytes) taken s
+service_others head x event came bytes taken s o n l b h = record {
+  sent = others head x event came bytes taken s.writer o n l b h.sent;
+  kept = λ m. h.kept (might_retry x event n m);
   last_stop = h.last_stop ∙ last_stop_kept x event o n;
 }
 

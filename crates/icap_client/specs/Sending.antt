@@ -29,11 +29,6 @@ pub record HasSent (head : List ℕ) (x : Seen) (came taken : List ℕ) (w : Wri
   pub in_preview : IfSome (open_preview x) (λ p. x.sent + w.left ≤ p)
   pub framing : IsFraming w.framing
 
--- the same of a request with some head
-pub record IsSent (x : Seen) (came taken : List ℕ) (w : Writer) : Type 0 where
-  pub head : List ℕ
-  pub sent : HasSent head x came taken w
-
 -- The text of a request's heads, as it is let go once it is out: what waits stays.
 pub record LetsGo (old new : Writer) : Type 0 where
   pub waiting_is : waiting new ≡ waiting old

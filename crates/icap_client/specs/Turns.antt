@@ -1,6 +1,7 @@
 -- What a write turn of the service's side does.
 use Rattle.std.specs.Prelude.{◌&&◌, ◌||◌, not, option_map, is_some, is_none, ◌≡◌, ℕ, ◌<◌, ◌≤◌, ◌⊎◌, ◌↔◌, ◌==◌, length, take, ⊤, Bool, true, false, List, [], ◌++◌, Option, Some, None, Result, Ok, Err}
 use Rattle.trace_core.specs.declared.history.Event.{Event}
+use Rattle.trace_core.specs.declared.history.Event.TheVariants.{Retry}
 use Rattle.trace_core.specs.declared.history.Seen.{Seen}
 use Rattle.trace_core.specs.History.{is_preview, is_whole}
 use Rattle.encapsulated.specs.declared.offsets.Layout.{Layout}
@@ -12,8 +13,8 @@ use Rattle.wire_kit.specs.declared.wire.Put.{Put}
 use Rattle.wire_kit.specs.declared.wire.Put.TheVariants as put
 use Rattle.chunk_writer.specs.declared.next.Next.{Next}
 use Rattle.chunk_writer.specs.Writer.{Writer, waiting, offered}
-use Rattle.icap_client.specs.Sending.{HasSent, IsSent, Came, NothingDue, Decides}
-use Rattle.icap_client.specs.Events.{after_all, MayAllFollow, AllAre, is_of_sending}
+use Rattle.icap_client.specs.Sending.{HasSent, Came, NothingDue, Decides}
+use Rattle.icap_client.specs.Events.{May, after_all, MayAllFollow, AllAre, is_of_sending}
 use Rattle.icap_client.specs.Reading.{Side, SideHeard, NothingToRead}
 use Rattle.icap_client.specs.Laws.{IsWhole}
 use Rattle.icap_client.specs.declared.stage.Stage.{Stage}
@@ -89,9 +90,11 @@ is_response_in (Some layout) = is_some layout.res_hdr
 abbrev pub adapted_head_of : Service → Option (List ℕ)
 adapted_head_of s = option_map (λ layout. s.replies.reader.head) s.replies.reader.layout
 
--- of the message these bytes came and these bytes of the request were taken, and the side's mark is the history's
-pub record ServiceSent (x : Seen) (came taken : List ℕ) (s : Service) : Type 0 where
-  pub sent : IsSent x came taken s.writer
+-- of the message these bytes came and of the request with this head these bytes were taken; all of the head is kept as long as
+-- the request may begin anew; and the side's mark is the history's
+pub record ServiceSent (head : List ℕ) (x : Seen) (came taken : List ℕ) (s : Service) : Type 0 where
+  pub sent : HasSent head x came taken s.writer
+  pub kept : May x Retry → s.writer.head ≡ head
   pub last_stop : s.last_stop ≡ x.last_stop
 
 -- these adapted bytes came and these bytes were read, and the side's mark is the history's

@@ -112,8 +112,8 @@ pub fn a_request_is_whole()
 /// Where the service's connection may carry another request, all that was due of the request was taken, and just a whole
 /// answer was read.
 pub fn a_reusable_connection_is_clean()
-    ensures { (x : Seen) (came taken adapted read : List ℕ) (s : Service) → is_reusable s ≡ true
-        → ServiceSent x came taken s → ServiceHeard x adapted read s → IsClean x adapted read s }
+    ensures { (x : Seen) (head came taken adapted read : List ℕ) (s : Service) → is_reusable s ≡ true
+        → ServiceSent head x came taken s → ServiceHeard x adapted read s → IsClean x adapted read s }
 {}
 
 /// The list of a request's heads and body is read back by a server as the layout with each head behind the one before it, and

@@ -228,7 +228,7 @@ impl ServiceSide {
         // One write at most, and what each answer of it means.
         ensures turn { self.old.replies.fault ≡ None → WriteTurn (seen state.now.plan state.now.events) tape.now self.old.writer self.new.writer (W.past wire.old) (W.past wire.new) result }
         ensures sends { Sends (seen state.now.plan state.now.events) tape.now
-            (λ x came taken. ServiceSent x came taken self.old) (λ x came taken. ServiceSent x came taken self.new)
+            (λ head x came taken. ServiceSent head x came taken self.old) (λ head x came taken. ServiceSent head x came taken self.new)
             self.old.replies.fault self.new.replies.fault (NothingDue (seen state.now.plan state.now.events) self.new.writer) (W.past wire.old) (W.past wire.new) result }
 
         // A turn that goes well leaves no fault. One that fails keeps its fault, and behind that the wire isn't touched.
@@ -284,30 +284,22 @@ impl ServiceSide {
         // No empty room is kept.
         ensures empty { self.old.replies.fault ≡ None → self.new.replies.raw ≡ [] → self.new.replies.room ≡ 0 }
 
-        // The heads' text is kept until a byte of a reply has come, as long as the request may begin anew; from then on what
-        // is out is let go. No other text comes in its place.
+        // The heads' text is kept as long as the request may begin anew, which it may not behind a byte of a reply; then what is
+        // out is let go. No other text comes in its place.
         ensures heads { KeepsOrDrops self.old.writer self.new.writer }
-        ensures kept { events_of result ≡ [] → May (seen state.now.plan state.now.events) Event.Retry → self.new.writer.head ≡ self.old.writer.head }
-        ensures gone { IfOk result (λ turn. (turn.events.items ≡ [] → May (seen state.now.plan state.now.events) Event.Retry → ⊥) → KeepsNoText self.new.writer) }
+        ensures kept { May (seen state.now.plan state.now.events) Event.Retry → self.new.writer.head ≡ self.old.writer.head }
+        ensures gone { IfOk result (λ _. (May (seen state.now.plan state.now.events) Event.Retry → ⊥) → KeepsNoText self.new.writer) }
     {
         let all_sent = flushed(&self.writer);
         match self.replies.read_turn(state, all_sent, wire, out) {
             Ok(turn) => {
                 self.answered = is_answered(&state.seen(), turn.events.as_slice());
-                self.let_go(may_begin_anew(state, turn.events.as_slice()));
+                self.let_go(state.may(Event::Retry));
                 Ok(turn)
             }
             Err(fault) => Err(fault),
         }
     }
-}
-
-/// Whether the request may still begin anew behind a turn that read these events.
-fn may_begin_anew(state: &State, events: &[Event]) -> bool
-    ensures may { result ≡ true → (events.now ≡ []) × May (seen state.now.plan state.now.events) Event.Retry }
-    ensures may_not { result ≡ false → events.now ≡ [] → May (seen state.now.plan state.now.events) Event.Retry → ⊥ }
-{
-    events.is_empty() && state.may(Event::Retry)
 }
 
 /// Whether all text that was fixed is out.

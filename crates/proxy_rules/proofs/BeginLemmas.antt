@@ -13,9 +13,9 @@ use Rattle.adapt_turn.specs.declared.start.Line.{Line}
 use Rattle.proxy_rules.specs.Offers.{IsUnused}
 
 pub unused : (s : Service) (text : List ℕ) (point : Point) → s.writer ≡ fresh text → s.replies.reader ≡ first_reader point → s.replies.raw ≡ []
-    → (s.last_stop ≡ false) × (s.answered ≡ false) → IsUnused s
+    → (s.last_stop ≡ false) × (s.answered ≡ false) → IsUnused text s
 unused s text point w r raw m = record {
-  writer = w ∙ ap fresh (sym (ap (λ (v : Writer). v.head) w));
+  writer = w;
   reader = r ∙ ap first_reader (sym (ap (λ q. q.point) r));
   raw = raw;
   marks = m;
@@ -26,20 +26,21 @@ and_false true = refl
 and_false false = refl
 
 -- nothing was sent and heard of any plan
-pub nothing_sent : (s : Service) (plan : Plan) → IsUnused s → ServiceSent (seen plan []) [] [] s
-nothing_sent s plan u = record {
-  sent = record { head = s.writer.head; sent = subst (λ (w : Writer). HasSent s.writer.head (seen plan []) [] [] w) (sym u.writer) (it_begins plan s.writer.head) };
+pub nothing_sent : (request : List ℕ) (s : Service) (plan : Plan) → IsUnused request s → ServiceSent request (seen plan []) [] [] s
+nothing_sent request s plan u = record {
+  sent = subst (λ (w : Writer). HasSent request (seen plan []) [] [] w) (sym u.writer) (it_begins plan request);
+  kept = λ m. ap (λ (w : Writer). w.head) u.writer;
   last_stop = u.marks.0;
 }
 
-pub nothing_heard : (s : Service) (plan : Plan) → IsUnused s → ServiceHeard (seen plan []) [] [] s
-nothing_heard s plan u = record {
+pub nothing_heard : (request : List ℕ) (s : Service) (plan : Plan) → IsUnused request s → ServiceHeard (seen plan []) [] [] s
+nothing_heard request s plan u = record {
   heard = side_begins plan s.replies.reader.point s.replies u.reader u.raw;
   answered = u.marks.1 ∙ sym (and_false (is_preview plan.kind));
 }
 
 -- the same where there may be no service
-pub nothing_on : {W : Type 0} (plan : Plan) (service : Option (Line Service W)) → IfSome service (λ line. IsUnused line.side)
-    → IfSome service (λ line. ServiceSent (seen plan []) [] [] line.side × ServiceHeard (seen plan []) [] [] line.side)
-nothing_on plan None u = tt
-nothing_on plan (Some line) u = (nothing_sent line.side plan u, nothing_heard line.side plan u)
+pub nothing_on : {W : Type 0} (request : List ℕ) (plan : Plan) (service : Option (Line Service W)) → IfSome service (λ line. IsUnused request line.side)
+    → IfSome service (λ line. ServiceSent request (seen plan []) [] [] line.side × ServiceHeard (seen plan []) [] [] line.side)
+nothing_on request plan None u = tt
+nothing_on request plan (Some line) u = (nothing_sent request line.side plan u, nothing_heard request line.side plan u)

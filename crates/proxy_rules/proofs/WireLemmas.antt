@@ -1,5 +1,5 @@
 -- What the wires took, by what stands.
-use Rattle.std.proofs.Common.{◌≡◌, ℕ, ◌⊎◌, inl, inr, Bool, true, false, List, [], ◌∷◌, ◌++◌, length, take, Option, Some, None, MatchOption, if◌then◌else◌, refl, ap, sym, subst, ◌∙◌, arith}
+use Rattle.std.proofs.Common.{◌≡◌, ℕ, ◌≤◌, ◌⊎◌, inl, inr, Bool, true, false, List, [], ◌∷◌, ◌++◌, length, take, Option, Some, None, MatchOption, IfSome, if◌then◌else◌, refl, ap, sym, subst, ◌∙◌, arith}
 use Rattle.std.proofs.lemmas.List.{take_all}
 use Rattle.trace_core.specs.declared.history.Seen.{Seen}
 use Rattle.trace_core.specs.declared.history.Point.{Point}
@@ -17,16 +17,16 @@ use Rattle.adapt_sides.specs.Turns.Gift.{message, refusal as refused_by}
 use Rattle.adapt_hold.specs.Spans.{EndsBody}
 use Rattle.adapt_hold.specs.Holding.{Holding, IsTied, shows}
 use Rattle.adapt_turn.specs.declared.start.Line.{Line}
-use Rattle.adapt_turn.specs.Stands.{HopsAre, other_gift}
+use Rattle.adapt_turn.specs.Stands.{HopsAre, IsDelivered, other_gift}
 use Rattle.icap_client.specs.Turns.{Service, ServiceSent}
 use Rattle.icap_client.specs.RequestText.{IsFrontOfRequest}
 use Rattle.icap_client.proofs.Prefixes.{sent_is_front_legal}
 use Rattle.http_relay.specs.declared.hop.Stage.{Stage}
 use Rattle.http_relay.specs.declared.hop.Stage.TheVariants as at
-use Rattle.http_relay.specs.Message.{IsFrontOfMessage}
-use Rattle.http_relay.specs.Giving.{Hop, HasGiven, GivenAt, IsAside, AsideAt, gift_of}
-use Rattle.http_relay.proofs.Whole.{out_front_at, whole_front_at}
-use Rattle.proxy_rules.specs.Wires.{TookNoMessage, TookFront, TookOne, OtherTook}
+use Rattle.http_relay.specs.Message.{IsFrontOfMessage, IsMessage, length_of}
+use Rattle.http_relay.specs.Giving.{Hop, HasGiven, GivesMessage, GivenAt, IsAside, AsideAt, gift_of}
+use Rattle.http_relay.proofs.Whole.{front_at, whole_front_at}
+use Rattle.proxy_rules.specs.Wires.{TookNoMessage, TookFront, TookMessage, TookOne, OtherTook}
 
 pub received_is : (h : Holding) (body : List ℕ) → IsTied h → EndsBody h.original body → length body ≡ (shows h.history).received
 received_is h body t e = sym e.end ∙ ap (λ (p : ℕ × ℕ). p.1) t.original
@@ -46,10 +46,9 @@ chosen_is h original adapted t o a =
     let x : Seen = shows h.history in
     chosen_by (chooses_original x) x.modified x.received x.adapted_received original adapted (sound h.history.plan h.history.events t.legal).unmodified (received_is h original t o) (adapted_received_is h adapted t a)
 
-pub sent_one : (h : Holding) (original taken : List ℕ) (s : Service) → IsTied h → EndsBody h.original original → is_plain (shows h.history).plan.kind ≡ false
-    → ServiceSent (shows h.history) original taken s → (head : List ℕ) × IsFrontOfRequest (shows h.history) head original taken
-sent_one h original taken s t o n g =
-    (g.sent.head, sent_is_front_legal h.history.plan h.history.events g.sent.head original taken s.writer t.legal n (received_is h original t o) g.sent.sent)
+pub sent_one : (head : List ℕ) (h : Holding) (original taken : List ℕ) (s : Service) → IsTied h → EndsBody h.original original → is_plain (shows h.history).plan.kind ≡ false
+    → ServiceSent head (shows h.history) original taken s → IsFrontOfRequest (shows h.history) head original taken
+sent_one head h original taken s t o n g = sent_is_front_legal h.history.plan h.history.events head original taken s.writer t.legal n (received_is h original t o) g.sent
 
 first_none : (xs ys : List ℕ) → xs ++ ys ≡ [] → xs ≡ []
 first_none [] ys e = refl
@@ -64,18 +63,29 @@ aside_at (at.Refusal status) taken w a = inr (status, record { rest = waiting w;
 pub aside_none : (taken : List ℕ) (h : Hop) → IsAside taken h → TookNoMessage taken
 aside_none taken h a = aside_at h.stage taken h.writer a.text
 
-front_at : (stage : Stage) (x : Seen) (f : Framing) (head body taken : List ℕ) (w : Writer) → gift_of stage ≡ message → length body ≡ chosen_received x → GivenAt stage x f head body taken w
-    → (count : ℕ) × IsFrontOfMessage f head (take count body) taken
-front_at at.Empty x f head body taken w m l g = cc
-front_at at.Message x f head body taken w m l g = (chosen_delivered x, out_front_at at.Message x f head body taken w refl l g)
-front_at at.Whole x f head body taken w m l g =
-    let all : take (length body) body ≡ body = take_all (length body) body (omega arith) in
-    (length body, subst (λ (b : List ℕ). IsFrontOfMessage f head b taken) (sym all) (whole_front_at at.Whole x f head body taken w refl l g))
-front_at (at.Refusal status) x f head body taken w m l g = cc
+message_front : (made : List ℕ → Type 0) (whole : Bool) (x : Seen) (f : Framing) (head body taken : List ℕ) (w : Writer) → made head
+    → (IfSome (length_of f) (λ n. chosen_received x ≤ n) → IsFrontOfMessage f head body taken) → GivesMessage x f whole head body taken w → TookFront made f x body taken
+message_front made whole x f head body taken w k i g = record {
+  head = head;
+  made_is = k;
+  whole = whole;
+  behind = g.behind;
+  left = w.left;
+  body_is = g.front;
+  taken_is = record { rest = waiting w; whole = sym g.fixed_is };
+  front = i;
+}
+
+took_at : (made : List ℕ → Type 0) (stage : Stage) (x : Seen) (f : Framing) (head body taken : List ℕ) (w : Writer) → made head → gift_of stage ≡ message → length body ≡ chosen_received x → GivenAt stage x f head body taken w
+    → TookFront made f x body taken
+took_at made at.Empty x f head body taken w k m l g = cc
+took_at made at.Message x f head body taken w k m l g = message_front made false x f head body taken w k (λ i. front_at at.Message x f head body taken w refl l i g) g
+took_at made at.Whole x f head body taken w k m l g = message_front made true x f head body taken w k (λ i. whole_front_at at.Whole x f head body taken w refl l g) g
+took_at made (at.Refusal status) x f head body taken w k m l g = cc
 
 pub front_one : (made : List ℕ → Type 0) (x : Seen) (head body taken : List ℕ) (h : Hop) → made head → gift_of h.stage ≡ message → length body ≡ chosen_received x → HasGiven x head body taken h
-    → TookFront made h.framing body taken
-front_one made x head body taken h k m l g = let w = front_at h.stage x h.framing head body taken h.writer m l g.given in (head, k, w.0, w.1)
+    → TookFront made h.framing x body taken
+front_one made x head body taken h k m l g = took_at made h.stage x h.framing head body taken h.writer k m l g.given
 
 -- a writer without a refusal took nothing beside a message
 unrefused_at : (stage : Stage) (taken : List ℕ) (w : Writer) → ((status : ℕ) → gift_of stage ≡ refused_by status → ⊥) → AsideAt stage taken w → taken ≡ []
@@ -87,17 +97,28 @@ unrefused_at (at.Refusal status) taken w none a = absurd (none status refl)
 unrefused : (taken : List ℕ) (h : Hop) → ((status : ℕ) → gift_of h.stage ≡ refused_by status → ⊥) → IsAside taken h → taken ≡ []
 unrefused taken h none a = unrefused_at h.stage taken h.writer none a.text
 
-pub service_one : {W : Type 0} (h : Holding) (original taken : List ℕ) (service : Option (Line Service W)) → IsTied h → EndsBody h.original original → is_plain (shows h.history).plan.kind ≡ false
-    → MatchOption service (taken ≡ []) (λ line. ServiceSent (shows h.history) original taken line.side) → (taken ≡ []) ⊎ ((head : List ℕ) × IsFrontOfRequest (shows h.history) head original taken)
-service_one h original taken None t o n e = inl e
-service_one h original taken (Some line) t o n g = inr (sent_one h original taken line.side t o n g)
+pub service_one : {W : Type 0} (head : List ℕ) (h : Holding) (original taken : List ℕ) (service : Option (Line Service W)) → IsTied h → EndsBody h.original original
+    → MatchOption service (taken ≡ []) (λ line. ServiceSent head (shows h.history) original taken line.side)
+    → MatchOption service (taken ≡ []) (λ _. is_plain (shows h.history).plan.kind ≡ false → IsFrontOfRequest (shows h.history) head original taken)
+service_one head h original taken None t o e = e
+service_one head h original taken (Some line) t o g = λ n. sent_one head h original taken line.side t o n g
+
+-- where one took the whole message
+pub whole_one : (next back : Hop) (next_made back_made : List ℕ → Type 0) (refusing : Bool) (body to_next to_back : List ℕ)
+    → IsDelivered refusing (gift_of next.stage) (gift_of back.stage) (λ head body taken. next_made head × IsMessage next.framing head body taken) (λ taken. IsAside taken next)
+    (λ head body taken. back_made head × IsMessage back.framing head body taken) (λ taken. IsAside taken back) body to_next to_back
+    → TookMessage next_made next.framing body to_next ⊎ TookMessage back_made back.framing body to_back
+whole_one next back next_made back_made refusing body to_next to_back d = elim d.1 [
+  | inl w ↦ inl (record { head = w.head; made_is = w.whole_is.0; message = w.whole_is.1 })
+  | inr w ↦ inr (record { head = w.head; made_is = w.whole_is.0; message = w.whole_is.1 })
+]
 
 pub hops_one : (h : Holding) (next back : Hop) (next_made back_made : List ℕ → Type 0) (next_given back_given : Seen → List ℕ → List ℕ → List ℕ → Type 0) (original adapted to_next to_back : List ℕ)
     → IsTied h → EndsBody h.original original → EndsBody h.adapted adapted
     → ((head body taken : List ℕ) → next_given (shows h.history) head body taken → next_made head × HasGiven (shows h.history) head body taken next)
     → ((head body taken : List ℕ) → back_given (shows h.history) head body taken → back_made head × HasGiven (shows h.history) head body taken back)
     → HopsAre (gift_of next.stage) (gift_of back.stage) next_given (λ taken. IsAside taken next) back_given (λ taken. IsAside taken back) (shows h.history) (chosen (shows h.history) original adapted) to_next to_back
-    → (TookOne next_made next.framing (chosen (shows h.history) original adapted) to_next × TookNoMessage to_back) ⊎ (TookNoMessage to_next × TookOne back_made back.framing (chosen (shows h.history) original adapted) to_back)
+    → (TookOne next_made next.framing (shows h.history) (chosen (shows h.history) original adapted) to_next × TookNoMessage to_back) ⊎ (TookNoMessage to_next × TookOne back_made back.framing (shows h.history) (chosen (shows h.history) original adapted) to_back)
 hops_one h next back next_made back_made next_given back_given original adapted to_next to_back t o a as_next as_back (inl m) = inl (inl (aside_none to_next next m.next_aside_is), aside_none to_back back m.back_aside_is)
 hops_one h next back next_made back_made next_given back_given original adapted to_next to_back t o a as_next as_back (inr (inl m)) =
     let x = shows h.history in
@@ -112,26 +133,22 @@ hops_one h next back next_made back_made next_given back_given original adapted 
 hops_one h next back next_made back_made next_given back_given original adapted to_next to_back t o a as_next as_back (inr (inr (inr m))) =
     inl (inl (aside_none to_next next m.next_aside_is), aside_none to_back back m.back_aside_is)
 
-pub other_one : (point : Point) (h : Holding) (next back : Hop) (next_made back_made : List ℕ → Type 0) (next_given back_given : Seen → List ℕ → List ℕ → List ℕ → Type 0) (original adapted to_next to_back : List ℕ)
+pub other_one : (point : Point) (h : Holding) (next back : Hop) (next_made : List ℕ → Type 0) (next_given back_given : Seen → List ℕ → List ℕ → List ℕ → Type 0) (original adapted to_next to_back : List ℕ)
     → IsTied h → EndsBody h.original original → EndsBody h.adapted adapted
     → ((head body taken : List ℕ) → next_given (shows h.history) head body taken → next_made head × HasGiven (shows h.history) head body taken next)
-    → ((head body taken : List ℕ) → back_given (shows h.history) head body taken → back_made head × HasGiven (shows h.history) head body taken back)
     → ((status : ℕ) → other_gift point (gift_of next.stage) (gift_of back.stage) ≡ refused_by status → ⊥)
+    → (point ≡ Respmod → gift_of back.stage ≡ message → ⊥)
     → HopsAre (gift_of next.stage) (gift_of back.stage) next_given (λ taken. IsAside taken next) back_given (λ taken. IsAside taken back) (shows h.history) (chosen (shows h.history) original adapted) to_next to_back
-    → OtherTook point next_made back_made next.framing back.framing (chosen (shows h.history) original adapted) to_next to_back
-other_one Reqmod h next back next_made back_made next_given back_given original adapted to_next to_back t o a as_next as_back none (inl m) = inl (unrefused to_next next none m.next_aside_is)
-other_one Reqmod h next back next_made back_made next_given back_given original adapted to_next to_back t o a as_next as_back none (inr (inl m)) =
+    → OtherTook point next_made next.framing (shows h.history) (chosen (shows h.history) original adapted) to_next to_back
+other_one Reqmod h next back next_made next_given back_given original adapted to_next to_back t o a as_next none away (inl m) = inl (unrefused to_next next none m.next_aside_is)
+other_one Reqmod h next back next_made next_given back_given original adapted to_next to_back t o a as_next none away (inr (inl m)) =
     let x = shows h.history in
     let body = chosen x original adapted in
     let w = as_next m.head body to_next m.given_is in
     inr (front_one next_made x m.head body to_next next w.0 m.begun (chosen_is h original adapted t o a) w.1)
-other_one Reqmod h next back next_made back_made next_given back_given original adapted to_next to_back t o a as_next as_back none (inr (inr (inl m))) = inl (unrefused to_next next none m.aside_is)
-other_one Reqmod h next back next_made back_made next_given back_given original adapted to_next to_back t o a as_next as_back none (inr (inr (inr m))) = inl (unrefused to_next next none m.next_aside_is)
-other_one Respmod h next back next_made back_made next_given back_given original adapted to_next to_back t o a as_next as_back none (inl m) = inl (unrefused to_back back none m.back_aside_is)
-other_one Respmod h next back next_made back_made next_given back_given original adapted to_next to_back t o a as_next as_back none (inr (inl m)) = inl (unrefused to_back back none m.aside_is)
-other_one Respmod h next back next_made back_made next_given back_given original adapted to_next to_back t o a as_next as_back none (inr (inr (inl m))) =
-    let x = shows h.history in
-    let body = chosen x original adapted in
-    let w = as_back m.head body to_back m.given_is in
-    inr (front_one back_made x m.head body to_back back w.0 m.begun (chosen_is h original adapted t o a) w.1)
-other_one Respmod h next back next_made back_made next_given back_given original adapted to_next to_back t o a as_next as_back none (inr (inr (inr m))) = inl (unrefused to_back back none m.back_aside_is)
+other_one Reqmod h next back next_made next_given back_given original adapted to_next to_back t o a as_next none away (inr (inr (inl m))) = inl (unrefused to_next next none m.aside_is)
+other_one Reqmod h next back next_made next_given back_given original adapted to_next to_back t o a as_next none away (inr (inr (inr m))) = inl (unrefused to_next next none m.next_aside_is)
+other_one Respmod h next back next_made next_given back_given original adapted to_next to_back t o a as_next none away (inl m) = unrefused to_back back none m.back_aside_is
+other_one Respmod h next back next_made next_given back_given original adapted to_next to_back t o a as_next none away (inr (inl m)) = unrefused to_back back none m.aside_is
+other_one Respmod h next back next_made next_given back_given original adapted to_next to_back t o a as_next none away (inr (inr (inl m))) = absurd (away refl m.begun)
+other_one Respmod h next back next_made next_given back_given original adapted to_next to_back t o a as_next none away (inr (inr (inr m))) = unrefused to_back back none m.back_aside_is

@@ -22,9 +22,9 @@ offered_response response = response_text response no_extra
 abbrev pub offered_text : ServicePoint → Plan → List ℕ → List ℕ → List ℕ
 offered_text service plan req res = request_head plan (string_bytes service.host) (v4_port service.address) (string_bytes service.path) req res
 
--- a service's side that has written and read nothing yet
-pub record IsUnused (s : Service) : Type 0 where
-  pub writer : s.writer ≡ fresh s.writer.head
+-- a service's side with a request of this text up to its chunks, which has written and read nothing yet
+pub record IsUnused (request : List ℕ) (s : Service) : Type 0 where
+  pub writer : s.writer ≡ fresh request
   pub reader : s.replies.reader ≡ first_reader s.replies.reader.point
   pub raw : s.replies.raw ≡ []
   pub marks : (s.last_stop ≡ false) × (s.answered ≡ false)

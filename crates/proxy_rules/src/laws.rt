@@ -1,11 +1,13 @@
 //! What holds of every head that goes on: each law is the contract of a function that does nothing.
 
-ghost use Rattle.std.specs.Prelude.{◌≡◌, ◌↔◌, ℕ, true, false, codes};
+ghost use Rattle.std.specs.Prelude.{◌≡◌, ◌↔◌, ℕ, List, [], true, false, codes, MatchOption};
 ghost use Rattle.trace_core.specs.declared.tape.Tape.TheVariants.{Original, Adapted};
 ghost use Rattle.trace_core.specs.Held.{IsIn, IsNeeded};
 ghost use Rattle.adapt_hold.specs.Holding.{IsTied, interval, shows};
 ghost use Rattle.adapt_turn.specs.Made.{IsMade, adapted_of, response_of};
 ghost use Rattle.adapt_turn.specs.Stands.{Texts};
+ghost use Rattle.http_relay.specs.Reading.{SideRead};
+ghost use Rattle.icap_client.specs.Turns.{ServiceHeard};
 ghost use Rattle.http_side.specs.declared.forward.Forward.{Forward as Sent};
 ghost use Rattle.http_side.specs.Forward.{is_response, is_named_by, closes};
 ghost use Rattle.http_side.specs.Laws.{forwarded_fields};
@@ -26,20 +28,24 @@ pub fn says_close_where_it_ends()
     ensures request { (f : Sent) → is_response f.message ≡ false → is_named_by (forwarded_fields f) (codes "close") ≡ true }
 {}
 
-/// Of a transaction of the proxy's own sides, wherever it stands: its service's wire took a front of one request with some head
-/// and the original; one of the wires to the next hop and to the user took a front of one message with the chosen body, or of a
-/// refusal alone, and the other one nothing of a message; that message's head, and how its body goes, were made at a moment of
-/// its history of the heads that were read; a refusal goes to the user alone. What is held of both bodies is just what the
-/// history needs.
+/// Of a transaction of the proxy's own sides, wherever it stands: its source's wire gave a message with the original body, and its
+/// service's the adapted one. The service's wire took a front of the one request whose heads were offered at the beginning, with
+/// the original. One of the wires to the next hop and to the user took a front of one message with the chosen body, of which just
+/// the bytes went out that the history says, or of a refusal alone, and the other one nothing of a message. That message's head, and
+/// how its body goes, were made of the heads that were read, at a moment of such a history. A refusal goes to the user alone. Where
+/// Done stands, the whole message was taken.
 pub fn the_wires_take_one_message<B: Ledgers, A: Wire, W: Wire, C: Wire>(
     tx: &Tx<B, SourceSide, ServiceSide, NextHop, HeadMaker, A, W, C>,
 )
     ensures tied { IsTied tx.now.hold }
-    ensures took { (t : Texts) → ⟦<Tx<B, SourceSide, ServiceSide, NextHop, HeadMaker, A, W, C> as Standing>⟧.stands tx.now t → WiresTook (λ head. IsMade (⟦<HeadMaker as Forward<SourceSide, NextHop>>⟧.makes tx.now.forward (⟦<SourceSide as Source>⟧.head tx.now.source))
+    ensures took { (request : List ℕ) (t : Texts) → ⟦<Tx<B, SourceSide, ServiceSide, NextHop, HeadMaker, A, W, C> as Standing>⟧.stands tx.now request t
+        → WiresTook (λ x body read. SideRead x body read tx.now.source)
+        (λ x adapted read. MatchOption tx.now.service ((adapted ≡ []) × (read ≡ [])) (λ line. ServiceHeard x adapted read line.side)) tx.now.service
+        (λ head. IsMade (⟦<HeadMaker as Forward<SourceSide, NextHop>>⟧.makes tx.now.forward (⟦<SourceSide as Source>⟧.head tx.now.source))
         (adapted_of ⟦<ServiceSide as Service>⟧.adapted_head tx.now.service) (response_of ⟦<ServiceSide as Service>⟧.is_response tx.now.service) tx.now.next.framing (shows tx.now.hold.history) head)
         (λ head. IsMade (⟦<HeadMaker as Forward<SourceSide, NextHop>>⟧.makes tx.now.forward (⟦<SourceSide as Source>⟧.head tx.now.source))
         (adapted_of ⟦<ServiceSide as Service>⟧.adapted_head tx.now.service) (response_of ⟦<ServiceSide as Service>⟧.is_response tx.now.service) tx.now.back.framing (shows tx.now.hold.history) head)
-        tx.now.next.framing tx.now.back.framing tx.now.hold t }
+        tx.now.next.framing tx.now.back.framing tx.now.hold request t }
 {
     let _ = tx.seen();
 }

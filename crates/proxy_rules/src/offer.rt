@@ -2,7 +2,6 @@
 
 ghost use Rattle.std.specs.Prelude.{◌≡◌, ◌+◌, ◌<◌, [], length, string_bytes, IfOk};
 ghost use Rattle.std.specs.Net.Socket.{v4_port};
-ghost use Rattle.chunk_writer.specs.Writer.{fresh};
 ghost use Rattle.icap_client.specs.Asking.{options_request};
 ghost use Rattle.proxy_rules.specs.Offers.{IsUnused, offered_request, offered_response, offered_text};
 
@@ -33,8 +32,7 @@ fn offer(
     req: &[u8],
     res: &[u8],
 ) -> Result<ServiceSide, AllocError>
-    ensures text { IfOk result (λ side. side.writer ≡ fresh (offered_text service.now plan.now req.now res.now)) }
-    ensures unused { IfOk result (λ side. IsUnused side) }
+    ensures { IfOk result (λ side. IsUnused (offered_text service.now plan.now req.now res.now) side) }
 {
     let limit = COUNT_LIMIT as usize;
     if req.len() >= limit || res.len() >= limit - req.len() {
@@ -59,8 +57,7 @@ pub fn offer_request(
     plan: &Plan,
     user: &HttpRequest,
 ) -> Result<ServiceSide, AllocError>
-    ensures text { IfOk result (λ side. side.writer ≡ fresh (offered_text service.now plan.now (offered_request user.now) [])) }
-    ensures unused { IfOk result (λ side. IsUnused side) }
+    ensures { IfOk result (λ side. IsUnused (offered_text service.now plan.now (offered_request user.now) []) side) }
 {
     let message = Message::Request(user);
     let req = encapsulated_head(alloc, &Encapsulated { user, message })?;
@@ -76,8 +73,7 @@ pub fn offer_response(
     user: &HttpRequest,
     response: &HttpResponse,
 ) -> Result<ServiceSide, AllocError>
-    ensures text { IfOk result (λ side. side.writer ≡ fresh (offered_text service.now plan.now (offered_request user.now) (offered_response response.now))) }
-    ensures unused { IfOk result (λ side. IsUnused side) }
+    ensures { IfOk result (λ side. IsUnused (offered_text service.now plan.now (offered_request user.now) (offered_response response.now)) side) }
 {
     let own = Message::Request(user);
     let req = encapsulated_head(alloc, &Encapsulated { user, message: own })?;

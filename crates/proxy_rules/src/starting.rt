@@ -39,8 +39,8 @@ pub struct Beginning<B: Ledgers, A, W, C> {
 }
 
 /// Begins a transaction. Where its source's head was read in a turn, and its service's side was made by an offer, what stands
-/// between a transaction and its wires stands from the beginning: of the source's wire the bytes were read that the head was found
-/// in, and nothing else went over a wire.
+/// between a transaction and its wires stands from the beginning, with the offer's request: of the source's wire the bytes were
+/// read that the head was found in, and nothing else went over a wire.
 ///
 /// Everything comes back where the source isn't at the beginning of a body of this plan.
 pub fn begin<B: Ledgers, A: Wire, W: Wire, C: Wire>(
@@ -56,8 +56,8 @@ pub fn begin<B: Ledgers, A: Wire, W: Wire, C: Wire>(
     ensures accepts { IsOk result ↔ ⟦<SourceSide as Source>⟧.may_begin beginning.plan beginning.source }
     ensures begun { IfOk result (λ tx. tx.hold.history ≡ record { plan = beginning.plan; events = [] }) }
     ensures clock { IfOk result (λ tx. (tx.last_moved ≡ beginning.now) × (tx.deadline ≡ beginning.deadline)) }
-    ensures stands { IfOk result (λ tx. (read : List ℕ) → Begins read beginning.source → IfSome beginning.service (λ line. IsUnused line.side)
-        → ⟦<Tx<B, SourceSide, ServiceSide, NextHop, HeadMaker, A, W, C> as Standing>⟧.stands tx (record no_texts { source_read = read })) }
+    ensures stands { IfOk result (λ tx. (read request : List ℕ) → Begins read beginning.source → IfSome beginning.service (λ line. IsUnused request line.side)
+        → ⟦<Tx<B, SourceSide, ServiceSide, NextHop, HeadMaker, A, W, C> as Standing>⟧.stands tx request (record no_texts { source_read = read })) }
     ensures line { IfOk result (λ tx. (tx.broken ≡ false) × (tx.reused ≡ beginning.reused)) }
     ensures fields { IfOk result (λ tx. (tx.source ≡ beginning.source) × (tx.source_wire ≡ beginning.source_wire) × (tx.service ≡ beginning.service) × (tx.next_wire ≡ beginning.next_wire)
         × (tx.forward ≡ beginning.heads)) }

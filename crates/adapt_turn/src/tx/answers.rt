@@ -36,9 +36,9 @@ pub trait Answering {
     // request may begin anew. Finished: so it had ended before, and a refusal that was due is out, or its wire has failed.
     ghost answers: { Self → Side → Self → Turned → Type 0 };
 
-    // Of an open one a turn steps events of its side, or Fail, and leaves the other sides and wires as they were; a message that is
-    // begun goes back to the user exactly where a request was offered and the service answers it. Of a closed one it leaves all but
-    // the user's writer and wire.
+    // Of an open one a turn steps events of its side, or Fail, and leaves the other sides and wires as they were, the writers too
+    // unless it fails; a message that is begun goes back to the user exactly where a request was offered and the service answers it.
+    // Of a closed one it leaves all but the user's writer and wire.
     ghost keeps: { Self → Side → Self → Type 0 };
 
     // at this moment the deadline has passed, or the cause is that of the side's fault
@@ -74,8 +74,10 @@ impl<
         × (outcome ≡ outcomes.Done → IsDone new.hold.history)) };
 
     ghost keeps = { λ old side new. ((shows old.hold.history).closed ≡ false → TookBy (may_step side) old.hold new.hold
-        × BySide side ((new.service ≡ old.service) × (new.next_wire ≡ old.next_wire))
-        ((new.source ≡ old.source) × (new.source_wire ≡ old.source_wire) × (new.next_wire ≡ old.next_wire))
+        × BySide side ((new.service ≡ old.service) × (new.next_wire ≡ old.next_wire)
+        × (((cause : Cause) → new.outcome ≡ outcomes.Fail cause → ⊥) → (new.next ≡ old.next) × (new.back ≡ old.back)))
+        ((new.source ≡ old.source) × (new.source_wire ≡ old.source_wire) × (new.next_wire ≡ old.next_wire)
+        × (((cause : Cause) → new.outcome ≡ outcomes.Fail cause → ⊥) → (new.next ≡ old.next) × (new.back ≡ old.back)))
         ((new.source ≡ old.source) × (new.service ≡ old.service))
         × (K.gift old.back ≡ nothing → K.gift new.back ≡ message → answers_user (shows old.hold.history) (response_of V.is_response old.service) ≡ true)
         × (K.gift old.next ≡ nothing → K.gift new.next ≡ message → answers_user (shows old.hold.history) (response_of V.is_response old.service) ≡ false))

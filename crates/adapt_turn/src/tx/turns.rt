@@ -1,10 +1,11 @@
 //! Turns of a transaction.
 
 ghost use Rattle.std.specs.Prelude.{◌≡◌, ◌↔◌, ℕ, ◌+◌, ◌<◌, ◌≤◌, ◌⊎◌, Bool, true, false, List, [], Option, Some, None, length};
-ghost use Rattle.trace_core.specs.declared.history.Event.TheVariants.{Fail};
+ghost use Rattle.trace_core.specs.declared.history.Event.TheVariants.{Fail, Retry};
 ghost use Rattle.trace_core.specs.declared.history.Cause.{Cause};
 ghost use Rattle.trace_core.specs.declared.history.Cause.TheVariants.{Deadline, Stopping};
 ghost use Rattle.trace_core.specs.declared.history.Seen.{Seen};
+ghost use Rattle.trace_core.specs.Legal.{MayFollow};
 ghost use Rattle.adapt_sides.specs.Turns.{Gift};
 ghost use Rattle.adapt_sides.specs.Turns.Gift.{message};
 ghost use Rattle.adapt_hold.specs.Holding.{shows, moved};
@@ -78,6 +79,8 @@ impl<B: Ledgers, S: Source, V: Service, K: Hop, F: Forward<S, K>, A: Wire, W: Wi
         ensures rests { (shows self.old.hold.history).closed ≡ true → self.new.last_moved ≡ self.old.last_moved }
         ensures limit { self.new.deadline ≡ self.old.deadline }
         ensures marked { (self.new.broken ≡ true ↔ (self.old.broken ≡ true) ⊎ (result ≡ Turned.Broken)) × (self.new.reused ≡ self.old.reused) }
+        ensures breaks_on { (shows self.old.hold.history).closed ≡ false → now < self.old.last_moved + self.old.deadline → side ≡ Side.Service
+            → self.old.broken ≡ true → MayFollow self.old.hold.history.plan self.old.hold.history.events Retry → result ≡ Turned.Broken }
         ensures refuses { (shows self.old.hold.history).closed ≡ false → (cause : Cause) → self.new.outcome ≡ Outcome.Fail cause → ⟦<Self as Refusing>⟧.refuses self.new cause }
         ensures refuses_on { (shows self.old.hold.history).closed ≡ true → (cause : Cause) → ⟦<Self as Refusing>⟧.refuses self.old cause → ⟦<Self as Refusing>⟧.refuses self.new cause }
         ensures fails { (shows self.old.hold.history).closed ≡ false → (cause : Cause) → self.new.outcome ≡ Outcome.Fail cause → ⟦<Self as Answering>⟧.fails self.old side now self.new cause }

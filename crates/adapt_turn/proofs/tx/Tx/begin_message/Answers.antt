@@ -3,7 +3,7 @@ use Rattle.adapt_hold.specs.Holding.{shows}
 use Rattle.adapt_turn.specs.Made.{adapted_of, response_of}
 use Rattle.adapt_turn.proofs.Made.{made_by, made_on, made_now, heads_idle}
 use Rattle.adapt_turn.proofs.Together.{others_of, fail_goes}
-use Rattle.adapt_turn.proofs.Giving.{next_begin_goes, back_begin_goes}
+use Rattle.adapt_turn.proofs.Giving.{answers_reqmod, next_begin_goes, back_begin_goes}
 use Rattle.std.proofs.Common.{sym, ◌∙◌}
 use Rattle.adapt_turn.proofs.ByTurn.{idle_no_message}
 use Rattle.adapt_turn.proofs.tx.Tx.begin_message.Goals as goal
@@ -11,7 +11,7 @@ use Rattle.adapt_turn.proofs.tx.Tx.begin_message.Goals as goal
 pub returns-then-answers-clause-goes : goal.returns-then-answers-clause-goes
 returns-then-answers-clause-goes g c =
     back_begin_goes c.args.self.now.hold _ _ _ _ (g.K.Hop.gift c.args.self.now.next) (g.K.Hop.gift c.args.self.now.back) (g.K.Hop.gift c.begin.new.self) _ _ _ _ _ _ _ c.args.self.now.refusing _ _ c.in-Ok.head.items _ _ _
-    c.requires.running c.requires.next c.requires.back c.begin.ensures.gift
+    c.requires.running (answers_reqmod (shows c.args.self.now.hold.history) _ (sym c.answers_user-answers.ensures ∙ c.if-answers.true)) c.requires.next c.requires.back c.begin.ensures.gift
     (λ body taken a z w. (made_now (g.F.Forward.makes c.forwarded-made.new.forward (g.S.Source.head c.args.self.now.source)) (adapted_of g.V.Service.adapted_head c.args.self.now.service) (response_of g.V.Service.is_response c.args.self.now.service) c.in-Ok.framing (g.K.Hop.body_framing c.begin.new.self) c.args.self.now.hold.history c.in-Ok.head.items c.state-state.ensures.tied.legal c.requires.chosen c.begin.ensures.framing c.in-Ok.ensures.made, c.begin.ensures.given (shows c.args.self.now.hold.history) [] body taken (g.met.K.Hop.idle_given (shows c.args.self.now.hold.history) [] body taken c.args.self.now.back c.requires.back a z w)))
 
 pub returns-else-answers-clause-goes : goal.returns-else-answers-clause-goes

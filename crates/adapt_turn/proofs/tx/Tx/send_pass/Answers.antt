@@ -16,7 +16,7 @@ use Rattle.adapt_turn.proofs.tx.Tx.send_pass.Goals as goal
 pub returns-in-Some-clause-goes : goal.returns-in-Some-clause-goes
 returns-in-Some-clause-goes g c =
     send_goes c.args.self.now.service c.in-Some.line (record { side = c.send-passed.new.service; wire = c.send-passed.new.wire }) c.args.self.now.hold c.send-passed.new.hold _ _
-    (λ l x came taken. g.V.Service.has_sent x came taken l.side) (λ l x adapted text. g.V.Service.has_heard x adapted text l.side) (λ l p. g.W.Wire.past l.wire p) _ _ _ _ _ _ _ _ _ _ c.send-passed.result
+    (λ l heads x came taken. g.V.Service.has_sent heads x came taken l.side) (λ l x adapted text. g.V.Service.has_heard x adapted text l.side) (λ l p. g.W.Wire.past l.wire p) _ _ _ _ _ _ _ _ _ _ c.send-passed.result
     c.in-Some.is
     (heads_then g.K.Hop.gift g.K.Hop.has_given g.K.Hop.aside (made_by (g.F.Forward.makes c.args.self.now.forward) g.K.Hop.body_framing g.V.Service.adapted_head g.V.Service.is_response (g.S.Source.head c.args.self.now.source) c.args.self.now.service) (made_by (g.F.Forward.makes c.args.self.now.forward) g.K.Hop.body_framing g.V.Service.adapted_head g.V.Service.is_response (g.S.Source.head c.args.self.now.source) (Some (record { side = c.send-passed.new.service; wire = c.send-passed.new.wire }))) c.args.self.now.next c.args.self.now.back (shows c.args.self.now.hold.history)
     (line_heads (g.F.Forward.makes c.args.self.now.forward) g.K.Hop.body_framing g.V.Service.adapted_head g.V.Service.is_response (g.S.Source.head c.args.self.now.source) c.args.self.now.service c.in-Some.line (record { side = c.send-passed.new.service; wire = c.send-passed.new.wire }) (shows c.args.self.now.hold.history) c.in-Some.is (λ e. c.send-passed.ensures.head) (λ e. c.send-passed.ensures.response)))

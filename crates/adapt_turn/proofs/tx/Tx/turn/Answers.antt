@@ -17,7 +17,7 @@ use Rattle.adapt_turn.specs.Stands.{user_gift}
 use Rattle.adapt_turn.specs.Refusals.{refusal_status, user_untouched, HasRefusal}
 use Rattle.adapt_turn.proofs.Refusals.{by_point}
 use Rattle.adapt_turn.proofs.Told.{failed_over}
-use Rattle.adapt_turn.proofs.ByTurn.{by_answer, for_side, of_either, of_one, idle_no_message}
+use Rattle.adapt_turn.proofs.ByTurn.{unfailed, by_answer, for_side, of_either, of_one, idle_no_message}
 use Rattle.adapt_turn.specs.declared.turned.Turned.TheVariants as answers
 use Rattle.std.proofs.Common.{true, false, [], Some, None, arith}
 use Rattle.adapt_turn.specs.Made.{response_of, answers_user}
@@ -197,8 +197,19 @@ returns-clause-keeps g c = (
     subst (λ h. TookBy (may_step c.args.side) c.args.self.now.hold h) (sym c.after_pass.ensures.hold)
         (by_side c.args.side (λ side. TookBy (may_step side) c.args.self.now.hold c.pass-passed.new.self.hold) (λ s. c.pass-passed.ensures.took_source s) (λ s. c.pass-passed.ensures.took_service s) (λ s. c.pass-passed.ensures.took_next s)),
     for_side c.args.side _ _ _
-        (λ s. let a = c.pass-passed.ensures.apart_source s in (c.after_pass.ensures.kept.2 ∙ a.0, c.after_pass.ensures.kept.3 ∙ a.1))
-        (λ s. let a = c.pass-passed.ensures.apart_service s in (c.after_pass.ensures.kept.0 ∙ a.0, c.after_pass.ensures.kept.1 ∙ a.1, c.after_pass.ensures.kept.3 ∙ a.2))
+        (λ s. let a = c.pass-passed.ensures.apart_source s in (
+          c.after_pass.ensures.kept.2 ∙ a.0,
+          c.after_pass.ensures.kept.3 ∙ a.1,
+          λ n.
+              let w = c.after_pass.ensures.same (unfailed c.pass-passed.result.failed c.after_pass.new.self.outcome (c.after_pass.ensures.outcome ∙ c.pass-passed.ensures.outcome) n) in (w.0 ∙ a.2, w.1 ∙ a.3),
+        ))
+        (λ s. let a = c.pass-passed.ensures.apart_service s in (
+          c.after_pass.ensures.kept.0 ∙ a.0,
+          c.after_pass.ensures.kept.1 ∙ a.1,
+          c.after_pass.ensures.kept.3 ∙ a.2,
+          λ n.
+              let w = c.after_pass.ensures.same (unfailed c.pass-passed.result.failed c.after_pass.new.self.outcome (c.after_pass.ensures.outcome ∙ c.pass-passed.ensures.outcome) n) in (w.0 ∙ a.3, w.1 ∙ a.4),
+        ))
         (λ s. let a = c.pass-passed.ensures.apart_next s in (c.after_pass.ensures.kept.0 ∙ a.0, c.after_pass.ensures.kept.2 ∙ a.1)),
     λ n m. let w = c.after_pass.ensures.messages.1 m in
         by_side c.args.side (λ side. answers_user (shows c.args.self.now.hold.history) (response_of g.V.Service.is_response c.args.self.now.service) ≡ true)
@@ -221,7 +232,8 @@ pub returns-then-now-self-2-clause-keeps : goal.returns-then-now-self-2-clause-k
 returns-then-now-self-2-clause-keeps g c = (
   λ o. (
     took_fail c.args.side c.args.self.now.hold c.fail_by.new.self.hold Deadline (sym c.is_closed.ensures ∙ c.if-is_closed.false) c.fail_by.ensures.hold,
-    for_side c.args.side _ _ _ (λ s. (c.fail_by.ensures.kept.1, c.fail_by.ensures.kept.2)) (λ s. (c.fail_by.ensures.kept.3, c.fail_by.ensures.kept.0, c.fail_by.ensures.kept.2)) (λ s. (c.fail_by.ensures.kept.3, c.fail_by.ensures.kept.1)),
+    for_side c.args.side _ _ _ (λ s. (c.fail_by.ensures.kept.1, c.fail_by.ensures.kept.2, λ n. absurd (n Deadline c.fail_by.ensures.outcome)))
+        (λ s. (c.fail_by.ensures.kept.3, c.fail_by.ensures.kept.0, c.fail_by.ensures.kept.2, λ n. absurd (n Deadline c.fail_by.ensures.outcome))) (λ s. (c.fail_by.ensures.kept.3, c.fail_by.ensures.kept.1)),
     λ n m. absurd (idle_no_message _ n (c.fail_by.ensures.messages.1 m)),
     λ n m. absurd (idle_no_message _ n (c.fail_by.ensures.messages.0 m)),
   ),
@@ -232,7 +244,7 @@ pub returns-then-is_broken-clause-keeps : goal.returns-then-is_broken-clause-kee
 returns-then-is_broken-clause-keeps g c = (
   λ o. (
     ([], tt, refl),
-    for_side c.args.side _ _ _ (λ s. (refl, refl)) (λ s. (refl, refl, refl)) (λ s. (refl, refl)),
+    for_side c.args.side _ _ _ (λ s. (refl, refl, λ n. (refl, refl))) (λ s. (refl, refl, refl, λ n. (refl, refl))) (λ s. (refl, refl)),
     λ n m. absurd (idle_no_message _ n m),
     λ n m. absurd (idle_no_message _ n m),
   ),
