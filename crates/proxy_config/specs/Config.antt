@@ -4,6 +4,8 @@ use Rattle.toml.specs.Data.{Members, get_member}
 use Rattle.toml.specs.Parse.{parse_document}
 use Rattle.std.specs.declared.net.socket_addr.SocketAddrV4.{SocketAddrV4}
 use Rattle.adapt_bytes.specs.declared.limits.TheConstants.{MAX_ALLOW_LIMIT, MAX_CAPACITY, MAX_PREVIEW, MAX_ROWS, MAX_WINDOW}
+use Rattle.proxy_config.specs.declared.limits.TheConstants.{MAX_DEADLINE, MAX_JOURNAL, MAX_SHARDS}
+use Rattle.proxy_config.specs.declared.defaults.TheConstants.{ALLOW_LIMIT, CAPACITY, DEADLINE, JOURNAL, PREVIEW_LIMIT, ROWS, SHARDS, WINDOW}
 use Rattle.proxy_config.specs.Values.{number_or, truth_or, HasAddress}
 use Rattle.proxy_config.specs.Fault.{IsFaultAt}
 use Rattle.proxy_config.specs.Services.{IsServiceOf}
@@ -17,28 +19,28 @@ number_at key low high other document = number_or low high other (get_member key
 
 -- each number's key, range and default
 abbrev pub shards_of : Members → Option ℕ
-shards_of = number_at (codes "shards") 1 64 2
+shards_of = number_at (codes "shards") 1 MAX_SHARDS SHARDS
 
 abbrev pub capacity_of : Members → Option ℕ
-capacity_of = number_at (codes "capacity") 1 MAX_CAPACITY 16777216
+capacity_of = number_at (codes "capacity") 1 MAX_CAPACITY CAPACITY
 
 abbrev pub rows_of : Members → Option ℕ
-rows_of = number_at (codes "rows") 1 MAX_ROWS 256
+rows_of = number_at (codes "rows") 1 MAX_ROWS ROWS
 
 abbrev pub journal_of : Members → Option ℕ
-journal_of = number_at (codes "journal") 1 65536 1024
+journal_of = number_at (codes "journal") 1 MAX_JOURNAL JOURNAL
 
 abbrev pub deadline_of : Members → Option ℕ
-deadline_of = number_at (codes "deadline") 1 3600 60
+deadline_of = number_at (codes "deadline") 1 MAX_DEADLINE DEADLINE
 
 abbrev pub preview_limit_of : Members → Option ℕ
-preview_limit_of = number_at (codes "preview_limit") 0 MAX_PREVIEW 1024
+preview_limit_of = number_at (codes "preview_limit") 0 MAX_PREVIEW PREVIEW_LIMIT
 
 abbrev pub allow_limit_of : Members → Option ℕ
-allow_limit_of = number_at (codes "allow_limit") 0 MAX_ALLOW_LIMIT 65536
+allow_limit_of = number_at (codes "allow_limit") 0 MAX_ALLOW_LIMIT ALLOW_LIMIT
 
 abbrev pub window_of : Members → Option ℕ
-window_of = number_at (codes "window") 1 MAX_WINDOW 8192
+window_of = number_at (codes "window") 1 MAX_WINDOW WINDOW
 
 abbrev pub retry_of : Members → Option Bool
 retry_of document = truth_or true (get_member (codes "retry") document)

@@ -7,7 +7,8 @@ use Rattle.http_uri.specs.Uri.{Spells}
 use Rattle.http_uri.specs.declared.uri.Uri.{Uri as Target}
 use Rattle.adapt_bytes.specs.declared.limits.TheConstants.{MAX_CONNECTIONS}
 use Rattle.proxy_config.specs.Values.{number_or}
-use Rattle.proxy_config.specs.declared.services.TheConstants.{MAX_PATH}
+use Rattle.proxy_config.specs.declared.defaults.TheConstants.{CONNECTIONS, PORT}
+use Rattle.proxy_config.specs.declared.services.TheConstants.{MAX_PATH, MAX_PORT}
 use Rattle.proxy_config.specs.declared.point.ServicePoint.{ServicePoint}
 
 -- the text of a key, where its value is text
@@ -24,10 +25,10 @@ pub record IsServicePath (path : List ℕ) : Type 0 where
 pub record IsServicePoint (table : Members) (service : ServicePoint) : Type 0 where
   pub host : text_at (codes "host") table ≡ Some (string_bytes service.host)
   pub ip : IsIpv4Text (string_bytes service.host) (v4_ip service.address)
-  pub port : number_or 1 65535 1344 (get_member (codes "port") table) ≡ Some (v4_port service.address)
+  pub port : number_or 1 MAX_PORT PORT (get_member (codes "port") table) ≡ Some (v4_port service.address)
   pub path : text_at (codes "path") table ≡ Some (string_bytes service.path)
   pub good_path : IsServicePath (string_bytes service.path)
-  pub connections : number_or 1 MAX_CONNECTIONS 8 (get_member (codes "connections") table) ≡ Some service.connections
+  pub connections : number_or 1 MAX_CONNECTIONS CONNECTIONS (get_member (codes "connections") table) ≡ Some service.connections
 
 -- the point has no table, and no service; or a table, which says the service
 abbrev pub IsServiceOf : List ℕ → Members → Option ServicePoint → Type 0

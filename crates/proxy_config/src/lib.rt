@@ -5,8 +5,10 @@
 #![tactic(auto)]
 
 mod config;
+mod defaults;
 mod fault;
 mod hosts;
+mod limits;
 mod point;
 mod reading;
 mod services;
@@ -16,5 +18,6 @@ mod values;
 pub use config::Config;
 pub use fault::ConfigFault;
 pub use hosts::Hosts;
+pub use limits::MAX_SHARDS;
 pub use point::ServicePoint;
 pub use reading::read_config;

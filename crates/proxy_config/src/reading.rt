@@ -8,8 +8,12 @@ ghost use Rattle.proxy_config.specs.Config.{IsConfig, IsFirstFault, Refuses, num
 ghost use Rattle.proxy_config.specs.Fault.{IsFaultAt, Names};
 
 use crate::config::Config;
+use crate::defaults::{
+    ALLOW_LIMIT, CAPACITY, DEADLINE, JOURNAL, PREVIEW_LIMIT, ROWS, SHARDS, WINDOW,
+};
 use crate::fault::{ConfigFault, needed};
 use crate::hosts::read_hosts;
+use crate::limits::{MAX_DEADLINE, MAX_JOURNAL, MAX_SHARDS};
 use crate::services::read_point;
 use crate::unknown::check_keys;
 use crate::values::{address, number_or, truth_or};
@@ -43,14 +47,14 @@ fn read_table(alloc: Global, table: &Table) -> Result<Config, ConfigFault>
 {
     let listen = needed(alloc, "listen", address(table, "listen"))?;
     let admin = needed(alloc, "admin", address(table, "admin"))?;
-    let shards = number(alloc, table, "shards", 1, 64, 2)?;
-    let capacity = number(alloc, table, "capacity", 1, MAX_CAPACITY, 16_777_216)?;
-    let rows = number(alloc, table, "rows", 1, MAX_ROWS, 256)?;
-    let journal = number(alloc, table, "journal", 1, 65_536, 1_024)?;
-    let deadline = number(alloc, table, "deadline", 1, 3_600, 60)?;
-    let preview_limit = number(alloc, table, "preview_limit", 0, MAX_PREVIEW, 1_024)?;
-    let allow_limit = number(alloc, table, "allow_limit", 0, MAX_ALLOW_LIMIT, 65_536)?;
-    let window = number(alloc, table, "window", 1, MAX_WINDOW, 8_192)?;
+    let shards = number(alloc, table, "shards", 1, MAX_SHARDS, SHARDS)?;
+    let capacity = number(alloc, table, "capacity", 1, MAX_CAPACITY, CAPACITY)?;
+    let rows = number(alloc, table, "rows", 1, MAX_ROWS, ROWS)?;
+    let journal = number(alloc, table, "journal", 1, MAX_JOURNAL, JOURNAL)?;
+    let deadline = number(alloc, table, "deadline", 1, MAX_DEADLINE, DEADLINE)?;
+    let preview_limit = number(alloc, table, "preview_limit", 0, MAX_PREVIEW, PREVIEW_LIMIT)?;
+    let allow_limit = number(alloc, table, "allow_limit", 0, MAX_ALLOW_LIMIT, ALLOW_LIMIT)?;
+    let window = number(alloc, table, "window", 1, MAX_WINDOW, WINDOW)?;
     let retry = needed(alloc, "retry", truth_or(table, "retry", true))?;
     let hosts = read_hosts(alloc, table)?;
     let reqmod = read_point(alloc, table, "reqmod")?;

@@ -6,6 +6,7 @@ ghost use Rattle.toml.specs.View.{table_view};
 ghost use Rattle.proxy_config.specs.Fault.{Names};
 ghost use Rattle.proxy_config.specs.Services.{text_at, IsServicePath, IsServicePoint, IsServiceOf};
 
+use crate::defaults::{CONNECTIONS, PORT};
 use crate::fault::{ConfigFault, at_key, needed};
 use crate::point::ServicePoint;
 use crate::values::{number_or, value_of};
@@ -15,8 +16,8 @@ use std::alloc::{AllocError, Global};
 use std::net::{Ipv4Addr, SocketAddrV4};
 use toml::Table;
 
-/// The port of ICAP where none is written (RFC 3507, section 4.2).
-const ICAP_PORT: u64 = 1344;
+/// The greatest port.
+const MAX_PORT: u64 = 65_535;
 
 /// The most bytes of a path.
 const MAX_PATH: usize = 1024;
@@ -118,10 +119,10 @@ fn read_service(alloc: Global, table: &Table, point: &str) -> Result<ServicePoin
         alloc,
         point,
         "port",
-        number_or(table, "port", 1, 65535, ICAP_PORT),
+        number_or(table, "port", 1, MAX_PORT, PORT),
     )?;
     let path = of_point(alloc, point, "path", path(alloc, table)?)?;
-    let connections = number_or(table, "connections", 1, MAX_CONNECTIONS, 8);
+    let connections = number_or(table, "connections", 1, MAX_CONNECTIONS, CONNECTIONS);
     let connections = of_point(alloc, point, "connections", connections)?;
     Ok(ServicePoint {
         host: String::from_str(alloc, host)?,
