@@ -9,7 +9,7 @@ use crate::pools::{Pools, Spare};
 use crate::shard::Shard;
 use event_loop::{Base, Ended, Inbox, LoopFault, add_loop, run_loop, stop_all};
 use mio::net::TcpListener;
-use proxy_config::Config;
+use proxy_config::{Config, MAX_SHARDS};
 use service_pool::Pool;
 use socket_wire::Dial;
 use span_bank::{Bank, Ledgers};
@@ -20,9 +20,6 @@ use std::sync::{Mutex, Wait};
 use std::thread::{self, Threads};
 use std::time::Clock;
 use wire_kit::Gate;
-
-/// The most threads: as many as can be configured.
-const MAX_THREADS: usize = 64;
 
 /// Makes a base for each thread. The first one has the ports.
 fn make_bases<R: Net>(
@@ -113,7 +110,7 @@ where
     thread::for_each_mut(
         rt,
         places,
-        MAX_THREADS,
+        MAX_SHARDS as usize,
         &|number, place| {
             run_one(
                 rt, alloc, config, bank, request, response, gate, inboxes, left, number, place,
