@@ -1,4 +1,5 @@
 //! Responses of a service, of 509 bytes with 10 fields and of 1,489 bytes with 30, read so many times.
+use adapt_bytes::MAX_FIELDS;
 use httparse::Status;
 use httparse::spans::{EMPTY_HEADER_SPAN, parse_response};
 use icap_head::{NoMemory, read_response};
@@ -61,7 +62,7 @@ pub(crate) fn as_http(alloc: Global, text: &[u8]) -> Result<Vec<u8>, NoMemory> {
 pub(crate) fn parse_answers(text: &[u8], times: u64) -> u64 {
     let mut bytes: u64 = 0;
     for _ in 0..times {
-        let mut lines = [EMPTY_HEADER_SPAN; 100];
+        let mut lines = [EMPTY_HEADER_SPAN; MAX_FIELDS];
         if let Ok(Status::Complete(spans)) = parse_response(text, &mut lines) {
             bytes = bytes.saturating_add(spans.len as u64);
         }

@@ -1,4 +1,5 @@
 //! A request of 400 bytes with 10 fields, read and written so many times.
+use adapt_bytes::MAX_FIELDS;
 use http_side::{
     Encapsulated, Forward, Message, Part, encapsulated_head, forward_head, read_request,
 };
@@ -13,7 +14,7 @@ const REQUEST: &[u8] =
 pub(crate) fn parse_only(times: u64) -> u64 {
     let mut bytes: u64 = 0;
     for _ in 0..times {
-        let mut lines = [EMPTY_HEADER_SPAN; 100];
+        let mut lines = [EMPTY_HEADER_SPAN; MAX_FIELDS];
         if let Ok(Status::Complete(spans)) = parse_request(REQUEST, &mut lines) {
             bytes = bytes.saturating_add(spans.len as u64);
         }
