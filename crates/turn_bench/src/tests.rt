@@ -5,6 +5,7 @@ mod cases;
 mod cuts;
 mod moments;
 mod refusals;
+mod request_cuts;
 mod requests;
 mod retries;
 mod threads;

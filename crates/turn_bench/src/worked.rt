@@ -250,6 +250,25 @@ fn start<B: Ledgers, A: Wire + Drop>(
     requires claim { stake.claim ≡ claim_of plan limits.window }
     requires small { stake.claim ≤ MAX_CAPACITY }
 {
+    match proxy_rules::begin(alloc, beginning(wires, sides, plan, limits, stake)) {
+        Ok(tx) => Some(tx),
+        Err(start) => {
+            undo(rt, bank, start);
+            None
+        }
+    }
+}
+
+/// What the transaction begins with: the service's connection was used before where the request may begin anew.
+fn beginning<B: Ledgers, A: Wire + Drop>(
+    wires: Wires<A>,
+    sides: Sides,
+    plan: Plan,
+    limits: Limits,
+    stake: Stake<B>,
+) -> Beginning<B, A, CountedWire, CountedWire>
+    ensures { (result.plan ≡ plan) × (result.limits ≡ limits) × (result.stake ≡ stake) }
+{
     let Sides {
         source,
         service,
@@ -260,7 +279,7 @@ fn start<B: Ledgers, A: Wire + Drop>(
         service: service_wire,
         next_hop,
     } = wires;
-    let beginning = Beginning {
+    Beginning {
         plan,
         limits,
         stake,
@@ -275,13 +294,6 @@ fn start<B: Ledgers, A: Wire + Drop>(
         deadline: DEADLINE,
         now: BEGIN,
         reused: limits.retry,
-    };
-    match proxy_rules::begin(alloc, beginning) {
-        Ok(tx) => Some(tx),
-        Err(start) => {
-            undo(rt, bank, start);
-            None
-        }
     }
 }
 
