@@ -10,12 +10,10 @@ ghost use Rattle.adapt_turn.specs.Parts.{Breaks, SourcePart, HearPart};
 use crate::parts::{Passed, take_service, take_source};
 use adapt_hold::Hold;
 use adapt_sides::{Service, Source};
+use plan_rules::TURN_BYTES;
 use span_bank::{Bank, Ledgers};
 use std::sync::Wait;
 use wire_kit::Wire;
-
-/// The most body bytes that one pass moves.
-const PASS_BYTES: usize = 4096;
 
 /// A pass of the source's side, whose numbers are those of the history.
 pub(crate) fn read_source<B: Ledgers, S: Source, A: Wire>(
@@ -36,7 +34,7 @@ pub(crate) fn read_source<B: Ledgers, S: Source, A: Wire>(
     ensures roomy { IsRoomy hold.new }
 {
     let _state = hold.state();
-    let mut buf = [0; PASS_BYTES];
+    let mut buf = [0; TURN_BYTES as usize];
     let room = hold.original_room() as usize;
     take_source(rt, bank, hold, source, wire, &mut buf[..room])
 }
@@ -64,7 +62,7 @@ pub(crate) fn hear<B: Ledgers, V: Service, W: Wire>(
     ensures breaks { result.broken ≡ true → Breaks hold.new.history reused (V.fault service.new) }
 {
     let _state = hold.state();
-    let mut buf = [0; PASS_BYTES];
+    let mut buf = [0; TURN_BYTES as usize];
     let room = hold.adapted_room() as usize;
     take_service(rt, bank, hold, service, wire, &mut buf[..room], reused)
 }
