@@ -3,11 +3,16 @@ ghost use Rattle.std.specs.Prelude.{◌≡◌};
 
 mod cases;
 mod cuts;
+mod late;
 mod moments;
+mod plain;
 mod refusals;
 mod request_cuts;
 mod requests;
 mod retries;
+mod single_bytes;
+mod sizes;
+mod stops;
 mod threads;
 
 use crate::counted::CountedWire;
