@@ -1,8 +1,9 @@
 //! The bytes that a transaction holds, on the pages of its reservation.
 
-ghost use Rattle.std.specs.Prelude.{◌≡◌, ◌+◌, ◌-◌, ◌≤◌, ◌<◌, ◌^◌, ◌++◌, [], length};
+ghost use Rattle.std.specs.Prelude.{◌≡◌, ◌+◌, ◌-◌, ◌≤◌, ◌<◌, ◌++◌, [], length};
 ghost use Rattle.adapt_bytes.specs.declared.limits.TheConstants.{COUNT_LIMIT, MAX_CAPACITY};
 ghost use Rattle.span_tape.specs.Tape.{end_of, from_place, page_count, pages_in};
+ghost use Rattle.span_tape.specs.declared.tape.TheConstants.{MAX_TAPE};
 ghost use Rattle.span_bank.specs.Stakes.{most_pages};
 ghost use Rattle.adapt_hold.specs.Spans.{span_of, span_end, span_from, IsPaged};
 
@@ -40,7 +41,7 @@ fn keep<B: Ledgers>(
     requires some { 1 ≤ length bytes.now }
     requires room { stake.old.held + length bytes.now ≤ stake.old.claim }
     requires fits { end_of tape.old + length bytes.now < COUNT_LIMIT }
-    requires small { length tape.old.bytes + length bytes.now ≤ 2 ^ 50 }
+    requires small { length tape.old.bytes + length bytes.now ≤ MAX_TAPE }
     requires pages { stake.old.pages + page_count (tape.old.start + length tape.old.bytes + length bytes.now)
         ≤ most_pages (stake.old.held + length bytes.now) + pages_in tape.old }
     ensures tape { tape.new ≡ record tape.old { bytes = tape.old.bytes ++ bytes.now } }

@@ -4,5 +4,5 @@
 mod queue;
 mod tape;
 
-pub use crate::tape::SpanTape;
+pub use crate::tape::{MAX_TAPE, SpanTape};
 pub use span_bank::Pages;

@@ -1,9 +1,11 @@
 //! Bytes on pages: they come at the last page, and go at the first. A queue takes and frees no
 //! memory, and knows nothing of a tape's offsets.
-ghost use Rattle.std.specs.Prelude.{◌≡◌, ◌+◌, ◌-◌, ◌*◌, ◌/◌, ◌≤◌, ◌<◌, ◌^◌, [], ◌++◌, length, take, drop, min, IfSome, IfNone};
+ghost use Rattle.std.specs.Prelude.{◌≡◌, ◌+◌, ◌-◌, ◌*◌, ◌/◌, ◌≤◌, ◌<◌, [], ◌++◌, length, take, drop, min, IfSome, IfNone};
 ghost use Rattle.span_bank.specs.Chain.{text_of, down_of};
+ghost use Rattle.span_bank.specs.declared.chain.TheConstants.{MAX_PAGES};
 ghost use Rattle.span_tape.specs.Queue.{Paged};
 ghost use Rattle.span_tape.specs.Tape.{page_count};
+ghost use Rattle.span_tape.specs.declared.tape.TheConstants.{MAX_TAPE};
 
 use span_bank::{Chain, PAGE_BYTES, Page, Pages};
 use std::boxed::Box;
@@ -54,7 +56,7 @@ impl Queue {
     #[tactic(auto, using(crate::proofs::PageLemmas::length_down))]
     pub(crate) fn count(&self) -> u64
         ensures count { result ≡ self.now.count }
-        ensures within { result ≤ 2 ^ 41 }
+        ensures within { result ≤ 2 * MAX_PAGES }
         ensures text { length self.now.text ≡ PAGE_BYTES * self.now.count }
     {
         let front = self.front.count();
@@ -65,7 +67,7 @@ impl Queue {
     // Adds bytes behind the first `at`, which fill all pages but a part of the last one.
     #[tactic(auto, using(crate::proofs::PageLemmas::joined, crate::proofs::PageLemmas::length_down))]
     pub(crate) fn append(&mut self, at: u64, bytes: &[u8], pages: &mut Pages)
-        requires small { at + length bytes.now < 2 ^ 51 }
+        requires small { at + length bytes.now < 2 * MAX_TAPE }
         requires count { self.old.count ≡ page_count at }
         requires pages { page_count (at + length bytes.now) ≤ self.old.count + pages.old }
         ensures text { take (at + length bytes.now) self.new.text ≡ take at self.old.text ++ bytes.now }
@@ -97,7 +99,7 @@ impl Queue {
     #[tactic(auto, using(crate::proofs::PageLemmas::next_page))]
     pub(crate) fn take_first(&mut self, k: u64) -> Pages
         requires there { k ≤ self.old.count }
-        requires small { k ≤ 2 ^ 40 }
+        requires small { k ≤ MAX_PAGES }
         ensures text { self.new.text ≡ drop (PAGE_BYTES * k) self.old.text }
         ensures left { self.new.count + k ≡ self.old.count }
         ensures given { result ≡ k }
@@ -183,7 +185,7 @@ fn first_of(front: &mut Chain, back: &mut Chain) -> Option<Box<Page>>
 
 // Puts a page with bytes written on it behind the others, which stand last to first.
 fn put_last(back: &mut Chain, page: Box<Page>, at: usize, bytes: &[u8])
-    requires room { length back.old < 2 ^ 40 }
+    requires room { length back.old < MAX_PAGES }
     requires fits { at + length bytes.now ≤ PAGE_BYTES }
     requires alone { page.value.rest ≡ [] }
     ensures text { down_of back.new ≡ down_of back.old ++ (take at page.value.bytes ++ bytes.now ++ drop (at + length bytes.now) page.value.bytes) }
@@ -197,7 +199,7 @@ fn put_last(back: &mut Chain, page: Box<Page>, at: usize, bytes: &[u8])
 // Fills the last page of those that stand last to first, and says how many bytes that took.
 #[tactic(auto, using(crate::proofs::PageLemmas::first_page, crate::proofs::PageLemmas::length_down))]
 fn fill_last(back: &mut Chain, at: u64, bytes: &[u8]) -> usize
-    requires small { at + length bytes.now < 2 ^ 51 }
+    requires small { at + length bytes.now < 2 * MAX_TAPE }
     requires count { length back.old ≡ page_count at }
     ensures done { result ≤ length bytes.now }
     ensures same { length back.new ≡ length back.old }
@@ -223,7 +225,7 @@ fn fill_last(back: &mut Chain, at: u64, bytes: &[u8]) -> usize
 
 // Adds bytes behind the first `at` of those that stand last to first.
 fn append_last(back: &mut Chain, at: u64, bytes: &[u8], pages: &mut Pages)
-    requires small { at + length bytes.now < 2 ^ 51 }
+    requires small { at + length bytes.now < 2 * MAX_TAPE }
     requires count { length back.old ≡ page_count at }
     requires pages { page_count (at + length bytes.now) ≤ length back.old + pages.old }
     ensures text { take (at + length bytes.now) (down_of back.new) ≡ take at (down_of back.old) ++ bytes.now }

@@ -1,11 +1,15 @@
 //! The body bytes that are kept, by their offsets.
-ghost use Rattle.std.specs.Prelude.{◌≡◌, ◌+◌, ◌-◌, ◌<◌, ◌≤◌, ◌^◌, [], ◌++◌, length, take, drop, min};
+ghost use Rattle.std.specs.Prelude.{◌≡◌, ◌+◌, ◌-◌, ◌<◌, ◌≤◌, [], ◌++◌, length, take, drop, min};
 ghost use Rattle.adapt_bytes.specs.declared.limits.TheConstants.{COUNT_LIMIT};
 ghost use Rattle.span_tape.specs.Tape.{Tape, end_of, from_place, page_count, pages_in};
+ghost use Rattle.span_tape.specs.declared.tape.TheConstants.{MAX_TAPE};
 
 use crate::queue::Queue;
 use span_bank::{PAGE_BYTES, Pages};
 use std::marker::Model;
+
+/// The most bytes that a tape keeps.
+pub const MAX_TAPE: u64 = 1 << 50;
 
 /// A retained body buffer: the bytes of one body from an offset on, as far as they were appended.
 ///
@@ -21,10 +25,11 @@ pub struct SpanTape {
 }
 
 impl Model for SpanTape {
-    ghost use Rattle.std.specs.Prelude.{◌≡◌, ◌+◌, ◌*◌, ◌<◌, ◌≤◌, ◌^◌, take, drop, length};
+    ghost use Rattle.std.specs.Prelude.{◌≡◌, ◌+◌, ◌*◌, ◌<◌, ◌≤◌, take, drop, length};
     ghost use Rattle.adapt_bytes.specs.declared.limits.TheConstants.{COUNT_LIMIT};
     ghost use Rattle.span_bank.specs.declared.step.TheConstants.{PAGE_BYTES};
     ghost use Rattle.span_tape.specs.Tape.{Tape, page_count};
+    ghost use Rattle.span_tape.specs.declared.tape.TheConstants.{MAX_TAPE};
 
     ghost Value = { Tape };
 
@@ -34,7 +39,7 @@ impl Model for SpanTape {
       bytes = take t.len (drop t.start t.pages.text);
     } };
 
-    ghost invariant = { λ t. (t.base + t.len < COUNT_LIMIT) × (t.len ≤ 2 ^ 50)
+    ghost invariant = { λ t. (t.base + t.len < COUNT_LIMIT) × (t.len ≤ MAX_TAPE)
         × (t.start < PAGE_BYTES) × (t.len ≡ 0 → t.start ≡ 0)
         × (t.pages.count ≡ page_count (t.start + t.len))
         × (length t.pages.text ≡ PAGE_BYTES * t.pages.count) };
@@ -70,7 +75,7 @@ impl SpanTape {
 
     /// How many pages `n` bytes more need.
     pub fn pages_for(&self, n: u64) -> u64
-        requires { n ≤ 2 ^ 50 }
+        requires { n ≤ MAX_TAPE }
         ensures { result + pages_in self.now ≡ page_count (self.now.start + length self.now.bytes + n) }
     {
         (self.start + self.len + n).div_ceil(PAGE_BYTES) - self.pages.count()
@@ -80,7 +85,7 @@ impl SpanTape {
     #[tactic(auto, using(crate::proofs::PageLemmas::appended))]
     pub fn append(&mut self, bytes: &[u8], pages: &mut Pages)
         requires fits { end_of self.old + length bytes.now < COUNT_LIMIT }
-        requires small { length self.old.bytes + length bytes.now ≤ 2 ^ 50 }
+        requires small { length self.old.bytes + length bytes.now ≤ MAX_TAPE }
         requires pages { page_count (self.old.start + length self.old.bytes + length bytes.now) ≤ pages_in self.old + pages.old }
         ensures tape { self.new ≡ record self.old { bytes = self.old.bytes ++ bytes.now } }
         ensures pages { pages.new + pages_in self.new ≡ pages.old + pages_in self.old }
