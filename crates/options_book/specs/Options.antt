@@ -7,7 +7,7 @@ use Rattle.adapt_bytes.specs.Fields.{FieldList, values_of}
 use Rattle.icap_head.specs.Fields.{first_of}
 use Rattle.icap_head.specs.Heads.{Response}
 use Rattle.encapsulated.specs.Layouts.{IsLayout}
-use Rattle.options_book.specs.declared.judged.TheConstants.{MAX_TAG}
+use Rattle.options_book.specs.declared.judged.TheConstants.{MAX_ACCEPTED_TAG}
 use Rattle.encapsulated.specs.declared.Layout.{Layout}
 use Rattle.encapsulated.specs.declared.Method.TheVariants as Methods
 use Rattle.encapsulated.specs.declared.Direction.TheVariants as Directions
@@ -46,7 +46,7 @@ pub record HasTag (fields : FieldList) (tag : List ℕ) : Type 0 where
   pub first : first_of (codes "ISTag") fields ≡ Some value
   pub tag_is : tag ≡ unquoted value
   pub some : 1 ≤ length tag
-  pub fits : length tag ≤ MAX_TAG
+  pub fits : length tag ≤ MAX_ACCEPTED_TAG
 
 -- the three numbers, in this order: the preview's size, the most connections, and the seconds that the response stays fresh
 pub record AreNumbers (fields : FieldList) (preview connections ttl : Option ℕ) : Type 0 where

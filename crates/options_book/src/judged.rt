@@ -17,7 +17,7 @@ use std::alloc::Global;
 use trace_core::Point;
 
 /// The most bytes of a tag, without its quotes.
-const MAX_TAG: usize = 256;
+const MAX_ACCEPTED_TAG: usize = 256;
 
 /// The numbers of a response: bytes of a preview, connections, seconds.
 #[derive(Clone, Copy, Debug)]
@@ -63,7 +63,7 @@ fn read_tag(fields: &Fields) -> Option<&[u8]>
     ensures { MatchOption result ((tag : List ℕ) → HasTag (field_list fields.now) tag → ⊥) (λ tag. HasTag (field_list fields.now) tag.now) }
 {
     let tag = unquoted(fields.first(b"ISTag")?);
-    if tag.is_empty() || tag.len() > MAX_TAG {
+    if tag.is_empty() || tag.len() > MAX_ACCEPTED_TAG {
         return None;
     }
     Some(tag)
