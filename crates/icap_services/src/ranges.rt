@@ -3,7 +3,7 @@ ghost use Rattle.std.specs.Prelude.{◌≡◌, ◌↔◌, IsTrue, IsSome, IfSome
 ghost use Rattle.icap_services.specs.Ranges.{IsTag, is_tag_byte, AreInRange};
 ghost use Rattle.icap_services.specs.Texts.{Shown, shown};
 
-use crate::settings::{MAX_TAG, MAX_TTL};
+use crate::settings::{MAX_ISTAG, MAX_TTL};
 use crate::{NoMemory, Settings};
 use adapt_bytes::{MAX_CONNECTIONS, MAX_PREVIEW};
 use std::alloc::Global;
@@ -56,7 +56,7 @@ impl Settings {
 pub fn is_tag(text: &[u8]) -> bool
     ensures { IsTrue result ↔ IsTag text.now }
 {
-    !text.is_empty() && text.len() <= MAX_TAG && text.iter().all(|b| is_tag_byte(*b))
+    !text.is_empty() && text.len() <= MAX_ISTAG && text.iter().all(|b| is_tag_byte(*b))
 }
 
 /// Whether the byte may stand in an ISTag.
