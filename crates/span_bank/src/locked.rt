@@ -1,6 +1,6 @@
 //! What lies under the budget's lock: the totals with their journal, the books of the ledgers, and
 //! the store of pages.
-ghost use Rattle.std.specs.Prelude.{◌≡◌, ◌+◌, ◌-◌, ◌*◌, ◌/◌, ◌≤◌, ◌<◌, ◌^◌, ◌↔◌, ℕ, IsOk, IsErr, IfOk, IfErr, OnOk, OnErr, vec_len};
+ghost use Rattle.std.specs.Prelude.{◌≡◌, ◌+◌, ◌-◌, ◌*◌, ◌/◌, ◌≤◌, ◌<◌, ◌↔◌, ℕ, IsOk, IsErr, IfOk, IfErr, OnOk, OnErr, vec_len};
 ghost use Rattle.adapt_bytes.specs.declared.limits.TheConstants.{MAX_CAPACITY, MAX_ROWS};
 ghost use Rattle.span_bank.specs.declared.step.BankStep.TheVariants.{Open, Grow, Shrink, Reclaim, Close, Capacity};
 ghost use Rattle.span_bank.specs.declared.step.Resized.TheVariants.{Done, TooLow, Short};
@@ -223,12 +223,12 @@ impl<B: Ledgers> Locked<B> {
     /// and `fresh` has the pages that are missing. Pages that aren't needed are in `fresh` then.
     pub fn set_capacity(&mut self, n: u64, fresh: &mut Pages) -> Resized
         requires size { (1 ≤ n) × (n ≤ MAX_CAPACITY) }
-        requires fresh { fresh.old ≤ 2 ^ 30 }
+        requires fresh { fresh.old ≤ pages_of MAX_CAPACITY MAX_ROWS }
         ensures done { result ≡ Done → IsResized self.old self.new n fresh.old fresh.new }
         ensures low { (claimed : ℕ) → result ≡ TooLow claimed →
             (claimed ≡ self.old.state.journal.numbers.claimed) × (n < claimed) × IsUnchanged self.old self.new fresh.old fresh.new }
         ensures short { (more : ℕ) → result ≡ Short more →
-            (self.old.state.journal.numbers.claimed ≤ n) × (fresh.old < more) × (more ≤ 2 ^ 30) × IsUnchanged self.old self.new fresh.old fresh.new }
+            (self.old.state.journal.numbers.claimed ≤ n) × (fresh.old < more) × (more ≤ pages_of MAX_CAPACITY MAX_ROWS) × IsUnchanged self.old self.new fresh.old fresh.new }
         ensures sound { IsKept self.new.state }
     {
         let claimed = self.state.numbers().claimed;
