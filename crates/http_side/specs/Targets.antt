@@ -1,15 +1,16 @@
 -- The request targets that a proxy serves (RFC 9112, section 3.2).
-use Rattle.std.specs.Prelude.{◌≡◌, ℕ, Bool, true, false, not, ◌||◌, ◌&&◌, List, [], ◌∷◌, length, drop, take, ◌++◌, suc, if◌then◌else◌, slice_index, Option, Some, None, codes, ◌==◌, nat_lt, bytes_eq}
+use Rattle.std.specs.Prelude.{◌≡◌, ℕ, Bool, true, false, not, ◌||◌, ◌&&◌, List, [], ◌∷◌, length, drop, take, ◌++◌, suc, if◌then◌else◌, slice_index, Option, Some, None, codes, ◌==◌, nat_le, nat_lt, bytes_eq}
 use Rattle.std.specs.List.{list_any}
 use Rattle.http_uri.specs.Uri.{Spells, uri_scheme, uri_authority}
 use Rattle.http_uri.specs.Grammar.{authority_host}
 use Rattle.http_uri.specs.declared.uri.Uri.{Uri as Target}
+use Rattle.http_side.specs.declared.targets.TheConstants.{MAX_PORT}
 use Rattle.http_side.specs.Lengths.{length_value}
 use Rattle.http_side.specs.Heads.{RequestParts, is_options}
 
 abbrev pub is_port_number : Option ℕ → Bool
 is_port_number None = false
-is_port_number (Some n) = nat_lt 0 n && nat_lt n 65536
+is_port_number (Some n) = nat_lt 0 n && nat_le n MAX_PORT
 
 -- behind the colon: nothing, or a decimal from 1 to 65,535
 abbrev pub is_port : List ℕ → Bool
