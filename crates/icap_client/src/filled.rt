@@ -10,7 +10,7 @@ use bytes::BytesMut;
 use wire_kit::{Got, Wire};
 
 /// The most bytes of one read.
-const MAX_READ: usize = 4096;
+pub(crate) const MAX_READ: usize = 4096;
 
 /// What a read gave.
 #[derive(Clone, Copy, Debug, PartialEq, Eq)]

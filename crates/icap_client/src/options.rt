@@ -15,7 +15,7 @@ ghost use Rattle.wire_kit.specs.Past.{Past};
 use crate::blank_line::behind;
 use crate::body::read_run;
 use crate::events::refusal;
-use crate::filled::Filled;
+use crate::filled::{Filled, MAX_READ};
 use crate::kept::Kept;
 use crate::lists::has_body;
 use crate::request::options_request;
@@ -354,7 +354,7 @@ fn skip_body(chunks: &mut ChunkReader, raw: &[u8]) -> Result<Skipped, ChunkFault
     ensures all { IfOk result (λ skipped. skipped.ended ≡ false → drop skipped.used raw.now ≡ []) }
     ensures fault { IfErr result (λ fault. (part : List ℕ) × ((text body : List ℕ) → HasRead text body chunks.old → Breaks (text ++ raw.now) (body ++ part) fault)) }
 {
-    let mut scratch = [0; 4096];
+    let mut scratch = [0; MAX_READ];
     let mut used = 0;
     while used < raw.len() {
         match read_run(chunks, behind(raw, used), &mut scratch) {
