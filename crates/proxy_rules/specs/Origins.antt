@@ -1,5 +1,6 @@
 -- The parts of a request's target that say where it goes and how it is offered (RFC 9112, section 3.2.2; RFC 3986, section 3.2).
-use Rattle.std.specs.Prelude.{ℕ, ◌+◌, Bool, ◌||◌, ◌&&◌, List, [], ◌∷◌, drop, take, Option, Some, None, slice_index, if◌then◌else◌, ◌==◌, nat_lt}
+use Rattle.std.specs.Prelude.{ℕ, ◌+◌, Bool, ◌||◌, ◌&&◌, List, [], ◌∷◌, drop, take, Option, Some, None, slice_index, if◌then◌else◌, ◌==◌, nat_le, nat_lt}
+use Rattle.http_side.specs.declared.targets.TheConstants.{MAX_PORT}
 use Rattle.http_side.specs.Lengths.{length_value}
 use Rattle.http_side.specs.Targets.{count_before, before, from, is_delimiter}
 
@@ -33,7 +34,7 @@ host_of authority = take (host_len authority) authority
 -- a port lies between 1 and 65,535
 abbrev pub port_number : Option ℕ → Option ℕ
 port_number None = None
-port_number (Some n) = if nat_lt 0 n && nat_lt n 65536 then Some n else None
+port_number (Some n) = if nat_lt 0 n && nat_le n MAX_PORT then Some n else None
 
 -- behind the host: nothing, or a colon and the port's digits, which may be none
 abbrev pub port_in : List ℕ → Option ℕ

@@ -7,7 +7,7 @@ ghost use Rattle.proxy_rules.specs.Origins.{host_len, host_of, port_in, port_of}
 
 use crate::scan::{authority, behind, count_before, front};
 use adapt_bytes::{COUNT_LIMIT, read_decimal};
-use http_side::HttpRequest;
+use http_side::{HttpRequest, MAX_PORT};
 
 /// The origin that a target names.
 #[derive(Clone, Copy, Debug)]
@@ -45,7 +45,7 @@ fn port_in(text: &[u8]) -> Option<u16>
     match text {
         [] => None,
         [_, digits @ ..] => match number(digits) {
-            Some(number) if number > 0 && number < 65536 => Some(number as u16),
+            Some(number) if number > 0 && number <= MAX_PORT => Some(number as u16),
             _ => None,
         },
     }
