@@ -39,12 +39,13 @@ pub record Remembers {F : Type 0} (old new : Option F) (result : Result Turn F) 
   pub again : (fault : F) → old ≡ Some fault → result ≡ Err fault
   pub stays : (fault : F) → result ≡ Err fault → new ≡ Some fault
 
--- A read of the source's wire, which gave these bytes: In and End.
-pub record ReadsBody (old new : Seen → List ℕ → List ℕ → Type 0) (agrees_old agrees_new : Seen → Type 0) (old_fault new_fault : Option RelayFault) (rests : Type 0) (before after : Past → Type 0) (out : List ℕ) (result : Result Turn RelayFault) : Type 0 where
+-- A read of the source's wire, which gave these bytes: In and End. `all_framed` says that none of the bytes that are kept can be framed.
+pub record ReadsBody (old new : Seen → List ℕ → List ℕ → Type 0) (agrees_old agrees_new : Seen → Type 0) (old_fault new_fault : Option RelayFault) (rests all_framed : Type 0) (before after : Past → Type 0) (out : List ℕ) (result : Result Turn RelayFault) : Type 0 where
   pub delta : List ℕ
   pub wire : (p : Past) → before p → (q : Past) × after q × IsLater p delta [] q × HasReason relay.Device p q old_fault rests (λ past. past.read_waits) result
   pub only : AllAre is_of_source (events_of result)
   pub count : in_sum (events_of result) ≤ length out
+  pub framed : waits_of result ≡ true → all_framed
   pub legal : (x : Seen) → agrees_old x → x.closed ≡ false → MayAllFollow x (events_of result) × agrees_new (after_all x (events_of result))
   pub goes_on : (x : Seen) (body read : List ℕ) → old x body read → x.closed ≡ false
       → new (after_all x (events_of result)) (body ++ take (in_sum (events_of result)) out) (read ++ delta)
@@ -62,11 +63,12 @@ pub record Sends (x : Seen) (tape : Tape) (old new : List ℕ → Seen → List 
   pub fault : Remembers old_fault new_fault result
 
 -- A read of the service's wire, which gave these bytes: Heard, the replies, Ad and AdEnd.
-pub record Hears (x : Seen) (old new : Seen → List ℕ → List ℕ → Type 0) (old_fault new_fault : Option ClientFault) (rests : Type 0) (before after : Past → Type 0) (out : List ℕ) (result : Result Turn ClientFault) : Type 0 where
+pub record Hears (x : Seen) (old new : Seen → List ℕ → List ℕ → Type 0) (old_fault new_fault : Option ClientFault) (rests all_framed : Type 0) (before after : Past → Type 0) (out : List ℕ) (result : Result Turn ClientFault) : Type 0 where
   pub delta : List ℕ
   pub wire : (p : Past) → before p → (q : Past) × after q × IsLater p delta [] q × HasReason client.Device p q old_fault rests (λ past. past.read_waits) result
   pub only : AllAre is_of_replies (events_of result)
   pub count : ad_sum (events_of result) ≤ length out
+  pub framed : waits_of result ≡ true → all_framed
   pub legal : MayAllFollow x (events_of result)
   pub goes_on : (adapted read : List ℕ) → old x adapted read
       → new (after_all x (events_of result)) (adapted ++ take (ad_sum (events_of result)) out) (read ++ delta)

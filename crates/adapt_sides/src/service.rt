@@ -41,6 +41,9 @@ pub trait Service {
     // with so much room nothing is to be read
     ghost rests_reading: { Seen → ℕ → Self → Type 0 };
 
+    // with so much room, none of the bytes that it keeps can be framed
+    ghost is_framed: { ℕ → Self → Type 0 };
+
     /// The adapted message's head, once it was read.
     fn adapted_head(&self) -> Option<&[u8]>
         ensures { option_copied result ≡ adapted_head self.now };
@@ -80,7 +83,7 @@ pub trait Service {
         ensures response { (seen state.now.plan state.now.events).modified ≡ true → is_response self.new ≡ is_response self.old }
         ensures turn { Hears (seen state.now.plan state.now.events)
             (λ x adapted read. has_heard x adapted read self.old) (λ x adapted read. has_heard x adapted read self.new)
-            (fault self.old) (fault self.new) (rests_reading (seen state.now.plan state.now.events) (length out.old) self.new)
+            (fault self.old) (fault self.new) (rests_reading (seen state.now.plan state.now.events) (length out.old) self.new) (is_framed (length out.old) self.new)
             (W.past wire.old) (W.past wire.new) out.new result };
 
     /// Begins the same request anew, for a fresh connection, where a Retry may follow: all of its text is still kept.

@@ -38,6 +38,9 @@ pub trait Source {
     // with so much room there is nothing to read
     ghost rests: { ℕ → Self → Type 0 };
 
+    // with so much room, none of the bytes that it keeps can be framed
+    ghost is_framed: { ℕ → Self → Type 0 };
+
     /// Whether a message of this plan may begin here: its head was read, nothing behind it was framed yet, and a length that the
     /// plan knows is its own.
     fn begins(&self, plan: &Plan) -> bool
@@ -55,7 +58,7 @@ pub trait Source {
         ensures keeps { length out.new ≡ length out.old }
         ensures head { head self.new ≡ head self.old }
         ensures turn { ReadsBody (λ x body read. has_read x body read self.old) (λ x body read. has_read x body read self.new)
-            (λ x. agrees x self.old) (λ x. agrees x self.new) (fault self.old) (fault self.new) (rests (length out.old) self.new)
+            (λ x. agrees x self.old) (λ x. agrees x self.new) (fault self.old) (fault self.new) (rests (length out.old) self.new) (is_framed (length out.old) self.new)
             (W.past wire.old) (W.past wire.new) out.new result };
 
     // the other sides' events leave it

@@ -1,5 +1,6 @@
 pub mod Passes
 pub mod Stepped
+pub mod Paced
 pub mod Carry
 pub mod Told
 pub mod Moved

@@ -349,14 +349,14 @@ Closed cause passed = passed ≡ record { waiting = false; failed = Some cause; 
 abbrev WentOn : Turn → Passed → Type 0
 WentOn turn passed = passed ≡ record { waiting = turn.waiting; failed = None; broken = false }
 
-pub source_took : (h k : Holding) (turn : Turn) (events : List Event) (out : List ℕ) (ro rn : Seen → List ℕ → List ℕ → Type 0) (ao an : Seen → Type 0) (f0 f1 : Option RelayFault) (rests : ℕ → Type 0) (n room : ℕ) (before after_ : Past → Type 0) (passed : Passed)
+pub source_took : (h k : Holding) (turn : Turn) (events : List Event) (out : List ℕ) (ro rn : Seen → List ℕ → List ℕ → Type 0) (ao an : Seen → Type 0) (f0 f1 : Option RelayFault) (rests framed : ℕ → Type 0) (n room : ℕ) (before after_ : Past → Type 0) (passed : Passed)
     → n ≡ room → IsTied h → IsRoomy h → (shows h.history).closed ≡ false → ao (shows h.history) → length out ≤ original_room (shows h.history) h.claim h.limits.window
     → events ≡ turn.events.items
-    → ReadsBody ro rn ao an f0 f1 (rests n) before after_ out (Ok turn)
+    → ReadsBody ro rn ao an f0 f1 (rests n) (framed n) before after_ out (Ok turn)
     → k ≡ moved_all h events out → WentOn turn passed
-    → SourcePart h k ro rn an f0 f1 (rests room) before after_ passed
-source_took h k turn events out ro rn ao an f0 f1 rests n room before after_ passed same t r c a l e b0 is went =
-    let b = subst (λ (y : ℕ). ReadsBody ro rn ao an f0 f1 (rests y) before after_ out (Ok turn)) same b0 in
+    → SourcePart h k ro rn an f0 f1 (rests room) (framed room) before after_ passed
+source_took h k turn events out ro rn ao an f0 f1 rests framed n room before after_ passed same t r c a l e b0 is went =
+    let b = subst (λ (y : ℕ). ReadsBody ro rn ao an f0 f1 (rests y) (framed y) before after_ out (Ok turn)) same b0 in
     let legal = b.legal (shows h.history) a c in
     record {
       delta = b.delta;
@@ -364,17 +364,19 @@ source_took h k turn events out ro rn ao an f0 f1 rests n room before after_ pas
       reported = turn.events.items;
       part = took_part relay.Device source_cause h k is_of_source turn out b.delta [] b.delta f0 f1 (rests room) (λ past. past.read_waits) before after_ passed went b.wire b.only
           (source_runs h turn.events.items out t r legal.0 b.only b.count l) b.waiting (is ∙ ap (λ (es : List Event). moved_all h es out) e) (b.fault.sound turn refl);
+      few = omega (arith, b.count, l);
+      framed = λ w. b.framed (sym (ap (λ (y : Passed). y.waiting) went) ∙ w);
       agrees = legal.1;
       goes_on = λ body read h0. b.goes_on (shows h.history) body read h0 c;
     }
 
-pub source_failed : (h k : Holding) (fault : RelayFault) (out : List ℕ) (ro rn : Seen → List ℕ → List ℕ → Type 0) (ao an : Seen → Type 0) (f0 f1 : Option RelayFault) (rests : ℕ → Type 0) (n room : ℕ) (before after_ : Past → Type 0) (cause : Cause) (passed : Passed)
+pub source_failed : (h k : Holding) (fault : RelayFault) (out : List ℕ) (ro rn : Seen → List ℕ → List ℕ → Type 0) (ao an : Seen → Type 0) (f0 f1 : Option RelayFault) (rests framed : ℕ → Type 0) (n room : ℕ) (before after_ : Past → Type 0) (cause : Cause) (passed : Passed)
     → n ≡ room → IsRoomy h → (shows h.history).closed ≡ false → ao (shows h.history)
-    → ReadsBody ro rn ao an f0 f1 (rests n) before after_ out (Err fault)
+    → ReadsBody ro rn ao an f0 f1 (rests n) (framed n) before after_ out (Err fault)
     → cause ≡ source_cause fault → Closed cause passed → k ≡ moved h (Fail cause) []
-    → SourcePart h k ro rn an f0 f1 (rests room) before after_ passed
-source_failed h k fault out ro rn ao an f0 f1 rests n room before after_ cause passed same r c a b0 own did is =
-    let b = subst (λ (y : ℕ). ReadsBody ro rn ao an f0 f1 (rests y) before after_ out (Err fault)) same b0 in
+    → SourcePart h k ro rn an f0 f1 (rests room) (framed room) before after_ passed
+source_failed h k fault out ro rn ao an f0 f1 rests framed n room before after_ cause passed same r c a b0 own did is =
+    let b = subst (λ (y : ℕ). ReadsBody ro rn ao an f0 f1 (rests y) (framed y) before after_ out (Err fault)) same b0 in
     let legal = b.legal (shows h.history) a c in
     record {
       delta = b.delta;
@@ -382,6 +384,8 @@ source_failed h k fault out ro rn ao an f0 f1 rests n room before after_ cause p
       reported = [];
       part = failed_part relay.Device source_cause h k is_of_source fault [] b.delta [] b.delta f0 f1 (rests room) (λ past. past.read_waits) before after_ passed
           (did ∙ ap (λ (y : Cause). record { waiting = false; failed = Some y; broken = false }) own) b.wire (b.fault.stays fault refl) r c (is ∙ ap (λ (y : Cause). moved h (Fail y) []) own);
+      few = omega arith;
+      framed = λ w. absurd (false≢true (sym (ap (λ (y : Passed). y.waiting) did) ∙ w));
       agrees = legal.1;
       goes_on = λ body read h0. b.goes_on (shows h.history) body read h0 c;
     }
@@ -420,48 +424,59 @@ send_failed h k history tape fault so sn f0 f1 rests before after_ passed r c he
       goes_on = λ request came taken f s. b.goes_on request came taken (follows_span tape h.original came te f) s;
     }
 
-hears_at : (h : Holding) (history : History) (result : Result Turn ClientFault) (out : List ℕ) (so sn : Seen → List ℕ → List ℕ → Type 0) (f0 f1 : Option ClientFault) (rests : Seen → ℕ → Type 0) (n room : ℕ) (before after_ : Past → Type 0)
-    → n ≡ room → history ≡ h.history → Hears (shows history) so sn f0 f1 (rests (shows history) n) before after_ out result → Hears (shows h.history) so sn f0 f1 (rests (shows h.history) room) before after_ out result
-hears_at h history result out so sn f0 f1 rests n room before after_ same he b =
-    subst (λ (y : ℕ). Hears (shows h.history) so sn f0 f1 (rests (shows h.history) y) before after_ out result) same
-    (subst (λ (y : History). Hears (shows y) so sn f0 f1 (rests (shows y) n) before after_ out result) he b)
+hears_at : (h : Holding) (history : History) (result : Result Turn ClientFault) (out : List ℕ) (so sn : Seen → List ℕ → List ℕ → Type 0) (f0 f1 : Option ClientFault) (rests : Seen → ℕ → Type 0) (framed : ℕ → Type 0) (n room : ℕ) (before after_ : Past → Type 0)
+    → n ≡ room → history ≡ h.history → Hears (shows history) so sn f0 f1 (rests (shows history) n) (framed n) before after_ out result → Hears (shows h.history) so sn f0 f1 (rests (shows h.history) room) (framed room) before after_ out result
+hears_at h history result out so sn f0 f1 rests framed n room before after_ same he b =
+    subst (λ (y : ℕ). Hears (shows h.history) so sn f0 f1 (rests (shows h.history) y) (framed y) before after_ out result) same
+    (subst (λ (y : History). Hears (shows y) so sn f0 f1 (rests (shows y) n) (framed n) before after_ out result) he b)
 
-pub hear_runs : (h : Holding) (history : History) (turn : Turn) (events : List Event) (out : List ℕ) (so sn : Seen → List ℕ → List ℕ → Type 0) (f0 f1 : Option ClientFault) (rests : Type 0) (before after_ : Past → Type 0)
+pub hear_runs : (h : Holding) (history : History) (turn : Turn) (events : List Event) (out : List ℕ) (so sn : Seen → List ℕ → List ℕ → Type 0) (f0 f1 : Option ClientFault) (rests framed : Type 0) (before after_ : Past → Type 0)
     → IsTied h → IsRoomy h → history ≡ h.history → events ≡ turn.events.items → length out ≤ adapted_room (shows h.history) h.limits.window
-    → Hears (shows history) so sn f0 f1 rests before after_ out (Ok turn) → MayRun h events out
-hear_runs h history turn events out so sn f0 f1 rests before after_ t r he e l b =
+    → Hears (shows history) so sn f0 f1 rests framed before after_ out (Ok turn) → MayRun h events out
+hear_runs h history turn events out so sn f0 f1 rests framed before after_ t r he e l b =
     subst (λ (es : List Event). MayRun h es out) (sym e)
     (replies_run h turn.events.items out t r (subst (λ (y : History). MayAllFollow (shows y) turn.events.items) he b.legal) b.only b.count l)
 
-pub hear_took : (h k : Holding) (history : History) (turn : Turn) (events : List Event) (out : List ℕ) (so sn : Seen → List ℕ → List ℕ → Type 0) (f0 f1 : Option ClientFault) (rests : Seen → ℕ → Type 0) (n room : ℕ) (before after_ : Past → Type 0) (passed : Passed)
+-- a pass behind a fault doesn't wait
+not_waiting : (passed : Passed) {A B : Type 0} {cause : Cause} (b : Bool) → passed.broken ≡ b
+    → (passed.broken ≡ true → A × (passed ≡ record { waiting = false; failed = None; broken = true }))
+    → (passed.broken ≡ false → B × Closed cause passed) → passed.waiting ≡ true → ⊥
+not_waiting passed true e broke shut w = false≢true (sym (ap (λ (y : Passed). y.waiting) (broke e).1) ∙ w)
+not_waiting passed false e broke shut w = false≢true (sym (ap (λ (y : Passed). y.waiting) (shut e).1) ∙ w)
+
+pub hear_took : (h k : Holding) (history : History) (turn : Turn) (events : List Event) (out : List ℕ) (so sn : Seen → List ℕ → List ℕ → Type 0) (f0 f1 : Option ClientFault) (rests : Seen → ℕ → Type 0) (framed : ℕ → Type 0) (n room : ℕ) (before after_ : Past → Type 0) (passed : Passed)
     → n ≡ room → IsTied h → IsRoomy h → history ≡ h.history → events ≡ turn.events.items → length out ≤ adapted_room (shows h.history) h.limits.window
-    → Hears (shows history) so sn f0 f1 (rests (shows history) n) before after_ out (Ok turn)
+    → Hears (shows history) so sn f0 f1 (rests (shows history) n) (framed n) before after_ out (Ok turn)
     → k ≡ moved_all h events out → WentOn turn passed
-    → HearPart h k so sn f0 f1 (rests (shows h.history) room) before after_ passed
-hear_took h k history turn events out so sn f0 f1 rests n room before after_ passed same t r he e l b0 is went =
-    let b = hears_at h history (Ok turn) out so sn f0 f1 rests n room before after_ same he b0 in
+    → HearPart h k so sn f0 f1 (rests (shows h.history) room) (framed room) before after_ passed
+hear_took h k history turn events out so sn f0 f1 rests framed n room before after_ passed same t r he e l b0 is went =
+    let b = hears_at h history (Ok turn) out so sn f0 f1 rests framed n room before after_ same he b0 in
     record {
       delta = b.delta;
       out = out;
       reported = turn.events.items;
       part = took_part client.Device service_cause h k is_of_replies turn out b.delta [] b.delta f0 f1 (rests (shows h.history) room) (λ past. past.read_waits) before after_ passed went b.wire b.only
           (replies_run h turn.events.items out t r b.legal b.only b.count l) b.waiting (is ∙ ap (λ (es : List Event). moved_all h es out) e) (b.fault.sound turn refl);
+      few = omega (arith, b.count, l);
+      framed = λ w. b.framed (sym (ap (λ (y : Passed). y.waiting) went) ∙ w);
       goes_on = b.goes_on;
     }
 
-pub hear_failed : (h k : Holding) (history : History) (fault : ClientFault) (out : List ℕ) (so sn : Seen → List ℕ → List ℕ → Type 0) (f0 f1 : Option ClientFault) (rests : Seen → ℕ → Type 0) (n room : ℕ) (before after_ : Past → Type 0) (passed : Passed)
+pub hear_failed : (h k : Holding) (history : History) (fault : ClientFault) (out : List ℕ) (so sn : Seen → List ℕ → List ℕ → Type 0) (f0 f1 : Option ClientFault) (rests : Seen → ℕ → Type 0) (framed : ℕ → Type 0) (n room : ℕ) (before after_ : Past → Type 0) (passed : Passed)
     → n ≡ room → IsRoomy h → (shows h.history).closed ≡ false → history ≡ h.history
-    → Hears (shows history) so sn f0 f1 (rests (shows history) n) before after_ out (Err fault)
+    → Hears (shows history) so sn f0 f1 (rests (shows history) n) (framed n) before after_ out (Err fault)
     → (passed.broken ≡ true → (k ≡ h) × (passed ≡ record { waiting = false; failed = None; broken = true }))
     → (passed.broken ≡ false → (k ≡ moved h (Fail (service_cause fault)) []) × Closed (service_cause fault) passed)
-    → HearPart h k so sn f0 f1 (rests (shows h.history) room) before after_ passed
-hear_failed h k history fault out so sn f0 f1 rests n room before after_ passed same r c he b0 broke shut =
-    let b = hears_at h history (Err fault) out so sn f0 f1 rests n room before after_ same he b0 in
+    → HearPart h k so sn f0 f1 (rests (shows h.history) room) (framed room) before after_ passed
+hear_failed h k history fault out so sn f0 f1 rests framed n room before after_ passed same r c he b0 broke shut =
+    let b = hears_at h history (Err fault) out so sn f0 f1 rests framed n room before after_ same he b0 in
     record {
       delta = b.delta;
       out = [];
       reported = [];
       part = either_part client.Device service_cause h k is_of_replies fault b.delta [] b.delta f0 f1 (rests (shows h.history) room) (λ past. past.read_waits) before after_ passed passed.broken refl b.wire (b.fault.stays fault refl) r c broke shut;
+      few = omega arith;
+      framed = λ w. absurd (not_waiting passed passed.broken refl broke shut w);
       goes_on = b.goes_on;
     }
 

@@ -1,5 +1,5 @@
 -- What the pass of one side does to a transaction.
-use Rattle.std.specs.Prelude.{◌≡◌, ℕ, ◌<◌, ◌⊎◌, ⊤, Bool, true, false, List, [], ◌∷◌, ◌++◌, take, Option, Some, None}
+use Rattle.std.specs.Prelude.{◌≡◌, ℕ, ◌<◌, ◌≤◌, ◌⊎◌, ⊤, Bool, true, false, List, [], ◌∷◌, ◌++◌, take, Option, Some, None}
 use Rattle.trace_core.specs.declared.history.Event.{Event}
 use Rattle.trace_core.specs.declared.history.Event.TheVariants.{Fail, Retry}
 use Rattle.trace_core.specs.declared.history.Cause.{Cause}
@@ -8,6 +8,7 @@ use Rattle.trace_core.specs.declared.history.Seen.{Seen}
 use Rattle.trace_core.specs.History.{History}
 use Rattle.trace_core.specs.Legal.{MayFollow}
 use Rattle.trace_core.specs.Turns.{after_all, AllAre, in_sum, ad_sum, is_of_source, is_of_sending, is_of_replies, is_of_hop}
+use Rattle.plan_rules.specs.Room.{original_room, adapted_room}
 use Rattle.wire_kit.specs.Past.{Past, IsLater}
 use Rattle.adapt_sides.specs.declared.fault.ClientFault.{ClientFault}
 use Rattle.adapt_sides.specs.declared.fault.ClientFault.TheVariants as client
@@ -97,12 +98,14 @@ pub record Part {F : Type 0} (broken : F) (own : F → Cause) (old new : Holding
   pub tells : Tells delta reported passed
   pub sound : passed.failed ≡ None → passed.broken ≡ false → new_fault ≡ None
 
--- the source's wire gave these bytes
-pub record SourcePart (old new : Holding) (read_old read_new : Seen → List ℕ → List ℕ → Type 0) (agrees_new : Seen → Type 0) (old_fault new_fault : Option RelayFault) (rests : Type 0) (before after : Past → Type 0) (passed : Passed) : Type 0 where
+-- The source's wire gave these bytes, of the body no more than there was room for; where it waits, all is framed that may be.
+pub record SourcePart (old new : Holding) (read_old read_new : Seen → List ℕ → List ℕ → Type 0) (agrees_new : Seen → Type 0) (old_fault new_fault : Option RelayFault) (rests all_framed : Type 0) (before after : Past → Type 0) (passed : Passed) : Type 0 where
   pub delta : List ℕ
   pub out : List ℕ
   pub reported : List Event
   pub part : Part relay.Device source_cause old new is_of_source reported out delta [] delta old_fault new_fault rests (λ past. past.read_waits) before after passed
+  pub few : in_sum reported ≤ original_room (shows old.history) old.claim old.limits.window
+  pub framed : passed.waiting ≡ true → all_framed
   pub agrees : agrees_new (after_all (shows old.history) reported)
   pub goes_on : (body read : List ℕ) → read_old (shows old.history) body read
       → read_new (after_all (shows old.history) reported) (body ++ take (in_sum reported) out) (read ++ delta)
@@ -115,12 +118,14 @@ pub record SendPart (old new : Holding) (sent_old sent_new : List ℕ → Seen �
   pub goes_on : (request came taken : List ℕ) → EndsBody old.original came → sent_old request (shows old.history) came taken
       → sent_new request (after_all (shows old.history) reported) came (taken ++ delta)
 
--- the service's wire gave these bytes
-pub record HearPart (old new : Holding) (heard_old heard_new : Seen → List ℕ → List ℕ → Type 0) (old_fault new_fault : Option ClientFault) (rests : Type 0) (before after : Past → Type 0) (passed : Passed) : Type 0 where
+-- The service's wire gave these bytes, of the adapted body no more than there was room for; where it waits, all is framed that may be.
+pub record HearPart (old new : Holding) (heard_old heard_new : Seen → List ℕ → List ℕ → Type 0) (old_fault new_fault : Option ClientFault) (rests all_framed : Type 0) (before after : Past → Type 0) (passed : Passed) : Type 0 where
   pub delta : List ℕ
   pub out : List ℕ
   pub reported : List Event
   pub part : Part client.Device service_cause old new is_of_replies reported out delta [] delta old_fault new_fault rests (λ past. past.read_waits) before after passed
+  pub few : ad_sum reported ≤ adapted_room (shows old.history) old.limits.window
+  pub framed : passed.waiting ≡ true → all_framed
   pub goes_on : (adapted read : List ℕ) → heard_old (shows old.history) adapted read
       → heard_new (after_all (shows old.history) reported) (adapted ++ take (ad_sum reported) out) (read ++ delta)
 

@@ -117,7 +117,7 @@ pub(crate) fn take_source<B: Ledgers, S: Source, A: Wire>(
     requires agrees { S.agrees (shows hold.old.history) source.old }
     requires room { length out.old ≡ original_room (shows hold.old.history) hold.old.claim hold.old.limits.window }
     ensures part { SourcePart hold.old hold.new (λ x body read. S.has_read x body read source.old) (λ x body read. S.has_read x body read source.new)
-        (λ x. S.agrees x source.new) (S.fault source.old) (S.fault source.new) (S.rests (original_room (shows hold.old.history) hold.old.claim hold.old.limits.window) source.new)
+        (λ x. S.agrees x source.new) (S.fault source.old) (S.fault source.new) (S.rests (original_room (shows hold.old.history) hold.old.claim hold.old.limits.window) source.new) (S.is_framed (original_room (shows hold.old.history) hold.old.claim hold.old.limits.window) source.new)
         (A.past wire.old) (A.past wire.new) result }
     ensures head { S.head source.new ≡ S.head source.old }
     ensures whole { result.broken ≡ false }
@@ -217,7 +217,7 @@ pub(crate) fn take_service<B: Ledgers, V: Service, W: Wire>(
     requires roomy { IsRoomy hold.old }
     requires room { length out.old ≡ adapted_room (shows hold.old.history) hold.old.limits.window }
     ensures part { HearPart hold.old hold.new (λ x adapted read. V.has_heard x adapted read service.old) (λ x adapted read. V.has_heard x adapted read service.new)
-        (V.fault service.old) (V.fault service.new) (V.rests_reading (shows hold.old.history) (adapted_room (shows hold.old.history) hold.old.limits.window) service.new)
+        (V.fault service.old) (V.fault service.new) (V.rests_reading (shows hold.old.history) (adapted_room (shows hold.old.history) hold.old.limits.window) service.new) (V.is_framed (adapted_room (shows hold.old.history) hold.old.limits.window) service.new)
         (W.past wire.old) (W.past wire.new) result }
     ensures sent { (request came taken : List ℕ) → V.has_sent request (shows hold.old.history) came taken service.old → V.has_sent request (shows hold.old.history) came taken service.new }
     ensures rests { (x : Seen) → V.rests_writing x service.old → V.rests_writing x service.new }

@@ -190,6 +190,7 @@ impl<B: Ledgers, S: Source, V: Service, K: Hop, F: Forward<S, K>, A: Wire, W: Wi
         requires small { start.stake.claim ≤ MAX_CAPACITY }
         ensures accepts { IsOk result ↔ S.may_begin start.plan start.source }
         ensures begun { IfOk result (λ tx. tx.hold.history ≡ record { plan = start.plan; events = [] }) }
+        ensures holds { IfOk result (λ tx. (tx.hold.limits ≡ start.limits) × (tx.hold.claim ≡ start.stake.claim) × (tx.hold.held ≡ 0)) }
         ensures clock { IfOk result (λ tx. (tx.last_moved ≡ start.now) × (tx.deadline ≡ start.deadline)) }
         ensures line { IfOk result (λ tx. (tx.broken ≡ false) × (tx.reused ≡ start.reused)) }
         ensures stands { IfOk result (λ tx. (read request : List ℕ) → S.has_read (seen start.plan []) [] read start.source
@@ -317,6 +318,7 @@ fn begin_hold<B: Ledgers>(plan: Plan, limits: Limits, stake: Stake<B>) -> Hold<B
     requires small { stake.claim ≤ MAX_CAPACITY }
     ensures history { result.history ≡ record { plan = plan; events = [] } }
     ensures empty { (result.original ≡ record { base = 0; bytes = [] }) × (result.adapted ≡ record { base = 0; bytes = [] }) }
+    ensures rest { (result.limits ≡ limits) × (result.claim ≡ stake.claim) × (result.held ≡ 0) }
     ensures roomy { IsRoomy result }
 {
     Hold::new(plan, limits, stake)

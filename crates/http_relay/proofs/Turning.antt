@@ -10,7 +10,7 @@ use Rattle.wire_kit.specs.declared.wire.Got.{Got}
 use Rattle.wire_kit.specs.declared.wire.Got.TheVariants as got
 use Rattle.http_relay.specs.Asking.{IsGiven, Reads, after_ask}
 use Rattle.adapt_sides.specs.Turns.{HasReason, SaysWaiting, Remembers, ReadsBody, events_of, waits_of}
-use Rattle.http_relay.specs.Reading.{SideRead, SideReads, Rests, Gave, IsFilled, IsCause, IsReadDue, ReadsWhereDue, FitsGot, ReadTurn}
+use Rattle.http_relay.specs.Reading.{SideRead, SideReads, Rests, HasFramed, Gave, IsFilled, IsCause, IsReadDue, ReadsWhereDue, FitsGot, ReadTurn}
 use Rattle.adapt_sides.specs.declared.fault.RelayFault.{RelayFault}
 use Rattle.adapt_sides.specs.declared.fault.RelayFault.TheVariants.{Closed, Device, NoMemory}
 use Rattle.http_relay.specs.declared.fill.Filled.TheVariants as filled
@@ -326,12 +326,13 @@ reason room new p given (Some got.Fault) fault result f = record { device = λ e
 
 -- so it is what a transaction asks of a source
 pub as_source : (room : ℕ) (old new : SourceSide) (P Q : Past → Type 0) (out : List ℕ) (result : Result Turn RelayFault) → length out ≡ room → Remembers old.fault new.fault result → ReadTurn room old new P Q out result
-    → ReadsBody (λ x body read. SideRead x body read old) (λ x body read. SideRead x body read new) (λ x. Agrees x old.body) (λ x. Agrees x new.body) old.fault new.fault (Rests room new) P Q out result
+    → ReadsBody (λ x body read. SideRead x body read old) (λ x body read. SideRead x body read new) (λ x. Agrees x old.body) (λ x. Agrees x new.body) old.fault new.fault (Rests room new) (HasFramed room new) P Q out result
 as_source room old new P Q out result l k t = record {
   delta = t.delta;
   wire = λ p b. (after_ask p t.delta t.answer, t.wire.each p b, later_given p t.delta t.answer t.wire.fits, reason room new p t.delta t.answer old.fault result t.fits);
   only = t.reads.only;
   count = omega (arith, l, t.count);
+  framed = t.waits;
   legal = t.reads.legal;
   goes_on = λ x body read s c. t.reads.reads x body read s;
   waiting = t.waiting;
@@ -340,7 +341,7 @@ as_source room old new P Q out result l k t = record {
 
 -- a fault is answered again, and nothing else is done
 pub source_again : (room : ℕ) (s : SourceSide) (P : Past → Type 0) (out : List ℕ) (fault : RelayFault) → s.fault ≡ Some fault
-    → ReadsBody (λ x body read. SideRead x body read s) (λ x body read. SideRead x body read s) (λ x. Agrees x s.body) (λ x. Agrees x s.body) s.fault s.fault (Rests room s) P P out (Err fault)
+    → ReadsBody (λ x body read. SideRead x body read s) (λ x body read. SideRead x body read s) (λ x. Agrees x s.body) (λ x. Agrees x s.body) s.fault s.fault (Rests room s) (HasFramed room s) P P out (Err fault)
 source_again room s P out fault f =
     let k : SideReads s s [] [] [] = filled_more s s [] refl refl refl (sym (append-nil s.raw.items)) in
     record {
@@ -348,6 +349,7 @@ source_again room s P out fault f =
       wire = λ p b. (p, b, later_none p, record { device = λ e n. (let odd : Some fault ≡ None = sym f ∙ n in cc); waiting = λ w. cc });
       only = tt;
       count = zero_le (length out);
+      framed = λ w. cc;
       legal = k.legal;
       goes_on = λ x body read h c. k.reads x body read h;
       waiting = says_err fault [];

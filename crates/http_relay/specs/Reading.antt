@@ -98,6 +98,10 @@ pub record SideReads (old new : SourceSide) (events : List Event) (delta part : 
 abbrev pub Rests : ℕ → SourceSide → Type 0
 Rests room s = (s.body.ended ≡ true) ⊎ (room ≡ 0)
 
+-- with so much room, none of the bytes that are kept can be framed
+abbrev pub HasFramed : ℕ → SourceSide → Type 0
+HasFramed room s = MustWait s.body s.raw.items room
+
 -- ---- one read
 
 -- after a read that gave these bytes, on a wire that may have had each of these pasts

@@ -7,7 +7,7 @@ ghost use Rattle.http_relay.specs.declared.fill.TheConstants.{MAX_READ};
 ghost use Rattle.http_relay.specs.Source.{Agrees, MustWait, Refuses};
 ghost use Rattle.adapt_sides.specs.Turns.{ReadsBody};
 ghost use Rattle.http_relay.specs.Judging.{IsLooking};
-ghost use Rattle.http_relay.specs.Reading.{AtHead, GivesBack, request_of, response_of, SideRead, SideReads, Rests, ReadTurn};
+ghost use Rattle.http_relay.specs.Reading.{AtHead, GivesBack, request_of, response_of, SideRead, SideReads, Rests, HasFramed, ReadTurn};
 ghost use Rattle.trace_core.specs.declared.history.Seen.{Seen};
 ghost use Rattle.wire_kit.specs.Past.{Past};
 
@@ -151,7 +151,7 @@ impl SourceSide {
     /// A fault stays: every later turn answers it again.
     pub fn read_turn<W: Wire>(&mut self, wire: &mut W, out: &mut [u8]) -> Result<Turn, RelayFault>
         ensures source { ReadsBody (λ x body read. SideRead x body read self.old) (λ x body read. SideRead x body read self.new)
-            (λ x. Agrees x self.old.body) (λ x. Agrees x self.new.body) self.old.fault self.new.fault (Rests (length out.old) self.new) (W.past wire.old) (W.past wire.new) out.new result }
+            (λ x. Agrees x self.old.body) (λ x. Agrees x self.new.body) self.old.fault self.new.fault (Rests (length out.old) self.new) (HasFramed (length out.old) self.new) (W.past wire.old) (W.past wire.new) out.new result }
         ensures turn { self.old.fault ≡ None → ReadTurn (length out.old) self.old self.new (W.past wire.old) (W.past wire.new) out.new result }
         ensures head { self.new.head ≡ self.old.head }
 

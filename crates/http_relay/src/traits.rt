@@ -13,7 +13,7 @@ impl Source for SourceSide {
     ghost use Rattle.trace_core.specs.History.{seen};
     ghost use Rattle.http_relay.specs.declared.side.SourceHead.TheVariants as unread;
     ghost use Rattle.http_relay.specs.Source.{Agrees};
-    ghost use Rattle.http_relay.specs.Reading.{SideRead, Rests};
+    ghost use Rattle.http_relay.specs.Reading.{SideRead, Rests, HasFramed};
     ghost use Rattle.http_relay.specs.SourceLaws as laws;
 
     type Head = SourceHead;
@@ -29,6 +29,8 @@ impl Source for SourceSide {
     ghost may_begin = { λ plan s. (s.head ≡ unread.Unread → ⊥) × (s.fault ≡ None) × Agrees (seen plan []) s.body };
 
     ghost rests = { Rests };
+
+    ghost is_framed = { HasFramed };
 
     ghost others = { laws.others };
 

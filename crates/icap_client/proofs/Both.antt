@@ -24,6 +24,7 @@ use Rattle.icap_client.specs.Heard.{Reader, HasHeard}
 use Rattle.icap_client.proofs.Whole.{nothing_heard}
 use Rattle.icap_client.specs.Events.{Follows, ad_sum, is_of_replies}
 use Rattle.icap_client.specs.Sending.{HasSent, Came, KeepsUnsent, NothingDue}
+use Rattle.icap_client.specs.HeadFront.{HasToWait}
 use Rattle.icap_client.specs.Reading.{Side, SideHeard, NothingToRead, IsGiven, FitsGot, after_ask, CameOf, ReadTurn}
 use Rattle.icap_client.specs.Turns.{WriteTurn, Fits, FitsAnswer, events_of, waits_of, IsLater, SaysWaiting, Remembers, Sends, Hears}
 use Rattle.adapt_sides.specs.Turns.{HasReason as HasCause}
@@ -154,12 +155,13 @@ read_says x a old new room out delta (Err g) c = record { idle = λ h. cc; waits
 
 pub hears_by : (x : Seen) (a : Bool) (room : ℕ) (old new : Side) (P Q : Past → Type 0) (out : List ℕ) (result : Result Turn ClientFault) → old.fault ≡ None → room ≡ length out
     → ReadTurn x a room old new P Q out result → OnOk result (new.fault ≡ None) → ((g : ClientFault) → result ≡ Err g → new.fault ≡ Some g)
-    → Hears x (λ x adapted read. SideHeard x adapted read old) (λ x adapted read. SideHeard x adapted read new) old.fault new.fault (NothingToRead x a room new.reader.stage) P Q out result
+    → Hears x (λ x adapted read. SideHeard x adapted read old) (λ x adapted read. SideHeard x adapted read new) old.fault new.fault (NothingToRead x a room new.reader.stage) (HasToWait new.reader.stage new.raw room) P Q out result
 hears_by x a room old new P Q out (Ok turn) none long t sound stays = record {
   delta = t.given;
   wire = λ p b. (after_ask p t.given t.answer, t.wire.each p b, later_given p t.given t.answer t.wire.fits, read_cause x a room new.reader.stage p t.given t.answer old.fault (Ok turn) t.fits);
   only = t.came.0.only;
   count = omega (arith, t.came.1, long);
+  framed = λ h. (t.came.2 h).2;
   legal = t.came.0.legal;
   goes_on = t.came.0.heard;
   waiting = read_says x a old new room out t.given (Ok turn) t.came;
@@ -170,19 +172,21 @@ hears_by x a room old new P Q out (Err g) none long t sound stays = record {
   wire = λ p b. (after_ask p t.given t.answer, t.wire.each p b, later_given p t.given t.answer t.wire.fits, read_cause x a room new.reader.stage p t.given t.answer old.fault (Err g) t.fits);
   only = tt;
   count = omega arith;
+  framed = λ h. cc;
   legal = tt;
   goes_on = t.came.0.heard;
   waiting = read_says x a old new room out t.given (Err g) t.came;
   fault = record { sound = λ s e. cc; again = λ f e. cc; stays = stays };
 }
 
-pub hears_none : (x : Seen) (s : Side) (rests : Type 0) (g : ClientFault) (P Q : Past → Type 0) (out : List ℕ) → s.fault ≡ Some g → ((p : Past) → P p → Q p)
-    → Hears x (λ x adapted read. SideHeard x adapted read s) (λ x adapted read. SideHeard x adapted read s) s.fault s.fault rests P Q out (Err g)
-hears_none x s rests g P Q out e w = record {
+pub hears_none : (x : Seen) (s : Side) (rests all_framed : Type 0) (g : ClientFault) (P Q : Past → Type 0) (out : List ℕ) → s.fault ≡ Some g → ((p : Past) → P p → Q p)
+    → Hears x (λ x adapted read. SideHeard x adapted read s) (λ x adapted read. SideHeard x adapted read s) s.fault s.fault rests all_framed P Q out (Err g)
+hears_none x s rests all_framed g P Q out e w = record {
   delta = [];
   wire = λ p b. (p, w p b, later_none p, record { device = λ i n. cc; waiting = λ h. cc });
   only = tt;
   count = omega arith;
+  framed = λ h. cc;
   legal = tt;
   goes_on = λ adapted read h.
       subst (λ (t : List ℕ). SideHeard x t (read ++ []) s) (sym (append-nil adapted)) (subst (λ (t : List ℕ). SideHeard x adapted t s) (sym (append-nil read)) h);
@@ -196,16 +200,16 @@ stays_by k (Err f) s g e = let same : f ≡ g = cc in s ∙ ap Some same
 
 hears_case : (x : Seen) (a : Bool) (room : ℕ) (old new : Side) (P Q : Past → Type 0) (out : List ℕ) (result : Result Turn ClientFault) (fault : Option ClientFault) → old.fault ≡ fault → room ≡ length out
     → (old.fault ≡ None → ReadTurn x a room old new P Q out result) → OnOk result (new.fault ≡ None) → IfErr result (λ g. new.fault ≡ Some g) → IfSome fault (λ g. (result ≡ Err g) × (new ≡ old)) → IfSome fault (λ g. (p : Past) → P p → Q p)
-    → Hears x (λ x adapted read. SideHeard x adapted read old) (λ x adapted read. SideHeard x adapted read new) old.fault new.fault (NothingToRead x a room new.reader.stage) P Q out result
+    → Hears x (λ x adapted read. SideHeard x adapted read old) (λ x adapted read. SideHeard x adapted read new) old.fault new.fault (NothingToRead x a room new.reader.stage) (HasToWait new.reader.stage new.raw room) P Q out result
 hears_case x a room old new P Q out result None e long t o s f u = hears_by x a room old new P Q out result e long (t e) o (stays_by new.fault result s)
 hears_case x a room old new P Q out result (Some g) e long t o s f u =
-    subst (λ (r : Result Turn ClientFault). Hears x (λ x adapted read. SideHeard x adapted read old) (λ x adapted read. SideHeard x adapted read new) old.fault new.fault (NothingToRead x a room new.reader.stage) P Q out r) (sym f.0)
-    (subst (λ (n : Side). Hears x (λ x adapted read. SideHeard x adapted read old) (λ x adapted read. SideHeard x adapted read n) old.fault n.fault (NothingToRead x a room n.reader.stage) P Q out (Err g)) (sym f.1)
-    (hears_none x old (NothingToRead x a room old.reader.stage) g P Q out e u))
+    subst (λ (r : Result Turn ClientFault). Hears x (λ x adapted read. SideHeard x adapted read old) (λ x adapted read. SideHeard x adapted read new) old.fault new.fault (NothingToRead x a room new.reader.stage) (HasToWait new.reader.stage new.raw room) P Q out r) (sym f.0)
+    (subst (λ (n : Side). Hears x (λ x adapted read. SideHeard x adapted read old) (λ x adapted read. SideHeard x adapted read n) old.fault n.fault (NothingToRead x a room n.reader.stage) (HasToWait n.reader.stage n.raw room) P Q out (Err g)) (sym f.1)
+    (hears_none x old (NothingToRead x a room old.reader.stage) (HasToWait old.reader.stage old.raw room) g P Q out e u))
 
 pub hears_all : (x : Seen) (a : Bool) (room : ℕ) (old new : Side) (P Q : Past → Type 0) (out : List ℕ) (result : Result Turn ClientFault) → room ≡ length out
     → (old.fault ≡ None → ReadTurn x a room old new P Q out result) → OnOk result (new.fault ≡ None) → IfErr result (λ g. new.fault ≡ Some g) → IfSome old.fault (λ g. (result ≡ Err g) × (new ≡ old)) → IfSome old.fault (λ g. (p : Past) → P p → Q p)
-    → Hears x (λ x adapted read. SideHeard x adapted read old) (λ x adapted read. SideHeard x adapted read new) old.fault new.fault (NothingToRead x a room new.reader.stage) P Q out result
+    → Hears x (λ x adapted read. SideHeard x adapted read old) (λ x adapted read. SideHeard x adapted read new) old.fault new.fault (NothingToRead x a room new.reader.stage) (HasToWait new.reader.stage new.raw room) P Q out result
 hears_all x a room old new P Q out result long t o s f u = hears_case x a room old new P Q out result old.fault refl long t o s f u
 
 -- ---- the laws

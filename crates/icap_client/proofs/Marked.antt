@@ -154,15 +154,16 @@ sends_marked x tape old new fault kept P Q result mark same s = record {
   fault = s.fault;
 }
 
-pub hears_marked : (x : Seen) (old new : Service) (fault kept : Option ClientFault) (rests : Type 0) (P Q : Past → Type 0) (out : List ℕ) (result : Result Turn ClientFault)
+pub hears_marked : (x : Seen) (old new : Service) (fault kept : Option ClientFault) (rests all_framed : Type 0) (P Q : Past → Type 0) (out : List ℕ) (result : Result Turn ClientFault)
     → (old.answered ≡ is_answered x → new.answered ≡ is_answered (after_all x (events_of result)))
-    → Hears x (λ x adapted read. SideHeard x adapted read old.replies) (λ x adapted read. SideHeard x adapted read new.replies) fault kept rests P Q out result
-    → Hears x (λ x adapted read. ServiceHeard x adapted read old) (λ x adapted read. ServiceHeard x adapted read new) fault kept rests P Q out result
-hears_marked x old new fault kept rests P Q out result mark s = record {
+    → Hears x (λ x adapted read. SideHeard x adapted read old.replies) (λ x adapted read. SideHeard x adapted read new.replies) fault kept rests all_framed P Q out result
+    → Hears x (λ x adapted read. ServiceHeard x adapted read old) (λ x adapted read. ServiceHeard x adapted read new) fault kept rests all_framed P Q out result
+hears_marked x old new fault kept rests all_framed P Q out result mark s = record {
   delta = s.delta;
   wire = s.wire;
   only = s.only;
   count = s.count;
+  framed = s.framed;
   legal = s.legal;
   goes_on = λ adapted read h. record { heard = s.goes_on adapted read h.heard; answered = mark h.answered };
   waiting = s.waiting;

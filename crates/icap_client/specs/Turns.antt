@@ -16,6 +16,7 @@ use Rattle.chunk_writer.specs.Writer.{Writer, waiting, offered}
 use Rattle.icap_client.specs.Sending.{HasSent, Came, NothingDue, Decides}
 use Rattle.icap_client.specs.Events.{May, after_all, MayAllFollow, AllAre, is_of_sending}
 use Rattle.icap_client.specs.Reading.{Side, SideHeard, NothingToRead}
+use Rattle.icap_client.specs.HeadFront.{HasToWait}
 use Rattle.icap_client.specs.Laws.{IsWhole}
 use Rattle.icap_client.specs.declared.stage.Stage.{Stage}
 use Rattle.icap_client.specs.declared.stage.Stage.TheVariants.{Replies, Head, Body, Over}
@@ -80,6 +81,10 @@ pub record WriteTurn (x : Seen) (tape : Tape) (old new : Writer) (before after :
 -- nothing is to be read: the answer is whole, there is no room, or the preview isn't out
 abbrev pub RestsReading : Seen → ℕ → Service → Type 0
 RestsReading x room s = NothingToRead x (is_flushed s.writer) room s.replies.reader.stage
+
+-- with so much room, none of the bytes that are kept can be framed
+abbrev pub HasFramed : ℕ → Service → Type 0
+HasFramed room s = HasToWait s.replies.reader.stage s.replies.raw room
 
 -- a layout with a res-hdr
 abbrev pub is_response_in : Option Layout → Bool

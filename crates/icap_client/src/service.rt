@@ -13,7 +13,7 @@ ghost use Rattle.icap_client.specs.Reading.{ReadTurn};
 ghost use Rattle.icap_client.specs.Events.{after_all, May};
 ghost use Rattle.icap_client.specs.Sending.{KeepsUnsent, NothingDue, turn_events, LetsGo, KeepsOrDrops, KeepsNoText};
 ghost use Rattle.icap_client.specs.RequestHead.{request_head};
-ghost use Rattle.icap_client.specs.Turns.{ServiceSent, ServiceHeard, is_whole_request, is_reusable, is_answered, WriteTurn, Sends, Hears, RestsReading, events_of, is_flushed};
+ghost use Rattle.icap_client.specs.Turns.{ServiceSent, ServiceHeard, is_whole_request, is_reusable, is_answered, WriteTurn, Sends, Hears, RestsReading, HasFramed, events_of, is_flushed};
 
 use crate::answered::is_answered;
 use crate::decide::{decide, has_last_stop};
@@ -274,7 +274,7 @@ impl ServiceSide {
         ensures turn { self.old.replies.fault ≡ None → ReadTurn (seen state.now.plan state.now.events) (is_flushed self.old.writer) (length out.old) self.old.replies self.new.replies (W.past wire.old) (W.past wire.new) out.new result }
         ensures hears { Hears (seen state.now.plan state.now.events)
             (λ x adapted read. ServiceHeard x adapted read self.old) (λ x adapted read. ServiceHeard x adapted read self.new)
-            self.old.replies.fault self.new.replies.fault (RestsReading (seen state.now.plan state.now.events) (length out.old) self.new) (W.past wire.old) (W.past wire.new) out.new result }
+            self.old.replies.fault self.new.replies.fault (RestsReading (seen state.now.plan state.now.events) (length out.old) self.new) (HasFramed (length out.old) self.new) (W.past wire.old) (W.past wire.new) out.new result }
 
         // A turn that goes well leaves no fault. One that fails keeps its fault, and behind that the wire isn't touched.
         ensures sound { OnOk result (self.new.replies.fault ≡ None) }

@@ -1,16 +1,22 @@
 //! What holds of every head that goes on: each law is the contract of a function that does nothing.
 
-ghost use Rattle.std.specs.Prelude.{◌≡◌, ◌↔◌, ℕ, List, [], true, false, codes, MatchOption};
+ghost use Rattle.std.specs.Prelude.{◌≡◌, ◌↔◌, ℕ, Bool, List, [], Option, true, false, codes, MatchOption};
+ghost use Rattle.trace_core.specs.declared.history.Cause.{Cause};
+ghost use Rattle.trace_core.specs.declared.history.Seen.{Seen};
 ghost use Rattle.trace_core.specs.declared.tape.Tape.TheVariants.{Original, Adapted};
 ghost use Rattle.trace_core.specs.Held.{IsIn, IsNeeded};
 ghost use Rattle.adapt_hold.specs.Holding.{IsTied, interval, shows};
 ghost use Rattle.adapt_turn.specs.Made.{IsMade, adapted_of, response_of};
+ghost use Rattle.adapt_turn.specs.Parts.{IsOfSide};
 ghost use Rattle.adapt_turn.specs.Stands.{Texts};
+ghost use Rattle.http_relay.specs.declared.side.SourceHead.{SourceHead};
+ghost use Rattle.http_relay.specs.declared.side.SourceSide.{SourceSide as UserSide};
 ghost use Rattle.http_relay.specs.Reading.{SideRead};
 ghost use Rattle.icap_client.specs.Turns.{ServiceHeard};
 ghost use Rattle.http_side.specs.declared.forward.Forward.{Forward as Sent};
 ghost use Rattle.http_side.specs.Forward.{is_response, is_named_by, closes};
 ghost use Rattle.http_side.specs.Laws.{forwarded_fields};
+ghost use Rattle.proxy_rules.specs.Heads.{MakesNone};
 ghost use Rattle.proxy_rules.specs.Wires.{WiresTook};
 
 use crate::head_maker::HeadMaker;
@@ -26,6 +32,13 @@ use wire_kit::Wire;
 pub fn says_close_where_it_ends()
     ensures answer { (f : Sent) → is_response f.message ≡ true → is_named_by (forwarded_fields f) (codes "close") ≡ closes f }
     ensures request { (f : Sent) → is_response f.message ≡ false → is_named_by (forwarded_fields f) (codes "close") ≡ true }
+{}
+
+/// Why no head of a chosen message could be made lies with a side or with memory: it is never the deadline, and never a stop. So of a
+/// transaction of the proxy's own sides only a turn at its deadline fails it as Deadline, and only `halt` as Stopping.
+pub fn a_missing_head_is_of_a_side()
+    ensures side { (user : Option UserSide) (source : SourceHead) (x : Seen) (adapted : Option (List ℕ)) (is_response : Bool) (cause : Cause)
+        → MakesNone user source x adapted is_response cause → IsOfSide cause }
 {}
 
 /// Of a transaction of the proxy's own sides, wherever it stands: its source's wire gave a message with the original body, and its

@@ -7,6 +7,7 @@ ghost use Rattle.trace_core.specs.declared.history.Cause.TheVariants.{Deadline};
 ghost use Rattle.trace_core.specs.declared.history.Cause.TheVariants as causes;
 ghost use Rattle.trace_core.specs.declared.history.Point.TheVariants.{Reqmod, Respmod};
 ghost use Rattle.trace_core.specs.Legal.{MayFollow};
+ghost use Rattle.plan_rules.specs.declared.room.TheConstants.{TURN_BYTES};
 ghost use Rattle.plan_rules.specs.Room.{original_room, adapted_room};
 ghost use Rattle.wire_kit.specs.Past.{Past};
 ghost use Rattle.adapt_sides.specs.declared.fault.RelayFault.TheVariants.{Device};
@@ -31,13 +32,14 @@ use wire_kit::Wire;
 
 /// What a turn of a side answers, and why a transaction fails in it.
 pub trait Answering {
-    // Waiting: no byte moved and nothing was stepped, and each wire that the turn may use answered Wait, or nothing was due on it.
+    // Waiting: no byte moved and nothing was stepped, and each wire that the turn may use answered Wait, or nothing was due on it;
+    // none of the bytes that its side keeps can be framed.
     // Moved: so many bytes moved; where none did, an event of the side was stepped. Broken: the service's connection broke, and the
     // request may begin anew. Finished: so it had ended before, and a refusal that was due is out, or its wire has failed.
     ghost answers: { Self → Side → Self → Turned → Type 0 };
 
-    // Of an open one a turn steps events of its side, or Fail, and leaves the other sides and wires as they were, the writers too
-    // unless it fails; a message that is begun goes back to the user exactly where a request was offered and the service answers it.
+    // Of an open one a turn steps events of its side, or Fail, and leaves the other sides and wires as they were; unless it fails, the
+    // writers too, and it brings of its body no more than a turn may; a message that is begun goes back to the user exactly where a request was offered and the service answers it.
     // Of a closed one it leaves all but the user's writer and wire.
     ghost keeps: { Self → Side → Self → Type 0 };
 
@@ -59,9 +61,10 @@ impl<
         ((new.hold ≡ old.hold) × ⟦<Tx<B, S, V, K, F, A, W, C> as Going>⟧.moves old new 0
         × ((shows old.hold.history).closed ≡ true → ⟦<Tx<B, S, V, K, F, A, W, C> as Refusing>⟧.refusal_waits old new)
         × ((shows old.hold.history).closed ≡ false → BySide side
-        (Waited (S.rests (original_room (shows old.hold.history) old.hold.claim old.hold.limits.window) new.source) (λ past. past.read_waits) (A.past old.source_wire) (A.past new.source_wire))
-        (WaitedBoth (MatchOption new.service ⊤ (λ line. V.rests_writing (shows old.hold.history) line.side)) (MatchOption new.service ⊤ (λ line. V.rests_reading (shows old.hold.history) (adapted_room (shows old.hold.history) old.hold.limits.window) line.side))
+        ((Waited (S.rests (original_room (shows old.hold.history) old.hold.claim old.hold.limits.window) new.source) (λ past. past.read_waits) (A.past old.source_wire) (A.past new.source_wire)) × S.is_framed (original_room (shows old.hold.history) old.hold.claim old.hold.limits.window) new.source)
+        ((WaitedBoth (MatchOption new.service ⊤ (λ line. V.rests_writing (shows old.hold.history) line.side)) (MatchOption new.service ⊤ (λ line. V.rests_reading (shows old.hold.history) (adapted_room (shows old.hold.history) old.hold.limits.window) line.side))
         (λ p. MatchOption old.service ⊥ (λ line. W.past line.wire p)) (λ p. MatchOption new.service ⊥ (λ line. W.past line.wire p)))
+        × MatchOption new.service ⊤ (λ line. V.is_framed (adapted_room (shows old.hold.history) old.hold.limits.window) line.side))
         ((IsChosen (shows old.hold.history) → ⊥) ⊎ ((K.gift new.next ≡ nothing → K.gift new.back ≡ nothing → ⊥) × OfWriter (K.gift new.back)
         (Waited (K.rests (shows old.hold.history) new.next) (λ past. past.write_waits) (C.past old.next_wire) (C.past new.next_wire))
         (Waited (K.rests (shows old.hold.history) new.back) (λ past. past.write_waits) (A.past old.source_wire) (A.past new.source_wire))))))
@@ -75,9 +78,11 @@ impl<
 
     ghost keeps = { λ old side new. ((shows old.hold.history).closed ≡ false → TookBy (may_step side) old.hold new.hold
         × BySide side ((new.service ≡ old.service) × (new.next_wire ≡ old.next_wire)
-        × (((cause : Cause) → new.outcome ≡ outcomes.Fail cause → ⊥) → (new.next ≡ old.next) × (new.back ≡ old.back)))
+        × (((cause : Cause) → new.outcome ≡ outcomes.Fail cause → ⊥) → (new.next ≡ old.next) × (new.back ≡ old.back)
+        × ((shows new.hold.history).received ≤ (shows old.hold.history).received + TURN_BYTES)))
         ((new.source ≡ old.source) × (new.source_wire ≡ old.source_wire) × (new.next_wire ≡ old.next_wire)
-        × (((cause : Cause) → new.outcome ≡ outcomes.Fail cause → ⊥) → (new.next ≡ old.next) × (new.back ≡ old.back)))
+        × (((cause : Cause) → new.outcome ≡ outcomes.Fail cause → ⊥) → (new.next ≡ old.next) × (new.back ≡ old.back)
+        × ((shows new.hold.history).adapted_received ≤ (shows old.hold.history).adapted_received + TURN_BYTES)))
         ((new.source ≡ old.source) × (new.service ≡ old.service))
         × (K.gift old.back ≡ nothing → K.gift new.back ≡ message → answers_user (shows old.hold.history) (response_of V.is_response old.service) ≡ true)
         × (K.gift old.next ≡ nothing → K.gift new.next ≡ message → answers_user (shows old.hold.history) (response_of V.is_response old.service) ≡ false))

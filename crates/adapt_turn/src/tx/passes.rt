@@ -1,8 +1,9 @@
 //! A pass of the source's and of the service's side of a transaction.
 
-ghost use Rattle.std.specs.Prelude.{◌≡◌, ◌⊎◌, true, false, Some, None, MatchOption, ⊤};
+ghost use Rattle.std.specs.Prelude.{◌≡◌, ◌+◌, ◌≤◌, ◌⊎◌, true, false, Some, None, MatchOption, ⊤};
 ghost use Rattle.trace_core.specs.declared.history.Cause.{Cause};
 ghost use Rattle.trace_core.specs.declared.history.Seen.{Seen};
+ghost use Rattle.plan_rules.specs.declared.room.TheConstants.{TURN_BYTES};
 ghost use Rattle.plan_rules.specs.Room.{original_room, adapted_room};
 ghost use Rattle.adapt_sides.specs.declared.fault.RelayFault.TheVariants.{Device};
 ghost use Rattle.adapt_sides.specs.Turns.{Gift};
@@ -60,6 +61,8 @@ impl<B: Ledgers, S: Source, V: Service, K: Hop, F: Forward<S, K>, A: Wire, W: Wi
         ensures over { (cause : Cause) → result.failed ≡ Some cause → (shows self.new.hold.history).closed ≡ true }
         ensures idle { result.waiting ≡ true → result.failed ≡ None }
         ensures waits { result.waiting ≡ true → Waited (S.rests (original_room (shows self.old.hold.history) self.old.hold.claim self.old.hold.limits.window) self.new.source) (λ past. past.read_waits) (A.past self.old.source_wire) (A.past self.new.source_wire) }
+        ensures framed { result.waiting ≡ true → S.is_framed (original_room (shows self.old.hold.history) self.old.hold.claim self.old.hold.limits.window) self.new.source }
+        ensures paced { result.failed ≡ None → (shows self.new.hold.history).received ≤ (shows self.old.hold.history).received + TURN_BYTES }
         ensures still { result.waiting ≡ true → self.new.hold ≡ self.old.hold }
         ensures took { TookBy (may_step Side.Source) self.old.hold self.new.hold }
         ensures apart { (self.new.service ≡ self.old.service) × (self.new.next_wire ≡ self.old.next_wire) × (self.new.next ≡ self.old.next) × (self.new.back ≡ self.old.back) }
@@ -97,6 +100,7 @@ impl<B: Ledgers, S: Source, V: Service, K: Hop, F: Forward<S, K>, A: Wire, W: Wi
         ensures over { (cause : Cause) → result.failed ≡ Some cause → (shows self.new.hold.history).closed ≡ true }
         ensures idle { result.waiting ≡ true → result.failed ≡ None }
         ensures still { result.waiting ≡ true → self.new.hold ≡ self.old.hold }
+        ensures paced { (shows self.new.hold.history).adapted_received ≤ (shows self.old.hold.history).adapted_received }
         ensures took { TookBy (may_step Side.Service) self.old.hold self.new.hold }
         ensures apart { (self.new.source ≡ self.old.source) × (self.new.source_wire ≡ self.old.source_wire) × (self.new.next_wire ≡ self.old.next_wire) × (self.new.next ≡ self.old.next) × (self.new.back ≡ self.old.back) }
         ensures waits { result.waiting ≡ true → WaitedBeside (MatchOption self.new.service ⊤ (λ line. V.rests_writing (shows self.old.hold.history) line.side)) (λ past. past.write_waits) (λ past. past.read_waits)
@@ -142,6 +146,8 @@ impl<B: Ledgers, S: Source, V: Service, K: Hop, F: Forward<S, K>, A: Wire, W: Wi
         ensures waits { result.waiting ≡ true → WaitedBeside (MatchOption self.new.service ⊤ (λ line. V.rests_reading (shows self.old.hold.history) (adapted_room (shows self.old.hold.history) self.old.hold.limits.window) line.side)) (λ past. past.read_waits) (λ past. past.write_waits)
             (λ p. MatchOption self.old.service ⊥ (λ line. W.past line.wire p)) (λ p. MatchOption self.new.service ⊥ (λ line. W.past line.wire p)) }
         ensures still { result.waiting ≡ true → self.new.hold ≡ self.old.hold }
+        ensures framed { result.waiting ≡ true → MatchOption self.new.service ⊤ (λ line. V.is_framed (adapted_room (shows self.old.hold.history) self.old.hold.limits.window) line.side) }
+        ensures paced { (shows self.new.hold.history).adapted_received ≤ (shows self.old.hold.history).adapted_received + TURN_BYTES }
         ensures apart { (self.new.source ≡ self.old.source) × (self.new.source_wire ≡ self.old.source_wire) × (self.new.next_wire ≡ self.old.next_wire) × (self.new.next ≡ self.old.next) × (self.new.back ≡ self.old.back) }
         ensures took { TookBy (may_step Side.Service) self.old.hold self.new.hold }
         ensures active { result.waiting ≡ false → result.broken ≡ false → BytesOr (Advances (may_step Side.Service) self.old.hold self.new.hold) (λ p. MatchOption self.old.service ⊥ (λ line. W.past line.wire p)) (λ p. MatchOption self.new.service ⊥ (λ line. W.past line.wire p)) }
@@ -184,6 +190,8 @@ impl<B: Ledgers, S: Source, V: Service, K: Hop, F: Forward<S, K>, A: Wire, W: Wi
         ensures waits { result.waiting ≡ true → WaitedBoth (MatchOption self.new.service ⊤ (λ line. V.rests_writing (shows self.old.hold.history) line.side)) (MatchOption self.new.service ⊤ (λ line. V.rests_reading (shows self.old.hold.history) (adapted_room (shows self.old.hold.history) self.old.hold.limits.window) line.side))
             (λ p. MatchOption self.old.service ⊥ (λ line. W.past line.wire p)) (λ p. MatchOption self.new.service ⊥ (λ line. W.past line.wire p)) }
         ensures still { result.waiting ≡ true → self.new.hold ≡ self.old.hold }
+        ensures framed { result.waiting ≡ true → MatchOption self.new.service ⊤ (λ line. V.is_framed (adapted_room (shows self.old.hold.history) self.old.hold.limits.window) line.side) }
+        ensures paced { (shows self.new.hold.history).adapted_received ≤ (shows self.old.hold.history).adapted_received + TURN_BYTES }
         ensures took { TookBy (may_step Side.Service) self.old.hold self.new.hold }
         ensures apart { (self.new.source ≡ self.old.source) × (self.new.source_wire ≡ self.old.source_wire) × (self.new.next_wire ≡ self.old.next_wire) × (self.new.next ≡ self.old.next) × (self.new.back ≡ self.old.back) }
         ensures active { result.waiting ≡ false → result.broken ≡ false → BytesOr (Advances (may_step Side.Service) self.old.hold self.new.hold) (λ p. MatchOption self.old.service ⊥ (λ line. W.past line.wire p)) (λ p. MatchOption self.new.service ⊥ (λ line. W.past line.wire p)) }
@@ -224,6 +232,10 @@ impl<B: Ledgers, S: Source, V: Service, K: Hop, F: Forward<S, K>, A: Wire, W: Wi
         ensures waits_next { side ≡ Side.NextHop → result.waiting ≡ true → (IsChosen (shows self.old.hold.history) → ⊥) ⊎ ((K.gift self.new.next ≡ nothing → K.gift self.new.back ≡ nothing → ⊥) × OfWriter (K.gift self.new.back) (Waited (K.rests (shows self.old.hold.history) self.new.next) (λ past. past.write_waits) (C.past self.old.next_wire) (C.past self.new.next_wire))
             (Waited (K.rests (shows self.old.hold.history) self.new.back) (λ past. past.write_waits) (A.past self.old.source_wire) (A.past self.new.source_wire))) }
         ensures still { result.waiting ≡ true → self.new.hold ≡ self.old.hold }
+        ensures framed_source { side ≡ Side.Source → result.waiting ≡ true → S.is_framed (original_room (shows self.old.hold.history) self.old.hold.claim self.old.hold.limits.window) self.new.source }
+        ensures framed_service { side ≡ Side.Service → result.waiting ≡ true → MatchOption self.new.service ⊤ (λ line. V.is_framed (adapted_room (shows self.old.hold.history) self.old.hold.limits.window) line.side) }
+        ensures paced_source { side ≡ Side.Source → result.failed ≡ None → (shows self.new.hold.history).received ≤ (shows self.old.hold.history).received + TURN_BYTES }
+        ensures paced_service { side ≡ Side.Service → (shows self.new.hold.history).adapted_received ≤ (shows self.old.hold.history).adapted_received + TURN_BYTES }
         ensures took_source { side ≡ Side.Source → TookBy (may_step Side.Source) self.old.hold self.new.hold }
         ensures took_service { side ≡ Side.Service → TookBy (may_step Side.Service) self.old.hold self.new.hold }
         ensures took_next { side ≡ Side.NextHop → TookBy (may_step Side.NextHop) self.old.hold self.new.hold }

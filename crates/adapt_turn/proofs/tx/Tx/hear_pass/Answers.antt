@@ -10,6 +10,7 @@ use Rattle.adapt_turn.proofs.Told.{part_told}
 use Rattle.std.proofs.Common.{[], arith}
 use Rattle.adapt_turn.specs.declared.turned.Side.TheVariants.{Service}
 use Rattle.adapt_turn.proofs.Reasons.{part_still}
+use Rattle.adapt_turn.proofs.Paced.{part_adapted, adapted_few}
 use Rattle.adapt_turn.proofs.Rows.{part_took, part_acts, of_replies, line_acts}
 use Rattle.adapt_turn.proofs.tx.Tx.hear_pass.Goals as goal
 
@@ -56,3 +57,12 @@ returns-in-Some-clause-active g c = λ w b. line_acts c.args.self.now.service c.
 
 pub returns-in-Some-clause-unbroken : goal.returns-in-Some-clause-unbroken
 returns-in-Some-clause-unbroken g c = λ cause e. (c.args.self.now.hold, part_fails _ _ _ _ _ _ _ _ _ _ _ _ _ _ _ _ _ c.hear-passed.ensures.part.part cause e, c.hear-passed.ensures.unbroken cause e)
+
+pub returns-in-Some-clause-framed : goal.returns-in-Some-clause-framed
+returns-in-Some-clause-framed g c = λ e. c.hear-passed.ensures.part.framed e
+
+pub returns-in-Some-clause-paced : goal.returns-in-Some-clause-paced
+returns-in-Some-clause-paced g c =
+    let few = part_adapted _ _ _ _ _ _ _ _ _ _ _ _ _ _ _ _ _ c.state-state.ensures.tied c.hear-passed.ensures.part.part _ c.hear-passed.ensures.part.few in
+    let turn = adapted_few (shows c.args.self.now.hold.history) c.args.self.now.hold.limits.window in
+    omega (arith, few, turn)

@@ -11,6 +11,7 @@ use Rattle.std.proofs.Common.{[], arith, ap}
 use Rattle.adapt_turn.specs.Parts.{fault_of}
 use Rattle.adapt_turn.specs.declared.turned.Side.TheVariants.{Service}
 use Rattle.adapt_turn.proofs.Rows.{part_took, part_acts, of_sending, line_acts}
+use Rattle.adapt_turn.proofs.Paced.{part_adapted, none_of_sending}
 use Rattle.adapt_turn.proofs.tx.Tx.send_pass.Goals as goal
 
 pub returns-in-Some-clause-goes : goal.returns-in-Some-clause-goes
@@ -62,3 +63,8 @@ returns-in-Some-clause-took g c = part_took Service _ _ _ _ _ _ _ _ _ _ _ _ _ _ 
 
 pub returns-in-None-clause-took : goal.returns-in-None-clause-took
 returns-in-None-clause-took g c = ([], tt, refl)
+
+pub returns-in-Some-clause-paced : goal.returns-in-Some-clause-paced
+returns-in-Some-clause-paced g c =
+    let few = part_adapted _ _ _ _ _ _ _ _ _ _ _ _ _ _ _ _ _ c.state-state.ensures.tied c.send-passed.ensures.part.part 0 (none_of_sending _ c.send-passed.ensures.part.part.only) in
+    omega (arith, few)

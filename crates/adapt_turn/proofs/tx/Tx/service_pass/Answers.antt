@@ -1,5 +1,5 @@
 use Rattle.adapt_turn.proofs.Together.{goes_then}
-use Rattle.std.proofs.Common.{sym, ◌∙◌, ap}
+use Rattle.std.proofs.Common.{sym, ◌∙◌, ap, arith}
 use Rattle.std.proofs.lemmas.Bool.{false≢true}
 use Rattle.std.specs.Prelude.{MatchOption, ⊤}
 use Rattle.plan_rules.specs.Room.{adapted_room}
@@ -68,3 +68,16 @@ returns-else-sent-2-clause-took g c = took_both (may_step Service) c.args.self.n
 
 pub returns-else-sent-2-clause-apart : goal.returns-else-sent-2-clause-apart
 returns-else-sent-2-clause-apart g c = let a = c.hear_pass-heard.ensures.apart in let b = c.send_pass-sent.ensures.apart in (a.0 ∙ b.0, a.1 ∙ b.1, a.2 ∙ b.2, a.3 ∙ b.3, a.4 ∙ b.4)
+
+pub returns-then-sent-2-clause-framed : goal.returns-then-sent-2-clause-framed
+returns-then-sent-2-clause-framed g c = λ e. subst (λ (h : Holding). MatchOption c.hear_pass-heard.new.self.service ⊤ (λ line. g.V.Service.is_framed (adapted_room (shows h.history) h.limits.window) line.side))
+    (c.send_pass-sent.ensures.still c.if-sent-2.true) (c.hear_pass-heard.ensures.framed e)
+
+pub returns-then-is_closed-clause-framed : goal.returns-then-is_closed-clause-framed
+returns-then-is_closed-clause-framed g c = λ e. absurd (false≢true (sym c.requires.running ∙ ap (λ (h : Holding). (shows h.history).closed) (sym (c.send_pass-sent.ensures.still e)) ∙ sym c.is_closed.ensures ∙ c.if-is_closed.true))
+
+pub returns-then-sent-2-clause-paced : goal.returns-then-sent-2-clause-paced
+returns-then-sent-2-clause-paced g c = let a = c.send_pass-sent.ensures.paced in let b = c.hear_pass-heard.ensures.paced in omega (arith, a, b)
+
+pub returns-else-sent-2-clause-paced : goal.returns-else-sent-2-clause-paced
+returns-else-sent-2-clause-paced g c = let a = c.send_pass-sent.ensures.paced in let b = c.hear_pass-heard.ensures.paced in omega (arith, a, b)

@@ -1,6 +1,6 @@
 use Rattle.adapt_turn.proofs.Made.{made_by, made_on, heads_then, source_heads}
 use Rattle.adapt_turn.proofs.Together.{others_of, source_goes, disagree_goes}
-use Rattle.std.proofs.Common.{◌≡◌, Some, refl, sym, ap, ◌∙◌, subst}
+use Rattle.std.proofs.Common.{◌≡◌, Some, None, refl, sym, ap, ◌∙◌, subst}
 use Rattle.adapt_turn.specs.declared.parts.Passed.{Passed}
 use Rattle.trace_core.specs.History.{History}
 use Rattle.adapt_hold.specs.Holding.{shows}
@@ -10,6 +10,8 @@ use Rattle.std.proofs.Common.{arith}
 use Rattle.trace_core.specs.declared.history.Cause.TheVariants as causes
 use Rattle.adapt_turn.specs.declared.turned.Side.TheVariants.{Source}
 use Rattle.adapt_turn.proofs.Reasons.{part_still}
+use Rattle.adapt_turn.proofs.Paced.{part_received, original_few}
+use Rattle.std.proofs.lemmas.Bool.{false≢true}
 use Rattle.adapt_turn.proofs.Rows.{part_took, part_acts, of_source, untouched_or, fail_advances, took_fail}
 use Rattle.adapt_turn.proofs.tx.Tx.source_pass.Goals as goal
 
@@ -61,3 +63,15 @@ returns-then-agrees_with-clause-took g c = part_took Source _ _ _ _ _ _ _ _ _ _ 
 
 pub returns-else-agrees_with-clause-took : goal.returns-else-agrees_with-clause-took
 returns-else-agrees_with-clause-took g c = took_fail Source c.args.self.now.hold c.close-passed.new.hold causes.Source c.requires.running c.close-passed.ensures.moved
+
+pub returns-then-agrees_with-clause-framed : goal.returns-then-agrees_with-clause-framed
+returns-then-agrees_with-clause-framed g c = λ e. c.read_source-passed.ensures.part.framed e
+
+pub returns-else-agrees_with-clause-framed : goal.returns-else-agrees_with-clause-framed
+returns-else-agrees_with-clause-framed g c = λ e. absurd (false≢true (sym (ap (λ (z : Passed). z.waiting) c.close-passed.ensures.passed) ∙ e))
+
+pub returns-then-agrees_with-clause-paced : goal.returns-then-agrees_with-clause-paced
+returns-then-agrees_with-clause-paced g c = λ n. part_received _ _ _ _ _ _ _ _ _ _ _ _ _ _ _ _ _ c.state-state.ensures.tied c.read_source-passed.ensures.part.part _ c.read_source-passed.ensures.part.few (original_few _ _ _)
+
+pub returns-else-agrees_with-clause-paced : goal.returns-else-agrees_with-clause-paced
+returns-else-agrees_with-clause-paced g c = λ n. (let d : Some causes.Source ≡ None = sym (ap (λ (z : Passed). z.failed) c.close-passed.ensures.passed) ∙ n in absurd cc)

@@ -21,6 +21,8 @@ use Rattle.adapt_turn.proofs.ByTurn.{unfailed, by_answer, for_side, of_either, o
 use Rattle.adapt_turn.specs.declared.turned.Turned.TheVariants as answers
 use Rattle.std.proofs.Common.{true, false, [], Some, None, arith}
 use Rattle.adapt_turn.specs.Made.{response_of, answers_user}
+use Rattle.std.specs.Prelude.{MatchOption, ⊤}
+use Rattle.adapt_turn.proofs.Paced.{paced_kept}
 use Rattle.adapt_turn.proofs.tx.Tx.turn.Goals as goal
 
 pub returns-then-is_broken-clause-goes : goal.returns-then-is_broken-clause-goes
@@ -70,8 +72,8 @@ returns-clause-answers g c = by_answer c.after_pass.result _ _ _ _
           c.pass-passed.ensures.served c.after_pass.ensures.kept.1 c.after_pass.ensures.kept.2 c.after_pass.ensures.kept.3 (sym (c.after_pass.ensures.waiting w).1 ∙ c.since-moved.ensures),
       λ k. absurd (false≢true (sym (sym c.is_closed.ensures ∙ c.if-is_closed.false) ∙ k)),
       λ k. for_side c.args.side _ _ _
-          (λ s. waits_kept (λ z. g.S.Source.rests (original_room (shows c.args.self.now.hold.history) c.args.self.now.hold.claim c.args.self.now.hold.limits.window) z) g.A.Wire.past _ _ c.pass-passed.new.self.source c.after_pass.new.self.source c.pass-passed.new.self.source_wire c.after_pass.new.self.source_wire c.after_pass.ensures.kept.0 c.after_pass.ensures.kept.1 (c.pass-passed.ensures.waits_source s (c.after_pass.ensures.waiting w).0))
-          (λ s. both_kept (λ l. g.V.Service.rests_writing (shows c.args.self.now.hold.history) l.side) (λ l. g.V.Service.rests_reading (shows c.args.self.now.hold.history) (adapted_room (shows c.args.self.now.hold.history) c.args.self.now.hold.limits.window) l.side) (λ l p. g.W.Wire.past l.wire p) _ c.pass-passed.new.self.service c.after_pass.new.self.service c.after_pass.ensures.kept.2 (c.pass-passed.ensures.waits_service s (c.after_pass.ensures.waiting w).0))
+          (λ s. (waits_kept (λ z. g.S.Source.rests (original_room (shows c.args.self.now.hold.history) c.args.self.now.hold.claim c.args.self.now.hold.limits.window) z) g.A.Wire.past _ _ c.pass-passed.new.self.source c.after_pass.new.self.source c.pass-passed.new.self.source_wire c.after_pass.new.self.source_wire c.after_pass.ensures.kept.0 c.after_pass.ensures.kept.1 (c.pass-passed.ensures.waits_source s (c.after_pass.ensures.waiting w).0), subst (λ z. g.S.Source.is_framed (original_room (shows c.args.self.now.hold.history) c.args.self.now.hold.claim c.args.self.now.hold.limits.window) z) (sym c.after_pass.ensures.kept.0) (c.pass-passed.ensures.framed_source s (c.after_pass.ensures.waiting w).0)))
+          (λ s. (both_kept (λ l. g.V.Service.rests_writing (shows c.args.self.now.hold.history) l.side) (λ l. g.V.Service.rests_reading (shows c.args.self.now.hold.history) (adapted_room (shows c.args.self.now.hold.history) c.args.self.now.hold.limits.window) l.side) (λ l p. g.W.Wire.past l.wire p) _ c.pass-passed.new.self.service c.after_pass.new.self.service c.after_pass.ensures.kept.2 (c.pass-passed.ensures.waits_service s (c.after_pass.ensures.waiting w).0), subst (λ z. MatchOption z ⊤ (λ l. g.V.Service.is_framed (adapted_room (shows c.args.self.now.hold.history) c.args.self.now.hold.limits.window) l.side)) (sym c.after_pass.ensures.kept.2) (c.pass-passed.ensures.framed_service s (c.after_pass.ensures.waiting w).0)))
           (λ s. elim (c.pass-passed.ensures.waits_next s (c.after_pass.ensures.waiting w).0) [
             | inl u ↦ inl u
             | inr v ↦ inr (
@@ -201,14 +203,14 @@ returns-clause-keeps g c = (
           c.after_pass.ensures.kept.2 ∙ a.0,
           c.after_pass.ensures.kept.3 ∙ a.1,
           λ n.
-              let w = c.after_pass.ensures.same (unfailed c.pass-passed.result.failed c.after_pass.new.self.outcome (c.after_pass.ensures.outcome ∙ c.pass-passed.ensures.outcome) n) in (w.0 ∙ a.2, w.1 ∙ a.3),
+              let w = c.after_pass.ensures.same (unfailed c.pass-passed.result.failed c.after_pass.new.self.outcome (c.after_pass.ensures.outcome ∙ c.pass-passed.ensures.outcome) n) in (w.0 ∙ a.2, w.1 ∙ a.3, paced_kept _ (λ x. x.received) c.pass-passed.new.self.hold c.after_pass.new.self.hold c.after_pass.ensures.hold (c.pass-passed.ensures.paced_source s (unfailed c.pass-passed.result.failed c.after_pass.new.self.outcome (c.after_pass.ensures.outcome ∙ c.pass-passed.ensures.outcome) n))),
         ))
         (λ s. let a = c.pass-passed.ensures.apart_service s in (
           c.after_pass.ensures.kept.0 ∙ a.0,
           c.after_pass.ensures.kept.1 ∙ a.1,
           c.after_pass.ensures.kept.3 ∙ a.2,
           λ n.
-              let w = c.after_pass.ensures.same (unfailed c.pass-passed.result.failed c.after_pass.new.self.outcome (c.after_pass.ensures.outcome ∙ c.pass-passed.ensures.outcome) n) in (w.0 ∙ a.3, w.1 ∙ a.4),
+              let w = c.after_pass.ensures.same (unfailed c.pass-passed.result.failed c.after_pass.new.self.outcome (c.after_pass.ensures.outcome ∙ c.pass-passed.ensures.outcome) n) in (w.0 ∙ a.3, w.1 ∙ a.4, paced_kept _ (λ x. x.adapted_received) c.pass-passed.new.self.hold c.after_pass.new.self.hold c.after_pass.ensures.hold (c.pass-passed.ensures.paced_service s)),
         ))
         (λ s. let a = c.pass-passed.ensures.apart_next s in (c.after_pass.ensures.kept.0 ∙ a.0, c.after_pass.ensures.kept.2 ∙ a.1)),
     λ n m. let w = c.after_pass.ensures.messages.1 m in
@@ -244,7 +246,7 @@ pub returns-then-is_broken-clause-keeps : goal.returns-then-is_broken-clause-kee
 returns-then-is_broken-clause-keeps g c = (
   λ o. (
     ([], tt, refl),
-    for_side c.args.side _ _ _ (λ s. (refl, refl, λ n. (refl, refl))) (λ s. (refl, refl, refl, λ n. (refl, refl))) (λ s. (refl, refl)),
+    for_side c.args.side _ _ _ (λ s. (refl, refl, λ n. (refl, refl, omega arith))) (λ s. (refl, refl, refl, λ n. (refl, refl, omega arith))) (λ s. (refl, refl)),
     λ n m. absurd (idle_no_message _ n m),
     λ n m. absurd (idle_no_message _ n m),
   ),

@@ -5,6 +5,7 @@ use Rattle.trace_core.specs.History.{seen}
 use Rattle.adapt_sides.specs.declared.turn.Turn.{Turn}
 use Rattle.adapt_sides.specs.declared.fault.ClientFault.{ClientFault}
 use Rattle.icap_client.specs.Events.{after_all}
+use Rattle.icap_client.specs.HeadFront.{HasToWait}
 use Rattle.icap_client.specs.Reading.{Side, SideHeard, NothingToRead}
 use Rattle.icap_client.specs.Turns.{Service, Hears, is_answered, is_flushed}
 use Rattle.icap_client.proofs.LetGo.{flushed_still}
@@ -27,12 +28,12 @@ returns-in-Ok-clause-hears g c =
     ∙ (ap (λ (s : Seen). is_answered (after_all s c.as_slice.result.now)) c.seen.ensures
     ∙ ap (λ (es : List Event). is_answered (after_all y es)) slice) in
     let flushed : c.flushed-all_sent.result ≡ is_flushed new.writer = c.flushed-all_sent.ensures ∙ sym (flushed_still c.self.inside.writer new.writer c.let_go.ensures.writer) in
-    hears_marked y c.args.self.now new c.args.self.now.replies.fault new.replies.fault (NothingToRead y (is_flushed new.writer) room new.replies.reader.stage) P Q c.read_turn.new.out result (λ e. c.let_go.ensures.answered ∙ mark)
-    (subst (λ (s : Side). Hears y (λ x adapted read. SideHeard x adapted read c.args.self.now.replies) (λ x adapted read. SideHeard x adapted read s) c.args.self.now.replies.fault s.fault (NothingToRead y (is_flushed new.writer) room s.reader.stage)
+    hears_marked y c.args.self.now new c.args.self.now.replies.fault new.replies.fault (NothingToRead y (is_flushed new.writer) room new.replies.reader.stage) (HasToWait new.replies.reader.stage new.replies.raw room) P Q c.read_turn.new.out result (λ e. c.let_go.ensures.answered ∙ mark)
+    (subst (λ (s : Side). Hears y (λ x adapted read. SideHeard x adapted read c.args.self.now.replies) (λ x adapted read. SideHeard x adapted read s) c.args.self.now.replies.fault s.fault (NothingToRead y (is_flushed new.writer) room s.reader.stage) (HasToWait s.reader.stage s.raw room)
     P Q c.read_turn.new.out result) (sym c.let_go.ensures.replies)
-    (subst (λ (b : Bool). Hears y (λ x adapted read. SideHeard x adapted read c.args.self.now.replies) (λ x adapted read. SideHeard x adapted read side) c.args.self.now.replies.fault side.fault (NothingToRead y b room side.reader.stage)
+    (subst (λ (b : Bool). Hears y (λ x adapted read. SideHeard x adapted read c.args.self.now.replies) (λ x adapted read. SideHeard x adapted read side) c.args.self.now.replies.fault side.fault (NothingToRead y b room side.reader.stage) (HasToWait side.reader.stage side.raw room)
     P Q c.read_turn.new.out result) flushed
-    (subst (λ (s : Service). Hears y (λ x adapted read. SideHeard x adapted read s.replies) (λ x adapted read. SideHeard x adapted read side) s.replies.fault side.fault (NothingToRead y c.flushed-all_sent.result room side.reader.stage)
+    (subst (λ (s : Service). Hears y (λ x adapted read. SideHeard x adapted read s.replies) (λ x adapted read. SideHeard x adapted read side) s.replies.fault side.fault (NothingToRead y c.flushed-all_sent.result room side.reader.stage) (HasToWait side.reader.stage side.raw room)
     P Q c.read_turn.new.out result) c.self.view_is
     (hears_all y c.flushed-all_sent.result room c.self.inside.replies side P Q c.read_turn.new.out result
     (sym c.read_turn.auto.out) c.in-Ok.ensures.turn c.in-Ok.ensures.sound c.in-Ok.ensures.stays c.in-Ok.ensures.faulted c.in-Ok.ensures.untouched))))
@@ -43,10 +44,10 @@ returns-in-Err-clause-hears g c =
     let room = length c.args.out.now in
     let new = c.read_turn.new.self in
     let result : Result Turn ClientFault = Err c.in-Err.fault in
-    hears_marked y c.args.self.now _ c.args.self.now.replies.fault new.fault (NothingToRead y (is_flushed c.self.inside.writer) room new.reader.stage) (g.W.Wire.past c.args.wire.now) (g.W.Wire.past c.read_turn.new.wire) c.read_turn.new.out result (λ e. ap (λ (s : Service). s.answered) c.self.view_is ∙ e)
-    (subst (λ (b : Bool). Hears y (λ x adapted read. SideHeard x adapted read c.args.self.now.replies) (λ x adapted read. SideHeard x adapted read new) c.args.self.now.replies.fault new.fault (NothingToRead y b room new.reader.stage)
+    hears_marked y c.args.self.now _ c.args.self.now.replies.fault new.fault (NothingToRead y (is_flushed c.self.inside.writer) room new.reader.stage) (HasToWait new.reader.stage new.raw room) (g.W.Wire.past c.args.wire.now) (g.W.Wire.past c.read_turn.new.wire) c.read_turn.new.out result (λ e. ap (λ (s : Service). s.answered) c.self.view_is ∙ e)
+    (subst (λ (b : Bool). Hears y (λ x adapted read. SideHeard x adapted read c.args.self.now.replies) (λ x adapted read. SideHeard x adapted read new) c.args.self.now.replies.fault new.fault (NothingToRead y b room new.reader.stage) (HasToWait new.reader.stage new.raw room)
     (g.W.Wire.past c.args.wire.now) (g.W.Wire.past c.read_turn.new.wire) c.read_turn.new.out result) c.flushed-all_sent.ensures
-    (subst (λ (s : Service). Hears y (λ x adapted read. SideHeard x adapted read s.replies) (λ x adapted read. SideHeard x adapted read new) s.replies.fault new.fault (NothingToRead y c.flushed-all_sent.result room new.reader.stage)
+    (subst (λ (s : Service). Hears y (λ x adapted read. SideHeard x adapted read s.replies) (λ x adapted read. SideHeard x adapted read new) s.replies.fault new.fault (NothingToRead y c.flushed-all_sent.result room new.reader.stage) (HasToWait new.reader.stage new.raw room)
     (g.W.Wire.past c.args.wire.now) (g.W.Wire.past c.read_turn.new.wire) c.read_turn.new.out result) c.self.view_is
     (hears_all y c.flushed-all_sent.result room c.self.inside.replies new (g.W.Wire.past c.args.wire.now) (g.W.Wire.past c.read_turn.new.wire) c.read_turn.new.out result
     (sym c.read_turn.auto.out) c.in-Err.ensures.turn c.in-Err.ensures.sound c.in-Err.ensures.stays c.in-Err.ensures.faulted c.in-Err.ensures.untouched)))

@@ -1,0 +1,86 @@
+-- How far a pass brings each body.
+use Rattle.std.proofs.Common.{◌≡◌, ℕ, ◌+◌, ◌≤◌, Bool, true, false, List, [], ◌∷◌, length, Option, Some, None, arith, refl, sym, ◌∙◌, ap, subst}
+use Rattle.std.proofs.lemmas.Bool.Decides.{nat_tests}
+use Rattle.std.proofs.lemmas.Bool.{false≢true}
+use Rattle.trace_core.specs.declared.history.Seen.{Seen}
+use Rattle.trace_core.specs.declared.history.Event.{Event}
+use Rattle.trace_core.specs.declared.history.Event.TheVariants.{In, End, Svc, Stop, Heard, Continue, NoMod, Mod, Ad, AdEnd, Usr, Done, Fail, Retry}
+use Rattle.trace_core.specs.declared.history.Cause.{Cause}
+use Rattle.trace_core.specs.History.{in_bytes, ad_bytes}
+use Rattle.trace_core.specs.View.{after}
+use Rattle.trace_core.specs.Turns.{after_all, AllAre, in_sum, ad_sum, is_of_sending}
+use Rattle.plan_rules.specs.declared.room.TheConstants.{TURN_BYTES}
+use Rattle.plan_rules.specs.Room.{original_room, adapted_room}
+use Rattle.wire_kit.specs.Past.{Past}
+use Rattle.adapt_hold.specs.Holding.{Holding, IsTied, shows}
+use Rattle.adapt_turn.specs.declared.parts.Passed.{Passed}
+use Rattle.adapt_turn.specs.Parts.{Part, stepped}
+use Rattle.adapt_turn.proofs.Stepped.{part_shows}
+
+-- an event brings the bytes of its own body that it says
+received_after : (x : Seen) (event : Event) → (after x event).received ≤ x.received + in_bytes event
+received_after x event = omega arith
+
+adapted_after : (x : Seen) (event : Event) → (after x event).adapted_received ≤ x.adapted_received + ad_bytes event
+adapted_after x event = omega arith
+
+received_all : (x : Seen) (events : List Event) → (after_all x events).received ≤ x.received + in_sum events
+received_all x [] = omega arith
+received_all x (event ∷ events) =
+    let one = received_after x event in
+    let more = received_all (after x event) events in
+    omega (arith, one, more)
+
+adapted_all : (x : Seen) (events : List Event) → (after_all x events).adapted_received ≤ x.adapted_received + ad_sum events
+adapted_all x [] = omega arith
+adapted_all x (event ∷ events) =
+    let one = adapted_after x event in
+    let more = adapted_all (after x event) events in
+    omega (arith, one, more)
+
+-- a failure brings none
+in_stepped : (failed : Option Cause) (reported : List Event) → in_sum (stepped failed reported) ≤ in_sum reported
+in_stepped None reported = omega arith
+in_stepped (Some cause) reported = omega arith
+
+ad_stepped : (failed : Option Cause) (reported : List Event) → ad_sum (stepped failed reported) ≤ ad_sum reported
+ad_stepped None reported = omega arith
+ad_stepped (Some cause) reported = omega arith
+
+pub original_few : (x : Seen) (claim window : ℕ) → original_room x claim window ≤ TURN_BYTES
+original_few x claim window = grind (arith, nat_tests)
+
+pub adapted_few : (x : Seen) (window : ℕ) → adapted_room x window ≤ TURN_BYTES
+adapted_few x window = grind (arith, nat_tests)
+
+-- of what a pass reports so much came of the original, and so much of the adapted body
+pub part_received : {F : Type 0} (broken : F) (own : F → Cause) (h k : Holding) (test : Event → Bool) (reported : List Event) (out given taken delta : List ℕ) (f0 f1 : Option F) (rests : Type 0) (waits : Past → ℕ) (before after_ : Past → Type 0) (passed : Passed)
+    → IsTied h → Part broken own h k test reported out given taken delta f0 f1 rests waits before after_ passed
+    → (n : ℕ) → in_sum reported ≤ n → n ≤ TURN_BYTES → (shows k.history).received ≤ (shows h.history).received + TURN_BYTES
+part_received broken own h k test reported out given taken delta f0 f1 rests waits before after_ passed t p n few turn =
+    let shown = part_shows broken own h k test reported out given taken delta f0 f1 rests waits before after_ passed t p in
+    let all = received_all (shows h.history) (stepped passed.failed reported) in
+    let less = in_stepped passed.failed reported in
+    let at : (after_all (shows h.history) (stepped passed.failed reported)).received ≤ (shows h.history).received + TURN_BYTES = omega (arith, all, less, few, turn) in
+    subst (λ (x : Seen). x.received ≤ (shows h.history).received + TURN_BYTES) (sym shown) at
+
+pub part_adapted : {F : Type 0} (broken : F) (own : F → Cause) (h k : Holding) (test : Event → Bool) (reported : List Event) (out given taken delta : List ℕ) (f0 f1 : Option F) (rests : Type 0) (waits : Past → ℕ) (before after_ : Past → Type 0) (passed : Passed)
+    → IsTied h → Part broken own h k test reported out given taken delta f0 f1 rests waits before after_ passed
+    → (n : ℕ) → ad_sum reported ≤ n → (shows k.history).adapted_received ≤ (shows h.history).adapted_received + n
+part_adapted broken own h k test reported out given taken delta f0 f1 rests waits before after_ passed t p n few =
+    let shown = part_shows broken own h k test reported out given taken delta f0 f1 rests waits before after_ passed t p in
+    let all = adapted_all (shows h.history) (stepped passed.failed reported) in
+    let less = ad_stepped passed.failed reported in
+    let at : (after_all (shows h.history) (stepped passed.failed reported)).adapted_received ≤ (shows h.history).adapted_received + n = omega (arith, all, less, few) in
+    subst (λ (x : Seen). x.adapted_received ≤ (shows h.history).adapted_received + n) (sym shown) at
+
+-- sending brings no adapted byte
+pub none_of_sending : (reported : List Event) → AllAre is_of_sending reported → ad_sum reported ≤ 0
+none_of_sending [] o = omega arith
+none_of_sending (Svc n ∷ events) o = none_of_sending events o.1
+none_of_sending (Stop ∷ events) o = none_of_sending events o.1
+none_of_sending (_ ∷ events) o = absurd (false≢true o.0)
+
+-- the newer hold is the same
+pub paced_kept : (n : ℕ) (of : Seen → ℕ) (k k' : Holding) → k' ≡ k → of (shows k.history) ≤ n → of (shows k'.history) ≤ n
+paced_kept n of k k' e l = subst (λ (z : Holding). of (shows z.history) ≤ n) (sym e) l

@@ -1,0 +1,31 @@
+use Rattle.std.proofs.Common.{◌≡◌, ◌⊎◌, inl, inr, Bool, true, false, List, ℕ, Option, Some, None, sym, subst}
+use Rattle.trace_core.specs.declared.history.Cause.{Cause}
+use Rattle.trace_core.specs.declared.history.Cause.TheVariants as causes
+use Rattle.http_side.specs.Heads.{RequestParts}
+use Rattle.http_relay.specs.declared.side.SourceHead.{SourceHead}
+use Rattle.adapt_turn.specs.Parts.{IsOfSide}
+use Rattle.proxy_rules.specs.Heads.{MakesNoneOf}
+use Rattle.proxy_rules.proofs.laws.a_missing_head_is_of_a_side.Goals as goal
+
+of_memory : (cause : Cause) → cause ≡ causes.Memory → IsOfSide cause
+of_memory cause e = subst IsOfSide (sym e) tt
+
+of_source : (cause : Cause) → cause ≡ causes.Source → IsOfSide cause
+of_source cause e = subst IsOfSide (sym e) tt
+
+of_service : (cause : Cause) → cause ≡ causes.Service → IsOfSide cause
+of_service cause e = subst IsOfSide (sym e) tt
+
+none_of : (source : SourceHead) (asked : RequestParts) (adapted : Option (List ℕ)) (is_response has_body : Bool) (cause : Cause) → MakesNoneOf source asked adapted is_response has_body cause → IsOfSide cause
+none_of source asked None is_response has_body cause (inl e) = of_memory cause e
+none_of source asked None is_response has_body cause (inr e) = of_source cause e.0
+none_of source asked (Some text) true has_body cause (inl e) = of_memory cause e
+none_of source asked (Some text) true has_body cause (inr e) = of_service cause e.0
+none_of source asked (Some text) false has_body cause (inl e) = of_memory cause e
+none_of source asked (Some text) false has_body cause (inr e) = of_service cause e.0
+
+pub returns-clause : goal.returns-clause
+returns-clause c = λ user source x adapted is_response cause none. elim none [
+  | inl e ↦ of_source cause e.0
+  | inr e ↦ none_of source e.0 adapted is_response x.has_body cause e.2
+]
