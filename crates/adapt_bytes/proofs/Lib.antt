@@ -4,4 +4,5 @@ pub mod Numerals
 pub mod Parts
 pub mod Plain
 pub mod Spellings
+pub mod ThreeDigits
 pub mod Written

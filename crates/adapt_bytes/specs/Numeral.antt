@@ -1,5 +1,5 @@
 -- Numbers as text, in base 10 or 16.
-use Rattle.std.specs.Prelude.{◌≡◌, ◌≢◌, ℕ, ◌⊎◌, List, [], ◌∷◌, map, if◌then◌else◌, ◌==◌}
+use Rattle.std.specs.Prelude.{◌≡◌, ◌≢◌, ℕ, ◌+◌, ◌/◌, ◌%◌, ◌⊎◌, List, [], ◌∷◌, map, if◌then◌else◌, ◌==◌}
 use Rattle.std.specs.Char.{digit_char, to_ascii_lowercase}
 use Rattle.std.specs.Int.Digits.{digits_of}
 use Rattle.std.specs.Str.Parse.{IsNumeral, digits_value}
@@ -12,6 +12,10 @@ pub record Writes (base : ℕ) (bytes : List ℕ) (n : ℕ) : Type 0 where
 -- the digits of n, the highest first and in lower case; no leading zero but for 0 itself
 unfoldable pub numeral : ℕ → ℕ → List ℕ
 numeral base n = if n == 0 then 48 ∷ [] else map digit_char (digits_of base n)
+
+-- a number below 1,000 with three digits
+abbrev pub three_digits : ℕ → List ℕ
+three_digits n = (48 + n / 100) ∷ (48 + n / 10 % 10) ∷ (48 + n % 10) ∷ []
 
 -- the text is the digit 0, or begins with another byte
 abbrev pub HasNoLeadingZero : List ℕ → Type 0

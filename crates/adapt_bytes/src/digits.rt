@@ -1,10 +1,10 @@
-//! Numbers in bytes: read with any leading zeros, written with none.
+//! Numbers in bytes: read with any leading zeros, written with none, or with three digits.
 ghost use Rattle.std.specs.Prelude.{◌≡◌, ℕ, ◌+◌, ◌*◌, ◌^◌, ◌<◌, ◌≤◌, ◌++◌, length, map, IfSome, IfNone};
 ghost use Rattle.std.specs.Char.{digit_char, digit_value};
 ghost use Rattle.std.specs.Option.{SomeIff};
 ghost use Rattle.std.specs.Int.Digits.{digits_of};
 ghost use Rattle.arrayvec.specs.ArrayVec.{array_vec_len};
-ghost use Rattle.adapt_bytes.specs.Numeral.{Writes, numeral};
+ghost use Rattle.adapt_bytes.specs.Numeral.{Writes, numeral, three_digits};
 
 use arrayvec::ArrayVec;
 
@@ -121,4 +121,16 @@ fn digit_byte(digit: u64) -> u8
     } else {
         b'a' + (digit as u8 - 10)
     }
+}
+
+/// A number below 1,000 with three digits, as a status is written (RFC 9112, section 4).
+pub fn three_digits(n: u16) -> [u8; 3]
+    requires { n < 1000 }
+    ensures { result ≡ three_digits n }
+{
+    [
+        b'0' + (n / 100) as u8,
+        b'0' + (n / 10 % 10) as u8,
+        b'0' + (n % 10) as u8,
+    ]
 }

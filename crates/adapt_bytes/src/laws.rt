@@ -3,7 +3,7 @@ ghost use Rattle.std.specs.Prelude.{◌≡◌, ℕ, ◌<◌, ◌≤◌, ◌^◌,
 ghost use Rattle.http_header.specs.HeaderMap.{get_all};
 ghost use Rattle.http_header.specs.Token.{lowercase};
 ghost use Rattle.adapt_bytes.specs.Fields.{FieldList, as_header_map, values_of};
-ghost use Rattle.adapt_bytes.specs.Numeral.{Writes, numeral, HasNoLeadingZero, IsLowerCase};
+ghost use Rattle.adapt_bytes.specs.Numeral.{Writes, numeral, three_digits, HasNoLeadingZero, IsLowerCase};
 
 /// A text spells one number at most.
 pub fn spells_one_number()
@@ -13,6 +13,11 @@ pub fn spells_one_number()
 /// A numeral that was written is read again.
 pub fn reads_what_it_writes()
     ensures { (base n : ℕ) → 2 ≤ base → base ≤ 16 → Writes base (numeral base n) n }
+{}
+
+/// Three digits are read as the number that they were written for.
+pub fn three_digits_write_it()
+    ensures { (n : ℕ) → n < 1000 → Writes 10 (three_digits n) n }
 {}
 
 /// The numeral that is written is the only spelling of its number in lower case and without a leading zero.

@@ -9,7 +9,7 @@ mod room;
 mod text;
 
 pub use commas::{CommaItems, CommaParts, comma_items, comma_parts, has_item};
-pub use digits::{Small, put_decimal, put_hex, read_decimal, read_hex};
+pub use digits::{Small, put_decimal, put_hex, read_decimal, read_hex, three_digits};
 pub use limits::{
     COUNT_LIMIT, MAX_ALLOW_LIMIT, MAX_CAPACITY, MAX_CONNECTIONS, MAX_FIELDS, MAX_HEAD, MAX_INPUT,
     MAX_PREVIEW, MAX_ROWS, MAX_WINDOW,

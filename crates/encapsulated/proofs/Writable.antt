@@ -7,7 +7,7 @@ use Rattle.encapsulated.specs.declared.message.Method.TheVariants.{Reqmod, Respm
 use Rattle.encapsulated.specs.declared.offsets.Layout.{Layout}
 use Rattle.encapsulated.specs.declared.parts.BodyPart.{BodyPart}
 use Rattle.encapsulated.specs.declared.parts.BodyPart.TheVariants.{ReqBody, ResBody, OptBody, NullBody}
-use Rattle.encapsulated.specs.Layouts.{IsWritable, Rises, names, offsets, parts_of}
+use Rattle.encapsulated.specs.Layouts.{IsWritableLayout, Rises, names, offsets, parts_of}
 use Rattle.encapsulated.specs.Order.{any_front, heads_fit}
 use Rattle.encapsulated.specs.Rows.{allowed}
 use Rattle.encapsulated.proofs.OneAnswer.{front_of_whole}
@@ -72,7 +72,7 @@ no_list m d None None OptBody o unfit = absurd (cc)
 no_list m d q r ResBody o unfit = absurd (cc)
 no_list m d q r NullBody o unfit = absurd (cc)
 
-fits_or : (l : Layout) (t : Bool) → heads_fit l.body l.req_hdr l.res_hdr ≡ t → IsWritable l → t ≡ true
+fits_or : (l : Layout) (t : Bool) → heads_fit l.body l.req_hdr l.res_hdr ≡ t → IsWritableLayout l → t ≡ true
 fits_or l true e h = refl
 fits_or l false e h =
     let m = h.0 in
@@ -80,10 +80,10 @@ fits_or l false e h =
     let front = any_front-whole (allowed m d) (names (parts_of l)) (front_of_whole (allowed m d) (names (parts_of l)) h.2.whole) in
     sym (no_list m d l.req_hdr l.res_hdr l.body l.offset e) ∙ front
 
-pub fits : (l : Layout) → IsWritable l → heads_fit l.body l.req_hdr l.res_hdr ≡ true
+pub fits : (l : Layout) → IsWritableLayout l → heads_fit l.body l.req_hdr l.res_hdr ≡ true
 fits l h = fits_or l (heads_fit l.body l.req_hdr l.res_hdr) refl h
 
-pub writable : (l : Layout) → heads_fit l.body l.req_hdr l.res_hdr ≡ true → Rises (offsets (parts_of l)) → IsWritable l
+pub writable : (l : Layout) → heads_fit l.body l.req_hdr l.res_hdr ≡ true → Rises (offsets (parts_of l)) → IsWritableLayout l
 writable l fits rises =
     let some = some_list l.req_hdr l.res_hdr l.body l.offset fits in
     (some.0, some.1, may_have some.0 some.1 l some.2 rises)

@@ -43,8 +43,8 @@ pub record MayHave (method : Method) (direction : Direction) (layout : Layout) :
   pub rises : Rises (offsets (parts_of layout))
 
 -- some message may have this layout
-abbrev pub IsWritable : Layout → Type 0
-IsWritable layout = (method : Method) × (direction : Direction) × MayHave method direction layout
+abbrev pub IsWritableLayout : Layout → Type 0
+IsWritableLayout layout = (method : Method) × (direction : Direction) × MayHave method direction layout
 
 -- the text is this layout of a message of this kind
 pub record IsLayout (method : Method) (direction : Direction) (text : List ℕ) (layout : Layout) : Type 0 where

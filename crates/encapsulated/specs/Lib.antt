@@ -2,5 +2,6 @@ pub mod Faults
 pub mod Grammar
 pub mod Laws
 pub mod Layouts
+pub mod Methods
 pub mod Order
 pub mod Rows

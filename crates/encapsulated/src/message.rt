@@ -1,4 +1,6 @@
 //! The kinds of message that carry a list.
+ghost use Rattle.std.specs.Prelude.{◌≡◌};
+ghost use Rattle.encapsulated.specs.Methods.{method_name};
 
 /// The ICAP method of a request, or of the request that a response answers (RFC 3507, sections 4.8 to 4.10).
 #[derive(Clone, Copy, Debug, PartialEq, Eq)]
@@ -9,6 +11,19 @@ pub enum Method {
     Respmod,
     /// `OPTIONS`: the service says what it takes.
     Options,
+}
+
+impl Method {
+    /// The name in a request line (RFC 3507, section 4.3.2).
+    pub fn name(self) -> &'static [u8]
+        ensures { result.now ≡ method_name self }
+    {
+        match self {
+            Method::Reqmod => b"REQMOD",
+            Method::Respmod => b"RESPMOD",
+            Method::Options => b"OPTIONS",
+        }
+    }
 }
 
 /// Whether the message is a request to a service or its response.

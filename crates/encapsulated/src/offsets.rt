@@ -1,6 +1,6 @@
 //! Where each part of an encapsulated message begins.
 ghost use Rattle.std.specs.Prelude.{◌≡◌, ◌↔◌, IsTrue};
-ghost use Rattle.encapsulated.specs.Layouts.{IsWritable, Rises, offsets, parts_of};
+ghost use Rattle.encapsulated.specs.Layouts.{IsWritableLayout, Rises, offsets, parts_of};
 ghost use Rattle.encapsulated.specs.Order.{heads_fit};
 
 use crate::parts::BodyPart;
@@ -23,7 +23,7 @@ pub struct Layout {
 impl Layout {
     /// Whether some message may have this layout, so that it can be written (RFC 3507, section 4.4.1).
     pub fn is_writable(&self) -> bool
-        ensures { IsTrue result ↔ IsWritable self.now }
+        ensures { IsTrue result ↔ IsWritableLayout self.now }
     {
         self.heads_fit() && self.rises()
     }

@@ -2,7 +2,7 @@
 ghost use Rattle.std.specs.Prelude.{◌≡◌, ◌++◌, ◌^◌, ◌<◌, IfOk, OnOk, IfSome};
 ghost use Rattle.encapsulated.specs.declared.message.Direction.{Direction};
 ghost use Rattle.encapsulated.specs.declared.message.Method.{Method};
-ghost use Rattle.encapsulated.specs.Layouts.{MayHave, IsLayout, IsWritable, written, item_text};
+ghost use Rattle.encapsulated.specs.Layouts.{MayHave, IsLayout, IsWritableLayout, written, item_text};
 ghost use Rattle.encapsulated.specs.Order.{head_text};
 
 use crate::NoMemory;
@@ -17,7 +17,7 @@ use std::alloc::Global;
 ///
 /// [`NoMemory`] where the text finds no memory.
 pub fn write(alloc: Global, layout: &Layout) -> Result<Vec<u8>, NoMemory>
-    requires { IsWritable layout.now }
+    requires { IsWritableLayout layout.now }
     ensures text { IfOk result (λ text. text.items ≡ written layout.now) }
 
     // It is read again as this layout, in each message that may have it.

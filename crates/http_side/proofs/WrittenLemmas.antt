@@ -1,9 +1,7 @@
 -- What is written is a head of the grammar.
-use Rattle.std.proofs.Common.{◌≡◌, ◌≢◌, ℕ, ◌+◌, ◌/◌, ◌%◌, ◌<◌, Bool, true, false, not, ◌||◌, ◌&&◌, List, [], ◌∷◌, ◌++◌, length, map, take, drop, Some, IsTrue, reverse, refl, sym, ap, ap₂, ◌∙◌, subst, inl, inr, arith, append_assoc, length-append, rules, get_or}
+use Rattle.std.proofs.Common.{◌≡◌, ◌≢◌, ℕ, ◌+◌, ◌<◌, Bool, true, false, not, ◌||◌, ◌&&◌, List, [], ◌∷◌, ◌++◌, length, map, take, drop, Some, IsTrue, reverse, refl, sym, ap, ap₂, ◌∙◌, subst, inl, inr, arith, append_assoc, length-append, rules, get_or}
 use Rattle.std.specs.Prelude.{All, codes, ◌==◌, nat_lt}
 use Rattle.std.specs.List.{flat_map, list_all, filter}
-use Rattle.std.specs.Char.{is_ascii_digit, digit_value}
-use Rattle.std.proofs.lemmas.Str.{digit_value_digit}
 use Rattle.std.proofs.lemmas.Bool.{cases_Bool}
 use Rattle.std.proofs.lemmas.List.Elements.{All-map, All-cons, All-tail, All-append, All-take, All-drop, All-filter}
 use Rattle.std.proofs.lemmas.List.{append-nil}
@@ -12,15 +10,16 @@ use Rattle.httparse.specs.Grammar.{Field, IsField, IsToken, AllPass, skip_ows, i
 use Rattle.httparse.specs.Spans.{name_and_value}
 use Rattle.httparse.proofs.GrammarLemmas.{print_request-append, cons-append}
 use Rattle.httparse.proofs.TrimLemmas.{AllPass-trim_ows}
+use Rattle.adapt_bytes.specs.Numeral.{three_digits}
+use Rattle.adapt_bytes.proofs.ThreeDigits.{all_digits, digits_back}
 use Rattle.http_side.specs.Heads.{RequestParts, ResponseParts, both_lengths, is_options}
 use Rattle.http_side.specs.Targets.{authority_of, count_before, is_delimiter, is_hash, is_rooted, rooted, path_of, origin_form}
 use Rattle.http_side.specs.declared.writing.Extra.{Extra}
 use Rattle.http_side.specs.declared.writing.Beside.{Beside}
-use Rattle.http_side.specs.Forward.{field_line, field_lines, head_text, request_line, status_line, three_digits, target_form, request_fields, response_fields, added_fields, extra_of, kept_fields, stays, once, is_length, hosted, host_line, when, via_value, has_host}
+use Rattle.http_side.specs.Forward.{field_line, field_lines, head_text, request_line, status_line, target_form, request_fields, response_fields, added_fields, extra_of, kept_fields, stays, once, is_length, hosted, host_line, when, via_value, has_host}
 use Rattle.http_side.specs.Laws.{WasRead, WasReadRequest, WasReadResponse, passed_fields, minor_of}
 use Rattle.http_side.specs.declared.forward.Message.{Message}
 use Rattle.http_side.specs.declared.forward.Message.TheVariants.{Request, Response}
-use Rattle.std.specs.Str.Parse.{digits_value}
 use Rattle.httparse.proofs.TrimLemmas.{trim_ows_space}
 use Rattle.http_side.proofs.Trimmed.{trimmed_front, trimmed_back, visible_front, visible_back}
 use Rattle.http_side.proofs.TargetForms.{target_utf8}
@@ -239,29 +238,6 @@ reads_back_request r user w u absolute extra =
     sent : List ℕ → List ℕ → List (List ℕ × List ℕ) → RequestParts
     sent method target fields = record { method = method; target = target; minor = 1; fields = fields }
 
-digit_is : (d : ℕ) → d < 10 → is_ascii_digit (48 + d) ≡ true
-digit_is d h = search rules
-
-three_ok : (n : ℕ) → n < 1000 → AllPass is_ascii_digit (three_digits n)
-three_ok n l =
-    let P : ℕ → Type 0 = λ b. IsTrue (is_ascii_digit b) in
-    let a = 48 + n / 100 in
-    let b = 48 + n / 10 % 10 in
-    let c = 48 + n % 10 in
-    All-cons P a (b ∷ c ∷ []) (digit_is (n / 100) (omega arith))
-    (All-cons P b (c ∷ []) (digit_is (n / 10 % 10) (omega arith))
-    (All-cons P c [] (digit_is (n % 10) (omega arith)) (λ k d l. absurd (omega arith))))
-
-value_is : (d : ℕ) → d < 10 → digit_value (48 + d) ≡ d
-value_is d h = let v = digit_value_digit (48 + d) (omega arith, omega arith) in omega (arith, v)
-
-digits_back : (n : ℕ) → n < 1000 → digits_value 10 (three_digits n) ≡ n
-digits_back n h =
-    let a = value_is (n / 100) (omega arith) in
-    let b = value_is (n / 10 % 10) (omega arith) in
-    let d = value_is (n % 10) (omega arith) in
-    omega (arith, a, b, d)
-
 pub reads_back_response : ReadsBackResponse
 reads_back_response r w small extra =
     let fields = response_fields r.fields ++ added_fields extra r.minor in
@@ -271,7 +247,7 @@ reads_back_response r w small extra =
       (
         record {
           minor = omega arith;
-          digits = (refl, three_ok r.status small);
+          digits = (refl, all_digits r.status small);
           reason = subst (λ x. AllPass is_value_byte x.phrase) at.parts_are at.reads.0.reason;
           fields = all_fields fields all;
         },

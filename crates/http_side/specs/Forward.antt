@@ -1,9 +1,10 @@
 -- The heads that are written: which fields go on, and the text (RFC 9110, section 7.6; RFC 9112, section 3.2).
-use Rattle.std.specs.Prelude.{◌≡◌, ℕ, ◌+◌, ◌-◌, ◌^◌, ◌<◌, min, All, Bool, true, false, not, ◌||◌, ◌&&◌, List, [], ◌∷◌, ◌++◌, length, slice_index_or, map, Option, Some, None, codes, if◌then◌else◌, ◌==◌, nat_lt, codes, ◌/◌, ◌%◌}
+use Rattle.std.specs.Prelude.{◌≡◌, ℕ, ◌+◌, ◌-◌, ◌^◌, ◌<◌, min, All, Bool, true, false, not, ◌||◌, ◌&&◌, List, [], ◌∷◌, ◌++◌, length, slice_index_or, map, Option, Some, None, codes, if◌then◌else◌, ◌==◌, nat_lt, codes}
 use Rattle.std.specs.List.{list_any, flat_map, filter}
-use Rattle.std.specs.Prelude.{◌/◌, ◌%◌, Result, Ok, Err}
+use Rattle.std.specs.Prelude.{Result, Ok, Err}
 use Rattle.std.specs.Str.{str_eq_ignore_ascii_case}
 use Rattle.adapt_bytes.specs.Text.{has_item, is_among}
+use Rattle.adapt_bytes.specs.Numeral.{three_digits}
 use Rattle.adapt_bytes.specs.Fields.{values_of, field_at, name_at}
 use Rattle.http_side.specs.declared.fault.HttpFault.{HttpFault}
 use Rattle.http_side.specs.Heads.{RequestParts, ResponseParts, count_of}
@@ -133,10 +134,6 @@ head_text first fields = first_line first ++ field_lines fields ++ codes "\r\n"
 
 abbrev pub request_line : List ℕ → List ℕ → List ℕ
 request_line method target = method ++ codes " " ++ target ++ codes " HTTP/1.1"
-
--- a number below 1,000 with three digits
-abbrev pub three_digits : ℕ → List ℕ
-three_digits n = (48 + n / 100) ∷ (48 + n / 10 % 10) ∷ (48 + n % 10) ∷ []
 
 -- a status line keeps the space behind its status, also before an empty phrase
 abbrev pub status_line : ℕ → List ℕ → List ℕ

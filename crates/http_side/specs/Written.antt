@@ -1,10 +1,11 @@
 -- What is written is a head that is read back.
 use Rattle.std.specs.Prelude.{◌≡◌, ◌≢◌, ℕ, ◌<◌, List, [], ◌∷◌, ◌++◌, map, reverse, All, Some, Bool, false}
 use Rattle.httparse.specs.Grammar.{Field, crlf, IsToken, AllPass, is_value_byte, skip_ows, RequestHead, ReadsRequest, ResponseHead, ReadsResponse}
+use Rattle.adapt_bytes.specs.Numeral.{three_digits}
 use Rattle.http_side.specs.Heads.{RequestParts, ResponseParts, request_parts, response_parts}
 use Rattle.http_side.specs.Requests.{IsRead}
 use Rattle.http_side.specs.Targets.{authority_of}
-use Rattle.http_side.specs.Forward.{request_text, response_text, target_form, three_digits, request_fields, response_fields, added_fields}
+use Rattle.http_side.specs.Forward.{request_text, response_text, target_form, request_fields, response_fields, added_fields}
 use Rattle.http_side.specs.declared.writing.Extra.{Extra}
 use Rattle.http_side.specs.declared.forward.Forward.{Forward}
 use Rattle.http_side.specs.Laws.{WasRead, WasReadRequest, WasReadResponse, forwarded_fields}

@@ -1,20 +1,19 @@
 -- What is written is read again.
-use Rattle.std.proofs.Common.{◌≡◌, ℕ, ◌+◌, ◌-◌, ◌/◌, ◌%◌, ◌<◌, true, IsTrue, List, [], ◌∷◌, ◌++◌, length, get_or, map, refl, sym, ap, ap₂, ◌∙◌, arith, length-append, append_assoc, append-nil, codes, All, inr, rules}
-use Rattle.std.specs.Char.{is_ascii_digit, digit_value}
-use Rattle.std.proofs.lemmas.Str.{digit_value_digit}
+use Rattle.std.proofs.Common.{◌≡◌, ℕ, ◌+◌, ◌-◌, ◌/◌, ◌%◌, IsTrue, List, [], ◌∷◌, ◌++◌, length, get_or, map, refl, sym, ap, ap₂, ◌∙◌, arith, length-append, append_assoc, append-nil, codes, All, inr}
 use Rattle.std.specs.List.{flat_map, AllByRecursion}
-use Rattle.std.specs.Str.Parse.{digits_value}
 use Rattle.std.proofs.Math.Seq.{take-append_seam}
 use Rattle.std.proofs.lemmas.List.{get_or_at}
 use Rattle.std.proofs.lemmas.List.Elements.{All-cons, All-nil}
 use Rattle.adapt_bytes.specs.Text.{Lacks}
+use Rattle.adapt_bytes.specs.Numeral.{three_digits}
+use Rattle.adapt_bytes.proofs.ThreeDigits.{all_digits, digits_back}
 use Rattle.httparse.specs.Grammar.{crlf, Field as Line, IsField, print_field, print_section, is_value_byte}
 use Rattle.httparse.specs.Spans.{name_and_value}
 use Rattle.httparse.proofs.TrimLemmas.{trim_ows_space}
 use Rattle.adapt_bytes.specs.Fields.{FieldList}
 use Rattle.icap_head.specs.StartLines.{without_cr, IsStatus, IsVersion}
 use Rattle.icap_head.specs.Heads.{Request, Response, ReadsHead, IsRequestHead, IsResponseHead, StartsRequest, StartsResponse}
-use Rattle.icap_head.specs.Written.{IsFieldPair, IsRequest, IsResponse, field_text, fields_text, request_line, request_text, three_digits, status_line, response_text}
+use Rattle.icap_head.specs.Written.{IsFieldPair, IsRequest, IsResponse, field_text, fields_text, request_line, request_text, status_line, response_text}
 use Rattle.icap_head.proofs.Lacking.{no_feed, lacks_append, lacks_cons, lacks_from, lacks_nil, tested}
 
 cr_off : (line : List ℕ) → without_cr (line ++ 13 ∷ []) ≡ line
@@ -87,31 +86,16 @@ request_text_is value = simp append_assoc
 
 -- ---- responses
 
-digit_is : (d : ℕ) → d < 10 → is_ascii_digit (48 + d) ≡ true
-digit_is d h = search rules
-
-value_is : (d : ℕ) → d < 10 → digit_value (48 + d) ≡ d
-value_is d h = let v = digit_value_digit (48 + d) (omega arith, omega arith) in omega (arith, v)
-
-digits_back : (n : ℕ) → n < 1000 → digits_value 10 (three_digits n) ≡ n
-digits_back n h =
-    let a = value_is (n / 100) (omega arith) in
-    let b = value_is (n / 10 % 10) (omega arith) in
-    let d = value_is (n % 10) (omega arith) in
-    omega (arith, a, b, d)
-
 status_back : (value : Response) → IsResponse value → IsStatus (three_digits value.status ++ 32 ∷ value.phrase) value.status value.phrase
 status_back value h =
     let n = value.status in
     let small = h.status in
-    let P : ℕ → Type 0 = λ b. IsTrue (is_ascii_digit b) in
     record {
       digits = three_digits n;
       behind = 32 ∷ value.phrase;
       text_is = refl;
       three = refl;
-      all_digits = All-cons P (48 + n / 100) ((48 + n / 10 % 10) ∷ (48 + n % 10) ∷ []) (digit_is (n / 100) (omega (arith, small)))
-          (All-cons P (48 + n / 10 % 10) ((48 + n % 10) ∷ []) (digit_is (n / 10 % 10) (omega arith)) (All-cons P (48 + n % 10) [] (digit_is (n % 10) (omega arith)) (All-nil P)));
+      all_digits = all_digits n small;
       value = digits_back n small;
       phrase_is = inr refl;
     }

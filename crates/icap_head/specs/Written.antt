@@ -1,9 +1,10 @@
 -- How a head is written: CRLF at each line, one space behind each colon, three digits of a status.
-use Rattle.std.specs.Prelude.{◌≡◌, ℕ, ◌+◌, ◌/◌, ◌%◌, ◌<◌, ◌++◌, List, [], ◌∷◌, reverse, codes}
+use Rattle.std.specs.Prelude.{◌≡◌, ℕ, ◌<◌, ◌++◌, List, [], ◌∷◌, reverse, codes}
 use Rattle.std.specs.List.{flat_map, AllByRecursion}
 use Rattle.adapt_bytes.specs.Text.{IsToken, Lacks}
 use Rattle.httparse.specs.Grammar.{IsToken as IsFieldName, AllPass, is_value_byte, skip_ows}
 use Rattle.adapt_bytes.specs.Fields.{FieldList}
+use Rattle.adapt_bytes.specs.Numeral.{three_digits}
 use Rattle.icap_head.specs.Heads.{Request, Response}
 use Rattle.icap_head.specs.StartLines.{IsIcapUri}
 
@@ -43,10 +44,6 @@ request_line value = value.method ++ 32 ∷ value.uri ++ 32 ∷ codes "ICAP/1.0"
 -- the head of a request
 unfoldable pub request_text : Request → List ℕ
 request_text value = request_line value ++ 13 ∷ 10 ∷ fields_text value.fields
-
--- a number below 1,000 with three digits
-abbrev pub three_digits : ℕ → List ℕ
-three_digits n = (48 + n / 100) ∷ (48 + n / 10 % 10) ∷ (48 + n % 10) ∷ []
 
 -- version, status and phrase, with a space between them, also before an empty phrase
 abbrev pub status_line : Response → List ℕ

@@ -2,12 +2,13 @@
 ghost use Rattle.std.specs.Prelude.{◌≡◌, ℕ, ◌⊎◌, ◌<◌, ◌++◌, ◌+◌, List, take, IfOk, IfErr, IsOkAnd, OnOk, IsTrue, ◌↔◌};
 ghost use Rattle.icap_head.specs.StartLines.{StatusForm};
 ghost use Rattle.icap_head.specs.Heads.{Response, HasResponse, IsResponseHead, RefusesIcapHead, response_parts};
-ghost use Rattle.icap_head.specs.Written.{IsResponse, response_text, three_digits};
+ghost use Rattle.icap_head.specs.Written.{IsResponse, response_text};
 
 use crate::field_lines::{are_writable, put_fields, read_fields};
 use crate::reading::{judged, unended};
 use crate::start_lines::{first_line, read_status_line};
 use crate::{Fields, Head, HeadFault, NoMemory};
+use adapt_bytes::three_digits;
 use std::alloc::Global;
 
 /// The head of a response (RFC 3507, section 4.3.3).
@@ -92,28 +93,10 @@ pub fn write_response(alloc: Global, response: &IcapResponse) -> Result<Vec<u8>,
 {
     let mut out = Vec::new(alloc);
     out.extend_from_slice(b"ICAP/1.0 ")?;
-    put_status(&mut out, response.status)?;
+    out.extend_from_slice(&three_digits(response.status))?;
     out.push(b' ')?;
     out.extend_from_slice(&response.phrase)?;
     out.extend_from_slice(b"\r\n")?;
     put_fields(&mut out, &response.fields)?;
     Ok(out)
-}
-
-/// Adds the three digits of a status.
-fn put_status(out: &mut Vec<u8>, status: u16) -> Result<(), NoMemory>
-    requires { status < 1000 }
-    ensures { OnOk result (out.new.items ≡ out.old.items ++ three_digits status) }
-{
-    out.push(digit(status / 100))?;
-    out.push(digit(status / 10 % 10))?;
-    out.push(digit(status % 10))?;
-    Ok(())
-}
-
-fn digit(value: u16) -> u8
-    requires { value < 10 }
-    ensures { result ≡ 48 + value }
-{
-    b'0' + value as u8
 }

@@ -142,14 +142,14 @@ fn read_status(text: &[u8]) -> Option<(u16, &[u8])>
     ensures none { IfNone result ((status : ℕ) (phrase : List ℕ) → IsStatus text.now status phrase → ⊥) }
 {
     match text {
-        [a, b, c] => Some((three_digits(*a, *b, *c)?, b"")),
-        [a, b, c, b' ', phrase @ ..] => Some((three_digits(*a, *b, *c)?, phrase)),
+        [a, b, c] => Some((read_three_digits(*a, *b, *c)?, b"")),
+        [a, b, c, b' ', phrase @ ..] => Some((read_three_digits(*a, *b, *c)?, phrase)),
         _ => None,
     }
 }
 
 /// The number that three digits write.
-fn three_digits(a: u8, b: u8, c: u8) -> Option<u16>
+fn read_three_digits(a: u8, b: u8, c: u8) -> Option<u16>
     ensures some { IfSome result (λ n. AreDigits a b c × (n ≡ digits_value 10 (a ∷ b ∷ c ∷ []))) }
     ensures none { IfNone result (AreDigits a b c → ⊥) }
 {

@@ -1,7 +1,8 @@
 use Rattle.std.proofs.Common.{◌≡◌, [], ◌∷◌, ◌++◌, subst, sym, rules, ◌∙◌, codes}
 use Rattle.icap_head.specs.Fields.{field_list}
 use Rattle.icap_head.specs.Heads.{IsResponseHead, response_parts}
-use Rattle.icap_head.specs.Written.{fields_text, three_digits}
+use Rattle.adapt_bytes.specs.Numeral.{three_digits}
+use Rattle.icap_head.specs.Written.{fields_text}
 use Rattle.icap_head.proofs.Back.{response_back, response_text_is}
 use Rattle.icap_head.proofs.responses.write_response.Goals as goal
 

@@ -4,15 +4,15 @@ use Rattle.icap_head.specs.StartLines.{IsStatus}
 use Rattle.icap_head.proofs.Statuses.{status_alone, status_with}
 use Rattle.icap_head.proofs.start_lines.read_status.Goals as goal
 
-pub returns-in_ok-three_digits-in-len3-clause-some : goal.returns-in_ok-three_digits-in-len3-clause-some
-returns-in_ok-three_digits-in-len3-clause-some c =
-    let d = c.in_ok-three_digits-in-len3.ensures.some in
-    status_alone c.args.text.now c.in_ok-three_digits-in-len3.field-0 (omega arith) d.0 d.1
+pub returns-in_ok-read_three_digits-in-len3-clause-some : goal.returns-in_ok-read_three_digits-in-len3-clause-some
+returns-in_ok-read_three_digits-in-len3-clause-some c =
+    let d = c.in_ok-read_three_digits-in-len3.ensures.some in
+    status_alone c.args.text.now c.in_ok-read_three_digits-in-len3.field-0 (omega arith) d.0 d.1
 
-pub returns-in_ok-three_digits-in-32-clause-some : goal.returns-in_ok-three_digits-in-32-clause-some
-returns-in_ok-three_digits-in-32-clause-some c =
-    let d = c.in_ok-three_digits-in-32.ensures.some in
+pub returns-in_ok-read_three_digits-in-32-clause-some : goal.returns-in_ok-read_three_digits-in-32-clause-some
+returns-in_ok-read_three_digits-in-32-clause-some c =
+    let d = c.in_ok-read_three_digits-in-32.ensures.some in
     let text = c.args.text.now in
     let space : get_or text 3 0 ≡ 32 = search rules in
-    subst (IsStatus text c.in_ok-three_digits-in-32.field-0) (sym (take_rest text 4))
-    (status_with text c.in_ok-three_digits-in-32.field-0 (omega arith) space d.0 d.1)
+    subst (IsStatus text c.in_ok-read_three_digits-in-32.field-0) (sym (take_rest text 4))
+    (status_with text c.in_ok-read_three_digits-in-32.field-0 (omega arith) space d.0 d.1)
