@@ -18,8 +18,8 @@ use Rattle.adapt_sides.specs.declared.fault.RelayFault.TheVariants.{Head, Chunk,
 use Rattle.http_relay.specs.declared.side.Asks.{Asks}
 use Rattle.http_relay.specs.declared.side.Asks.TheVariants as asks
 use Rattle.http_relay.specs.declared.side.SourceHead.TheVariants as heads
-use Rattle.http_relay.specs.declared.side.head.Judged.{Judged}
-use Rattle.http_relay.specs.declared.side.head.Judged.TheVariants as judged
+use Rattle.http_relay.specs.declared.side.head.HeadProgress.{HeadProgress}
+use Rattle.http_relay.specs.declared.side.head.HeadProgress.TheVariants as progress
 use Rattle.http_relay.specs.declared.fill.Filled.TheVariants as filled
 use Rattle.http_relay.specs.declared.side.SourceSide.{SourceSide}
 use Rattle.http_relay.proofs.Beginning.{still_at_head}
@@ -123,11 +123,11 @@ more_is_few asks.Request raw h = h.1
 more_is_few (asks.Response to_head) raw h = h.1
 
 -- a refusal leaves the head to come
-pub still_refused : (old new : SourceSide) (result : Result Judged RelayFault) → new.asks ≡ old.asks → new.head ≡ heads.Unread → new.raw.items ≡ old.raw.items → IfOk result (λ j. (j ≡ judged.More) × (length new.raw.items < 16384))
+pub still_refused : (old new : SourceSide) (result : Result HeadProgress RelayFault) → new.asks ≡ old.asks → new.head ≡ heads.Unread → new.raw.items ≡ old.raw.items → IfOk result (λ j. (j ≡ progress.More) × (length new.raw.items < 16384))
     → (read : List ℕ) → AtHead read old → JudgesHeadTo result read new
-still_refused old new (Ok judged.More) a u r m read s = still_at_head old new a (u ∙ sym s.unread) r read s
-still_refused old new (Ok judged.Interim) a u r m read s = still_at_head old new a (u ∙ sym s.unread) r read s
-still_refused old new (Ok judged.Taken) a u r m read s = let odd : judged.Taken ≡ judged.More = m.0 in cc
+still_refused old new (Ok progress.More) a u r m read s = still_at_head old new a (u ∙ sym s.unread) r read s
+still_refused old new (Ok progress.Interim) a u r m read s = still_at_head old new a (u ∙ sym s.unread) r read s
+still_refused old new (Ok progress.Taken) a u r m read s = let odd : progress.Taken ≡ progress.More = m.0 in cc
 still_refused old new (Err fault) a u r m read s = still_at_head old new a (u ∙ sym s.unread) r read s
 
 -- all raw bytes were judged, and more may make a head of them

@@ -2,7 +2,7 @@
 
 ghost use Rattle.std.specs.Prelude.{◌≡◌, ◌-◌, ◌<◌, ◌≤◌, length, take, drop};
 ghost use Rattle.adapt_bytes.specs.declared.limits.TheConstants.{MAX_HEAD};
-ghost use Rattle.wire_kit.specs.Past.{Past, Fits, after_read};
+ghost use Rattle.wire_kit.specs.Past.{Past, FitsRoom, after_read};
 ghost use Rattle.icap_client.specs.Reading.{IsFilled};
 
 use adapt_bytes::MAX_HEAD;
@@ -30,7 +30,7 @@ pub(crate) enum Filled {
 /// Reads once into the bytes behind the first so many.
 fn read_behind<W: Wire>(bytes: &mut [u8], at: usize, wire: &mut W) -> Got
     requires { at < length bytes.old }
-    ensures fits { Fits (length bytes.old - at) result }
+    ensures fits { FitsRoom (length bytes.old - at) result }
     ensures len { length bytes.new ≡ length bytes.old }
     ensures front { take at bytes.new ≡ take at bytes.old }
     ensures past { (p : Past) → W.past wire.old p → W.past wire.new (after_read p (drop at bytes.new) result) }
