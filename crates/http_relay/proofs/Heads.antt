@@ -9,7 +9,8 @@ use Rattle.adapt_bytes.specs.Text.{has_line}
 use Rattle.http_relay.specs.Judging.{RefusesBytes, IsSwitching, IsLooking, HasNoHead, RefusesHead, LacksMemory, Scans, Looks}
 use Rattle.wire_kit.specs.Past.{Past}
 use Rattle.wire_kit.specs.declared.wire.Got.TheVariants as got
-use Rattle.http_relay.specs.Reading.{AtHead, GivesBack, Begins, SideRead, SideReads, JudgesHeadTo, ScannedTo, FitsHead, HeadTurn, IsFilled, IsBefore}
+use Rattle.http_relay.specs.Reading.{AtHead, GivesBack, Begins, SideRead, SideReads, JudgesHeadTo, ScannedTo, FitsHead, HeadTurn, IsBefore}
+use Rattle.adapt_sides.specs.Filling.{IsFilled}
 use Rattle.http_relay.specs.Source.{Agrees, known}
 use Rattle.http_relay.specs.declared.source_body.SourceBody.{SourceBody}
 use Rattle.http_relay.proofs.Sides.{filled_more}
@@ -20,7 +21,7 @@ use Rattle.http_relay.specs.declared.side.Asks.TheVariants as asks
 use Rattle.http_relay.specs.declared.side.SourceHead.TheVariants as heads
 use Rattle.http_relay.specs.declared.side.head.HeadProgress.{HeadProgress}
 use Rattle.http_relay.specs.declared.side.head.HeadProgress.TheVariants as progress
-use Rattle.http_relay.specs.declared.fill.Filled.TheVariants as filled
+use Rattle.adapt_sides.specs.declared.filling.Filled.TheVariants as filled
 use Rattle.http_relay.specs.declared.side.SourceSide.{SourceSide}
 use Rattle.http_relay.proofs.Beginning.{still_at_head}
 use Rattle.http_relay.proofs.Turning.{SameSide, none_read, bytes_read}

@@ -9,10 +9,11 @@ use Rattle.wire_kit.specs.Past.{IsLater}
 use Rattle.wire_kit.specs.declared.wire.Got.{Got}
 use Rattle.wire_kit.specs.declared.wire.Got.TheVariants as got
 use Rattle.adapt_sides.specs.Turns.{HasReason, SaysWaiting, Remembers, ReadsBody, events_of, waits_of}
-use Rattle.http_relay.specs.Reading.{SideRead, SideReads, Rests, IsFilled, IsCause, IsReadDue, ReadsWhereDue, FitsGot, ReadTurn}
+use Rattle.http_relay.specs.Reading.{SideRead, SideReads, Rests, IsCause, IsReadDue, ReadsWhereDue, FitsGot, ReadTurn}
+use Rattle.adapt_sides.specs.Filling.{IsFilled}
 use Rattle.adapt_sides.specs.declared.fault.RelayFault.{RelayFault}
 use Rattle.adapt_sides.specs.declared.fault.RelayFault.TheVariants.{Closed, Device, NoMemory}
-use Rattle.http_relay.specs.declared.fill.Filled.TheVariants as filled
+use Rattle.adapt_sides.specs.declared.filling.Filled.TheVariants as filled
 use Rattle.http_relay.specs.declared.side.SourceSide.{SourceSide}
 use Rattle.http_relay.specs.declared.source_body.SourceBody.{SourceBody}
 use Rattle.adapt_sides.specs.declared.turn.Turn.{Turn}

@@ -8,7 +8,7 @@ use Rattle.http_side.specs.declared.body.Framing.{Framing}
 use Rattle.http_side.specs.declared.body.Framing.TheVariants.{None}
 use Rattle.trace_core.specs.declared.history.Event.{Event}
 use Rattle.trace_core.specs.declared.history.Seen.{Seen}
-use Rattle.wire_kit.specs.Past.{Past, Gave, ReadsAtMostOnce}
+use Rattle.wire_kit.specs.Past.{Past, ReadsAtMostOnce}
 use Rattle.trace_core.specs.Turns.{after_all, MayAllFollow, AllAre, in_sum, is_of_source}
 use Rattle.http_relay.specs.Source.{known, Agrees, BodyRead, IsCutShort, MustWait, Refuses}
 use Rattle.wire_kit.specs.declared.wire.Got.{Got}
@@ -23,8 +23,6 @@ use Rattle.http_relay.specs.declared.side.SourceHead.{SourceHead}
 use Rattle.http_relay.specs.declared.side.SourceHead.TheVariants as heads
 use Rattle.http_relay.specs.declared.side.head.HeadProgress.{HeadProgress}
 use Rattle.http_relay.specs.declared.side.head.HeadProgress.TheVariants as progress
-use Rattle.http_relay.specs.declared.fill.Filled.{Filled}
-use Rattle.http_relay.specs.declared.fill.Filled.TheVariants as filled
 use Rattle.http_relay.specs.Judging.{IsLooking, HasNoHead, Looks}
 use Rattle.adapt_sides.specs.declared.turn.Turn.{Turn}
 
@@ -96,16 +94,6 @@ pub record SideReads (old new : SourceSide) (events : List Event) (delta part : 
 -- nothing is to be read: the end was told, or there is no room
 abbrev pub Rests : ℕ → SourceSide → Type 0
 Rests room s = (s.body.ended ≡ true) ⊎ (room ≡ 0)
-
--- ---- one read
-
--- bytes came behind the raw ones, or none, with the wire's reason
-abbrev pub IsFilled : (Past → Type 0) → (Past → Type 0) → List ℕ → List ℕ → Filled → Type 0
-IsFilled before after old new filled.Bytes = (delta : List ℕ) × (0 < length delta) × (new ≡ old ++ delta) × Gave before after delta
-IsFilled before after old new filled.Ended = (new ≡ old) × ((p : Past) → before p → after (record { read = p.read; taken = p.taken; ends = p.ends + 1; read_waits = p.read_waits; write_waits = p.write_waits; faults = p.faults; reads = p.reads; writes = p.writes }))
-IsFilled before after old new filled.Wait = (new ≡ old) × ((p : Past) → before p → after (record { read = p.read; taken = p.taken; ends = p.ends; read_waits = p.read_waits + 1; write_waits = p.write_waits; faults = p.faults; reads = p.reads; writes = p.writes }))
-IsFilled before after old new filled.Failed = (new ≡ old) × ((p : Past) → before p → after (record { read = p.read; taken = p.taken; ends = p.ends; read_waits = p.read_waits; write_waits = p.write_waits; faults = p.faults + 1; reads = p.reads; writes = p.writes }))
-IsFilled before after old new filled.NoMemory = (new ≡ old) × ((p : Past) → before p → after p)
 
 -- ---- a turn of a side without a fault
 

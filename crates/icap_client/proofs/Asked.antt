@@ -8,9 +8,9 @@ use Rattle.adapt_sides.specs.declared.fault.ClientFault.{ClientFault}
 use Rattle.adapt_sides.specs.declared.fault.ClientFault.TheVariants as faults
 use Rattle.icap_head.specs.Heads.{Response, response_parts}
 use Rattle.icap_head.specs.declared.responses.IcapResponse.{IcapResponse}
-use Rattle.icap_client.specs.Reading.{IsFilled}
-use Rattle.icap_client.specs.declared.filled.Filled.{Filled}
-use Rattle.icap_client.specs.declared.filled.Filled.TheVariants as fills
+use Rattle.adapt_sides.specs.Filling.{IsFilled}
+use Rattle.adapt_sides.specs.declared.filling.Filled.{Filled}
+use Rattle.adapt_sides.specs.declared.filling.Filled.TheVariants as fills
 use Rattle.icap_client.specs.declared.options.OptionsStage.{OptionsStage}
 use Rattle.icap_client.specs.declared.options.OptionsStage.TheVariants.{Head, Body, Over}
 use Rattle.icap_client.specs.Asking.{IsOptionsAnswer, Asker, LetsRoomGo, AnsweredTo, HasAnswered, Tells, Frames, RefusesRaw, RefusesGiven, AnswersOptions, HasToAsk, Call, IsCall, FitsBytes, FitsKept, FitsCall, Asks}

@@ -12,10 +12,11 @@ use Rattle.icap_client.specs.Events.{May, ad_sum}
 use Rattle.icap_client.specs.Heard.{Reader}
 use Rattle.icap_client.specs.HeadFront.{HasToWait}
 use Rattle.icap_client.specs.Refused.{Refuses}
-use Rattle.icap_client.specs.Reading.{Side, GivesBack, SideHears, IsFilled, MayRead, NothingToRead, IsReadDue, ReadsWhereDue, FitsGot, IsRefused, IsUnheard, CameOf, ReadTurn}
+use Rattle.icap_client.specs.Reading.{Side, GivesBack, SideHears, MayRead, NothingToRead, IsReadDue, ReadsWhereDue, FitsGot, IsRefused, IsUnheard, CameOf, ReadTurn}
+use Rattle.adapt_sides.specs.Filling.{IsFilled}
 use Rattle.adapt_sides.specs.declared.fault.ClientFault.{ClientFault}
 use Rattle.adapt_sides.specs.declared.fault.ClientFault.TheVariants.{Closed, Device, NoMemory, NotLegal}
-use Rattle.icap_client.specs.declared.filled.Filled.TheVariants as filled
+use Rattle.adapt_sides.specs.declared.filling.Filled.TheVariants as filled
 use Rattle.adapt_sides.specs.declared.turn.Turn.{Turn}
 use Rattle.icap_client.specs.declared.stage.Stage.{Stage}
 use Rattle.icap_client.specs.declared.stage.Stage.TheVariants.{Replies, Head, Body, Over}

@@ -23,10 +23,10 @@ use Rattle.icap_client.specs.Replies.{IsHead, lists_of, has_body}
 use Rattle.icap_client.specs.RequestHead.{joined, host_pieces}
 use Rattle.adapt_sides.specs.declared.fault.ClientFault.{ClientFault}
 use Rattle.adapt_sides.specs.declared.fault.ClientFault.TheVariants as faults
-use Rattle.icap_client.specs.Reading.{IsFilled}
+use Rattle.adapt_sides.specs.Filling.{IsFilled}
 use Rattle.icap_client.specs.Refused.{WithHead}
-use Rattle.icap_client.specs.declared.filled.Filled.{Filled}
-use Rattle.icap_client.specs.declared.filled.Filled.TheVariants as fills
+use Rattle.adapt_sides.specs.declared.filling.Filled.{Filled}
+use Rattle.adapt_sides.specs.declared.filling.Filled.TheVariants as fills
 use Rattle.icap_client.specs.declared.options.OptionsStage.{OptionsStage}
 use Rattle.icap_client.specs.declared.options.OptionsStage.TheVariants.{Head, Body, Over}
 

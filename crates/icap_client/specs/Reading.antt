@@ -4,7 +4,7 @@ use Rattle.trace_core.specs.declared.history.Event.{Event}
 use Rattle.trace_core.specs.declared.history.Event.TheVariants.{Heard}
 use Rattle.trace_core.specs.declared.history.Seen.{Seen}
 use Rattle.trace_core.specs.History.{is_preview}
-use Rattle.wire_kit.specs.Past.{Past, Gave, ReadsAtMostOnce}
+use Rattle.wire_kit.specs.Past.{Past, ReadsAtMostOnce}
 use Rattle.wire_kit.specs.declared.wire.Got.{Got}
 use Rattle.wire_kit.specs.declared.wire.Got.TheVariants as got
 use Rattle.icap_client.specs.Events.{May, after_all, MayAllFollow, AllAre, is_of_replies, ad_sum}
@@ -13,8 +13,6 @@ use Rattle.icap_client.specs.HeadFront.{HasToWait}
 use Rattle.icap_client.specs.Refused.{Refuses}
 use Rattle.adapt_sides.specs.declared.fault.ClientFault.{ClientFault}
 use Rattle.adapt_sides.specs.declared.fault.ClientFault.TheVariants.{Closed, Device, NoMemory, NotLegal}
-use Rattle.icap_client.specs.declared.filled.Filled.{Filled}
-use Rattle.icap_client.specs.declared.filled.Filled.TheVariants as filled
 use Rattle.adapt_sides.specs.declared.turn.Turn.{Turn}
 use Rattle.icap_client.specs.declared.stage.Stage.{Stage}
 use Rattle.icap_client.specs.declared.stage.Stage.TheVariants.{Over}
@@ -62,16 +60,6 @@ pub record SideHears (x : Seen) (old new : Side) (events : List Event) (given pa
 -- the service may answer now: in a preview once its last chunk is out, and behind a 100; elsewhere at any moment
 abbrev pub MayRead : Seen → Bool → Type 0
 MayRead x all_sent = (is_preview x.plan.kind ≡ false) ⊎ ((x.continued ≡ true) ⊎ ((x.stopped ≡ true) × (all_sent ≡ true)))
-
--- ---- one read
-
--- bytes came behind the raw ones, or none, with the wire's reason
-abbrev pub IsFilled : (Past → Type 0) → (Past → Type 0) → List ℕ → List ℕ → Filled → Type 0
-IsFilled before after old new filled.Bytes = (given : List ℕ) × (0 < length given) × (new ≡ old ++ given) × Gave before after given
-IsFilled before after old new filled.Ended = (new ≡ old) × ((p : Past) → before p → after (record { read = p.read; taken = p.taken; ends = p.ends + 1; read_waits = p.read_waits; write_waits = p.write_waits; faults = p.faults; reads = p.reads; writes = p.writes }))
-IsFilled before after old new filled.Wait = (new ≡ old) × ((p : Past) → before p → after (record { read = p.read; taken = p.taken; ends = p.ends; read_waits = p.read_waits + 1; write_waits = p.write_waits; faults = p.faults; reads = p.reads; writes = p.writes }))
-IsFilled before after old new filled.Failed = (new ≡ old) × ((p : Past) → before p → after (record { read = p.read; taken = p.taken; ends = p.ends; read_waits = p.read_waits; write_waits = p.write_waits; faults = p.faults + 1; reads = p.reads; writes = p.writes }))
-IsFilled before after old new filled.NoMemory = (new ≡ old) × ((p : Past) → before p → after p)
 
 -- ---- a turn
 

@@ -6,12 +6,11 @@ ghost use Rattle.adapt_bytes.specs.declared.limits.TheConstants.{MAX_HEAD};
 ghost use Rattle.http_relay.specs.Judging.{RefusesBytes, IsLooking, JudgesHead, Scans};
 ghost use Rattle.http_relay.specs.Reading.{AtHead, HeadTurn, JudgesHeadTo, ScannedTo};
 
-use crate::fill::{Filled, fill};
 use crate::pieces::behind;
 use crate::side::{Asks, SourceHead, SourceSide};
 use crate::source_body::SourceBody;
 use adapt_bytes::MAX_HEAD;
-use adapt_sides::RelayFault;
+use adapt_sides::{Filled, RelayFault, fill};
 use http_side::{HttpFault, read_request, read_response};
 use wire_kit::Wire;
 
