@@ -1,3 +1,4 @@
 pub mod FaultNames
+pub mod Filling
 pub mod Tapes
 pub mod Turns

@@ -5,12 +5,14 @@
 #![tactic(auto)]
 
 mod fault;
+mod filling;
 mod hop;
 mod service;
 mod source;
 mod turn;
 
 pub use fault::{ClientFault, RelayFault};
+pub use filling::{Filled, MAX_READ, fill};
 pub use hop::Hop;
 pub use service::Service;
 pub use source::Source;

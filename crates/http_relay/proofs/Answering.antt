@@ -29,7 +29,7 @@ use Rattle.trace_core.specs.Turns.{after_all}
 use Rattle.adapt_sides.specs.Tapes.{Follows, KeepsUndelivered}
 use Rattle.adapt_sides.specs.Turns.{events_of}
 use Rattle.http_relay.proofs.Counted.{took_body}
-use Rattle.http_relay.specs.Writing.{GoesOn, WriteTurn, Fits, FitsAnswer}
+use Rattle.http_relay.specs.Writing.{GoesOn, WriteTurn, FitsOffer, FitsAnswer}
 use Rattle.http_relay.proofs.Chosen.{done_means, fewer}
 use Rattle.http_relay.proofs.Given.{gives_passed}
 use Rattle.http_relay.proofs.Carried.{given_on, aside_on, done_given, undelivered_done, legal_by, held_by, usr_to}
@@ -183,7 +183,7 @@ due_let_go x old new l d = record {
   no_done = λ m. d.no_done (ap (λ (stage : Stage). is_message stage || is_whole stage) (sym l.stage) ∙ m);
 }
 
-fits_let_go : (x : Seen) (old mid new : Hop) (answer : Option Put) (result : Result Turn RelayFault) → LetsGo mid new → Fits x old mid answer result → Fits x old new answer result
+fits_let_go : (x : Seen) (old mid new : Hop) (answer : Option Put) (result : Result Turn RelayFault) → LetsGo mid new → FitsOffer x old mid answer result → FitsOffer x old new answer result
 fits_let_go x old mid new answer (Ok turn) l f = record {
   no_fault = f.no_fault;
   wait = f.wait;
@@ -212,7 +212,7 @@ decides_at x old v f stage next w fe se c =
 -- the writer and the rest of the side, by their parts
 pub turned : (x : Seen) (tape : Tape) (next : Next) (old new : Hop) (v : Writer) (f : Framing) (stage : Stage) (before after' : Past → Type 0) (result : Result Turn RelayFault) (answer : Option Put) (k : ℕ) (e done : Bool)
     → v ≡ old.writer → f ≡ old.framing → stage ≡ old.stage → Sound x → KeepsUndelivered x tape → Decides x v f stage next → Offers before after' (offered v tape next) answer → (answer ≡ None → offered v tape next ≡ []) → (offered v tape next ≡ [] → answer ≡ None)
-    → Moves tape next v k e (delta_of (offered v tape next) answer) new.writer → Settles x next old new k e done (delta_of (offered v tape next) answer) → events_of result ≡ turn_events k done → (old.fault ≡ None → Fits x old new answer result) → WriteTurn x tape old new before after' result
+    → Moves tape next v k e (delta_of (offered v tape next) answer) new.writer → Settles x next old new k e done (delta_of (offered v tape next) answer) → events_of result ≡ turn_events k done → (old.fault ≡ None → FitsOffer x old new answer result) → WriteTurn x tape old new before after' result
 turned x tape next old new v f stage before after' result answer k e done w fe se s u c o silent asks m t h fit =
     let text = offered v tape next in
     let decides : Decides x old.writer old.framing old.stage next = decides_at x old v f stage next w fe se c in
@@ -228,7 +228,7 @@ turned x tape next old new v f stage before after' result answer k e done w fe s
 
 -- no write is made
 pub unmoved : (x : Seen) (tape : Tape) (old new : Hop) (before : Past → Type 0) (fault : RelayFault) → new.writer ≡ old.writer → new.framing ≡ old.framing → new.stage ≡ old.stage → new.touched ≡ old.touched
-    → (old.fault ≡ None → fault ≡ Length) → (old.fault ≡ None → Fits x old new None (Err fault)) → WriteTurn x tape old new before before (Err fault)
+    → (old.fault ≡ None → fault ≡ Length) → (old.fault ≡ None → FitsOffer x old new None (Err fault)) → WriteTurn x tape old new before before (Err fault)
 unmoved x tape old new before fault w f s t only fit = record {
   text = [];
   answer = None;

@@ -18,7 +18,7 @@ use Rattle.adapt_sides.specs.declared.fault.RelayFault.{RelayFault}
 use Rattle.adapt_sides.specs.declared.fault.RelayFault.TheVariants.{Device, Length}
 use Rattle.http_relay.specs.Message.{IsMessage}
 use Rattle.http_relay.specs.Giving.{Hop, HasGiven, IsAside, NothingDue, usr_events, turn_events}
-use Rattle.http_relay.specs.Writing.{WriteTurn, Fits, FitsAnswer}
+use Rattle.http_relay.specs.Writing.{WriteTurn, FitsOffer, FitsAnswer}
 use Rattle.http_relay.proofs.Chosen.{done_moves}
 use Rattle.http_relay.proofs.Whole.{whole_at}
 
@@ -36,7 +36,7 @@ wait_counts : (p : Past) (text : List ℕ) (answer : Option Put) → answer ≡ 
 wait_counts p text answer e = subst (λ (a : Option Put). p.write_waits < (after_offer p text a).write_waits) (sym e) (omega arith)
 
 -- why it failed, or waits
-reason : (x : Seen) (old new : Hop) (p : Past) (text : List ℕ) (answer : Option Put) (result : Result Turn RelayFault) → (old.fault ≡ None → Fits x old new answer result)
+reason : (x : Seen) (old new : Hop) (p : Past) (text : List ℕ) (answer : Option Put) (result : Result Turn RelayFault) → (old.fault ≡ None → FitsOffer x old new answer result)
     → ((fault : RelayFault) → old.fault ≡ Some fault → result ≡ Err fault) → (o : Option RelayFault) → o ≡ old.fault
     → HasReason Device p (after_offer p text answer) old.fault (NothingDue x new) (λ past. past.write_waits) result
 reason x old new p text answer (Ok turn) f r None e =
@@ -69,7 +69,7 @@ must_wait x new text (Some (put.Took k)) turn false w h f n d = absurd (take_som
 must_wait x new text (Some put.Wait) turn false w h f n d = absurd (h.woke w refl)
 must_wait x new text (Some put.Fault) turn false w h f n d = absurd (h.no_fault refl)
 
-says : (x : Seen) (old new : Hop) (text : List ℕ) (answer : Option Put) (result : Result Turn RelayFault) → IfSome answer (FitsPut (length text)) → (old.fault ≡ None → Fits x old new answer result)
+says : (x : Seen) (old new : Hop) (text : List ℕ) (answer : Option Put) (result : Result Turn RelayFault) → IfSome answer (FitsPut (length text)) → (old.fault ≡ None → FitsOffer x old new answer result)
     → ((fault : RelayFault) → old.fault ≡ Some fault → result ≡ Err fault) → (o : Option RelayFault) → o ≡ old.fault
     → SaysWaiting (events_of result) (delta_of text answer) result
 says x old new text answer (Ok turn) q f r None e =

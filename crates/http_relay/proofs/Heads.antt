@@ -9,7 +9,8 @@ use Rattle.adapt_bytes.specs.Text.{has_line}
 use Rattle.http_relay.specs.Judging.{RefusesBytes, IsSwitching, IsLooking, HasNoHead, RefusesHead, LacksMemory, Scans, Looks}
 use Rattle.wire_kit.specs.Past.{Past}
 use Rattle.wire_kit.specs.declared.wire.Got.TheVariants as got
-use Rattle.http_relay.specs.Reading.{AtHead, GivesBack, Begins, SideRead, SideReads, JudgesHeadTo, ScannedTo, FitsHead, HeadTurn, IsFilled, IsBefore}
+use Rattle.http_relay.specs.Reading.{AtHead, GivesBack, Begins, SideRead, SideReads, JudgesHeadTo, ScannedTo, FitsHead, HeadTurn, IsBefore}
+use Rattle.adapt_sides.specs.Filling.{IsFilled}
 use Rattle.http_relay.specs.Source.{Agrees, known}
 use Rattle.http_relay.specs.declared.source_body.SourceBody.{SourceBody}
 use Rattle.http_relay.proofs.Sides.{filled_more}
@@ -18,9 +19,9 @@ use Rattle.adapt_sides.specs.declared.fault.RelayFault.TheVariants.{Head, Chunk,
 use Rattle.http_relay.specs.declared.side.Asks.{Asks}
 use Rattle.http_relay.specs.declared.side.Asks.TheVariants as asks
 use Rattle.http_relay.specs.declared.side.SourceHead.TheVariants as heads
-use Rattle.http_relay.specs.declared.side.head.Judged.{Judged}
-use Rattle.http_relay.specs.declared.side.head.Judged.TheVariants as judged
-use Rattle.http_relay.specs.declared.fill.Filled.TheVariants as filled
+use Rattle.http_relay.specs.declared.side.head.HeadProgress.{HeadProgress}
+use Rattle.http_relay.specs.declared.side.head.HeadProgress.TheVariants as progress
+use Rattle.adapt_sides.specs.declared.filling.Filled.TheVariants as filled
 use Rattle.http_relay.specs.declared.side.SourceSide.{SourceSide}
 use Rattle.http_relay.proofs.Beginning.{still_at_head}
 use Rattle.http_relay.proofs.Turning.{SameSide, none_read, bytes_read}
@@ -123,11 +124,11 @@ more_is_few asks.Request raw h = h.1
 more_is_few (asks.Response to_head) raw h = h.1
 
 -- a refusal leaves the head to come
-pub still_refused : (old new : SourceSide) (result : Result Judged RelayFault) → new.asks ≡ old.asks → new.head ≡ heads.Unread → new.raw.items ≡ old.raw.items → IfOk result (λ j. (j ≡ judged.More) × (length new.raw.items < 16384))
+pub still_refused : (old new : SourceSide) (result : Result HeadProgress RelayFault) → new.asks ≡ old.asks → new.head ≡ heads.Unread → new.raw.items ≡ old.raw.items → IfOk result (λ j. (j ≡ progress.More) × (length new.raw.items < 16384))
     → (read : List ℕ) → AtHead read old → JudgesHeadTo result read new
-still_refused old new (Ok judged.More) a u r m read s = still_at_head old new a (u ∙ sym s.unread) r read s
-still_refused old new (Ok judged.Interim) a u r m read s = still_at_head old new a (u ∙ sym s.unread) r read s
-still_refused old new (Ok judged.Taken) a u r m read s = let odd : judged.Taken ≡ judged.More = m.0 in cc
+still_refused old new (Ok progress.More) a u r m read s = still_at_head old new a (u ∙ sym s.unread) r read s
+still_refused old new (Ok progress.Interim) a u r m read s = still_at_head old new a (u ∙ sym s.unread) r read s
+still_refused old new (Ok progress.Taken) a u r m read s = let odd : progress.Taken ≡ progress.More = m.0 in cc
 still_refused old new (Err fault) a u r m read s = still_at_head old new a (u ∙ sym s.unread) r read s
 
 -- all raw bytes were judged, and more may make a head of them

@@ -2,18 +2,18 @@
 use Rattle.std.proofs.Common.{◌≡◌, ◌≢◌, ℕ, ◌+◌, ◌<◌, ◌≤◌, ◌⊎◌, inl, inr, true, false, List, [], ◌++◌, length, take, refl, ap, sym, subst, ◌∙◌, append-nil, arith, Option, Some, None, Result, Ok, Err}
 use Rattle.std.proofs.Math.Seq.{take-length}
 use Rattle.trace_core.specs.declared.history.Event.{Event}
-use Rattle.wire_kit.specs.Past.{Past}
+use Rattle.wire_kit.specs.Past.{Past, Gave, IsGiven, ReadsAtMostOnce, after_ask}
 use Rattle.trace_core.specs.Turns.{in_sum, after_all}
 use Rattle.http_relay.specs.Source.{Agrees, BodyReads, IsCutShort, MustWait, Refuses}
 use Rattle.wire_kit.specs.Past.{IsLater}
 use Rattle.wire_kit.specs.declared.wire.Got.{Got}
 use Rattle.wire_kit.specs.declared.wire.Got.TheVariants as got
-use Rattle.http_relay.specs.Asking.{IsGiven, Reads, after_ask}
 use Rattle.adapt_sides.specs.Turns.{HasReason, SaysWaiting, Remembers, ReadsBody, events_of, waits_of}
-use Rattle.http_relay.specs.Reading.{SideRead, SideReads, Rests, HasFramed, Gave, IsFilled, IsCause, IsReadDue, ReadsWhereDue, FitsGot, ReadTurn}
+use Rattle.http_relay.specs.Reading.{SideRead, SideReads, Rests, HasFramed, IsCause, IsReadDue, ReadsWhereDue, FitsGot, ReadTurn}
+use Rattle.adapt_sides.specs.Filling.{IsFilled}
 use Rattle.adapt_sides.specs.declared.fault.RelayFault.{RelayFault}
 use Rattle.adapt_sides.specs.declared.fault.RelayFault.TheVariants.{Closed, Device, NoMemory}
-use Rattle.http_relay.specs.declared.fill.Filled.TheVariants as filled
+use Rattle.adapt_sides.specs.declared.filling.Filled.TheVariants as filled
 use Rattle.http_relay.specs.declared.side.SourceSide.{SourceSide}
 use Rattle.http_relay.specs.declared.source_body.SourceBody.{SourceBody}
 use Rattle.adapt_sides.specs.declared.turn.Turn.{Turn}
@@ -29,11 +29,11 @@ later_none : (p : Past) → IsLater p [] [] p
 later_none p = record { read = sym (append-nil p.read); out = sym (append-nil p.taken); write_waits = omega arith; ends = omega arith; read_waits = omega arith; faults = omega arith }
 
 -- a turn that doesn't read
-pub none_read : (P : Past → Type 0) → Reads P P [] None
+pub none_read : (P : Past → Type 0) → ReadsAtMostOnce P P [] None
 none_read P = record { each = λ p b. b; fits = refl }
 
 -- a turn that reads once, and gets bytes
-pub bytes_read : (P Q : Past → Type 0) (given : List ℕ) → 0 < length given → Gave P Q given → Reads P Q given (Some (got.Bytes (length given)))
+pub bytes_read : (P Q : Past → Type 0) (given : List ℕ) → 0 < length given → Gave P Q given → ReadsAtMostOnce P Q given (Some (got.Bytes (length given)))
 bytes_read P Q given some g = record {
   each = λ p b.
       subst (λ (t : List ℕ). Q (record { read = p.read ++ t; taken = p.taken; ends = p.ends; read_waits = p.read_waits; write_waits = p.write_waits; faults = p.faults; reads = p.reads + 1; writes = p.writes })) (sym (take-length given)) (g p b);

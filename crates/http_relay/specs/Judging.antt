@@ -13,8 +13,8 @@ use Rattle.http_relay.specs.declared.side.SourceSide.{SourceSide}
 use Rattle.http_relay.specs.declared.side.Asks.{Asks}
 use Rattle.http_relay.specs.declared.side.Asks.TheVariants as asks
 use Rattle.http_relay.specs.declared.side.SourceHead.TheVariants as heads
-use Rattle.http_relay.specs.declared.side.head.Judged.{Judged}
-use Rattle.http_relay.specs.declared.side.head.Judged.TheVariants as judged
+use Rattle.http_relay.specs.declared.side.head.HeadProgress.{HeadProgress}
+use Rattle.http_relay.specs.declared.side.head.HeadProgress.TheVariants as progress
 
 -- the bytes are refused for this, as a request's head or a response's
 abbrev pub RefusesBytes : Asks → List ℕ → HttpFault → Type 0
@@ -57,10 +57,10 @@ IsRefused NoMemory s = LacksMemory s
 IsRefused _ s = ⊥
 
 -- what judging the raw bytes once says of them
-abbrev pub JudgesHead : Result Judged RelayFault → SourceSide → Type 0
-JudgesHead (Ok judged.More) s = HasNoHead s
-JudgesHead (Ok judged.Interim) s = IsLooking s
-JudgesHead (Ok judged.Taken) s = s.head ≡ heads.Unread → ⊥
+abbrev pub JudgesHead : Result HeadProgress RelayFault → SourceSide → Type 0
+JudgesHead (Ok progress.More) s = HasNoHead s
+JudgesHead (Ok progress.Interim) s = IsLooking s
+JudgesHead (Ok progress.Taken) s = s.head ≡ heads.Unread → ⊥
 JudgesHead (Err fault) s = IsRefused fault s
 
 abbrev pub Scans : Result Bool RelayFault → SourceSide → Type 0

@@ -1,7 +1,6 @@
 pub mod Body
 pub mod Events
 pub mod Source
-pub mod Asking
 pub mod Reading
 pub mod Message
 pub mod Giving

@@ -8,12 +8,11 @@ use Rattle.http_side.specs.declared.body.Framing.{Framing}
 use Rattle.http_side.specs.declared.body.Framing.TheVariants.{None}
 use Rattle.trace_core.specs.declared.history.Event.{Event}
 use Rattle.trace_core.specs.declared.history.Seen.{Seen}
-use Rattle.wire_kit.specs.Past.{Past}
+use Rattle.wire_kit.specs.Past.{Past, ReadsAtMostOnce}
 use Rattle.trace_core.specs.Turns.{after_all, MayAllFollow, AllAre, in_sum, is_of_source}
 use Rattle.http_relay.specs.Source.{known, Agrees, BodyRead, IsCutShort, MustWait, Refuses}
 use Rattle.wire_kit.specs.declared.wire.Got.{Got}
 use Rattle.wire_kit.specs.declared.wire.Got.TheVariants as got
-use Rattle.http_relay.specs.Asking.{Reads}
 use Rattle.adapt_sides.specs.Turns.{SaysWaiting, events_of, waits_of}
 use Rattle.adapt_sides.specs.declared.fault.RelayFault.{RelayFault}
 use Rattle.adapt_sides.specs.declared.fault.RelayFault.TheVariants.{Closed, Device, NoMemory}
@@ -22,10 +21,8 @@ use Rattle.http_relay.specs.declared.side.Asks.{Asks}
 use Rattle.http_relay.specs.declared.side.Asks.TheVariants as asks
 use Rattle.http_relay.specs.declared.side.SourceHead.{SourceHead}
 use Rattle.http_relay.specs.declared.side.SourceHead.TheVariants as heads
-use Rattle.http_relay.specs.declared.side.head.Judged.{Judged}
-use Rattle.http_relay.specs.declared.side.head.Judged.TheVariants as judged
-use Rattle.http_relay.specs.declared.fill.Filled.{Filled}
-use Rattle.http_relay.specs.declared.fill.Filled.TheVariants as filled
+use Rattle.http_relay.specs.declared.side.head.HeadProgress.{HeadProgress}
+use Rattle.http_relay.specs.declared.side.head.HeadProgress.TheVariants as progress
 use Rattle.http_relay.specs.Judging.{IsLooking, HasNoHead, Looks}
 use Rattle.adapt_sides.specs.declared.turn.Turn.{Turn}
 
@@ -102,20 +99,6 @@ Rests room s = (s.body.ended ≡ true) ⊎ (room ≡ 0)
 abbrev pub HasFramed : ℕ → SourceSide → Type 0
 HasFramed room s = MustWait s.body s.raw.items room
 
--- ---- one read
-
--- after a read that gave these bytes, on a wire that may have had each of these pasts
-abbrev pub Gave : (Past → Type 0) → (Past → Type 0) → List ℕ → Type 0
-Gave before after delta = (p : Past) → before p → after (record { read = p.read ++ delta; taken = p.taken; ends = p.ends; read_waits = p.read_waits; write_waits = p.write_waits; faults = p.faults; reads = p.reads + 1; writes = p.writes })
-
--- bytes came behind the raw ones, or none, with the wire's reason
-abbrev pub IsFilled : (Past → Type 0) → (Past → Type 0) → List ℕ → List ℕ → Filled → Type 0
-IsFilled before after old new filled.Bytes = (delta : List ℕ) × (0 < length delta) × (new ≡ old ++ delta) × Gave before after delta
-IsFilled before after old new filled.Ended = (new ≡ old) × ((p : Past) → before p → after (record { read = p.read; taken = p.taken; ends = p.ends + 1; read_waits = p.read_waits; write_waits = p.write_waits; faults = p.faults; reads = p.reads; writes = p.writes }))
-IsFilled before after old new filled.Wait = (new ≡ old) × ((p : Past) → before p → after (record { read = p.read; taken = p.taken; ends = p.ends; read_waits = p.read_waits + 1; write_waits = p.write_waits; faults = p.faults; reads = p.reads; writes = p.writes }))
-IsFilled before after old new filled.Failed = (new ≡ old) × ((p : Past) → before p → after (record { read = p.read; taken = p.taken; ends = p.ends; read_waits = p.read_waits; write_waits = p.write_waits; faults = p.faults + 1; reads = p.reads; writes = p.writes }))
-IsFilled before after old new filled.NoMemory = (new ≡ old) × ((p : Past) → before p → after p)
-
 -- ---- a turn of a side without a fault
 
 -- the fault is the wire's, which closed within the body or failed, or want of memory, or that of the raw bytes
@@ -150,7 +133,7 @@ FitsGot room new (Some got.Fault) result = result ≡ Err Device
 pub record ReadTurn (room : ℕ) (old new : SourceSide) (before after : Past → Type 0) (out : List ℕ) (result : Result Turn RelayFault) : Type 0 where
   pub delta : List ℕ
   pub answer : Option Got
-  pub wire : Reads before after delta answer
+  pub wire : ReadsAtMostOnce before after delta answer
   pub due : ReadsWhereDue room old answer
   pub fits : FitsGot room new answer result
   pub count : in_sum (events_of result) ≤ room
@@ -166,10 +149,10 @@ abbrev pub Begins : List ℕ → SourceSide → Type 0
 Begins read s = (x : Seen) → x.received ≡ 0 → x.ended ≡ false → SideRead x [] read s × (IfSome x.plan.len (λ len. known s.body.framing ≡ Some len) → Agrees x s.body)
 
 -- what judging the raw bytes gives: the message begins, or its head is still to come
-abbrev pub JudgesHeadTo : Result Judged RelayFault → List ℕ → SourceSide → Type 0
-JudgesHeadTo (Ok judged.Taken) read s = Begins read s
-JudgesHeadTo (Ok judged.More) read s = AtHead read s
-JudgesHeadTo (Ok judged.Interim) read s = AtHead read s
+abbrev pub JudgesHeadTo : Result HeadProgress RelayFault → List ℕ → SourceSide → Type 0
+JudgesHeadTo (Ok progress.Taken) read s = Begins read s
+JudgesHeadTo (Ok progress.More) read s = AtHead read s
+JudgesHeadTo (Ok progress.Interim) read s = AtHead read s
 JudgesHeadTo (Err fault) read s = AtHead read s
 
 abbrev pub ScannedTo : Result Bool RelayFault → List ℕ → SourceSide → Type 0
@@ -197,7 +180,7 @@ FitsHead (Some got.Fault) result = result ≡ Err Device
 pub record HeadTurn (old new : SourceSide) (before after : Past → Type 0) (result : Result Bool RelayFault) : Type 0 where
   pub delta : List ℕ
   pub answer : Option Got
-  pub wire : Reads before after delta answer
+  pub wire : ReadsAtMostOnce before after delta answer
   pub due : ReadsForHead old answer
   pub fits : FitsHead answer result
   pub heads : (read : List ℕ) → AtHead read old → ScannedTo result (read ++ delta) new

@@ -48,9 +48,9 @@ pub record FitsAnswer (x : Seen) (new : Hop) (answer : Option Put) (turn : Turn)
 
 -- A first fault is Device, exactly where the wire failed in this call, or Length, where the body breaks its length and
 -- nothing was offered.
-abbrev pub Fits : Seen → Hop → Hop → Option Put → Result Turn RelayFault → Type 0
-Fits x old new answer (Ok turn) = FitsAnswer x new answer turn
-Fits x old new answer (Err fault) =
+abbrev pub FitsOffer : Seen → Hop → Hop → Option Put → Result Turn RelayFault → Type 0
+FitsOffer x old new answer (Ok turn) = FitsAnswer x new answer turn
+FitsOffer x old new answer (Err fault) =
     ((fault ≡ Device) × (answer ≡ Some put.Fault))
     ⊎ ((fault ≡ Length) × (answer ≡ None) × (is_message old.stage ≡ true) × BreaksLength x old.framing)
 
@@ -69,4 +69,4 @@ pub record WriteTurn (x : Seen) (tape : Tape) (old new : Hop) (before after : Pa
   pub wire : Offers before after text answer
   pub goes_on : GoesOn x tape old new (events_of result) (delta_of text answer)
   pub offers : old.fault ≡ None → (result ≡ Err Length) ⊎ OffersAll x tape old text answer
-  pub fits : old.fault ≡ None → Fits x old new answer result
+  pub fits : old.fault ≡ None → FitsOffer x old new answer result

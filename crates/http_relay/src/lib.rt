@@ -3,7 +3,6 @@
 
 mod body;
 mod due;
-mod fill;
 mod hop;
 pub mod laws;
 mod pieces;

@@ -3,7 +3,7 @@
 ghost use Rattle.std.specs.Prelude.{◌≡◌, ◌<◌, ◌≤◌, [], length, take, IfOk, IfErr, OnErr, None, true, false, List, ℕ, ◌↔◌, IsTrue, option_copied};
 ghost use Rattle.trace_core.specs.History.{seen};
 ghost use Rattle.trace_core.specs.Turns.{in_sum};
-ghost use Rattle.http_relay.specs.declared.fill.TheConstants.{MAX_READ};
+ghost use Rattle.adapt_sides.specs.declared.filling.TheConstants.{MAX_READ};
 ghost use Rattle.http_relay.specs.Source.{Agrees, MustWait, Refuses};
 ghost use Rattle.adapt_sides.specs.Turns.{ReadsBody};
 ghost use Rattle.http_relay.specs.Judging.{IsLooking};
@@ -11,9 +11,8 @@ ghost use Rattle.http_relay.specs.Reading.{AtHead, GivesBack, request_of, respon
 ghost use Rattle.trace_core.specs.declared.history.Seen.{Seen};
 ghost use Rattle.wire_kit.specs.Past.{Past};
 
-use crate::fill::{Filled, fill};
 use crate::source_body::SourceBody;
-use adapt_sides::{RelayFault, Turn};
+use adapt_sides::{Filled, RelayFault, Turn, fill};
 use arrayvec::ArrayVec;
 use bytes::BytesMut;
 use http_side::{Framing, HttpFault, HttpRequest, HttpResponse};

@@ -14,12 +14,12 @@ use Rattle.adapt_sides.specs.declared.turn.Turn.{Turn}
 use Rattle.adapt_sides.specs.declared.fault.ClientFault.{ClientFault}
 use Rattle.adapt_sides.specs.declared.fault.ClientFault.TheVariants.{Device}
 use Rattle.icap_client.specs.Sending.{KeepsUnsent, Decides, NothingDue, turn_events}
-use Rattle.icap_client.specs.Turns.{GoesOn, WriteTurn, Fits, FitsAnswer, events_of}
+use Rattle.icap_client.specs.Turns.{GoesOn, WriteTurn, FitsOffer, FitsAnswer, events_of}
 use Rattle.icap_client.proofs.Turning.{goes_on, goes_same, nothing_due}
 
 pub turned : (x : Seen) (tape : Tape) (next : Next) (v w : Writer) (before after : Past → Type 0) (result : Result Turn ClientFault) (answer : Option Put) (k : ℕ) (e : Bool)
     → Sound x → KeepsUnsent x tape → Decides x v next → Offers before after (offered v tape next) answer → (answer ≡ None ↔ offered v tape next ≡ []) → Moves tape next v k e (delta_of (offered v tape next) answer) w
-    → events_of result ≡ turn_events k e → Fits x w answer result → WriteTurn x tape v w before after result
+    → events_of result ≡ turn_events k e → FitsOffer x w answer result → WriteTurn x tape v w before after result
 turned x tape next v w before after result answer k e s u c o a m h f = record {
   next = next;
   answer = answer;

@@ -8,12 +8,12 @@ use Rattle.adapt_sides.specs.declared.fault.ClientFault.{ClientFault}
 use Rattle.adapt_sides.specs.declared.fault.ClientFault.TheVariants as faults
 use Rattle.icap_head.specs.Heads.{Response, response_parts}
 use Rattle.icap_head.specs.declared.responses.IcapResponse.{IcapResponse}
-use Rattle.icap_client.specs.Reading.{IsFilled}
-use Rattle.icap_client.specs.declared.filled.Filled.{Filled}
-use Rattle.icap_client.specs.declared.filled.Filled.TheVariants as fills
+use Rattle.adapt_sides.specs.Filling.{IsFilled}
+use Rattle.adapt_sides.specs.declared.filling.Filled.{Filled}
+use Rattle.adapt_sides.specs.declared.filling.Filled.TheVariants as fills
 use Rattle.icap_client.specs.declared.options.OptionsStage.{OptionsStage}
 use Rattle.icap_client.specs.declared.options.OptionsStage.TheVariants.{Head, Body, Over}
-use Rattle.icap_client.specs.Asking.{IsOptionsAnswer, Asker, LetsRoomGo, AnsweredTo, HasAnswered, Tells, Frames, RefusesRaw, RefusesGiven, Answers, HasToAsk, Call, IsCall, FitsBytes, FitsKept, FitsCall, Asks}
+use Rattle.icap_client.specs.Asking.{IsOptionsAnswer, Asker, LetsRoomGo, AnsweredTo, HasAnswered, Tells, Frames, RefusesRaw, RefusesGiven, AnswersOptions, HasToAsk, Call, IsCall, FitsBytes, FitsKept, FitsCall, Asks}
 use Rattle.icap_client.specs.Asking.Call.{offered, filled, rested}
 use Rattle.icap_client.proofs.Skipping.{tells_still, tells_then}
 
@@ -36,7 +36,7 @@ some_map None P Q f h = tt
 some_map (Some v) P Q f h = f v h
 
 -- bytes came, and more was framed
-answer_by : (old mid new : Asker) (given : List ℕ) (found : Option Response) → mid.stage ≡ old.stage → mid.response ≡ old.response → mid.raw ≡ old.raw ++ given → Frames mid new found → Answers old new given found
+answer_by : (old mid new : Asker) (given : List ℕ) (found : Option Response) → mid.stage ≡ old.stage → mid.response ≡ old.response → mid.raw ≡ old.raw ++ given → Frames mid new found → AnswersOptions old new given found
 answer_by old mid new given found s r e g =
     let to_mid : (framed : List ℕ) → AnsweredTo old.stage old.response framed → AnsweredTo mid.stage mid.response framed = λ framed a.
     subst (λ (t : OptionsStage). AnsweredTo t mid.response framed) (sym s) (subst (λ (o : Option Response). AnsweredTo old.stage o framed) (sym r) a) in
@@ -49,10 +49,10 @@ answer_by old mid new given found s r e g =
       tells = subst (λ (t : OptionsStage). Tells t new.stage found) s g.tells;
     }
 
-framed_none : (old new : Asker) (found : Option Response) → Frames old new found → Answers old new [] found
+framed_none : (old new : Asker) (found : Option Response) → Frames old new found → AnswersOptions old new [] found
 framed_none old new found f = answer_by old old new [] found refl refl (sym (append-nil old.raw)) f
 
-answers_same : (old new : Asker) → new.stage ≡ old.stage → new.response ≡ old.response → new.raw ≡ old.raw → Answers old new [] None
+answers_same : (old new : Asker) → new.stage ≡ old.stage → new.response ≡ old.response → new.raw ≡ old.raw → AnswersOptions old new [] None
 answers_same old new s r e = record {
   answered = λ read h. record {
     framed = h.framed;
@@ -64,7 +64,7 @@ answers_same old new s r e = record {
 }
 
 -- one behind the other, the first without an answer
-answers_then : (a b c : Asker) (d e : List ℕ) (found : Option Response) → Answers a b d None → Answers b c e found → Answers a c (d ++ e) found
+answers_then : (a b c : Asker) (d e : List ℕ) (found : Option Response) → AnswersOptions a b d None → AnswersOptions b c e found → AnswersOptions a c (d ++ e) found
 answers_then a b c d e found f g = record {
   answered = λ read h. subst (λ (t : List ℕ). HasAnswered t c) (append_assoc read d e) (g.answered (read ++ d) (f.answered read h));
   answer = λ read h. subst (λ (t : List ℕ). IfSome found (λ v. (text : List ℕ) × IsOptionsAnswer v text × (t ≡ text ++ c.raw))) (append_assoc read d e) (g.answer (read ++ d) (f.answered read h));
@@ -74,7 +74,7 @@ answers_then a b c d e found f g = record {
 refused_by : (old mid : Asker) (given : List ℕ) (fault : ClientFault) → mid.stage ≡ old.stage → mid.response ≡ old.response → mid.raw ≡ old.raw ++ given → RefusesRaw fault mid → RefusesGiven fault old given
 refused_by old mid given fault s r e g = record { at = g.at; answers = answer_by old mid g.at given None s r e g.frames; refuses = g.refuses }
 
-refused_behind : (a b : Asker) (given : List ℕ) (fault : ClientFault) → Answers a b [] None → RefusesGiven fault b given → RefusesGiven fault a given
+refused_behind : (a b : Asker) (given : List ℕ) (fault : ClientFault) → AnswersOptions a b [] None → RefusesGiven fault b given → RefusesGiven fault a given
 refused_behind a b given fault f g = record { at = g.at; answers = answers_then a b g.at [] given None f g.answers; refuses = g.refuses }
 
 -- ---- turns
@@ -237,7 +237,7 @@ call_behind (offered answer) P Q old at given taken w n c = subst (λ (t : List 
 call_behind (filled answer) P Q old at given taken w n c = (sym w ∙ c.0, n, c.2, c.3)
 call_behind rested P Q old at given taken w n c = (sym w ∙ c.0, c.1, c.2, c.3)
 
-kept_behind : (old at : Asker) (result : Result (Option IcapResponse) ClientFault) → Answers old at [] None → FitsKept at result → FitsKept old result
+kept_behind : (old at : Asker) (result : Result (Option IcapResponse) ClientFault) → AnswersOptions old at [] None → FitsKept at result → FitsKept old result
 kept_behind old at (Ok None) a f = was_over (a.tells.told f)
   where
     was_over : (old.stage ≡ Over) ⊎ (false ≡ true) → old.stage ≡ Over
@@ -246,11 +246,11 @@ kept_behind old at (Ok None) a f = was_over (a.tells.told f)
 kept_behind old at (Ok (Some head)) a f = tt
 kept_behind old at (Err fault) a f = refused_behind old at [] fault a f
 
-bytes_behind : (old at new : Asker) (given : List ℕ) (result : Result (Option IcapResponse) ClientFault) → Answers old at [] None → FitsBytes at new given result → FitsBytes old new given result
+bytes_behind : (old at new : Asker) (given : List ℕ) (result : Result (Option IcapResponse) ClientFault) → AnswersOptions old at [] None → FitsBytes at new given result → FitsBytes old new given result
 bytes_behind old at new given (Ok found) a f = f
 bytes_behind old at new given (Err fault) a f = refused_behind old at given fault a f
 
-fits_behind : (call : Call) (old at new : Asker) (given : List ℕ) (result : Result (Option IcapResponse) ClientFault) → Answers old at [] None → FitsCall call at new given result → FitsCall call old new given result
+fits_behind : (call : Call) (old at new : Asker) (given : List ℕ) (result : Result (Option IcapResponse) ClientFault) → AnswersOptions old at [] None → FitsCall call at new given result → FitsCall call old new given result
 fits_behind (offered (put.Took n)) old at new given result a f = f
 fits_behind (offered put.Wait) old at new given result a f = f
 fits_behind (offered put.Fault) old at new given result a f = f
@@ -308,7 +308,7 @@ answered_as read new kept l h = record {
   answered = subst (λ (r : Option Response). AnsweredTo kept.stage r h.framed) (sym l.response) (subst (λ (s : OptionsStage). AnsweredTo s new.response h.framed) (sym l.stage) h.answered);
 }
 
-answers_as : (old new kept : Asker) (given : List ℕ) (found : Option Response) → IsLike new kept → Answers old new given found → Answers old kept given found
+answers_as : (old new kept : Asker) (given : List ℕ) (found : Option Response) → IsLike new kept → AnswersOptions old new given found → AnswersOptions old kept given found
 answers_as old new kept given found l a = record {
   answered = λ read h. answered_as (read ++ given) new kept l (a.answered read h);
   answer = λ read h. some_map found (λ v. (text : List ℕ) × IsOptionsAnswer v text × (read ++ given ≡ text ++ new.raw)) (λ v. (text : List ℕ) × IsOptionsAnswer v text × (read ++ given ≡ text ++ kept.raw))

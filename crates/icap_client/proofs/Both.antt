@@ -5,7 +5,7 @@ use Rattle.std.proofs.Math.Seq.{take-length}
 use Rattle.trace_core.specs.declared.history.Event.{Event}
 use Rattle.trace_core.specs.declared.history.Seen.{Seen}
 use Rattle.span_tape.specs.Tape.{Tape}
-use Rattle.wire_kit.specs.Past.{Past, FitsPut, after_offer, delta_of}
+use Rattle.wire_kit.specs.Past.{Past, FitsPut, after_offer, delta_of, IsGiven, after_ask}
 use Rattle.wire_kit.specs.declared.wire.Got.{Got}
 use Rattle.wire_kit.specs.declared.wire.Got.TheVariants as got
 use Rattle.wire_kit.specs.declared.wire.Put.{Put}
@@ -25,8 +25,8 @@ use Rattle.icap_client.proofs.Whole.{nothing_heard}
 use Rattle.icap_client.specs.Events.{Follows, ad_sum, is_of_replies}
 use Rattle.icap_client.specs.Sending.{HasSent, Came, KeepsUnsent, NothingDue}
 use Rattle.icap_client.specs.HeadFront.{HasToWait}
-use Rattle.icap_client.specs.Reading.{Side, SideHeard, NothingToRead, IsGiven, FitsGot, after_ask, CameOf, ReadTurn}
-use Rattle.icap_client.specs.Turns.{WriteTurn, Fits, FitsAnswer, events_of, waits_of, IsLater, SaysWaiting, Remembers, Sends, Hears}
+use Rattle.icap_client.specs.Reading.{Side, SideHeard, NothingToRead, FitsGot, CameOf, ReadTurn}
+use Rattle.icap_client.specs.Turns.{WriteTurn, FitsOffer, FitsAnswer, events_of, waits_of, IsLater, SaysWaiting, Remembers, Sends, Hears}
 use Rattle.adapt_sides.specs.Turns.{HasReason as HasCause}
 
 -- ---- writing
@@ -50,7 +50,7 @@ waits_by x w p bytes answer (inl e) n =
     inr (subst (λ (a : Option Put). p.write_waits < (after_offer p bytes a).write_waits) (sym e) more)
 waits_by x w p bytes answer (inr e) n = inl (n e)
 
-cause : (x : Seen) (w : Writer) (p : Past) (bytes : List ℕ) (answer : Option Put) (fault : Option ClientFault) (result : Result Turn ClientFault) → Fits x w answer result
+cause : (x : Seen) (w : Writer) (p : Past) (bytes : List ℕ) (answer : Option Put) (fault : Option ClientFault) (result : Result Turn ClientFault) → FitsOffer x w answer result
     → HasCause Device p (after_offer p bytes answer) fault (NothingDue x w) (λ past. past.write_waits) result
 cause x w p bytes answer fault (Ok turn) f = record {
   device = λ e n. cc;
@@ -81,7 +81,7 @@ or_true : (b : Bool) → (b ≡ false → ⊥) → b ≡ true
 or_true true h = refl
 or_true false h = absurd (h refl)
 
-says : (x : Seen) (w : Writer) (bytes : List ℕ) (answer : Option Put) (result : Result Turn ClientFault) → Fits x w answer result → IfSome answer (FitsPut (length bytes))
+says : (x : Seen) (w : Writer) (bytes : List ℕ) (answer : Option Put) (result : Result Turn ClientFault) → FitsOffer x w answer result → IfSome answer (FitsPut (length bytes))
     → SaysWaiting (events_of result) (delta_of bytes answer) result
 says x w bytes answer (Ok turn) f s = record {
   idle = λ h. let i = f.waiting h in (i.0, none_out bytes answer i.1);

@@ -21,8 +21,8 @@ use Rattle.icap_client.specs.Replies.{IsEncapsulatedHead, has_body, payload_if, 
 use Rattle.icap_client.specs.Said.{tag_in, says_close}
 use Rattle.icap_client.specs.Heard.{noted, Reader, HasHeard, HeardTo, HeardModHead, HeardBody, HeardMod, HeardInterim, HeardNoMod, with_head, in_stage, KeepsLimits}
 use Rattle.icap_client.specs.Heard.HeardFinal.{changed, unchanged}
-use Rattle.icap_client.specs.Hearing.{Hears, Passes}
-use Rattle.icap_client.specs.Hearing.Passes.{waits, goes_on}
+use Rattle.icap_client.specs.Hearing.{ReaderHears, PassesWithoutEvent}
+use Rattle.icap_client.specs.Hearing.PassesWithoutEvent.{waits, goes_on}
 use Rattle.icap_client.specs.Replies.{IsInterim}
 use Rattle.icap_client.specs.Refused.{RefusesReply, RefusesHead, SpellsReply, SpellsNoReply, MayReply, IsMisfit, IsFit}
 use Rattle.icap_client.specs.Refused.IsMisfit.{ends_early, ends_late}
@@ -82,7 +82,7 @@ sound_starts = refl
 
 -- an adapted message's head with a body behind it
 pub hears_body : (x : Seen) (r : Reader) (layout : Layout) (head : List ℕ) → May x (Mod payloads.Body) → has_body layout.body ≡ true → r.stage ≡ Head layout
-    → IsEncapsulatedHead head → length head ≡ layout.offset → Hears x r (with_head r layout head (Body start)) (Mod payloads.Body ∷ []) head []
+    → IsEncapsulatedHead head → length head ≡ layout.offset → ReaderHears x r (with_head r layout head (Body start)) (Mod payloads.Body ∷ []) head []
 hears_body x r layout head may b stage ended size = record {
   legal = (may.0, may.1, tt);
   only = (refl, tt);
@@ -111,7 +111,7 @@ hears_body x r layout head may b stage ended size = record {
 
 -- and with none
 pub hears_null : (x : Seen) (r : Reader) (layout : Layout) (head : List ℕ) → May x (Mod payloads.NullBody) → has_body layout.body ≡ false → r.stage ≡ Head layout
-    → IsEncapsulatedHead head → length head ≡ layout.offset → Hears x r (with_head r layout head Over) (Mod payloads.NullBody ∷ []) head []
+    → IsEncapsulatedHead head → length head ≡ layout.offset → ReaderHears x r (with_head r layout head Over) (Mod payloads.NullBody ∷ []) head []
 hears_null x r layout head may b stage ended size = record {
   legal = (may.0, may.1, tt);
   only = (refl, tt);
@@ -164,7 +164,7 @@ interim_at x adapted read r stage h = subst (λ (s : Stage). HeardTo s x adapted
 
 -- a 100
 pub hears_continue : (x : Seen) (r : Reader) (raw : List ℕ) (value : Response) (size : ℕ) → May x Continue → r.stage ≡ Replies → HasResponse raw value size
-    → (value.status ≡ 100) × HasNothing r.point (lists_of value) → Hears x r r (Continue ∷ []) (take size raw) []
+    → (value.status ≡ 100) × HasNothing r.point (lists_of value) → ReaderHears x r r (Continue ∷ []) (take size raw) []
 hears_continue x r raw value size may stage h s = record {
   legal = (may.0, may.1, tt);
   only = (refl, tt);
@@ -185,8 +185,8 @@ hears_continue x r raw value size may stage h s = record {
 
 -- a 204
 pub hears_no_mod : (x : Seen) (r new : Reader) (raw : List ℕ) (value : Response) (size : ℕ) → new ≡ in_stage r Over → May x NoMod → r.stage ≡ Replies → HasResponse raw value size
-    → (value.status ≡ 204) × HasNothing r.point (lists_of value) → (r.tag ≡ tag_in value.fields) × (r.closes ≡ says_close value.fields) → Hears x r new (NoMod ∷ []) (take size raw) []
-hears_no_mod x r new raw value size is may stage h s n = subst (λ (n : Reader). Hears x r n (NoMod ∷ []) (take size raw) []) (sym is) (record {
+    → (value.status ≡ 204) × HasNothing r.point (lists_of value) → (r.tag ≡ tag_in value.fields) × (r.closes ≡ says_close value.fields) → ReaderHears x r new (NoMod ∷ []) (take size raw) []
+hears_no_mod x r new raw value size is may stage h s n = subst (λ (n : Reader). ReaderHears x r n (NoMod ∷ []) (take size raw) []) (sym is) (record {
   legal = (may.0, may.1, tt);
   only = (refl, tt);
   behind = inr may.1.0;
@@ -208,8 +208,8 @@ hears_no_mod x r new raw value size is may stage h s n = subst (λ (n : Reader).
 
 -- the ICAP head of a 200
 pub hears_head : (x : Seen) (r new : Reader) (raw : List ℕ) (value : Response) (size : ℕ) (layout : Layout) → new ≡ in_stage r (Head layout) → r.stage ≡ Replies → HasResponse raw value size
-    → (value.status ≡ 200) × HasLayout r.point (lists_of value) layout × HasAdaptedHead layout → (r.tag ≡ tag_in value.fields) × (r.closes ≡ says_close value.fields) → Hears x r new [] (take size raw) []
-hears_head x r new raw value size layout is stage h s n = subst (λ (n : Reader). Hears x r n [] (take size raw) []) (sym is) (record {
+    → (value.status ≡ 200) × HasLayout r.point (lists_of value) layout × HasAdaptedHead layout → (r.tag ≡ tag_in value.fields) × (r.closes ≡ says_close value.fields) → ReaderHears x r new [] (take size raw) []
+hears_head x r new raw value size layout is stage h s n = subst (λ (n : Reader). ReaderHears x r n [] (take size raw) []) (sym is) (record {
   legal = tt;
   only = tt;
   behind = inl refl;
@@ -226,14 +226,14 @@ hears_head x r new raw value size layout is stage h s n = subst (λ (n : Reader)
 })
 
 pub passes_head : (r new : Reader) (raw : List ℕ) (value : Response) (size : ℕ) (layout : Layout) → new ≡ in_stage r (Head layout) → HasResponse raw value size
-    → (value.status ≡ 200) × HasLayout r.point (lists_of value) layout × HasAdaptedHead layout → Passes r new size raw
+    → (value.status ≡ 200) × HasLayout r.point (lists_of value) layout × HasAdaptedHead layout → PassesWithoutEvent r new size raw
 passes_head r new raw value size layout is h s = goes_on layout (ap (λ (r : Reader). r.stage) is) (ap (λ (r : Reader). r.point) is) (is_mod r.point raw value size layout h s)
 
-pub passes_none : (r : Reader) (raw : List ℕ) → RefusesIcapHead StatusForm heads.More raw → Passes r r 0 raw
+pub passes_none : (r : Reader) (raw : List ℕ) → RefusesIcapHead StatusForm heads.More raw → PassesWithoutEvent r r 0 raw
 passes_none r raw s = waits refl refl refl s
 
 -- what is noted before a final response is no part of what was heard
-pub hears_noted : (x : Seen) (r new : Reader) (tag : Option (List ℕ)) (closes : Bool) (events : List Event) (bytes part : List ℕ) → r.stage ≡ Replies → Hears x (noted r tag closes) new events bytes part → Hears x r new events bytes part
+pub hears_noted : (x : Seen) (r new : Reader) (tag : Option (List ℕ)) (closes : Bool) (events : List Event) (bytes part : List ℕ) → r.stage ≡ Replies → ReaderHears x (noted r tag closes) new events bytes part → ReaderHears x r new events bytes part
 hears_noted x r new tag closes events bytes part stage h = record {
   legal = h.legal;
   only = h.only;
@@ -244,20 +244,20 @@ hears_noted x r new tag closes events bytes part stage h = record {
       h.heard adapted read (subst (λ (s : Stage). HeardTo s x adapted read (noted r tag closes)) (sym stage) n);
 }
 
-pub passes_noted : (r new : Reader) (tag : Option (List ℕ)) (closes : Bool) (used : ℕ) (raw : List ℕ) → Passes (noted r tag closes) new used raw → Passes r new used raw
+pub passes_noted : (r new : Reader) (tag : Option (List ℕ)) (closes : Bool) (used : ℕ) (raw : List ℕ) → PassesWithoutEvent (noted r tag closes) new used raw → PassesWithoutEvent r new used raw
 passes_noted r new tag closes used raw (waits z e p s) = waits z e p s
 passes_noted r new tag closes used raw (goes_on layout e p h) = goes_on layout e p h
 
 -- the adapted message's head, with a body behind it or with none
 pub hears_mod : (x : Seen) (r new : Reader) (layout : Layout) (head : List ℕ) (b : Bool) (p : Payload) (stage : Stage) → p ≡ payload_if b → b ≡ has_body layout.body → ((b ≡ true) → stage ≡ Body start) → ((b ≡ false) → stage ≡ Over)
-    → new ≡ with_head r layout head stage → May x (Mod p) → r.stage ≡ Head layout → IsEncapsulatedHead head → length head ≡ layout.offset → Hears x r new (Mod p ∷ []) head []
+    → new ≡ with_head r layout head stage → May x (Mod p) → r.stage ≡ Head layout → IsEncapsulatedHead head → length head ≡ layout.offset → ReaderHears x r new (Mod p ∷ []) head []
 hears_mod x r new layout head true p stage q e t f is may at ended size =
-    subst (λ (k : Payload). Hears x r new (Mod k ∷ []) head []) (sym q)
-    (subst (λ (n : Reader). Hears x r n (Mod payloads.Body ∷ []) head []) (sym (is ∙ ap (λ (s : Stage). with_head r layout head s) (t refl)))
+    subst (λ (k : Payload). ReaderHears x r new (Mod k ∷ []) head []) (sym q)
+    (subst (λ (n : Reader). ReaderHears x r n (Mod payloads.Body ∷ []) head []) (sym (is ∙ ap (λ (s : Stage). with_head r layout head s) (t refl)))
     (hears_body x r layout head (subst (λ (k : Payload). May x (Mod k)) q may) (sym e) at ended size))
 hears_mod x r new layout head false p stage q e t f is may at ended size =
-    subst (λ (k : Payload). Hears x r new (Mod k ∷ []) head []) (sym q)
-    (subst (λ (n : Reader). Hears x r n (Mod payloads.NullBody ∷ []) head []) (sym (is ∙ ap (λ (s : Stage). with_head r layout head s) (f refl)))
+    subst (λ (k : Payload). ReaderHears x r new (Mod k ∷ []) head []) (sym q)
+    (subst (λ (n : Reader). ReaderHears x r n (Mod payloads.NullBody ∷ []) head []) (sym (is ∙ ap (λ (s : Stage). with_head r layout head s) (f refl)))
     (hears_null x r layout head (subst (λ (k : Payload). May x (Mod k)) q may) (sym e) at ended size))
 
 -- a 100 or a 204 that may not come

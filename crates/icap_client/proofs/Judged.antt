@@ -8,9 +8,9 @@ use Rattle.icap_head.specs.declared.reading.HeadFault.TheVariants.{More}
 use Rattle.wire_kit.specs.Past.{Past}
 use Rattle.adapt_bytes.specs.Text.{has_line}
 use Rattle.icap_client.specs.HeadFront.{IsJudged, IsHeadFront}
-use Rattle.icap_client.specs.Reading.{IsFilled}
-use Rattle.icap_client.specs.declared.filled.Filled.{Filled}
-use Rattle.icap_client.specs.declared.filled.Filled.TheVariants as filled
+use Rattle.adapt_sides.specs.Filling.{IsFilled}
+use Rattle.adapt_sides.specs.declared.filling.Filled.{Filled}
+use Rattle.adapt_sides.specs.declared.filling.Filled.TheVariants as filled
 
 pub all_judged : (bytes : List ℕ) → RefusesIcapHead StatusForm More bytes → IsJudged (length bytes) bytes
 all_judged bytes s = inr (subst (λ (t : List ℕ). RefusesIcapHead StatusForm More t) (sym (take-length bytes)) s)

@@ -13,7 +13,7 @@ use Rattle.adapt_sides.specs.declared.turn.Turn.{Turn}
 use Rattle.adapt_sides.specs.declared.fault.ClientFault.{ClientFault}
 use Rattle.icap_client.specs.Front.{Front}
 use Rattle.icap_client.specs.Sending.{HasSent, LetsGo, NothingDue}
-use Rattle.icap_client.specs.Turns.{WriteTurn, Fits, FitsAnswer, is_flushed}
+use Rattle.icap_client.specs.Turns.{WriteTurn, FitsOffer, FitsAnswer, is_flushed}
 
 pub sent_still : (head : List ℕ) (x : Seen) (came taken : List ℕ) (old new : Writer) → LetsGo old new → HasSent head x came taken old → HasSent head x came taken new
 sent_still head x came taken old new l h = record {
@@ -31,7 +31,7 @@ due_still x old new l n = record { flushed = l.waiting_is ∙ n.flushed; none = 
 pub flushed_still : (old new : Writer) → LetsGo old new → is_flushed new ≡ is_flushed old
 flushed_still old new l = ap (λ (t : List ℕ). length t == 0) l.waiting_is
 
-fits_still : (x : Seen) (mid new : Writer) (answer : Option Put) (result : Result Turn ClientFault) → LetsGo mid new → Fits x mid answer result → Fits x new answer result
+fits_still : (x : Seen) (mid new : Writer) (answer : Option Put) (result : Result Turn ClientFault) → LetsGo mid new → FitsOffer x mid answer result → FitsOffer x new answer result
 fits_still x mid new answer (Ok turn) l f = record {
   no_fault = f.no_fault;
   wait = f.wait;

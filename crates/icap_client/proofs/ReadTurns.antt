@@ -5,17 +5,18 @@ use Rattle.trace_core.specs.declared.history.Event.{Event}
 use Rattle.trace_core.specs.declared.history.Event.TheVariants.{Heard}
 use Rattle.trace_core.specs.declared.history.Point.{Point}
 use Rattle.trace_core.specs.declared.history.Seen.{Seen}
-use Rattle.wire_kit.specs.Past.{Past}
+use Rattle.wire_kit.specs.Past.{Past, Gave, ReadsAtMostOnce}
 use Rattle.wire_kit.specs.declared.wire.Got.{Got}
 use Rattle.wire_kit.specs.declared.wire.Got.TheVariants as got
 use Rattle.icap_client.specs.Events.{May, ad_sum}
 use Rattle.icap_client.specs.Heard.{Reader}
 use Rattle.icap_client.specs.HeadFront.{HasToWait}
 use Rattle.icap_client.specs.Refused.{Refuses}
-use Rattle.icap_client.specs.Reading.{Side, GivesBack, SideHears, Gave, IsFilled, Reads, MayRead, NothingToRead, IsReadDue, ReadsWhereDue, FitsGot, IsRefused, IsUnheard, CameOf, ReadTurn}
+use Rattle.icap_client.specs.Reading.{Side, GivesBack, SideHears, MayRead, NothingToRead, IsReadDue, ReadsWhereDue, FitsGot, IsRefused, IsUnheard, CameOf, ReadTurn}
+use Rattle.adapt_sides.specs.Filling.{IsFilled}
 use Rattle.adapt_sides.specs.declared.fault.ClientFault.{ClientFault}
 use Rattle.adapt_sides.specs.declared.fault.ClientFault.TheVariants.{Closed, Device, NoMemory, NotLegal}
-use Rattle.icap_client.specs.declared.filled.Filled.TheVariants as filled
+use Rattle.adapt_sides.specs.declared.filling.Filled.TheVariants as filled
 use Rattle.adapt_sides.specs.declared.turn.Turn.{Turn}
 use Rattle.icap_client.specs.declared.stage.Stage.{Stage}
 use Rattle.icap_client.specs.declared.stage.Stage.TheVariants.{Replies, Head, Body, Over}
@@ -45,11 +46,11 @@ of_bytes x fault point stage raw r = (
 )
 
 -- a turn that doesn't read
-none_read : (P : Past → Type 0) → Reads P P [] None
+none_read : (P : Past → Type 0) → ReadsAtMostOnce P P [] None
 none_read P = record { each = λ p b. b; fits = refl }
 
 -- a turn that reads once, and gets bytes
-bytes_read : (P Q : Past → Type 0) (given : List ℕ) → 0 < length given → Gave P Q given → Reads P Q given (Some (got.Bytes (length given)))
+bytes_read : (P Q : Past → Type 0) (given : List ℕ) → 0 < length given → Gave P Q given → ReadsAtMostOnce P Q given (Some (got.Bytes (length given)))
 bytes_read P Q given some g = record {
   each = λ p b.
       subst (λ (t : List ℕ). Q (record { read = p.read ++ t; taken = p.taken; ends = p.ends; read_waits = p.read_waits; write_waits = p.write_waits; faults = p.faults; reads = p.reads + 1; writes = p.writes })) (sym (take-length given)) (g p b);

@@ -22,7 +22,7 @@ use Rattle.icap_client.specs.Heard.{Reader, HasHeard, HeardTo, HeardInterim, Kee
 use Rattle.icap_client.specs.Heard.Stays.{same, before}
 use Rattle.icap_client.specs.Replies.{IsInterim}
 use Rattle.trace_core.specs.declared.history.Point.{Point}
-use Rattle.icap_client.specs.Hearing.{Hears, MustWait}
+use Rattle.icap_client.specs.Hearing.{ReaderHears, MustWait}
 use Rattle.icap_client.specs.Reading.{Side, SideHeard, SideHears, HasBegun, NotBegun}
 use Rattle.icap_client.specs.declared.stage.Stage.{Stage}
 use Rattle.icap_client.specs.declared.stage.Stage.TheVariants.{Replies, Head, Body, Over}
@@ -101,7 +101,7 @@ begun_on x events adapted read out (inl none) (inr n) =
     inr (subst (λ (es : List Event). NotBegun (after_all x es) (adapted ++ take (ad_sum es) out) (read ++ [])) (sym none) (not_begun x adapted read [] [] refl refl n))
 
 -- what a reader hears of its raw bytes
-pub framed : (x : Seen) (old new : Side) (events : List Event) (used : ℕ) (out : List ℕ) → Hears x old.reader new.reader events (take used old.raw) (take (ad_sum events) out) → new.raw ≡ drop used old.raw
+pub framed : (x : Seen) (old new : Side) (events : List Event) (used : ℕ) (out : List ℕ) → ReaderHears x old.reader new.reader events (take used old.raw) (take (ad_sum events) out) → new.raw ≡ drop used old.raw
     → SideHears x old new events [] (take (ad_sum events) out)
 framed x old new events used out h r = record {
   legal = h.legal;

@@ -17,8 +17,8 @@ use Rattle.icap_client.specs.Events.{AllAre, is_of_replies, MayHear, MayAllFollo
 use Rattle.icap_client.specs.Replies.{IsInterim, IsModHead, IsBody, has_body}
 use Rattle.icap_client.specs.Heard.{Reader, HasHeard, HeardTo, HeardBody, HeardMod, in_stage}
 use Rattle.icap_client.specs.Heard.HeardFinal.{changed}
-use Rattle.icap_client.specs.Hearing.{Hears, Passes, MustWait, HasNoEmptyLine, ReadsOn}
-use Rattle.icap_client.specs.Hearing.Passes.{waits, goes_on}
+use Rattle.icap_client.specs.Hearing.{ReaderHears, PassesWithoutEvent, MustWait, HasNoEmptyLine, ReadsOn}
+use Rattle.icap_client.specs.Hearing.PassesWithoutEvent.{waits, goes_on}
 use Rattle.icap_client.specs.Refused.{RefusesHead, RefusesBehind, IsUntimelyBody}
 use Rattle.icap_client.specs.Refused.IsUntimelyBody.{bytes, end}
 use Rattle.adapt_sides.specs.declared.fault.ClientFault.{ClientFault}
@@ -27,10 +27,10 @@ use Rattle.icap_client.specs.declared.stage.Stage.TheVariants.{Replies, Head, Bo
 use Rattle.icap_client.proofs.Bodies.{not_ended}
 
 -- first without an event, then on
-pub hears_then : (x : Seen) (a b c : Reader) (o : Option Event) (events : List Event) (raw rest : List ℕ) (m n : ℕ) → o ≡ None → Hears x a b (listed o) (take m raw) []
-    → rest ≡ drop m raw → Hears x b c events (take n rest) [] → Hears x a c events (take (m + n) raw) []
+pub hears_then : (x : Seen) (a b c : Reader) (o : Option Event) (events : List Event) (raw rest : List ℕ) (m n : ℕ) → o ≡ None → ReaderHears x a b (listed o) (take m raw) []
+    → rest ≡ drop m raw → ReaderHears x b c events (take n rest) [] → ReaderHears x a c events (take (m + n) raw) []
 hears_then x a b c o events raw rest m n none f is g =
-    let first : Hears x a b [] (take m raw) [] = subst (λ (p : Option Event). Hears x a b (listed p) (take m raw) []) none f in
+    let first : ReaderHears x a b [] (take m raw) [] = subst (λ (p : Option Event). ReaderHears x a b (listed p) (take m raw) []) none f in
     record {
       legal = g.legal;
       only = g.only;
@@ -51,12 +51,12 @@ waits_head b c layout raw rest m n room stage is z same l h =
     subst (λ (s : Stage). MustWait s (drop (m + n) raw) room) (sym (ap (λ (r : Reader). r.stage) same ∙ stage))
     (subst (λ (t : List ℕ). (length t < layout.offset) × HasNoEmptyLine t) e (l, h))
 
-pub waits_reply : (a b : Reader) (raw : List ℕ) (m room : ℕ) → Passes a b m raw → a.stage ≡ Replies → ((layout : Layout) → b.stage ≡ Head layout → ⊥) → MustWait b.stage (drop m raw) room
+pub waits_reply : (a b : Reader) (raw : List ℕ) (m room : ℕ) → PassesWithoutEvent a b m raw → a.stage ≡ Replies → ((layout : Layout) → b.stage ≡ Head layout → ⊥) → MustWait b.stage (drop m raw) room
 waits_reply a b raw m room (waits z e p s) r not =
     subst (λ (t : Stage). MustWait t (drop m raw) room) (sym (e ∙ r)) (subst (λ (k : ℕ). RefusesIcapHead StatusForm More (drop k raw)) (sym z) s)
 waits_reply a b raw m room (goes_on layout e q p) r not = absurd (not layout e)
 
-pub refuses_behind : (fault : ClientFault) (x : Seen) (a b : Reader) (layout : Layout) (raw rest : List ℕ) (m : ℕ) → Passes a b m raw → a.stage ≡ Replies → b.stage ≡ Head layout
+pub refuses_behind : (fault : ClientFault) (x : Seen) (a b : Reader) (layout : Layout) (raw rest : List ℕ) (m : ℕ) → PassesWithoutEvent a b m raw → a.stage ≡ Replies → b.stage ≡ Head layout
     → rest ≡ drop m raw → RefusesHead fault x layout rest → RefusesBehind fault x a.point raw
 refuses_behind fault x a b layout raw rest m (waits z e q s) r h is f =
     let odd : Replies ≡ Head layout = sym r ∙ (sym e ∙ h) in cc
@@ -124,7 +124,7 @@ only_end (suc n) = (refl, (refl, tt))
 
 -- within the body
 hears_more : (x : Seen) (r : Reader) (chunks next : ChunkReader) (raw part : List ℕ) (used n : ℕ) → length part ≡ n → r.stage ≡ Body chunks → ReadsOn chunks raw used part next
-    → end_of next ≡ None → fault_of next ≡ None → MayAllFollow x (ad_events n) → (ad_events n ≡ []) ⊎ (x.heard ≡ true) → Hears x r (in_stage r (Body next)) (ad_events n) (take used raw) part
+    → end_of next ≡ None → fault_of next ≡ None → MayAllFollow x (ad_events n) → (ad_events n ≡ []) ⊎ (x.heard ≡ true) → ReaderHears x r (in_stage r (Body next)) (ad_events n) (take used raw) part
 hears_more x r chunks next raw part used n long stage on none sound may was = record {
   legal = may;
   only = only_ads n;
@@ -153,7 +153,7 @@ hears_more x r chunks next raw part used n long stage on none sound may was = re
 
 -- up to its end
 hears_end : (x : Seen) (r : Reader) (chunks next : ChunkReader) (raw part : List ℕ) (used n : ℕ) (ieof : Bool) → length part ≡ n → r.stage ≡ Body chunks → ReadsOn chunks raw used part next
-    → end_of next ≡ Some ieof → MayAllFollow x (body_events n true) → (body_events n true ≡ []) ⊎ (x.heard ≡ true) → Hears x r (in_stage r Over) (body_events n true) (take used raw) part
+    → end_of next ≡ Some ieof → MayAllFollow x (body_events n true) → (body_events n true ≡ []) ⊎ (x.heard ≡ true) → ReaderHears x r (in_stage r Over) (body_events n true) (take used raw) part
 hears_end x r chunks next raw part used n ieof long stage on ended may was = record {
   legal = may;
   only = only_end n;
@@ -187,11 +187,11 @@ hears_end x r chunks next raw part used n ieof long stage on ended may was = rec
 -- either
 pub hears_on : (x : Seen) (r new : Reader) (chunks next : ChunkReader) (raw out : List ℕ) (used n : ℕ) (ended : Bool) (stage : Stage) → new ≡ in_stage r stage
     → ((ended ≡ true) → stage ≡ Over) → ((ended ≡ false) → stage ≡ Body next) → r.stage ≡ Body chunks → ReadsOn chunks raw used (take n out) next → n ≤ length out
-    → ended ≡ is_some (end_of next) → fault_of next ≡ None → MayAllFollow x (body_events n ended) → (body_events n ended ≡ []) ⊎ (x.heard ≡ true) → Hears x r new (body_events n ended) (take used raw) (take n out)
+    → ended ≡ is_some (end_of next) → fault_of next ≡ None → MayAllFollow x (body_events n ended) → (body_events n ended ≡ []) ⊎ (x.heard ≡ true) → ReaderHears x r new (body_events n ended) (take used raw) (take n out)
 hears_on x r new chunks next raw out used n true stage is t f at on l e sound may was =
     let found = some_is (end_of next) (sym e) in
-    subst (λ (s : Reader). Hears x r s (body_events n true) (take used raw) (take n out)) (sym (is ∙ ap (λ (s : Stage). in_stage r s) (t refl)))
+    subst (λ (s : Reader). ReaderHears x r s (body_events n true) (take used raw) (take n out)) (sym (is ∙ ap (λ (s : Stage). in_stage r s) (t refl)))
     (hears_end x r chunks next raw (take n out) used n found.0 (length-take-le n out l) at on found.1 may was)
 hears_on x r new chunks next raw out used n false stage is t f at on l e sound may was =
-    subst (λ (s : Reader). Hears x r s (body_events n false) (take used raw) (take n out)) (sym (is ∙ ap (λ (s : Stage). in_stage r s) (f refl)))
+    subst (λ (s : Reader). ReaderHears x r s (body_events n false) (take used raw) (take n out)) (sym (is ∙ ap (λ (s : Stage). in_stage r s) (f refl)))
     (hears_more x r chunks next raw (take n out) used n (length-take-le n out l) at on (not_ended next false e refl) sound may was)

@@ -23,10 +23,10 @@ use Rattle.icap_client.specs.Replies.{IsHead, lists_of, has_body}
 use Rattle.icap_client.specs.RequestHead.{joined, host_pieces}
 use Rattle.adapt_sides.specs.declared.fault.ClientFault.{ClientFault}
 use Rattle.adapt_sides.specs.declared.fault.ClientFault.TheVariants as faults
-use Rattle.icap_client.specs.Reading.{IsFilled}
+use Rattle.adapt_sides.specs.Filling.{IsFilled}
 use Rattle.icap_client.specs.Refused.{WithHead}
-use Rattle.icap_client.specs.declared.filled.Filled.{Filled}
-use Rattle.icap_client.specs.declared.filled.Filled.TheVariants as fills
+use Rattle.adapt_sides.specs.declared.filling.Filled.{Filled}
+use Rattle.adapt_sides.specs.declared.filling.Filled.TheVariants as fills
 use Rattle.icap_client.specs.declared.options.OptionsStage.{OptionsStage}
 use Rattle.icap_client.specs.declared.options.OptionsStage.TheVariants.{Head, Body, Over}
 
@@ -167,7 +167,7 @@ pub record RefusesRaw (fault : ClientFault) (old : Asker) : Type 0 where
   pub refuses : RefusesOptions fault at.stage at.raw
 
 -- what was read says what is answered
-pub record Answers (old new : Asker) (given : List ℕ) (found : Option Response) : Type 0 where
+pub record AnswersOptions (old new : Asker) (given : List ℕ) (found : Option Response) : Type 0 where
   pub answered : (read : List ℕ) → HasAnswered read old → HasAnswered (read ++ given) new
   pub answer : (read : List ℕ) → HasAnswered read old → IfSome found (λ value. (text : List ℕ) × IsOptionsAnswer value text × (read ++ given ≡ text ++ new.raw))
   pub tells : Tells old.stage new.stage found
@@ -175,7 +175,7 @@ pub record Answers (old new : Asker) (given : List ℕ) (found : Option Response
 -- with these bytes behind those that were read, what isn't framed of them is refused
 pub record RefusesGiven (fault : ClientFault) (old : Asker) (given : List ℕ) : Type 0 where
   pub at : Asker
-  pub answers : Answers old at given None
+  pub answers : AnswersOptions old at given None
   pub refuses : RefusesOptions fault at.stage at.raw
 
 -- ---- a turn
@@ -223,4 +223,4 @@ pub record Asks (old new : Asker) (before after : Past → Type 0) (result : Res
   pub wire : IsCall call before after old given taken
   pub fits : FitsCall call old new given result
   pub sent : old.waiting ≡ taken ++ new.waiting
-  pub answers : IfOk result (λ found. Answers old new given (option_map response_parts found))
+  pub answers : IfOk result (λ found. AnswersOptions old new given (option_map response_parts found))

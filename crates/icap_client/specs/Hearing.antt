@@ -15,16 +15,16 @@ use Rattle.icap_client.specs.declared.stage.Stage.{Stage}
 use Rattle.icap_client.specs.declared.stage.Stage.TheVariants.{Replies, Head, Body, Over}
 
 -- the events may come, behind a first byte that was read before, and say what these further bytes do, of which these are adapted ones
-pub record Hears (x : Seen) (old new : Reader) (events : List Event) (bytes part : List ℕ) : Type 0 where
+pub record ReaderHears (x : Seen) (old new : Reader) (events : List Event) (bytes part : List ℕ) : Type 0 where
   pub legal : MayAllFollow x events
   pub only : AllAre is_of_replies events
   pub behind : (events ≡ []) ⊎ (x.heard ≡ true)
   pub heard : (adapted read : List ℕ) → HasHeard x adapted read old → HasHeard (after_all x events) (adapted ++ part) (read ++ bytes) new
 
 -- no event came of the front of these bytes: they are the front of an ICAP head, and none was used; or that of a 200 was
-pub data Passes (old new : Reader) (used : ℕ) (raw : List ℕ) : Type 0 where
-  waits : used ≡ 0 → new.stage ≡ old.stage → new.point ≡ old.point → RefusesIcapHead StatusForm More raw → Passes old new used raw
-  goes_on : (layout : Layout) → new.stage ≡ Head layout → new.point ≡ old.point → IsModHead old.point layout (take used raw) → Passes old new used raw
+pub data PassesWithoutEvent (old new : Reader) (used : ℕ) (raw : List ℕ) : Type 0 where
+  waits : used ≡ 0 → new.stage ≡ old.stage → new.point ≡ old.point → RefusesIcapHead StatusForm More raw → PassesWithoutEvent old new used raw
+  goes_on : (layout : Layout) → new.stage ≡ Head layout → new.point ≡ old.point → IsModHead old.point layout (take used raw) → PassesWithoutEvent old new used raw
 
 -- there is no empty line in the text
 abbrev pub HasNoEmptyLine : List ℕ → Type 0

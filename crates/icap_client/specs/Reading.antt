@@ -4,7 +4,7 @@ use Rattle.trace_core.specs.declared.history.Event.{Event}
 use Rattle.trace_core.specs.declared.history.Event.TheVariants.{Heard}
 use Rattle.trace_core.specs.declared.history.Seen.{Seen}
 use Rattle.trace_core.specs.History.{is_preview}
-use Rattle.wire_kit.specs.Past.{Past, after_read}
+use Rattle.wire_kit.specs.Past.{Past, ReadsAtMostOnce}
 use Rattle.wire_kit.specs.declared.wire.Got.{Got}
 use Rattle.wire_kit.specs.declared.wire.Got.TheVariants as got
 use Rattle.icap_client.specs.Events.{May, after_all, MayAllFollow, AllAre, is_of_replies, ad_sum}
@@ -13,8 +13,6 @@ use Rattle.icap_client.specs.HeadFront.{HasToWait}
 use Rattle.icap_client.specs.Refused.{Refuses}
 use Rattle.adapt_sides.specs.declared.fault.ClientFault.{ClientFault}
 use Rattle.adapt_sides.specs.declared.fault.ClientFault.TheVariants.{Closed, Device, NoMemory, NotLegal}
-use Rattle.icap_client.specs.declared.filled.Filled.{Filled}
-use Rattle.icap_client.specs.declared.filled.Filled.TheVariants as filled
 use Rattle.adapt_sides.specs.declared.turn.Turn.{Turn}
 use Rattle.icap_client.specs.declared.stage.Stage.{Stage}
 use Rattle.icap_client.specs.declared.stage.Stage.TheVariants.{Over}
@@ -62,35 +60,6 @@ pub record SideHears (x : Seen) (old new : Side) (events : List Event) (given pa
 -- the service may answer now: in a preview once its last chunk is out, and behind a 100; elsewhere at any moment
 abbrev pub MayRead : Seen → Bool → Type 0
 MayRead x all_sent = (is_preview x.plan.kind ≡ false) ⊎ ((x.continued ≡ true) ⊎ ((x.stopped ≡ true) × (all_sent ≡ true)))
-
--- ---- one read
-
--- after a read that gave these bytes, on a wire that may have had each of these pasts
-abbrev pub Gave : (Past → Type 0) → (Past → Type 0) → List ℕ → Type 0
-Gave before after given = (p : Past) → before p → after (record { read = p.read ++ given; taken = p.taken; ends = p.ends; read_waits = p.read_waits; write_waits = p.write_waits; faults = p.faults; reads = p.reads + 1; writes = p.writes })
-
--- bytes came behind the raw ones, or none, with the wire's reason
-abbrev pub IsFilled : (Past → Type 0) → (Past → Type 0) → List ℕ → List ℕ → Filled → Type 0
-IsFilled before after old new filled.Bytes = (given : List ℕ) × (0 < length given) × (new ≡ old ++ given) × Gave before after given
-IsFilled before after old new filled.Ended = (new ≡ old) × ((p : Past) → before p → after (record { read = p.read; taken = p.taken; ends = p.ends + 1; read_waits = p.read_waits; write_waits = p.write_waits; faults = p.faults; reads = p.reads; writes = p.writes }))
-IsFilled before after old new filled.Wait = (new ≡ old) × ((p : Past) → before p → after (record { read = p.read; taken = p.taken; ends = p.ends; read_waits = p.read_waits + 1; write_waits = p.write_waits; faults = p.faults; reads = p.reads; writes = p.writes }))
-IsFilled before after old new filled.Failed = (new ≡ old) × ((p : Past) → before p → after (record { read = p.read; taken = p.taken; ends = p.ends; read_waits = p.read_waits; write_waits = p.write_waits; faults = p.faults + 1; reads = p.reads; writes = p.writes }))
-IsFilled before after old new filled.NoMemory = (new ≡ old) × ((p : Past) → before p → after p)
-
--- One read at most: after an answer that gave these bytes, or after none.
-abbrev pub after_ask : Past → List ℕ → Option Got → Past
-after_ask p given None = p
-after_ask p given (Some answer) = after_read p given answer
-
--- the bytes that such a read gave, at least one; or it gave none
-abbrev pub IsGiven : List ℕ → Option Got → Type 0
-IsGiven given (Some (got.Bytes n)) = (n ≡ length given) × (0 < n)
-IsGiven given _ = given ≡ []
-
--- a turn on a wire: it read once, and this was the answer, with these bytes; or it didn't read
-pub record Reads (before after : Past → Type 0) (given : List ℕ) (answer : Option Got) : Type 0 where
-  pub each : (p : Past) → before p → after (after_ask p given answer)
-  pub fits : IsGiven given answer
 
 -- ---- a turn
 
@@ -148,7 +117,7 @@ CameOf x all_sent old new room out given (Err fault) =
 pub record ReadTurn (x : Seen) (all_sent : Bool) (room : ℕ) (old new : Side) (before after : Past → Type 0) (out : List ℕ) (result : Result Turn ClientFault) : Type 0 where
   pub given : List ℕ
   pub answer : Option Got
-  pub wire : Reads before after given answer
+  pub wire : ReadsAtMostOnce before after given answer
   pub due : ReadsWhereDue x all_sent room old answer
   pub fits : FitsGot x all_sent room new.reader.stage answer result
   pub came : CameOf x all_sent old new room out given result

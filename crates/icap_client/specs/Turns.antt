@@ -61,9 +61,9 @@ pub record FitsAnswer (x : Seen) (w : Writer) (answer : Option Put) (turn : Turn
   pub woke : turn.waiting ≡ false → answer ≡ Some put.Wait → ⊥
 
 -- A first fault is Device, and comes exactly where the wire failed in this call.
-abbrev pub Fits : Seen → Writer → Option Put → Result Turn ClientFault → Type 0
-Fits x w answer (Ok turn) = FitsAnswer x w answer turn
-Fits x w answer (Err fault) = (fault ≡ Device) × (answer ≡ Some put.Fault)
+abbrev pub FitsOffer : Seen → Writer → Option Put → Result Turn ClientFault → Type 0
+FitsOffer x w answer (Ok turn) = FitsAnswer x w answer turn
+FitsOffer x w answer (Err fault) = (fault ≡ Device) × (answer ≡ Some put.Fault)
 
 -- A turn of a side without a fault: its wire took a front of all that is due, which is what waits and, unless a long head goes
 -- out alone, what comes next behind it; the wire is asked only where there is such a text.
@@ -74,7 +74,7 @@ pub record WriteTurn (x : Seen) (tape : Tape) (old new : Writer) (before after :
   pub wire : Offers before after (offered old tape next) answer
   pub asks : answer ≡ None ↔ offered old tape next ≡ []
   pub goes_on : GoesOn x tape old new (events_of result) (delta_of (offered old tape next) answer)
-  pub fits : Fits x new answer result
+  pub fits : FitsOffer x new answer result
 
 -- ---- both halves, as a transaction calls them
 

@@ -8,11 +8,11 @@ ghost use Rattle.icap_head.specs.declared.reading.HeadFault.TheVariants.{More};
 ghost use Rattle.adapt_bytes.specs.declared.limits.TheConstants.{MAX_HEAD};
 ghost use Rattle.adapt_bytes.specs.Text.{has_line};
 ghost use Rattle.icap_client.specs.HeadFront.{IsHeadFront};
-ghost use Rattle.icap_client.specs.Reading.{IsFilled};
+ghost use Rattle.adapt_sides.specs.Filling.{IsFilled};
 
 use crate::blank_line::behind;
-use crate::filled::{Filled, fill};
 use adapt_bytes::MAX_HEAD;
+use adapt_sides::{Filled, fill};
 use bytes::BytesMut;
 use std::alloc::Global;
 use std::marker::Model;

@@ -7,7 +7,6 @@ mod body;
 mod contract;
 mod decide;
 mod events;
-mod filled;
 mod kept;
 pub mod laws;
 mod lists;

@@ -9,7 +9,7 @@ ghost use Rattle.icap_client.specs.Events.{listed, May, MayHear, MayAllFollow, a
 ghost use Rattle.icap_client.specs.Said.{tag_in, says_close};
 ghost use Rattle.icap_client.specs.Heard.{noted, Reader, in_stage, KeepsLimits, KeepsHead, Stays};
 ghost use Rattle.icap_client.specs.Laws.{first_reader};
-ghost use Rattle.icap_client.specs.Hearing.{Hears, Passes, MustWait, HasNoEmptyLine};
+ghost use Rattle.icap_client.specs.Hearing.{ReaderHears, PassesWithoutEvent, MustWait, HasNoEmptyLine};
 ghost use Rattle.icap_client.specs.Replies.{IsEncapsulatedHead, has_body, payload_if};
 ghost use Rattle.icap_client.specs.Refused.{Refuses, RefusesReply, RefusesHead, RefusesBody, SpellsReply, LimitsOf};
 ghost use Rattle.encapsulated.specs.declared.offsets.Layout.{Layout as Parts};
@@ -117,8 +117,8 @@ impl ReplyReader {
         requires said { (self.old.tag ≡ tag_in (response_parts value.now).fields) × (self.old.closes ≡ says_close (response_parts value.now).fields) }
         ensures within { IfOk result (λ framed. framed.used ≤ length raw.now) }
         ensures silent { IfOk result (λ framed. ad_sum (listed framed.event) ≡ 0) }
-        ensures hears { IfOk result (λ framed. Hears (seen state.now.plan state.now.events) self.old self.new (listed framed.event) (take framed.used raw.now) []) }
-        ensures passes { IfOk result (λ framed. framed.event ≡ None → Passes self.old self.new framed.used raw.now) }
+        ensures hears { IfOk result (λ framed. ReaderHears (seen state.now.plan state.now.events) self.old self.new (listed framed.event) (take framed.used raw.now) []) }
+        ensures passes { IfOk result (λ framed. framed.event ≡ None → PassesWithoutEvent self.old self.new framed.used raw.now) }
         ensures refuses { IfErr result (λ fault. RefusesReply fault (seen state.now.plan state.now.events) self.old.point raw.now) }
         ensures head { KeepsHead (seen state.now.plan state.now.events) self.old self.new }
         ensures stays { IfErr result (λ _. Stays self.old self.new) }
@@ -153,8 +153,8 @@ impl ReplyReader {
         requires { self.old.stage ≡ Stage.Replies }
         ensures within { IfOk result (λ framed. framed.used ≤ length raw.now) }
         ensures silent { IfOk result (λ framed. ad_sum (listed framed.event) ≡ 0) }
-        ensures hears { IfOk result (λ framed. Hears (seen state.now.plan state.now.events) self.old self.new (listed framed.event) (take framed.used raw.now) []) }
-        ensures passes { IfOk result (λ framed. framed.event ≡ None → Passes self.old self.new framed.used raw.now) }
+        ensures hears { IfOk result (λ framed. ReaderHears (seen state.now.plan state.now.events) self.old self.new (listed framed.event) (take framed.used raw.now) []) }
+        ensures passes { IfOk result (λ framed. framed.event ≡ None → PassesWithoutEvent self.old self.new framed.used raw.now) }
         ensures refuses { IfErr result (λ fault. RefusesReply fault (seen state.now.plan state.now.events) self.old.point raw.now) }
         ensures head { KeepsHead (seen state.now.plan state.now.events) self.old self.new }
         ensures stays { IfErr result (λ _. Stays self.old self.new) }
@@ -189,7 +189,7 @@ impl ReplyReader {
         requires { self.old.stage ≡ Stage.Head layout }
         ensures within { IfOk result (λ framed. framed.used ≤ length raw.now) }
         ensures silent { IfOk result (λ framed. ad_sum (listed framed.event) ≡ 0) }
-        ensures hears { IfOk result (λ framed. Hears (seen state.now.plan state.now.events) self.old self.new (listed framed.event) (take framed.used raw.now) []) }
+        ensures hears { IfOk result (λ framed. ReaderHears (seen state.now.plan state.now.events) self.old self.new (listed framed.event) (take framed.used raw.now) []) }
         ensures waits { IfOk result (λ framed. framed.event ≡ None → (framed.used ≡ 0) × (self.new ≡ self.old) × (length raw.now < layout.offset) × HasNoEmptyLine raw.now) }
         ensures refuses { IfErr result (λ fault. RefusesHead fault (seen state.now.plan state.now.events) layout raw.now) }
         ensures head { KeepsHead (seen state.now.plan state.now.events) self.old self.new }
@@ -213,7 +213,7 @@ impl ReplyReader {
         requires { self.old.stage ≡ Stage.Replies }
         ensures within { IfOk result (λ framed. framed.used ≤ length raw.now) }
         ensures silent { IfOk result (λ framed. ad_sum (listed framed.event) ≡ 0) }
-        ensures hears { IfOk result (λ framed. Hears (seen state.now.plan state.now.events) self.old self.new (listed framed.event) (take framed.used raw.now) []) }
+        ensures hears { IfOk result (λ framed. ReaderHears (seen state.now.plan state.now.events) self.old self.new (listed framed.event) (take framed.used raw.now) []) }
         ensures waits { IfOk result (λ framed. framed.event ≡ None → (room : ℕ) → MustWait self.new.stage (drop framed.used raw.now) room) }
         ensures refuses { IfErr result (λ fault. Refuses fault (seen state.now.plan state.now.events) self.old.point Stage.Replies raw.now) }
         ensures head { KeepsHead (seen state.now.plan state.now.events) self.old self.new }
@@ -254,7 +254,7 @@ impl ReplyReader {
     ) -> Result<Heard, ClientFault>
         requires { self.old.stage ≡ Stage.Body chunks }
         ensures within { IfOk result (λ heard. (heard.used ≤ length raw.now) × (ad_sum heard.events.items ≤ length out.old)) }
-        ensures hears { IfOk result (λ heard. Hears (seen state.now.plan state.now.events) self.old self.new heard.events.items (take heard.used raw.now) (take (ad_sum heard.events.items) out.new)) }
+        ensures hears { IfOk result (λ heard. ReaderHears (seen state.now.plan state.now.events) self.old self.new heard.events.items (take heard.used raw.now) (take (ad_sum heard.events.items) out.new)) }
         ensures waits { IfOk result (λ heard. heard.events.items ≡ [] → MustWait self.new.stage (drop heard.used raw.now) (length out.old)) }
         ensures refuses { IfErr result (λ fault. RefusesBody fault (seen state.now.plan state.now.events) chunks raw.now) }
         ensures head { KeepsHead (seen state.now.plan state.now.events) self.old self.new }
@@ -285,7 +285,7 @@ impl ReplyReader {
     /// body go to the front of `out`, as many as the events say.
     pub fn frame(&mut self, state: &State, raw: &[u8], out: &mut [u8]) -> Result<Heard, ClientFault>
         ensures within { IfOk result (λ heard. (heard.used ≤ length raw.now) × (ad_sum heard.events.items ≤ length out.old)) }
-        ensures hears { IfOk result (λ heard. Hears (seen state.now.plan state.now.events) self.old self.new heard.events.items (take heard.used raw.now) (take (ad_sum heard.events.items) out.new)) }
+        ensures hears { IfOk result (λ heard. ReaderHears (seen state.now.plan state.now.events) self.old self.new heard.events.items (take heard.used raw.now) (take (ad_sum heard.events.items) out.new)) }
 
         // Without an event no further byte can be framed.
         ensures waits { IfOk result (λ heard. heard.events.items ≡ [] → MustWait self.new.stage (drop heard.used raw.now) (length out.old)) }
@@ -331,7 +331,7 @@ impl ReplyReader {
         ensures used { IfOk result (λ framed. framed.used ≡ length head.now) }
         ensures event { IfOk result (λ framed. framed.event ≡ Some (Event.Mod (payload_if (has_body layout.body)))) }
         ensures silent { IfOk result (λ framed. ad_sum (listed framed.event) ≡ 0) }
-        ensures hears { IfOk result (λ framed. Hears (seen state.now.plan state.now.events) self.old self.new (listed framed.event) head.now []) }
+        ensures hears { IfOk result (λ framed. ReaderHears (seen state.now.plan state.now.events) self.old self.new (listed framed.event) head.now []) }
         ensures refuses { IfErr result (λ fault. (fault ≡ ClientFault.NoMemory) ⊎ ((fault ≡ ClientFault.NotLegal) × (May (seen state.now.plan state.now.events) (Event.Mod (payload_if (has_body layout.body))) → ⊥))) }
         ensures head { KeepsHead (seen state.now.plan state.now.events) self.old self.new }
         ensures stays { IfErr result (λ _. Stays self.old self.new) }

@@ -1,5 +1,5 @@
 -- What has happened on a wire: the bytes that it gave and took, and how often it gave each answer.
-use Rattle.std.specs.Prelude.{◌≡◌, ℕ, ◌+◌, ◌≤◌, ⊤, List, [], ◌++◌, take, length, Option, Some, None, IfSome}
+use Rattle.std.specs.Prelude.{◌≡◌, ℕ, ◌+◌, ◌<◌, ◌≤◌, ⊤, List, [], ◌++◌, take, length, Option, Some, None, IfSome}
 use Rattle.wire_kit.specs.declared.wire.Got.{Got}
 use Rattle.wire_kit.specs.declared.wire.Got.TheVariants as got
 use Rattle.wire_kit.specs.declared.wire.Put.{Put}
@@ -22,9 +22,9 @@ abbrev pub nothing_yet : Past
 nothing_yet = record { read = []; taken = []; ends = 0; read_waits = 0; write_waits = 0; faults = 0; reads = 0; writes = 0 }
 
 -- what a read gave: from 1 to as many bytes as there is room for
-abbrev pub Fits : ℕ → Got → Type 0
-Fits room (got.Bytes n) = (1 ≤ n) × (n ≤ room)
-Fits room _ = ⊤
+abbrev pub FitsRoom : ℕ → Got → Type 0
+FitsRoom room (got.Bytes n) = (1 ≤ n) × (n ≤ room)
+FitsRoom room _ = ⊤
 
 -- what a write took: from 1 to all bytes that were offered
 abbrev pub FitsPut : ℕ → Put → Type 0
@@ -64,6 +64,25 @@ delta_of bytes (Some answer) = part_taken answer bytes
 pub record Offers (before after : Past → Type 0) (bytes : List ℕ) (answer : Option Put) : Type 0 where
   pub each : (p : Past) → before p → after (after_offer p bytes answer)
   pub fits : IfSome answer (FitsPut (length bytes))
+
+-- after a read that gave these bytes, on a wire that may have had each of these pasts
+abbrev pub Gave : (Past → Type 0) → (Past → Type 0) → List ℕ → Type 0
+Gave before after given = (p : Past) → before p → after (record { read = p.read ++ given; taken = p.taken; ends = p.ends; read_waits = p.read_waits; write_waits = p.write_waits; faults = p.faults; reads = p.reads + 1; writes = p.writes })
+
+-- One read at most: after an answer that gave these bytes, or after none.
+abbrev pub after_ask : Past → List ℕ → Option Got → Past
+after_ask p given None = p
+after_ask p given (Some answer) = after_read p given answer
+
+-- the bytes that such a read gave, at least one; or it gave none
+abbrev pub IsGiven : List ℕ → Option Got → Type 0
+IsGiven given (Some (got.Bytes n)) = (n ≡ length given) × (0 < n)
+IsGiven given _ = given ≡ []
+
+-- a turn on a wire: it read once, and this was the answer, with these bytes; or it didn't read
+pub record ReadsAtMostOnce (before after : Past → Type 0) (given : List ℕ) (answer : Option Got) : Type 0 where
+  pub each : (p : Past) → before p → after (after_ask p given answer)
+  pub fits : IsGiven given answer
 
 -- the wire after a call in which it gave and took these bytes; no count falls
 pub record IsLater (p : Past) (given taken : List ℕ) (q : Past) : Type 0 where

@@ -1,7 +1,7 @@
 //! The bytes of a wire in memory: those that it gives and those that it took.
 
 ghost use Rattle.std.specs.Prelude.{◌≡◌, ℕ, ◌<◌, ◌≤◌, ◌++◌, length, take, IfOk, vec_capacity};
-ghost use Rattle.wire_kit.specs.Past.{Past, Fits, FitsPut, after_read, after_write, nothing_yet};
+ghost use Rattle.wire_kit.specs.Past.{Past, FitsRoom, FitsPut, after_read, after_write, nothing_yet};
 
 use crate::wire::{Got, Put};
 use std::alloc::{AllocError, Global};
@@ -79,7 +79,7 @@ impl Stream {
     /// Reads as the answer says.
     pub(crate) fn read(&mut self, answer: ReadAnswer, buf: &mut [u8]) -> Got
         requires { 0 < length buf.old }
-        ensures fits { Fits (length buf.old) result }
+        ensures fits { FitsRoom (length buf.old) result }
         ensures keeps { length buf.new ≡ length buf.old }
         ensures past { (p : Past) → StreamPast self.old p → StreamPast self.new (after_read p buf.new result) }
     {

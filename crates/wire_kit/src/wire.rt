@@ -1,7 +1,7 @@
 //! A connection, as the answers of its reads and writes.
 
 ghost use Rattle.std.specs.Prelude.{◌≡◌, ℕ, ◌<◌, length};
-ghost use Rattle.wire_kit.specs.Past.{Past, Fits, FitsPut, after_read, after_write};
+ghost use Rattle.wire_kit.specs.Past.{Past, FitsRoom, FitsPut, after_read, after_write};
 
 /// What a read gives.
 #[derive(Clone, Copy, Debug, PartialEq, Eq)]
@@ -38,7 +38,7 @@ pub trait Wire {
     /// Reads into the front of the buffer, which has room for at least one byte.
     fn try_read(&mut self, buf: &mut [u8]) -> Got
         requires { 0 < length buf.old }
-        ensures fits { Fits (length buf.old) result }
+        ensures fits { FitsRoom (length buf.old) result }
         ensures keeps { length buf.new ≡ length buf.old }
         ensures past { (p : Past) → past self.old p → past self.new (after_read p buf.new result) };
 

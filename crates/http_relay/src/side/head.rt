@@ -6,18 +6,17 @@ ghost use Rattle.adapt_bytes.specs.declared.limits.TheConstants.{MAX_HEAD};
 ghost use Rattle.http_relay.specs.Judging.{RefusesBytes, IsLooking, JudgesHead, Scans};
 ghost use Rattle.http_relay.specs.Reading.{AtHead, HeadTurn, JudgesHeadTo, ScannedTo};
 
-use crate::fill::{Filled, fill};
 use crate::pieces::behind;
 use crate::side::{Asks, SourceHead, SourceSide};
 use crate::source_body::SourceBody;
 use adapt_bytes::MAX_HEAD;
-use adapt_sides::RelayFault;
+use adapt_sides::{Filled, RelayFault, fill};
 use http_side::{HttpFault, read_request, read_response};
 use wire_kit::Wire;
 
 /// What judging the raw bytes gave.
 #[derive(Clone, Copy, Debug, PartialEq, Eq)]
-pub(crate) enum Judged {
+pub(crate) enum HeadProgress {
     /// A head isn't there yet.
     More,
     /// An interim response was dropped.
@@ -56,18 +55,18 @@ impl SourceSide {
     }
 
     /// Judges the raw bytes.
-    fn judge(&mut self) -> Result<Judged, RelayFault>
+    fn judge(&mut self) -> Result<HeadProgress, RelayFault>
         requires { self.old.head ≡ SourceHead.Unread }
         ensures heads { (read : List ℕ) → AtHead read self.old → JudgesHeadTo result read self.new }
         ensures judged { IsLooking self.old → JudgesHead result self.new }
-        ensures short { IfOk result (λ judged. judged ≡ Judged.More → length self.new.raw.items < MAX_HEAD) }
-        ensures shrinks { IfOk result (λ judged. judged ≡ Judged.Interim → length self.new.raw.items < length self.old.raw.items) }
-        ensures unread { IfOk result (λ judged. (judged ≡ Judged.Taken → ⊥) → self.new.head ≡ SourceHead.Unread) }
+        ensures short { IfOk result (λ judged. judged ≡ HeadProgress.More → length self.new.raw.items < MAX_HEAD) }
+        ensures shrinks { IfOk result (λ judged. judged ≡ HeadProgress.Interim → length self.new.raw.items < length self.old.raw.items) }
+        ensures unread { IfOk result (λ judged. (judged ≡ HeadProgress.Taken → ⊥) → self.new.head ≡ SourceHead.Unread) }
         ensures fault { self.new.fault ≡ self.old.fault }
         ensures refused { IfErr result (λ fault. (fault ≡ RelayFault.Head) ⊎ (fault ≡ RelayFault.NoMemory)) }
     {
         if !self.is_due() {
-            return Ok(Judged::More);
+            return Ok(HeadProgress::More);
         }
         match self.asks {
             Asks::Request => self.judge_request(),
@@ -75,14 +74,14 @@ impl SourceSide {
         }
     }
 
-    fn judge_request(&mut self) -> Result<Judged, RelayFault>
+    fn judge_request(&mut self) -> Result<HeadProgress, RelayFault>
         requires unread { self.old.head ≡ SourceHead.Unread }
         requires asks { self.old.asks ≡ Asks.Request }
         ensures heads { (read : List ℕ) → AtHead read self.old → JudgesHeadTo result read self.new }
         ensures judged { IsLooking self.old → JudgesHead result self.new }
-        ensures short { IfOk result (λ judged. judged ≡ Judged.More → length self.new.raw.items < MAX_HEAD) }
-        ensures unread { IfOk result (λ judged. (judged ≡ Judged.Taken → ⊥) → self.new.head ≡ SourceHead.Unread) }
-        ensures never { IfOk result (λ judged. judged ≡ Judged.Interim → ⊥) }
+        ensures short { IfOk result (λ judged. judged ≡ HeadProgress.More → length self.new.raw.items < MAX_HEAD) }
+        ensures unread { IfOk result (λ judged. (judged ≡ HeadProgress.Taken → ⊥) → self.new.head ≡ SourceHead.Unread) }
+        ensures never { IfOk result (λ judged. judged ≡ HeadProgress.Interim → ⊥) }
         ensures fault { self.new.fault ≡ self.old.fault }
         ensures refused { IfErr result (λ fault. (fault ≡ RelayFault.Head) ⊎ (fault ≡ RelayFault.NoMemory)) }
     {
@@ -92,20 +91,20 @@ impl SourceSide {
                 self.judged = 0;
                 self.body = SourceBody::new(head.value.framing());
                 self.head = SourceHead::Request(head.value);
-                Ok(Judged::Taken)
+                Ok(HeadProgress::Taken)
             }
             Err(fault) => self.refuse(fault),
         }
     }
 
-    fn judge_response(&mut self, to_head: bool) -> Result<Judged, RelayFault>
+    fn judge_response(&mut self, to_head: bool) -> Result<HeadProgress, RelayFault>
         requires unread { self.old.head ≡ SourceHead.Unread }
         requires asks { self.old.asks ≡ Asks.Response to_head }
         ensures heads { (read : List ℕ) → AtHead read self.old → JudgesHeadTo result read self.new }
         ensures judged { IsLooking self.old → JudgesHead result self.new }
-        ensures short { IfOk result (λ judged. judged ≡ Judged.More → length self.new.raw.items < MAX_HEAD) }
-        ensures shrinks { IfOk result (λ judged. judged ≡ Judged.Interim → length self.new.raw.items < length self.old.raw.items) }
-        ensures unread { IfOk result (λ judged. (judged ≡ Judged.Taken → ⊥) → self.new.head ≡ SourceHead.Unread) }
+        ensures short { IfOk result (λ judged. judged ≡ HeadProgress.More → length self.new.raw.items < MAX_HEAD) }
+        ensures shrinks { IfOk result (λ judged. judged ≡ HeadProgress.Interim → length self.new.raw.items < length self.old.raw.items) }
+        ensures unread { IfOk result (λ judged. (judged ≡ HeadProgress.Taken → ⊥) → self.new.head ≡ SourceHead.Unread) }
         ensures fault { self.new.fault ≡ self.old.fault }
         ensures refused { IfErr result (λ fault. (fault ≡ RelayFault.Head) ⊎ (fault ≡ RelayFault.NoMemory)) }
     {
@@ -118,22 +117,22 @@ impl SourceSide {
                 self.raw.advance(head.length);
                 self.judged = 0;
                 if is_interim(status) {
-                    return Ok(Judged::Interim);
+                    return Ok(HeadProgress::Interim);
                 }
                 self.body = SourceBody::new(head.value.framing());
                 self.head = SourceHead::Response(head.value);
-                Ok(Judged::Taken)
+                Ok(HeadProgress::Taken)
             }
             Err(fault) => self.refuse(fault),
         }
     }
 
     /// Where the raw bytes are refused for this: there are too few yet, or the fault is kept.
-    fn refuse(&mut self, fault: HttpFault) -> Result<Judged, RelayFault>
+    fn refuse(&mut self, fault: HttpFault) -> Result<HeadProgress, RelayFault>
         requires unread { self.old.head ≡ SourceHead.Unread }
         requires cause { RefusesBytes self.old.asks self.old.raw.items fault }
         ensures judged { IsLooking self.old → JudgesHead result self.new }
-        ensures more { IfOk result (λ judged. (judged ≡ Judged.More) × (length self.new.raw.items < MAX_HEAD)) }
+        ensures more { IfOk result (λ judged. (judged ≡ HeadProgress.More) × (length self.new.raw.items < MAX_HEAD)) }
         ensures asks { self.new.asks ≡ self.old.asks }
         ensures raw { self.new.raw.items ≡ self.old.raw.items }
         ensures unread { self.new.head ≡ SourceHead.Unread }
@@ -143,7 +142,7 @@ impl SourceSide {
         match fault {
             HttpFault::More => {
                 self.judged = self.raw.len();
-                Ok(Judged::More)
+                Ok(HeadProgress::More)
             }
             HttpFault::NoMemory => {
                 self.head_fault = Some(fault);
@@ -168,9 +167,9 @@ impl SourceSide {
     {
         loop {
             match self.judge() {
-                Ok(Judged::More) => return Ok(false),
-                Ok(Judged::Taken) => return Ok(true),
-                Ok(Judged::Interim) => {}
+                Ok(HeadProgress::More) => return Ok(false),
+                Ok(HeadProgress::Taken) => return Ok(true),
+                Ok(HeadProgress::Interim) => {}
                 Err(fault) => return Err(fault),
             }
         }

@@ -1,7 +1,7 @@
 use Rattle.std.proofs.Common.{rules, ◌≡◌, ◌∙◌, ◌<◌, ap, sym, subst, refl, List, ℕ, length}
 use Rattle.icap_client.specs.Asking.{Asker}
-use Rattle.icap_client.specs.Reading.{IsFilled}
-use Rattle.icap_client.specs.declared.filled.Filled.TheVariants as filled
+use Rattle.adapt_sides.specs.Filling.{IsFilled}
+use Rattle.adapt_sides.specs.declared.filling.Filled.TheVariants as filled
 use Rattle.icap_client.proofs.Asked.{ask_short, ask_on, asks_bytes, asks_wait, asks_ended, asks_failed, asks_full}
 use Rattle.icap_client.proofs.options.OptionsSide.read_on.Goals as goal
 

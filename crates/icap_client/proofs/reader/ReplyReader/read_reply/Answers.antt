@@ -5,7 +5,7 @@ use Rattle.icap_head.specs.StartLines.{StatusForm}
 use Rattle.icap_head.specs.declared.reading.HeadFault.{HeadFault}
 use Rattle.icap_head.specs.declared.reading.HeadFault.TheVariants.{More}
 use Rattle.icap_client.specs.Heard.{Reader, noted}
-use Rattle.icap_client.specs.Hearing.{Hears, Passes}
+use Rattle.icap_client.specs.Hearing.{ReaderHears, PassesWithoutEvent}
 use Rattle.icap_client.specs.Events.{listed}
 use Rattle.icap_client.specs.Said.{tag_in, says_close}
 use Rattle.icap_client.specs.Refused.{SpellsNoReply}
@@ -30,7 +30,7 @@ returns-in-Ok-reply_of-clause-hears c =
     let closes = says_close (response_parts c.in-Ok.head.value).fields in
     let is : c.note.new.self ≡ noted c.args.self.now tag closes = search rules in
     ok_map c.accept.result _ _ (λ framed h. hears_noted x c.args.self.now c.accept.new.self tag closes (listed framed.event) (take framed.used c.args.raw.now) [] c.requires
-    (subst (λ (r : Reader). Hears x r c.accept.new.self (listed framed.event) (take framed.used c.args.raw.now) []) is h)) c.accept.ensures.hears
+    (subst (λ (r : Reader). ReaderHears x r c.accept.new.self (listed framed.event) (take framed.used c.args.raw.now) []) is h)) c.accept.ensures.hears
 
 pub returns-in-Ok-reply_of-clause-passes : goal.returns-in-Ok-reply_of-clause-passes
 returns-in-Ok-reply_of-clause-passes c =
@@ -38,4 +38,4 @@ returns-in-Ok-reply_of-clause-passes c =
     let closes = says_close (response_parts c.in-Ok.head.value).fields in
     let is : c.note.new.self ≡ noted c.args.self.now tag closes = search rules in
     ok_map c.accept.result _ _ (λ framed h e. passes_noted c.args.self.now c.accept.new.self tag closes framed.used c.args.raw.now
-    (subst (λ (r : Reader). Passes r c.accept.new.self framed.used c.args.raw.now) is (h e))) c.accept.ensures.passes
+    (subst (λ (r : Reader). PassesWithoutEvent r c.accept.new.self framed.used c.args.raw.now) is (h e))) c.accept.ensures.passes

@@ -2,7 +2,7 @@ use Rattle.std.proofs.Common.{rules, ◌≡◌, List, ℕ, length, take, drop, a
 use Rattle.trace_core.specs.History.{seen}
 use Rattle.icap_client.specs.Events.{ad_sum}
 use Rattle.icap_client.specs.Heard.{Reader}
-use Rattle.icap_client.specs.Hearing.{Hears, MustWait}
+use Rattle.icap_client.specs.Hearing.{ReaderHears, MustWait}
 use Rattle.icap_client.specs.declared.stage.Stage.{Stage}
 use Rattle.icap_client.specs.Reading.{Side}
 use Rattle.icap_client.proofs.Sides.{framed, has_to_wait}
@@ -18,8 +18,8 @@ returns-in-Ok-clause-hears c =
     let reader_is : c.self.inside.reader ≡ old.reader = ap (λ (s : Side). s.reader) c.self.view_is in
     let rest : c.pass.new.self.bytes ≡ drop used old.raw = search rules in
     framed x old _ events used c.frame.new.out
-    (subst (λ (r : Reader). Hears x r c.frame.new.self events (take used old.raw) (take (ad_sum events) c.frame.new.out)) reader_is
-    (subst (λ (t : List ℕ). Hears x c.self.inside.reader c.frame.new.self events (take used t) (take (ad_sum events) c.frame.new.out)) raw_is c.in-Ok.ensures.hears)) rest
+    (subst (λ (r : Reader). ReaderHears x r c.frame.new.self events (take used old.raw) (take (ad_sum events) c.frame.new.out)) reader_is
+    (subst (λ (t : List ℕ). ReaderHears x c.self.inside.reader c.frame.new.self events (take used t) (take (ad_sum events) c.frame.new.out)) raw_is c.in-Ok.ensures.hears)) rest
 
 pub pass-requires-clause-front : goal.pass-requires-clause-front
 pass-requires-clause-front c = λ e.

@@ -2,8 +2,9 @@ use Rattle.std.proofs.Common.{◌≡◌, Bool, true, false, List, ℕ, [], lengt
 use Rattle.trace_core.specs.declared.history.Event.{Event}
 use Rattle.trace_core.specs.History.{seen}
 use Rattle.icap_client.specs.Events.{ad_sum}
-use Rattle.icap_client.specs.Reading.{Side, SideHears, IsFilled, IsReadDue, ReadTurn}
-use Rattle.icap_client.specs.declared.filled.Filled.TheVariants as filled
+use Rattle.icap_client.specs.Reading.{Side, SideHears, IsReadDue, ReadTurn}
+use Rattle.adapt_sides.specs.Filling.{IsFilled}
+use Rattle.adapt_sides.specs.declared.filling.Filled.TheVariants as filled
 use Rattle.adapt_sides.specs.declared.turn.Turn.{Turn}
 use Rattle.icap_client.proofs.ReadTurns.{turn_bytes, turn_bytes_refused, turn_waited, turn_ended, turn_failed, turn_full}
 use Rattle.icap_client.proofs.side.ReplySide.read_wire.Goals as goal

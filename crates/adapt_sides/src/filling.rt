@@ -2,19 +2,19 @@
 
 ghost use Rattle.std.specs.Prelude.{◌+◌, ◌<◌, ◌≤◌, length};
 ghost use Rattle.adapt_bytes.specs.declared.limits.TheConstants.{MAX_HEAD};
-ghost use Rattle.http_relay.specs.declared.fill.TheConstants.{MAX_READ};
-ghost use Rattle.http_relay.specs.Reading.{IsFilled};
+ghost use Rattle.adapt_sides.specs.declared.filling.TheConstants.{MAX_READ};
+ghost use Rattle.adapt_sides.specs.Filling.{IsFilled};
 
 use adapt_bytes::MAX_HEAD;
 use bytes::BytesMut;
 use wire_kit::{Got, Wire};
 
 /// The most bytes of one read.
-pub(crate) const MAX_READ: usize = 4096;
+pub const MAX_READ: usize = 4096;
 
 /// What a read gave.
 #[derive(Clone, Copy, Debug, PartialEq, Eq)]
-pub(crate) enum Filled {
+pub enum Filled {
     /// Bytes came.
     Bytes,
     /// The other side has ended its bytes.
@@ -27,8 +27,8 @@ pub(crate) enum Filled {
     NoMemory,
 }
 
-/// Reads once behind the raw bytes.
-pub(crate) fn fill<W: Wire>(raw: &mut BytesMut, wire: &mut W) -> Filled
+/// Reads once behind the raw bytes, which are never more than a head may have.
+pub fn fill<W: Wire>(raw: &mut BytesMut, wire: &mut W) -> Filled
     requires { length raw.old.items < MAX_HEAD }
     ensures filled { IsFilled (W.past wire.old) (W.past wire.new) raw.old.items raw.new.items result }
     ensures fits { length raw.new.items ≤ MAX_HEAD }
