@@ -15,7 +15,7 @@ use Rattle.encapsulated.specs.Layouts.{IsLayout, MayHave, written}
 use Rattle.encapsulated.proofs.WriteBack.{written_is, reads_back}
 use Rattle.trace_core.specs.declared.history.Point.{Point}
 use Rattle.trace_core.specs.declared.history.Point.TheVariants.{Reqmod, Respmod}
-use Rattle.icap_client.specs.Replies.{method_of}
+use Rattle.trace_core.specs.Points.{method_of}
 use Rattle.icap_client.specs.RequestHead.{joined, list_pieces, layout_of, IsReadBack}
 
 zero_is : numeral 10 0 ≡ 48 ∷ []

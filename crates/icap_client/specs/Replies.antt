@@ -6,8 +6,6 @@ use Rattle.adapt_bytes.specs.declared.limits.TheConstants.{MAX_HEAD}
 use Rattle.icap_head.specs.Heads.{Response, HasResponse}
 use Rattle.encapsulated.specs.Layouts.{IsLayout}
 use Rattle.encapsulated.specs.declared.offsets.Layout.{Layout}
-use Rattle.encapsulated.specs.declared.message.Method.{Method}
-use Rattle.encapsulated.specs.declared.message.Method.TheVariants as methods
 use Rattle.encapsulated.specs.declared.message.Direction.TheVariants as directions
 use Rattle.encapsulated.specs.declared.parts.BodyPart.{BodyPart}
 use Rattle.encapsulated.specs.declared.parts.BodyPart.TheVariants.{ReqBody, ResBody, OptBody, NullBody}
@@ -15,12 +13,7 @@ use Rattle.icap_chunks.specs.Grammar.{IsChunked}
 use Rattle.trace_core.specs.declared.history.Payload.{Payload}
 use Rattle.trace_core.specs.declared.history.Payload.TheVariants as payloads
 use Rattle.trace_core.specs.declared.history.Point.{Point}
-use Rattle.trace_core.specs.declared.history.Point.TheVariants.{Reqmod, Respmod}
-
--- the method of a vectoring point's requests
-abbrev pub method_of : Point → Method
-method_of Reqmod = methods.Reqmod
-method_of Respmod = methods.Respmod
+use Rattle.trace_core.specs.Points.{method_of}
 
 -- ---- lists
 

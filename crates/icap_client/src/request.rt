@@ -95,10 +95,7 @@ fn put_start(
 ) -> Result<(), AllocError>
     ensures { OnOk result (out.new.items ≡ joined (start_pieces point host.now port path.now) out.old.items) }
 {
-    match point {
-        Point::Reqmod => put(out, b"REQMOD")?,
-        Point::Respmod => put(out, b"RESPMOD")?,
-    }
+    put(out, point.method().name())?;
     put(out, b" icap://")?;
     put(out, host)?;
     put(out, b":")?;
