@@ -21,6 +21,10 @@ chosen_delivered x = if chooses_original x then x.original_delivered else x.adap
 abbrev pub chosen_over : Seen → Bool
 chosen_over x = if chooses_original x then x.ended else x.adapted_over
 
+-- no byte of a body went out
+abbrev pub IsUndelivered : Seen → Type 0
+IsUndelivered x = (x.original_delivered ≡ 0) × (x.adapted_delivered ≡ 0)
+
 -- the bytes that came of its body
 abbrev pub chosen : Seen → List ℕ → List ℕ → List ℕ
 chosen x original adapted = if chooses_original x then original else if x.modified then adapted else []

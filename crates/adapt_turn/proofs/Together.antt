@@ -23,7 +23,8 @@ use Rattle.adapt_hold.specs.Holding.{Holding, IsTied, IsRoomy, shows, moved}
 use Rattle.adapt_turn.specs.declared.parts.Passed.{Passed}
 use Rattle.adapt_turn.specs.declared.start.Line.{Line}
 use Rattle.adapt_turn.specs.Parts.{SourcePart, SendPart, HearPart}
-use Rattle.adapt_turn.specs.Stands.{Texts, joined, no_texts, Stands, Goes, HopsAre, IsRefusing, IsUndelivered, IsDelivered, IsDone}
+use Rattle.adapt_turn.specs.Stands.{Texts, joined, no_texts, Stands, Goes, HopsAre, IsRefusing, IsDelivered, IsDone}
+use Rattle.adapt_sides.specs.Tapes.{IsUndelivered}
 use Rattle.adapt_turn.specs.Made.{OfHead}
 use Rattle.adapt_turn.proofs.Carry.{off_sending, off_replies, not_true, both_not}
 use Rattle.adapt_turn.proofs.Passes.{fail_runs}

@@ -8,7 +8,7 @@ use Rattle.trace_core.specs.Faults.{chooses_original}
 use Rattle.wire_kit.specs.Past.{Past, IsLater}
 use Rattle.adapt_sides.specs.declared.fault.ClientFault.{ClientFault}
 use Rattle.adapt_sides.specs.declared.fault.ClientFault.TheVariants as client
-use Rattle.adapt_sides.specs.Tapes.{chosen}
+use Rattle.adapt_sides.specs.Tapes.{chosen, IsUndelivered}
 use Rattle.adapt_sides.specs.Turns.{Gift}
 use Rattle.adapt_sides.specs.Turns.Gift.{nothing, message, refusal}
 use Rattle.adapt_hold.specs.Spans.{Span, EndsBody}
@@ -46,10 +46,6 @@ joined t d = record {
 
 abbrev pub no_texts : Texts
 no_texts = record { source_read = []; service_read = []; service_taken = []; next_taken = []; back_taken = [] }
-
--- no byte of a body went out
-abbrev pub IsUndelivered : Seen → Type 0
-IsUndelivered x = (x.original_delivered ≡ 0) × (x.adapted_delivered ≡ 0)
 
 -- what the user's writer has: at REQMOD the user is the source, at RESPMOD the next hop
 abbrev pub user_gift : Point → Gift → Gift → Gift

@@ -24,7 +24,8 @@ use Rattle.http_relay.specs.declared.hop.Stage.TheVariants as at
 use Rattle.adapt_sides.specs.declared.fault.RelayFault.{RelayFault}
 use Rattle.adapt_sides.specs.declared.fault.RelayFault.TheVariants.{Length}
 use Rattle.adapt_sides.specs.Tapes.{chosen_delivered}
-use Rattle.http_relay.specs.Giving.{Hop, LetsGo, GivesMessage, HasGiven, GivenAt, IsAside, AsideAt, IsUndelivered, Decides, NothingDue, turn_events, stage_then, is_message, is_whole, gift_of}
+use Rattle.http_relay.specs.Giving.{Hop, LetsGo, GivesMessage, HasGiven, GivenAt, IsAside, AsideAt, Decides, NothingDue, turn_events, stage_then, is_message, is_whole, gift_of}
+use Rattle.adapt_sides.specs.Tapes.{IsUndelivered}
 use Rattle.trace_core.specs.Turns.{after_all}
 use Rattle.adapt_sides.specs.Tapes.{Follows, KeepsUndelivered}
 use Rattle.adapt_sides.specs.Turns.{events_of}

@@ -20,7 +20,8 @@ use Rattle.http_relay.specs.declared.hop.Stage.{Stage}
 use Rattle.http_relay.specs.declared.hop.Stage.TheVariants as at
 use Rattle.http_relay.specs.Message.{length_of}
 use Rattle.adapt_sides.specs.Tapes.{chosen_delivered, chosen_received}
-use Rattle.http_relay.specs.Giving.{Front, GivesMessage, GivenAt, AsideAt, IsUndelivered, Decides, is_message, usr_events, turn_events, stage_then}
+use Rattle.http_relay.specs.Giving.{Front, GivesMessage, GivenAt, AsideAt, Decides, is_message, usr_events, turn_events, stage_then}
+use Rattle.adapt_sides.specs.Tapes.{IsUndelivered}
 use Rattle.trace_core.specs.Turns.{after_all, MayAllFollow}
 use Rattle.adapt_sides.specs.Tapes.{Follows, KeepsUndelivered}
 use Rattle.http_relay.proofs.Chosen.{Moved, fewer, usr_moves, usr_room, done_allowed, done_moves}

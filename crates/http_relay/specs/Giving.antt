@@ -16,12 +16,8 @@ use Rattle.http_relay.specs.declared.hop.Stage.TheVariants as at
 use Rattle.adapt_sides.specs.declared.fault.RelayFault.{RelayFault}
 use Rattle.adapt_sides.specs.Turns.{Gift}
 use Rattle.adapt_sides.specs.Turns.Gift.{nothing as no_gift, message as message_gift, refusal as refusal_gift}
-use Rattle.adapt_sides.specs.Tapes.{chosen_delivered, chosen_received, chosen_over}
+use Rattle.adapt_sides.specs.Tapes.{chosen_delivered, chosen_received, chosen_over, IsUndelivered}
 use Rattle.http_relay.specs.Message.{is_chunked, length_of}
-
--- no body byte went out
-abbrev pub IsUndelivered : Seen → Type 0
-IsUndelivered x = (x.original_delivered ≡ 0) × (x.adapted_delivered ≡ 0)
 
 -- a next hop's end: the text that is on its way, how the body goes, what is written, whether a byte went out, and its fault
 pub record Hop : Type 0 where

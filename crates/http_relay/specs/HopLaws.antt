@@ -17,7 +17,8 @@ use Rattle.adapt_sides.specs.Tapes.{chosen, chosen_received, chosen_delivered}
 use Rattle.adapt_sides.specs.Turns.Gift.{nothing as no_gift, message as message_gift, refusal as refusal_gift}
 use Rattle.http_relay.specs.declared.hop.Stage.{Stage}
 use Rattle.http_relay.specs.declared.hop.Stage.TheVariants as at
-use Rattle.http_relay.specs.Giving.{Hop, HasGiven, IsAside, GivenAt, AsideAt, IsUndelivered, NothingDue, gift_of, is_message, is_whole}
+use Rattle.http_relay.specs.Giving.{Hop, HasGiven, IsAside, GivenAt, AsideAt, NothingDue, gift_of, is_message, is_whole}
+use Rattle.adapt_sides.specs.Tapes.{IsUndelivered}
 use Rattle.http_relay.specs.Keeping as keeping
 
 pub no_message_at : (stage : Stage) (status : ℕ) (x : Seen) (f : Framing) (head body taken : List ℕ) (w : Writer) → stage ≡ at.Refusal status → GivenAt stage x f head body taken w → ⊥

@@ -24,7 +24,8 @@ use Rattle.http_relay.specs.Message.{is_chunked, length_of}
 use Rattle.http_side.specs.Refusals.{refusal}
 use Rattle.trace_core.specs.Turns.{is_of_hop}
 use Rattle.adapt_sides.specs.Tapes.{chosen_delivered, chosen_received, chosen_over}
-use Rattle.http_relay.specs.Giving.{Front, GivesMessage, GivenAt, IsAside, IsUndelivered, Hop, HasGiven}
+use Rattle.http_relay.specs.Giving.{Front, GivesMessage, GivenAt, IsAside, Hop, HasGiven}
+use Rattle.adapt_sides.specs.Tapes.{IsUndelivered}
 use Rattle.http_relay.specs.Giving.Front.{plain, run}
 
 begins_by : (f : Framing) (b : Bool) → is_chunked f ≡ b → Front f false [] [] 0

@@ -6,7 +6,8 @@ ghost use Rattle.trace_core.specs.History.{seen};
 ghost use Rattle.chunk_writer.specs.Writer.{fresh, waiting};
 ghost use Rattle.http_side.specs.Refusals.{is_own_status, refusal};
 ghost use Rattle.adapt_sides.specs.Tapes.{KeepsUndelivered};
-ghost use Rattle.http_relay.specs.Giving.{Hop, HasGiven, IsAside, IsUndelivered, LetsGo, is_flushed, is_whole, is_empty, stage_then};
+ghost use Rattle.http_relay.specs.Giving.{Hop, HasGiven, IsAside, LetsGo, is_flushed, is_whole, is_empty, stage_then};
+ghost use Rattle.adapt_sides.specs.Tapes.{IsUndelivered};
 ghost use Rattle.http_relay.specs.Writing.{WriteTurn};
 
 use crate::due::{decide, turn_of};

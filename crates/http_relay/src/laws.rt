@@ -20,7 +20,8 @@ ghost use Rattle.http_relay.specs.declared.hop.Stage.TheVariants as at;
 ghost use Rattle.trace_core.specs.Turns.{is_of_hop};
 ghost use Rattle.http_relay.specs.Message.{IsFrontOfMessage, IsMessage, length_of};
 ghost use Rattle.adapt_sides.specs.Tapes.{chosen_delivered, chosen_received};
-ghost use Rattle.http_relay.specs.Giving.{Hop, HasGiven, IsAside, IsUndelivered};
+ghost use Rattle.http_relay.specs.Giving.{Hop, HasGiven, IsAside};
+ghost use Rattle.adapt_sides.specs.Tapes.{IsUndelivered};
 
 /// Where a turn at the head answers that it was read, a message of each plan begins there: nothing of its body was told yet.
 pub fn a_message_begins()
