@@ -112,10 +112,10 @@ hops_kept hops h events out original adapted next back law t o m l p =
 -- The source's pass.
 
 pub source_stands : (h k : Holding) (ao an : Seen → Type 0) (ro rn : Seen → List ℕ → List ℕ → Type 0) (sent : List ℕ → Seen → List ℕ → List ℕ → Type 0) (heard : Seen → List ℕ → List ℕ → Type 0) (hops : Seen → List ℕ → List ℕ → List ℕ → Type 0) (refuses : Seen → Type 0) (delivered : List ℕ → List ℕ → List ℕ → Type 0)
-    (f0 f1 : Option RelayFault) (rests : Type 0) (before after_ : Past → Type 0) (passed : Passed) (request : List ℕ) (t : Texts)
-    → Others an rn sent heard hops refuses → IsTied h → (shows h.history).closed ≡ false → (d : SourcePart h k ro rn an f0 f1 rests before after_ passed)
+    (f0 f1 : Option RelayFault) (rests framed : Type 0) (before after_ : Past → Type 0) (passed : Passed) (request : List ℕ) (t : Texts)
+    → Others an rn sent heard hops refuses → IsTied h → (shows h.history).closed ≡ false → (d : SourcePart h k ro rn an f0 f1 rests framed before after_ passed)
     → Stands h ao ro sent heard hops refuses delivered request t → Stands k an rn sent heard hops refuses delivered request (record t { source_read = t.source_read ++ d.delta })
-source_stands h k ao an ro rn sent heard hops refuses delivered f0 f1 rests before after_ passed request t u tied c d s =
+source_stands h k ao an ro rn sent heard hops refuses delivered f0 f1 rests framed before after_ passed request t u tied c d s =
     let x = shows h.history in
     let events = stepped passed.failed d.reported in
     let l = lengths h s.original s.adapted tied s.original_is s.adapted_is in
@@ -166,11 +166,11 @@ send_stands h k agrees read so sn ho hn hops refuses delivered f0 f1 rests befor
 -- The service's pass that reads.
 
 pub hear_stands : (h k : Holding) (agrees : Seen → Type 0) (read : Seen → List ℕ → List ℕ → Type 0) (so sn : List ℕ → Seen → List ℕ → List ℕ → Type 0) (ho hn : Seen → List ℕ → List ℕ → Type 0) (hops : Seen → List ℕ → List ℕ → List ℕ → Type 0) (refuses : Seen → Type 0) (delivered : List ℕ → List ℕ → List ℕ → Type 0)
-    (f0 f1 : Option ClientFault) (rests : Type 0) (before after_ : Past → Type 0) (passed : Passed) (request : List ℕ) (t : Texts)
+    (f0 f1 : Option ClientFault) (rests framed : Type 0) (before after_ : Past → Type 0) (passed : Passed) (request : List ℕ) (t : Texts)
     → Others agrees read sn hn hops refuses → ((heads came text : List ℕ) → so heads (shows h.history) came text → sn heads (shows h.history) came text) → IsTied h
-    → (shows h.history).closed ≡ false → (d : HearPart h k ho hn f0 f1 rests before after_ passed)
+    → (shows h.history).closed ≡ false → (d : HearPart h k ho hn f0 f1 rests framed before after_ passed)
     → Stands h agrees read so ho hops refuses delivered request t → Stands k agrees read sn hn hops refuses delivered request (record t { service_read = t.service_read ++ d.delta })
-hear_stands h k agrees read so sn ho hn hops refuses delivered f0 f1 rests before after_ passed request t u same tied c d s =
+hear_stands h k agrees read so sn ho hn hops refuses delivered f0 f1 rests framed before after_ passed request t u same tied c d s =
     let x = shows h.history in
     let events = stepped passed.failed d.reported in
     let l = lengths h s.original s.adapted tied s.original_is s.adapted_is in

@@ -175,13 +175,13 @@ reopen h agrees read sent heard hopso hops refuses done delivered request t c f 
     rehop h agrees read sent heard hopso hops refuses refuses done delivered request t t.next_taken t.back_taken (λ body p. f body t.next_taken t.back_taken p) (λ r. r) (λ w body p. absurd (false≢true (sym c ∙ w.0))) s
 
 pub source_goes : (h k : Holding) (ao an : Seen → Type 0) (ro rn : Seen → List ℕ → List ℕ → Type 0) (sent : List ℕ → Seen → List ℕ → List ℕ → Type 0) (heard : Seen → List ℕ → List ℕ → Type 0) (hopso hops : Seen → List ℕ → List ℕ → List ℕ → Type 0) (refuses : Seen → Type 0) (done delivered : List ℕ → List ℕ → List ℕ → Type 0)
-    (f0 f1 : Option RelayFault) (rests : Type 0) (before after_ service next : Past → Type 0) (passed : Passed)
-    → ((body next back : List ℕ) → hopso (shows h.history) body next back → hops (shows h.history) body next back) → Others an rn sent heard hops refuses → IsTied h → (shows h.history).closed ≡ false → SourcePart h k ro rn an f0 f1 rests before after_ passed
+    (f0 f1 : Option RelayFault) (rests framed : Type 0) (before after_ service next : Past → Type 0) (passed : Passed)
+    → ((body next back : List ℕ) → hopso (shows h.history) body next back → hops (shows h.history) body next back) → Others an rn sent heard hops refuses → IsTied h → (shows h.history).closed ≡ false → SourcePart h k ro rn an f0 f1 rests framed before after_ passed
     → Goes (Stands h ao ro sent heard hopso refuses done) (Stands k an rn sent heard hops refuses delivered) before after_ service service next next
-source_goes h k ao an ro rn sent heard hopso hops refuses done delivered f0 f1 rests before after_ service next passed conv u tied c d = record {
+source_goes h k ao an ro rn sent heard hopso hops refuses done delivered f0 f1 rests framed before after_ service next passed conv u tied c d = record {
   delta = record { source_read = d.delta; service_read = []; service_taken = []; next_taken = []; back_taken = [] };
   stands = λ request t o. of_five (Stands k an rn sent heard hops refuses delivered request) _ _ _ _ _ _ _ _ _ _ refl (sym (append-nil t.service_read)) (sym (append-nil t.service_taken)) (sym (append-nil t.next_taken)) (sym (append-nil t.back_taken))
-      (source_stands h k ao an ro rn sent heard hops refuses delivered f0 f1 rests before after_ passed request t u tied c d (reopen h ao ro sent heard hopso hops refuses done delivered request t c conv o));
+      (source_stands h k ao an ro rn sent heard hops refuses delivered f0 f1 rests framed before after_ passed request t u tied c d (reopen h ao ro sent heard hopso hops refuses done delivered request t c conv o));
   source = λ p b. let w = d.part.wire p b in (w.0, w.1, w.2);
   service = λ p b. still service p b;
   next = λ p b. still next p b;
@@ -231,17 +231,17 @@ send_goes {L} line l m h k agrees read said heard past hopso hops refuses done d
     })
 
 pub hear_goes : {L : Type 0} (line : Option L) (l m : L) (h k : Holding) (agrees : Seen → Type 0) (read : Seen → List ℕ → List ℕ → Type 0) (said : L → List ℕ → Seen → List ℕ → List ℕ → Type 0) (heard : L → Seen → List ℕ → List ℕ → Type 0) (past : L → Past → Type 0)
-    (hopso hops : Seen → List ℕ → List ℕ → List ℕ → Type 0) (refuses : Seen → Type 0) (done delivered : List ℕ → List ℕ → List ℕ → Type 0) (f0 f1 : Option ClientFault) (rests : Type 0) (source next : Past → Type 0) (passed : Passed)
+    (hopso hops : Seen → List ℕ → List ℕ → List ℕ → Type 0) (refuses : Seen → Type 0) (done delivered : List ℕ → List ℕ → List ℕ → Type 0) (f0 f1 : Option ClientFault) (rests framed : Type 0) (source next : Past → Type 0) (passed : Passed)
     → line ≡ Some l → ((body next back : List ℕ) → hopso (shows h.history) body next back → hops (shows h.history) body next back) → Others agrees read (said m) (heard m) hops refuses → ((heads came text : List ℕ) → said l heads (shows h.history) came text → said m heads (shows h.history) came text) → IsTied h
-    → (shows h.history).closed ≡ false → HearPart h k (heard l) (heard m) f0 f1 rests (past l) (past m) passed
+    → (shows h.history).closed ≡ false → HearPart h k (heard l) (heard m) f0 f1 rests framed (past l) (past m) passed
     → Goes (Stands h agrees read (on_line said line) (heard_on_line heard line) hopso refuses done) (Stands k agrees read (on_line said (Some m)) (heard_on_line heard (Some m)) hops refuses delivered)
     source source (past_on past line) (past_on past (Some m)) next next
-hear_goes {L} line l m h k agrees read said heard past hopso hops refuses done delivered f0 f1 rests source next passed e conv u same tied c d =
+hear_goes {L} line l m h k agrees read said heard past hopso hops refuses done delivered f0 f1 rests framed source next passed e conv u same tied c d =
     subst (λ (z : Option L). Goes (Stands h agrees read (on_line said z) (heard_on_line heard z) hopso refuses done) (Stands k agrees read (said m) (heard m) hops refuses delivered) source source (past_on past z) (past m) next next) (sym e)
     (record {
       delta = record { source_read = []; service_read = d.delta; service_taken = []; next_taken = []; back_taken = [] };
       stands = λ request t o. of_five (Stands k agrees read (said m) (heard m) hops refuses delivered request) _ _ _ _ _ _ _ _ _ _ (sym (append-nil t.source_read)) refl (sym (append-nil t.service_taken)) (sym (append-nil t.next_taken)) (sym (append-nil t.back_taken))
-          (hear_stands h k agrees read (said l) (said m) (heard l) (heard m) hops refuses delivered f0 f1 rests (past l) (past m) passed request t u same tied c d (reopen h agrees read (said l) (heard l) hopso hops refuses done delivered request t c conv o));
+          (hear_stands h k agrees read (said l) (said m) (heard l) (heard m) hops refuses delivered f0 f1 rests framed (past l) (past m) passed request t u same tied c d (reopen h agrees read (said l) (heard l) hopso hops refuses done delivered request t c conv o));
       source = λ p b. still source p b;
       service = λ p b. let w = d.part.wire p b in (w.0, w.1, w.2);
       next = λ p b. still next p b;

@@ -17,7 +17,7 @@ use Rattle.adapt_turn.proofs.tx.Tx.hear_pass.Goals as goal
 pub returns-in-Some-clause-goes : goal.returns-in-Some-clause-goes
 returns-in-Some-clause-goes g c =
     hear_goes c.args.self.now.service c.in-Some.line (record { side = c.hear-passed.new.service; wire = c.hear-passed.new.wire }) c.args.self.now.hold c.hear-passed.new.hold _ _
-    (λ l heads x came taken. g.V.Service.has_sent heads x came taken l.side) (λ l x adapted text. g.V.Service.has_heard x adapted text l.side) (λ l p. g.W.Wire.past l.wire p) _ _ _ _ _ _ _ _ _ _ c.hear-passed.result
+    (λ l heads x came taken. g.V.Service.has_sent heads x came taken l.side) (λ l x adapted text. g.V.Service.has_heard x adapted text l.side) (λ l p. g.W.Wire.past l.wire p) _ _ _ _ _ _ _ _ _ _ _ c.hear-passed.result
     c.in-Some.is
     (heads_then g.K.Hop.gift g.K.Hop.has_given g.K.Hop.aside (made_by (g.F.Forward.makes c.args.self.now.forward) g.K.Hop.body_framing g.V.Service.adapted_head g.V.Service.is_response (g.S.Source.head c.args.self.now.source) c.args.self.now.service) (made_by (g.F.Forward.makes c.args.self.now.forward) g.K.Hop.body_framing g.V.Service.adapted_head g.V.Service.is_response (g.S.Source.head c.args.self.now.source) (Some (record { side = c.hear-passed.new.service; wire = c.hear-passed.new.wire }))) c.args.self.now.next c.args.self.now.back (shows c.args.self.now.hold.history)
     (line_heads (g.F.Forward.makes c.args.self.now.forward) g.K.Hop.body_framing g.V.Service.adapted_head g.V.Service.is_response (g.S.Source.head c.args.self.now.source) c.args.self.now.service c.in-Some.line (record { side = c.hear-passed.new.service; wire = c.hear-passed.new.wire }) (shows c.args.self.now.hold.history) c.in-Some.is c.hear-passed.ensures.head c.hear-passed.ensures.response))

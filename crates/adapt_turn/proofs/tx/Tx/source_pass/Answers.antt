@@ -17,7 +17,7 @@ use Rattle.adapt_turn.proofs.tx.Tx.source_pass.Goals as goal
 
 pub returns-then-agrees_with-clause-goes : goal.returns-then-agrees_with-clause-goes
 returns-then-agrees_with-clause-goes g c =
-    source_goes c.args.self.now.hold c.read_source-passed.new.hold _ _ _ _ _ _ _ _ _ _ _ _ _ _ _ _ _ _ c.read_source-passed.result
+    source_goes c.args.self.now.hold c.read_source-passed.new.hold _ _ _ _ _ _ _ _ _ _ _ _ _ _ _ _ _ _ _ c.read_source-passed.result
     (heads_then g.K.Hop.gift g.K.Hop.has_given g.K.Hop.aside (made_by (g.F.Forward.makes c.args.self.now.forward) g.K.Hop.body_framing g.V.Service.adapted_head g.V.Service.is_response (g.S.Source.head c.args.self.now.source) c.args.self.now.service) (made_by (g.F.Forward.makes c.args.self.now.forward) g.K.Hop.body_framing g.V.Service.adapted_head g.V.Service.is_response (g.S.Source.head c.read_source-passed.new.source) c.args.self.now.service) c.args.self.now.next c.args.self.now.back (shows c.args.self.now.hold.history)
     (source_heads (g.F.Forward.makes c.args.self.now.forward) g.K.Hop.body_framing g.V.Service.adapted_head g.V.Service.is_response (g.S.Source.head c.args.self.now.source) (g.S.Source.head c.read_source-passed.new.source) c.args.self.now.service (shows c.args.self.now.hold.history) c.read_source-passed.ensures.head))
     (others_of g.S.Source.agrees g.S.Source.has_read g.V.Service.has_sent g.V.Service.has_heard g.K.Hop.has_given g.K.Hop.gift g.K.Hop.aside (made_by (g.F.Forward.makes c.args.self.now.forward) g.K.Hop.body_framing g.V.Service.adapted_head g.V.Service.is_response (g.S.Source.head c.read_source-passed.new.source) c.args.self.now.service) g.met.S.Source.others_agree g.met.S.Source.others g.met.V.Service.others_sent g.met.V.Service.others_heard g.met.K.Hop.others (λ k. made_on _ _ _ _) c.read_source-passed.new.source c.args.self.now.service c.args.self.now.next c.args.self.now.back c.args.self.now.refusing)
@@ -71,7 +71,7 @@ pub returns-else-agrees_with-clause-framed : goal.returns-else-agrees_with-claus
 returns-else-agrees_with-clause-framed g c = λ e. absurd (false≢true (sym (ap (λ (z : Passed). z.waiting) c.close-passed.ensures.passed) ∙ e))
 
 pub returns-then-agrees_with-clause-paced : goal.returns-then-agrees_with-clause-paced
-returns-then-agrees_with-clause-paced g c = λ n. part_received _ _ _ _ _ _ _ _ _ _ _ _ _ _ _ _ _ c.state-state.ensures.tied c.read_source-passed.ensures.part.part _ c.read_source-passed.ensures.part.few (original_few _ _ _)
+returns-then-agrees_with-clause-paced g c = λ n. part_received _ _ _ _ _ _ _ _ _ _ _ _ _ _ _ _ _ c.state-state.ensures.tied c.read_source-passed.ensures.part.part _ c.read_source-passed.ensures.part.few (original_few (shows c.args.self.now.hold.history) c.args.self.now.hold.claim c.args.self.now.hold.limits.window)
 
 pub returns-else-agrees_with-clause-paced : goal.returns-else-agrees_with-clause-paced
 returns-else-agrees_with-clause-paced g c = λ n. (let d : Some causes.Source ≡ None = sym (ap (λ (z : Passed). z.failed) c.close-passed.ensures.passed) ∙ n in absurd cc)
