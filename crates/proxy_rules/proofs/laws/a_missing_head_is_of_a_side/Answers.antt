@@ -24,8 +24,8 @@ none_of source asked (Some text) true has_body cause (inr e) = of_service cause 
 none_of source asked (Some text) false has_body cause (inl e) = of_memory cause e
 none_of source asked (Some text) false has_body cause (inr e) = of_service cause e.0
 
-pub returns-clause : goal.returns-clause
-returns-clause c = λ user source x adapted is_response cause none. elim none [
+pub returns : goal.returns
+returns c = λ user source x adapted is_response cause none. elim none [
   | inl e ↦ of_source cause e.0
   | inr e ↦ none_of source e.0 adapted is_response x.has_body cause e.2
 ]
