@@ -1,13 +1,12 @@
 //! What holds of every head that goes on: each law is the contract of a function that does nothing.
 
 ghost use Rattle.std.specs.Prelude.{◌≡◌, ◌↔◌, ℕ, Bool, List, [], Option, true, false, codes, MatchOption};
-ghost use Rattle.trace_core.specs.declared.history.Cause.{Cause};
+ghost use Rattle.trace_core.specs.declared.history.Cause.TheVariants.{Deadline, Stopping};
 ghost use Rattle.trace_core.specs.declared.history.Seen.{Seen};
 ghost use Rattle.trace_core.specs.declared.tape.Tape.TheVariants.{Original, Adapted};
 ghost use Rattle.trace_core.specs.Held.{IsIn, IsNeeded};
 ghost use Rattle.adapt_hold.specs.Holding.{IsTied, interval, shows};
 ghost use Rattle.adapt_turn.specs.Made.{IsMade, adapted_of, response_of};
-ghost use Rattle.adapt_turn.specs.Parts.{IsOfSide};
 ghost use Rattle.adapt_turn.specs.Stands.{Texts};
 ghost use Rattle.http_relay.specs.declared.side.SourceHead.{SourceHead};
 ghost use Rattle.http_relay.specs.declared.side.SourceSide.{SourceSide as UserSide};
@@ -37,8 +36,10 @@ pub fn says_close_where_it_ends()
 /// Why no head of a chosen message could be made lies with a side or with memory: it is never the deadline, and never a stop. So of a
 /// transaction of the proxy's own sides only a turn at its deadline fails it as Deadline, and only `halt` as Stopping.
 pub fn a_missing_head_is_of_a_side()
-    ensures side { (user : Option UserSide) (source : SourceHead) (x : Seen) (adapted : Option (List ℕ)) (is_response : Bool) (cause : Cause)
-        → MakesNone user source x adapted is_response cause → IsOfSide cause }
+    ensures deadline { (user : Option UserSide) (source : SourceHead) (x : Seen) (adapted : Option (List ℕ)) (is_response : Bool)
+        → MakesNone user source x adapted is_response Deadline → ⊥ }
+    ensures stopping { (user : Option UserSide) (source : SourceHead) (x : Seen) (adapted : Option (List ℕ)) (is_response : Bool)
+        → MakesNone user source x adapted is_response Stopping → ⊥ }
 {}
 
 /// Of a transaction of the proxy's own sides, wherever it stands: its source's wire gave a message with the original body, and its

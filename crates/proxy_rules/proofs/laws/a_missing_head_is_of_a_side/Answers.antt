@@ -2,9 +2,11 @@ use Rattle.std.proofs.Common.{◌≡◌, ◌⊎◌, inl, inr, Bool, true, false,
 use Rattle.trace_core.specs.declared.history.Cause.{Cause}
 use Rattle.trace_core.specs.declared.history.Cause.TheVariants as causes
 use Rattle.http_side.specs.Heads.{RequestParts}
+use Rattle.trace_core.specs.declared.history.Seen.{Seen}
 use Rattle.http_relay.specs.declared.side.SourceHead.{SourceHead}
+use Rattle.http_relay.specs.declared.side.SourceSide.{SourceSide}
 use Rattle.adapt_turn.specs.Parts.{IsOfSide}
-use Rattle.proxy_rules.specs.Heads.{MakesNoneOf}
+use Rattle.proxy_rules.specs.Heads.{MakesNone, MakesNoneOf}
 use Rattle.proxy_rules.proofs.laws.a_missing_head_is_of_a_side.Goals as goal
 
 of_memory : (cause : Cause) → cause ≡ causes.Memory → IsOfSide cause
@@ -24,8 +26,14 @@ none_of source asked (Some text) true has_body cause (inr e) = of_service cause 
 none_of source asked (Some text) false has_body cause (inl e) = of_memory cause e
 none_of source asked (Some text) false has_body cause (inr e) = of_service cause e.0
 
-pub returns : goal.returns
-returns c = λ user source x adapted is_response cause none. elim none [
+of_side : (user : Option SourceSide) (source : SourceHead) (x : Seen) (adapted : Option (List ℕ)) (is_response : Bool) (cause : Cause) → MakesNone user source x adapted is_response cause → IsOfSide cause
+of_side user source x adapted is_response cause none = elim none [
   | inl e ↦ of_source cause e.0
   | inr e ↦ none_of source e.0 adapted is_response x.has_body cause e.2
 ]
+
+pub returns-clause-deadline : goal.returns-clause-deadline
+returns-clause-deadline c = λ user source x adapted is_response none. of_side user source x adapted is_response causes.Deadline none
+
+pub returns-clause-stopping : goal.returns-clause-stopping
+returns-clause-stopping c = λ user source x adapted is_response none. of_side user source x adapted is_response causes.Stopping none
