@@ -39,7 +39,8 @@ pub trait Answering {
     ghost answers: { Self → Side → Self → Turned → Type 0 };
 
     // Of an open one a turn steps events of its side, or Fail, and leaves the other sides and wires as they were; unless it fails, the
-    // writers too, and it brings of its body no more than a turn may; a message that is begun goes back to the user exactly where a request was offered and the service answers it.
+    // writers too, and it brings of its body no more than a turn may; a message that is begun goes back to the user exactly where a
+    // request was offered and the service answers it.
     // Of a closed one it leaves all but the user's writer and wire.
     ghost keeps: { Self → Side → Self → Type 0 };
 
