@@ -4,12 +4,14 @@ ghost use Rattle.std.specs.Char.{digit_char, digit_value};
 ghost use Rattle.std.specs.Option.{SomeIff};
 ghost use Rattle.std.specs.Int.Digits.{digits_of};
 ghost use Rattle.arrayvec.specs.ArrayVec.{array_vec_len};
+ghost use Rattle.adapt_bytes.specs.declared.limits.TheConstants.{MAX_SMALL};
 ghost use Rattle.adapt_bytes.specs.Numeral.{Writes, numeral, three_digits};
 
+use crate::limits::MAX_SMALL;
 use arrayvec::ArrayVec;
 
-/// A short text that is written without memory: at most 64 bytes.
-pub type Small = ArrayVec<u8, 64>;
+/// A short text that is written without memory: at most `MAX_SMALL` bytes.
+pub type Small = ArrayVec<u8, MAX_SMALL>;
 
 /// The number that a text spells in decimal: one or more digits, with any leading zeros, up to `2^64 - 1`.
 ///
@@ -64,7 +66,7 @@ fn with_digit(value: u64, byte: u8, base: u32) -> Option<u64>
 /// Appends `n` in decimal, without leading zeros: at most 20 bytes, for which `out` needs room.
 #[tactic(auto, using(crate::proofs::Written::decimal_short))]
 pub fn put_decimal(n: u64, out: &mut Small)
-    requires { array_vec_len out.old + 20 ≤ 64 }
+    requires { array_vec_len out.old + 20 ≤ MAX_SMALL }
     ensures items { out.new.items ≡ out.old.items ++ numeral 10 n }
     ensures len { array_vec_len out.new ≡ array_vec_len out.old + length (numeral 10 n) }
     ensures short { array_vec_len out.new ≤ array_vec_len out.old + 20 }
@@ -75,7 +77,7 @@ pub fn put_decimal(n: u64, out: &mut Small)
 /// Appends `n` in hexadecimal, in lower case and without leading zeros: at most 16 bytes, for which `out` needs room.
 #[tactic(auto, using(crate::proofs::Written::hex_short))]
 pub fn put_hex(n: u64, out: &mut Small)
-    requires { array_vec_len out.old + 16 ≤ 64 }
+    requires { array_vec_len out.old + 16 ≤ MAX_SMALL }
     ensures items { out.new.items ≡ out.old.items ++ numeral 16 n }
     ensures len { array_vec_len out.new ≡ array_vec_len out.old + length (numeral 16 n) }
     ensures short { array_vec_len out.new ≤ array_vec_len out.old + 16 }
@@ -87,7 +89,7 @@ pub fn put_hex(n: u64, out: &mut Small)
 fn put_numeral(n: u64, base: u64, out: &mut Small)
     requires low { 2 ≤ base }
     requires high { base ≤ 16 }
-    requires room { array_vec_len out.old + length (numeral base n) ≤ 64 }
+    requires room { array_vec_len out.old + length (numeral base n) ≤ MAX_SMALL }
     ensures items { out.new.items ≡ out.old.items ++ numeral base n }
     ensures len { array_vec_len out.new ≡ array_vec_len out.old + length (numeral base n) }
 {
@@ -102,7 +104,7 @@ fn put_numeral(n: u64, base: u64, out: &mut Small)
 fn put_digits(n: u64, base: u64, out: &mut Small)
     requires low { 2 ≤ base }
     requires high { base ≤ 16 }
-    requires room { array_vec_len out.old + length (digits_of base n) ≤ 64 }
+    requires room { array_vec_len out.old + length (digits_of base n) ≤ MAX_SMALL }
     ensures items { out.new.items ≡ out.old.items ++ map digit_char (digits_of base n) }
     ensures len { array_vec_len out.new ≡ array_vec_len out.old + length (digits_of base n) }
 {

@@ -12,7 +12,7 @@ pub use commas::{CommaItems, CommaParts, comma_items, comma_parts, has_item};
 pub use digits::{Small, put_decimal, put_hex, read_decimal, read_hex, three_digits};
 pub use limits::{
     COUNT_LIMIT, MAX_ALLOW_LIMIT, MAX_CAPACITY, MAX_CONNECTIONS, MAX_FIELDS, MAX_HEAD, MAX_INPUT,
-    MAX_PREVIEW, MAX_ROWS, MAX_WINDOW,
+    MAX_PORT, MAX_PREVIEW, MAX_ROWS, MAX_SMALL, MAX_WINDOW,
 };
 pub use room::Room;
 pub use text::{is_blank, is_token, same_ascii, trim};

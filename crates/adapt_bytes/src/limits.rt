@@ -31,3 +31,9 @@ pub const MAX_CAPACITY: u64 = 1 << 40;
 
 /// The most reservations that a buffer budget can have open.
 pub const MAX_ROWS: u64 = 4096;
+
+/// The most bytes of a short text that is written without memory.
+pub const MAX_SMALL: usize = 64;
+
+/// The greatest port (RFC 9293, section 3.1).
+pub const MAX_PORT: u64 = 65_535;

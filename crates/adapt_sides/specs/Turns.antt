@@ -22,11 +22,30 @@ abbrev pub waits_of : {F : Type 0} → Result Turn F → Bool
 waits_of (Ok turn) = turn.waiting
 waits_of (Err fault) = false
 
--- Why a turn moved nothing, or failed: on a wire with the past p before and q after. A first failure of the connection is
--- answered only where the wire failed in this call. `rests` says that nothing was due.
-pub record HasReason {F : Type 0} (broken : F) (p q : Past) (old_fault : Option F) (rests : Type 0) (waits : Past → ℕ) (result : Result Turn F) : Type 0 where
-  pub device : result ≡ Err broken → old_fault ≡ None → p.faults < q.faults
+-- Of the two faults that a wire's answer is, the one comes only where the wire failed in this call, and the other only where it
+-- ended in this call: on a wire with the past p before and q after.
+abbrev pub OfWire : {F : Type 0} → (device closed fault : F) → Past → Past → Type 0
+OfWire device closed fault p q = (fault ≡ device → p.faults < q.faults) × (fault ≡ closed → p.ends < q.ends)
+
+abbrev pub OfRelayWire : RelayFault → Past → Past → Type 0
+OfRelayWire fault p q = OfWire relay.Device relay.Closed fault p q
+
+abbrev pub OfClientWire : ClientFault → Past → Past → Type 0
+OfClientWire fault p q = OfWire client.Device client.Closed fault p q
+
+-- Why a turn moved nothing, or failed: on a wire with the past p before and q after. `of_wire` says what a first fault shows of
+-- the wire, and `rests` that nothing was due.
+pub record HasReason {F : Type 0} (of_wire : F → Past → Past → Type 0) (p q : Past) (old_fault : Option F) (rests : Type 0) (waits : Past → ℕ) (result : Result Turn F) : Type 0 where
+  pub failed : (fault : F) → result ≡ Err fault → old_fault ≡ None → of_wire fault p q
   pub waiting : waits_of result ≡ true → rests ⊎ (waits p < waits q)
+
+-- a first fault has its reason
+abbrev pub IsExplained : {F : Type 0} → (old_fault : Option F) → (reason : F → Type 0) → Result Turn F → Type 0
+IsExplained {F} old_fault reason result = old_fault ≡ None → (fault : F) → result ≡ Err fault → reason fault
+
+-- why a next hop's side fails first: the wire failed, or the chosen body breaks the length that its head said
+abbrev pub FailsGiving : (breaks : Type 0) → RelayFault → Type 0
+FailsGiving breaks fault = (fault ≡ relay.Device) ⊎ ((fault ≡ relay.Length) × breaks)
 
 -- a turn that waits did nothing, and one that did nothing waits
 pub record SaysWaiting {F : Type 0} (events : List Event) (delta : List ℕ) (result : Result Turn F) : Type 0 where
@@ -42,7 +61,7 @@ pub record Remembers {F : Type 0} (old new : Option F) (result : Result Turn F) 
 -- A read of the source's wire, which gave these bytes: In and End. `all_framed` says that none of the bytes that are kept can be framed.
 pub record ReadsBody (old new : Seen → List ℕ → List ℕ → Type 0) (agrees_old agrees_new : Seen → Type 0) (old_fault new_fault : Option RelayFault) (rests all_framed : Type 0) (before after : Past → Type 0) (out : List ℕ) (result : Result Turn RelayFault) : Type 0 where
   pub delta : List ℕ
-  pub wire : (p : Past) → before p → (q : Past) × after q × IsLater p delta [] q × HasReason relay.Device p q old_fault rests (λ past. past.read_waits) result
+  pub wire : (p : Past) → before p → (q : Past) × after q × IsLater p delta [] q × HasReason OfRelayWire p q old_fault rests (λ past. past.read_waits) result
   pub only : AllAre is_of_source (events_of result)
   pub count : in_sum (events_of result) ≤ length out
   pub framed : waits_of result ≡ true → all_framed
@@ -55,7 +74,7 @@ pub record ReadsBody (old new : Seen → List ℕ → List ℕ → Type 0) (agre
 -- A write to the service's wire, which took these bytes: Svc and Stop. Of a request with these heads.
 pub record Sends (x : Seen) (tape : Tape) (old new : List ℕ → Seen → List ℕ → List ℕ → Type 0) (old_fault new_fault : Option ClientFault) (rests : Type 0) (before after : Past → Type 0) (result : Result Turn ClientFault) : Type 0 where
   pub delta : List ℕ
-  pub wire : (p : Past) → before p → (q : Past) × after q × IsLater p [] delta q × HasReason client.Device p q old_fault rests (λ past. past.write_waits) result
+  pub wire : (p : Past) → before p → (q : Past) × after q × IsLater p [] delta q × HasReason OfClientWire p q old_fault rests (λ past. past.write_waits) result
   pub only : AllAre is_of_sending (events_of result)
   pub legal : MayAllFollow x (events_of result)
   pub goes_on : (heads came taken : List ℕ) → Follows tape came → old heads x came taken → new heads (after_all x (events_of result)) came (taken ++ delta)
@@ -65,7 +84,7 @@ pub record Sends (x : Seen) (tape : Tape) (old new : List ℕ → Seen → List 
 -- A read of the service's wire, which gave these bytes: Heard, the replies, Ad and AdEnd.
 pub record Hears (x : Seen) (old new : Seen → List ℕ → List ℕ → Type 0) (old_fault new_fault : Option ClientFault) (rests all_framed : Type 0) (before after : Past → Type 0) (out : List ℕ) (result : Result Turn ClientFault) : Type 0 where
   pub delta : List ℕ
-  pub wire : (p : Past) → before p → (q : Past) × after q × IsLater p delta [] q × HasReason client.Device p q old_fault rests (λ past. past.read_waits) result
+  pub wire : (p : Past) → before p → (q : Past) × after q × IsLater p delta [] q × HasReason OfClientWire p q old_fault rests (λ past. past.read_waits) result
   pub only : AllAre is_of_replies (events_of result)
   pub count : ad_sum (events_of result) ≤ length out
   pub framed : waits_of result ≡ true → all_framed
@@ -85,7 +104,7 @@ pub data Gift : Type 0 where
 -- Of a message with this head; or aside, of a refusal.
 pub record Gives (x : Seen) (tape : Tape) (old new : Seen → List ℕ → List ℕ → List ℕ → Type 0) (old_aside new_aside : List ℕ → Type 0) (whole : List ℕ → List ℕ → List ℕ → Type 0) (old_fault new_fault : Option RelayFault) (rests : Type 0) (before after : Past → Type 0) (result : Result Turn RelayFault) : Type 0 where
   pub delta : List ℕ
-  pub wire : (p : Past) → before p → (q : Past) × after q × IsLater p [] delta q × HasReason relay.Device p q old_fault rests (λ past. past.write_waits) result
+  pub wire : (p : Past) → before p → (q : Past) × after q × IsLater p [] delta q × HasReason OfRelayWire p q old_fault rests (λ past. past.write_waits) result
   pub only : AllAre is_of_hop (events_of result)
   pub legal : MayAllFollow x (events_of result)
   pub goes_on : x.closed ≡ false → (head body taken : List ℕ) → Follows tape body → old x head body taken

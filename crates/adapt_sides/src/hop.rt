@@ -9,7 +9,7 @@ ghost use Rattle.trace_core.specs.Legal.{Allows, IsLegal};
 ghost use Rattle.trace_core.specs.Turns.{is_of_hop};
 ghost use Rattle.adapt_sides.specs.declared.fault.RelayFault.{RelayFault as Fault};
 ghost use Rattle.adapt_sides.specs.Tapes.{KeepsUndelivered, chosen, chosen_received};
-ghost use Rattle.adapt_sides.specs.Turns.{Gives, Gift, IsOwnStatus};
+ghost use Rattle.adapt_sides.specs.Turns.{Gives, Gift, IsOwnStatus, IsExplained, FailsGiving};
 ghost use Rattle.adapt_sides.specs.Turns.Gift.{nothing, message, refusal};
 
 use crate::fault::RelayFault;
@@ -28,6 +28,9 @@ pub trait Hop {
 
     // how the message's body goes
     ghost body_framing: { Self → Self.Framing };
+
+    // the chosen body that is seen breaks the length that a head of this framing said
+    ghost breaks_length: { Seen → Self.Framing → Type 0 };
 
     // the fault that each turn answers
     ghost fault: { Self → Option Fault };
@@ -81,6 +84,7 @@ pub trait Hop {
         requires status { IsOwnStatus status }
         ensures gift { gift self.new ≡ refusal status }
         ensures aside { aside [] self.new }
+        ensures framing { body_framing self.new ≡ body_framing self.old }
         ensures fault { fault self.new ≡ fault self.old };
 
     /// Writes what is due of the message or of the refusal.
@@ -98,7 +102,8 @@ pub trait Hop {
             (λ taken. aside taken self.old) (λ taken. aside taken self.new)
             (λ head body taken. is_whole head body taken self.new)
             (fault self.old) (fault self.new) (rests (seen state.now.plan state.now.events) self.new)
-            (W.past wire.old) (W.past wire.new) result };
+            (W.past wire.old) (W.past wire.new) result }
+        ensures reason { IsExplained (fault self.old) (FailsGiving (breaks_length (seen state.now.plan state.now.events) (body_framing self.new))) result };
 
     // the other sides' events leave it; what comes of the chosen message stands behind what came
     ghost others: { (plan : Plan) (before : List Event) (event : Event) (head original adapted bytes more taken : List ℕ) (s : Self)

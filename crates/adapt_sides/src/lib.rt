@@ -4,16 +4,20 @@
 //! events of the history.
 #![tactic(auto)]
 
+mod copied;
 mod fault;
 mod filling;
 mod hop;
+mod pieces;
 mod service;
 mod source;
 mod turn;
 
+pub use copied::Copied;
 pub use fault::{ClientFault, RelayFault};
 pub use filling::{Filled, MAX_READ, fill};
 pub use hop::Hop;
+pub use pieces::{behind, front, part_of, put_front};
 pub use service::Service;
 pub use source::Source;
-pub use turn::Turn;
+pub use turn::{Turn, push_event};

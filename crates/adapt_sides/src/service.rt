@@ -10,7 +10,8 @@ ghost use Rattle.trace_core.specs.View.{after};
 ghost use Rattle.trace_core.specs.Turns.{is_of_sending, is_of_replies};
 ghost use Rattle.adapt_sides.specs.declared.fault.ClientFault.{ClientFault as Fault};
 ghost use Rattle.adapt_sides.specs.Tapes.{KeepsUnsent};
-ghost use Rattle.adapt_sides.specs.Turns.{Sends, Hears};
+ghost use Rattle.adapt_sides.specs.declared.fault.ClientFault.TheVariants.{Device};
+ghost use Rattle.adapt_sides.specs.Turns.{Sends, Hears, IsExplained};
 
 use crate::fault::ClientFault;
 use crate::turn::Turn;
@@ -41,6 +42,9 @@ pub trait Service {
     // with so much room nothing is to be read
     ghost rests_reading: { Seen → ℕ → Self → Type 0 };
 
+    // why a read answers this fault first: by what is seen, by what was read, and by what is kept
+    ghost has_reason: { Fault → Seen → Self → Type 0 };
+
     // with so much room, none of the bytes that it keeps can be framed
     ghost is_framed: { ℕ → Self → Type 0 };
 
@@ -66,7 +70,8 @@ pub trait Service {
         ensures turn { Sends (seen state.now.plan state.now.events) tape.now
             (λ heads x came taken. has_sent heads x came taken self.old) (λ heads x came taken. has_sent heads x came taken self.new)
             (fault self.old) (fault self.new) (rests_writing (seen state.now.plan state.now.events) self.new)
-            (W.past wire.old) (W.past wire.new) result };
+            (W.past wire.old) (W.past wire.new) result }
+        ensures reason { IsExplained (fault self.old) (λ fault. fault ≡ Device) result };
 
     /// Reads what the wire gives, adapted body bytes into the front of the buffer, as many as the sum of Ad.
     fn read_turn<W: Wire>(
@@ -84,7 +89,8 @@ pub trait Service {
         ensures turn { Hears (seen state.now.plan state.now.events)
             (λ x adapted read. has_heard x adapted read self.old) (λ x adapted read. has_heard x adapted read self.new)
             (fault self.old) (fault self.new) (rests_reading (seen state.now.plan state.now.events) (length out.old) self.new) (is_framed (length out.old) self.new)
-            (W.past wire.old) (W.past wire.new) out.new result };
+            (W.past wire.old) (W.past wire.new) out.new result }
+        ensures reason { IsExplained (fault self.old) (λ fault. has_reason fault (seen state.now.plan state.now.events) self.new) result };
 
     /// Begins the same request anew, for a fresh connection, where a Retry may follow: all of its text is still kept.
     fn again(&mut self)

@@ -8,7 +8,7 @@ ghost use Rattle.trace_core.specs.History.{seen};
 ghost use Rattle.trace_core.specs.View.{after};
 ghost use Rattle.trace_core.specs.Turns.{is_of_source};
 ghost use Rattle.adapt_sides.specs.declared.fault.RelayFault.{RelayFault as Fault};
-ghost use Rattle.adapt_sides.specs.Turns.{ReadsBody};
+ghost use Rattle.adapt_sides.specs.Turns.{ReadsBody, IsExplained};
 
 use crate::fault::RelayFault;
 use crate::turn::Turn;
@@ -38,6 +38,9 @@ pub trait Source {
     // with so much room there is nothing to read
     ghost rests: { ℕ → Self → Type 0 };
 
+    // why this fault is answered first: by what was read, and by what is kept
+    ghost has_reason: { Fault → Self → Type 0 };
+
     // with so much room, none of the bytes that it keeps can be framed
     ghost is_framed: { ℕ → Self → Type 0 };
 
@@ -59,7 +62,8 @@ pub trait Source {
         ensures head { head self.new ≡ head self.old }
         ensures turn { ReadsBody (λ x body read. has_read x body read self.old) (λ x body read. has_read x body read self.new)
             (λ x. agrees x self.old) (λ x. agrees x self.new) (fault self.old) (fault self.new) (rests (length out.old) self.new) (is_framed (length out.old) self.new)
-            (W.past wire.old) (W.past wire.new) out.new result };
+            (W.past wire.old) (W.past wire.new) out.new result }
+        ensures reason { IsExplained (fault self.old) (λ fault. has_reason fault self.new) result };
 
     // the other sides' events leave it
     ghost others: { (x : Seen) (event : Event) (body read : List ℕ) (s : Self) → is_of_source event ≡ false

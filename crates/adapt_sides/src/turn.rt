@@ -1,5 +1,8 @@
 //! What one turn of a side reports.
 
+ghost use Rattle.arrayvec.specs.ArrayVec.{array_vec_len};
+ghost use Rattle.std.specs.Prelude.{◌≡◌, ◌+◌, ◌<◌, ◌++◌, ◌∷◌, []};
+
 use arrayvec::ArrayVec;
 use trace_core::Event;
 
@@ -10,4 +13,13 @@ pub struct Turn {
     pub events: ArrayVec<Event, 4>,
     /// The wire answered Wait in this call, or nothing was due: no byte moved, and there is no event.
     pub waiting: bool,
+}
+
+/// Adds an event behind those of the turn.
+pub fn push_event(events: &mut ArrayVec<Event, 4>, event: Event)
+    requires { array_vec_len events.old < 4 }
+    ensures items { events.new.items ≡ events.old.items ++ event ∷ [] }
+    ensures len { array_vec_len events.new ≡ array_vec_len events.old + 1 }
+{
+    events.push(event);
 }

@@ -54,21 +54,21 @@ pub adapted_few : (x : Seen) (window : ℕ) → adapted_room x window ≤ TURN_B
 adapted_few x window = grind (arith, nat_tests)
 
 -- of what a pass reports so much came of the original, and so much of the adapted body
-pub part_received : {F : Type 0} (broken : F) (own : F → Cause) (h k : Holding) (test : Event → Bool) (reported : List Event) (out given taken delta : List ℕ) (f0 f1 : Option F) (rests : Type 0) (waits : Past → ℕ) (before after_ : Past → Type 0) (passed : Passed)
-    → IsTied h → Part broken own h k test reported out given taken delta f0 f1 rests waits before after_ passed
+pub part_received : {F : Type 0} (of_wire : F → Past → Past → Type 0) (own : F → Cause) (h k : Holding) (test : Event → Bool) (reported : List Event) (out given taken delta : List ℕ) (f0 f1 : Option F) (rests : Type 0) (waits : Past → ℕ) (before after_ : Past → Type 0) (passed : Passed)
+    → IsTied h → Part of_wire own h k test reported out given taken delta f0 f1 rests waits before after_ passed
     → (n : ℕ) → in_sum reported ≤ n → n ≤ TURN_BYTES → (shows k.history).received ≤ (shows h.history).received + TURN_BYTES
-part_received broken own h k test reported out given taken delta f0 f1 rests waits before after_ passed t p n few turn =
-    let shown = part_shows broken own h k test reported out given taken delta f0 f1 rests waits before after_ passed t p in
+part_received of_wire own h k test reported out given taken delta f0 f1 rests waits before after_ passed t p n few turn =
+    let shown = part_shows of_wire own h k test reported out given taken delta f0 f1 rests waits before after_ passed t p in
     let all = received_all (shows h.history) (stepped passed.failed reported) in
     let less = in_stepped passed.failed reported in
     let at : (after_all (shows h.history) (stepped passed.failed reported)).received ≤ (shows h.history).received + TURN_BYTES = omega (arith, all, less, few, turn) in
     subst (λ (x : Seen). x.received ≤ (shows h.history).received + TURN_BYTES) (sym shown) at
 
-pub part_adapted : {F : Type 0} (broken : F) (own : F → Cause) (h k : Holding) (test : Event → Bool) (reported : List Event) (out given taken delta : List ℕ) (f0 f1 : Option F) (rests : Type 0) (waits : Past → ℕ) (before after_ : Past → Type 0) (passed : Passed)
-    → IsTied h → Part broken own h k test reported out given taken delta f0 f1 rests waits before after_ passed
+pub part_adapted : {F : Type 0} (of_wire : F → Past → Past → Type 0) (own : F → Cause) (h k : Holding) (test : Event → Bool) (reported : List Event) (out given taken delta : List ℕ) (f0 f1 : Option F) (rests : Type 0) (waits : Past → ℕ) (before after_ : Past → Type 0) (passed : Passed)
+    → IsTied h → Part of_wire own h k test reported out given taken delta f0 f1 rests waits before after_ passed
     → (n : ℕ) → ad_sum reported ≤ n → (shows k.history).adapted_received ≤ (shows h.history).adapted_received + n
-part_adapted broken own h k test reported out given taken delta f0 f1 rests waits before after_ passed t p n few =
-    let shown = part_shows broken own h k test reported out given taken delta f0 f1 rests waits before after_ passed t p in
+part_adapted of_wire own h k test reported out given taken delta f0 f1 rests waits before after_ passed t p n few =
+    let shown = part_shows of_wire own h k test reported out given taken delta f0 f1 rests waits before after_ passed t p in
     let all = adapted_all (shows h.history) (stepped passed.failed reported) in
     let less = ad_stepped passed.failed reported in
     let at : (after_all (shows h.history) (stepped passed.failed reported)).adapted_received ≤ (shows h.history).adapted_received + n = omega (arith, all, less, few) in

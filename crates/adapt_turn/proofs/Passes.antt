@@ -19,7 +19,7 @@ use Rattle.plan_rules.specs.Room.{original_room, adapted_room, claim_then}
 use Rattle.span_tape.specs.Tape.{Tape, end_of}
 use Rattle.wire_kit.specs.Past.{Past, IsLater}
 use Rattle.adapt_sides.specs.Tapes.{Follows, KeepsUnsent, KeepsUndelivered, chosen, chosen_received, chosen_delivered}
-use Rattle.adapt_sides.specs.Turns.{ReadsBody, Sends, Hears, Gives, HasReason, SaysWaiting}
+use Rattle.adapt_sides.specs.Turns.{ReadsBody, Sends, Hears, Gives, HasReason, SaysWaiting, OfRelayWire, OfClientWire}
 use Rattle.adapt_sides.specs.declared.fault.ClientFault.{ClientFault}
 use Rattle.adapt_sides.specs.declared.fault.ClientFault.TheVariants as client
 use Rattle.adapt_sides.specs.declared.fault.RelayFault.{RelayFault}
@@ -262,18 +262,18 @@ ends_chosen h original adapted w f g = chosen_by (chooses_original (shows h.hist
 
 -- The parts, from a side's turn.
 
-abbrev WireOf : {F : Type 0} → F → Option F → Type 0 → (Past → ℕ) → List ℕ → List ℕ → (Past → Type 0) → (Past → Type 0) → Result Turn F → Type 0
-WireOf broken f0 rests waits given taken before after_ result =
-    (p : Past) → before p → (q : Past) × after_ q × IsLater p given taken q × HasReason broken p q f0 rests waits result
+abbrev WireOf : {F : Type 0} → (F → Past → Past → Type 0) → Option F → Type 0 → (Past → ℕ) → List ℕ → List ℕ → (Past → Type 0) → (Past → Type 0) → Result Turn F → Type 0
+WireOf of_wire f0 rests waits given taken before after_ result =
+    (p : Past) → before p → (q : Past) × after_ q × IsLater p given taken q × HasReason of_wire p q f0 rests waits result
 
-pub took_part : {F : Type 0} (broken : F) (own : F → Cause) (h k : Holding) (test : Event → Bool) (turn : Turn) (out given taken delta : List ℕ) (f0 f1 : Option F) (rests : Type 0) (waits : Past → ℕ) (before after_ : Past → Type 0) (passed : Passed)
+pub took_part : {F : Type 0} (of_wire : F → Past → Past → Type 0) (own : F → Cause) (h k : Holding) (test : Event → Bool) (turn : Turn) (out given taken delta : List ℕ) (f0 f1 : Option F) (rests : Type 0) (waits : Past → ℕ) (before after_ : Past → Type 0) (passed : Passed)
     → passed ≡ record { waiting = turn.waiting; failed = None; broken = false }
-    → WireOf broken f0 rests waits given taken before after_ (Ok turn)
+    → WireOf of_wire f0 rests waits given taken before after_ (Ok turn)
     → AllAre test turn.events.items → MayRun h turn.events.items out → SaysWaiting turn.events.items delta (let r : Result Turn F = Ok turn in r)
     → k ≡ moved_all h turn.events.items out → f1 ≡ None
-    → Part broken own h k test turn.events.items out given taken delta f0 f1 rests waits before after_ passed
-took_part {F} broken own h k test turn out given taken delta f0 f1 rests waits before after_ passed e wire only runs says is sound =
-    subst (λ (y : Passed). Part broken own h k test turn.events.items out given taken delta f0 f1 rests waits before after_ y) (sym e) (record {
+    → Part of_wire own h k test turn.events.items out given taken delta f0 f1 rests waits before after_ passed
+took_part {F} of_wire own h k test turn out given taken delta f0 f1 rests waits before after_ passed e wire only runs says is sound =
+    subst (λ (y : Passed). Part of_wire own h k test turn.events.items out given taken delta f0 f1 rests waits before after_ y) (sym e) (record {
       wire = λ p b. let w = wire p b in (w.0, w.1, w.2, record { failed = λ cause n. cc; waiting = w.3.waiting });
       only = only;
       runs = runs;
@@ -287,20 +287,20 @@ took_part {F} broken own h k test turn out given taken delta f0 f1 rests waits b
       sound = λ n b. sound;
     })
 
-pub failed_part : {F : Type 0} (broken : F) (own : F → Cause) (h k : Holding) (test : Event → Bool) (fault : F) (out given taken delta : List ℕ) (f0 f1 : Option F) (rests : Type 0) (waits : Past → ℕ) (before after_ : Past → Type 0) (passed : Passed)
+pub failed_part : {F : Type 0} (of_wire : F → Past → Past → Type 0) (own : F → Cause) (h k : Holding) (test : Event → Bool) (fault : F) (out given taken delta : List ℕ) (f0 f1 : Option F) (rests : Type 0) (waits : Past → ℕ) (before after_ : Past → Type 0) (passed : Passed)
     → passed ≡ record { waiting = false; failed = Some (own fault); broken = false }
-    → WireOf broken f0 rests waits given taken before after_ (Err fault)
+    → WireOf of_wire f0 rests waits given taken before after_ (Err fault)
     → f1 ≡ Some fault → IsRoomy h → (shows h.history).closed ≡ false
     → k ≡ moved h (Fail (own fault)) []
-    → Part broken own h k test [] [] given taken delta f0 f1 rests waits before after_ passed
-failed_part {F} broken own h k test fault out given taken delta f0 f1 rests waits before after_ passed e wire stays r c is =
-    subst (λ (y : Passed). Part broken own h k test [] [] given taken delta f0 f1 rests waits before after_ y) (sym e) (record {
+    → Part of_wire own h k test [] [] given taken delta f0 f1 rests waits before after_ passed
+failed_part {F} of_wire own h k test fault out given taken delta f0 f1 rests waits before after_ passed e wire stays r c is =
+    subst (λ (y : Passed). Part of_wire own h k test [] [] given taken delta f0 f1 rests waits before after_ y) (sym e) (record {
       wire = λ p b. let w = wire p b in (
         w.0,
         w.1,
         w.2,
         record {
-          failed = λ cause n. (fault, stays, (let same : Some (own fault) ≡ Some cause = n in cc), λ d o. w.3.device (ap (λ (f : F). Err f) d) o);
+          failed = λ cause n. (fault, stays, (let same : Some (own fault) ≡ Some cause = n in cc), λ o. w.3.failed fault refl o);
           waiting = λ n. absurd (false≢true n);
         },
       );
@@ -314,13 +314,13 @@ failed_part {F} broken own h k test fault out given taken delta f0 f1 rests wait
     })
 
 -- the connection broke where the request may begin anew: nothing is stepped
-pub broken_part : {F : Type 0} (broken : F) (own : F → Cause) (h k : Holding) (test : Event → Bool) (fault : F) (given taken delta : List ℕ) (f0 f1 : Option F) (rests : Type 0) (waits : Past → ℕ) (before after_ : Past → Type 0) (passed : Passed)
+pub broken_part : {F : Type 0} (of_wire : F → Past → Past → Type 0) (own : F → Cause) (h k : Holding) (test : Event → Bool) (fault : F) (given taken delta : List ℕ) (f0 f1 : Option F) (rests : Type 0) (waits : Past → ℕ) (before after_ : Past → Type 0) (passed : Passed)
     → passed ≡ record { waiting = false; failed = None; broken = true }
-    → WireOf broken f0 rests waits given taken before after_ (Err fault)
+    → WireOf of_wire f0 rests waits given taken before after_ (Err fault)
     → IsRoomy h → k ≡ h
-    → Part broken own h k test [] [] given taken delta f0 f1 rests waits before after_ passed
-broken_part {F} broken own h k test fault given taken delta f0 f1 rests waits before after_ passed e wire r is =
-    subst (λ (y : Passed). Part broken own h k test [] [] given taken delta f0 f1 rests waits before after_ y) (sym e) (record {
+    → Part of_wire own h k test [] [] given taken delta f0 f1 rests waits before after_ passed
+broken_part {F} of_wire own h k test fault given taken delta f0 f1 rests waits before after_ passed e wire r is =
+    subst (λ (y : Passed). Part of_wire own h k test [] [] given taken delta f0 f1 rests waits before after_ y) (sym e) (record {
       wire = λ p b. let w = wire p b in (w.0, w.1, w.2, record { failed = λ cause n. cc; waiting = λ n. absurd (false≢true n) });
       only = tt;
       runs = record { may = tt; carried = omega arith; room = tt; roomy = r };
@@ -331,17 +331,17 @@ broken_part {F} broken own h k test fault given taken delta f0 f1 rests waits be
       sound = λ n b. absurd (false≢true (sym b));
     })
 
-pub either_part : {F : Type 0} (broken : F) (own : F → Cause) (h k : Holding) (test : Event → Bool) (fault : F) (given taken delta : List ℕ) (f0 f1 : Option F) (rests : Type 0) (waits : Past → ℕ) (before after_ : Past → Type 0) (passed : Passed) (b : Bool)
+pub either_part : {F : Type 0} (of_wire : F → Past → Past → Type 0) (own : F → Cause) (h k : Holding) (test : Event → Bool) (fault : F) (given taken delta : List ℕ) (f0 f1 : Option F) (rests : Type 0) (waits : Past → ℕ) (before after_ : Past → Type 0) (passed : Passed) (b : Bool)
     → passed.broken ≡ b
-    → WireOf broken f0 rests waits given taken before after_ (Err fault)
+    → WireOf of_wire f0 rests waits given taken before after_ (Err fault)
     → f1 ≡ Some fault → IsRoomy h → (shows h.history).closed ≡ false
     → (passed.broken ≡ true → (k ≡ h) × (passed ≡ record { waiting = false; failed = None; broken = true }))
     → (passed.broken ≡ false → (k ≡ moved h (Fail (own fault)) []) × (passed ≡ record { waiting = false; failed = Some (own fault); broken = false }))
-    → Part broken own h k test [] [] given taken delta f0 f1 rests waits before after_ passed
-either_part broken own h k test fault given taken delta f0 f1 rests waits before after_ passed true e wire stays r c broke shut =
-    broken_part broken own h k test fault given taken delta f0 f1 rests waits before after_ passed (broke e).1 wire r (broke e).0
-either_part broken own h k test fault given taken delta f0 f1 rests waits before after_ passed false e wire stays r c broke shut =
-    failed_part broken own h k test fault [] given taken delta f0 f1 rests waits before after_ passed (shut e).1 wire stays r c (shut e).0
+    → Part of_wire own h k test [] [] given taken delta f0 f1 rests waits before after_ passed
+either_part of_wire own h k test fault given taken delta f0 f1 rests waits before after_ passed true e wire stays r c broke shut =
+    broken_part of_wire own h k test fault given taken delta f0 f1 rests waits before after_ passed (broke e).1 wire r (broke e).0
+either_part of_wire own h k test fault given taken delta f0 f1 rests waits before after_ passed false e wire stays r c broke shut =
+    failed_part of_wire own h k test fault [] given taken delta f0 f1 rests waits before after_ passed (shut e).1 wire stays r c (shut e).0
 
 abbrev Closed : Cause → Passed → Type 0
 Closed cause passed = passed ≡ record { waiting = false; failed = Some cause; broken = false }
@@ -362,7 +362,7 @@ source_took h k turn events out ro rn ao an f0 f1 rests framed n room before aft
       delta = b.delta;
       out = out;
       reported = turn.events.items;
-      part = took_part relay.Device source_cause h k is_of_source turn out b.delta [] b.delta f0 f1 (rests room) (λ past. past.read_waits) before after_ passed went b.wire b.only
+      part = took_part OfRelayWire source_cause h k is_of_source turn out b.delta [] b.delta f0 f1 (rests room) (λ past. past.read_waits) before after_ passed went b.wire b.only
           (source_runs h turn.events.items out t r legal.0 b.only b.count l) b.waiting (is ∙ ap (λ (es : List Event). moved_all h es out) e) (b.fault.sound turn refl);
       few = omega (arith, b.count, l);
       framed = λ w. b.framed (sym (ap (λ (y : Passed). y.waiting) went) ∙ w);
@@ -382,7 +382,7 @@ source_failed h k fault out ro rn ao an f0 f1 rests framed n room before after_ 
       delta = b.delta;
       out = [];
       reported = [];
-      part = failed_part relay.Device source_cause h k is_of_source fault [] b.delta [] b.delta f0 f1 (rests room) (λ past. past.read_waits) before after_ passed
+      part = failed_part OfRelayWire source_cause h k is_of_source fault [] b.delta [] b.delta f0 f1 (rests room) (λ past. past.read_waits) before after_ passed
           (did ∙ ap (λ (y : Cause). record { waiting = false; failed = Some y; broken = false }) own) b.wire (b.fault.stays fault refl) r c (is ∙ ap (λ (y : Cause). moved h (Fail y) []) own);
       few = omega arith;
       framed = λ w. absurd (false≢true (sym (ap (λ (y : Passed). y.waiting) did) ∙ w));
@@ -404,7 +404,7 @@ send_took h k history tape turn events so sn f0 f1 rests before after_ passed r 
     record {
       delta = b.delta;
       reported = turn.events.items;
-      part = took_part client.Device service_cause h k is_of_sending turn [] [] b.delta b.delta f0 f1 (rests (shows h.history)) (λ past. past.write_waits) before after_ passed went b.wire b.only
+      part = took_part OfClientWire service_cause h k is_of_sending turn [] [] b.delta b.delta f0 f1 (rests (shows h.history)) (λ past. past.write_waits) before after_ passed went b.wire b.only
           (sending_runs h turn.events.items r b.legal b.only) b.waiting (is ∙ ap (λ (es : List Event). moved_all h es []) e) (b.fault.sound turn refl);
       goes_on = λ request came taken f s. b.goes_on request came taken (follows_span tape h.original came te f) s;
     }
@@ -420,7 +420,7 @@ send_failed h k history tape fault so sn f0 f1 rests before after_ passed r c he
     record {
       delta = b.delta;
       reported = [];
-      part = either_part client.Device service_cause h k is_of_sending fault [] b.delta b.delta f0 f1 (rests (shows h.history)) (λ past. past.write_waits) before after_ passed passed.broken refl b.wire (b.fault.stays fault refl) r c broke shut;
+      part = either_part OfClientWire service_cause h k is_of_sending fault [] b.delta b.delta f0 f1 (rests (shows h.history)) (λ past. past.write_waits) before after_ passed passed.broken refl b.wire (b.fault.stays fault refl) r c broke shut;
       goes_on = λ request came taken f s. b.goes_on request came taken (follows_span tape h.original came te f) s;
     }
 
@@ -455,7 +455,7 @@ hear_took h k history turn events out so sn f0 f1 rests framed n room before aft
       delta = b.delta;
       out = out;
       reported = turn.events.items;
-      part = took_part client.Device service_cause h k is_of_replies turn out b.delta [] b.delta f0 f1 (rests (shows h.history) room) (λ past. past.read_waits) before after_ passed went b.wire b.only
+      part = took_part OfClientWire service_cause h k is_of_replies turn out b.delta [] b.delta f0 f1 (rests (shows h.history) room) (λ past. past.read_waits) before after_ passed went b.wire b.only
           (replies_run h turn.events.items out t r b.legal b.only b.count l) b.waiting (is ∙ ap (λ (es : List Event). moved_all h es out) e) (b.fault.sound turn refl);
       few = omega (arith, b.count, l);
       framed = λ w. b.framed (sym (ap (λ (y : Passed). y.waiting) went) ∙ w);
@@ -474,7 +474,7 @@ hear_failed h k history fault out so sn f0 f1 rests framed n room before after_ 
       delta = b.delta;
       out = [];
       reported = [];
-      part = either_part client.Device service_cause h k is_of_replies fault b.delta [] b.delta f0 f1 (rests (shows h.history) room) (λ past. past.read_waits) before after_ passed passed.broken refl b.wire (b.fault.stays fault refl) r c broke shut;
+      part = either_part OfClientWire service_cause h k is_of_replies fault b.delta [] b.delta f0 f1 (rests (shows h.history) room) (λ past. past.read_waits) before after_ passed passed.broken refl b.wire (b.fault.stays fault refl) r c broke shut;
       few = omega arith;
       framed = λ w. absurd (not_waiting passed passed.broken refl broke shut w);
       goes_on = b.goes_on;
@@ -494,7 +494,7 @@ hop_took h k history tape turn events so sn ao an whole f0 f1 rests before after
     record {
       delta = b.delta;
       reported = turn.events.items;
-      part = took_part relay.Device hop_cause h k is_of_hop turn [] [] b.delta b.delta f0 f1 (rests (shows h.history)) (λ past. past.write_waits) before after_ passed went b.wire b.only
+      part = took_part OfRelayWire hop_cause h k is_of_hop turn [] [] b.delta b.delta f0 f1 (rests (shows h.history)) (λ past. past.write_waits) before after_ passed went b.wire b.only
           (hop_runs h turn.events.items r b.legal b.only) b.waiting (is ∙ ap (λ (es : List Event). moved_all h es []) e) (b.fault.sound turn refl);
       goes_on = λ original adapted head taken f g given. b.goes_on c head (chosen (shows h.history) original adapted) taken (follows_span tape (chosen_span h) _ te (ends_chosen h original adapted w f g)) given;
       done = λ original adapted head taken f g over given. b.done c over head (chosen (shows h.history) original adapted) taken (follows_span tape (chosen_span h) _ te (ends_chosen h original adapted w f g)) given;
@@ -510,7 +510,7 @@ hop_failed h k history tape fault so sn ao an whole f0 f1 rests before after_ ca
     record {
       delta = b.delta;
       reported = [];
-      part = failed_part relay.Device hop_cause h k is_of_hop fault [] [] b.delta b.delta f0 f1 (rests (shows h.history)) (λ past. past.write_waits) before after_ passed
+      part = failed_part OfRelayWire hop_cause h k is_of_hop fault [] [] b.delta b.delta f0 f1 (rests (shows h.history)) (λ past. past.write_waits) before after_ passed
           (did ∙ ap (λ (y : Cause). record { waiting = false; failed = Some y; broken = false }) own) b.wire (b.fault.stays fault refl) r c (is ∙ ap (λ (y : Cause). moved h (Fail y) []) own);
       goes_on = λ original adapted head taken f g given. b.goes_on c head (chosen (shows h.history) original adapted) taken (follows_span tape (chosen_span h) _ te (ends_chosen h original adapted w f g)) given;
       done = λ original adapted head taken f g over given. absurd (false≢true (sym c ∙ over));

@@ -1,9 +1,10 @@
 -- Why a pass waits, or fails.
-use Rattle.std.proofs.Common.{◌≡◌, ℕ, ◌<◌, ◌≤◌, ◌⊎◌, inl, inr, Bool, true, false, List, [], Option, Some, None, arith, refl, sym, ◌∙◌, ap, subst}
+use Rattle.std.proofs.Common.{◌≡◌, ℕ, ◌<◌, ◌≤◌, ◌⊎◌, inl, inr, Bool, true, false, List, [], Option, Some, None, Result, Ok, Err, arith, refl, sym, ◌∙◌, ap, subst}
 use Rattle.std.proofs.lemmas.Bool.{false≢true}
 use Rattle.std.specs.Prelude.{MatchOption, ⊤}
 use Rattle.trace_core.specs.declared.history.Event.{Event}
 use Rattle.trace_core.specs.declared.history.Cause.{Cause}
+use Rattle.trace_core.specs.declared.history.Seen.{Seen}
 use Rattle.trace_core.specs.declared.history.Event.TheVariants.{Fail, Retry}
 use Rattle.trace_core.specs.Legal.{MayFollow}
 use Rattle.wire_kit.specs.Past.{Past, IsLater}
@@ -14,20 +15,22 @@ use Rattle.adapt_hold.specs.Steps.{moved_all}
 use Rattle.adapt_turn.specs.declared.parts.Passed.{Passed}
 use Rattle.adapt_turn.specs.declared.turned.Outcome.{Outcome}
 use Rattle.adapt_turn.specs.declared.turned.Outcome.TheVariants as outcomes
-use Rattle.adapt_turn.specs.Parts.{Breaks, FailsFor, Part, stepped, outcome_by, fault_of}
+use Rattle.adapt_sides.specs.declared.turn.Turn.{Turn}
+use Rattle.adapt_sides.specs.Turns.{OfClientWire, Remembers, IsExplained}
+use Rattle.adapt_turn.specs.Parts.{Breaks, HasCause, FailsFor, Part, stepped, outcome_by, fault_of}
 use Rattle.adapt_turn.specs.Stands.{Waited, WaitedBeside, WaitedBoth, Blamed, BlamedService}
 
-pub part_waits : {F : Type 0} (broken : F) (own : F → Cause) (h k : Holding) (test : Event → Bool) (reported : List Event) (out given taken delta : List ℕ) (f0 f1 : Option F) (rests : Type 0) (waits : Past → ℕ) (before after_ : Past → Type 0) (passed : Passed)
-    → Part broken own h k test reported out given taken delta f0 f1 rests waits before after_ passed → passed.waiting ≡ true → Waited rests waits before after_
-part_waits broken own h k test reported out given taken delta f0 f1 rests waits before after_ passed p e = λ past b. let w = p.wire past b in (w.0, w.1, w.3.waiting e)
+pub part_waits : {F : Type 0} (of_wire : F → Past → Past → Type 0) (own : F → Cause) (h k : Holding) (test : Event → Bool) (reported : List Event) (out given taken delta : List ℕ) (f0 f1 : Option F) (rests : Type 0) (waits : Past → ℕ) (before after_ : Past → Type 0) (passed : Passed)
+    → Part of_wire own h k test reported out given taken delta f0 f1 rests waits before after_ passed → passed.waiting ≡ true → Waited rests waits before after_
+part_waits of_wire own h k test reported out given taken delta f0 f1 rests waits before after_ passed p e = λ past b. let w = p.wire past b in (w.0, w.1, w.3.waiting e)
 
-pub part_blames : {F : Type 0} (broken : F) (own : F → Cause) (h k : Holding) (test : Event → Bool) (reported : List Event) (out given taken delta : List ℕ) (f0 f1 : Option F) (rests : Type 0) (waits : Past → ℕ) (before after_ : Past → Type 0) (passed : Passed)
-    → Part broken own h k test reported out given taken delta f0 f1 rests waits before after_ passed → (cause : Cause) → passed.failed ≡ Some cause → Blamed broken own cause f0 f1 before after_
-part_blames broken own h k test reported out given taken delta f0 f1 rests waits before after_ passed p cause e = λ past b. let w = p.wire past b in (w.0, w.1, w.3.failed cause e)
+pub part_blames : {F : Type 0} (of_wire : F → Past → Past → Type 0) (own : F → Cause) (h k : Holding) (test : Event → Bool) (reported : List Event) (out given taken delta : List ℕ) (f0 f1 : Option F) (rests : Type 0) (waits : Past → ℕ) (before after_ : Past → Type 0) (passed : Passed)
+    → Part of_wire own h k test reported out given taken delta f0 f1 rests waits before after_ passed → (cause : Cause) → passed.failed ≡ Some cause → Blamed of_wire own cause f0 f1 before after_
+part_blames of_wire own h k test reported out given taken delta f0 f1 rests waits before after_ passed p cause e = λ past b. let w = p.wire past b in (w.0, w.1, w.3.failed cause e)
 
-pub part_idle : {F : Type 0} (broken : F) (own : F → Cause) (h k : Holding) (test : Event → Bool) (reported : List Event) (out given taken delta : List ℕ) (f0 f1 : Option F) (rests : Type 0) (waits : Past → ℕ) (before after_ : Past → Type 0) (passed : Passed)
-    → Part broken own h k test reported out given taken delta f0 f1 rests waits before after_ passed → passed.waiting ≡ true → passed.failed ≡ None
-part_idle broken own h k test reported out given taken delta f0 f1 rests waits before after_ passed p e = (p.tells.idle e).2
+pub part_idle : {F : Type 0} (of_wire : F → Past → Past → Type 0) (own : F → Cause) (h k : Holding) (test : Event → Bool) (reported : List Event) (out given taken delta : List ℕ) (f0 f1 : Option F) (rests : Type 0) (waits : Past → ℕ) (before after_ : Past → Type 0) (passed : Passed)
+    → Part of_wire own h k test reported out given taken delta f0 f1 rests waits before after_ passed → passed.waiting ≡ true → passed.failed ≡ None
+part_idle of_wire own h k test reported out given taken delta f0 f1 rests waits before after_ passed p e = (p.tells.idle e).2
 
 -- the same sides and wires, by other names
 
@@ -36,16 +39,16 @@ pub waits_kept : {S A : Type 0} (rests : S → Type 0) (past : A → Past → Ty
 waits_kept {S} {A} rests past waits before s s' a a' e f w =
     subst (λ (z : S). Waited (rests z) waits before (past a')) (sym e) (subst (λ (z : A). Waited (rests s) waits before (past z)) (sym f) w)
 
-pub blamed_kept : {F A : Type 0} (broken : F) (own : F → Cause) (cause : Cause) (past : A → Past → Type 0) (before : Past → Type 0) (f0 f1 f2 : Option F) (a a' : A) → f2 ≡ f1 → a' ≡ a
-    → Blamed broken own cause f0 f1 before (past a) → Blamed broken own cause f0 f2 before (past a')
-blamed_kept {F} {A} broken own cause past before f0 f1 f2 a a' e f w =
-    subst (λ (z : Option F). Blamed broken own cause f0 z before (past a')) (sym e) (subst (λ (z : A). Blamed broken own cause f0 f1 before (past z)) (sym f) w)
+pub blamed_kept : {F A : Type 0} (of_wire : F → Past → Past → Type 0) (own : F → Cause) (cause : Cause) (past : A → Past → Type 0) (before : Past → Type 0) (f0 f1 f2 : Option F) (a a' : A) → f2 ≡ f1 → a' ≡ a
+    → Blamed of_wire own cause f0 f1 before (past a) → Blamed of_wire own cause f0 f2 before (past a')
+blamed_kept {F} {A} of_wire own cause past before f0 f1 f2 a a' e f w =
+    subst (λ (z : Option F). Blamed of_wire own cause f0 z before (past a')) (sym e) (subst (λ (z : A). Blamed of_wire own cause f0 f1 before (past z)) (sym f) w)
 
 -- the fault and the wire before it, by other names
-pub blamed_from : {F A : Type 0} (broken : F) (own : F → Cause) (cause : Cause) (past : A → Past → Type 0) (after_ : Past → Type 0) (f0 f1 f2 : Option F) (a a' : A) → f0 ≡ f1 → a ≡ a'
-    → Blamed broken own cause f0 f2 (past a) after_ → Blamed broken own cause f1 f2 (past a') after_
-blamed_from {F} {A} broken own cause past after_ f0 f1 f2 a a' e f w =
-    subst (λ (z : Option F). Blamed broken own cause z f2 (past a') after_) e (subst (λ (z : A). Blamed broken own cause f0 f2 (past z) after_) f w)
+pub blamed_from : {F A : Type 0} (of_wire : F → Past → Past → Type 0) (own : F → Cause) (cause : Cause) (past : A → Past → Type 0) (after_ : Past → Type 0) (f0 f1 f2 : Option F) (a a' : A) → f0 ≡ f1 → a ≡ a'
+    → Blamed of_wire own cause f0 f2 (past a) after_ → Blamed of_wire own cause f1 f2 (past a') after_
+blamed_from {F} {A} of_wire own cause past after_ f0 f1 f2 a a' e f w =
+    subst (λ (z : Option F). Blamed of_wire own cause z f2 (past a') after_) e (subst (λ (z : A). Blamed of_wire own cause f0 f2 (past z) after_) f w)
 
 -- an outcome says why a pass failed
 pub outcome_fails : (failed : Option Cause) (r : Outcome) (cause : Cause) → r ≡ outcome_by failed → r ≡ outcomes.Fail cause → failed ≡ Some cause
@@ -54,48 +57,81 @@ outcome_fails (Some c) r cause s e = cc
 
 -- the service's line
 
-pub part_still : {F : Type 0} (broken : F) (own : F → Cause) (h k : Holding) (test : Event → Bool) (reported : List Event) (out given taken delta : List ℕ) (f0 f1 : Option F) (rests : Type 0) (waits : Past → ℕ) (before after_ : Past → Type 0) (passed : Passed)
-    → Part broken own h k test reported out given taken delta f0 f1 rests waits before after_ passed → passed.waiting ≡ true → k ≡ h
-part_still broken own h k test reported out given taken delta f0 f1 rests waits before after_ passed p e =
+pub part_still : {F : Type 0} (of_wire : F → Past → Past → Type 0) (own : F → Cause) (h k : Holding) (test : Event → Bool) (reported : List Event) (out given taken delta : List ℕ) (f0 f1 : Option F) (rests : Type 0) (waits : Past → ℕ) (before after_ : Past → Type 0) (passed : Passed)
+    → Part of_wire own h k test reported out given taken delta f0 f1 rests waits before after_ passed → passed.waiting ≡ true → k ≡ h
+part_still of_wire own h k test reported out given taken delta f0 f1 rests waits before after_ passed p e =
     let i = p.tells.idle e in
     p.is ∙ ap (λ (f : Option Cause). moved_all h (stepped f reported) out) i.2 ∙ ap (λ (es : List Event). moved_all h es out) i.1
 
 pub send_waits : {L : Type 0} (line : Option L) (l : L) (past : L → Past → Type 0) (own : ClientFault → Cause) (h k : Holding) (test : Event → Bool) (reported : List Event) (out given taken delta : List ℕ) (f0 f1 : Option ClientFault) (rests : Type 0) (after_ : Past → Type 0) (passed : Passed)
-    → line ≡ Some l → Part client.Device own h k test reported out given taken delta f0 f1 rests (λ q. q.write_waits) (past l) after_ passed → passed.waiting ≡ true
+    → line ≡ Some l → Part OfClientWire own h k test reported out given taken delta f0 f1 rests (λ q. q.write_waits) (past l) after_ passed → passed.waiting ≡ true
     → WaitedBeside rests (λ q. q.write_waits) (λ q. q.read_waits) (λ p. MatchOption line ⊥ (λ z. past z p)) after_
 send_waits {L} line l past own h k test reported out given taken delta f0 f1 rests after_ passed same part e =
     subst (λ (z : Option L). WaitedBeside rests (λ q. q.write_waits) (λ q. q.read_waits) (λ p. MatchOption z ⊥ (λ y. past y p)) after_) (sym same)
     (λ p b. let w = part.wire p b in (w.0, w.1, w.2.read_waits, w.3.waiting e))
 
 pub hear_waits : {L : Type 0} (line : Option L) (l : L) (past : L → Past → Type 0) (own : ClientFault → Cause) (h k : Holding) (test : Event → Bool) (reported : List Event) (out given taken delta : List ℕ) (f0 f1 : Option ClientFault) (rests : Type 0) (after_ : Past → Type 0) (passed : Passed)
-    → line ≡ Some l → Part client.Device own h k test reported out given taken delta f0 f1 rests (λ q. q.read_waits) (past l) after_ passed → passed.waiting ≡ true
+    → line ≡ Some l → Part OfClientWire own h k test reported out given taken delta f0 f1 rests (λ q. q.read_waits) (past l) after_ passed → passed.waiting ≡ true
     → WaitedBeside rests (λ q. q.read_waits) (λ q. q.write_waits) (λ p. MatchOption line ⊥ (λ z. past z p)) after_
 hear_waits {L} line l past own h k test reported out given taken delta f0 f1 rests after_ passed same part e =
     subst (λ (z : Option L). WaitedBeside rests (λ q. q.read_waits) (λ q. q.write_waits) (λ p. MatchOption z ⊥ (λ y. past y p)) after_) (sym same)
     (λ p b. let w = part.wire p b in (w.0, w.1, w.2.write_waits, w.3.waiting e))
 
 -- a pass that failed did so by one step
-pub part_fails : {F : Type 0} (broken : F) (own : F → Cause) (h k : Holding) (test : Event → Bool) (reported : List Event) (out given taken delta : List ℕ) (f0 f1 : Option F) (rests : Type 0) (waits : Past → ℕ) (before after_ : Past → Type 0) (passed : Passed)
-    → Part broken own h k test reported out given taken delta f0 f1 rests waits before after_ passed → (cause : Cause) → passed.failed ≡ Some cause → k ≡ moved h (Fail cause) []
-part_fails broken own h k test reported out given taken delta f0 f1 rests waits before after_ passed p cause e =
+pub part_fails : {F : Type 0} (of_wire : F → Past → Past → Type 0) (own : F → Cause) (h k : Holding) (test : Event → Bool) (reported : List Event) (out given taken delta : List ℕ) (f0 f1 : Option F) (rests : Type 0) (waits : Past → ℕ) (before after_ : Past → Type 0) (passed : Passed)
+    → Part of_wire own h k test reported out given taken delta f0 f1 rests waits before after_ passed → (cause : Cause) → passed.failed ≡ Some cause → k ≡ moved h (Fail cause) []
+part_fails of_wire own h k test reported out given taken delta f0 f1 rests waits before after_ passed p cause e =
     p.is ∙ ap (λ (f : Option Cause). moved_all h (stepped f reported) out) e
 
 pub line_blamed : {L : Type 0} (line : Option L) (l : L) (fault : L → Option ClientFault) (past : L → Past → Type 0) (own : ClientFault → Cause) (h k : Holding) (test : Event → Bool) (reported : List Event) (out given taken delta : List ℕ) (f1 : Option ClientFault) (rests : Type 0) (waits : Past → ℕ) (after_ : Past → Type 0) (passed : Passed)
-    → line ≡ Some l → Part client.Device own h k test reported out given taken delta (fault l) f1 rests waits (past l) after_ passed → (cause : Cause) → passed.failed ≡ Some cause
-    → Blamed client.Device own cause (fault_of fault line) f1 (λ p. MatchOption line ⊥ (λ z. past z p)) after_
+    → line ≡ Some l → Part OfClientWire own h k test reported out given taken delta (fault l) f1 rests waits (past l) after_ passed → (cause : Cause) → passed.failed ≡ Some cause
+    → Blamed OfClientWire own cause (fault_of fault line) f1 (λ p. MatchOption line ⊥ (λ z. past z p)) after_
 line_blamed {L} line l fault past own h k test reported out given taken delta f1 rests waits after_ passed same part cause e =
-    subst (λ (z : Option L). Blamed client.Device own cause (fault_of fault z) f1 (λ p. MatchOption z ⊥ (λ y. past y p)) after_) (sym same)
-    (part_blames client.Device own h k test reported out given taken delta (fault l) f1 rests waits (past l) after_ passed part cause e)
+    subst (λ (z : Option L). Blamed OfClientWire own cause (fault_of fault z) f1 (λ p. MatchOption z ⊥ (λ y. past y p)) after_) (sym same)
+    (part_blames OfClientWire own h k test reported out given taken delta (fault l) f1 rests waits (past l) after_ passed part cause e)
 
 -- behind a pass that left no fault, whatever stood before it
-pub blamed_then : {F : Type 0} (broken : F) (own : F → Cause) (cause : Cause) (f0 f1 f2 : Option F) (before mid after_ : Past → Type 0) (given taken : List ℕ) → f1 ≡ None
-    → ((p : Past) → before p → (q : Past) × mid q × IsLater p given taken q) → Blamed broken own cause f1 f2 mid after_ → Blamed broken own cause f0 f2 before after_
-blamed_then broken own cause f0 f1 f2 before mid after_ given taken e goes blamed = λ p b.
+pub blamed_then : (own : ClientFault → Cause) (cause : Cause) (f0 f1 f2 : Option ClientFault) (before mid after_ : Past → Type 0) (given taken : List ℕ) → f1 ≡ None
+    → ((p : Past) → before p → (q : Past) × mid q × IsLater p given taken q) → Blamed OfClientWire own cause f1 f2 mid after_ → Blamed OfClientWire own cause f0 f2 before after_
+blamed_then own cause f0 f1 f2 before mid after_ given taken e goes blamed = λ p b.
     let u = goes p b in
     let w = blamed u.0 u.1 in
     let l = u.2.faults in
+    let k = u.2.ends in
     let f = w.2 in
-    (w.0, w.1, (f.0, f.1, f.2, λ d o. let k = f.3 d e in omega (arith, k, l)))
+    (w.0, w.1, (f.0, f.1, f.2, λ o. ((λ d. let m = (f.3 e).0 d in omega (arith, m, l)), (λ c. let m = (f.3 e).1 c in omega (arith, m, k)))))
+
+-- The reasons of first faults.
+
+-- a turn's, by what it answers
+pub cause_of : {F : Type 0} (old new : Option F) (reason : F → Type 0) (result : Result Turn F) → Remembers old new result → IsExplained old reason result → HasCause old new reason
+cause_of {F} old new reason (Ok turn) k r = λ none f n. let odd : Some f ≡ None = sym n ∙ k.sound turn refl in cc
+cause_of {F} old new reason (Err fault) k r = λ none f n.
+    let is : Some fault ≡ Some f = sym (k.stays fault refl) ∙ n in
+    let same : fault ≡ f = cc in
+    r none f (ap (λ (g : F). let e : Result Turn F = Err g in e) same)
+
+-- no side was touched
+pub cause_none : {F : Type 0} (old new : Option F) (reason : F → Type 0) → new ≡ old → HasCause old new reason
+cause_none {F} old new reason e = λ none f n. let odd : Some f ≡ None = sym n ∙ (e ∙ none) in cc
+
+-- the fault before it, and what is held, by other names
+pub cause_from : {F : Type 0} (f0 f1 f2 : Option F) (h m : Holding) (reason : Holding → F → Type 0) → f1 ≡ f0 → m ≡ h → HasCause f1 f2 (reason m) → HasCause f0 f2 (reason h)
+cause_from {F} f0 f1 f2 h m reason e same w = λ none f n. subst (λ (k : Holding). reason k f) same (w (e ∙ none) f n)
+
+-- the fault behind it, and what has its reason, by other names
+pub cause_kept : {F G : Type 0} (reason : G → F → Type 0) (f0 f1 f2 : Option F) (g g' : G) → f2 ≡ f1 → g' ≡ g → HasCause f0 f1 (reason g) → HasCause f0 f2 (reason g')
+cause_kept {F} {G} reason f0 f1 f2 g g' e same w = λ none f n. subst (λ (z : G). reason z f) (sym same) (w none f (sym e ∙ n))
+
+pub line_cause : {L : Type 0} (fault : L → Option ClientFault) (line : Option L) (l : L) (new : Option ClientFault) (reason wider : ClientFault → Type 0) → line ≡ Some l → ((f : ClientFault) → reason f → wider f)
+    → HasCause (fault l) new reason → HasCause (fault_of fault line) new wider
+line_cause {L} fault line l new reason wider same k w = λ none f n. k f (w (sym (ap (λ (z : Option L). fault_of fault z) same) ∙ none) f n)
+
+-- behind a pass that left no fault
+pub fails_then : {L : Type 0} (fault : L → Option ClientFault) (reason : ClientFault → Seen → L → Type 0) (cause : Cause) (was reused : Bool) (old mid new : Option L) (h : Holding) → fault_of fault mid ≡ None → was ≡ reused
+    → FailsFor fault reason cause was mid new h → FailsFor fault reason cause reused old new h
+fails_then {L} fault reason cause was reused old mid new h e same w =
+    (w.0, w.1, subst (λ (b : Bool). Breaks w.0.history b (fault_of fault new) → ⊥) same w.2, λ none. w.3 e)
 
 pub not_failed : (failed : Option Cause) (closed : Bool) → ((cause : Cause) → failed ≡ Some cause → closed ≡ true) → closed ≡ false → failed ≡ None
 not_failed None closed over c = refl
@@ -105,9 +141,10 @@ pub line_blamed_kept : {L : Type 0} (fault : L → Option ClientFault) (past : L
     → BlamedService cause f0 (fault_of fault l) before (λ p. MatchOption l ⊥ (λ z. past z p)) → BlamedService cause f0 (fault_of fault l') before (λ p. MatchOption l' ⊥ (λ z. past z p))
 line_blamed_kept {L} fault past cause f0 before l l' e w = subst (λ (z : Option L). BlamedService cause f0 (fault_of fault z) before (λ p. MatchOption z ⊥ (λ y. past y p))) (sym e) w
 
-pub fails_kept : {L : Type 0} (fault : L → Option ClientFault) (cause : Cause) (reused : Bool) (h h' : Holding) (l l' : Option L) → h' ≡ h → l' ≡ l → FailsFor cause reused (fault_of fault l) h → FailsFor cause reused (fault_of fault l') h'
-fails_kept {L} fault cause reused h h' l l' e f w =
-    subst (λ (k : Holding). FailsFor cause reused (fault_of fault l') k) (sym e) (subst (λ (z : Option L). FailsFor cause reused (fault_of fault z) h) (sym f) w)
+pub fails_kept : {L : Type 0} (fault : L → Option ClientFault) (reason : ClientFault → Seen → L → Type 0) (cause : Cause) (reused : Bool) (old : Option L) (h h' : Holding) (l l' : Option L) → h' ≡ h → l' ≡ l
+    → FailsFor fault reason cause reused old l h → FailsFor fault reason cause reused old l' h'
+fails_kept {L} fault reason cause reused old h h' l l' e f w =
+    subst (λ (k : Holding). FailsFor fault reason cause reused old l' k) (sym e) (subst (λ (z : Option L). FailsFor fault reason cause reused old z h) (sym f) w)
 
 pub both_waited : (h m : Holding) (before mid after_ : Past → Type 0) (w0 w1 : Type 0) (r : Holding → Type 0) → m ≡ h → (w0 → w1)
     → WaitedBeside w0 (λ q. q.write_waits) (λ q. q.read_waits) before mid → WaitedBeside (r m) (λ q. q.read_waits) (λ q. q.write_waits) mid after_ → WaitedBoth w1 (r h) before after_

@@ -89,10 +89,10 @@ of_replies event e = or_right (is_fail event) (is_of_sending event || is_of_repl
 pub of_hop : (event : Event) → is_of_hop event ≡ true → may_step NextHop event ≡ true
 of_hop event e = or_right (is_fail event) (is_of_hop event) e
 
-pub part_took : {F : Type 0} (side : Side) (broken : F) (own : F → Cause) (h k : Holding) (test : Event → Bool) (reported : List Event) (out given taken delta : List ℕ) (f0 f1 : Option F) (rests : Type 0) (waits : Past → ℕ) (before after_ : Past → Type 0) (passed : Passed)
+pub part_took : {F : Type 0} (side : Side) (of_wire : F → Past → Past → Type 0) (own : F → Cause) (h k : Holding) (test : Event → Bool) (reported : List Event) (out given taken delta : List ℕ) (f0 f1 : Option F) (rests : Type 0) (waits : Past → ℕ) (before after_ : Past → Type 0) (passed : Passed)
     → ((event : Event) → test event ≡ true → may_step side event ≡ true) → IsTied h
-    → Part broken own h k test reported out given taken delta f0 f1 rests waits before after_ passed → TookBy (may_step side) h k
-part_took {F} side broken own h k test reported out given taken delta f0 f1 rests waits before after_ passed i t p = (
+    → Part of_wire own h k test reported out given taken delta f0 f1 rests waits before after_ passed → TookBy (may_step side) h k
+part_took {F} side of_wire own h k test reported out given taken delta f0 f1 rests waits before after_ passed i t p = (
   stepped passed.failed reported,
   all_then test (may_step side) i (λ cause. refl) passed.failed reported p.only,
   subst (λ (y : Holding). TookAll h (stepped passed.failed reported) y) (sym p.is) (took_all h (stepped passed.failed reported) out t p.runs),
@@ -112,11 +112,11 @@ grown p q given taken l = record {
   out = ap (λ (bs : List ℕ). length bs) l.out ∙ length-append p.taken taken;
 }
 
-pub part_acts : {F : Type 0} (side : Side) (broken : F) (own : F → Cause) (h k : Holding) (test : Event → Bool) (reported : List Event) (out given taken delta : List ℕ) (f0 f1 : Option F) (rests : Type 0) (waits : Past → ℕ) (before after_ : Past → Type 0) (passed : Passed)
+pub part_acts : {F : Type 0} (side : Side) (of_wire : F → Past → Past → Type 0) (own : F → Cause) (h k : Holding) (test : Event → Bool) (reported : List Event) (out given taken delta : List ℕ) (f0 f1 : Option F) (rests : Type 0) (waits : Past → ℕ) (before after_ : Past → Type 0) (passed : Passed)
     → ((event : Event) → test event ≡ true → may_step side event ≡ true) → length delta ≡ length given + length taken → IsTied h
-    → Part broken own h k test reported out given taken delta f0 f1 rests waits before after_ passed
+    → Part of_wire own h k test reported out given taken delta f0 f1 rests waits before after_ passed
     → passed.waiting ≡ false → passed.broken ≡ false → BytesOr (Advances (may_step side) h k) before after_
-part_acts {F} side broken own h k test reported out given taken delta f0 f1 rests waits before after_ passed i n t p w b = λ past here.
+part_acts {F} side of_wire own h k test reported out given taken delta f0 f1 rests waits before after_ passed i n t p w b = λ past here.
     let u = p.wire past here in
     let g = grown past u.0 given taken u.2 in
     let gr = g.read in

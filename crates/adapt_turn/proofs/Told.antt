@@ -89,12 +89,12 @@ told_run test none h bytes None reported c m r o = by_close (after_all (shows h.
         let w = closed_by h.history (shows h.history) reported c m e in
         sym (ap outcome_of (ap (λ (y : History). y.events) r.history ∙ w.is) ∙ done_close test none w.event w.before w.close (w.of test o))
 
-pub part_told : {F : Type 0} (broken : F) (own : F → Cause) (h k : Holding) (test : Event → Bool) (reported : List Event) (out given taken delta : List ℕ) (f0 f1 : Option F) (rests : Type 0) (waits : Past → ℕ) (before after_ : Past → Type 0) (passed : Passed)
+pub part_told : {F : Type 0} (of_wire : F → Past → Past → Type 0) (own : F → Cause) (h k : Holding) (test : Event → Bool) (reported : List Event) (out given taken delta : List ℕ) (f0 f1 : Option F) (rests : Type 0) (waits : Past → ℕ) (before after_ : Past → Type 0) (passed : Passed)
     → ((cause : Cause) → test (Fail cause) ≡ false) → IsTied h → (shows h.history).closed ≡ false
-    → Part broken own h k test reported out given taken delta f0 f1 rests waits before after_ passed
+    → Part of_wire own h k test reported out given taken delta f0 f1 rests waits before after_ passed
     → outcome_by passed.failed ≡ outcome_of k.history.events
-part_told {F} broken own h k test reported out given taken delta f0 f1 rests waits before after_ passed none t c p =
-    told_run test none h out passed.failed reported c p.runs.may (part_ran broken own h k test reported out given taken delta f0 f1 rests waits before after_ passed t p) p.only
+part_told {F} of_wire own h k test reported out given taken delta f0 f1 rests waits before after_ passed none t c p =
+    told_run test none h out passed.failed reported c p.runs.may (part_ran of_wire own h k test reported out given taken delta f0 f1 rests waits before after_ passed t p) p.only
     ∙ ap (λ (y : Holding). outcome_of y.history.events) (sym p.is)
 
 pub done_reported : (h : Holding) (bytes : List ℕ) (failed : Option Cause) (reported : List Event) → Ran h (stepped failed reported) bytes

@@ -1,5 +1,5 @@
 -- What the pass of one side does to a transaction.
-use Rattle.std.specs.Prelude.{◌≡◌, ℕ, ◌<◌, ◌≤◌, ◌⊎◌, ⊤, Bool, true, false, List, [], ◌∷◌, ◌++◌, take, Option, Some, None}
+use Rattle.std.specs.Prelude.{◌≡◌, ℕ, ◌<◌, ◌≤◌, ◌⊎◌, ⊤, MatchOption, Bool, true, false, List, [], ◌∷◌, ◌++◌, take, Option, Some, None}
 use Rattle.trace_core.specs.declared.history.Event.{Event}
 use Rattle.trace_core.specs.declared.history.Event.TheVariants.{Fail, Retry}
 use Rattle.trace_core.specs.declared.history.Cause.{Cause}
@@ -15,6 +15,7 @@ use Rattle.adapt_sides.specs.declared.fault.ClientFault.TheVariants as client
 use Rattle.adapt_sides.specs.declared.fault.RelayFault.{RelayFault}
 use Rattle.adapt_sides.specs.declared.fault.RelayFault.TheVariants as relay
 use Rattle.adapt_sides.specs.Tapes.{chosen}
+use Rattle.adapt_sides.specs.Turns.{OfRelayWire, OfClientWire}
 use Rattle.adapt_hold.specs.Spans.{EndsBody}
 use Rattle.adapt_hold.specs.Holding.{Holding, shows, moved}
 use Rattle.adapt_hold.specs.Steps.{MayRun, moved_all}
@@ -50,15 +51,25 @@ pub record Breaks (history : History) (reused : Bool) (fault : Option ClientFaul
   pub broke : (fault ≡ Some client.Closed) ⊎ (fault ≡ Some client.Device)
   pub may : MayFollow history.plan history.events Retry
 
--- It was closed by that cause where the request might not begin anew: its connection wasn't used before, or hadn't ended or failed,
--- or the plan or a byte of a reply forbids it.
-abbrev pub FailsFor : Cause → Bool → Option ClientFault → Holding → Type 0
-FailsFor cause reused fault new = (mid : Holding) × (new ≡ moved mid (Fail cause) []) × (Breaks mid.history reused fault → ⊥)
-
 -- the fault of a side, where there is a side
 abbrev pub fault_of : {L : Type 0} → (L → Option ClientFault) → Option L → Option ClientFault
 fault_of fault None = None
 fault_of fault (Some line) = fault line
+
+-- a fault that a side didn't have before has its reason
+abbrev pub HasCause : {F : Type 0} → (old_fault new_fault : Option F) → (reason : F → Type 0) → Type 0
+HasCause {F} old_fault new_fault reason = old_fault ≡ None → (fault : F) → new_fault ≡ Some fault → reason fault
+
+-- why the service fails first: its wire failed in a write, or what was read of it has its reason
+abbrev pub FailsService : {L : Type 0} → (reason : ClientFault → Seen → L → Type 0) → Option L → Seen → ClientFault → Type 0
+FailsService reason line x fault = (fault ≡ client.Device) ⊎ MatchOption line ⊥ (λ l. reason fault x l)
+
+-- It was closed by that cause where the request might not begin anew: its connection wasn't used before, or hadn't ended or failed,
+-- or the plan or a byte of a reply forbids it. A fault that the service didn't have before has its reason by what was seen then.
+abbrev pub FailsFor : {L : Type 0} → (fault : L → Option ClientFault) → (reason : ClientFault → Seen → L → Type 0) → Cause → Bool → (old_line line : Option L) → Holding → Type 0
+FailsFor fault reason cause reused old_line line new =
+    (mid : Holding) × (new ≡ moved mid (Fail cause) []) × (Breaks mid.history reused (fault_of fault line) → ⊥)
+    × HasCause (fault_of fault old_line) (fault_of fault line) (FailsService reason line (shows mid.history))
 
 -- how a transaction ends that this failed, if anything did
 abbrev pub outcome_by : Option Cause → Outcome
@@ -75,11 +86,11 @@ abbrev pub stepped : Option Cause → List Event → List Event
 stepped None reported = reported
 stepped (Some cause) reported = Fail cause ∷ []
 
--- Why a pass failed or waits, on a wire with the past p before and q after. It failed by the side's fault; a first failure of the
--- connection only where the wire failed in this call.
-pub record Explains {F : Type 0} (broken : F) (own : F → Cause) (p q : Past) (old_fault new_fault : Option F) (rests : Type 0) (waits : Past → ℕ) (passed : Passed) : Type 0 where
+-- Why a pass failed or waits, on a wire with the past p before and q after. It failed by the side's fault, and `of_wire` says what a
+-- first one shows of the wire.
+pub record Explains {F : Type 0} (of_wire : F → Past → Past → Type 0) (own : F → Cause) (p q : Past) (old_fault new_fault : Option F) (rests : Type 0) (waits : Past → ℕ) (passed : Passed) : Type 0 where
   pub failed : (cause : Cause) → passed.failed ≡ Some cause
-      → (fault : F) × (new_fault ≡ Some fault) × (cause ≡ own fault) × (fault ≡ broken → old_fault ≡ None → p.faults < q.faults)
+      → (fault : F) × (new_fault ≡ Some fault) × (cause ≡ own fault) × (old_fault ≡ None → of_wire fault p q)
   pub waiting : passed.waiting ≡ true → rests ⊎ (waits p < waits q)
 
 -- a pass that waits did nothing; another one moved a byte, stepped an event, or met a broken connection
@@ -88,8 +99,8 @@ pub record Tells (delta : List ℕ) (reported : List Event) (passed : Passed) : 
   pub active : passed.waiting ≡ false → passed.broken ≡ false → delta ≡ [] → reported ≡ [] → passed.failed ≡ None → ⊥
 
 -- What a side reported, of what its wire gave and took, and what was stepped of it.
-pub record Part {F : Type 0} (broken : F) (own : F → Cause) (old new : Holding) (test : Event → Bool) (reported : List Event) (out given taken delta : List ℕ) (old_fault new_fault : Option F) (rests : Type 0) (waits : Past → ℕ) (before after : Past → Type 0) (passed : Passed) : Type 0 where
-  pub wire : (p : Past) → before p → (q : Past) × after q × IsLater p given taken q × Explains broken own p q old_fault new_fault rests waits passed
+pub record Part {F : Type 0} (of_wire : F → Past → Past → Type 0) (own : F → Cause) (old new : Holding) (test : Event → Bool) (reported : List Event) (out given taken delta : List ℕ) (old_fault new_fault : Option F) (rests : Type 0) (waits : Past → ℕ) (before after : Past → Type 0) (passed : Passed) : Type 0 where
+  pub wire : (p : Past) → before p → (q : Past) × after q × IsLater p given taken q × Explains of_wire own p q old_fault new_fault rests waits passed
   pub only : AllAre test reported
   pub runs : MayRun old (stepped passed.failed reported) out
   pub is : new ≡ moved_all old (stepped passed.failed reported) out
@@ -103,7 +114,7 @@ pub record SourcePart (old new : Holding) (read_old read_new : Seen → List ℕ
   pub delta : List ℕ
   pub out : List ℕ
   pub reported : List Event
-  pub part : Part relay.Device source_cause old new is_of_source reported out delta [] delta old_fault new_fault rests (λ past. past.read_waits) before after passed
+  pub part : Part OfRelayWire source_cause old new is_of_source reported out delta [] delta old_fault new_fault rests (λ past. past.read_waits) before after passed
   pub few : in_sum reported ≤ original_room (shows old.history) old.claim old.limits.window
   pub framed : passed.waiting ≡ true → all_framed
   pub agrees : agrees_new (after_all (shows old.history) reported)
@@ -114,7 +125,7 @@ pub record SourcePart (old new : Holding) (read_old read_new : Seen → List ℕ
 pub record SendPart (old new : Holding) (sent_old sent_new : List ℕ → Seen → List ℕ → List ℕ → Type 0) (old_fault new_fault : Option ClientFault) (rests : Type 0) (before after : Past → Type 0) (passed : Passed) : Type 0 where
   pub delta : List ℕ
   pub reported : List Event
-  pub part : Part client.Device service_cause old new is_of_sending reported [] [] delta delta old_fault new_fault rests (λ past. past.write_waits) before after passed
+  pub part : Part OfClientWire service_cause old new is_of_sending reported [] [] delta delta old_fault new_fault rests (λ past. past.write_waits) before after passed
   pub goes_on : (request came taken : List ℕ) → EndsBody old.original came → sent_old request (shows old.history) came taken
       → sent_new request (after_all (shows old.history) reported) came (taken ++ delta)
 
@@ -123,7 +134,7 @@ pub record HearPart (old new : Holding) (heard_old heard_new : Seen → List ℕ
   pub delta : List ℕ
   pub out : List ℕ
   pub reported : List Event
-  pub part : Part client.Device service_cause old new is_of_replies reported out delta [] delta old_fault new_fault rests (λ past. past.read_waits) before after passed
+  pub part : Part OfClientWire service_cause old new is_of_replies reported out delta [] delta old_fault new_fault rests (λ past. past.read_waits) before after passed
   pub few : ad_sum reported ≤ adapted_room (shows old.history) old.limits.window
   pub framed : passed.waiting ≡ true → all_framed
   pub goes_on : (adapted read : List ℕ) → heard_old (shows old.history) adapted read
@@ -133,7 +144,7 @@ pub record HearPart (old new : Holding) (heard_old heard_new : Seen → List ℕ
 pub record HopPart (old new : Holding) (given_old given_new : Seen → List ℕ → List ℕ → List ℕ → Type 0) (whole : List ℕ → List ℕ → List ℕ → Type 0) (old_fault new_fault : Option RelayFault) (rests : Type 0) (before after : Past → Type 0) (passed : Passed) : Type 0 where
   pub delta : List ℕ
   pub reported : List Event
-  pub part : Part relay.Device hop_cause old new is_of_hop reported [] [] delta delta old_fault new_fault rests (λ past. past.write_waits) before after passed
+  pub part : Part OfRelayWire hop_cause old new is_of_hop reported [] [] delta delta old_fault new_fault rests (λ past. past.write_waits) before after passed
   pub goes_on : (original adapted head taken : List ℕ) → EndsBody old.original original → EndsBody old.adapted adapted
       → given_old (shows old.history) head (chosen (shows old.history) original adapted) taken
       → given_new (after_all (shows old.history) reported) head (chosen (shows old.history) original adapted) (taken ++ delta)

@@ -7,9 +7,8 @@ use Rattle.trace_core.specs.declared.history.Point.TheVariants.{Reqmod, Respmod}
 use Rattle.trace_core.specs.Faults.{chooses_original}
 use Rattle.wire_kit.specs.Past.{Past, IsLater}
 use Rattle.adapt_sides.specs.declared.fault.ClientFault.{ClientFault}
-use Rattle.adapt_sides.specs.declared.fault.ClientFault.TheVariants as client
 use Rattle.adapt_sides.specs.Tapes.{chosen, IsUndelivered}
-use Rattle.adapt_sides.specs.Turns.{Gift}
+use Rattle.adapt_sides.specs.Turns.{Gift, OfClientWire}
 use Rattle.adapt_sides.specs.Turns.Gift.{nothing, message, refusal}
 use Rattle.adapt_hold.specs.Spans.{Span, EndsBody}
 use Rattle.adapt_hold.specs.Holding.{Holding, shows}
@@ -161,12 +160,12 @@ abbrev pub WaitedBoth : (writes reads : Type 0) → (Past → Type 0) → (Past 
 WaitedBoth writes reads before after =
     (p : Past) → before p → (q : Past) × after q × (writes ⊎ (p.write_waits < q.write_waits)) × (reads ⊎ (p.read_waits < q.read_waits))
 
--- the cause is that of the side's fault; a first failure of the connection only where its wire failed in this call
-abbrev pub Blamed : {F : Type 0} → F → (F → Cause) → Cause → Option F → Option F → (Past → Type 0) → (Past → Type 0) → Type 0
-Blamed {F} broken own cause old_fault new_fault before after =
+-- the cause is that of the side's fault; `of_wire` says what a first one shows of its wire in this call
+abbrev pub Blamed : {F : Type 0} → (F → Past → Past → Type 0) → (F → Cause) → Cause → Option F → Option F → (Past → Type 0) → (Past → Type 0) → Type 0
+Blamed {F} of_wire own cause old_fault new_fault before after =
     (p : Past) → before p → (q : Past) × after q
-    × ((fault : F) × (new_fault ≡ Some fault) × (cause ≡ own fault) × (fault ≡ broken → old_fault ≡ None → p.faults < q.faults))
+    × ((fault : F) × (new_fault ≡ Some fault) × (cause ≡ own fault) × (old_fault ≡ None → of_wire fault p q))
 
 -- the same of the service
 abbrev pub BlamedService : Cause → Option ClientFault → Option ClientFault → (Past → Type 0) → (Past → Type 0) → Type 0
-BlamedService cause old_fault new_fault before after = Blamed client.Device service_cause cause old_fault new_fault before after
+BlamedService cause old_fault new_fault before after = Blamed OfClientWire service_cause cause old_fault new_fault before after

@@ -5,7 +5,7 @@ ghost use Rattle.trace_core.specs.declared.history.Cause.{Cause};
 ghost use Rattle.trace_core.specs.declared.history.Seen.{Seen};
 ghost use Rattle.plan_rules.specs.Room.{original_room, adapted_room};
 ghost use Rattle.adapt_hold.specs.Holding.{shows, IsRoomy};
-ghost use Rattle.adapt_turn.specs.Parts.{Breaks, SourcePart, HearPart};
+ghost use Rattle.adapt_turn.specs.Parts.{Breaks, HasCause, SourcePart, HearPart};
 
 use crate::parts::{Passed, take_service, take_source};
 use adapt_hold::Hold;
@@ -29,6 +29,7 @@ pub(crate) fn read_source<B: Ledgers, S: Source, A: Wire>(
     ensures part { SourcePart hold.old hold.new (λ x body read. S.has_read x body read source.old) (λ x body read. S.has_read x body read source.new)
         (λ x. S.agrees x source.new) (S.fault source.old) (S.fault source.new) (S.rests (original_room (shows hold.old.history) hold.old.claim hold.old.limits.window) source.new) (S.is_framed (original_room (shows hold.old.history) hold.old.claim hold.old.limits.window) source.new)
         (A.past wire.old) (A.past wire.new) result }
+    ensures reason { HasCause (S.fault source.old) (S.fault source.new) (λ fault. S.has_reason fault source.new) }
     ensures head { S.head source.new ≡ S.head source.old }
     ensures whole { result.broken ≡ false }
     ensures roomy { IsRoomy hold.new }
@@ -53,6 +54,7 @@ pub(crate) fn hear<B: Ledgers, V: Service, W: Wire>(
     ensures part { HearPart hold.old hold.new (λ x adapted read. V.has_heard x adapted read service.old) (λ x adapted read. V.has_heard x adapted read service.new)
         (V.fault service.old) (V.fault service.new) (V.rests_reading (shows hold.old.history) (adapted_room (shows hold.old.history) hold.old.limits.window) service.new) (V.is_framed (adapted_room (shows hold.old.history) hold.old.limits.window) service.new)
         (W.past wire.old) (W.past wire.new) result }
+    ensures reason { HasCause (V.fault service.old) (V.fault service.new) (λ fault. V.has_reason fault (shows hold.old.history) service.new) }
     ensures sent { (request came taken : List ℕ) → V.has_sent request (shows hold.old.history) came taken service.old → V.has_sent request (shows hold.old.history) came taken service.new }
     ensures rests { (x : Seen) → V.rests_writing x service.old → V.rests_writing x service.new }
     ensures head { (shows hold.old.history).modified ≡ true → V.adapted_head service.new ≡ V.adapted_head service.old }

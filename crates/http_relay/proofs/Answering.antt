@@ -24,7 +24,7 @@ use Rattle.http_relay.specs.declared.hop.Stage.TheVariants as at
 use Rattle.adapt_sides.specs.declared.fault.RelayFault.{RelayFault}
 use Rattle.adapt_sides.specs.declared.fault.RelayFault.TheVariants.{Length}
 use Rattle.adapt_sides.specs.Tapes.{chosen_delivered}
-use Rattle.http_relay.specs.Giving.{Hop, LetsGo, GivesMessage, HasGiven, GivenAt, IsAside, AsideAt, Decides, NothingDue, turn_events, stage_then, is_message, is_whole, gift_of}
+use Rattle.http_relay.specs.Giving.{Hop, LetsGo, GivesMessage, HasGiven, GivenAt, IsAside, AsideAt, Decides, NothingDue, hop_events, stage_then, is_message, is_whole, gift_of}
 use Rattle.adapt_sides.specs.Tapes.{IsUndelivered}
 use Rattle.trace_core.specs.Turns.{after_all}
 use Rattle.adapt_sides.specs.Tapes.{Follows, KeepsUndelivered}
@@ -35,11 +35,11 @@ use Rattle.http_relay.proofs.Chosen.{done_means, fewer}
 use Rattle.http_relay.proofs.Given.{gives_passed}
 use Rattle.http_relay.proofs.Carried.{given_on, aside_on, done_given, undelivered_done, legal_by, held_by, usr_to}
 
-all_then : (x : Seen) (n : ℕ) (b : Bool) → (n == 0) ≡ b → after_all x (turn_events n true) ≡ after (usr_to x n) Done
+all_then : (x : Seen) (n : ℕ) (b : Bool) → (n == 0) ≡ b → after_all x (hop_events n true) ≡ after (usr_to x n) Done
 all_then x n true e = rw e refl
 all_then x n false e = rw e refl
 
-with_done : (stage : Stage) (x : Seen) (f : Framing) (head body taken : List ℕ) (w : Writer) (n : ℕ) (done : Bool) → GivenAt stage (usr_to x n) f head body taken w → GivenAt stage (after_all x (turn_events n done)) f head body taken w
+with_done : (stage : Stage) (x : Seen) (f : Framing) (head body taken : List ℕ) (w : Writer) (n : ℕ) (done : Bool) → GivenAt stage (usr_to x n) f head body taken w → GivenAt stage (after_all x (hop_events n done)) f head body taken w
 with_done stage x f head body taken w n true g = subst (λ (y : Seen). GivenAt stage y f head body taken w) (sym (all_then x n (n == 0) refl)) (done_given stage (usr_to x n) f head body taken w g)
 with_done stage x f head body taken w n false g = g
 
@@ -54,20 +54,20 @@ pub record Settles (x : Seen) (next : Next) (old new : Hop) (k : ℕ) (e done : 
   done_at : done ≡ true → (new.stage ≡ at.Whole) × (waiting new.writer ≡ [])
   may : done ≡ true → (e ≡ true) ⊎ ((x.closed ≡ false) × Allows x Done × (k ≡ 0))
 
-undelivered_then : (x : Seen) (done : Bool) → IsUndelivered x → IsUndelivered (after_all x (turn_events 0 done))
+undelivered_then : (x : Seen) (done : Bool) → IsUndelivered x → IsUndelivered (after_all x (hop_events 0 done))
 undelivered_then x true h = undelivered_done x h
 undelivered_then x false h = h
 
 -- what a side is where no byte went out
-untouched_then : (x : Seen) (k : ℕ) (done : Bool) (taken d : List ℕ) → k ≡ 0 → d ≡ [] → (taken ≡ []) × IsUndelivered x → (taken ++ d ≡ []) × IsUndelivered (after_all x (turn_events k done))
-untouched_then x k done taken d z e h = (nothing_taken taken d h.0 e, subst (λ (n : ℕ). IsUndelivered (after_all x (turn_events n done))) (sym z) (undelivered_then x done h.1))
+untouched_then : (x : Seen) (k : ℕ) (done : Bool) (taken d : List ℕ) → k ≡ 0 → d ≡ [] → (taken ≡ []) × IsUndelivered x → (taken ++ d ≡ []) × IsUndelivered (after_all x (hop_events k done))
+untouched_then x k done taken d z e h = (nothing_taken taken d h.0 e, subst (λ (n : ℕ). IsUndelivered (after_all x (hop_events n done))) (sym z) (undelivered_then x done h.1))
 
 given_by : (x : Seen) (tape : Tape) (next : Next) (old new : Hop) (k : ℕ) (e done : Bool) (d head body taken : List ℕ) → Sound x → KeepsUndelivered x tape → Decides x old.writer old.framing old.stage next
-    → Moves tape next old.writer k e d new.writer → Settles x next old new k e done d → Follows tape body → HasGiven x head body taken old → HasGiven (after_all x (turn_events k done)) head body (taken ++ d) new
+    → Moves tape next old.writer k e d new.writer → Settles x next old new k e done d → Follows tape body → HasGiven x head body taken old → HasGiven (after_all x (hop_events k done)) head body (taken ++ d) new
 given_by x tape next old new k e done d head body taken s u c m t i h =
     record {
-      given = subst (λ (stage : Stage). GivenAt stage (after_all x (turn_events k done)) new.framing head body (taken ++ d) new.writer) (sym t.stage)
-          (subst (λ (f : Framing). GivenAt (stage_then old.stage e) (after_all x (turn_events k done)) f head body (taken ++ d) new.writer) (sym t.framing)
+      given = subst (λ (stage : Stage). GivenAt stage (after_all x (hop_events k done)) new.framing head body (taken ++ d) new.writer) (sym t.stage)
+          (subst (λ (f : Framing). GivenAt (stage_then old.stage e) (after_all x (hop_events k done)) f head body (taken ++ d) new.writer) (sym t.framing)
           (with_done (stage_then old.stage e) x old.framing head body (taken ++ d) new.writer k done
           (given_on old.stage x tape old.framing old.writer new.writer next head body taken k e d (held_by x tape old.framing old.writer old.stage next body s u c i) m h.given)));
       untouched = λ n.
@@ -96,7 +96,7 @@ begun_at_end : (x : Seen) (next : Next) (old : Hop) (k : ℕ) (e : Bool) → Dec
 begun_at_end x next old k e c r i = (c.ends (r.all i).1).0
 
 pub goes_on : (x : Seen) (tape : Tape) (next : Next) (old new : Hop) (k : ℕ) (e done : Bool) (d : List ℕ) → Sound x → KeepsUndelivered x tape → Decides x old.writer old.framing old.stage next
-    → Moves tape next old.writer k e d new.writer → Settles x next old new k e done d → GoesOn x tape old new (turn_events k done) d
+    → Moves tape next old.writer k e d new.writer → Settles x next old new k e done d → GoesOn x tape old new (hop_events k done) d
 goes_on x tape next old new k e done d s u c m t = record {
   legal = legal_by x old.framing old.writer old.stage next k e done s c (reaches tape next old.writer new.writer k e d m) t.may;
   given = λ head body taken i h. given_by x tape next old new k e done d head body taken s u c m t i h;
@@ -213,7 +213,7 @@ decides_at x old v f stage next w fe se c =
 -- the writer and the rest of the side, by their parts
 pub turned : (x : Seen) (tape : Tape) (next : Next) (old new : Hop) (v : Writer) (f : Framing) (stage : Stage) (before after' : Past → Type 0) (result : Result Turn RelayFault) (answer : Option Put) (k : ℕ) (e done : Bool)
     → v ≡ old.writer → f ≡ old.framing → stage ≡ old.stage → Sound x → KeepsUndelivered x tape → Decides x v f stage next → Offers before after' (offered v tape next) answer → (answer ≡ None → offered v tape next ≡ []) → (offered v tape next ≡ [] → answer ≡ None)
-    → Moves tape next v k e (delta_of (offered v tape next) answer) new.writer → Settles x next old new k e done (delta_of (offered v tape next) answer) → events_of result ≡ turn_events k done → (old.fault ≡ None → FitsOffer x old new answer result) → WriteTurn x tape old new before after' result
+    → Moves tape next v k e (delta_of (offered v tape next) answer) new.writer → Settles x next old new k e done (delta_of (offered v tape next) answer) → events_of result ≡ hop_events k done → (old.fault ≡ None → FitsOffer x old new answer result) → WriteTurn x tape old new before after' result
 turned x tape next old new v f stage before after' result answer k e done w fe se s u c o silent asks m t h fit =
     let text = offered v tape next in
     let decides : Decides x old.writer old.framing old.stage next = decides_at x old v f stage next w fe se c in
@@ -274,8 +274,8 @@ settles_still x next old new k e d n z f s t = record {
   may = λ h. cc;
 }
 
-pub none_still : (k : ℕ) (e : Bool) → (k ≡ 0) × (e ≡ false) → [] ≡ turn_events k false
-none_still k e s = subst (λ (n : ℕ). [] ≡ turn_events n false) (sym s.0) refl
+pub none_still : (k : ℕ) (e : Bool) → (k ≡ 0) × (e ≡ false) → [] ≡ hop_events k false
+none_still k e s = subst (λ (n : ℕ). [] ≡ hop_events n false) (sym s.0) refl
 
 pub fits_took : (x : Seen) (new : Hop) (answer : Option Put) (n : ℕ) (turn : Turn) → answer ≡ Some (put.Took n) → (turn.waiting ≡ true → true ≡ false) → FitsAnswer x new answer turn
 fits_took x new answer n turn a t = record {
@@ -306,7 +306,7 @@ plain_or x false false p m h s = cc
 chosen_once : (x : Seen) → Sound x → chooses_original x ≡ true → x.modified ≡ false
 chosen_once x s h = plain_or x (is_plain x.plan.kind) x.no_mod refl refl h s
 
-no_done : (done : Bool) → turn_events 0 done ≡ [] → done ≡ false
+no_done : (done : Bool) → hop_events 0 done ≡ [] → done ≡ false
 no_done true e = cc
 no_done false e = refl
 
@@ -330,7 +330,7 @@ no_usr x old next c m z n o a =
     absurd (omega (arith, z, one))
 
 pub fits_none : (x : Seen) (old new : Hop) (next : Next) (answer : Option Put) (k : ℕ) (e done : Bool) (turn : Turn) → answer ≡ None → Sound x → Decides x old.writer old.framing old.stage next → IsIdle old.writer next k e
-    → turn.events.items ≡ turn_events 0 done → (done ≡ false → e ≡ true → ⊥) → (done ≡ false → is_whole old.stage ≡ true → x.closed ≡ false → Allows x Done → ⊥)
+    → turn.events.items ≡ hop_events 0 done → (done ≡ false → e ≡ true → ⊥) → (done ≡ false → is_whole old.stage ≡ true → x.closed ≡ false → Allows x Done → ⊥)
     → (turn.waiting ≡ true → turn.events.items ≡ []) → (turn.waiting ≡ false → turn.events.items ≡ [] → ⊥) → waiting new.writer ≡ [] → new.stage ≡ stage_then old.stage e → FitsAnswer x new answer turn
 fits_none x old new next answer k e done turn a v c i h ne nm t f out st = record {
   no_fault = λ b. cc;
@@ -354,8 +354,8 @@ fits_none x old new next answer k e done turn a v c i h ne nm t f out st = recor
     not_true true n = absurd (n refl)
     not_true false n = refl
 
-pub idle_events : (next : Next) (w : Writer) (k : ℕ) (e done : Bool) → IsIdle w next k e → turn_events 0 done ≡ turn_events k done
-idle_events next w k e done i = ap (λ (n : ℕ). turn_events n done) (sym i.none_sent)
+pub idle_events : (next : Next) (w : Writer) (k : ℕ) (e done : Bool) → IsIdle w next k e → hop_events 0 done ≡ hop_events k done
+idle_events next w k e done i = ap (λ (n : ℕ). hop_events n done) (sym i.none_sent)
 
 may_by : (x : Seen) (e may : Bool) (k s : ℕ) → (may ≡ true → (x.closed ≡ false) × Allows x Done) → (s ≡ 0 → k ≡ 0) → (e ≡ true) ⊎ ((may ≡ true) × (s ≡ 0)) → (e ≡ true) ⊎ ((x.closed ≡ false) × Allows x Done × (k ≡ 0))
 may_by x e may k s a z (inl i) = inl i

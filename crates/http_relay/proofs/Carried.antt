@@ -20,7 +20,7 @@ use Rattle.http_relay.specs.declared.hop.Stage.{Stage}
 use Rattle.http_relay.specs.declared.hop.Stage.TheVariants as at
 use Rattle.http_relay.specs.Message.{length_of}
 use Rattle.adapt_sides.specs.Tapes.{chosen_delivered, chosen_received}
-use Rattle.http_relay.specs.Giving.{Front, GivesMessage, GivenAt, AsideAt, Decides, is_message, usr_events, turn_events, stage_then}
+use Rattle.http_relay.specs.Giving.{Front, GivesMessage, GivenAt, AsideAt, Decides, is_message, usr_events, hop_events, stage_then}
 use Rattle.adapt_sides.specs.Tapes.{IsUndelivered}
 use Rattle.trace_core.specs.Turns.{after_all, MayAllFollow}
 use Rattle.adapt_sides.specs.Tapes.{Follows, KeepsUndelivered}
@@ -212,18 +212,18 @@ open_usr : (x : Seen) (f : Framing) (old : Writer) (stage : Stage) (next : Next)
 open_usr x f old stage next k c l some = ((c.usr (omega arith)).1, allowed x f old stage next k c l some)
 
 legal_done : (x : Seen) (f : Framing) (old : Writer) (stage : Stage) (next : Next) (k : ℕ) (e : Bool) → Sound x → Decides x old f stage next → Reaches next k e
-    → (e ≡ true) ⊎ ((x.closed ≡ false) × Allows x Done × (k ≡ 0)) → MayAllFollow x (turn_events k true)
+    → (e ≡ true) ⊎ ((x.closed ≡ false) × Allows x Done × (k ≡ 0)) → MayAllFollow x (hop_events k true)
 legal_done x f old stage next k e s c r (inl i) =
     let all = r.all i in
     let due = c.ends all.1 in
     let m = moved_to x next.count s (λ some. (c.usr some).2) in
-    subst (λ (n : ℕ). MayAllFollow x (turn_events n true)) (sym all.0)
+    subst (λ (n : ℕ). MayAllFollow x (hop_events n true)) (sym all.0)
     (done_by x next.count (next.count == 0) (usr_legal x next.count (open_usr x f old stage next next.count c (omega arith)) (cases_lt 0 next.count))
     (m.still ∙ due.1) (done_allowed (usr_to x next.count) m.sound (m.over ∙ due.2) (m.out ∙ (due.3 ∙ sym m.came))))
-legal_done x f old stage next k e s c r (inr i) = subst (λ (n : ℕ). MayAllFollow x (turn_events n true)) (sym i.2) (i.0, i.1, tt)
+legal_done x f old stage next k e s c r (inr i) = subst (λ (n : ℕ). MayAllFollow x (hop_events n true)) (sym i.2) (i.0, i.1, tt)
 
 pub legal_by : (x : Seen) (f : Framing) (old : Writer) (stage : Stage) (next : Next) (k : ℕ) (e done : Bool) → Sound x → Decides x old f stage next → Reaches next k e
-    → (done ≡ true → (e ≡ true) ⊎ ((x.closed ≡ false) × Allows x Done × (k ≡ 0))) → MayAllFollow x (turn_events k done)
+    → (done ≡ true → (e ≡ true) ⊎ ((x.closed ≡ false) × Allows x Done × (k ≡ 0))) → MayAllFollow x (hop_events k done)
 legal_by x f old stage next k e true s c r a = legal_done x f old stage next k e s c r (a refl)
 legal_by x f old stage next k e false s c r a = usr_legal x k (open_usr x f old stage next k c r.few) (cases_lt 0 k)
 

@@ -12,12 +12,13 @@ use Rattle.wire_kit.specs.Past.{Past, FitsPut, IsLater, after_offer, delta_of}
 use Rattle.wire_kit.specs.declared.wire.Put.{Put}
 use Rattle.wire_kit.specs.declared.wire.Put.TheVariants as put
 use Rattle.adapt_sides.specs.Tapes.{KeepsUndelivered, chosen_received}
-use Rattle.adapt_sides.specs.Turns.{Gives, HasReason, SaysWaiting, events_of}
+use Rattle.adapt_sides.specs.Turns.{Gives, HasReason, OfRelayWire, FailsGiving, SaysWaiting, events_of}
 use Rattle.adapt_sides.specs.declared.turn.Turn.{Turn}
 use Rattle.adapt_sides.specs.declared.fault.RelayFault.{RelayFault}
-use Rattle.adapt_sides.specs.declared.fault.RelayFault.TheVariants.{Device, Length}
+use Rattle.adapt_sides.specs.declared.fault.RelayFault.TheVariants.{Closed, Device, Length}
 use Rattle.http_relay.specs.Message.{IsMessage}
-use Rattle.http_relay.specs.Giving.{Hop, HasGiven, IsAside, NothingDue, usr_events, turn_events}
+use Rattle.http_side.specs.declared.body.Framing.{Framing}
+use Rattle.http_relay.specs.Giving.{Hop, HasGiven, IsAside, NothingDue, BreaksLength, usr_events, hop_events}
 use Rattle.http_relay.specs.Writing.{WriteTurn, FitsOffer, FitsAnswer}
 use Rattle.http_relay.proofs.Chosen.{done_moves}
 use Rattle.http_relay.proofs.Whole.{whole_at}
@@ -38,21 +39,31 @@ wait_counts p text answer e = subst (λ (a : Option Put). p.write_waits < (after
 -- why it failed, or waits
 reason : (x : Seen) (old new : Hop) (p : Past) (text : List ℕ) (answer : Option Put) (result : Result Turn RelayFault) → (old.fault ≡ None → FitsOffer x old new answer result)
     → ((fault : RelayFault) → old.fault ≡ Some fault → result ≡ Err fault) → (o : Option RelayFault) → o ≡ old.fault
-    → HasReason Device p (after_offer p text answer) old.fault (NothingDue x new) (λ past. past.write_waits) result
+    → HasReason OfRelayWire p (after_offer p text answer) old.fault (NothingDue x new) (λ past. past.write_waits) result
 reason x old new p text answer (Ok turn) f r None e =
     let h : FitsAnswer x new answer turn = f (sym e) in
     record {
-      device = λ d n. cc;
+      failed = λ h d n. cc;
       waiting = λ w.
           let idle = h.waiting_is w in
           elim idle.1 [ inl a ↦ inr (wait_counts p text answer a) | inr a ↦ inl (h.idle a idle.0) ];
     }
 reason x old new p text answer (Ok turn) f r (Some g) e = let odd : Ok turn ≡ Err g = r g (sym e) in cc
 reason x old new p text answer (Err fault) f r o e = record {
-  device = λ d n.
-      elim (f n) [ inl h ↦ fault_counts p text answer h.1 | inr h ↦ (let is : fault ≡ Device = cc in let odd : Length ≡ Device = sym h.0 ∙ is in cc) ];
+  failed = λ g d n.
+      let is : fault ≡ g = cc in (
+        (λ e. elim (f n) [ inl h ↦ fault_counts p text answer h.1 | inr h ↦ (let odd : Length ≡ Device = sym h.0 ∙ (is ∙ e) in cc) ]),
+        (λ e. elim (f n) [ inl h ↦ (let odd : Device ≡ Closed = sym h.0 ∙ (is ∙ e) in cc) | inr h ↦ (let odd : Length ≡ Closed = sym h.0 ∙ (is ∙ e) in cc) ]),
+      );
   waiting = λ w. cc;
 }
+
+-- a first fault is the wire's, or the body's length
+pub fails_giving : (x : Seen) (old new : Hop) (answer : Option Put) (result : Result Turn RelayFault) → FitsOffer x old new answer result → new.framing ≡ old.framing
+    → (fault : RelayFault) → result ≡ Err fault → FailsGiving (BreaksLength x new.framing) fault
+fails_giving x old new answer (Ok turn) f e fault r = cc
+fails_giving x old new answer (Err g) (inl h) e fault r = let is : g ≡ fault = cc in inl (sym is ∙ h.0)
+fails_giving x old new answer (Err g) (inr h) e fault r = let is : g ≡ fault = cc in inr (sym is ∙ h.0, subst (λ (way : Framing). BreaksLength x way) (sym e) h.3)
 
 take_some : (n : ℕ) (text : List ℕ) → 1 ≤ n → n ≤ length text → take n text ≡ [] → ⊥
 take_some n text some few none =
@@ -84,7 +95,7 @@ says x old new text answer (Ok turn) q f r (Some g) e = let odd : Ok turn ≡ Er
 says x old new text answer (Err fault) q f r o e = record { idle = λ w. cc; waits = λ t is n d. cc }
 
 -- The events.
-only_hop : (n : ℕ) (b done : Bool) → (n == 0) ≡ b → AllAre is_of_hop (turn_events n done)
+only_hop : (n : ℕ) (b done : Bool) → (n == 0) ≡ b → AllAre is_of_hop (hop_events n done)
 only_hop n true true e = rw e (refl, tt)
 only_hop n false true e = rw e (refl, (refl, tt))
 only_hop n true false e = rw e tt
@@ -93,7 +104,7 @@ only_hop n false false e = rw e (refl, tt)
 received_usr : (x : Seen) (n : ℕ) → chosen_received (after x (Usr n)) ≡ chosen_received x
 received_usr x n = grind (arith, nat_tests)
 
-received_then : (x : Seen) (n : ℕ) (b done : Bool) → (n == 0) ≡ b → chosen_received (after_all x (turn_events n done)) ≡ chosen_received x
+received_then : (x : Seen) (n : ℕ) (b done : Bool) → (n == 0) ≡ b → chosen_received (after_all x (hop_events n done)) ≡ chosen_received x
 received_then x n true true e = rw e (done_moves x).1
 received_then x n false true e = rw e ((done_moves (after x (Usr n))).1 ∙ received_usr x n)
 received_then x n true false e = rw e refl
@@ -104,11 +115,11 @@ still_open : (x : Seen) (n : ℕ) (b : Bool) → (n == 0) ≡ b → (after_all x
 still_open x n true e = rw e refl
 still_open x n false e = rw e refl
 
-closed_by_done : (x : Seen) (n : ℕ) (done : Bool) → x.closed ≡ false → (after_all x (turn_events n done)).closed ≡ true → done ≡ true
+closed_by_done : (x : Seen) (n : ℕ) (done : Bool) → x.closed ≡ false → (after_all x (hop_events n done)).closed ≡ true → done ≡ true
 closed_by_done x n true o c = refl
 closed_by_done x n false o c = let now : (after_all x (usr_events n)).closed ≡ x.closed = still_open x n (n == 0) refl in let odd : true ≡ false = sym c ∙ (now ∙ o) in cc
 
-same_events : (n : ℕ) (done : Bool) (events : List Event) → events ≡ turn_events n done → AllAre is_of_hop events
+same_events : (n : ℕ) (done : Bool) (events : List Event) → events ≡ hop_events n done → AllAre is_of_hop events
 same_events n done events e = subst (λ (es : List Event). AllAre is_of_hop es) (sym e) (only_hop n (n == 0) done refl)
 
 pub as_gives : (x : Seen) (tape : Tape) (old new : Hop) (before after' : Past → Type 0) (result : Result Turn RelayFault) → KeepsUndelivered x tape → WriteTurn x tape old new before after' result
@@ -125,7 +136,7 @@ as_gives x tape old new before after' result u t sound again stays =
       legal = g.legal;
       goes_on = λ o head body taken f h. g.given head body taken f h;
       done = λ o c head body taken f h.
-          let closed : (after_all x (turn_events g.sent g.done)).closed ≡ true = ap (λ (es : List Event). (after_all x es).closed) (sym g.events_are) ∙ c in
+          let closed : (after_all x (hop_events g.sent g.done)).closed ≡ true = ap (λ (es : List Event). (after_all x es).closed) (sym g.events_are) ∙ c in
           let is : g.done ≡ true = closed_by_done x g.sent g.done o closed in
           let w = g.whole is in
           let long : length body ≡ chosen_received (after_all x (events_of result)) =

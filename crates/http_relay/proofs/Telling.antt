@@ -10,17 +10,17 @@ use Rattle.trace_core.specs.declared.history.Plan.{Plan}
 use Rattle.trace_core.specs.declared.history.Seen.{Seen}
 use Rattle.http_relay.specs.Body.{ReadsOn}
 use Rattle.trace_core.specs.Turns.{after_all, MayAllFollow, AllAre, is_of_source, in_sum}
-use Rattle.http_relay.specs.Events.{body_events}
-use Rattle.http_relay.specs.Source.{known, Fits, Agrees, BodyReads}
+use Rattle.http_relay.specs.Events.{source_events}
+use Rattle.http_relay.specs.Source.{known, MayTell, Agrees, BodyReads}
 use Rattle.http_relay.specs.declared.source_body.SourceBody.{SourceBody}
 
-pub sum_is : (n : ℕ) (ended : Bool) → in_sum (body_events n ended) ≡ n
+pub sum_is : (n : ℕ) (ended : Bool) → in_sum (source_events n ended) ≡ n
 sum_is zero false = refl
 sum_is (suc n) false = omega arith
 sum_is zero true = omega arith
 sum_is (suc n) true = omega arith
 
-only_source : (n : ℕ) (ended : Bool) → AllAre is_of_source (body_events n ended)
+only_source : (n : ℕ) (ended : Bool) → AllAre is_of_source (source_events n ended)
 only_source zero false = tt
 only_source (suc n) false = (refl, tt)
 only_source zero true = (refl, tt)
@@ -32,7 +32,7 @@ record Told (x y : Seen) (n : ℕ) (ended : Bool) : Type 0 where
   end : x.ended ≡ false → y.ended ≡ ended
   plan : y.plan ≡ x.plan
 
-told : (x : Seen) (n : ℕ) (ended : Bool) → Told x (after_all x (body_events n ended)) n ended
+told : (x : Seen) (n : ℕ) (ended : Bool) → Told x (after_all x (source_events n ended)) n ended
 told x zero false = record { count = omega arith; end = λ e. e; plan = refl }
 told x (suc n) false = record { count = refl; end = λ e. e; plan = refl }
 told x zero true = record { count = omega arith; end = λ e. refl; plan = refl }
@@ -47,7 +47,7 @@ pub if_more : (o : Option ℕ) (P Q : ℕ → Type 0) → ((n : ℕ) → P n →
 if_more Nothing P Q f h = tt
 if_more (Some n) P Q f h = f n h
 
-may_tell : (s : SourceBody) (n : ℕ) (ended : Bool) (x : Seen) → Fits s n ended → s.ended ≡ false → Agrees x s → x.closed ≡ false → MayAllFollow x (body_events n ended)
+may_tell : (s : SourceBody) (n : ℕ) (ended : Bool) (x : Seen) → MayTell s n ended → s.ended ≡ false → Agrees x s → x.closed ≡ false → MayAllFollow x (source_events n ended)
 may_tell s zero false x f e a c = tt
 may_tell s (suc n) false x f e a c =
     let now : x.ended ≡ false = a.ended ∙ e in
@@ -88,10 +88,10 @@ agrees_then s new n ended x y t e way count end a = record {
 
 -- so many bytes of the body were read, and its end
 pub tells : (s new : SourceBody) (raw out : List ℕ) (used n : ℕ) (ended : Bool) → s.ended ≡ false → new.framing ≡ s.framing → new.received ≡ s.received + n → new.ended ≡ ended
-    → ReadsOn s.reader raw used (take n out) new.reader → n ≤ length out → ended ≡ is_over new.reader → Fits s n ended → BodyReads s new (body_events n ended) (take used raw) (take n out)
+    → ReadsOn s.reader raw used (take n out) new.reader → n ≤ length out → ended ≡ is_over new.reader → MayTell s n ended → BodyReads s new (source_events n ended) (take used raw) (take n out)
 tells s new raw out used n ended e way count end on l over f = record {
   only = only_source n ended;
-  legal = λ x a c. (may_tell s n ended x f e a c, agrees_then s new n ended x (after_all x (body_events n ended)) (told x n ended) e way count end a);
+  legal = λ x a c. (may_tell s n ended x f e a c, agrees_then s new n ended x (after_all x (source_events n ended)) (told x n ended) e way count end a);
   reads = λ x body text h.
       let t = told x n ended in
       let long : length (take n out) ≡ n = length-take-le n out l in

@@ -10,7 +10,7 @@ use Rattle.http_side.specs.declared.body.BodyReader.{BodyReader}
 use Rattle.http_side.proofs.Ends.{over_is}
 use Rattle.adapt_sides.specs.declared.fault.RelayFault.TheVariants as faults
 use Rattle.http_relay.specs.Body.{ReadsOn}
-use Rattle.http_relay.specs.Source.{known, Fits, Refuses}
+use Rattle.http_relay.specs.Source.{known, MayTell, Refuses}
 use Rattle.http_relay.specs.declared.source_body.SourceBody.{SourceBody}
 use Rattle.http_relay.proofs.Telling.{if_more}
 
@@ -36,13 +36,13 @@ closed_is Close text body h = tt
 
 -- what doesn't fit, although it is within the length, is too long to count
 passes : (s : SourceBody) (n : ℕ) (ended : Bool) → IfSome (known s.framing) (λ len. s.received + n ≤ len) → (ended ≡ true → IfSome (known s.framing) (λ len. s.received + n ≡ len))
-    → (Fits s n ended → ⊥) → (COUNT_LIMIT ≤ s.received + n) × IfSome (known s.framing) (λ len. COUNT_LIMIT ≤ len)
+    → (MayTell s n ended → ⊥) → (COUNT_LIMIT ≤ s.received + n) × IfSome (known s.framing) (λ len. COUNT_LIMIT ≤ len)
 passes s n ended within at not =
     let long : COUNT_LIMIT < s.received + n + 1 = lt_of_not-le (λ l. not (record { sum = omega (arith, l); len = within; end = at })) in
     (omega (arith, long), if_more (known s.framing) (λ len. s.received + n ≤ len) (λ len. COUNT_LIMIT ≤ len) (λ len h. omega (arith, long, h)) within)
 
 pub too_long : (s : SourceBody) (raw out : List ℕ) (used n : ℕ) (ended : Bool) (new : BodyReader) → ReadsOn s.reader raw used (take n out) new → n ≤ length out → n ≤ length raw → ended ≡ is_over new
-    → (Fits s n ended → ⊥) → Refuses faults.Length s raw
+    → (MayTell s n ended → ⊥) → Refuses faults.Length s raw
 too_long s raw out used n ended new on l few over not x body text a b =
     let there : HasRead s.framing (text ++ take used raw) (body ++ take n out) new = on s.framing text body b.reads in
     let sum : length (body ++ take n out) ≡ s.received + n = omega (arith, length-append body (take n out), length-take-le n out l, a.received, b.count) in
@@ -54,7 +54,7 @@ too_long s raw out used n ended new on l few over not x body text a b =
     let p = passes s n ended within at not in
     (omega (arith, p.0, few), p.1)
 
-pub too_long_closed : (s : SourceBody) → ((way : Framing) (text body : List ℕ) → HasRead way text body s.reader → IsClosedBody way text body) → (Fits s 0 true → ⊥) → Refuses faults.Length s []
+pub too_long_closed : (s : SourceBody) → ((way : Framing) (text body : List ℕ) → HasRead way text body s.reader → IsClosedBody way text body) → (MayTell s 0 true → ⊥) → Refuses faults.Length s []
 too_long_closed s closed not x body text a b =
     let sum : length body ≡ s.received + 0 = omega (arith, a.received, b.count) in
     let at : IfSome (known s.framing) (λ len. s.received + 0 ≡ len) =

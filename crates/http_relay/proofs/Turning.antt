@@ -8,7 +8,7 @@ use Rattle.http_relay.specs.Source.{Agrees, BodyReads, IsCutShort, MustWait, Ref
 use Rattle.wire_kit.specs.Past.{IsLater}
 use Rattle.wire_kit.specs.declared.wire.Got.{Got}
 use Rattle.wire_kit.specs.declared.wire.Got.TheVariants as got
-use Rattle.adapt_sides.specs.Turns.{HasReason, SaysWaiting, Remembers, ReadsBody, events_of, waits_of}
+use Rattle.adapt_sides.specs.Turns.{HasReason, OfRelayWire, SaysWaiting, Remembers, ReadsBody, events_of, waits_of}
 use Rattle.http_relay.specs.Reading.{SideRead, SideReads, Rests, HasFramed, IsCause, IsReadDue, ReadsWhereDue, FitsGot, ReadTurn}
 use Rattle.adapt_sides.specs.Filling.{IsFilled}
 use Rattle.adapt_sides.specs.declared.fault.RelayFault.{RelayFault}
@@ -313,16 +313,19 @@ never_waits result g e h = let odd : false ≡ true = sym (ap (λ (r : Result Tu
 
 -- why it waits, or failed
 reason : (room : ℕ) (new : SourceSide) (p : Past) (given : List ℕ) (answer : Option Got) (fault : Option RelayFault) (result : Result Turn RelayFault) → FitsGot room new answer result
-    → HasReason Device p (after_ask p given answer) fault (Rests room new) (λ past. past.read_waits) result
-reason room new p given None fault (Ok turn) f = record { device = λ e n. cc; waiting = λ h. inl (f h) }
-reason room new p given None fault (Err g) f = record { device = λ e n. let is : g ≡ Device = cc in absurd (f.1 is); waiting = λ h. cc }
-reason room new p given (Some (got.Bytes n)) fault (Ok turn) f = record { device = λ e n. cc; waiting = λ h. let odd : true ≡ false = sym h ∙ f in cc }
-reason room new p given (Some (got.Bytes n)) fault (Err g) f = record { device = λ e n. let is : g ≡ Device = cc in absurd (f.1 is); waiting = λ h. cc }
-reason room new p given (Some got.Ended) fault (Ok turn) f = record { device = λ e n. cc; waiting = λ h. let odd : true ≡ false = sym h ∙ f in cc }
-reason room new p given (Some got.Ended) fault (Err g) f = record { device = λ e n. let is : g ≡ Device = cc in absurd (f is); waiting = λ h. cc }
-reason room new p given (Some got.Wait) fault (Ok turn) f = record { device = λ e n. cc; waiting = λ h. inr (omega arith) }
+    → HasReason OfRelayWire p (after_ask p given answer) fault (Rests room new) (λ past. past.read_waits) result
+reason room new p given None fault (Ok turn) f = record { failed = λ h e n. cc; waiting = λ h. inl (f h) }
+reason room new p given None fault (Err g) f = record { failed = λ h e n. let is : g ≡ h = cc in ((λ d. absurd (f.1 (is ∙ d))), (λ c. absurd (f.0 (is ∙ c)))); waiting = λ h. cc }
+reason room new p given (Some (got.Bytes n)) fault (Ok turn) f = record { failed = λ h e n. cc; waiting = λ h. let odd : true ≡ false = sym h ∙ f in cc }
+reason room new p given (Some (got.Bytes n)) fault (Err g) f = record { failed = λ h e n. let is : g ≡ h = cc in ((λ d. absurd (f.1 (is ∙ d))), (λ c. absurd (f.0 (is ∙ c)))); waiting = λ h. cc }
+reason room new p given (Some got.Ended) fault (Ok turn) f = record { failed = λ h e n. cc; waiting = λ h. let odd : true ≡ false = sym h ∙ f in cc }
+reason room new p given (Some got.Ended) fault (Err g) f = record { failed = λ h e n. let is : g ≡ h = cc in ((λ d. absurd (f (is ∙ d))), (λ c. omega arith)); waiting = λ h. cc }
+reason room new p given (Some got.Wait) fault (Ok turn) f = record { failed = λ h e n. cc; waiting = λ h. inr (omega arith) }
 reason room new p given (Some got.Wait) fault (Err g) f = absurd f
-reason room new p given (Some got.Fault) fault result f = record { device = λ e n. omega arith; waiting = λ h. absurd (never_waits result Device f h) }
+reason room new p given (Some got.Fault) fault result f = record {
+  failed = λ h e n. ((λ d. omega arith), (λ c. let odd : Closed ≡ Device = sym c ∙ (let same : Err h ≡ Err Device = sym e ∙ f in cc) in cc));
+  waiting = λ h. absurd (never_waits result Device f h);
+}
 
 -- so it is what a transaction asks of a source
 pub as_source : (room : ℕ) (old new : SourceSide) (P Q : Past → Type 0) (out : List ℕ) (result : Result Turn RelayFault) → length out ≡ room → Remembers old.fault new.fault result → ReadTurn room old new P Q out result
@@ -346,7 +349,7 @@ source_again room s P out fault f =
     let k : SideReads s s [] [] [] = filled_more s s [] refl refl refl (sym (append-nil s.raw.items)) in
     record {
       delta = [];
-      wire = λ p b. (p, b, later_none p, record { device = λ e n. (let odd : Some fault ≡ None = sym f ∙ n in cc); waiting = λ w. cc });
+      wire = λ p b. (p, b, later_none p, record { failed = λ h e n. (let odd : Some fault ≡ None = sym f ∙ n in cc); waiting = λ w. cc });
       only = tt;
       count = zero_le (length out);
       framed = λ w. cc;

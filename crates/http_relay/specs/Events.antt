@@ -9,6 +9,6 @@ in_events zero = []
 in_events (suc n) = In (suc n) ∷ []
 
 -- and then its end, if it has come
-abbrev pub body_events : ℕ → Bool → List Event
-body_events n false = in_events n
-body_events n true = in_events n ++ End ∷ []
+abbrev pub source_events : ℕ → Bool → List Event
+source_events n false = in_events n
+source_events n true = in_events n ++ End ∷ []

@@ -104,9 +104,9 @@ pub data BreaksLength (x : Seen) (framing : Framing) : Type 0 where
 abbrev pub usr_events : ℕ → List Event
 usr_events n = if n == 0 then [] else Usr n ∷ []
 
-abbrev pub turn_events : ℕ → Bool → List Event
-turn_events n true = usr_events n ++ Done ∷ []
-turn_events n false = usr_events n
+abbrev pub hop_events : ℕ → Bool → List Event
+hop_events n true = usr_events n ++ Done ∷ []
+hop_events n false = usr_events n
 
 -- the stage once the body's end is fixed
 abbrev pub stage_then : Stage → Bool → Stage

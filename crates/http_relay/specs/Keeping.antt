@@ -73,8 +73,8 @@ begun x other head body taken g old w touched fault s e t h = record {
   untouched = λ n. h.untouched (sym t ∙ n);
 }
 
-pub refused : (status : ℕ) (w : Writer) (touched : Bool) (fault : Option RelayFault) → w ≡ fresh (refusal status) → IsAside [] (record { writer = w; framing = by.None; stage = at.Refusal status; touched = touched; fault = fault })
-refused status w touched fault e = record { text = ap waiting e ∙ append-nil (refusal status); untouched = λ n. refl }
+pub refused : (status : ℕ) (w : Writer) (framing : Framing) (touched : Bool) (fault : Option RelayFault) → w ≡ fresh (refusal status) → IsAside [] (record { writer = w; framing = framing; stage = at.Refusal status; touched = touched; fault = fault })
+refused status w framing touched fault e = record { text = ap waiting e ∙ append-nil (refusal status); untouched = λ n. refl }
 
 -- what the message's front depends on is the same
 record Keeps (x y : Seen) : Type 0 where

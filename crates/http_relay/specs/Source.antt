@@ -21,7 +21,7 @@ known Chunked = Nothing
 known Close = Nothing
 
 -- so many more bytes of the body may be told, and then its end
-pub record Fits (s : SourceBody) (count : ℕ) (ended : Bool) : Type 0 where
+pub record MayTell (s : SourceBody) (count : ℕ) (ended : Bool) : Type 0 where
   pub sum : s.received + count < COUNT_LIMIT
   pub len : IfSome (known s.framing) (λ len. s.received + count ≤ len)
   pub end : ended ≡ true → IfSome (known s.framing) (λ len. s.received + count ≡ len)

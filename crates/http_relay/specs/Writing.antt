@@ -15,7 +15,7 @@ use Rattle.http_relay.specs.declared.hop.Stage.TheVariants as at
 use Rattle.trace_core.specs.Turns.{after_all, MayAllFollow}
 use Rattle.adapt_sides.specs.Tapes.{Follows, chosen_delivered}
 use Rattle.adapt_sides.specs.Turns.{events_of}
-use Rattle.http_relay.specs.Giving.{Hop, HasGiven, IsAside, NothingDue, BreaksLength, Decides, is_message, turn_events, gift_of}
+use Rattle.http_relay.specs.Giving.{Hop, HasGiven, IsAside, NothingDue, BreaksLength, Decides, is_message, hop_events, gift_of}
 
 -- so many bytes of the body, the next ones on its tape, are among those that the wire took
 pub record TookBody (x : Seen) (tape : Tape) (count : ℕ) (delta : List ℕ) : Type 0 where
@@ -30,7 +30,7 @@ pub record GoesOn (x : Seen) (tape : Tape) (old new : Hop) (events : List Event)
   pub aside : (taken : List ℕ) → IsAside taken old → IsAside (taken ++ delta) new
   pub sent : ℕ
   pub done : Bool
-  pub events_are : events ≡ turn_events sent done
+  pub events_are : events ≡ hop_events sent done
   pub counted : TookBody x tape sent delta
   pub whole : done ≡ true → (new.stage ≡ at.Whole) × (waiting new.writer ≡ [])
   pub framing : new.framing ≡ old.framing

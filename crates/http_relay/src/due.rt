@@ -1,16 +1,15 @@
 //! What may go to the next hop next.
 
-ghost use Rattle.arrayvec.specs.ArrayVec.{array_vec_len};
-ghost use Rattle.std.specs.Prelude.{◌≡◌, ◌+◌, ◌<◌, ◌≤◌, ◌++◌, ◌∷◌, [], IfSome, true, false, Some, None};
+ghost use Rattle.std.specs.Prelude.{◌≡◌, ◌+◌, ◌≤◌, [], IfSome, true, false, Some, None};
 ghost use Rattle.trace_core.specs.History.{seen};
 ghost use Rattle.trace_core.specs.Legal.{IsGreatest, MayFollow};
 ghost use Rattle.chunk_writer.specs.Writer.{is_ending, end_text};
 ghost use Rattle.http_relay.specs.Message.{is_chunked, length_of};
 ghost use Rattle.adapt_sides.specs.Tapes.{chosen_delivered, chosen_received, chosen_over};
-ghost use Rattle.http_relay.specs.Giving.{is_message, body_end, Decides, BreaksLength, turn_events};
+ghost use Rattle.http_relay.specs.Giving.{is_message, body_end, Decides, BreaksLength, hop_events};
 
 use crate::hop::Stage;
-use adapt_sides::Turn;
+use adapt_sides::{Turn, push_event};
 use arrayvec::ArrayVec;
 use chunk_writer::{ChunkWriter, Ending, Next};
 use http_side::Framing;
@@ -136,25 +135,17 @@ fn body_ending(framing: Framing) -> Ending
 }
 
 pub(crate) fn turn_of(sent: u64, done: bool, moved: bool) -> Turn
-    ensures events { result.events.items ≡ turn_events sent done }
+    ensures events { result.events.items ≡ hop_events sent done }
     ensures waits { result.waiting ≡ true → (result.events.items ≡ []) × (moved ≡ false) }
     ensures goes { result.waiting ≡ false → (moved ≡ false) → result.events.items ≡ [] → ⊥ }
 {
     let mut events = ArrayVec::new();
     if sent > 0 {
-        push(&mut events, Event::Usr(sent));
+        push_event(&mut events, Event::Usr(sent));
     }
     if done {
-        push(&mut events, Event::Done);
+        push_event(&mut events, Event::Done);
     }
     let waiting = sent == 0 && !done && !moved;
     Turn { events, waiting }
-}
-
-fn push(events: &mut ArrayVec<Event, 4>, event: Event)
-    requires { array_vec_len events.old < 4 }
-    ensures items { events.new.items ≡ events.old.items ++ event ∷ [] }
-    ensures len { array_vec_len events.new ≡ array_vec_len events.old + 1 }
-{
-    events.push(event);
 }

@@ -82,11 +82,10 @@ impl NextHop {
     pub fn refuse(&mut self, status: u16)
         requires untouched { self.old.touched ≡ false }
         requires own { IsTrue (is_own_status status) }
-        ensures shows { self.new ≡ record { writer = fresh (refusal status); framing = Framing.None; stage = Stage.Refusal status; touched = false; fault = self.old.fault } }
+        ensures shows { self.new ≡ record { writer = fresh (refusal status); framing = self.old.framing; stage = Stage.Refusal status; touched = false; fault = self.old.fault } }
         ensures aside { IsAside [] self.new }
     {
         self.writer = ChunkWriter::constant(own_refusal(status));
-        self.framing = Framing::None;
         self.stage = Stage::Refusal(status);
     }
 

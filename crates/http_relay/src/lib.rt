@@ -5,7 +5,6 @@ mod body;
 mod due;
 mod hop;
 pub mod laws;
-mod pieces;
 mod side;
 mod source_body;
 mod traits;

@@ -3,8 +3,8 @@
 ghost use Rattle.std.specs.Prelude.{◌≡◌, ℕ, ◌+◌, ◌<◌, ◌≤◌, ◌↔◌, ◌⊎◌, List, [], length, take, drop, IfOk, IfErr, OnErr, IfSome, Some, true, false, IsTrue};
 ghost use Rattle.http_side.specs.Body.{HasRead};
 ghost use Rattle.trace_core.specs.Turns.{in_sum};
-ghost use Rattle.http_relay.specs.Events.{body_events};
-ghost use Rattle.http_relay.specs.Source.{Agrees, Fits, BodyReads, IsCutShort, MustWait, Refuses, known};
+ghost use Rattle.http_relay.specs.Events.{source_events};
+ghost use Rattle.http_relay.specs.Source.{Agrees, MayTell, BodyReads, IsCutShort, MustWait, Refuses, known};
 
 use crate::body::read_body;
 use adapt_bytes::COUNT_LIMIT;
@@ -97,8 +97,8 @@ impl SourceBody {
     }
 
     /// Whether so many more bytes may be told, and then the end.
-    fn fits(&self, count: u64, ended: bool) -> bool
-        ensures { IsTrue result ↔ Fits self.now count ended }
+    fn may_tell(&self, count: u64, ended: bool) -> bool
+        ensures { IsTrue result ↔ MayTell self.now count ended }
     {
         if self.received >= COUNT_LIMIT || count >= COUNT_LIMIT - self.received {
             return false;
@@ -129,7 +129,7 @@ impl SourceBody {
         let mut next = self.reader;
         match read_body(&mut next, raw, out) {
             Ok(copied) => {
-                if !self.fits(copied.count as u64, copied.ended) {
+                if !self.may_tell(copied.count as u64, copied.ended) {
                     return Err(RelayFault::Length);
                 }
                 self.reader = next;
@@ -137,7 +137,7 @@ impl SourceBody {
                 self.ended = copied.ended;
                 Ok(Framed {
                     used: copied.used,
-                    events: body_events(copied.count, copied.ended),
+                    events: source_events(copied.count, copied.ended),
                 })
             }
             Err(_) => Err(RelayFault::Chunk),
@@ -148,7 +148,7 @@ impl SourceBody {
     pub(crate) fn close(&mut self) -> Result<ArrayVec<Event, 4>, RelayFault>
         requires { self.old.ended ≡ false }
         ensures none { IfOk result (λ events. in_sum events.items ≡ 0) }
-        ensures some { IfOk result (λ events. events.items ≡ body_events 0 true) }
+        ensures some { IfOk result (λ events. events.items ≡ source_events 0 true) }
         ensures reads { IfOk result (λ events. BodyReads self.old self.new events.items [] []) }
         ensures refuses { IfErr result (λ fault. Refuses fault self.old [] ⊎ ((fault ≡ RelayFault.Closed) × IsCutShort self.old)) }
         ensures err { OnErr result (self.new ≡ self.old) }
@@ -157,17 +157,17 @@ impl SourceBody {
         if !self.reader.at_close() {
             return Err(RelayFault::Closed);
         }
-        if !self.fits(0, true) {
+        if !self.may_tell(0, true) {
             return Err(RelayFault::Length);
         }
         self.ended = true;
-        Ok(body_events(0, true))
+        Ok(source_events(0, true))
     }
 }
 
 /// The events of so many bytes of the body, and of its end.
-fn body_events(count: usize, ended: bool) -> ArrayVec<Event, 4>
-    ensures { result.items ≡ body_events count ended }
+fn source_events(count: usize, ended: bool) -> ArrayVec<Event, 4>
+    ensures { result.items ≡ source_events count ended }
 {
     let mut events = ArrayVec::new();
     if count > 0 {

@@ -13,7 +13,7 @@ impl Source for SourceSide {
     ghost use Rattle.trace_core.specs.History.{seen};
     ghost use Rattle.http_relay.specs.declared.side.SourceHead.TheVariants as unread;
     ghost use Rattle.http_relay.specs.Source.{Agrees};
-    ghost use Rattle.http_relay.specs.Reading.{SideRead, Rests, HasFramed};
+    ghost use Rattle.http_relay.specs.Reading.{SideRead, Rests, HasFramed, IsCause};
     ghost use Rattle.http_relay.specs.SourceLaws as laws;
 
     type Head = SourceHead;
@@ -29,6 +29,8 @@ impl Source for SourceSide {
     ghost may_begin = { λ plan s. (s.head ≡ unread.Unread → ⊥) × (s.fault ≡ None) × Agrees (seen plan []) s.body };
 
     ghost rests = { Rests };
+
+    ghost has_reason = { IsCause };
 
     ghost is_framed = { HasFramed };
 
@@ -54,7 +56,7 @@ impl Source for SourceSide {
 impl Hop for NextHop {
     ghost use Rattle.std.specs.Prelude.{not};
     ghost use Rattle.http_relay.specs.Message.{IsMessage};
-    ghost use Rattle.http_relay.specs.Giving.{HasGiven, IsAside, NothingDue, gift_of, is_flushed};
+    ghost use Rattle.http_relay.specs.Giving.{HasGiven, IsAside, NothingDue, BreaksLength, gift_of, is_flushed};
     ghost use Rattle.http_relay.specs.HopLaws as laws;
 
     type Framing = Framing;
@@ -62,6 +64,8 @@ impl Hop for NextHop {
     ghost gift = { λ h. gift_of h.stage };
 
     ghost body_framing = { λ h. h.framing };
+
+    ghost breaks_length = { BreaksLength };
 
     ghost fault = { λ h. h.fault };
 

@@ -4,7 +4,7 @@ use Rattle.std.specs.List.{list_any}
 use Rattle.http_uri.specs.Uri.{Spells, uri_scheme, uri_authority}
 use Rattle.http_uri.specs.Grammar.{authority_host}
 use Rattle.http_uri.specs.declared.uri.Uri.{Uri as Target}
-use Rattle.http_side.specs.declared.targets.TheConstants.{MAX_PORT}
+use Rattle.adapt_bytes.specs.declared.limits.TheConstants.{MAX_PORT}
 use Rattle.http_side.specs.Lengths.{length_value}
 use Rattle.http_side.specs.Heads.{RequestParts, is_options}
 

@@ -32,4 +32,3 @@ pub use refusal::own_refusal;
 pub use request::{HttpRequest, read_request};
 pub use response::{HttpResponse, read_response};
 pub use std::alloc::AllocError as NoMemory;
-pub use targets::MAX_PORT;

@@ -1,10 +1,13 @@
 -- How a reader finds `ieof` in an extension.
-use Rattle.std.proofs.Common.{◌≡◌, ℕ, Bool, true, false, ◌||◌, ◌&&◌, List, [], ◌∷◌, ◌++◌, refl, sym, ap, ◌∙◌, if◌then◌else◌, ◌==◌}
-use Rattle.std.specs.List.{list_any, list_all}
+use Rattle.std.proofs.Common.{◌≡◌, ℕ, Bool, true, false, ◌||◌, ◌&&◌, List, [], ◌∷◌, ◌++◌, map, reverse, refl, sym, ap, ◌∙◌, if◌then◌else◌, ◌==◌, eqb-true, bytes_eq, codes}
+use Rattle.std.specs.List.{list_any, onto_first}
+use Rattle.std.specs.Char.{to_ascii_lowercase}
+use Rattle.std.specs.Str.{str_eq_ignore_ascii_case}
+use Rattle.std.proofs.lemmas.List.{reverse-append}
 use Rattle.icap_chunks.specs.declared.extension.Item.{Item}
 use Rattle.icap_chunks.specs.declared.extension.Item.TheVariants.{Blank, I, Ie, Ieo, Ieof, Other}
-use Rattle.adapt_bytes.specs.Text.{is_blank, skip_blanks}
-use Rattle.icap_chunks.specs.Grammar.{items, with_front, is_letter, is_word, is_ieof}
+use Rattle.adapt_bytes.specs.Text.{is_blank, skip_blanks, trim}
+use Rattle.icap_chunks.specs.Grammar.{items, is_ieof}
 use Rattle.icap_chunks.proofs.Standing.{extension_with, extension_behind}
 use Rattle.icap_chunks.specs.Machine as machine
 
@@ -21,65 +24,116 @@ unfolding machine.item_with machine.is_word
 other [] = refl
 other (b ∷ bytes) = other bytes
 
--- one test, and what follows from it
-chosen : (t : Bool) (i j : Item) (bytes : List ℕ) (x : Bool) → tells i bytes ≡ x → tells j bytes ≡ false → tells (if t then i else j) bytes ≡ (t && x)
-chosen true i j bytes x p q = p
-chosen false i j bytes x p q = q
+-- a byte before a text without blanks at its end; the byte is a blank, or it isn't
+abbrev kept : Bool → ℕ → List ℕ → List ℕ
+kept blank b [] = if blank then [] else b ∷ []
+kept blank b (c ∷ text) = b ∷ (c ∷ text)
 
-behind_ieof : (bytes : List ℕ) → tells Ieof bytes ≡ list_all is_blank bytes
+-- the text without the blanks at its end
+abbrev trimmed_end : List ℕ → List ℕ
+trimmed_end [] = []
+trimmed_end (b ∷ text) = kept (is_blank b) b (trimmed_end text)
+
+kept_last : (blank : Bool) (b : ℕ) (text : List ℕ) (c : ℕ) → kept blank b (text ++ c ∷ []) ≡ b ∷ (text ++ c ∷ [])
+kept_last blank b [] c = refl
+kept_last blank b (x ∷ text) c = refl
+
+skip_last : (text : List ℕ) (b : ℕ) → reverse (skip_blanks (text ++ b ∷ [])) ≡ kept (is_blank b) b (reverse (skip_blanks text))
+skip_last [] b = by_test (is_blank b)
+  where
+    by_test : (t : Bool) → reverse (if t then [] else b ∷ []) ≡ (if t then [] else b ∷ [])
+    by_test true = refl
+    by_test false = refl
+skip_last (c ∷ text) b = by_test (is_blank c) (skip_last text b)
+  where
+    turned : reverse (c ∷ text) ≡ reverse text ++ c ∷ []
+    turned = reverse-append (c ∷ []) text
+
+    whole : reverse ((c ∷ text) ++ b ∷ []) ≡ kept (is_blank b) b (reverse (c ∷ text))
+    whole = reverse-append (c ∷ text) (b ∷ []) ∙ ap (λ x. b ∷ x) turned ∙ sym (kept_last (is_blank b) b (reverse text) c) ∙ ap (kept (is_blank b) b) (sym turned)
+
+    by_test : (t : Bool) → reverse (skip_blanks (text ++ b ∷ [])) ≡ kept (is_blank b) b (reverse (skip_blanks text))
+        → reverse (if t then skip_blanks (text ++ b ∷ []) else c ∷ (text ++ b ∷ [])) ≡ kept (is_blank b) b (reverse (if t then skip_blanks text else c ∷ text))
+    by_test true h = h
+    by_test false h = whole
+
+trimmed_end_is : (text : List ℕ) → reverse (skip_blanks (reverse text)) ≡ trimmed_end text
+trimmed_end_is [] = refl
+trimmed_end_is (b ∷ text) = ap (λ x. reverse (skip_blanks x)) (reverse-append (b ∷ []) text) ∙ skip_last (reverse text) b ∙ ap (kept (is_blank b) b) (trimmed_end_is text)
+
+-- the text spells the lower-case word, with any blanks at its end
+abbrev spells : List ℕ → List ℕ → Bool
+spells word text = bytes_eq (map to_ascii_lowercase (trimmed_end text)) word
+
+behind_ieof : (bytes : List ℕ) → tells Ieof bytes ≡ spells [] bytes
 unfolding machine.item_with machine.is_word
 behind_ieof [] = refl
-behind_ieof (b ∷ bytes) = chosen (is_blank b) Ieof Other bytes _ (behind_ieof bytes) (other bytes)
+behind_ieof (b ∷ bytes) = by_test (is_blank b) (trimmed_end bytes) (behind_ieof bytes)
+  where
+    by_test : (t : Bool) (rest : List ℕ) → tells Ieof bytes ≡ bytes_eq (map to_ascii_lowercase rest) []
+        → tells (if t then Ieof else Other) bytes ≡ bytes_eq (map to_ascii_lowercase (kept t b rest)) []
+    by_test true [] h = h
+    by_test true (c ∷ rest) h = h
+    by_test false [] h = other bytes
+    by_test false (c ∷ rest) h = other bytes
 
-abbrev word_f : List ℕ → Bool
-word_f [] = false
-word_f (d ∷ rest) = is_letter 102 d && list_all is_blank rest
+-- a letter isn't a blank
+abbrev IsNoBlank : ℕ → Type 0
+IsNoBlank letter = (b : ℕ) → is_blank b ≡ true → (to_ascii_lowercase b == letter) ≡ false
 
-behind_ieo : (bytes : List ℕ) → tells Ieo bytes ≡ word_f bytes
+no_blank : (letter : ℕ) → (to_ascii_lowercase 32 == letter) ≡ false → (to_ascii_lowercase 9 == letter) ≡ false → IsNoBlank letter
+no_blank letter space tab b h = by_test (b == 32) refl h
+  where
+    by_test : (t : Bool) → (b == 32) ≡ t → (t || b == 9) ≡ true → (to_ascii_lowercase b == letter) ≡ false
+    by_test true e k = ap (λ x. to_ascii_lowercase x == letter) (eqb-true b 32 e) ∙ space
+    by_test false e k = ap (λ x. to_ascii_lowercase x == letter) (eqb-true b 9 k) ∙ tab
+
+-- one letter of the word, and what is behind it
+letter_then : (letter : ℕ) (word : List ℕ) (next : Item) (b : ℕ) (bytes : List ℕ) → IsNoBlank letter → tells next bytes ≡ spells word bytes
+    → tells (if to_ascii_lowercase b == letter then next else Other) bytes ≡ spells (letter ∷ word) (b ∷ bytes)
+letter_then letter word next b bytes apart behind = by_rest (is_blank b) (trimmed_end bytes) (apart b) behind
+  where
+    chosen : (t x : Bool) → tells next bytes ≡ x → tells (if t then next else Other) bytes ≡ (t && x)
+    chosen true x h = h
+    chosen false x h = other bytes
+
+    by_rest : (t : Bool) (rest : List ℕ) → (t ≡ true → (to_ascii_lowercase b == letter) ≡ false) → tells next bytes ≡ bytes_eq (map to_ascii_lowercase rest) word
+        → tells (if to_ascii_lowercase b == letter then next else Other) bytes ≡ bytes_eq (map to_ascii_lowercase (kept t b rest)) (letter ∷ word)
+    by_rest true [] never h = ap (λ x. tells (if x then next else Other) bytes) (never refl) ∙ other bytes
+    by_rest true (c ∷ rest) never h = chosen (to_ascii_lowercase b == letter) _ h
+    by_rest false [] never h = chosen (to_ascii_lowercase b == letter) _ h
+    by_rest false (c ∷ rest) never h = chosen (to_ascii_lowercase b == letter) _ h
+
+behind_ieo : (bytes : List ℕ) → tells Ieo bytes ≡ spells (codes "f") bytes
 unfolding machine.item_with machine.is_word
 behind_ieo [] = refl
-behind_ieo (b ∷ bytes) = chosen (is_letter 102 b) Ieof Other bytes _ (behind_ieof bytes) (other bytes)
+behind_ieo (b ∷ bytes) = letter_then 102 [] Ieof b bytes (no_blank 102 refl refl) (behind_ieof bytes)
 
-abbrev word_of : List ℕ → Bool
-word_of [] = false
-word_of (c ∷ rest) = is_letter 111 c && word_f rest
-
-behind_ie : (bytes : List ℕ) → tells Ie bytes ≡ word_of bytes
+behind_ie : (bytes : List ℕ) → tells Ie bytes ≡ spells (codes "of") bytes
 unfolding machine.item_with machine.is_word
 behind_ie [] = refl
-behind_ie (b ∷ bytes) = chosen (is_letter 111 b) Ieo Other bytes _ (behind_ieo bytes) (other bytes)
+behind_ie (b ∷ bytes) = letter_then 111 (codes "f") Ieo b bytes (no_blank 111 refl refl) (behind_ieo bytes)
 
-abbrev word_eof : List ℕ → Bool
-word_eof [] = false
-word_eof (b ∷ rest) = is_letter 101 b && word_of rest
-
-behind_i : (bytes : List ℕ) → tells I bytes ≡ word_eof bytes
+behind_i : (bytes : List ℕ) → tells I bytes ≡ spells (codes "eof") bytes
 unfolding machine.item_with machine.is_word
 behind_i [] = refl
-behind_i (b ∷ bytes) = chosen (is_letter 101 b) Ie Other bytes _ (behind_ie bytes) (other bytes)
+behind_i (b ∷ bytes) = letter_then 101 (codes "of") Ie b bytes (no_blank 101 refl refl) (behind_ie bytes)
 
-and_false : (t : Bool) → (t && false) ≡ false
-and_false true = refl
-and_false false = refl
-
-whole_word : (b : ℕ) (bytes : List ℕ) → (is_letter 105 b && word_eof bytes) ≡ is_word (b ∷ bytes)
-whole_word b [] = and_false (is_letter 105 b)
-whole_word b (c ∷ []) = ap (λ x. is_letter 105 b && x) (and_false (is_letter 101 c)) ∙ and_false (is_letter 105 b)
-whole_word b (c ∷ d ∷ []) = ap (λ x. is_letter 105 b && (is_letter 101 c && x)) (and_false (is_letter 111 d)) ∙ ap (λ x. is_letter 105 b && x) (and_false (is_letter 101 c)) ∙ and_false (is_letter 105 b)
-whole_word b (c ∷ d ∷ e ∷ rest) = refl
-
-choose_blank : (t : Bool) (b : ℕ) (bytes : List ℕ) → tells Blank bytes ≡ is_ieof bytes
-    → tells (if is_letter 105 b then I else Other) bytes ≡ is_word (b ∷ bytes)
-    → tells (if t then Blank else (if is_letter 105 b then I else Other)) bytes ≡ is_word (if t then skip_blanks bytes else b ∷ bytes)
-choose_blank true b bytes p q = p
-choose_blank false b bytes p q = q
+behind_blanks : (bytes : List ℕ) → tells Blank bytes ≡ spells (codes "ieof") (skip_blanks bytes)
+unfolding machine.item_with machine.is_word
+behind_blanks [] = refl
+behind_blanks (b ∷ bytes) = by_test (is_blank b) (behind_blanks bytes) (letter_then 105 (codes "eof") I b bytes (no_blank 105 refl refl) (behind_i bytes))
+  where
+    by_test : (t : Bool) → tells Blank bytes ≡ spells (codes "ieof") (skip_blanks bytes)
+        → tells (if to_ascii_lowercase b == 105 then I else Other) bytes ≡ spells (codes "ieof") (b ∷ bytes)
+        → tells (if t then Blank else (if to_ascii_lowercase b == 105 then I else Other)) bytes ≡ spells (codes "ieof") (if t then skip_blanks bytes else b ∷ bytes)
+    by_test true p q = p
+    by_test false p q = q
 
 -- an item is `ieof` where the reader has found it so
-pub item_found : (bytes : List ℕ) → machine.is_word (item_behind Blank bytes) ≡ is_ieof bytes
-unfolding machine.item_with machine.is_word
-item_found [] = refl
-item_found (b ∷ bytes) = choose_blank (is_blank b) b bytes (item_found bytes)
-    (chosen (is_letter 105 b) I Other bytes _ (behind_i bytes) (other bytes) ∙ whole_word b bytes)
+item_found : (bytes : List ℕ) → tells Blank bytes ≡ is_ieof bytes
+unfolding trim
+item_found bytes = behind_blanks bytes ∙ ap (λ x. str_eq_ignore_ascii_case x (codes "ieof")) (sym (trimmed_end_is (skip_blanks bytes)))
 
 pub extension_behind-append : (s : Item × Bool) (xs ys : List ℕ) → extension_behind s (xs ++ ys) ≡ extension_behind (extension_behind s xs) ys
 extension_behind-append s [] ys = refl
@@ -107,9 +161,9 @@ unfolding machine.is_word
 any_from_blank [] = refl
 any_from_blank (part ∷ parts) = ap (λ x. x || list_any is_ieof parts) (item_found part)
 
-any_from-with_front : (i : Item) (b : ℕ) (parts : List (List ℕ)) → any_from i (with_front b parts) ≡ any_from (machine.item_with i b) parts
-any_from-with_front i b [] = or_false (tells i (b ∷ []))
-any_from-with_front i b (part ∷ parts) = refl
+any_from-onto_first : (i : Item) (b : ℕ) (parts : List (List ℕ)) → any_from i (onto_first b parts) ≡ any_from (machine.item_with i b) parts
+any_from-onto_first i b [] = or_false (tells i (b ∷ []))
+any_from-onto_first i b (part ∷ parts) = refl
 
 pub answer_behind : (s : Item × Bool) (text : List ℕ) → answer (extension_behind s text) ≡ (s.1 || any_from s.0 (items text))
 answer_behind s [] = ap (λ x. s.1 || x) (sym (or_false (machine.is_word s.0)))
@@ -119,9 +173,9 @@ answer_behind s (b ∷ text) = by_byte (b == 59) s b text (answer_behind (Blank,
         → answer (extension_behind (Blank, s.1 || machine.is_word s.0) text) ≡ ((s.1 || machine.is_word s.0) || any_from Blank (items text))
         → answer (extension_behind (machine.item_with s.0 b, s.1) text) ≡ (s.1 || any_from (machine.item_with s.0 b) (items text))
         → answer (extension_behind (if t then (Blank, s.1 || machine.is_word s.0) else (machine.item_with s.0 b, s.1)) text)
-        ≡ (s.1 || any_from s.0 (if t then [] ∷ items text else with_front b (items text)))
+        ≡ (s.1 || any_from s.0 (if t then [] ∷ items text else onto_first b (items text)))
     by_byte true s b text p q = p ∙ or_assoc s.1 (machine.is_word s.0) _ ∙ ap (λ x. s.1 || (machine.is_word s.0 || x)) (any_from_blank (items text))
-    by_byte false s b text p q = q ∙ ap (λ x. s.1 || x) (sym (any_from-with_front s.0 b (items text)))
+    by_byte false s b text p q = q ∙ ap (λ x. s.1 || x) (sym (any_from-onto_first s.0 b (items text)))
 
 -- a reader has found `ieof` in an extension just where it has such an item
 pub extension_found : (text : List ℕ) → answer (extension_behind (Blank, false) text) ≡ list_any is_ieof (items text)

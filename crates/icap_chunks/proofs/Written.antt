@@ -2,6 +2,7 @@
 use Rattle.std.proofs.Common.{◌≡◌, ℕ, ◌+◌, ◌<◌, Bool, true, false, List, [], ◌∷◌, ◌++◌, length, Some, None, refl, sym, ap, ◌∙◌, subst, arith, append_assoc, length-append, lit<, lit≤}
 use Rattle.std.proofs.lemmas.List.{append-nil}
 use Rattle.adapt_bytes.specs.Numeral.{numeral}
+use Rattle.adapt_bytes.specs.Text.{trim}
 use Rattle.adapt_bytes.proofs.Written.{Writes-numeral, length-numeral-le}
 use Rattle.icap_chunks.specs.Grammar.{crlf, SizeLine, print_line, IsSizeLine, Chunks, chunk, no_line, IsChunked, chunk_head, last_chunk, has_ieof}
 use Rattle.icap_chunks.proofs.Endings.{chunked_ends}
@@ -47,6 +48,7 @@ last_text true = refl
 last_text false = refl
 
 last_ieof : (ieof : Bool) → has_ieof (last_line ieof).extension ≡ ieof
+unfolding trim
 last_ieof true = refl
 last_ieof false = refl
 

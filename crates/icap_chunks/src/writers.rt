@@ -1,7 +1,7 @@
 //! What a chunked body is written as.
 ghost use Rattle.std.specs.Prelude.{◌≡◌, ◌+◌, ◌<◌, ◌≤◌, ◌++◌, length};
 ghost use Rattle.arrayvec.specs.ArrayVec.{array_vec_len};
-ghost use Rattle.adapt_bytes.specs.declared.limits.TheConstants.{COUNT_LIMIT};
+ghost use Rattle.adapt_bytes.specs.declared.limits.TheConstants.{COUNT_LIMIT, MAX_SMALL};
 ghost use Rattle.icap_chunks.specs.Grammar.{chunk_head, last_chunk, crlf};
 
 use adapt_bytes::{Small, put_hex};
@@ -11,7 +11,7 @@ use adapt_bytes::{Small, put_hex};
 pub fn put_chunk_head(n: u64, out: &mut Small)
     requires some { 1 ≤ n }
     requires fits { n < COUNT_LIMIT }
-    requires room { array_vec_len out.old + 18 ≤ 64 }
+    requires room { array_vec_len out.old + 18 ≤ MAX_SMALL }
     ensures items { out.new.items ≡ out.old.items ++ chunk_head n }
     ensures len { array_vec_len out.new ≡ array_vec_len out.old + length (chunk_head n) }
     ensures short { length (chunk_head n) ≤ 18 }
@@ -22,7 +22,7 @@ pub fn put_chunk_head(n: u64, out: &mut Small)
 
 /// Writes what stands behind the bytes of a chunk: CR LF. It needs room for 2 bytes.
 pub fn put_chunk_tail(out: &mut Small)
-    requires { array_vec_len out.old + 2 ≤ 64 }
+    requires { array_vec_len out.old + 2 ≤ MAX_SMALL }
     ensures items { out.new.items ≡ out.old.items ++ crlf }
     ensures len { array_vec_len out.new ≡ array_vec_len out.old + 2 }
 {
@@ -32,7 +32,7 @@ pub fn put_chunk_tail(out: &mut Small)
 /// Writes the last chunk without trailers: `0 CRLF CRLF`, or with `ieof` `0; ieof CRLF CRLF` (RFC 3507, section 4.5).
 /// It needs room for 11 bytes.
 pub fn put_last(ieof: bool, out: &mut Small)
-    requires { array_vec_len out.old + 11 ≤ 64 }
+    requires { array_vec_len out.old + 11 ≤ MAX_SMALL }
     ensures items { out.new.items ≡ out.old.items ++ last_chunk ieof }
     ensures len { array_vec_len out.new ≡ array_vec_len out.old + length (last_chunk ieof) }
     ensures short { length (last_chunk ieof) ≤ 11 }
@@ -45,7 +45,7 @@ pub fn put_last(ieof: bool, out: &mut Small)
 }
 
 fn put_text(text: &[u8], out: &mut Small)
-    requires { array_vec_len out.old + length text.now ≤ 64 }
+    requires { array_vec_len out.old + length text.now ≤ MAX_SMALL }
     ensures items { out.new.items ≡ out.old.items ++ text.now }
     ensures len { array_vec_len out.new ≡ array_vec_len out.old + length text.now }
 {
@@ -56,7 +56,7 @@ fn put_text(text: &[u8], out: &mut Small)
 }
 
 fn put_line_end(out: &mut Small)
-    requires { array_vec_len out.old + 2 ≤ 64 }
+    requires { array_vec_len out.old + 2 ≤ MAX_SMALL }
     ensures items { out.new.items ≡ out.old.items ++ crlf }
     ensures len { array_vec_len out.new ≡ array_vec_len out.old + 2 }
 {

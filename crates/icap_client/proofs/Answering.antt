@@ -13,13 +13,13 @@ use Rattle.chunk_writer.specs.Moves.{Moves, IsStill}
 use Rattle.adapt_sides.specs.declared.turn.Turn.{Turn}
 use Rattle.adapt_sides.specs.declared.fault.ClientFault.{ClientFault}
 use Rattle.adapt_sides.specs.declared.fault.ClientFault.TheVariants.{Device}
-use Rattle.icap_client.specs.Sending.{KeepsUnsent, Decides, NothingDue, turn_events}
+use Rattle.icap_client.specs.Sending.{KeepsUnsent, Decides, NothingDue, sending_events}
 use Rattle.icap_client.specs.Turns.{GoesOn, WriteTurn, FitsOffer, FitsAnswer, events_of}
 use Rattle.icap_client.proofs.Turning.{goes_on, goes_same, nothing_due}
 
 pub turned : (x : Seen) (tape : Tape) (next : Next) (v w : Writer) (before after : Past → Type 0) (result : Result Turn ClientFault) (answer : Option Put) (k : ℕ) (e : Bool)
     → Sound x → KeepsUnsent x tape → Decides x v next → Offers before after (offered v tape next) answer → (answer ≡ None ↔ offered v tape next ≡ []) → Moves tape next v k e (delta_of (offered v tape next) answer) w
-    → events_of result ≡ turn_events k e → FitsOffer x w answer result → WriteTurn x tape v w before after result
+    → events_of result ≡ sending_events k e → FitsOffer x w answer result → WriteTurn x tape v w before after result
 turned x tape next v w before after result answer k e s u c o a m h f = record {
   next = next;
   answer = answer;
@@ -52,13 +52,13 @@ still_fault (Some (put.Took n)) k e a s = cc
 still_fault (Some put.Wait) k e a s = s
 still_fault (Some put.Fault) k e a s = s
 
-none_by : (k : ℕ) (e : Bool) → (k ≡ 0) × (e ≡ false) → [] ≡ turn_events k e
-none_by k e s = subst (λ (n : ℕ). [] ≡ turn_events n e) (sym s.0) (subst (λ (b : Bool). [] ≡ turn_events 0 b) (sym s.1) refl)
+none_by : (k : ℕ) (e : Bool) → (k ≡ 0) × (e ≡ false) → [] ≡ sending_events k e
+none_by k e s = subst (λ (n : ℕ). [] ≡ sending_events n e) (sym s.0) (subst (λ (b : Bool). [] ≡ sending_events 0 b) (sym s.1) refl)
 
-pub none_at_wait : (answer : Option Put) (k : ℕ) (e : Bool) → answer ≡ Some put.Wait → IsStill answer k e → [] ≡ turn_events k e
+pub none_at_wait : (answer : Option Put) (k : ℕ) (e : Bool) → answer ≡ Some put.Wait → IsStill answer k e → [] ≡ sending_events k e
 none_at_wait answer k e a s = none_by k e (still_wait answer k e a s)
 
-pub none_at_fault : (answer : Option Put) (k : ℕ) (e : Bool) → answer ≡ Some put.Fault → IsStill answer k e → [] ≡ turn_events k e
+pub none_at_fault : (answer : Option Put) (k : ℕ) (e : Bool) → answer ≡ Some put.Fault → IsStill answer k e → [] ≡ sending_events k e
 none_at_fault answer k e a s = none_by k e (still_fault answer k e a s)
 
 pub fits_wait : (x : Seen) (w : Writer) (answer : Option Put) (turn : Turn) → answer ≡ Some put.Wait → turn.events.items ≡ [] → (turn.waiting ≡ false → turn.events.items ≡ [] → ⊥) → FitsAnswer x w answer turn
@@ -71,7 +71,7 @@ fits_wait x w answer turn a n t = record {
   woke = λ h i. t h n;
 }
 
-pub fits_none : (x : Seen) (tape : Tape) (next : Next) (v w : Writer) (answer : Option Put) (k : ℕ) (e : Bool) (d : List ℕ) (turn : Turn) → answer ≡ None → Decides x v next → Moves tape next v k e d w → IsIdle v next k e → turn.events.items ≡ turn_events 0 e
+pub fits_none : (x : Seen) (tape : Tape) (next : Next) (v w : Writer) (answer : Option Put) (k : ℕ) (e : Bool) (d : List ℕ) (turn : Turn) → answer ≡ None → Decides x v next → Moves tape next v k e d w → IsIdle v next k e → turn.events.items ≡ sending_events 0 e
     → (turn.waiting ≡ true → turn.events.items ≡ []) → (turn.waiting ≡ false → turn.events.items ≡ [] → ⊥) → FitsAnswer x w answer turn
 fits_none x tape next v w answer k e d turn a c m i h t f = record {
   no_fault = λ b. cc;
@@ -82,5 +82,5 @@ fits_none x tape next v w answer k e d turn a c m i h t f = record {
   woke = λ b o. cc;
 }
 
-pub idle_events : (next : Next) (w : Writer) (k : ℕ) (e : Bool) → IsIdle w next k e → turn_events 0 e ≡ turn_events k e
-idle_events next w k e i = ap (λ (n : ℕ). turn_events n e) (sym i.none_sent)
+pub idle_events : (next : Next) (w : Writer) (k : ℕ) (e : Bool) → IsIdle w next k e → sending_events 0 e ≡ sending_events k e
+idle_events next w k e i = ap (λ (n : ℕ). sending_events n e) (sym i.none_sent)

@@ -25,9 +25,9 @@ use Rattle.icap_client.proofs.Whole.{nothing_heard}
 use Rattle.icap_client.specs.Events.{Follows, ad_sum, is_of_replies}
 use Rattle.icap_client.specs.Sending.{HasSent, Came, KeepsUnsent, NothingDue}
 use Rattle.icap_client.specs.HeadFront.{HasToWait}
-use Rattle.icap_client.specs.Reading.{Side, SideHeard, NothingToRead, FitsGot, CameOf, ReadTurn}
+use Rattle.icap_client.specs.Reading.{Side, SideHeard, NothingToRead, FitsGot, IsCause, CameOf, ReadTurn}
 use Rattle.icap_client.specs.Turns.{WriteTurn, FitsOffer, FitsAnswer, events_of, waits_of, IsLater, SaysWaiting, Remembers, Sends, Hears}
-use Rattle.adapt_sides.specs.Turns.{HasReason as HasCause}
+use Rattle.adapt_sides.specs.Turns.{HasReason, OfClientWire}
 
 -- ---- writing
 
@@ -51,15 +51,16 @@ waits_by x w p bytes answer (inl e) n =
 waits_by x w p bytes answer (inr e) n = inl (n e)
 
 cause : (x : Seen) (w : Writer) (p : Past) (bytes : List ℕ) (answer : Option Put) (fault : Option ClientFault) (result : Result Turn ClientFault) → FitsOffer x w answer result
-    → HasCause Device p (after_offer p bytes answer) fault (NothingDue x w) (λ past. past.write_waits) result
+    → HasReason OfClientWire p (after_offer p bytes answer) fault (NothingDue x w) (λ past. past.write_waits) result
 cause x w p bytes answer fault (Ok turn) f = record {
-  device = λ e n. cc;
+  failed = λ g e n. cc;
   waiting = λ h. let i = f.waiting h in waits_by x w p bytes answer i.1 (λ e. f.idle e i.0);
 }
 cause x w p bytes answer fault (Err g) f = record {
-  device = λ e n.
+  failed = λ h e n.
+      let is : g ≡ h = cc in
       let more : p.faults < (after_offer p bytes (Some put.Fault)).faults = omega arith in
-      subst (λ (a : Option Put). p.faults < (after_offer p bytes a).faults) (sym f.1) more;
+      ((λ d. subst (λ (a : Option Put). p.faults < (after_offer p bytes a).faults) (sym f.1) more), (λ c. let odd : Device ≡ Closed = sym f.0 ∙ (is ∙ c) in cc));
   waiting = λ h. cc;
 }
 
@@ -109,7 +110,7 @@ pub sends_none : (x : Seen) (tape : Tape) (w : Writer) (fault : Option ClientFau
     → Sends x tape (λ head x came taken. HasSent head x came taken w) (λ head x came taken. HasSent head x came taken w) fault fault (NothingDue x w) P P (Err g)
 sends_none x tape w fault g P e = record {
   delta = [];
-  wire = λ p b. (p, b, later_none p, record { device = λ i n. cc; waiting = λ h. cc });
+  wire = λ p b. (p, b, later_none p, record { failed = λ g i n. cc; waiting = λ h. cc });
   only = tt;
   legal = tt;
   goes_on = λ head came taken f h. subst (λ (t : List ℕ). HasSent head x came t w) (sym (append-nil taken)) h;
@@ -133,15 +134,31 @@ never_waits : (result : Result Turn ClientFault) (g : ClientFault) → result �
 never_waits result g e h = let odd : false ≡ true = sym (ap (λ (r : Result Turn ClientFault). waits_of r) e) ∙ h in cc
 
 read_cause : (x : Seen) (a : Bool) (room : ℕ) (stage : Stage) (p : Past) (given : List ℕ) (answer : Option Got) (fault : Option ClientFault) (result : Result Turn ClientFault) → FitsGot x a room stage answer result
-    → HasCause Device p (after_ask p given answer) fault (NothingToRead x a room stage) (λ past. past.read_waits) result
-read_cause x a room stage p given None fault (Ok turn) f = record { device = λ e n. cc; waiting = λ h. inl (f h) }
-read_cause x a room stage p given None fault (Err g) f = record { device = λ e n. let is : g ≡ Device = cc in absurd (f.1 is); waiting = λ h. cc }
-read_cause x a room stage p given (Some (got.Bytes n)) fault (Ok turn) f = record { device = λ e n. cc; waiting = λ h. let odd : true ≡ false = sym h ∙ f in cc }
-read_cause x a room stage p given (Some (got.Bytes n)) fault (Err g) f = record { device = λ e n. let is : g ≡ Device = cc in absurd (f.1 is); waiting = λ h. cc }
-read_cause x a room stage p given (Some got.Ended) fault result f = record { device = λ e n. cc; waiting = λ h. absurd (never_waits result Closed f h) }
-read_cause x a room stage p given (Some got.Wait) fault (Ok turn) f = record { device = λ e n. cc; waiting = λ h. inr (omega arith) }
+    → HasReason OfClientWire p (after_ask p given answer) fault (NothingToRead x a room stage) (λ past. past.read_waits) result
+read_cause x a room stage p given None fault (Ok turn) f = record { failed = λ h e n. cc; waiting = λ h. inl (f h) }
+read_cause x a room stage p given None fault (Err g) f = record { failed = λ h e n. let is : g ≡ h = cc in ((λ d. absurd (f.1 (is ∙ d))), (λ c. absurd (f.0 (is ∙ c)))); waiting = λ h. cc }
+read_cause x a room stage p given (Some (got.Bytes n)) fault (Ok turn) f = record { failed = λ h e n. cc; waiting = λ h. let odd : true ≡ false = sym h ∙ f in cc }
+read_cause x a room stage p given (Some (got.Bytes n)) fault (Err g) f = record { failed = λ h e n. let is : g ≡ h = cc in ((λ d. absurd (f.1 (is ∙ d))), (λ c. absurd (f.0 (is ∙ c)))); waiting = λ h. cc }
+read_cause x a room stage p given (Some got.Ended) fault result f = record {
+  failed = λ h e n. ((λ d. let odd : Device ≡ Closed = sym d ∙ (let same : Err h ≡ Err Closed = sym e ∙ f in cc) in cc), (λ c. omega arith));
+  waiting = λ h. absurd (never_waits result Closed f h);
+}
+read_cause x a room stage p given (Some got.Wait) fault (Ok turn) f = record { failed = λ h e n. cc; waiting = λ h. inr (omega arith) }
 read_cause x a room stage p given (Some got.Wait) fault (Err g) f = absurd f
-read_cause x a room stage p given (Some got.Fault) fault result f = record { device = λ e n. omega arith; waiting = λ h. absurd (never_waits result Device f h) }
+read_cause x a room stage p given (Some got.Fault) fault result f = record {
+  failed = λ h e n. ((λ d. omega arith), (λ c. let odd : Closed ≡ Device = sym c ∙ (let same : Err h ≡ Err Device = sym e ∙ f in cc) in cc));
+  waiting = λ h. absurd (never_waits result Device f h);
+}
+
+-- a write's first fault is the wire's
+pub offer_fails : (x : Seen) (w : Writer) (answer : Option Put) (result : Result Turn ClientFault) → FitsOffer x w answer result → (fault : ClientFault) → result ≡ Err fault → fault ≡ Device
+offer_fails x w answer (Ok turn) f fault e = cc
+offer_fails x w answer (Err g) f fault e = let is : g ≡ fault = cc in sym is ∙ f.0
+
+-- a read's first fault has its cause
+pub came_cause : (x : Seen) (a : Bool) (old new : Side) (room : ℕ) (out delta : List ℕ) (result : Result Turn ClientFault) → CameOf x a old new room out delta result → (fault : ClientFault) → result ≡ Err fault → IsCause fault x a new.reader new.raw
+came_cause x a old new room out delta (Ok turn) c fault e = cc
+came_cause x a old new room out delta (Err g) c fault e = let is : g ≡ fault = cc in subst (λ (k : ClientFault). IsCause k x a new.reader new.raw) is c.1
 
 read_says : (x : Seen) (a : Bool) (old new : Side) (room : ℕ) (out delta : List ℕ) (result : Result Turn ClientFault) → CameOf x a old new room out delta result → SaysWaiting (events_of result) delta result
 read_says x a old new room out delta (Ok turn) c = record {
@@ -183,7 +200,7 @@ pub hears_none : (x : Seen) (s : Side) (rests all_framed : Type 0) (g : ClientFa
     → Hears x (λ x adapted read. SideHeard x adapted read s) (λ x adapted read. SideHeard x adapted read s) s.fault s.fault rests all_framed P Q out (Err g)
 hears_none x s rests all_framed g P Q out e w = record {
   delta = [];
-  wire = λ p b. (p, w p b, later_none p, record { device = λ i n. cc; waiting = λ h. cc });
+  wire = λ p b. (p, w p b, later_none p, record { failed = λ g i n. cc; waiting = λ h. cc });
   only = tt;
   count = omega arith;
   framed = λ h. cc;

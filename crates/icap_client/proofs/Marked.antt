@@ -13,7 +13,7 @@ use Rattle.adapt_sides.specs.declared.turn.Turn.{Turn}
 use Rattle.adapt_sides.specs.declared.fault.ClientFault.{ClientFault}
 use Rattle.icap_client.specs.Events.{May, AllAre, after_all, is_final, is_of_sending}
 use Rattle.icap_client.specs.Marks.{might_retry}
-use Rattle.icap_client.specs.Sending.{HasSent, NothingDue, turn_events, svc_events}
+use Rattle.icap_client.specs.Sending.{HasSent, NothingDue, sending_events, svc_events}
 use Rattle.icap_client.specs.Reading.{Side, SideHeard, HasBegun, NotBegun}
 use Rattle.icap_client.specs.Turns.{Service, ServiceSent, ServiceHeard, Sends, Hears, events_of, is_answered, is_last_at}
 
@@ -103,18 +103,18 @@ stop_some x n =
     let r : 0 + x.received ≡ x.received = omega arith in
     ap (λ (m : ℕ). (is_whole x.plan.kind || (is_preview x.plan.kind && not x.stopped && x.ended && (n + x.sent == m)) || (is_preview x.plan.kind && x.continued)) || x.last_stop) r
 
-last_by : (x : Seen) (n : ℕ) (b : Bool) → (n == 0) ≡ b → (after_all x (turn_events n true)).last_stop ≡ (is_last_at x (x.sent + n) || x.last_stop)
+last_by : (x : Seen) (n : ℕ) (b : Bool) → (n == 0) ≡ b → (after_all x (sending_events n true)).last_stop ≡ (is_last_at x (x.sent + n) || x.last_stop)
 last_by x n true e =
     let z : n ≡ 0 = grind (arith) in
     rw e (stop_none x ∙ ap (λ (m : ℕ). is_last_at x m || x.last_stop) (omega (arith, z)))
 last_by x n false e = rw e (stop_some x n ∙ ap (λ (l : Bool). l || x.last_stop) (sym (last_moved x n)))
 
-last_still : (x : Seen) (n : ℕ) (b : Bool) → (n == 0) ≡ b → (after_all x (turn_events n false)).last_stop ≡ x.last_stop
+last_still : (x : Seen) (n : ℕ) (b : Bool) → (n == 0) ≡ b → (after_all x (sending_events n false)).last_stop ≡ x.last_stop
 last_still x n true e = rw e refl
 last_still x n false e = rw e refl
 
 -- `all` says that a Stop stands only behind all bytes that were to come next
-pub last_after : (x : Seen) (n count from : ℕ) (e : Bool) (events : List Event) → events ≡ turn_events n e → from ≡ x.sent → (e ≡ true → n ≡ count)
+pub last_after : (x : Seen) (n count from : ℕ) (e : Bool) (events : List Event) → events ≡ sending_events n e → from ≡ x.sent → (e ≡ true → n ≡ count)
     → ((e && is_last_at x (from + count)) || x.last_stop) ≡ (after_all x events).last_stop
 last_after x n count from true events i f all =
     let same : from + count ≡ x.sent + n = omega (arith, f, all refl) in

@@ -12,7 +12,7 @@ use Rattle.icap_client.specs.Events.{May, ad_sum}
 use Rattle.icap_client.specs.Heard.{Reader}
 use Rattle.icap_client.specs.HeadFront.{HasToWait}
 use Rattle.icap_client.specs.Refused.{Refuses}
-use Rattle.icap_client.specs.Reading.{Side, GivesBack, SideHears, MayRead, NothingToRead, IsReadDue, ReadsWhereDue, FitsGot, IsRefused, IsUnheard, CameOf, ReadTurn}
+use Rattle.icap_client.specs.Reading.{Side, GivesBack, SideHears, MayRead, NothingToRead, IsReadDue, ReadsWhereDue, FitsGot, IsCause, CameOf, ReadTurn}
 use Rattle.adapt_sides.specs.Filling.{IsFilled}
 use Rattle.adapt_sides.specs.declared.fault.ClientFault.{ClientFault}
 use Rattle.adapt_sides.specs.declared.fault.ClientFault.TheVariants.{Closed, Device, NoMemory, NotLegal}
@@ -86,15 +86,15 @@ turn_idle x a room old new P out t h l w none m n = record {
 }
 
 -- raw bytes are refused
-pub turn_refused : (x : Seen) (a : Bool) (room : ℕ) (old new : Side) (P : Past → Type 0) (out : List ℕ) (fault : ClientFault) → SideHears x old new [] [] [] → Refuses fault x old.reader.point old.reader.stage old.raw
+pub turn_refused : (x : Seen) (a : Bool) (room : ℕ) (old new : Side) (P : Past → Type 0) (out : List ℕ) (fault : ClientFault) → SideHears x old new [] [] [] → Refuses fault x new.reader.point new.reader.stage new.raw
     → ReadTurn x a room old new P P out (Err fault)
 turn_refused x a room old new P out fault h r = record {
   given = [];
   answer = None;
   wire = none_read P;
   due = tt;
-  fits = of_bytes x fault old.reader.point old.reader.stage old.raw r;
-  came = (h, inr (inr (inr (inr (record { at = old; hears = filled_more x old old [] (inr refl) refl (sym (append-nil old.raw)); refuses = r })))));
+  fits = of_bytes x fault new.reader.point new.reader.stage new.raw r;
+  came = (h, inr (inr (inr (inr r))));
 }
 
 -- bytes came, and were framed
@@ -113,16 +113,16 @@ turn_bytes x a room old mid new P Q out t was d e f h l w =
 
 -- bytes came, and are refused
 pub turn_bytes_refused : (x : Seen) (a : Bool) (room : ℕ) (old mid new : Side) (P Q : Past → Type 0) (out : List ℕ) (fault : ClientFault) → x.heard ≡ true → IsReadDue x a room old → mid.reader ≡ old.reader → IsFilled P Q old.raw mid.raw filled.Bytes
-    → SideHears x mid new [] [] [] → Refuses fault x mid.reader.point mid.reader.stage mid.raw → ReadTurn x a room old new P Q out (Err fault)
+    → SideHears x mid new [] [] [] → Refuses fault x new.reader.point new.reader.stage new.raw → ReadTurn x a room old new P Q out (Err fault)
 turn_bytes_refused x a room old mid new P Q out fault was d e f h r = record {
   given = f.0;
   answer = Some (got.Bytes (length f.0));
   wire = bytes_read P Q f.0 f.1 f.3;
   due = at_once x a room old (got.Bytes (length f.0)) d;
-  fits = of_bytes x fault mid.reader.point mid.reader.stage mid.raw r;
+  fits = of_bytes x fault new.reader.point new.reader.stage new.raw r;
   came = (
     subst (λ (d : List ℕ). SideHears x old new [] d []) (append-nil f.0) (side_then x old mid new [] f.0 [] [] (filled_more x old mid f.0 (inl was) e f.2) h),
-    inr (inr (inr (inr (record { at = mid; hears = filled_more x old mid f.0 (inl was) e f.2; refuses = r })))),
+    inr (inr (inr (inr r))),
   );
 }
 
@@ -210,18 +210,9 @@ turn_full x a room old new P Q out e f = record {
   came = (filled_more x old new [] (inr refl) e (f.0 ∙ sym (append-nil old.raw)), inr (inr (inl refl)));
 }
 
-cause_behind : (x : Seen) (a : Bool) (old mid : Side) (delta : List ℕ) (fault : ClientFault) → SideHears x old mid [] [] [] → (fault ≡ Closed) ⊎ ((fault ≡ Device) ⊎ ((fault ≡ NoMemory) ⊎ (IsUnheard fault x a ⊎ IsRefused fault x mid delta)))
-    → (fault ≡ Closed) ⊎ ((fault ≡ Device) ⊎ ((fault ≡ NoMemory) ⊎ (IsUnheard fault x a ⊎ IsRefused fault x old delta)))
-cause_behind x a old mid delta fault h (inl c) = inl c
-cause_behind x a old mid delta fault h (inr (inl c)) = inr (inl c)
-cause_behind x a old mid delta fault h (inr (inr (inl c))) = inr (inr (inl c))
-cause_behind x a old mid delta fault h (inr (inr (inr (inl c)))) = inr (inr (inr (inl c)))
-cause_behind x a old mid delta fault h (inr (inr (inr (inr c)))) =
-    inr (inr (inr (inr (record { at = c.at; hears = side_then x old mid c.at [] [] delta [] h c.hears; refuses = c.refuses }))))
-
 came_behind : (x : Seen) (a : Bool) (old mid new : Side) (room : ℕ) (out delta : List ℕ) (result : Result Turn ClientFault) → SideHears x old mid [] [] [] → CameOf x a mid new room out delta result → CameOf x a old new room out delta result
 came_behind x a old mid new room out delta (Ok t) h c = (side_then x old mid new t.events.items [] delta (take (ad_sum t.events.items) out) h c.0, c.1, c.2, c.3)
-came_behind x a old mid new room out delta (Err fault) h c = (side_then x old mid new [] [] delta [] h c.0, cause_behind x a old mid delta fault h c.1)
+came_behind x a old mid new room out delta (Err fault) h c = (side_then x old mid new [] [] delta [] h c.0, c.1)
 
 due_behind : (x : Seen) (a : Bool) (room : ℕ) (old mid : Side) (answer : Option Got) → SideHears x old mid [] [] [] → ReadsWhereDue x a room mid answer → ReadsWhereDue x a room old answer
 due_behind x a room old mid None h d = tt
@@ -239,6 +230,10 @@ turn_behind x a room old mid new P Q out result h t = record {
   came = came_behind x a old mid new room out t.given result h t.came;
 }
 
+-- the reader and the raw bytes, by other names
+cause_kept : (x : Seen) (a : Bool) (fault : ClientFault) (reader kept : Reader) (raw still : List ℕ) → kept ≡ reader → still ≡ raw → IsCause fault x a reader raw → IsCause fault x a kept still
+cause_kept x a fault reader kept raw still e f c = subst (λ (r : Reader). IsCause fault x a r still) (sym e) (subst (λ (t : List ℕ). IsCause fault x a reader t) (sym f) c)
+
 -- the fault is kept
 pub turn_kept : (x : Seen) (a : Bool) (room : ℕ) (old new kept : Side) (P Q : Past → Type 0) (out : List ℕ) (fault : ClientFault) → kept.reader ≡ new.reader → kept.raw ≡ new.raw → ReadTurn x a room old new P Q out (Err fault)
     → ReadTurn x a room old kept P Q out (Err fault)
@@ -248,7 +243,7 @@ turn_kept x a room old new kept P Q out fault e r t = record {
   wire = t.wire;
   due = t.due;
   fits = subst (λ (r : Reader). FitsGot x a room r.stage t.answer (Err fault)) (sym e) t.fits;
-  came = (other_fault x old new kept [] t.given [] e r t.came.0, t.came.1);
+  came = (other_fault x old new kept [] t.given [] e r t.came.0, cause_kept x a fault new.reader kept.reader new.raw kept.raw e r t.came.1);
 }
 
 came_given_back : (x : Seen) (a : Bool) (old new kept : Side) (room : ℕ) (out delta : List ℕ) (result : Result Turn ClientFault) → GivesBack new kept → CameOf x a old new room out delta result → CameOf x a old kept room out delta result
@@ -261,7 +256,7 @@ came_given_back x a old new kept room out delta (Ok t) b c = (
       (i.0, i.1, subst (λ (raw : List ℕ). HasToWait kept.reader.stage raw room) (sym b.raw) at)),
   c.3,
 )
-came_given_back x a old new kept room out delta (Err fault) b c = (other_fault x old new kept [] delta [] b.reader b.raw c.0, c.1)
+came_given_back x a old new kept room out delta (Err fault) b c = (other_fault x old new kept [] delta [] b.reader b.raw c.0, cause_kept x a fault new.reader kept.reader new.raw kept.raw b.reader b.raw c.1)
 
 -- room that holds no byte is given back
 pub turn_given_back : (x : Seen) (a : Bool) (room : ℕ) (old new kept : Side) (P Q : Past → Type 0) (out : List ℕ) (result : Result Turn ClientFault) → GivesBack new kept → ReadTurn x a room old new P Q out result

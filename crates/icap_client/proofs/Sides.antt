@@ -23,6 +23,8 @@ use Rattle.icap_client.specs.Heard.Stays.{same, before}
 use Rattle.icap_client.specs.Replies.{IsInterim}
 use Rattle.trace_core.specs.declared.history.Point.{Point}
 use Rattle.icap_client.specs.Hearing.{ReaderHears, MustWait}
+use Rattle.adapt_sides.specs.declared.fault.ClientFault.{ClientFault}
+use Rattle.icap_client.specs.Refused.{Refuses}
 use Rattle.icap_client.specs.Reading.{Side, SideHeard, SideHears, HasBegun, NotBegun}
 use Rattle.icap_client.specs.declared.stage.Stage.{Stage}
 use Rattle.icap_client.specs.declared.stage.Stage.TheVariants.{Replies, Head, Body, Over}
@@ -199,3 +201,9 @@ side_then x a b c events d e part f g = record {
       subst (λ (t : List ℕ). SideHeard (after_all x events) (t ++ part) (read ++ (d ++ e)) c) (append-nil adapted)
       (subst (λ (t : List ℕ). SideHeard (after_all x events) ((adapted ++ []) ++ part) t c) (append_assoc read d e) two);
 }
+
+-- what was refused stands as it stood
+pub refuses_still : (fault : ClientFault) (x : Seen) (old new : Reader) (raw : List ℕ) → Stays old new → Refuses fault x old.point old.stage raw → Refuses fault x new.point new.stage raw
+refuses_still fault x old new raw (same e) r = subst (λ (k : Reader). Refuses fault x k.point k.stage raw) (sym e) r
+refuses_still fault x old new raw (before o n p) r =
+    subst (λ (s : Stage). Refuses fault x new.point s raw) (sym n) (subst (λ (k : Point). Refuses fault x k Replies raw) (sym p) (subst (λ (s : Stage). Refuses fault x old.point s raw) o r))

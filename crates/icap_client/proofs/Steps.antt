@@ -13,7 +13,7 @@ use Rattle.trace_core.specs.declared.history.Event.{Event}
 use Rattle.trace_core.specs.declared.history.Event.TheVariants.{Ad, AdEnd}
 use Rattle.trace_core.specs.declared.history.Seen.{Seen}
 use Rattle.trace_core.specs.View.{after}
-use Rattle.icap_client.specs.Events.{AllAre, is_of_replies, MayHear, MayAllFollow, after_all, listed, ad_sum, ad_events, body_events}
+use Rattle.icap_client.specs.Events.{AllAre, is_of_replies, MayHear, MayAllFollow, after_all, listed, ad_sum, ad_events, adapted_events}
 use Rattle.icap_client.specs.Replies.{IsInterim, IsModHead, IsBody, has_body}
 use Rattle.icap_client.specs.Heard.{Reader, HasHeard, HeardTo, HeardBody, HeardMod, in_stage}
 use Rattle.icap_client.specs.Heard.HeardFinal.{changed}
@@ -98,11 +98,11 @@ after_ads : (x : Seen) (n : ℕ) → AfterAds x (after_all x (ad_events n)) n
 after_ads x zero = record { no_mod_is = refl; modified_is = refl; has_body_is = refl; over_is = refl; continued_is = refl; count_is = omega arith }
 after_ads x (suc n) = record { no_mod_is = refl; modified_is = refl; has_body_is = refl; over_is = refl; continued_is = refl; count_is = refl }
 
-after_end : (x : Seen) (n : ℕ) → after_all x (body_events n true) ≡ after (after_all x (ad_events n)) AdEnd
+after_end : (x : Seen) (n : ℕ) → after_all x (adapted_events n true) ≡ after (after_all x (ad_events n)) AdEnd
 after_end x zero = refl
 after_end x (suc n) = refl
 
-pub sum_is : (n : ℕ) (ended : Bool) → ad_sum (body_events n ended) ≡ n
+pub sum_is : (n : ℕ) (ended : Bool) → ad_sum (adapted_events n ended) ≡ n
 sum_is zero false = refl
 sum_is (suc n) false = omega arith
 sum_is zero true = omega arith
@@ -118,7 +118,7 @@ only_ads : (n : ℕ) → AllAre is_of_replies (ad_events n)
 only_ads zero = tt
 only_ads (suc n) = (refl, tt)
 
-only_end : (n : ℕ) → AllAre is_of_replies (body_events n true)
+only_end : (n : ℕ) → AllAre is_of_replies (adapted_events n true)
 only_end zero = (refl, tt)
 only_end (suc n) = (refl, (refl, tt))
 
@@ -153,7 +153,7 @@ hears_more x r chunks next raw part used n long stage on none sound may was = re
 
 -- up to its end
 hears_end : (x : Seen) (r : Reader) (chunks next : ChunkReader) (raw part : List ℕ) (used n : ℕ) (ieof : Bool) → length part ≡ n → r.stage ≡ Body chunks → ReadsOn chunks raw used part next
-    → end_of next ≡ Some ieof → MayAllFollow x (body_events n true) → (body_events n true ≡ []) ⊎ (x.heard ≡ true) → ReaderHears x r (in_stage r Over) (body_events n true) (take used raw) part
+    → end_of next ≡ Some ieof → MayAllFollow x (adapted_events n true) → (adapted_events n true ≡ []) ⊎ (x.heard ≡ true) → ReaderHears x r (in_stage r Over) (adapted_events n true) (take used raw) part
 hears_end x r chunks next raw part used n ieof long stage on ended may was = record {
   legal = may;
   only = only_end n;
@@ -187,11 +187,11 @@ hears_end x r chunks next raw part used n ieof long stage on ended may was = rec
 -- either
 pub hears_on : (x : Seen) (r new : Reader) (chunks next : ChunkReader) (raw out : List ℕ) (used n : ℕ) (ended : Bool) (stage : Stage) → new ≡ in_stage r stage
     → ((ended ≡ true) → stage ≡ Over) → ((ended ≡ false) → stage ≡ Body next) → r.stage ≡ Body chunks → ReadsOn chunks raw used (take n out) next → n ≤ length out
-    → ended ≡ is_some (end_of next) → fault_of next ≡ None → MayAllFollow x (body_events n ended) → (body_events n ended ≡ []) ⊎ (x.heard ≡ true) → ReaderHears x r new (body_events n ended) (take used raw) (take n out)
+    → ended ≡ is_some (end_of next) → fault_of next ≡ None → MayAllFollow x (adapted_events n ended) → (adapted_events n ended ≡ []) ⊎ (x.heard ≡ true) → ReaderHears x r new (adapted_events n ended) (take used raw) (take n out)
 hears_on x r new chunks next raw out used n true stage is t f at on l e sound may was =
     let found = some_is (end_of next) (sym e) in
-    subst (λ (s : Reader). ReaderHears x r s (body_events n true) (take used raw) (take n out)) (sym (is ∙ ap (λ (s : Stage). in_stage r s) (t refl)))
+    subst (λ (s : Reader). ReaderHears x r s (adapted_events n true) (take used raw) (take n out)) (sym (is ∙ ap (λ (s : Stage). in_stage r s) (t refl)))
     (hears_end x r chunks next raw (take n out) used n found.0 (length-take-le n out l) at on found.1 may was)
 hears_on x r new chunks next raw out used n false stage is t f at on l e sound may was =
-    subst (λ (s : Reader). ReaderHears x r s (body_events n false) (take used raw) (take n out)) (sym (is ∙ ap (λ (s : Stage). in_stage r s) (f refl)))
+    subst (λ (s : Reader). ReaderHears x r s (adapted_events n false) (take used raw) (take n out)) (sym (is ∙ ap (λ (s : Stage). in_stage r s) (f refl)))
     (hears_more x r chunks next raw (take n out) used n (length-take-le n out l) at on (not_ended next false e refl) sound may was)

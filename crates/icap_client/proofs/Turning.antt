@@ -18,7 +18,7 @@ use Rattle.chunk_writer.specs.Moves.{Moves, Passes}
 use Rattle.chunk_writer.specs.Moves.Moves.{start, passed, begun_chunk, sent, ended}
 use Rattle.chunk_writer.proofs.Moving.{Reaches, reaches, there}
 use Rattle.icap_client.specs.RequestText.{is_null}
-use Rattle.icap_client.specs.Sending.{HasSent, Came, KeepsUnsent, NothingDue, Decides, StopsAt, stop_text, stop_text_at, svc_events, turn_events}
+use Rattle.icap_client.specs.Sending.{HasSent, Came, KeepsUnsent, NothingDue, Decides, StopsAt, stop_text, stop_text_at, svc_events, sending_events}
 use Rattle.icap_client.specs.Events.{after_all, MayAllFollow, AllAre, is_of_sending}
 use Rattle.icap_client.specs.Turns.{GoesOn}
 use Rattle.icap_client.proofs.Sent.{sent_taken, sent_begun, sent_stopped, sent_data}
@@ -96,7 +96,7 @@ pub leads : (x : Seen) (tape : Tape) (n : ℕ) → Sound x → (0 < n → Allows
 leads x tape n s a = leads_by x tape n s a (cases_lt 0 n)
 
 -- after the zero chunk
-all_then : (x : Seen) (n : ℕ) (b : Bool) → (n == 0) ≡ b → after_all x (turn_events n true) ≡ after (sent_to x n) Stop
+all_then : (x : Seen) (n : ℕ) (b : Bool) → (n == 0) ≡ b → after_all x (sending_events n true) ≡ after (sent_to x n) Stop
 all_then x n true e = rw e refl
 all_then x n false e = rw e refl
 
@@ -133,7 +133,7 @@ pub record Given (x : Seen) (tape : Tape) (next : Next) (old : Writer) (came : L
   came_is : Came x tape came
 
 ended_at : (head : List ℕ) (x : Seen) (tape : Tape) (next : Next) (old v : Writer) (came taken : List ℕ) → Given x tape next old came → waiting v ≡ [] → is_ending next.end ≡ true
-    → HasSent head (sent_to x next.count) came taken v → HasSent head (after_all x (turn_events next.count true)) came taken (fixed v (end_text next.end))
+    → HasSent head (sent_to x next.count) came taken v → HasSent head (after_all x (sending_events next.count true)) came taken (fixed v (end_text next.end))
 ended_at head x tape next old v came taken g o i h =
     let y = sent_to x next.count in
     let due = g.decided.stop i in
@@ -144,12 +144,12 @@ ended_at head x tape next old v came taken g o i h =
     (sent_stopped head y came taken v o (l.came came g.came_is).count l.sound (l.stop due.1 due.2) h))
 
 pub carried : (head : List ℕ) (x : Seen) (tape : Tape) (next : Next) (old w : Writer) (came taken : List ℕ) (k : ℕ) (e : Bool) (d : List ℕ) → Given x tape next old came → Moves tape next old k e d w
-    → HasSent head x came taken old → HasSent head (after_all x (turn_events k e)) came (taken ++ d) w
+    → HasSent head x came taken old → HasSent head (after_all x (sending_events k e)) came (taken ++ d) w
 carried head x tape next old w came taken k e d g start h = subst (λ (xs : List ℕ). HasSent head x came xs old) (sym (append-nil taken)) h
 carried head x tape next old w came taken k e d g (passed {d = d'} {v = v} m part w' p) h =
     let before = carried head x tape next old v came taken k e d' g m h in
-    subst (λ (xs : List ℕ). HasSent head (after_all x (turn_events k e)) came xs w) (append_assoc taken d' part)
-    (sent_taken head (after_all x (turn_events k e)) came (taken ++ d') part v w p.rest p.framing p.left before)
+    subst (λ (xs : List ℕ). HasSent head (after_all x (sending_events k e)) came xs w) (append_assoc taken d' part)
+    (sent_taken head (after_all x (sending_events k e)) came (taken ++ d') part v w p.rest p.framing p.left before)
 carried head x tape next old w came taken k e d g (begun_chunk {v = v} m c o l s) h =
     sent_begun head x came (taken ++ d) v next.count s o l g.sound (g.decided.svc s).1 (carried head x tape next old v came taken 0 false d g m h)
 carried head x tape next old w came taken k e d g (sent {d = d'} {v = v} m k' o s few within) h =
@@ -160,7 +160,7 @@ carried head x tape next old w came taken k e d g (sent {d = d'} {v = v} m k' o 
     (data_by head x tape next came (taken ++ d') v k g.decided.from (g.base (omega arith)) g.came_is g.long o s few (within g.decided.chunked) before))
 carried head x tape next old w came taken k e d g (ended {v = v} m o a i) h =
     let before = carried head x tape next old v came taken k false d g m h in
-    subst (λ (n : ℕ). HasSent head (after_all x (turn_events n true)) came (taken ++ d) (fixed v (end_text next.end))) (sym a)
+    subst (λ (n : ℕ). HasSent head (after_all x (sending_events n true)) came (taken ++ d) (fixed v (end_text next.end))) (sym a)
     (ended_at head x tape next old v came (taken ++ d) g o i (subst (λ (n : ℕ). HasSent head (sent_to x n) came (taken ++ d) v) a before))
 
 -- The events are legal.
@@ -173,13 +173,13 @@ stop_by : (x : Seen) (n : ℕ) (b : Bool) → MayAllFollow x (if b then [] else 
 stop_by x n true l o a = (o, a, tt)
 stop_by x n false l o a = (l.0, l.1, (o, a, tt))
 
-legal_by : (x : Seen) (tape : Tape) (next : Next) (old : Writer) (k : ℕ) (e : Bool) → Sound x → Decides x old next → Reaches next k e → MayAllFollow x (turn_events k e)
+legal_by : (x : Seen) (tape : Tape) (next : Next) (old : Writer) (k : ℕ) (e : Bool) → Sound x → Decides x old next → Reaches next k e → MayAllFollow x (sending_events k e)
 legal_by x tape next old k false s c r =
     svc_legal x k (λ some. let all = c.svc (omega (arith, r.few)) in (all.0, fewer x k next.count some r.few all.1)) (cases_lt 0 k)
 legal_by x tape next old k true s c r =
     let due = c.stop (r.all refl).1 in
     let l = leads x tape next.count s (λ some. (c.svc some).1) in
-    subst (λ (n : ℕ). MayAllFollow x (turn_events n true)) (sym (r.all refl).0)
+    subst (λ (n : ℕ). MayAllFollow x (sending_events n true)) (sym (r.all refl).0)
     (stop_by x next.count (next.count == 0) (svc_legal x next.count c.svc (cases_lt 0 next.count)) (l.open_still ∙ due.0) (l.stop due.1 due.2))
 
 from_base : (x : Seen) (tape : Tape) (next : Next) (old : Writer) → KeepsUnsent x tape → Decides x old next → 0 < next.count → tape.base ≤ x.sent
@@ -202,12 +202,12 @@ only_stop : (n : ℕ) (b : Bool) → AllAre is_of_sending ((if b then [] else Sv
 only_stop n true = (refl, tt)
 only_stop n false = (refl, (refl, tt))
 
-only_by : (k : ℕ) (e : Bool) → AllAre is_of_sending (turn_events k e)
+only_by : (k : ℕ) (e : Bool) → AllAre is_of_sending (sending_events k e)
 only_by k true = only_stop k (k == 0)
 only_by k false = only_svc k (k == 0)
 
 pub goes_on : (x : Seen) (tape : Tape) (next : Next) (old w : Writer) (k : ℕ) (e : Bool) (d : List ℕ) → Sound x → KeepsUnsent x tape → Decides x old next → Moves tape next old k e d w
-    → GoesOn x tape old w (turn_events k e) d
+    → GoesOn x tape old w (sending_events k e) d
 goes_on x tape next old w k e d s u c m = record {
   legal = legal_by x tape next old k e s c (reaches tape next old w k e d m);
   only = only_by k e;
@@ -224,7 +224,7 @@ append_none : (xs ys : List ℕ) → xs ++ ys ≡ [] → (xs ≡ []) × (ys ≡ 
 append_none [] ys e = (refl, e)
 append_none (x ∷ xs) ys e = cc
 
-no_events : (n : ℕ) → n ≡ 0 → turn_events n false ≡ []
+no_events : (n : ℕ) → n ≡ 0 → sending_events n false ≡ []
 no_events n e = rw e refl
 
 -- where nothing waits and nothing comes next, nothing waits behind the moves
@@ -246,7 +246,7 @@ stop_from x n z (m, inl h) = inl (h.0, omega (arith, h.1, z))
 stop_from x n z (m, inr h) = inr (moved_preview (open_preview x) x.sent (x.sent + n) (omega (arith, z)) h)
 
 -- nothing was offered, and no event stands: nothing is due
-pub nothing_due : (x : Seen) (tape : Tape) (next : Next) (w new : Writer) (k : ℕ) (e : Bool) (d : List ℕ) → Decides x w next → Moves tape next w k e d new → IsIdle w next k e → turn_events 0 e ≡ [] → NothingDue x new
+pub nothing_due : (x : Seen) (tape : Tape) (next : Next) (w new : Writer) (k : ℕ) (e : Bool) (d : List ℕ) → Decides x w next → Moves tape next w k e d new → IsIdle w next k e → sending_events 0 e ≡ [] → NothingDue x new
 nothing_due x tape next w new k true d c m i n = cc
 nothing_due x tape next w new k false d c m i n = record {
   flushed = still_out tape next w new k d i.out i.none m;

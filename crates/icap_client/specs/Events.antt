@@ -31,6 +31,6 @@ ad_events zero = []
 ad_events (suc n) = Ad (suc n) ∷ []
 
 -- and then its end, if it has come
-abbrev pub body_events : ℕ → Bool → List Event
-body_events n false = ad_events n
-body_events n true = ad_events n ++ AdEnd ∷ []
+abbrev pub adapted_events : ℕ → Bool → List Event
+adapted_events n false = ad_events n
+adapted_events n true = ad_events n ++ AdEnd ∷ []

@@ -92,15 +92,15 @@ FitsGot x all_sent room stage (Some got.Wait) (Ok turn) = turn.waiting ≡ true
 FitsGot x all_sent room stage (Some got.Wait) (Err fault) = ⊥
 FitsGot x all_sent room stage (Some got.Fault) result = result ≡ Err Device
 
--- with these bytes of the wire behind those that were there, they are refused where no event of them came
-pub record IsRefused (fault : ClientFault) (x : Seen) (old : Side) (given : List ℕ) : Type 0 where
-  pub at : Side
-  pub hears : SideHears x old at [] given []
-  pub refuses : Refuses fault x at.reader.point at.reader.stage at.raw
-
 -- the service may answer now, but no first byte of a reply may come
 abbrev pub IsUnheard : ClientFault → Seen → Bool → Type 0
 IsUnheard fault x all_sent = (fault ≡ NotLegal) × (x.heard ≡ false) × MayRead x all_sent × ¬ (May x Heard)
+
+-- the fault is the wire's, which ended or failed, or want of memory; or the service may answer and no reply may come; or the raw
+-- bytes are refused
+abbrev pub IsCause : ClientFault → Seen → Bool → Reader → List ℕ → Type 0
+IsCause fault x all_sent reader raw =
+    (fault ≡ Closed) ⊎ ((fault ≡ Device) ⊎ ((fault ≡ NoMemory) ⊎ (IsUnheard fault x all_sent ⊎ Refuses fault x reader.point reader.stage raw)))
 
 -- what came of a turn in which the wire gave these bytes, with so much room
 abbrev pub CameOf : Seen → Bool → Side → Side → ℕ → List ℕ → List ℕ → Result Turn ClientFault → Type 0
@@ -110,8 +110,7 @@ CameOf x all_sent old new room out given (Ok turn) =
     × (turn.waiting ≡ true → (turn.events.items ≡ []) × (given ≡ []) × HasToWait new.reader.stage new.raw room)
     × (turn.waiting ≡ false → turn.events.items ≡ [] → 0 < length given)
 CameOf x all_sent old new room out given (Err fault) =
-    SideHears x old new [] given []
-    × ((fault ≡ Closed) ⊎ ((fault ≡ Device) ⊎ ((fault ≡ NoMemory) ⊎ (IsUnheard fault x all_sent ⊎ IsRefused fault x old given))))
+    SideHears x old new [] given [] × IsCause fault x all_sent new.reader new.raw
 
 -- A turn of a side without a fault makes one read at most.
 pub record ReadTurn (x : Seen) (all_sent : Bool) (room : ℕ) (old new : Side) (before after : Past → Type 0) (out : List ℕ) (result : Result Turn ClientFault) : Type 0 where

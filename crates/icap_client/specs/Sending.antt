@@ -86,6 +86,6 @@ pub record Decides (x : Seen) (w : Writer) (next : Next) : Type 0 where
 abbrev pub svc_events : ℕ → List Event
 svc_events n = if n == 0 then [] else Svc n ∷ []
 
-abbrev pub turn_events : ℕ → Bool → List Event
-turn_events n true = svc_events n ++ Stop ∷ []
-turn_events n false = svc_events n
+abbrev pub sending_events : ℕ → Bool → List Event
+sending_events n true = svc_events n ++ Stop ∷ []
+sending_events n false = svc_events n

@@ -15,7 +15,7 @@ use Rattle.chunk_writer.specs.declared.next.Next.{Next}
 use Rattle.chunk_writer.specs.Writer.{Writer, waiting, offered}
 use Rattle.icap_client.specs.Sending.{HasSent, Came, NothingDue, Decides}
 use Rattle.icap_client.specs.Events.{May, after_all, MayAllFollow, AllAre, is_of_sending}
-use Rattle.icap_client.specs.Reading.{Side, SideHeard, NothingToRead}
+use Rattle.icap_client.specs.Reading.{Side, SideHeard, NothingToRead, IsCause}
 use Rattle.icap_client.specs.HeadFront.{HasToWait}
 use Rattle.icap_client.specs.Laws.{IsWhole}
 use Rattle.icap_client.specs.declared.stage.Stage.{Stage}
@@ -85,6 +85,10 @@ RestsReading x room s = NothingToRead x (is_flushed s.writer) room s.replies.rea
 -- with so much room, none of the bytes that are kept can be framed
 abbrev pub HasFramed : ℕ → Service → Type 0
 HasFramed room s = HasToWait s.replies.reader.stage s.replies.raw room
+
+-- why a read answers this fault first
+abbrev pub HasCause : ClientFault → Seen → Service → Type 0
+HasCause fault x s = IsCause fault x (is_flushed s.writer) s.replies.reader s.replies.raw
 
 -- a layout with a res-hdr
 abbrev pub is_response_in : Option Layout → Bool

@@ -2,7 +2,7 @@
 
 ghost use Rattle.std.specs.Prelude.{◌≡◌, ℕ, List, Option};
 ghost use Rattle.icap_client.specs.Sending.{NothingDue};
-ghost use Rattle.icap_client.specs.Turns.{ServiceSent, ServiceHeard, RestsReading, HasFramed, adapted_head_of, is_response_of, is_flushed};
+ghost use Rattle.icap_client.specs.Turns.{ServiceSent, ServiceHeard, RestsReading, HasFramed, HasCause, adapted_head_of, is_response_of, is_flushed};
 ghost use Rattle.icap_client.specs.OthersSent.{none_may_send};
 ghost use Rattle.icap_client.specs.OthersHeard.{unheard_none, rests_where};
 ghost use Rattle.icap_client.specs.Marks.{service_others, service_keeps};
@@ -25,6 +25,8 @@ impl Service for ServiceSide {
     ghost rests_writing = { λ x s. NothingDue x s.writer };
 
     ghost rests_reading = { RestsReading };
+
+    ghost has_reason = { HasCause };
 
     ghost is_framed = { HasFramed };
 

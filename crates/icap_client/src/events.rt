@@ -2,7 +2,7 @@
 
 ghost use Rattle.std.specs.Prelude.{◌≡◌, ◌≢◌, ◌<◌, ◌⊎◌, [], IfSome, IfNone, IsTrue, ◌↔◌, true, false};
 ghost use Rattle.trace_core.specs.History.{seen};
-ghost use Rattle.icap_client.specs.Events.{listed, MayHear, MayAllFollow, body_events};
+ghost use Rattle.icap_client.specs.Events.{listed, MayHear, MayAllFollow, adapted_events};
 ghost use Rattle.icap_client.specs.Replies.{payload_if};
 
 use adapt_sides::ClientFault;
@@ -53,8 +53,8 @@ pub(crate) fn event_list(event: Option<Event>) -> ArrayVec<Event, 4>
 }
 
 /// The events of so many bytes of the adapted body, and of its end.
-pub(crate) fn body_events(count: usize, ended: bool) -> ArrayVec<Event, 4>
-    ensures { result.items ≡ body_events count ended }
+pub(crate) fn adapted_events(count: usize, ended: bool) -> ArrayVec<Event, 4>
+    ensures { result.items ≡ adapted_events count ended }
 {
     let mut events = ArrayVec::new();
     if count > 0 {
@@ -68,8 +68,8 @@ pub(crate) fn body_events(count: usize, ended: bool) -> ArrayVec<Event, 4>
 
 /// Whether these events may come now.
 pub(crate) fn may_all(state: &State, count: usize, ended: bool) -> bool
-    ensures may { IsTrue result → MayAllFollow (seen state.now.plan state.now.events) (body_events count ended) }
-    ensures heard { IsTrue result → (body_events count ended ≡ []) ⊎ ((seen state.now.plan state.now.events).heard ≡ true) }
+    ensures may { IsTrue result → MayAllFollow (seen state.now.plan state.now.events) (adapted_events count ended) }
+    ensures heard { IsTrue result → (adapted_events count ended ≡ []) ⊎ ((seen state.now.plan state.now.events).heard ≡ true) }
     ensures may_not { result ≡ false → ((0 < count) × (MayHear (seen state.now.plan state.now.events) (Event.Ad count) → ⊥)) ⊎ ((count ≡ 0) × (ended ≡ true) × (MayHear (seen state.now.plan state.now.events) Event.AdEnd → ⊥)) }
 {
     if count > 0 {

@@ -12,13 +12,12 @@ ghost use Rattle.icap_client.specs.Hearing.{ReadsOn};
 ghost use Rattle.icap_client.specs.Asking.{HasOptionsBody};
 ghost use Rattle.wire_kit.specs.Past.{Past};
 
-use crate::blank_line::behind;
 use crate::body::read_run;
 use crate::events::refusal;
 use crate::kept::Kept;
 use crate::lists::has_body;
 use crate::request::options_request;
-use adapt_sides::{ClientFault, Filled, MAX_READ};
+use adapt_sides::{ClientFault, Filled, MAX_READ, behind};
 use encapsulated::{Direction, Method, read};
 use icap_chunks::{ChunkFault, ChunkReader};
 use icap_head::{Fields, HeadFault, IcapResponse, read_response};

@@ -5,7 +5,7 @@ ghost use Rattle.icap_head.specs.Heads.{Response, HasResponse, response_parts, R
 ghost use Rattle.icap_head.specs.StartLines.{StatusForm};
 ghost use Rattle.icap_head.specs.declared.reading.HeadFault.TheVariants as heads;
 ghost use Rattle.trace_core.specs.History.{seen};
-ghost use Rattle.icap_client.specs.Events.{listed, May, MayHear, MayAllFollow, ad_sum, body_events};
+ghost use Rattle.icap_client.specs.Events.{listed, May, MayHear, MayAllFollow, ad_sum, adapted_events};
 ghost use Rattle.icap_client.specs.Said.{tag_in, says_close};
 ghost use Rattle.icap_client.specs.Heard.{noted, Reader, in_stage, KeepsLimits, KeepsHead, Stays};
 ghost use Rattle.icap_client.specs.Laws.{first_reader};
@@ -16,14 +16,14 @@ ghost use Rattle.encapsulated.specs.declared.offsets.Layout.{Layout as Parts};
 
 mod shown;
 
-use crate::blank_line::{behind, front, head_end};
+use crate::blank_line::head_end;
 use crate::body::read_body;
-use crate::events::{Framed, Heard, body_events, event_list, may_all, payload_of, refusal};
+use crate::events::{Framed, Heard, adapted_events, event_list, may_all, payload_of, refusal};
 use crate::lists::has_body;
 use crate::replies::{Reply, may_reply, reply_of};
 use crate::said::says_close;
 use crate::stage::Stage;
-use adapt_sides::ClientFault;
+use adapt_sides::{ClientFault, behind, front};
 use arrayvec::ArrayVec;
 use encapsulated::Layout;
 use icap_chunks::ChunkReader;
@@ -274,7 +274,7 @@ impl ReplyReader {
                 };
                 Ok(Heard {
                     used: copied.used,
-                    events: body_events(copied.count, copied.ended),
+                    events: adapted_events(copied.count, copied.ended),
                 })
             }
             Err(_) => Err(ClientFault::Chunk),

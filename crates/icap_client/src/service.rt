@@ -1,6 +1,5 @@
 //! The service's end of one transaction: both halves.
 
-ghost use Rattle.arrayvec.specs.ArrayVec.{array_vec_len};
 ghost use Rattle.std.specs.Prelude.{option_copied, ◌≡◌, ℕ, List, ◌+◌, ◌≤◌, ◌++◌, ◌∷◌, ◌↔◌, IsTrue, IfSome, IfOk, IfErr, OnOk, Err, true, false, Some, None, ◌⊎◌, [], length, ◌<◌, MatchOption};
 ghost use Rattle.adapt_bytes.specs.declared.limits.TheConstants.{COUNT_LIMIT, MAX_HEAD};
 ghost use Rattle.trace_core.specs.declared.history.Seen.{Seen};
@@ -11,7 +10,7 @@ ghost use Rattle.icap_client.specs.Heard.{KeepsHead};
 ghost use Rattle.icap_client.specs.Laws.{first_reader};
 ghost use Rattle.icap_client.specs.Reading.{ReadTurn};
 ghost use Rattle.icap_client.specs.Events.{after_all, May};
-ghost use Rattle.icap_client.specs.Sending.{KeepsUnsent, NothingDue, turn_events, LetsGo, KeepsOrDrops, KeepsNoText};
+ghost use Rattle.icap_client.specs.Sending.{KeepsUnsent, NothingDue, sending_events, LetsGo, KeepsOrDrops, KeepsNoText};
 ghost use Rattle.icap_client.specs.RequestHead.{request_head};
 ghost use Rattle.icap_client.specs.Turns.{ServiceSent, ServiceHeard, is_whole_request, is_reusable, is_answered, WriteTurn, Sends, Hears, RestsReading, HasFramed, events_of, is_flushed};
 
@@ -20,7 +19,7 @@ use crate::decide::{decide, has_last_stop};
 use crate::request::request_head;
 use crate::side::ReplySide;
 use crate::stage::Stage;
-use adapt_sides::{ClientFault, Turn};
+use adapt_sides::{ClientFault, Turn, push_event};
 use arrayvec::ArrayVec;
 use chunk_writer::{ChunkWriter, Wrote};
 use encapsulated::Layout;
@@ -310,25 +309,17 @@ fn flushed(writer: &ChunkWriter) -> bool
 }
 
 fn turn_of(sent: u64, ended: bool, moved: bool) -> Turn
-    ensures events { result.events.items ≡ turn_events sent ended }
+    ensures events { result.events.items ≡ sending_events sent ended }
     ensures waits { result.waiting ≡ true → (result.events.items ≡ []) × (moved ≡ false) }
     ensures goes { result.waiting ≡ false → (moved ≡ false) → result.events.items ≡ [] → ⊥ }
 {
     let mut events = ArrayVec::new();
     if sent > 0 {
-        push(&mut events, Event::Svc(sent));
+        push_event(&mut events, Event::Svc(sent));
     }
     if ended {
-        push(&mut events, Event::Stop);
+        push_event(&mut events, Event::Stop);
     }
     let waiting = sent == 0 && !ended && !moved;
     Turn { events, waiting }
-}
-
-fn push(events: &mut ArrayVec<Event, 4>, event: Event)
-    requires { array_vec_len events.old < 4 }
-    ensures items { events.new.items ≡ events.old.items ++ event ∷ [] }
-    ensures len { array_vec_len events.new ≡ array_vec_len events.old + 1 }
-{
-    events.push(event);
 }

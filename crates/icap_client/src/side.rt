@@ -167,7 +167,7 @@ impl ReplySide {
         ensures room { IfOk result (λ events. ad_sum events.items ≤ length out.old) }
         ensures hears { IfOk result (λ events. SideHears (seen state.now.plan state.now.events) self.old self.new events.items [] (take (ad_sum events.items) out.new)) }
         ensures waits { IfOk result (λ events. events.items ≡ [] → HasToWait self.new.reader.stage self.new.raw (length out.old)) }
-        ensures refuses { IfErr result (λ fault. Refuses fault (seen state.now.plan state.now.events) self.old.reader.point self.old.reader.stage self.old.raw) }
+        ensures refuses { IfErr result (λ fault. Refuses fault (seen state.now.plan state.now.events) self.new.reader.point self.new.reader.stage self.new.raw) }
         ensures fault { self.new.fault ≡ self.old.fault }
         ensures head { KeepsHead (seen state.now.plan state.now.events) self.old.reader self.new.reader }
         ensures kept { IfErr result (λ _. SideHears (seen state.now.plan state.now.events) self.old self.new [] [] []) }

@@ -116,8 +116,8 @@ fn are_value_bytes(value: &[u8]) -> bool
     value.iter().all(|byte| is_value_byte(*byte))
 }
 
-/// Whether a value may have this byte.
-fn is_value_byte(byte: u8) -> bool
+/// Whether a field's value may have this byte.
+pub(crate) fn is_value_byte(byte: u8) -> bool
     ensures { result ≡ is_value_byte byte }
 {
     byte == b'\t' || (byte >= b' ' && byte != 0x7f)

@@ -1,10 +1,11 @@
 //! Fields of a head, and looking them up by name (RFC 9110, section 5).
-ghost use Rattle.std.specs.Prelude.{◌≡◌, ◌<◌, ◌≤◌, ◌∷◌, ◌++◌, [], length, drop, map, option_map, slice_get, Some, All, IfOk, IfSome, IfNone, OnOk, OnErr};
+ghost use Rattle.std.specs.Prelude.{◌≡◌, ◌↔◌, ◌<◌, ◌≤◌, ◌∷◌, ◌++◌, [], length, drop, map, option_map, slice_get, Some, All, IsTrue, IfOk, IfSome, IfNone, OnOk, OnErr};
 ghost use Rattle.std.specs.Iterator.{YieldsFirstRef, item_count};
+ghost use Rattle.adapt_bytes.specs.Numeral.{Writes};
 ghost use Rattle.httparse.specs.Spans.{IsHeaderWithin, header_bytes};
 
 use crate::NoMemory;
-use adapt_bytes::same_ascii;
+use adapt_bytes::{read_decimal, same_ascii};
 use httparse::spans::{HeaderSpan, Span};
 use std::alloc::Global;
 
@@ -124,6 +125,22 @@ impl Fields {
     }
 }
 
+impl Values<'_> {
+    ghost use Rattle.icap_head.specs.Fields.{AllSpell, values_left};
+
+    /// Whether all values that are still to come spell the number, with any leading zeros.
+    pub fn all_spell(self, number: u64) -> bool
+        ensures { IsTrue result ↔ AllSpell number (values_left self.entry) }
+    {
+        for text in self {
+            if !spells(text, number) {
+                return false;
+            }
+        }
+        true
+    }
+}
+
 impl<'a> Iterator for Values<'a> {
     ghost use Rattle.icap_head.specs.Fields.{values_left};
 
@@ -137,6 +154,16 @@ impl<'a> Iterator for Values<'a> {
         let (value, passed) = self.fields.next_value(self.name, self.passed)?;
         self.passed = passed;
         Some(value)
+    }
+}
+
+/// Whether the text spells the number, with any leading zeros.
+fn spells(text: &[u8], number: u64) -> bool
+    ensures { IsTrue result ↔ Writes 10 text.now number }
+{
+    match read_decimal(text) {
+        Some(found) => found == number,
+        None => false,
     }
 }
 

@@ -1,11 +1,11 @@
 //! A head that comes in small pieces: whether what came last is worth judging the whole again.
 ghost use Rattle.std.specs.Prelude.{◌≡◌, ℕ, ◌++◌, ◌∷◌, [], List, IsTrue, IfSome};
-ghost use Rattle.httparse.specs.Grammar.{is_value_byte};
 ghost use Rattle.icap_head.specs.Heads.{RefusesIcapHead};
 ghost use Rattle.icap_head.specs.StartLines.{RequestForm, StatusForm};
 ghost use Rattle.icap_head.specs.declared.reading.HeadFault.TheVariants.{More};
 ghost use Rattle.icap_head.specs.LineFront.{IsAt, IsLastLine};
 
+use crate::field_lines::is_value_byte;
 use adapt_bytes::{MAX_HEAD, is_token};
 
 /// Where a field line, or the empty one, is before its LF (RFC 9112, section 5).
@@ -111,11 +111,4 @@ fn behind_value(byte: u8) -> Option<Place>
         return Some(Place::Value);
     }
     None
-}
-
-/// Whether a field's value may have this byte.
-fn is_value_byte(byte: u8) -> bool
-    ensures { result ≡ is_value_byte byte }
-{
-    byte == b'\t' || (byte >= b' ' && byte != 0x7f)
 }

@@ -9,6 +9,7 @@ use Rattle.encapsulated.specs.declared.offsets.Layout.{Layout}
 use Rattle.encapsulated.specs.declared.parts.BodyPart.{BodyPart}
 use Rattle.encapsulated.specs.declared.parts.BodyPart.TheVariants.{ReqBody, ResBody, OptBody, NullBody}
 use Rattle.encapsulated.specs.Layouts.{IsLayout, parts_of}
+use Rattle.encapsulated.specs.Methods.{method_name}
 use Rattle.encapsulated.proofs.OneAnswer.{parts_unique, layout_unique, no_fault}
 use Rattle.http_uri.specs.Grammar.{path_of}
 use Rattle.http_uri.specs.Uri.{uri_scheme, uri_data, uri_path}
@@ -41,7 +42,7 @@ use Rattle.icap_server.specs.Answers.{First, Opens, IsFirst, Follows, ReadsBody,
 use Rattle.icap_server.specs.Answers.First.{whole, last}
 use Rattle.icap_server.specs.Answers.Leads.{here, behind}
 use Rattle.icap_server.specs.HeadParts.{IsHead, BreaksHead, OpenHead, HeadsWhole, HeadsBroken, HeadsOpen, middle, has_head_sizes}
-use Rattle.icap_server.specs.Verdicts.{method_text, path_text, HasPath, ListIs, ListBad, ValueBad, PreviewIs, PreviewBad, accepted, allows_204, JudgesPreview, JudgesList, JudgesPoint, JudgesPath, JudgesHost, JudgesRequest}
+use Rattle.icap_server.specs.Verdicts.{path_text, HasPath, ListIs, ListBad, ValueBad, PreviewIs, PreviewBad, accepted, allows_204, JudgesPreview, JudgesList, JudgesPoint, JudgesPath, JudgesHost, JudgesRequest}
 
 false_true : false ≡ true → ⊥
 false_true e = cc
@@ -301,17 +302,17 @@ judged_host m r v w (inr (some, (path, is, h))) (inr (some', (path', is', h'))) 
     judged_path m path r.fields v w h (subst P (sym (path_one r.uri path path' is is')) h')
 
 -- the method of the third letter
-method_of : ℕ → Method
-method_of b = if b == 81 then Reqmod else (if b == 83 then Respmod else Options)
+method_by_letter : ℕ → Method
+method_by_letter b = if b == 81 then Reqmod else (if b == 83 then Respmod else Options)
 
-named_method : (m : Method) → method_of (slice_index (method_text m) 2) ≡ m
-unfolding method_of
+named_method : (m : Method) → method_by_letter (slice_index (method_name m) 2) ≡ m
+unfolding method_by_letter
 named_method Reqmod = refl
 named_method Respmod = refl
 named_method Options = refl
 
-method_one : (m n : Method) → method_text m ≡ method_text n → m ≡ n
-method_one m n e = sym (named_method m) ∙ ap method_of (letter _ _ 2 e) ∙ named_method n
+method_one : (m n : Method) → method_name m ≡ method_name n → m ≡ n
+method_one m n e = sym (named_method m) ∙ ap method_by_letter (letter _ _ 2 e) ∙ named_method n
 
 -- a head asks for one thing
 pub judges_one : (r : Request) (v w : Verdict) → JudgesRequest r v → JudgesRequest r w → v ≡ w

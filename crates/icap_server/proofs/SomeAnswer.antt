@@ -9,6 +9,7 @@ use Rattle.encapsulated.specs.declared.offsets.Layout.{Layout}
 use Rattle.encapsulated.specs.declared.parts.BodyPart.{BodyPart}
 use Rattle.encapsulated.specs.declared.parts.BodyPart.TheVariants.{ReqBody, ResBody, OptBody, NullBody}
 use Rattle.encapsulated.specs.Layouts.{IsLayout}
+use Rattle.encapsulated.specs.Methods.{method_name}
 use Rattle.encapsulated.proofs.SomeAnswer.{Answer, some_answer}
 use Rattle.http_uri.specs.Uri.{uri_path}
 use Rattle.icap_chunks.specs.declared.pieces.Outcome.{Outcome}
@@ -31,7 +32,7 @@ use Rattle.icap_server.specs.Answers.{First, IsFirst, Follows, ReadsBody, ReadsC
 use Rattle.icap_server.specs.Answers.First.{whole, last}
 use Rattle.icap_server.specs.Answers.Leads.{here, behind}
 use Rattle.icap_server.specs.HeadParts.{IsHead, BreaksHead, OpenHead, HeadsWhole, HeadsBroken, HeadsOpen, middle, ends_blank, has_head_sizes}
-use Rattle.icap_server.specs.Verdicts.{method_text, path_text, serves, ListIs, ListBad, ValueBad, PreviewIs, PreviewBad, WriteOne, no_parts, accepted, allows_204, JudgesPreview, JudgesList, JudgesPoint, JudgesPath, JudgesHost, JudgesRequest}
+use Rattle.icap_server.specs.Verdicts.{path_text, serves, ListIs, ListBad, ValueBad, PreviewIs, PreviewBad, WriteOne, no_parts, accepted, allows_204, JudgesPreview, JudgesList, JudgesPoint, JudgesPath, JudgesHost, JudgesRequest}
 
 -- ---- what is left of a text
 
@@ -225,7 +226,7 @@ judged_host method r uri = and_so (decided (values_of (codes "Host") r.fields �
 ])
 
 judged : (r : Request) → IsIcapUri r.uri → NotNot ((verdict : Verdict) × JudgesRequest r verdict)
-judged r uri = and_so (decided ((method : Method) × (r.method ≡ method_text method))) (λ found. elim found [
+judged r uri = and_so (decided ((method : Method) × (r.method ≡ method_name method))) (λ found. elim found [
   | inl (method, is) ↦ and_so (judged_host method r uri) (λ verdict. surely (verdict.0, inr (method, is, verdict.1)))
   | inr none ↦ surely (Refused NotImplemented, inl (λ method is. none (method, is), refl))
 ])

@@ -17,6 +17,9 @@ const LINGER: u64 = 1;
 /// How often a connection that is closed is read, so that what the client still sends doesn't take the last answer from it.
 const LAST_READS: u32 = 256;
 
+/// How many bytes each of these reads drops at most.
+const LAST_READ_BYTES: usize = 4096;
+
 /// What the threads of all connections share.
 #[derive(Drop)]
 pub struct Shared {
@@ -132,7 +135,7 @@ fn linger(stream: &TcpStream) {
         return;
     }
     let mut reader = stream;
-    let mut buffer = [0u8; 4096];
+    let mut buffer = [0u8; LAST_READ_BYTES];
     for _ in 0..LAST_READS {
         match reader.read(&mut buffer) {
             Ok(0) | Err(_) => return,

@@ -1,12 +1,7 @@
 -- The numbers that the fields of one name say.
 use Rattle.std.specs.Prelude.{◌≡◌, ℕ, ◌<◌, List, [], ◌∷◌, Option, None, IsSomeAnd}
-use Rattle.std.specs.List.{AllByRecursion}
-use Rattle.adapt_bytes.specs.Numeral.{Writes}
 use Rattle.adapt_bytes.specs.declared.limits.TheConstants.{COUNT_LIMIT}
-
--- each of the values is a decimal of this number
-abbrev pub AllSpell : ℕ → List (List ℕ) → Type 0
-AllSpell number values = AllByRecursion (λ text. Writes 10 text number) values
+use Rattle.icap_head.specs.Fields.{AllSpell}
 
 -- the fields of one name say this number, below the limit of counts and all the same; no number where there is no such field
 abbrev pub IsNumber : List (List ℕ) → Option ℕ → Type 0

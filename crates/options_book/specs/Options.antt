@@ -7,22 +7,18 @@ use Rattle.adapt_bytes.specs.Fields.{FieldList, values_of}
 use Rattle.icap_head.specs.Fields.{first_of}
 use Rattle.icap_head.specs.Heads.{Response}
 use Rattle.encapsulated.specs.Layouts.{IsLayout}
+use Rattle.encapsulated.specs.Methods.{method_name}
 use Rattle.options_book.specs.declared.judged.TheConstants.{MAX_ACCEPTED_TAG}
 use Rattle.encapsulated.specs.declared.Layout.{Layout}
 use Rattle.encapsulated.specs.declared.Method.TheVariants as Methods
 use Rattle.encapsulated.specs.declared.Direction.TheVariants as Directions
 use Rattle.trace_core.specs.declared.history.Point.{Point}
-use Rattle.trace_core.specs.declared.history.Point.TheVariants.{Reqmod, Respmod}
+use Rattle.trace_core.specs.Points.{method_of}
 use Rattle.options_book.specs.Numbers.{IsNumber}
 use Rattle.options_book.specs.Transfer.{Lists, items_of, kept_lists}
 use Rattle.options_book.specs.declared.transfer.TransferLists.{TransferLists}
 use Rattle.options_book.specs.declared.faults.OptFault.{OptFault}
 use Rattle.options_book.specs.declared.faults.OptFault.TheVariants as Faults
-
--- the method of a point
-abbrev pub method_name : Point → List ℕ
-method_name Reqmod = codes "REQMOD"
-method_name Respmod = codes "RESPMOD"
 
 -- a comma-separated list has the item, in its exact case
 abbrev pub lists_item : List ℕ → List ℕ → Bool
@@ -30,7 +26,7 @@ lists_item list item = list_any (λ found. bytes_eq found item) (comma_items lis
 
 -- the Methods fields name the method of the point
 abbrev pub serves : Point → FieldList → Bool
-serves point fields = list_any (λ value. lists_item value (method_name point)) (values_of (codes "Methods") fields)
+serves point fields = list_any (λ value. lists_item value (method_name (method_of point))) (values_of (codes "Methods") fields)
 
 -- begins and ends with a quote, each of its own (RFC 3507, section 4.7)
 abbrev pub is_quoted : List ℕ → Bool

@@ -1,15 +1,15 @@
 //! The numbers of an OPTIONS response: each below the limit of counts, and the same wherever it is said.
 
-ghost use Rattle.std.specs.Prelude.{◌≡◌, ◌↔◌, ◌<◌, ℕ, Option, IsTrue, IfOk, OnErr, MatchOption};
+ghost use Rattle.std.specs.Prelude.{◌≡◌, ◌<◌, ℕ, Option, IfOk, OnErr, MatchOption};
 ghost use Rattle.adapt_bytes.specs.declared.limits.TheConstants.{COUNT_LIMIT};
 ghost use Rattle.adapt_bytes.specs.Numeral.{Writes};
 ghost use Rattle.adapt_bytes.specs.Fields.{values_of};
-ghost use Rattle.icap_head.specs.Fields.{field_list, values_left};
-ghost use Rattle.options_book.specs.Numbers.{AllSpell, IsNumber};
+ghost use Rattle.icap_head.specs.Fields.{field_list};
+ghost use Rattle.options_book.specs.Numbers.{IsNumber};
 
 use crate::OptFault;
 use adapt_bytes::{COUNT_LIMIT, read_decimal};
-use icap_head::{Fields, Values};
+use icap_head::Fields;
 
 /// The number of the fields of this name; none where there is no such field.
 pub(crate) fn number(fields: &Fields, name: &[u8]) -> Result<Option<u64>, OptFault>
@@ -22,7 +22,7 @@ pub(crate) fn number(fields: &Fields, name: &[u8]) -> Result<Option<u64>, OptFau
         return Ok(None);
     };
     match read_number(first) {
-        Some(number) if all_spell(values, number) => Ok(Some(number)),
+        Some(number) if values.all_spell(number) => Ok(Some(number)),
         _ => Err(OptFault::Number),
     }
 }
@@ -34,27 +34,5 @@ fn read_number(text: &[u8]) -> Option<u64>
     match read_decimal(text) {
         Some(number) if number < COUNT_LIMIT => Some(number),
         _ => None,
-    }
-}
-
-/// Whether all further values spell the number too.
-fn all_spell(values: Values<'_>, number: u64) -> bool
-    ensures { IsTrue result ↔ AllSpell number (values_left values.entry) }
-{
-    for text in values {
-        if !spells(text, number) {
-            return false;
-        }
-    }
-    true
-}
-
-/// Whether the text spells the number, with any leading zeros.
-fn spells(text: &[u8], number: u64) -> bool
-    ensures { IsTrue result ↔ Writes 10 text.now number }
-{
-    match read_decimal(text) {
-        Some(found) => found == number,
-        None => false,
     }
 }

@@ -5,7 +5,7 @@ ghost use Rattle.adapt_bytes.specs.Text.{comma_items};
 ghost use Rattle.adapt_bytes.specs.Fields.{values_of};
 ghost use Rattle.icap_head.specs.Fields.{field_list};
 ghost use Rattle.options_book.specs.Transfer.{vec_bytes, items_of};
-ghost use Rattle.options_book.specs.Options.{unquoted, lists_item, serves, method_name};
+ghost use Rattle.options_book.specs.Options.{unquoted, lists_item, serves};
 
 use adapt_bytes::comma_items;
 use icap_head::{Fields, NoMemory};
@@ -26,23 +26,13 @@ pub(crate) fn unquoted(text: &[u8]) -> &[u8]
 pub(crate) fn serves(fields: &Fields, point: Point) -> bool
     ensures { result ≡ serves point (field_list fields.now) }
 {
-    let method = method_name(point);
+    let method = point.method().name();
     for value in fields.values(b"Methods") {
         if lists_item(value, method) {
             return true;
         }
     }
     false
-}
-
-/// The method of a point.
-fn method_name(point: Point) -> &'static [u8]
-    ensures { result.now ≡ method_name point }
-{
-    match point {
-        Point::Reqmod => b"REQMOD",
-        Point::Respmod => b"RESPMOD",
-    }
 }
 
 /// Whether a comma-separated list has the item, in its exact case.

@@ -5,10 +5,10 @@ use Rattle.std.specs.Net.Grammar.{IsIpv4Text}
 use Rattle.std.specs.Net.Socket.{v4_ip, v4_port}
 use Rattle.http_uri.specs.Uri.{Spells}
 use Rattle.http_uri.specs.declared.uri.Uri.{Uri as Target}
-use Rattle.adapt_bytes.specs.declared.limits.TheConstants.{MAX_CONNECTIONS}
+use Rattle.adapt_bytes.specs.declared.limits.TheConstants.{MAX_CONNECTIONS, MAX_PORT}
 use Rattle.proxy_config.specs.Values.{number_or}
 use Rattle.proxy_config.specs.declared.defaults.TheConstants.{CONNECTIONS, PORT}
-use Rattle.proxy_config.specs.declared.services.TheConstants.{MAX_PATH, MAX_PORT}
+use Rattle.proxy_config.specs.declared.services.TheConstants.{MAX_PATH}
 use Rattle.proxy_config.specs.declared.point.ServicePoint.{ServicePoint}
 
 -- the text of a key, where its value is text

@@ -10,14 +10,11 @@ use crate::defaults::{CONNECTIONS, PORT};
 use crate::fault::{ConfigFault, at_key, needed};
 use crate::point::ServicePoint;
 use crate::values::{number_or, value_of};
-use adapt_bytes::MAX_CONNECTIONS;
+use adapt_bytes::{MAX_CONNECTIONS, MAX_PORT};
 use http_uri::{Uri, UriError};
 use std::alloc::{AllocError, Global};
 use std::net::{Ipv4Addr, SocketAddrV4};
 use toml::Table;
-
-/// The greatest port.
-const MAX_PORT: u64 = 65_535;
 
 /// The most bytes of a path.
 const MAX_PATH: usize = 1024;

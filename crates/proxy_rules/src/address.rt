@@ -5,9 +5,10 @@ ghost use Rattle.http_side.specs.Lengths.{length_value};
 ghost use Rattle.http_side.specs.Targets.{authority_of};
 ghost use Rattle.proxy_rules.specs.Origins.{host_len, host_of, port_in, port_of};
 
-use crate::scan::{authority, behind, count_before, front};
-use adapt_bytes::{COUNT_LIMIT, read_decimal};
-use http_side::{HttpRequest, MAX_PORT};
+use crate::scan::{authority, count_before};
+use adapt_bytes::{COUNT_LIMIT, MAX_PORT, read_decimal};
+use adapt_sides::{behind, front};
+use http_side::HttpRequest;
 
 /// The origin that a target names.
 #[derive(Clone, Copy, Debug)]

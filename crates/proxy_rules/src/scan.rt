@@ -1,8 +1,10 @@
 //! The parts of a request's target, where they lie in it (RFC 9112, section 3.2.2).
 
-ghost use Rattle.std.specs.Prelude.{◌≡◌, ◌≤◌, length, drop, take};
+ghost use Rattle.std.specs.Prelude.{◌≡◌, ◌≤◌, length};
 ghost use Rattle.http_side.specs.Targets.{authority_of, count_before};
 ghost use Rattle.proxy_rules.specs.Origins.{is_any, bare_path};
+
+use adapt_sides::{behind, front};
 
 /// How long `http://` is.
 const SCHEME: usize = 7;
@@ -22,26 +24,6 @@ pub(crate) fn count_before(text: &[u8], first: u8, second: u8, third: u8) -> usi
         count += 1;
     }
     count
-}
-
-/// The text behind so many bytes.
-pub(crate) fn behind(text: &[u8], count: usize) -> &[u8]
-    ensures { result.now ≡ drop count text.now }
-{
-    match text.get(count..) {
-        Some(rest) => rest,
-        None => &text[text.len()..],
-    }
-}
-
-/// The first bytes of the text.
-pub(crate) fn front(text: &[u8], count: usize) -> &[u8]
-    ensures { result.now ≡ take count text.now }
-{
-    match text.get(..count) {
-        Some(front) => front,
-        None => text,
-    }
 }
 
 /// The authority of an `http://` target, as it came.

@@ -298,7 +298,7 @@ fn beginning<B: Ledgers, A: Wire + Drop>(
 }
 
 /// Takes apart what no transaction began with.
-fn undo<B: Ledgers, A: Wire + Drop>(rt: &impl Wait, bank: &Bank<B>, start: Starting<B, A>)
+pub fn undo<B: Ledgers, A: Wire + Drop>(rt: &impl Wait, bank: &Bank<B>, start: Starting<B, A>)
     requires { (start.stake.held ≡ 0) × (start.stake.pages ≡ 0) }
 {
     let Start {

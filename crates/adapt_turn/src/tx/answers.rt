@@ -10,8 +10,7 @@ ghost use Rattle.trace_core.specs.Legal.{MayFollow};
 ghost use Rattle.plan_rules.specs.declared.room.TheConstants.{TURN_BYTES};
 ghost use Rattle.plan_rules.specs.Room.{original_room, adapted_room};
 ghost use Rattle.wire_kit.specs.Past.{Past};
-ghost use Rattle.adapt_sides.specs.declared.fault.RelayFault.TheVariants.{Device};
-ghost use Rattle.adapt_sides.specs.Turns.{Gift};
+ghost use Rattle.adapt_sides.specs.Turns.{Gift, OfRelayWire, FailsGiving};
 ghost use Rattle.adapt_sides.specs.Turns.Gift.{nothing, message};
 ghost use Rattle.adapt_hold.specs.Holding.{shows};
 ghost use Rattle.adapt_turn.specs.declared.turned.Side.{Side};
@@ -19,7 +18,7 @@ ghost use Rattle.adapt_turn.specs.declared.turned.Side.TheVariants as sides;
 ghost use Rattle.adapt_turn.specs.declared.turned.Turned.{Turned};
 ghost use Rattle.adapt_turn.specs.declared.turned.Outcome.TheVariants as outcomes;
 ghost use Rattle.adapt_turn.specs.Made.{MakesNoneAt, adapted_of, response_of, answers_user};
-ghost use Rattle.adapt_turn.specs.Parts.{Breaks, FailsFor, source_cause, hop_cause, fault_of};
+ghost use Rattle.adapt_turn.specs.Parts.{Breaks, HasCause, FailsFor, source_cause, hop_cause, fault_of};
 ghost use Rattle.adapt_turn.specs.Rows.{may_step, TookBy, Advances};
 ghost use Rattle.adapt_turn.specs.Stands.{IsChosen, IsDone, Waited, WaitedBoth, Blamed, BlamedService};
 ghost use Rattle.adapt_turn.specs.ByTurn.{BySide, OfWriter, ByAnswer};
@@ -44,7 +43,8 @@ pub trait Answering {
     // Of a closed one it leaves all but the user's writer and wire.
     ghost keeps: { Self → Side → Self → Type 0 };
 
-    // at this moment the deadline has passed, or the cause is that of the side's fault
+    // At this moment the deadline has passed, or the cause is that of the side's fault. One that the side didn't have before has its
+    // reason: its wire failed or ended in this turn, there was no memory, or what was read, or the chosen body, is at fault.
     ghost fails: { Self → Side → ℕ → Self → Cause → Type 0 };
 }
 
@@ -91,13 +91,16 @@ impl<
         × (old.hold.history.plan.point ≡ Respmod → new.source_wire ≡ old.source_wire) × (old.hold.history.plan.point ≡ Reqmod → new.next_wire ≡ old.next_wire)) };
 
     ghost fails = { λ old side now new cause. ((cause ≡ Deadline) × (old.last_moved + old.deadline ≤ now)) ⊎ BySide side
-        ((S.agrees (shows old.hold.history) old.source → Blamed Device source_cause cause (S.fault old.source) (S.fault new.source) (A.past old.source_wire) (A.past new.source_wire))
-        × ((S.agrees (shows old.hold.history) old.source → ⊥) → cause ≡ causes.Source))
+        ((S.agrees (shows old.hold.history) old.source → Blamed OfRelayWire source_cause cause (S.fault old.source) (S.fault new.source) (A.past old.source_wire) (A.past new.source_wire))
+        × ((S.agrees (shows old.hold.history) old.source → ⊥) → cause ≡ causes.Source)
+        × HasCause (S.fault old.source) (S.fault new.source) (λ fault. S.has_reason fault new.source))
         ((old.service ≡ None → ⊥) × BlamedService cause (fault_of (λ line. V.fault line.side) old.service) (fault_of (λ line. V.fault line.side) new.service)
         (λ p. MatchOption old.service ⊥ (λ line. W.past line.wire p)) (λ p. MatchOption new.service ⊥ (λ line. W.past line.wire p))
-        × FailsFor cause old.reused (fault_of (λ line. V.fault line.side) new.service) new.hold)
+        × FailsFor (λ line. V.fault line.side) (λ fault x line. V.has_reason fault x line.side) cause old.reused old.service new.service new.hold)
         ((IsChosen (shows old.hold.history) × (K.gift old.next ≡ nothing) × (K.gift old.back ≡ nothing)
         × MakesNoneAt (F.makes_none old.forward (S.head old.source)) (adapted_of V.adapted_head old.service) (response_of V.is_response old.service) (shows old.hold.history) cause)
-        ⊎ (Blamed Device hop_cause cause (K.fault old.next) (K.fault new.next) (C.past old.next_wire) (C.past new.next_wire)
-        ⊎ Blamed Device hop_cause cause (K.fault old.back) (K.fault new.back) (A.past old.source_wire) (A.past new.source_wire))) };
+        ⊎ ((Blamed OfRelayWire hop_cause cause (K.fault old.next) (K.fault new.next) (C.past old.next_wire) (C.past new.next_wire)
+        ⊎ Blamed OfRelayWire hop_cause cause (K.fault old.back) (K.fault new.back) (A.past old.source_wire) (A.past new.source_wire))
+        × HasCause (K.fault old.next) (K.fault new.next) (FailsGiving (K.breaks_length (shows old.hold.history) (K.body_framing new.next)))
+        × HasCause (K.fault old.back) (K.fault new.back) (FailsGiving (K.breaks_length (shows old.hold.history) (K.body_framing new.back))))) };
 }

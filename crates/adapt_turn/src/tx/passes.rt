@@ -5,12 +5,12 @@ ghost use Rattle.trace_core.specs.declared.history.Cause.{Cause};
 ghost use Rattle.trace_core.specs.declared.history.Seen.{Seen};
 ghost use Rattle.plan_rules.specs.declared.room.TheConstants.{TURN_BYTES};
 ghost use Rattle.plan_rules.specs.Room.{original_room, adapted_room};
-ghost use Rattle.adapt_sides.specs.declared.fault.RelayFault.TheVariants.{Device};
-ghost use Rattle.adapt_sides.specs.Turns.{Gift};
+ghost use Rattle.adapt_sides.specs.declared.fault.ClientFault.TheVariants.{Device};
+ghost use Rattle.adapt_sides.specs.Turns.{Gift, OfRelayWire, FailsGiving};
 ghost use Rattle.adapt_sides.specs.Turns.Gift.{nothing, message};
 ghost use Rattle.adapt_hold.specs.Holding.{shows};
 ghost use Rattle.adapt_turn.specs.Made.{MakesNoneAt, adapted_of, response_of, answers_user};
-ghost use Rattle.adapt_turn.specs.Parts.{Breaks, FailsFor, IsOfSide, source_cause, hop_cause, outcome_by, fault_of};
+ghost use Rattle.adapt_turn.specs.Parts.{Breaks, HasCause, FailsFor, IsOfSide, source_cause, hop_cause, outcome_by, fault_of};
 ghost use Rattle.adapt_turn.specs.Rows.{may_step, TookBy, Advances, BytesOr};
 ghost use Rattle.adapt_turn.specs.Stands.{IsChosen, Waited, WaitedBeside, WaitedBoth, Blamed, BlamedService};
 ghost use Rattle.adapt_turn.specs.ByTurn.{OfWriter};
@@ -67,7 +67,8 @@ impl<B: Ledgers, S: Source, V: Service, K: Hop, F: Forward<S, K>, A: Wire, W: Wi
         ensures took { TookBy (may_step Side.Source) self.old.hold self.new.hold }
         ensures apart { (self.new.service ≡ self.old.service) × (self.new.next_wire ≡ self.old.next_wire) × (self.new.next ≡ self.old.next) × (self.new.back ≡ self.old.back) }
         ensures active { result.waiting ≡ false → BytesOr (Advances (may_step Side.Source) self.old.hold self.new.hold) (A.past self.old.source_wire) (A.past self.new.source_wire) }
-        ensures blames { (cause : Cause) → result.failed ≡ Some cause → (S.agrees (shows self.old.hold.history) self.old.source → Blamed Device source_cause cause (S.fault self.old.source) (S.fault self.new.source) (A.past self.old.source_wire) (A.past self.new.source_wire)) × ((S.agrees (shows self.old.hold.history) self.old.source → ⊥) → cause ≡ Cause.Source) }
+        ensures blames { (cause : Cause) → result.failed ≡ Some cause → (S.agrees (shows self.old.hold.history) self.old.source → Blamed OfRelayWire source_cause cause (S.fault self.old.source) (S.fault self.new.source) (A.past self.old.source_wire) (A.past self.new.source_wire)) × ((S.agrees (shows self.old.hold.history) self.old.source → ⊥) → cause ≡ Cause.Source) }
+        ensures reason { HasCause (S.fault self.old.source) (S.fault self.new.source) (λ fault. S.has_reason fault self.new.source) }
         ensures of_side { (cause : Cause) → result.failed ≡ Some cause → IsOfSide cause }
         ensures whole { result.broken ≡ false }
         ensures outcome { self.new.outcome ≡ outcome_by result.failed }
@@ -108,7 +109,7 @@ impl<B: Ledgers, S: Source, V: Service, K: Hop, F: Forward<S, K>, A: Wire, W: Wi
         ensures active { result.waiting ≡ false → result.broken ≡ false → BytesOr (Advances (may_step Side.Service) self.old.hold self.new.hold) (λ p. MatchOption self.old.service ⊥ (λ line. W.past line.wire p)) (λ p. MatchOption self.new.service ⊥ (λ line. W.past line.wire p)) }
         ensures blames { (cause : Cause) → result.failed ≡ Some cause → BlamedService cause (fault_of (λ line. V.fault line.side) self.old.service) (fault_of (λ line. V.fault line.side) self.new.service) (λ p. MatchOption self.old.service ⊥ (λ line. W.past line.wire p)) (λ p. MatchOption self.new.service ⊥ (λ line. W.past line.wire p)) }
         ensures whole { result.waiting ≡ true → result.broken ≡ false }
-        ensures unbroken { (cause : Cause) → result.failed ≡ Some cause → FailsFor cause self.old.reused (fault_of (λ line. V.fault line.side) self.new.service) self.new.hold }
+        ensures unbroken { (cause : Cause) → result.failed ≡ Some cause → FailsFor (λ line. V.fault line.side) (λ fault x line. V.has_reason fault x line.side) cause self.old.reused self.old.service self.new.service self.new.hold }
         ensures sound { result.failed ≡ None → result.broken ≡ false → fault_of (λ line. V.fault line.side) self.new.service ≡ None }
         ensures of_side { (cause : Cause) → result.failed ≡ Some cause → IsOfSide cause }
         ensures breaks { result.broken ≡ true → MatchOption self.new.service ⊥ (λ line. Breaks self.new.hold.history self.old.reused (V.fault line.side)) }
@@ -153,7 +154,7 @@ impl<B: Ledgers, S: Source, V: Service, K: Hop, F: Forward<S, K>, A: Wire, W: Wi
         ensures active { result.waiting ≡ false → result.broken ≡ false → BytesOr (Advances (may_step Side.Service) self.old.hold self.new.hold) (λ p. MatchOption self.old.service ⊥ (λ line. W.past line.wire p)) (λ p. MatchOption self.new.service ⊥ (λ line. W.past line.wire p)) }
         ensures rests { (x : Seen) → MatchOption self.old.service ⊤ (λ line. V.rests_writing x line.side) → MatchOption self.new.service ⊤ (λ line. V.rests_writing x line.side) }
         ensures blames { (cause : Cause) → result.failed ≡ Some cause → BlamedService cause (fault_of (λ line. V.fault line.side) self.old.service) (fault_of (λ line. V.fault line.side) self.new.service) (λ p. MatchOption self.old.service ⊥ (λ line. W.past line.wire p)) (λ p. MatchOption self.new.service ⊥ (λ line. W.past line.wire p)) }
-        ensures unbroken { (cause : Cause) → result.failed ≡ Some cause → FailsFor cause self.old.reused (fault_of (λ line. V.fault line.side) self.new.service) self.new.hold }
+        ensures unbroken { (cause : Cause) → result.failed ≡ Some cause → FailsFor (λ line. V.fault line.side) (λ fault x line. V.has_reason fault x line.side) cause self.old.reused self.old.service self.new.service self.new.hold }
         ensures of_side { (cause : Cause) → result.failed ≡ Some cause → IsOfSide cause }
         ensures breaks { result.broken ≡ true → MatchOption self.new.service ⊥ (λ line. Breaks self.new.hold.history self.old.reused (V.fault line.side)) }
         ensures outcome { self.new.outcome ≡ outcome_by result.failed }
@@ -196,7 +197,7 @@ impl<B: Ledgers, S: Source, V: Service, K: Hop, F: Forward<S, K>, A: Wire, W: Wi
         ensures apart { (self.new.source ≡ self.old.source) × (self.new.source_wire ≡ self.old.source_wire) × (self.new.next_wire ≡ self.old.next_wire) × (self.new.next ≡ self.old.next) × (self.new.back ≡ self.old.back) }
         ensures active { result.waiting ≡ false → result.broken ≡ false → BytesOr (Advances (may_step Side.Service) self.old.hold self.new.hold) (λ p. MatchOption self.old.service ⊥ (λ line. W.past line.wire p)) (λ p. MatchOption self.new.service ⊥ (λ line. W.past line.wire p)) }
         ensures blames { (cause : Cause) → result.failed ≡ Some cause → BlamedService cause (fault_of (λ line. V.fault line.side) self.old.service) (fault_of (λ line. V.fault line.side) self.new.service) (λ p. MatchOption self.old.service ⊥ (λ line. W.past line.wire p)) (λ p. MatchOption self.new.service ⊥ (λ line. W.past line.wire p)) }
-        ensures unbroken { (cause : Cause) → result.failed ≡ Some cause → FailsFor cause self.old.reused (fault_of (λ line. V.fault line.side) self.new.service) self.new.hold }
+        ensures unbroken { (cause : Cause) → result.failed ≡ Some cause → FailsFor (λ line. V.fault line.side) (λ fault x line. V.has_reason fault x line.side) cause self.old.reused self.old.service self.new.service self.new.hold }
         ensures of_side { (cause : Cause) → result.failed ≡ Some cause → IsOfSide cause }
         ensures breaks { result.broken ≡ true → MatchOption self.new.service ⊥ (λ line. Breaks self.new.hold.history self.old.reused (V.fault line.side)) }
         ensures outcome { self.new.outcome ≡ outcome_by result.failed }
@@ -248,12 +249,15 @@ impl<B: Ledgers, S: Source, V: Service, K: Hop, F: Forward<S, K>, A: Wire, W: Wi
         ensures active_service { side ≡ Side.Service → result.waiting ≡ false → result.broken ≡ false → BytesOr (Advances (may_step Side.Service) self.old.hold self.new.hold) (λ p. MatchOption self.old.service ⊥ (λ line. W.past line.wire p)) (λ p. MatchOption self.new.service ⊥ (λ line. W.past line.wire p)) }
         ensures active_next { side ≡ Side.NextHop → result.waiting ≡ false → OfWriter (K.gift self.new.back) (BytesOr (Advances (may_step Side.NextHop) self.old.hold self.new.hold) (C.past self.old.next_wire) (C.past self.new.next_wire))
             (BytesOr (Advances (may_step Side.NextHop) self.old.hold self.new.hold) (A.past self.old.source_wire) (A.past self.new.source_wire)) }
-        ensures blames_source { side ≡ Side.Source → (cause : Cause) → result.failed ≡ Some cause → (S.agrees (shows self.old.hold.history) self.old.source → Blamed Device source_cause cause (S.fault self.old.source) (S.fault self.new.source) (A.past self.old.source_wire) (A.past self.new.source_wire)) × ((S.agrees (shows self.old.hold.history) self.old.source → ⊥) → cause ≡ Cause.Source) }
+        ensures blames_source { side ≡ Side.Source → (cause : Cause) → result.failed ≡ Some cause → (S.agrees (shows self.old.hold.history) self.old.source → Blamed OfRelayWire source_cause cause (S.fault self.old.source) (S.fault self.new.source) (A.past self.old.source_wire) (A.past self.new.source_wire)) × ((S.agrees (shows self.old.hold.history) self.old.source → ⊥) → cause ≡ Cause.Source) }
+        ensures reason_source { side ≡ Side.Source → HasCause (S.fault self.old.source) (S.fault self.new.source) (λ fault. S.has_reason fault self.new.source) }
+        ensures reasons_next { side ≡ Side.NextHop → HasCause (K.fault self.old.next) (K.fault self.new.next) (FailsGiving (K.breaks_length (shows self.old.hold.history) (K.body_framing self.new.next)))
+            × HasCause (K.fault self.old.back) (K.fault self.new.back) (FailsGiving (K.breaks_length (shows self.old.hold.history) (K.body_framing self.new.back))) }
         ensures blames_service { side ≡ Side.Service → (cause : Cause) → result.failed ≡ Some cause → BlamedService cause (fault_of (λ line. V.fault line.side) self.old.service) (fault_of (λ line. V.fault line.side) self.new.service) (λ p. MatchOption self.old.service ⊥ (λ line. W.past line.wire p)) (λ p. MatchOption self.new.service ⊥ (λ line. W.past line.wire p)) }
-        ensures unbroken { side ≡ Side.Service → (cause : Cause) → result.failed ≡ Some cause → FailsFor cause self.old.reused (fault_of (λ line. V.fault line.side) self.new.service) self.new.hold }
+        ensures unbroken { side ≡ Side.Service → (cause : Cause) → result.failed ≡ Some cause → FailsFor (λ line. V.fault line.side) (λ fault x line. V.has_reason fault x line.side) cause self.old.reused self.old.service self.new.service self.new.hold }
         ensures blames_next { side ≡ Side.NextHop → (cause : Cause) → result.failed ≡ Some cause → (IsChosen (shows self.old.hold.history) × (K.gift self.old.next ≡ nothing) × (K.gift self.old.back ≡ nothing)
-            × MakesNoneAt (F.makes_none self.old.forward (S.head self.old.source)) (adapted_of V.adapted_head self.old.service) (response_of V.is_response self.old.service) (shows self.old.hold.history) cause) ⊎ (Blamed Device hop_cause cause (K.fault self.old.next) (K.fault self.new.next) (C.past self.old.next_wire) (C.past self.new.next_wire)
-            ⊎ Blamed Device hop_cause cause (K.fault self.old.back) (K.fault self.new.back) (A.past self.old.source_wire) (A.past self.new.source_wire)) }
+            × MakesNoneAt (F.makes_none self.old.forward (S.head self.old.source)) (adapted_of V.adapted_head self.old.service) (response_of V.is_response self.old.service) (shows self.old.hold.history) cause) ⊎ (Blamed OfRelayWire hop_cause cause (K.fault self.old.next) (K.fault self.new.next) (C.past self.old.next_wire) (C.past self.new.next_wire)
+            ⊎ Blamed OfRelayWire hop_cause cause (K.fault self.old.back) (K.fault self.new.back) (A.past self.old.source_wire) (A.past self.new.source_wire)) }
         ensures of_side { (cause : Cause) → result.failed ≡ Some cause → IsOfSide cause ⊎ ((side ≡ Side.NextHop) × MakesNoneAt (F.makes_none self.old.forward (S.head self.old.source)) (adapted_of V.adapted_head self.old.service) (response_of V.is_response self.old.service) (shows self.old.hold.history) cause) }
         ensures breaks { result.broken ≡ true → (side ≡ Side.Service) × (result.failed ≡ None) × MatchOption self.new.service ⊥ (λ line. Breaks self.new.hold.history self.old.reused (V.fault line.side)) }
         ensures outcome { self.new.outcome ≡ outcome_by result.failed }

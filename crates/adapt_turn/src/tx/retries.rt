@@ -1,6 +1,6 @@
 //! One more try of a request whose connection broke.
 
-ghost use Rattle.std.specs.Prelude.{◌≡◌, ℕ, List, true, false, [], IfSome};
+ghost use Rattle.std.specs.Prelude.{is_some, ◌≡◌, ℕ, List, true, false, [], IfSome};
 ghost use Rattle.trace_core.specs.declared.history.Event.TheVariants.{Fail, Retry};
 ghost use Rattle.trace_core.specs.declared.history.Cause.TheVariants.{Service};
 ghost use Rattle.trace_core.specs.Legal.{MayFollow};
@@ -37,6 +37,9 @@ impl<B: Ledgers, S: Source, V: Service, K: Hop, F: Forward<S, K>, A: Wire, W: Wi
         ensures fresh { IfSome self.new.service (λ line. line.wire ≡ wire) }
         ensures back { IfSome self.old.service (λ line. result ≡ line.wire) }
         ensures others { (self.new.source_wire ≡ self.old.source_wire) × (self.new.next_wire ≡ self.old.next_wire) }
+        ensures served { is_some self.new.service ≡ is_some self.old.service }
+        ensures kept { (self.new.source ≡ self.old.source) × (self.new.next ≡ self.old.next) × (self.new.back ≡ self.old.back)
+            × (self.new.outcome ≡ self.old.outcome) × (self.new.refusing ≡ self.old.refusing) }
         ensures unused { (self.new.broken ≡ false) × (self.new.reused ≡ false) }
         ensures timed { (self.new.last_moved ≡ self.old.last_moved) × (self.new.deadline ≡ self.old.deadline) }
     {

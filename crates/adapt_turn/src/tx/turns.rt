@@ -122,6 +122,7 @@ impl<B: Ledgers, S: Source, V: Service, K: Hop, F: Forward<S, K>, A: Wire, W: Wi
         ensures limit { self.new.deadline ≡ self.old.deadline }
         ensures kept { (self.new.source ≡ self.old.source) × (self.new.source_wire ≡ self.old.source_wire) × (self.new.service ≡ self.old.service) × (self.new.next_wire ≡ self.old.next_wire)
             × (K.fault self.new.next ≡ K.fault self.old.next) × (K.fault self.new.back ≡ K.fault self.old.back) }
+        ensures framings { (K.body_framing self.new.next ≡ K.body_framing self.old.next) × (K.body_framing self.new.back ≡ K.body_framing self.old.back) }
         ensures messages { (K.gift self.new.next ≡ message → K.gift self.old.next ≡ message) × (K.gift self.new.back ≡ message → K.gift self.old.back ≡ message) }
         ensures refuses { (cause : Cause) → passed.failed ≡ Some cause → ⟦<Self as Refusing>⟧.refuses self.new cause }
         ensures same { passed.failed ≡ None → (self.new.next ≡ self.old.next) × (self.new.back ≡ self.old.back) }

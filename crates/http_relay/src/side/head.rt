@@ -6,11 +6,10 @@ ghost use Rattle.adapt_bytes.specs.declared.limits.TheConstants.{MAX_HEAD};
 ghost use Rattle.http_relay.specs.Judging.{RefusesBytes, IsLooking, JudgesHead, Scans};
 ghost use Rattle.http_relay.specs.Reading.{AtHead, HeadTurn, JudgesHeadTo, ScannedTo};
 
-use crate::pieces::behind;
 use crate::side::{Asks, SourceHead, SourceSide};
 use crate::source_body::SourceBody;
 use adapt_bytes::MAX_HEAD;
-use adapt_sides::{Filled, RelayFault, fill};
+use adapt_sides::{Filled, RelayFault, behind, fill};
 use http_side::{HttpFault, read_request, read_response};
 use wire_kit::Wire;
 
@@ -38,11 +37,7 @@ impl SourceSide {
     fn unjudged(&self) -> &[u8]
         ensures { result.now ≡ drop self.now.judged self.now.raw.items }
     {
-        let raw = self.raw.as_slice();
-        if self.judged >= raw.len() {
-            return &[];
-        }
-        behind(raw, self.judged)
+        behind(self.raw.as_slice(), self.judged)
     }
 
     /// Whether the raw bytes are to be judged: a line has ended since they were last, or there is no room for more.

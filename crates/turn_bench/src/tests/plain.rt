@@ -9,12 +9,12 @@ use super::{Play, ended};
 use crate::counted::CountedWire;
 use crate::measured::ROUND;
 use crate::worked::{
-    BEGIN, DEADLINE, Ended, Moving, Sides, TO_USER, Wires, end, make_sides, plan_of,
+    BEGIN, DEADLINE, Ended, Moving, Sides, TO_USER, Wires, end, make_sides, plan_of, undo,
 };
-use adapt_turn::{Line, Outcome, Side, Start, Turned};
+use adapt_turn::{Outcome, Side, Turned};
 use plan_rules::{Limits, claim};
 use proxy_rules::Beginning;
-use span_bank::{Bank, Ledgers, Pages, Stake};
+use span_bank::{Bank, Ledgers, Stake};
 use std::alloc::Global;
 use std::sync::Wait;
 use std::test::*;
@@ -102,23 +102,7 @@ fn start<B: Ledgers>(
     match proxy_rules::begin(alloc, beginning) {
         Ok(tx) => Some(tx),
         Err(start) => {
-            let Start {
-                plan: _,
-                limits: _,
-                stake,
-                source: _,
-                source_wire: _,
-                service,
-                next: _,
-                next_wire: _,
-                back: _,
-                forward: _,
-                deadline: _,
-                now: _,
-                reused: _,
-            } = start;
-            if let Some(Line { side: _, wire: _ }) = service {}
-            bank.close(rt, stake, Pages::none());
+            undo(rt, bank, start);
             None
         }
     }

@@ -5,6 +5,9 @@ use Rattle.trace_core.specs.Turns.{MayAllFollow}
 use Rattle.adapt_hold.specs.Holding.{shows}
 use Rattle.adapt_hold.specs.Steps.{MayRun}
 use Rattle.adapt_turn.proofs.Passes as passes
+use Rattle.adapt_sides.specs.Turns.{FailsGiving}
+use Rattle.adapt_turn.specs.Parts.{HasCause}
+use Rattle.adapt_turn.proofs.Reasons.{cause_of}
 use Rattle.adapt_turn.proofs.parts.give.Goals as goal
 
 pub write_turn-requires : goal.write_turn-requires
@@ -26,3 +29,15 @@ pub returns-in-Err-clause-part : goal.returns-in-Err-clause-part
 returns-in-Err-clause-part g c =
     passes.hop_failed c.args.hold.now c.close.new.hold c.state-state.result.now c.tape_of-tape.result.now c.in-Err.fault _ _ _ _ _ _ _ (λ x. g.K.Hop.rests x c.write_turn.new.self) _ _ c.hop_cause.result c.close.result
     c.requires.roomy c.requires.running c.requires.chosen c.state-state.ensures.state c.tape_of-tape.ensures.tape c.in-Err.ensures.turn c.hop_cause.ensures c.close.ensures.passed c.close.ensures.moved
+
+pub returns-in-Ok-clause-reason : goal.returns-in-Ok-clause-reason
+returns-in-Ok-clause-reason g c =
+    let new = c.write_turn.new.self in
+    subst (λ (y : History). HasCause (g.K.Hop.fault c.args.hop.now) (g.K.Hop.fault new) (FailsGiving (g.K.Hop.breaks_length (shows y) (g.K.Hop.body_framing new)))) c.state-state.ensures.state
+    (cause_of _ _ _ _ c.in-Ok.ensures.turn.fault c.in-Ok.ensures.reason)
+
+pub returns-in-Err-clause-reason : goal.returns-in-Err-clause-reason
+returns-in-Err-clause-reason g c =
+    let new = c.write_turn.new.self in
+    subst (λ (y : History). HasCause (g.K.Hop.fault c.args.hop.now) (g.K.Hop.fault new) (FailsGiving (g.K.Hop.breaks_length (shows y) (g.K.Hop.body_framing new)))) c.state-state.ensures.state
+    (cause_of _ _ _ _ c.in-Err.ensures.turn.fault c.in-Err.ensures.reason)

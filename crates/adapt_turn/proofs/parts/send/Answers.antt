@@ -5,6 +5,7 @@ use Rattle.trace_core.specs.Turns.{MayAllFollow}
 use Rattle.adapt_hold.specs.Holding.{shows}
 use Rattle.adapt_hold.specs.Steps.{MayRun}
 use Rattle.adapt_turn.proofs.Passes as passes
+use Rattle.adapt_turn.proofs.Reasons.{cause_of}
 use Rattle.adapt_turn.proofs.parts.send.Goals as goal
 
 pub write_turn-requires : goal.write_turn-requires
@@ -29,3 +30,9 @@ returns-in-Err-clause-part g c =
 
 pub returns-in-Err-clause-unbroken : goal.returns-in-Err-clause-unbroken
 returns-in-Err-clause-unbroken g c = passes.unbroken_by c.args.hold.now c.service_failed.new.hold c.args.reused c.in-Err.fault _ c.service_failed.result c.service_failed.result.broken refl (c.in-Err.ensures.turn.fault.stays c.in-Err.fault refl) c.service_failed.ensures.broken c.service_failed.ensures.unbroken
+
+pub returns-in-Ok-clause-reason : goal.returns-in-Ok-clause-reason
+returns-in-Ok-clause-reason g c = cause_of _ _ _ _ c.in-Ok.ensures.turn.fault c.in-Ok.ensures.reason
+
+pub returns-in-Err-clause-reason : goal.returns-in-Err-clause-reason
+returns-in-Err-clause-reason g c = cause_of _ _ _ _ c.in-Err.ensures.turn.fault c.in-Err.ensures.reason

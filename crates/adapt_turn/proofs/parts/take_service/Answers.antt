@@ -1,4 +1,7 @@
-use Rattle.std.proofs.Common.{◌≤◌, length, arith, refl}
+use Rattle.std.proofs.Common.{◌≤◌, length, arith, refl, subst}
+use Rattle.trace_core.specs.History.{History}
+use Rattle.adapt_turn.specs.Parts.{HasCause}
+use Rattle.adapt_turn.proofs.Reasons.{cause_of}
 use Rattle.plan_rules.specs.Room.{adapted_room}
 use Rattle.adapt_hold.specs.Holding.{shows}
 use Rattle.adapt_turn.proofs.Passes as passes
@@ -26,3 +29,13 @@ returns-in-Err-clause-part g c =
 
 pub returns-in-Err-clause-unbroken : goal.returns-in-Err-clause-unbroken
 returns-in-Err-clause-unbroken g c = passes.unbroken_by c.args.hold.now c.service_failed.new.hold c.args.reused c.in-Err.fault _ c.service_failed.result c.service_failed.result.broken refl (c.in-Err.ensures.turn.fault.stays c.in-Err.fault refl) c.service_failed.ensures.broken c.service_failed.ensures.unbroken
+
+pub returns-in-Ok-clause-reason : goal.returns-in-Ok-clause-reason
+returns-in-Ok-clause-reason g c =
+    subst (λ (y : History). HasCause (g.V.Service.fault c.args.service.now) (g.V.Service.fault c.read_turn.new.self) (λ fault. g.V.Service.has_reason fault (shows y) c.read_turn.new.self)) c.state-state.ensures.state
+    (cause_of _ _ _ _ c.in-Ok.ensures.turn.fault c.in-Ok.ensures.reason)
+
+pub returns-in-Err-clause-reason : goal.returns-in-Err-clause-reason
+returns-in-Err-clause-reason g c =
+    subst (λ (y : History). HasCause (g.V.Service.fault c.args.service.now) (g.V.Service.fault c.read_turn.new.self) (λ fault. g.V.Service.has_reason fault (shows y) c.read_turn.new.self)) c.state-state.ensures.state
+    (cause_of _ _ _ _ c.in-Err.ensures.turn.fault c.in-Err.ensures.reason)

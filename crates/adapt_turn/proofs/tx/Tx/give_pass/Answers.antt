@@ -4,7 +4,7 @@ use Rattle.adapt_turn.specs.Made.{IsMade, WholeOf, adapted_of, response_of}
 use Rattle.adapt_turn.proofs.Made.{made_by, made_on}
 use Rattle.adapt_turn.proofs.Giving.{next_goes, back_goes, with_heads}
 use Rattle.std.proofs.Common.{inl, inr, refl, sym, ◌∙◌, subst}
-use Rattle.adapt_turn.proofs.Reasons.{part_idle, part_waits, part_blames}
+use Rattle.adapt_turn.proofs.Reasons.{part_idle, part_waits, part_blames, cause_none}
 use Rattle.adapt_turn.proofs.Told.{part_told}
 use Rattle.std.proofs.Common.{arith}
 use Rattle.adapt_turn.specs.declared.turned.Side.TheVariants.{NextHop}
@@ -74,3 +74,9 @@ returns-then-is_idle-clause-took g c = part_took NextHop _ _ _ _ _ _ _ _ _ _ _ _
 
 pub returns-else-is_idle-clause-took : goal.returns-else-is_idle-clause-took
 returns-else-is_idle-clause-took g c = part_took NextHop _ _ _ _ _ _ _ _ _ _ _ _ _ _ _ _ _ of_hop c.state-state.ensures.tied c.give-passed-else-is_idle.ensures.part.part
+
+pub returns-then-is_idle-clause-reasons : goal.returns-then-is_idle-clause-reasons
+returns-then-is_idle-clause-reasons g c = (c.give-passed.ensures.reason, cause_none _ _ _ refl)
+
+pub returns-else-is_idle-clause-reasons : goal.returns-else-is_idle-clause-reasons
+returns-else-is_idle-clause-reasons g c = (cause_none _ _ _ refl, c.give-passed-else-is_idle.ensures.reason)

@@ -1,8 +1,8 @@
 use Rattle.adapt_hold.specs.Holding.{shows}
-use Rattle.std.proofs.Common.{Some}
+use Rattle.std.proofs.Common.{Some, inr}
 use Rattle.adapt_turn.proofs.Made.{made_by, made_on, heads_then, line_heads}
 use Rattle.adapt_turn.proofs.Together.{others_of, hear_goes, goes_none}
-use Rattle.adapt_turn.proofs.Reasons.{part_idle, hear_waits, part_fails, line_blamed}
+use Rattle.adapt_turn.proofs.Reasons.{part_idle, hear_waits, part_fails, line_blamed, line_cause}
 use Rattle.std.proofs.Common.{Option, refl, ◌∙◌, subst}
 use Rattle.std.specs.Prelude.{MatchOption}
 use Rattle.adapt_turn.specs.declared.start.Line.{Line}
@@ -56,7 +56,12 @@ returns-in-Some-clause-active g c = λ w b. line_acts c.args.self.now.service c.
     (part_acts Service _ _ _ _ _ _ _ _ _ _ _ _ _ _ _ _ _ of_replies (omega arith) c.state-state.ensures.tied c.hear-passed.ensures.part.part w b)
 
 pub returns-in-Some-clause-unbroken : goal.returns-in-Some-clause-unbroken
-returns-in-Some-clause-unbroken g c = λ cause e. (c.args.self.now.hold, part_fails _ _ _ _ _ _ _ _ _ _ _ _ _ _ _ _ _ c.hear-passed.ensures.part.part cause e, c.hear-passed.ensures.unbroken cause e)
+returns-in-Some-clause-unbroken g c = λ cause e. (
+  c.args.self.now.hold,
+  part_fails _ _ _ _ _ _ _ _ _ _ _ _ _ _ _ _ _ c.hear-passed.ensures.part.part cause e,
+  c.hear-passed.ensures.unbroken cause e,
+  line_cause (λ l. g.V.Service.fault l.side) c.args.self.now.service c.in-Some.line _ _ _ c.in-Some.is (λ f d. inr d) c.hear-passed.ensures.reason,
+)
 
 pub returns-in-Some-clause-framed : goal.returns-in-Some-clause-framed
 returns-in-Some-clause-framed g c = λ e. c.hear-passed.ensures.part.framed e

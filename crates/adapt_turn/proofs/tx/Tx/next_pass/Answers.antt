@@ -1,11 +1,12 @@
 use Rattle.adapt_turn.proofs.Together.{goes_none, goes_then}
 use Rattle.std.proofs.Common.{inl, inr, [], refl, sym, ◌∙◌, subst}
 use Rattle.adapt_hold.specs.Holding.{shows}
-use Rattle.adapt_turn.proofs.Reasons.{waits_moved, blamed_from}
+use Rattle.adapt_turn.proofs.Reasons.{waits_moved, blamed_from, cause_none, cause_from}
 use Rattle.adapt_turn.specs.declared.turned.Side.TheVariants.{NextHop}
 use Rattle.adapt_turn.specs.Rows.{may_step, TookBy}
 use Rattle.adapt_turn.proofs.Rows.{acts_moved, acts_kept, fail_advances, took_fail}
 use Rattle.adapt_turn.proofs.ByTurn.{of_either, idle_no_message}
+use Rattle.adapt_sides.specs.Turns.{FailsGiving}
 use Rattle.adapt_turn.proofs.tx.Tx.next_pass.Goals as goal
 
 pub returns-then-not-is_chosen-clause-goes : goal.returns-then-not-is_chosen-clause-goes
@@ -63,3 +64,17 @@ returns-in-None-clause-took g c = subst (λ h. TookBy (may_step NextHop) h c.giv
 
 pub returns-in-None-clause-way : goal.returns-in-None-clause-way
 returns-in-None-clause-way g c = (λ n m. c.begin.ensures.way.0 n (sym c.give_pass.ensures.gifts.1 ∙ m), λ n m. c.begin.ensures.way.1 n (sym c.give_pass.ensures.gifts.0 ∙ m))
+
+pub returns-then-not-is_chosen-clause-reasons : goal.returns-then-not-is_chosen-clause-reasons
+returns-then-not-is_chosen-clause-reasons g c = (cause_none _ _ _ refl, cause_none _ _ _ refl)
+
+pub returns-in-Some-clause-reasons : goal.returns-in-Some-clause-reasons
+returns-in-Some-clause-reasons g c = (cause_none _ _ _ c.begin.ensures.kept.2, cause_none _ _ _ c.begin.ensures.kept.3)
+
+pub returns-in-None-clause-reasons : goal.returns-in-None-clause-reasons
+returns-in-None-clause-reasons g c =
+    let same = c.begin.ensures.begun c.in-None.is in
+    let new = c.give_pass.new.self in (
+      cause_from _ _ _ c.args.self.now.hold c.begin.new.self.hold (λ h. FailsGiving (g.K.Hop.breaks_length (shows h.history) (g.K.Hop.body_framing new.next))) c.begin.ensures.kept.2 same c.give_pass.ensures.reasons.0,
+      cause_from _ _ _ c.args.self.now.hold c.begin.new.self.hold (λ h. FailsGiving (g.K.Hop.breaks_length (shows h.history) (g.K.Hop.body_framing new.back))) c.begin.ensures.kept.3 same c.give_pass.ensures.reasons.1,
+    )

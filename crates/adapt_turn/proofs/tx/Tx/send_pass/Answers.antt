@@ -1,8 +1,8 @@
 use Rattle.adapt_hold.specs.Holding.{shows}
-use Rattle.std.proofs.Common.{Some}
+use Rattle.std.proofs.Common.{Some, inl}
 use Rattle.adapt_turn.proofs.Made.{made_by, made_on, heads_then, line_heads}
 use Rattle.adapt_turn.proofs.Together.{others_of, send_goes, goes_none}
-use Rattle.adapt_turn.proofs.Reasons.{part_idle, part_still, send_waits, part_fails, line_blamed}
+use Rattle.adapt_turn.proofs.Reasons.{part_idle, part_still, send_waits, part_fails, line_blamed, line_cause}
 use Rattle.std.proofs.Common.{Option, refl, ◌∙◌, subst}
 use Rattle.std.specs.Prelude.{MatchOption}
 use Rattle.adapt_turn.specs.declared.start.Line.{Line}
@@ -50,7 +50,12 @@ returns-in-Some-clause-active g c = λ w b. line_acts c.args.self.now.service c.
     (part_acts Service _ _ _ _ _ _ _ _ _ _ _ _ _ _ _ _ _ of_sending (omega arith) c.state-state.ensures.tied c.send-passed.ensures.part.part w b)
 
 pub returns-in-Some-clause-unbroken : goal.returns-in-Some-clause-unbroken
-returns-in-Some-clause-unbroken g c = λ cause e. (c.args.self.now.hold, part_fails _ _ _ _ _ _ _ _ _ _ _ _ _ _ _ _ _ c.send-passed.ensures.part.part cause e, c.send-passed.ensures.unbroken cause e)
+returns-in-Some-clause-unbroken g c = λ cause e. (
+  c.args.self.now.hold,
+  part_fails _ _ _ _ _ _ _ _ _ _ _ _ _ _ _ _ _ c.send-passed.ensures.part.part cause e,
+  c.send-passed.ensures.unbroken cause e,
+  line_cause (λ l. g.V.Service.fault l.side) c.args.self.now.service c.in-Some.line _ _ _ c.in-Some.is (λ f d. inl d) c.send-passed.ensures.reason,
+)
 
 pub returns-in-Some-clause-sound : goal.returns-in-Some-clause-sound
 returns-in-Some-clause-sound g c = c.send-passed.ensures.part.part.sound

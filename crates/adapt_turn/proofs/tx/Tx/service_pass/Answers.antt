@@ -1,12 +1,10 @@
 use Rattle.adapt_turn.proofs.Together.{goes_then}
-use Rattle.std.proofs.Common.{sym, ◌∙◌, ap, arith}
+use Rattle.std.proofs.Common.{sym, ◌∙◌, ap, arith, subst}
 use Rattle.std.proofs.lemmas.Bool.{false≢true}
 use Rattle.std.specs.Prelude.{MatchOption, ⊤}
 use Rattle.plan_rules.specs.Room.{adapted_room}
 use Rattle.adapt_hold.specs.Holding.{Holding, shows}
-use Rattle.adapt_turn.proofs.Reasons.{both_waited, blamed_then, not_failed}
-use Rattle.std.proofs.Common.{Bool, subst}
-use Rattle.adapt_turn.specs.Parts.{FailsFor, fault_of}
+use Rattle.adapt_turn.proofs.Reasons.{both_waited, blamed_then, fails_then, not_failed}
 use Rattle.adapt_turn.specs.declared.turned.Side.TheVariants.{Service}
 use Rattle.adapt_turn.specs.Rows.{may_step}
 use Rattle.adapt_turn.proofs.Rows.{then_acts, acts_then, took_both}
@@ -27,11 +25,11 @@ returns-then-sent-2-clause-waits g c = λ e. both_waited c.args.self.now.hold c.
     (c.send_pass-sent.ensures.still c.if-sent-2.true) (λ x. c.hear_pass-heard.ensures.rests (shows c.args.self.now.hold.history) x) (c.send_pass-sent.ensures.waits c.if-sent-2.true) (c.hear_pass-heard.ensures.waits e)
 
 pub returns-then-sent-2-clause-blames : goal.returns-then-sent-2-clause-blames
-returns-then-sent-2-clause-blames g c = λ cause e. blamed_then _ _ cause _ _ _ _ _ _ _ _
+returns-then-sent-2-clause-blames g c = λ cause e. blamed_then _ cause _ _ _ _ _ _ _ _
     (c.send_pass-sent.ensures.sound (not_failed c.send_pass-sent.result.failed _ c.send_pass-sent.ensures.over (sym c.is_closed.ensures ∙ c.if-is_closed.false)) c.if-sent.false) c.send_pass-sent.ensures.goes.service (c.hear_pass-heard.ensures.blames cause e)
 
 pub returns-else-sent-2-clause-blames : goal.returns-else-sent-2-clause-blames
-returns-else-sent-2-clause-blames g c = λ cause e. blamed_then _ _ cause _ _ _ _ _ _ _ _
+returns-else-sent-2-clause-blames g c = λ cause e. blamed_then _ cause _ _ _ _ _ _ _ _
     (c.send_pass-sent.ensures.sound (not_failed c.send_pass-sent.result.failed _ c.send_pass-sent.ensures.over (sym c.is_closed.ensures ∙ c.if-is_closed.false)) c.if-sent.false) c.send_pass-sent.ensures.goes.service (c.hear_pass-heard.ensures.blames cause e)
 
 pub returns-then-sent-2-clause-still : goal.returns-then-sent-2-clause-still
@@ -52,10 +50,12 @@ returns-else-sent-2-clause-active g c = λ w b. acts_then (may_step Service) c.a
     (c.send_pass-sent.ensures.active c.if-sent-2.false c.if-sent.false) c.hear_pass-heard.ensures.goes.service c.hear_pass-heard.ensures.took
 
 pub returns-then-sent-2-clause-unbroken : goal.returns-then-sent-2-clause-unbroken
-returns-then-sent-2-clause-unbroken g c = λ cause e. subst (λ (z : Bool). FailsFor cause z (fault_of (λ l. g.V.Service.fault l.side) c.hear_pass-heard.new.self.service) c.hear_pass-heard.new.self.hold) c.send_pass-sent.ensures.marked.1 (c.hear_pass-heard.ensures.unbroken cause e)
+returns-then-sent-2-clause-unbroken g c = λ cause e. fails_then (λ l. g.V.Service.fault l.side) (λ fault x l. g.V.Service.has_reason fault x l.side) cause _ _ _ c.send_pass-sent.new.self.service _ _
+    (c.send_pass-sent.ensures.sound (not_failed c.send_pass-sent.result.failed _ c.send_pass-sent.ensures.over (sym c.is_closed.ensures ∙ c.if-is_closed.false)) c.if-sent.false) c.send_pass-sent.ensures.marked.1 (c.hear_pass-heard.ensures.unbroken cause e)
 
 pub returns-else-sent-2-clause-unbroken : goal.returns-else-sent-2-clause-unbroken
-returns-else-sent-2-clause-unbroken g c = λ cause e. subst (λ (z : Bool). FailsFor cause z (fault_of (λ l. g.V.Service.fault l.side) c.hear_pass-heard.new.self.service) c.hear_pass-heard.new.self.hold) c.send_pass-sent.ensures.marked.1 (c.hear_pass-heard.ensures.unbroken cause e)
+returns-else-sent-2-clause-unbroken g c = λ cause e. fails_then (λ l. g.V.Service.fault l.side) (λ fault x l. g.V.Service.has_reason fault x l.side) cause _ _ _ c.send_pass-sent.new.self.service _ _
+    (c.send_pass-sent.ensures.sound (not_failed c.send_pass-sent.result.failed _ c.send_pass-sent.ensures.over (sym c.is_closed.ensures ∙ c.if-is_closed.false)) c.if-sent.false) c.send_pass-sent.ensures.marked.1 (c.hear_pass-heard.ensures.unbroken cause e)
 
 pub returns-then-sent-2-clause-took : goal.returns-then-sent-2-clause-took
 returns-then-sent-2-clause-took g c = took_both (may_step Service) c.args.self.now.hold c.send_pass-sent.new.self.hold c.hear_pass-heard.new.self.hold c.send_pass-sent.ensures.took c.hear_pass-heard.ensures.took

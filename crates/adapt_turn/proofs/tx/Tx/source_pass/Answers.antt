@@ -4,7 +4,7 @@ use Rattle.std.proofs.Common.{◌≡◌, Some, None, refl, sym, ap, ◌∙◌, s
 use Rattle.adapt_turn.specs.declared.parts.Passed.{Passed}
 use Rattle.trace_core.specs.History.{History}
 use Rattle.adapt_hold.specs.Holding.{shows}
-use Rattle.adapt_turn.proofs.Reasons.{part_idle, part_waits, part_blames}
+use Rattle.adapt_turn.proofs.Reasons.{part_idle, part_waits, part_blames, cause_none}
 use Rattle.adapt_turn.proofs.Told.{part_told}
 use Rattle.std.proofs.Common.{arith}
 use Rattle.trace_core.specs.declared.history.Cause.TheVariants as causes
@@ -75,3 +75,6 @@ returns-then-agrees_with-clause-paced g c = λ n. part_received _ _ _ _ _ _ _ _ 
 
 pub returns-else-agrees_with-clause-paced : goal.returns-else-agrees_with-clause-paced
 returns-else-agrees_with-clause-paced g c = λ n. (let d : Some causes.Source ≡ None = sym (ap (λ (z : Passed). z.failed) c.close-passed.ensures.passed) ∙ n in absurd cc)
+
+pub returns-else-agrees_with-clause-reason : goal.returns-else-agrees_with-clause-reason
+returns-else-agrees_with-clause-reason g c = cause_none _ _ _ refl

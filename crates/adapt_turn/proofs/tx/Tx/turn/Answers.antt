@@ -3,7 +3,7 @@ use Rattle.std.proofs.Common.{inl, inr, sym, ◌∙◌, ap}
 use Rattle.trace_core.specs.declared.history.Cause.TheVariants.{Deadline, Stopping}
 use Rattle.plan_rules.specs.Room.{original_room, adapted_room}
 use Rattle.adapt_hold.specs.Holding.{shows}
-use Rattle.adapt_turn.proofs.Reasons.{waits_kept, both_kept, blamed_kept, line_blamed_kept, fails_kept, breaks_kept, outcome_fails}
+use Rattle.adapt_turn.proofs.Reasons.{waits_kept, both_kept, blamed_kept, line_blamed_kept, fails_kept, breaks_kept, cause_kept, outcome_fails}
 use Rattle.adapt_turn.proofs.Moved.{moves_of, moves_none, refreshed_by}
 use Rattle.adapt_turn.specs.declared.turned.Outcome.TheVariants as outcomes
 use Rattle.adapt_turn.proofs.Told.{done_told}
@@ -23,6 +23,7 @@ use Rattle.std.proofs.Common.{true, false, [], Some, None, arith}
 use Rattle.adapt_turn.specs.Made.{response_of, answers_user}
 use Rattle.std.specs.Prelude.{MatchOption, ⊤}
 use Rattle.adapt_turn.proofs.Paced.{paced_kept}
+use Rattle.adapt_sides.specs.Turns.{FailsGiving}
 use Rattle.adapt_turn.proofs.tx.Tx.turn.Goals as goal
 
 pub returns-then-is_broken-clause-goes : goal.returns-then-is_broken-clause-goes
@@ -145,16 +146,26 @@ pub returns-clause-fails : goal.returns-clause-fails
 returns-clause-fails g c = λ o cause e.
     let f = outcome_fails c.pass-passed.result.failed c.after_pass.new.self.outcome cause (c.after_pass.ensures.outcome ∙ c.pass-passed.ensures.outcome) e in
     inr (for_side c.args.side _ _ _
-    (λ s. (λ a. blamed_kept _ _ cause g.A.Wire.past _ _ (g.S.Source.fault c.pass-passed.new.self.source) (g.S.Source.fault c.after_pass.new.self.source) c.pass-passed.new.self.source_wire c.after_pass.new.self.source_wire (ap g.S.Source.fault c.after_pass.ensures.kept.0) c.after_pass.ensures.kept.1 ((c.pass-passed.ensures.blames_source s cause f).0 a), (c.pass-passed.ensures.blames_source s cause f).1))
+    (λ s. (
+      λ a. blamed_kept _ _ cause g.A.Wire.past _ _ (g.S.Source.fault c.pass-passed.new.self.source) (g.S.Source.fault c.after_pass.new.self.source) c.pass-passed.new.self.source_wire c.after_pass.new.self.source_wire (ap g.S.Source.fault c.after_pass.ensures.kept.0) c.after_pass.ensures.kept.1 ((c.pass-passed.ensures.blames_source s cause f).0 a),
+      (c.pass-passed.ensures.blames_source s cause f).1,
+      cause_kept (λ z fault. g.S.Source.has_reason fault z) _ _ _ c.pass-passed.new.self.source c.after_pass.new.self.source (ap g.S.Source.fault c.after_pass.ensures.kept.0) c.after_pass.ensures.kept.0 (c.pass-passed.ensures.reason_source s),
+    ))
     (λ s. (
       λ n. (let d : None ≡ Some cause = sym (c.pass-passed.ensures.idle (c.pass-passed.ensures.absent s n)) ∙ f in absurd cc),
       line_blamed_kept (λ l. g.V.Service.fault l.side) (λ l p. g.W.Wire.past l.wire p) cause _ _ c.pass-passed.new.self.service c.after_pass.new.self.service c.after_pass.ensures.kept.2 (c.pass-passed.ensures.blames_service s cause f),
-      fails_kept (λ l. g.V.Service.fault l.side) cause c.args.self.now.reused c.pass-passed.new.self.hold c.after_pass.new.self.hold c.pass-passed.new.self.service c.after_pass.new.self.service c.after_pass.ensures.hold c.after_pass.ensures.kept.2 (c.pass-passed.ensures.unbroken s cause f),
+      fails_kept (λ l. g.V.Service.fault l.side) (λ fault x l. g.V.Service.has_reason fault x l.side) cause c.args.self.now.reused c.args.self.now.service c.pass-passed.new.self.hold c.after_pass.new.self.hold c.pass-passed.new.self.service c.after_pass.new.self.service c.after_pass.ensures.hold c.after_pass.ensures.kept.2 (c.pass-passed.ensures.unbroken s cause f),
     ))
-    (λ s. elim (c.pass-passed.ensures.blames_next s cause f) [
+    (λ s.
+    let x = shows c.args.self.now.hold.history in
+    let mid = c.pass-passed.new.self in
+    let new = c.after_pass.new.self in
+    let next = cause_kept (λ z. FailsGiving (g.K.Hop.breaks_length x z)) _ _ _ (g.K.Hop.body_framing mid.next) (g.K.Hop.body_framing new.next) c.after_pass.ensures.kept.4 c.after_pass.ensures.framings.0 (c.pass-passed.ensures.reasons_next s).0 in
+    let back = cause_kept (λ z. FailsGiving (g.K.Hop.breaks_length x z)) _ _ _ (g.K.Hop.body_framing mid.back) (g.K.Hop.body_framing new.back) c.after_pass.ensures.kept.5 c.after_pass.ensures.framings.1 (c.pass-passed.ensures.reasons_next s).1 in
+    elim (c.pass-passed.ensures.blames_next s cause f) [
       | inl u ↦ inl u
-      | inr (inl v) ↦ inr (inl (blamed_kept _ _ cause g.C.Wire.past _ _ (g.K.Hop.fault c.pass-passed.new.self.next) (g.K.Hop.fault c.after_pass.new.self.next) c.pass-passed.new.self.next_wire c.after_pass.new.self.next_wire c.after_pass.ensures.kept.4 c.after_pass.ensures.kept.3 v))
-      | inr (inr v) ↦ inr (inr (blamed_kept _ _ cause g.A.Wire.past _ _ (g.K.Hop.fault c.pass-passed.new.self.back) (g.K.Hop.fault c.after_pass.new.self.back) c.pass-passed.new.self.source_wire c.after_pass.new.self.source_wire c.after_pass.ensures.kept.5 c.after_pass.ensures.kept.1 v))
+      | inr (inl v) ↦ inr (inl (blamed_kept _ _ cause g.C.Wire.past _ _ (g.K.Hop.fault mid.next) (g.K.Hop.fault new.next) mid.next_wire new.next_wire c.after_pass.ensures.kept.4 c.after_pass.ensures.kept.3 v), next, back)
+      | inr (inr v) ↦ inr (inr (blamed_kept _ _ cause g.A.Wire.past _ _ (g.K.Hop.fault mid.back) (g.K.Hop.fault new.back) mid.source_wire new.source_wire c.after_pass.ensures.kept.5 c.after_pass.ensures.kept.1 v), next, back)
     ]))
 
 pub returns-then-is_broken-clause-fails : goal.returns-then-is_broken-clause-fails

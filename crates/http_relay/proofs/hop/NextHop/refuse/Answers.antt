@@ -7,4 +7,4 @@ use Rattle.http_relay.proofs.hop.NextHop.refuse.Goals as goal
 pub returns-clause-aside : goal.returns-clause-aside
 returns-clause-aside c =
     let e : c.constant.result ≡ fresh (refusal c.args.status) = search rules in
-    refused c.args.status c.constant.result c.self.inside.touched c.self.inside.fault e
+    refused c.args.status c.constant.result c.self.inside.framing c.self.inside.touched c.self.inside.fault e

@@ -1,5 +1,5 @@
 use Rattle.std.proofs.Common.{◌≡◌, true, false, [], length, refl, sym, ◌∙◌}
-use Rattle.http_relay.specs.Events.{body_events}
+use Rattle.http_relay.specs.Events.{source_events}
 use Rattle.http_relay.specs.declared.side.SourceSide.{SourceSide}
 use Rattle.adapt_sides.specs.declared.turn.Turn.{Turn}
 use Rattle.http_relay.proofs.Turning.{turn_bytes, turn_bytes_refused, turn_waited, turn_end, turn_ended, turn_failed, turn_full}
@@ -27,7 +27,7 @@ returns-in-Ok-close-clause-turn g c =
     let new : SourceSide = record { alloc = c.args.self.now.alloc; asks = c.args.self.now.asks; head = c.args.self.now.head; head_fault = c.args.self.now.head_fault; body = c.close.new.self; raw = c.fill.new.raw; judged = c.args.self.now.judged; fault = c.args.self.now.fault } in
     let t : Turn = record { events = c.in-Ok-close.events; waiting = false } in
     turn_end (length c.args.out.now) c.args.self.now new (g.W.Wire.past c.args.wire.now) (g.W.Wire.past c.fill.new.wire) c.args.out.now t (record { asks = refl; head = refl; way = c.in-Ok-close.ensures.framing }) (record { going_on = c.requires.going_on; some_room = c.requires.some_room; none_kept = c.requires.empty }) c.in-Ended.ensures.filled c.in-Ok-close.ensures.reads c.in-Ok-close.ensures.none
-    (λ e. let odd : body_events 0 true ≡ [] = sym c.in-Ok-close.ensures.some ∙ e in cc) refl
+    (λ e. let odd : source_events 0 true ≡ [] = sym c.in-Ok-close.ensures.some ∙ e in cc) refl
 
 pub returns-in-Err-close-clause-turn : goal.returns-in-Err-close-clause-turn
 returns-in-Err-close-clause-turn g c =

@@ -2,10 +2,11 @@ use Rattle.std.proofs.Common.{rules, ◌≡◌, List, ℕ, length, take, drop, a
 use Rattle.trace_core.specs.History.{seen}
 use Rattle.icap_client.specs.Events.{ad_sum}
 use Rattle.icap_client.specs.Heard.{Reader}
+use Rattle.icap_client.specs.Refused.{Refuses}
 use Rattle.icap_client.specs.Hearing.{ReaderHears, MustWait}
 use Rattle.icap_client.specs.declared.stage.Stage.{Stage}
 use Rattle.icap_client.specs.Reading.{Side}
-use Rattle.icap_client.proofs.Sides.{framed, has_to_wait}
+use Rattle.icap_client.proofs.Sides.{framed, has_to_wait, refuses_still}
 use Rattle.icap_client.proofs.side.ReplySide.frame_raw.Goals as goal
 
 pub returns-in-Ok-clause-hears : goal.returns-in-Ok-clause-hears
@@ -35,3 +36,10 @@ returns-in-Ok-clause-waits c = λ none.
     let room = length c.args.out.now in
     let rest : c.pass.new.self.bytes ≡ drop c.in-Ok.heard.used c.as_slice.result.now = search rules in
     has_to_wait c.frame.new.self.stage c.pass.new.self.bytes room (subst (λ (t : List ℕ). MustWait c.frame.new.self.stage t room) (sym rest) (c.in-Ok.ensures.waits none))
+
+pub returns-in-Err-clause-refuses : goal.returns-in-Err-clause-refuses
+returns-in-Err-clause-refuses c =
+    let x = seen c.args.state.now.plan c.args.state.now.events in
+    let raw_is : c.as_slice.result.now ≡ c.self.inside.raw.bytes = search rules in
+    refuses_still c.in-Err.fault x c.self.inside.reader c.frame.new.self c.self.inside.raw.bytes c.in-Err.ensures.stays
+    (subst (λ (t : List ℕ). Refuses c.in-Err.fault x c.self.inside.reader.point c.self.inside.reader.stage t) raw_is c.in-Err.ensures.refuses)
