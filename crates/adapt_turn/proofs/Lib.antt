@@ -13,3 +13,4 @@ pub mod Reasons
 pub mod Rows
 pub mod Refusals
 pub mod ByTurn
+pub mod Faultless

@@ -10,7 +10,7 @@ ghost use Rattle.adapt_hold.specs.Holding.{shows, IsRoomy, IsTied};
 ghost use Rattle.trace_core.specs.History.{seen};
 ghost use Rattle.adapt_sides.specs.Turns.{Gift};
 ghost use Rattle.adapt_sides.specs.Turns.Gift.{nothing};
-ghost use Rattle.adapt_turn.specs.Parts.{outcome_of};
+ghost use Rattle.adapt_turn.specs.Parts.{outcome_of, fault_of};
 ghost use Rattle.adapt_turn.specs.Stands.{Texts, no_texts};
 
 mod answers;
@@ -199,6 +199,8 @@ impl<B: Ledgers, S: Source, V: Service, K: Hop, F: Forward<S, K>, A: Wire, W: Wi
             → ⟦<Self as Standing>⟧.stands tx request (record no_texts { source_read = read })) }
         ensures fields { IfOk result (λ tx. (tx.source ≡ start.source) × (tx.source_wire ≡ start.source_wire) × (tx.service ≡ start.service) × (tx.next ≡ start.next) × (tx.next_wire ≡ start.next_wire)
             × (tx.back ≡ start.back) × (tx.forward ≡ start.forward)) }
+        ensures faultless { IfOk result (λ tx. S.fault start.source ≡ None → fault_of (λ line. V.fault line.side) start.service ≡ None → K.fault start.next ≡ None → K.fault start.back ≡ None
+            → ⟦<Self as Answering>⟧.faultless tx) }
         ensures back { IfErr result (λ back. back ≡ start) }
     {
         if !start.source.begins(&start.plan) {

@@ -10,15 +10,17 @@ use Rattle.icap_client.specs.Turns.{Service, ServiceSent, ServiceHeard, is_answe
 use Rattle.icap_client.specs.OthersSent.{it_begins}
 use Rattle.icap_client.proofs.Both.{side_begins}
 use Rattle.adapt_turn.specs.declared.start.Line.{Line}
+use Rattle.adapt_turn.specs.Parts.{fault_of}
 use Rattle.proxy_rules.specs.Offers.{IsUnused}
 
 pub unused : (s : Service) (text : List ℕ) (point : Point) → s.writer ≡ fresh text → s.replies.reader ≡ first_reader point → s.replies.raw ≡ []
-    → (s.last_stop ≡ false) × (s.answered ≡ false) → IsUnused text s
-unused s text point w r raw m = record {
+    → (s.last_stop ≡ false) × (s.answered ≡ false) → s.replies.fault ≡ None → IsUnused text s
+unused s text point w r raw m f = record {
   writer = w;
   reader = r ∙ ap first_reader (sym (ap (λ q. q.point) r));
   raw = raw;
   marks = m;
+  fault = f;
 }
 
 and_false : (b : Bool) → (b && false) ≡ false
@@ -44,3 +46,8 @@ pub nothing_on : {W : Type 0} (request : List ℕ) (plan : Plan) (service : Opti
     → IfSome service (λ line. ServiceSent request (seen plan []) [] [] line.side × ServiceHeard (seen plan []) [] [] line.side)
 nothing_on request plan None u = tt
 nothing_on request plan (Some line) u = (nothing_sent request line.side plan u, nothing_heard request line.side plan u)
+
+-- a service that has no fault
+pub faultless_on : {W : Type 0} (request : List ℕ) (service : Option (Line Service W)) → IfSome service (λ line. IsUnused request line.side) → fault_of (λ line. line.side.replies.fault) service ≡ None
+faultless_on request None u = refl
+faultless_on request (Some line) u = u.fault

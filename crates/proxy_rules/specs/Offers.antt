@@ -1,5 +1,5 @@
 -- What a service is asked: the text of a request to it (RFC 3507, sections 4.4, 4.8 and 4.9).
-use Rattle.std.specs.Prelude.{◌≡◌, ℕ, true, false, List, [], string_bytes}
+use Rattle.std.specs.Prelude.{◌≡◌, ℕ, true, false, List, [], None, string_bytes}
 use Rattle.std.specs.Net.Socket.{v4_port}
 use Rattle.trace_core.specs.declared.history.Plan.{Plan}
 use Rattle.http_side.specs.Heads.{RequestParts, ResponseParts}
@@ -22,9 +22,10 @@ offered_response response = response_text response no_extra
 abbrev pub offered_text : ServicePoint → Plan → List ℕ → List ℕ → List ℕ
 offered_text service plan req res = request_head plan (string_bytes service.host) (v4_port service.address) (string_bytes service.path) req res
 
--- a service's side with a request of this text up to its chunks, which has written and read nothing yet
+-- a service's side with a request of this text up to its chunks, which has written and read nothing yet and has no fault
 pub record IsUnused (request : List ℕ) (s : Service) : Type 0 where
   pub writer : s.writer ≡ fresh request
   pub reader : s.replies.reader ≡ first_reader s.replies.reader.point
   pub raw : s.replies.raw ≡ []
   pub marks : (s.last_stop ≡ false) × (s.answered ≡ false)
+  pub fault : s.replies.fault ≡ None

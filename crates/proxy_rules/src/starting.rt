@@ -9,7 +9,7 @@ ghost use Rattle.proxy_rules.specs.Offers.{IsUnused};
 
 use crate::head_maker::HeadMaker;
 use adapt_sides::Source;
-use adapt_turn::{Line, Standing, Start, Tx};
+use adapt_turn::{Answering, Line, Standing, Start, Tx};
 use http_relay::{NextHop, SourceSide};
 use icap_client::ServiceSide;
 use plan_rules::{Limits, Plan};
@@ -58,6 +58,8 @@ pub fn begin<B: Ledgers, A: Wire, W: Wire, C: Wire>(
     ensures clock { IfOk result (λ tx. (tx.last_moved ≡ beginning.now) × (tx.deadline ≡ beginning.deadline)) }
     ensures stands { IfOk result (λ tx. (read request : List ℕ) → Begins read beginning.source → IfSome beginning.service (λ line. IsUnused request line.side)
         → ⟦<Tx<B, SourceSide, ServiceSide, NextHop, HeadMaker, A, W, C> as Standing>⟧.stands tx request (record no_texts { source_read = read })) }
+    ensures faultless { IfOk result (λ tx. (request : List ℕ) → IfSome beginning.service (λ line. IsUnused request line.side)
+        → ⟦<Tx<B, SourceSide, ServiceSide, NextHop, HeadMaker, A, W, C> as Answering>⟧.faultless tx) }
     ensures line { IfOk result (λ tx. (tx.broken ≡ false) × (tx.reused ≡ beginning.reused)) }
     ensures fields { IfOk result (λ tx. (tx.source ≡ beginning.source) × (tx.source_wire ≡ beginning.source_wire) × (tx.service ≡ beginning.service) × (tx.next_wire ≡ beginning.next_wire)
         × (tx.forward ≡ beginning.heads)) }

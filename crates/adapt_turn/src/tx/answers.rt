@@ -38,14 +38,18 @@ pub trait Answering {
     ghost answers: { Self → Side → Self → Turned → Type 0 };
 
     // Of an open one a turn steps events of its side, or Fail, and leaves the other sides and wires as they were; unless it fails, the
-    // writers too, and it brings of its body no more than a turn may; a message that is begun goes back to the user exactly where a
-    // request was offered and the service answers it.
+    // writers too, and it brings of its body no more than a turn may. A turn of the next hop leaves one of the two wires: that of the
+    // writer without a message. A message that is begun goes back to the user exactly where a request was offered and the service
+    // answers it.
     // Of a closed one it leaves all but the user's writer and wire.
     ghost keeps: { Self → Side → Self → Type 0 };
 
     // At this moment the deadline has passed, or the cause is that of the side's fault. One that the side didn't have before has its
     // reason: its wire failed or ended in this turn, there was no memory, or what was read, or the chosen body, is at fault.
     ghost fails: { Self → Side → ℕ → Self → Cause → Type 0 };
+
+    // no side has a fault; the service's may have one where its connection broke
+    ghost faultless: { Self → Type 0 };
 }
 
 impl<
@@ -84,7 +88,8 @@ impl<
         ((new.source ≡ old.source) × (new.source_wire ≡ old.source_wire) × (new.next_wire ≡ old.next_wire)
         × (((cause : Cause) → new.outcome ≡ outcomes.Fail cause → ⊥) → (new.next ≡ old.next) × (new.back ≡ old.back)
         × ((shows new.hold.history).adapted_received ≤ (shows old.hold.history).adapted_received + TURN_BYTES)))
-        ((new.source ≡ old.source) × (new.service ≡ old.service))
+        ((new.source ≡ old.source) × (new.service ≡ old.service) × ((new.source_wire ≡ old.source_wire) ⊎ (new.next_wire ≡ old.next_wire))
+        × (((cause : Cause) → new.outcome ≡ outcomes.Fail cause → ⊥) → OfWriter (K.gift new.back) (new.source_wire ≡ old.source_wire) (new.next_wire ≡ old.next_wire)))
         × (K.gift old.back ≡ nothing → K.gift new.back ≡ message → answers_user (shows old.hold.history) (response_of V.is_response old.service) ≡ true)
         × (K.gift old.next ≡ nothing → K.gift new.next ≡ message → answers_user (shows old.hold.history) (response_of V.is_response old.service) ≡ false))
         × ((shows old.hold.history).closed ≡ true → (new.source ≡ old.source) × (new.service ≡ old.service)
@@ -103,4 +108,6 @@ impl<
         ⊎ Blamed OfRelayWire hop_cause cause (K.fault old.back) (K.fault new.back) (A.past old.source_wire) (A.past new.source_wire))
         × HasCause (K.fault old.next) (K.fault new.next) (FailsGiving (K.breaks_length (shows old.hold.history) (K.body_framing new.next)))
         × HasCause (K.fault old.back) (K.fault new.back) (FailsGiving (K.breaks_length (shows old.hold.history) (K.body_framing new.back))))) };
+
+    ghost faultless = { λ tx. (S.fault tx.source ≡ None) × (tx.broken ≡ false → fault_of (λ line. V.fault line.side) tx.service ≡ None) × (K.fault tx.next ≡ None) × (K.fault tx.back ≡ None) };
 }

@@ -186,6 +186,8 @@ impl<B: Ledgers, S: Source, V: Service, K: Hop, F: Forward<S, K>, A: Wire, W: Wi
             ⊎ Blamed OfRelayWire hop_cause cause (K.fault self.old.back) (K.fault self.new.back) (A.past self.old.source_wire) (A.past self.new.source_wire)) }
         ensures reasons { HasCause (K.fault self.old.next) (K.fault self.new.next) (FailsGiving (K.breaks_length (shows self.old.hold.history) (K.body_framing self.new.next)))
             × HasCause (K.fault self.old.back) (K.fault self.new.back) (FailsGiving (K.breaks_length (shows self.old.hold.history) (K.body_framing self.new.back))) }
+        ensures sound { result.failed ≡ None → (K.fault self.old.next ≡ None → K.fault self.new.next ≡ None) × (K.fault self.old.back ≡ None → K.fault self.new.back ≡ None) }
+        ensures elsewhere { OfWriter (K.gift self.new.back) (self.new.source_wire ≡ self.old.source_wire) (self.new.next_wire ≡ self.old.next_wire) }
         ensures of_side { (cause : Cause) → result.failed ≡ Some cause → IsOfSide cause }
         ensures outcome { self.new.outcome ≡ outcome_by result.failed }
         ensures served { self.new.service ≡ self.old.service }
@@ -237,6 +239,8 @@ impl<B: Ledgers, S: Source, V: Service, K: Hop, F: Forward<S, K>, A: Wire, W: Wi
             ⊎ Blamed OfRelayWire hop_cause cause (K.fault self.old.back) (K.fault self.new.back) (A.past self.old.source_wire) (A.past self.new.source_wire)) }
         ensures reasons { HasCause (K.fault self.old.next) (K.fault self.new.next) (FailsGiving (K.breaks_length (shows self.old.hold.history) (K.body_framing self.new.next)))
             × HasCause (K.fault self.old.back) (K.fault self.new.back) (FailsGiving (K.breaks_length (shows self.old.hold.history) (K.body_framing self.new.back))) }
+        ensures sound { result.failed ≡ None → (K.fault self.old.next ≡ None → K.fault self.new.next ≡ None) × (K.fault self.old.back ≡ None → K.fault self.new.back ≡ None) }
+        ensures elsewhere { OfWriter (K.gift self.new.back) (self.new.source_wire ≡ self.old.source_wire) (self.new.next_wire ≡ self.old.next_wire) }
         ensures of_side { (cause : Cause) → result.failed ≡ Some cause → IsOfSide cause ⊎ MakesNoneAt (F.makes_none self.old.forward (S.head self.old.source)) (adapted_of V.adapted_head self.old.service) (response_of V.is_response self.old.service) (shows self.old.hold.history) cause }
         ensures outcome { self.new.outcome ≡ outcome_by result.failed }
         ensures served { self.new.service ≡ self.old.service }

@@ -69,6 +69,7 @@ impl<B: Ledgers, S: Source, V: Service, K: Hop, F: Forward<S, K>, A: Wire, W: Wi
         ensures active { result.waiting ≡ false → BytesOr (Advances (may_step Side.Source) self.old.hold self.new.hold) (A.past self.old.source_wire) (A.past self.new.source_wire) }
         ensures blames { (cause : Cause) → result.failed ≡ Some cause → (S.agrees (shows self.old.hold.history) self.old.source → Blamed OfRelayWire source_cause cause (S.fault self.old.source) (S.fault self.new.source) (A.past self.old.source_wire) (A.past self.new.source_wire)) × ((S.agrees (shows self.old.hold.history) self.old.source → ⊥) → cause ≡ Cause.Source) }
         ensures reason { HasCause (S.fault self.old.source) (S.fault self.new.source) (λ fault. S.has_reason fault self.new.source) }
+        ensures sound { result.failed ≡ None → S.fault self.new.source ≡ None }
         ensures of_side { (cause : Cause) → result.failed ≡ Some cause → IsOfSide cause }
         ensures whole { result.broken ≡ false }
         ensures outcome { self.new.outcome ≡ outcome_by result.failed }
@@ -155,6 +156,7 @@ impl<B: Ledgers, S: Source, V: Service, K: Hop, F: Forward<S, K>, A: Wire, W: Wi
         ensures rests { (x : Seen) → MatchOption self.old.service ⊤ (λ line. V.rests_writing x line.side) → MatchOption self.new.service ⊤ (λ line. V.rests_writing x line.side) }
         ensures blames { (cause : Cause) → result.failed ≡ Some cause → BlamedService cause (fault_of (λ line. V.fault line.side) self.old.service) (fault_of (λ line. V.fault line.side) self.new.service) (λ p. MatchOption self.old.service ⊥ (λ line. W.past line.wire p)) (λ p. MatchOption self.new.service ⊥ (λ line. W.past line.wire p)) }
         ensures unbroken { (cause : Cause) → result.failed ≡ Some cause → FailsFor (λ line. V.fault line.side) (λ fault x line. V.has_reason fault x line.side) cause self.old.reused self.old.service self.new.service self.new.hold }
+        ensures sound { result.failed ≡ None → result.broken ≡ false → fault_of (λ line. V.fault line.side) self.new.service ≡ None }
         ensures of_side { (cause : Cause) → result.failed ≡ Some cause → IsOfSide cause }
         ensures breaks { result.broken ≡ true → MatchOption self.new.service ⊥ (λ line. Breaks self.new.hold.history self.old.reused (V.fault line.side)) }
         ensures outcome { self.new.outcome ≡ outcome_by result.failed }
@@ -198,6 +200,7 @@ impl<B: Ledgers, S: Source, V: Service, K: Hop, F: Forward<S, K>, A: Wire, W: Wi
         ensures active { result.waiting ≡ false → result.broken ≡ false → BytesOr (Advances (may_step Side.Service) self.old.hold self.new.hold) (λ p. MatchOption self.old.service ⊥ (λ line. W.past line.wire p)) (λ p. MatchOption self.new.service ⊥ (λ line. W.past line.wire p)) }
         ensures blames { (cause : Cause) → result.failed ≡ Some cause → BlamedService cause (fault_of (λ line. V.fault line.side) self.old.service) (fault_of (λ line. V.fault line.side) self.new.service) (λ p. MatchOption self.old.service ⊥ (λ line. W.past line.wire p)) (λ p. MatchOption self.new.service ⊥ (λ line. W.past line.wire p)) }
         ensures unbroken { (cause : Cause) → result.failed ≡ Some cause → FailsFor (λ line. V.fault line.side) (λ fault x line. V.has_reason fault x line.side) cause self.old.reused self.old.service self.new.service self.new.hold }
+        ensures sound { result.failed ≡ None → result.broken ≡ false → fault_of (λ line. V.fault line.side) self.new.service ≡ None }
         ensures of_side { (cause : Cause) → result.failed ≡ Some cause → IsOfSide cause }
         ensures breaks { result.broken ≡ true → MatchOption self.new.service ⊥ (λ line. Breaks self.new.hold.history self.old.reused (V.fault line.side)) }
         ensures outcome { self.new.outcome ≡ outcome_by result.failed }
@@ -258,6 +261,10 @@ impl<B: Ledgers, S: Source, V: Service, K: Hop, F: Forward<S, K>, A: Wire, W: Wi
         ensures blames_next { side ≡ Side.NextHop → (cause : Cause) → result.failed ≡ Some cause → (IsChosen (shows self.old.hold.history) × (K.gift self.old.next ≡ nothing) × (K.gift self.old.back ≡ nothing)
             × MakesNoneAt (F.makes_none self.old.forward (S.head self.old.source)) (adapted_of V.adapted_head self.old.service) (response_of V.is_response self.old.service) (shows self.old.hold.history) cause) ⊎ (Blamed OfRelayWire hop_cause cause (K.fault self.old.next) (K.fault self.new.next) (C.past self.old.next_wire) (C.past self.new.next_wire)
             ⊎ Blamed OfRelayWire hop_cause cause (K.fault self.old.back) (K.fault self.new.back) (A.past self.old.source_wire) (A.past self.new.source_wire)) }
+        ensures sound_source { side ≡ Side.Source → result.failed ≡ None → S.fault self.new.source ≡ None }
+        ensures sound_service { side ≡ Side.Service → result.failed ≡ None → result.broken ≡ false → fault_of (λ line. V.fault line.side) self.new.service ≡ None }
+        ensures sound_next { side ≡ Side.NextHop → result.failed ≡ None → (K.fault self.old.next ≡ None → K.fault self.new.next ≡ None) × (K.fault self.old.back ≡ None → K.fault self.new.back ≡ None) }
+        ensures elsewhere { side ≡ Side.NextHop → OfWriter (K.gift self.new.back) (self.new.source_wire ≡ self.old.source_wire) (self.new.next_wire ≡ self.old.next_wire) }
         ensures of_side { (cause : Cause) → result.failed ≡ Some cause → IsOfSide cause ⊎ ((side ≡ Side.NextHop) × MakesNoneAt (F.makes_none self.old.forward (S.head self.old.source)) (adapted_of V.adapted_head self.old.service) (response_of V.is_response self.old.service) (shows self.old.hold.history) cause) }
         ensures breaks { result.broken ≡ true → (side ≡ Side.Service) × (result.failed ≡ None) × MatchOption self.new.service ⊥ (λ line. Breaks self.new.hold.history self.old.reused (V.fault line.side)) }
         ensures outcome { self.new.outcome ≡ outcome_by result.failed }

@@ -9,7 +9,7 @@ ghost use Rattle.adapt_turn.specs.Stands.{Texts};
 
 use crate::forward::Forward;
 use crate::turned::Outcome;
-use crate::tx::{Going, Refusing, Standing, Tx};
+use crate::tx::{Answering, Going, Refusing, Standing, Tx};
 use adapt_hold::go_on;
 use adapt_sides::{Hop, Service, Source};
 use span_bank::{Bank, Ledgers};
@@ -40,6 +40,7 @@ impl<B: Ledgers, S: Source, V: Service, K: Hop, F: Forward<S, K>, A: Wire, W: Wi
         ensures served { is_some self.new.service ≡ is_some self.old.service }
         ensures kept { (self.new.source ≡ self.old.source) × (self.new.next ≡ self.old.next) × (self.new.back ≡ self.old.back)
             × (self.new.outcome ≡ self.old.outcome) × (self.new.refusing ≡ self.old.refusing) }
+        ensures faultless { ⟦<Self as Answering>⟧.faultless self.old → ⟦<Self as Answering>⟧.faultless self.new }
         ensures unused { (self.new.broken ≡ false) × (self.new.reused ≡ false) }
         ensures timed { (self.new.last_moved ≡ self.old.last_moved) × (self.new.deadline ≡ self.old.deadline) }
     {

@@ -84,6 +84,7 @@ impl<B: Ledgers, S: Source, V: Service, K: Hop, F: Forward<S, K>, A: Wire, W: Wi
         ensures refuses { (shows self.old.hold.history).closed ≡ false → (cause : Cause) → self.new.outcome ≡ Outcome.Fail cause → ⟦<Self as Refusing>⟧.refuses self.new cause }
         ensures refuses_on { (shows self.old.hold.history).closed ≡ true → (cause : Cause) → ⟦<Self as Refusing>⟧.refuses self.old cause → ⟦<Self as Refusing>⟧.refuses self.new cause }
         ensures fails { (shows self.old.hold.history).closed ≡ false → (cause : Cause) → self.new.outcome ≡ Outcome.Fail cause → ⟦<Self as Answering>⟧.fails self.old side now self.new cause }
+        ensures faultless { (shows self.new.hold.history).closed ≡ false → ⟦<Self as Answering>⟧.faultless self.old → ⟦<Self as Answering>⟧.faultless self.new }
         ensures timely { (shows self.old.hold.history).closed ≡ false → self.new.outcome ≡ Outcome.Fail Deadline
             → (self.old.last_moved + self.old.deadline ≤ now) ⊎ ((side ≡ Side.NextHop) × MakesNoneAt (F.makes_none self.old.forward (S.head self.old.source)) (adapted_of V.adapted_head self.old.service) (response_of V.is_response self.old.service) (shows self.old.hold.history) Deadline) }
         ensures unstopped { (shows self.old.hold.history).closed ≡ false → self.new.outcome ≡ Outcome.Fail Stopping → (side ≡ Side.NextHop) × MakesNoneAt (F.makes_none self.old.forward (S.head self.old.source)) (adapted_of V.adapted_head self.old.service) (response_of V.is_response self.old.service) (shows self.old.hold.history) Stopping }
@@ -112,6 +113,7 @@ impl<B: Ledgers, S: Source, V: Service, K: Hop, F: Forward<S, K>, A: Wire, W: Wi
         ensures open { (outcome : Outcome) → result ≡ Turned.Finished outcome → ⊥ }
         ensures waiting { result ≡ Turned.Waiting → (passed.waiting ≡ true) × (moved ≡ 0) }
         ensures broken { result ≡ Turned.Broken → passed.broken ≡ true }
+        ensures breaks { passed.broken ≡ true → result ≡ Turned.Broken }
         ensures marked { (self.new.broken ≡ true ↔ (self.old.broken ≡ true) ⊎ (result ≡ Turned.Broken)) × (self.new.reused ≡ self.old.reused) }
         ensures hold { self.new.hold ≡ self.old.hold }
         ensures outcome { self.new.outcome ≡ self.old.outcome }
@@ -146,6 +148,7 @@ impl<B: Ledgers, S: Source, V: Service, K: Hop, F: Forward<S, K>, A: Wire, W: Wi
             → (self.new.hold ≡ moved self.old.hold (Fail Deadline) []) × (self.new.outcome ≡ Outcome.Fail Deadline) }
         ensures refuses { (shows self.old.hold.history).closed ≡ false → (cause : Cause) → self.new.outcome ≡ Outcome.Fail cause → ⟦<Self as Refusing>⟧.refuses self.new cause }
         ensures refuses_on { (shows self.old.hold.history).closed ≡ true → (cause : Cause) → ⟦<Self as Refusing>⟧.refuses self.old cause → ⟦<Self as Refusing>⟧.refuses self.new cause }
+        ensures faultless { (shows self.new.hold.history).closed ≡ false → ⟦<Self as Answering>⟧.faultless self.old → ⟦<Self as Answering>⟧.faultless self.new }
         ensures unstopped { ((maker : F) (head : S.Head) (x : Seen) (adapted : Option (List ℕ)) (is_response : Bool) → F.makes_none maker head x adapted is_response Stopping → ⊥)
             → (shows self.old.hold.history).closed ≡ false → self.new.outcome ≡ Outcome.Fail Stopping → ⊥ }
         ensures timely { ((maker : F) (head : S.Head) (x : Seen) (adapted : Option (List ℕ)) (is_response : Bool) → F.makes_none maker head x adapted is_response Deadline → ⊥)

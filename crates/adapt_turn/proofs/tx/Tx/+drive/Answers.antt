@@ -6,6 +6,7 @@ use Rattle.adapt_turn.proofs.Together.{goes_none, goes_then}
 use Rattle.std.proofs.Common.{ap}
 use Rattle.std.proofs.lemmas.Bool.{false≢true}
 use Rattle.adapt_turn.proofs.Refusals.{by_closed}
+use Rattle.adapt_turn.proofs.Faultless.{open_where}
 use Rattle.adapt_turn.proofs.ByTurn.{drives_none, drives_more}
 use Rattle.adapt_turn.proofs.tx.Tx.+drive.Goals as goal
 
@@ -22,6 +23,7 @@ returns-in-len1-up g t c = record {
   refuses = λ o cause e. by_closed (shows c.turn.new.self.hold.history).closed _
       (λ k. c.drive.ensures.refuses_on k cause (c.turn.ensures.refuses o cause (sym (c.drive.ensures.closed k).1 ∙ e))) (λ k. c.drive.ensures.refuses k cause e);
   refuses_on = λ k cause w. c.drive.ensures.refuses_on (ap (λ (y : Holding). (shows y.history).closed) (c.turn.ensures.closed k).0 ∙ k) cause (c.turn.ensures.refuses_on k cause w);
+  faultless = λ o f. c.drive.ensures.faultless o (c.turn.ensures.faultless (open_where (shows c.turn.new.self.hold.history).closed (λ k. false≢true (sym o ∙ (ap (λ (y : Holding). (shows y.history).closed) (c.drive.ensures.closed k).0 ∙ k)))) f);
   unstopped = λ clean o e. by_closed (shows c.turn.new.self.hold.history).closed ⊥
       (λ k. clean _ _ _ _ _ (c.turn.ensures.unstopped o (sym (c.drive.ensures.closed k).1 ∙ e)).1) (λ k. c.drive.ensures.unstopped clean k e);
   timely = λ clean o e. timely_then (shows c.turn.new.self.hold.history).closed _ c.turn.new.self.outcome c.drive.new.self.outcome

@@ -80,3 +80,15 @@ returns-then-is_idle-clause-reasons g c = (c.give-passed.ensures.reason, cause_n
 
 pub returns-else-is_idle-clause-reasons : goal.returns-else-is_idle-clause-reasons
 returns-else-is_idle-clause-reasons g c = (cause_none _ _ _ refl, c.give-passed-else-is_idle.ensures.reason)
+
+pub returns-then-is_idle-clause-sound : goal.returns-then-is_idle-clause-sound
+returns-then-is_idle-clause-sound g c = λ n. (λ f. c.give-passed.ensures.part.part.sound n c.give-passed.ensures.whole, λ f. f)
+
+pub returns-else-is_idle-clause-sound : goal.returns-else-is_idle-clause-sound
+returns-else-is_idle-clause-sound g c = λ n. (λ f. f, λ f. c.give-passed-else-is_idle.ensures.part.part.sound n c.give-passed-else-is_idle.ensures.whole)
+
+pub returns-then-is_idle-clause-elsewhere : goal.returns-then-is_idle-clause-elsewhere
+returns-then-is_idle-clause-elsewhere g c = of_next _ _ _ (c.is_idle.ensures.idle c.if-is_idle.true) refl
+
+pub returns-else-is_idle-clause-elsewhere : goal.returns-else-is_idle-clause-elsewhere
+returns-else-is_idle-clause-elsewhere g c = of_back _ _ _ (λ n. c.is_idle.ensures.busy c.if-is_idle.false (sym c.give-passed-else-is_idle.ensures.gift ∙ n)) refl

@@ -7,7 +7,8 @@ use Rattle.std.proofs.Common.{Option, refl, ◌∙◌, subst}
 use Rattle.std.specs.Prelude.{MatchOption}
 use Rattle.adapt_turn.specs.declared.start.Line.{Line}
 use Rattle.adapt_turn.proofs.Told.{part_told}
-use Rattle.std.proofs.Common.{[], arith}
+use Rattle.std.proofs.Common.{[], arith, ap}
+use Rattle.adapt_turn.specs.Parts.{fault_of}
 use Rattle.adapt_turn.specs.declared.turned.Side.TheVariants.{Service}
 use Rattle.adapt_turn.proofs.Reasons.{part_still}
 use Rattle.adapt_turn.proofs.Paced.{part_adapted, adapted_few}
@@ -71,3 +72,9 @@ returns-in-Some-clause-paced g c =
     let few = part_adapted _ _ _ _ _ _ _ _ _ _ _ _ _ _ _ _ _ c.state-state.ensures.tied c.hear-passed.ensures.part.part _ c.hear-passed.ensures.part.few in
     let turn = adapted_few (shows c.args.self.now.hold.history) c.args.self.now.hold.limits.window in
     omega (arith, few, turn)
+
+pub returns-in-Some-clause-sound : goal.returns-in-Some-clause-sound
+returns-in-Some-clause-sound g c = c.hear-passed.ensures.part.part.sound
+
+pub returns-in-None-clause-sound : goal.returns-in-None-clause-sound
+returns-in-None-clause-sound g c = λ n b. ap (λ (z : Option (Line g.row.V.Denot g.row.W.Denot)). fault_of (λ l. g.V.Service.fault l.side) z) c.in-None.is

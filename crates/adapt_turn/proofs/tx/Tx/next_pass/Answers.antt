@@ -78,3 +78,18 @@ returns-in-None-clause-reasons g c =
       cause_from _ _ _ c.args.self.now.hold c.begin.new.self.hold (λ h. FailsGiving (g.K.Hop.breaks_length (shows h.history) (g.K.Hop.body_framing new.next))) c.begin.ensures.kept.2 same c.give_pass.ensures.reasons.0,
       cause_from _ _ _ c.args.self.now.hold c.begin.new.self.hold (λ h. FailsGiving (g.K.Hop.breaks_length (shows h.history) (g.K.Hop.body_framing new.back))) c.begin.ensures.kept.3 same c.give_pass.ensures.reasons.1,
     )
+
+pub returns-then-not-is_chosen-clause-sound : goal.returns-then-not-is_chosen-clause-sound
+returns-then-not-is_chosen-clause-sound g c = λ n. (λ f. f, λ f. f)
+
+pub returns-in-None-clause-sound : goal.returns-in-None-clause-sound
+returns-in-None-clause-sound g c = λ n. let w = c.give_pass.ensures.sound n in (λ f. w.0 (c.begin.ensures.kept.2 ∙ f), λ f. w.1 (c.begin.ensures.kept.3 ∙ f))
+
+pub returns-then-not-is_chosen-clause-elsewhere : goal.returns-then-not-is_chosen-clause-elsewhere
+returns-then-not-is_chosen-clause-elsewhere g c = (λ e. refl, λ k. refl)
+
+pub returns-in-Some-clause-elsewhere : goal.returns-in-Some-clause-elsewhere
+returns-in-Some-clause-elsewhere g c = (λ e. c.begin.ensures.kept.0, λ k. c.begin.ensures.kept.1)
+
+pub returns-in-None-clause-elsewhere : goal.returns-in-None-clause-elsewhere
+returns-in-None-clause-elsewhere g c = of_either _ _ _ _ _ _ refl (λ w. w ∙ c.begin.ensures.kept.0) (λ w. w ∙ c.begin.ensures.kept.1) c.give_pass.ensures.elsewhere

@@ -78,3 +78,9 @@ returns-else-agrees_with-clause-paced g c = λ n. (let d : Some causes.Source �
 
 pub returns-else-agrees_with-clause-reason : goal.returns-else-agrees_with-clause-reason
 returns-else-agrees_with-clause-reason g c = cause_none _ _ _ refl
+
+pub returns-then-agrees_with-clause-sound : goal.returns-then-agrees_with-clause-sound
+returns-then-agrees_with-clause-sound g c = λ n. c.read_source-passed.ensures.part.part.sound n c.read_source-passed.ensures.whole
+
+pub returns-else-agrees_with-clause-sound : goal.returns-else-agrees_with-clause-sound
+returns-else-agrees_with-clause-sound g c = λ n. (let d : Some causes.Source ≡ None = sym (ap (λ (z : Passed). z.failed) c.close-passed.ensures.passed) ∙ n in absurd cc)

@@ -2,8 +2,8 @@ use Rattle.adapt_turn.proofs.Together.{goes_none, goes_then}
 use Rattle.std.proofs.Common.{inl, inr, sym, ◌∙◌, ap}
 use Rattle.trace_core.specs.declared.history.Cause.TheVariants.{Deadline, Stopping}
 use Rattle.plan_rules.specs.Room.{original_room, adapted_room}
-use Rattle.adapt_hold.specs.Holding.{shows}
-use Rattle.adapt_turn.proofs.Reasons.{waits_kept, both_kept, blamed_kept, line_blamed_kept, fails_kept, breaks_kept, cause_kept, outcome_fails}
+use Rattle.adapt_hold.specs.Holding.{Holding, shows}
+use Rattle.adapt_turn.proofs.Reasons.{waits_kept, both_kept, blamed_kept, line_blamed_kept, fails_kept, breaks_kept, cause_kept, outcome_fails, not_failed}
 use Rattle.adapt_turn.proofs.Moved.{moves_of, moves_none, refreshed_by}
 use Rattle.adapt_turn.specs.declared.turned.Outcome.TheVariants as outcomes
 use Rattle.adapt_turn.proofs.Told.{done_told}
@@ -24,6 +24,9 @@ use Rattle.adapt_turn.specs.Made.{response_of, answers_user}
 use Rattle.std.specs.Prelude.{MatchOption, ⊤}
 use Rattle.adapt_turn.proofs.Paced.{paced_kept}
 use Rattle.adapt_sides.specs.Turns.{FailsGiving}
+use Rattle.adapt_turn.specs.Parts.{fault_of}
+use Rattle.adapt_turn.specs.declared.start.Line.{Line}
+use Rattle.adapt_turn.proofs.Faultless.{unmarked_before, unmarked_now}
 use Rattle.adapt_turn.proofs.tx.Tx.turn.Goals as goal
 
 pub returns-then-is_broken-clause-goes : goal.returns-then-is_broken-clause-goes
@@ -223,7 +226,14 @@ returns-clause-keeps g c = (
           λ n.
               let w = c.after_pass.ensures.same (unfailed c.pass-passed.result.failed c.after_pass.new.self.outcome (c.after_pass.ensures.outcome ∙ c.pass-passed.ensures.outcome) n) in (w.0 ∙ a.3, w.1 ∙ a.4, paced_kept _ (λ x. x.adapted_received) c.pass-passed.new.self.hold c.after_pass.new.self.hold c.after_pass.ensures.hold (c.pass-passed.ensures.paced_service s)),
         ))
-        (λ s. let a = c.pass-passed.ensures.apart_next s in (c.after_pass.ensures.kept.0 ∙ a.0, c.after_pass.ensures.kept.2 ∙ a.1)),
+        (λ s. let a = c.pass-passed.ensures.apart_next s in (
+          c.after_pass.ensures.kept.0 ∙ a.0,
+          c.after_pass.ensures.kept.2 ∙ a.1,
+          of_one _ _ _ _ (λ w. inl (c.after_pass.ensures.kept.1 ∙ w)) (λ w. inr (c.after_pass.ensures.kept.3 ∙ w)) (c.pass-passed.ensures.elsewhere s),
+          λ n.
+              let w = c.after_pass.ensures.same (unfailed c.pass-passed.result.failed c.after_pass.new.self.outcome (c.after_pass.ensures.outcome ∙ c.pass-passed.ensures.outcome) n) in
+              of_either _ _ _ _ _ _ (ap g.K.Hop.gift w.1) (λ v. c.after_pass.ensures.kept.1 ∙ v) (λ v. c.after_pass.ensures.kept.3 ∙ v) (c.pass-passed.ensures.elsewhere s),
+        )),
     λ n m. let w = c.after_pass.ensures.messages.1 m in
         by_side c.args.side (λ side. answers_user (shows c.args.self.now.hold.history) (response_of g.V.Service.is_response c.args.self.now.service) ≡ true)
         (λ s. absurd (idle_no_message _ n (sym (ap g.K.Hop.gift (c.pass-passed.ensures.apart_source s).3) ∙ w)))
@@ -246,7 +256,8 @@ returns-then-now-self-2-clause-keeps g c = (
   λ o. (
     took_fail c.args.side c.args.self.now.hold c.fail_by.new.self.hold Deadline (sym c.is_closed.ensures ∙ c.if-is_closed.false) c.fail_by.ensures.hold,
     for_side c.args.side _ _ _ (λ s. (c.fail_by.ensures.kept.1, c.fail_by.ensures.kept.2, λ n. absurd (n Deadline c.fail_by.ensures.outcome)))
-        (λ s. (c.fail_by.ensures.kept.3, c.fail_by.ensures.kept.0, c.fail_by.ensures.kept.2, λ n. absurd (n Deadline c.fail_by.ensures.outcome))) (λ s. (c.fail_by.ensures.kept.3, c.fail_by.ensures.kept.1)),
+        (λ s. (c.fail_by.ensures.kept.3, c.fail_by.ensures.kept.0, c.fail_by.ensures.kept.2, λ n. absurd (n Deadline c.fail_by.ensures.outcome)))
+        (λ s. (c.fail_by.ensures.kept.3, c.fail_by.ensures.kept.1, inl c.fail_by.ensures.kept.0, λ n. absurd (n Deadline c.fail_by.ensures.outcome))),
     λ n m. absurd (idle_no_message _ n (c.fail_by.ensures.messages.1 m)),
     λ n m. absurd (idle_no_message _ n (c.fail_by.ensures.messages.0 m)),
   ),
@@ -257,9 +268,40 @@ pub returns-then-is_broken-clause-keeps : goal.returns-then-is_broken-clause-kee
 returns-then-is_broken-clause-keeps g c = (
   λ o. (
     ([], tt, refl),
-    for_side c.args.side _ _ _ (λ s. (refl, refl, λ n. (refl, refl, omega arith))) (λ s. (refl, refl, refl, λ n. (refl, refl, omega arith))) (λ s. (refl, refl)),
+    for_side c.args.side _ _ _ (λ s. (refl, refl, λ n. (refl, refl, omega arith))) (λ s. (refl, refl, refl, λ n. (refl, refl, omega arith))) (λ s. (refl, refl, inl refl, λ n. (λ e. refl, λ k. refl))),
     λ n m. absurd (idle_no_message _ n m),
     λ n m. absurd (idle_no_message _ n m),
   ),
   λ k. absurd (false≢true (sym (sym c.is_closed.ensures ∙ c.if-is_closed.false) ∙ k)),
 )
+
+pub returns-clause-faultless : goal.returns-clause-faultless
+returns-clause-faultless g c = λ o f.
+    let p = c.pass-passed.ensures in
+    let a = c.after_pass.ensures in
+    let mid = c.pass-passed.new.self in
+    let n = not_failed c.pass-passed.result.failed _ p.over (ap (λ (h : Holding). (shows h.history).closed) (sym a.hold) ∙ o) in
+    let of_line = fault_of (λ (l : Line g.row.V.Denot g.row.W.Denot). g.V.Service.fault l.side) in
+    (
+      ap g.S.Source.fault a.kept.0 ∙ by_side c.args.side (λ side. g.S.Source.fault mid.source ≡ None)
+          (λ s. p.sound_source s n) (λ s. ap g.S.Source.fault (p.apart_service s).0 ∙ f.0) (λ s. ap g.S.Source.fault (p.apart_next s).0 ∙ f.0),
+      λ b. ap of_line a.kept.2 ∙ (
+          let before = f.1 (sym p.marked.0 ∙ unmarked_before mid.broken c.after_pass.new.self.broken _ a.marked.0 b) in
+          by_side c.args.side (λ side. of_line mid.service ≡ None)
+          (λ s. ap of_line (p.apart_source s).0 ∙ before)
+          (λ s. p.sound_service s n (unmarked_now c.pass-passed.result.broken mid.broken c.after_pass.new.self.broken _ a.breaks a.marked.0 b))
+          (λ s. ap of_line (p.apart_next s).1 ∙ before)),
+      a.kept.4 ∙ by_side c.args.side (λ side. g.K.Hop.fault mid.next ≡ None)
+          (λ s. ap g.K.Hop.fault (p.apart_source s).2 ∙ f.2) (λ s. ap g.K.Hop.fault (p.apart_service s).3 ∙ f.2) (λ s. (p.sound_next s n).0 f.2),
+      a.kept.5 ∙ by_side c.args.side (λ side. g.K.Hop.fault mid.back ≡ None)
+          (λ s. ap g.K.Hop.fault (p.apart_source s).3 ∙ f.3) (λ s. ap g.K.Hop.fault (p.apart_service s).4 ∙ f.3) (λ s. (p.sound_next s n).1 f.3),
+    )
+
+pub returns-then-is_closed-clause-faultless : goal.returns-then-is_closed-clause-faultless
+returns-then-is_closed-clause-faultless g c = λ o f. absurd (false≢true (sym o ∙ (ap (λ (h : Holding). (shows h.history).closed) c.closed_turn.ensures.hold ∙ (sym c.is_closed.ensures ∙ c.if-is_closed.true))))
+
+pub returns-then-is_broken-clause-faultless : goal.returns-then-is_broken-clause-faultless
+returns-then-is_broken-clause-faultless g c = λ o f. f
+
+pub returns-then-now-self-2-clause-faultless : goal.returns-then-now-self-2-clause-faultless
+returns-then-now-self-2-clause-faultless g c = λ o f. absurd (false≢true (sym o ∙ c.fail_by.ensures.over))
