@@ -1,10 +1,13 @@
 //! What holds of every head that goes on: each law is the contract of a function that does nothing.
 
-ghost use Rattle.std.specs.Prelude.{◌≡◌, ◌↔◌, ℕ, Bool, List, [], Option, true, false, codes, MatchOption};
+ghost use Rattle.std.specs.Prelude.{◌≡◌, ◌≤◌, ◌↔◌, ℕ, Bool, List, [], length, Option, true, false, codes, MatchOption};
 ghost use Rattle.trace_core.specs.declared.history.Cause.TheVariants.{Deadline, Stopping};
 ghost use Rattle.trace_core.specs.declared.history.Seen.{Seen};
 ghost use Rattle.trace_core.specs.declared.tape.Tape.TheVariants.{Original, Adapted};
 ghost use Rattle.trace_core.specs.Held.{IsIn, IsNeeded};
+ghost use Rattle.need_witness.specs.Script.{IsScript};
+ghost use Rattle.need_witness.specs.Table.{script_of};
+ghost use Rattle.need_witness.specs.declared.scripts.TheConstants.{MAX_SCRIPT};
 ghost use Rattle.adapt_hold.specs.Holding.{IsTied, interval, shows};
 ghost use Rattle.adapt_turn.specs.Made.{IsMade, adapted_of, response_of};
 ghost use Rattle.adapt_turn.specs.Stands.{Texts};
@@ -65,12 +68,17 @@ pub fn the_wires_take_one_message<B: Ledgers, A: Wire, W: Wire, C: Wire>(
 }
 
 /// Of a transaction, wherever it stands, each byte that is held is one that some legal continuation still sends, and each byte that a
-/// continuation sends is held, or comes within it.
+/// continuation sends is held, or comes within it. Such a continuation is the table's script, of at most seven events, the last of
+/// which sends the byte.
 pub fn each_held_byte_is_needed<B: Ledgers, A: Wire, W: Wire, C: Wire>(
     tx: &Tx<B, SourceSide, ServiceSide, NextHop, HeadMaker, A, W, C>,
 )
     ensures original { (place : ℕ) → IsIn (interval tx.now.hold.original) place ↔ IsNeeded Original tx.now.hold.history.plan tx.now.hold.history.events place }
     ensures adapted { (place : ℕ) → IsIn (interval tx.now.hold.adapted) place ↔ IsNeeded Adapted tx.now.hold.history.plan tx.now.hold.history.events place }
+    ensures scripts { (place : ℕ) → IsIn (interval tx.now.hold.original) place → IsScript Original place tx.now.hold.history.plan tx.now.hold.history.events (script_of Original (shows tx.now.hold.history) place)
+        × (length (script_of Original (shows tx.now.hold.history) place) ≤ MAX_SCRIPT) }
+    ensures adapted_scripts { (place : ℕ) → IsIn (interval tx.now.hold.adapted) place → IsScript Adapted place tx.now.hold.history.plan tx.now.hold.history.events (script_of Adapted (shows tx.now.hold.history) place)
+        × (length (script_of Adapted (shows tx.now.hold.history) place) ≤ MAX_SCRIPT) }
 {
     let _ = tx.seen();
 }

@@ -37,8 +37,8 @@ pub trait Answering {
     // request may begin anew. Finished: so it had ended before, and a refusal that was due is out, or its wire has failed.
     ghost answers: { Self → Side → Self → Turned → Type 0 };
 
-    // Of an open one a turn steps events of its side, or Fail, and leaves the other sides and wires as they were; unless it fails, the
-    // writers too, and it brings of its body no more than a turn may. A turn of the next hop leaves one of the two wires: that of the
+    // Of an open one a turn steps events of its side, or Fail, brings of its body no more than a turn may, and leaves the other sides
+    // and wires as they were; unless it fails, the writers too. A turn of the next hop leaves one of the two wires: that of the
     // writer without a message. A message that is begun goes back to the user exactly where a request was offered and the service
     // answers it.
     // Of a closed one it leaves all but the user's writer and wire.
@@ -83,11 +83,11 @@ impl<
 
     ghost keeps = { λ old side new. ((shows old.hold.history).closed ≡ false → TookBy (may_step side) old.hold new.hold
         × BySide side ((new.service ≡ old.service) × (new.next_wire ≡ old.next_wire)
-        × (((cause : Cause) → new.outcome ≡ outcomes.Fail cause → ⊥) → (new.next ≡ old.next) × (new.back ≡ old.back)
-        × ((shows new.hold.history).received ≤ (shows old.hold.history).received + TURN_BYTES)))
+        × ((shows new.hold.history).received ≤ (shows old.hold.history).received + TURN_BYTES)
+        × (((cause : Cause) → new.outcome ≡ outcomes.Fail cause → ⊥) → (new.next ≡ old.next) × (new.back ≡ old.back)))
         ((new.source ≡ old.source) × (new.source_wire ≡ old.source_wire) × (new.next_wire ≡ old.next_wire)
-        × (((cause : Cause) → new.outcome ≡ outcomes.Fail cause → ⊥) → (new.next ≡ old.next) × (new.back ≡ old.back)
-        × ((shows new.hold.history).adapted_received ≤ (shows old.hold.history).adapted_received + TURN_BYTES)))
+        × ((shows new.hold.history).adapted_received ≤ (shows old.hold.history).adapted_received + TURN_BYTES)
+        × (((cause : Cause) → new.outcome ≡ outcomes.Fail cause → ⊥) → (new.next ≡ old.next) × (new.back ≡ old.back)))
         ((new.source ≡ old.source) × (new.service ≡ old.service) × ((new.source_wire ≡ old.source_wire) ⊎ (new.next_wire ≡ old.next_wire))
         × (((cause : Cause) → new.outcome ≡ outcomes.Fail cause → ⊥) → OfWriter (K.gift new.back) (new.source_wire ≡ old.source_wire) (new.next_wire ≡ old.next_wire)))
         × (K.gift old.back ≡ nothing → K.gift new.back ≡ message → answers_user (shows old.hold.history) (response_of V.is_response old.service) ≡ true)

@@ -62,7 +62,7 @@ impl<B: Ledgers, S: Source, V: Service, K: Hop, F: Forward<S, K>, A: Wire, W: Wi
         ensures idle { result.waiting ≡ true → result.failed ≡ None }
         ensures waits { result.waiting ≡ true → Waited (S.rests (original_room (shows self.old.hold.history) self.old.hold.claim self.old.hold.limits.window) self.new.source) (λ past. past.read_waits) (A.past self.old.source_wire) (A.past self.new.source_wire) }
         ensures framed { result.waiting ≡ true → S.is_framed (original_room (shows self.old.hold.history) self.old.hold.claim self.old.hold.limits.window) self.new.source }
-        ensures paced { result.failed ≡ None → (shows self.new.hold.history).received ≤ (shows self.old.hold.history).received + TURN_BYTES }
+        ensures paced { (shows self.new.hold.history).received ≤ (shows self.old.hold.history).received + TURN_BYTES }
         ensures still { result.waiting ≡ true → self.new.hold ≡ self.old.hold }
         ensures took { TookBy (may_step Side.Source) self.old.hold self.new.hold }
         ensures apart { (self.new.service ≡ self.old.service) × (self.new.next_wire ≡ self.old.next_wire) × (self.new.next ≡ self.old.next) × (self.new.back ≡ self.old.back) }
@@ -238,7 +238,7 @@ impl<B: Ledgers, S: Source, V: Service, K: Hop, F: Forward<S, K>, A: Wire, W: Wi
         ensures still { result.waiting ≡ true → self.new.hold ≡ self.old.hold }
         ensures framed_source { side ≡ Side.Source → result.waiting ≡ true → S.is_framed (original_room (shows self.old.hold.history) self.old.hold.claim self.old.hold.limits.window) self.new.source }
         ensures framed_service { side ≡ Side.Service → result.waiting ≡ true → MatchOption self.new.service ⊤ (λ line. V.is_framed (adapted_room (shows self.old.hold.history) self.old.hold.limits.window) line.side) }
-        ensures paced_source { side ≡ Side.Source → result.failed ≡ None → (shows self.new.hold.history).received ≤ (shows self.old.hold.history).received + TURN_BYTES }
+        ensures paced_source { side ≡ Side.Source → (shows self.new.hold.history).received ≤ (shows self.old.hold.history).received + TURN_BYTES }
         ensures paced_service { side ≡ Side.Service → (shows self.new.hold.history).adapted_received ≤ (shows self.old.hold.history).adapted_received + TURN_BYTES }
         ensures took_source { side ≡ Side.Source → TookBy (may_step Side.Source) self.old.hold self.new.hold }
         ensures took_service { side ≡ Side.Service → TookBy (may_step Side.Service) self.old.hold self.new.hold }

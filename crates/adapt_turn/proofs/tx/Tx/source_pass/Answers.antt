@@ -10,7 +10,8 @@ use Rattle.std.proofs.Common.{arith}
 use Rattle.trace_core.specs.declared.history.Cause.TheVariants as causes
 use Rattle.adapt_turn.specs.declared.turned.Side.TheVariants.{Source}
 use Rattle.adapt_turn.proofs.Reasons.{part_still}
-use Rattle.adapt_turn.proofs.Paced.{part_received, original_few}
+use Rattle.plan_rules.specs.declared.room.TheConstants.{TURN_BYTES}
+use Rattle.adapt_turn.proofs.Paced.{part_received, original_few, fail_received}
 use Rattle.std.proofs.lemmas.Bool.{false≢true}
 use Rattle.adapt_turn.proofs.Rows.{part_took, part_acts, of_source, untouched_or, fail_advances, took_fail}
 use Rattle.adapt_turn.proofs.tx.Tx.source_pass.Goals as goal
@@ -71,10 +72,10 @@ pub returns-else-agrees_with-clause-framed : goal.returns-else-agrees_with-claus
 returns-else-agrees_with-clause-framed g c = λ e. absurd (false≢true (sym (ap (λ (z : Passed). z.waiting) c.close-passed.ensures.passed) ∙ e))
 
 pub returns-then-agrees_with-clause-paced : goal.returns-then-agrees_with-clause-paced
-returns-then-agrees_with-clause-paced g c = λ n. part_received _ _ _ _ _ _ _ _ _ _ _ _ _ _ _ _ _ c.state-state.ensures.tied c.read_source-passed.ensures.part.part _ c.read_source-passed.ensures.part.few (original_few (shows c.args.self.now.hold.history) c.args.self.now.hold.claim c.args.self.now.hold.limits.window)
+returns-then-agrees_with-clause-paced g c = part_received _ _ _ _ _ _ _ _ _ _ _ _ _ _ _ _ _ c.state-state.ensures.tied c.read_source-passed.ensures.part.part _ c.read_source-passed.ensures.part.few (original_few (shows c.args.self.now.hold.history) c.args.self.now.hold.claim c.args.self.now.hold.limits.window)
 
 pub returns-else-agrees_with-clause-paced : goal.returns-else-agrees_with-clause-paced
-returns-else-agrees_with-clause-paced g c = λ n. (let d : Some causes.Source ≡ None = sym (ap (λ (z : Passed). z.failed) c.close-passed.ensures.passed) ∙ n in absurd cc)
+returns-else-agrees_with-clause-paced g c = fail_received c.args.self.now.hold c.close-passed.new.hold causes.Source TURN_BYTES c.close-passed.ensures.moved
 
 pub returns-else-agrees_with-clause-reason : goal.returns-else-agrees_with-clause-reason
 returns-else-agrees_with-clause-reason g c = cause_none _ _ _ refl

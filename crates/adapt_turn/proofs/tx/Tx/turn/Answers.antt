@@ -22,7 +22,8 @@ use Rattle.adapt_turn.specs.declared.turned.Turned.TheVariants as answers
 use Rattle.std.proofs.Common.{true, false, [], Some, None, arith}
 use Rattle.adapt_turn.specs.Made.{response_of, answers_user}
 use Rattle.std.specs.Prelude.{MatchOption, ⊤}
-use Rattle.adapt_turn.proofs.Paced.{paced_kept}
+use Rattle.plan_rules.specs.declared.room.TheConstants.{TURN_BYTES}
+use Rattle.adapt_turn.proofs.Paced.{paced_kept, fail_received, fail_adapted}
 use Rattle.adapt_sides.specs.Turns.{FailsGiving}
 use Rattle.adapt_turn.specs.Parts.{fault_of}
 use Rattle.adapt_turn.specs.declared.start.Line.{Line}
@@ -216,15 +217,15 @@ returns-clause-keeps g c = (
         (λ s. let a = c.pass-passed.ensures.apart_source s in (
           c.after_pass.ensures.kept.2 ∙ a.0,
           c.after_pass.ensures.kept.3 ∙ a.1,
-          λ n.
-              let w = c.after_pass.ensures.same (unfailed c.pass-passed.result.failed c.after_pass.new.self.outcome (c.after_pass.ensures.outcome ∙ c.pass-passed.ensures.outcome) n) in (w.0 ∙ a.2, w.1 ∙ a.3, paced_kept _ (λ x. x.received) c.pass-passed.new.self.hold c.after_pass.new.self.hold c.after_pass.ensures.hold (c.pass-passed.ensures.paced_source s (unfailed c.pass-passed.result.failed c.after_pass.new.self.outcome (c.after_pass.ensures.outcome ∙ c.pass-passed.ensures.outcome) n))),
+          paced_kept _ (λ x. x.received) c.pass-passed.new.self.hold c.after_pass.new.self.hold c.after_pass.ensures.hold (c.pass-passed.ensures.paced_source s),
+          λ n. let w = c.after_pass.ensures.same (unfailed c.pass-passed.result.failed c.after_pass.new.self.outcome (c.after_pass.ensures.outcome ∙ c.pass-passed.ensures.outcome) n) in (w.0 ∙ a.2, w.1 ∙ a.3),
         ))
         (λ s. let a = c.pass-passed.ensures.apart_service s in (
           c.after_pass.ensures.kept.0 ∙ a.0,
           c.after_pass.ensures.kept.1 ∙ a.1,
           c.after_pass.ensures.kept.3 ∙ a.2,
-          λ n.
-              let w = c.after_pass.ensures.same (unfailed c.pass-passed.result.failed c.after_pass.new.self.outcome (c.after_pass.ensures.outcome ∙ c.pass-passed.ensures.outcome) n) in (w.0 ∙ a.3, w.1 ∙ a.4, paced_kept _ (λ x. x.adapted_received) c.pass-passed.new.self.hold c.after_pass.new.self.hold c.after_pass.ensures.hold (c.pass-passed.ensures.paced_service s)),
+          paced_kept _ (λ x. x.adapted_received) c.pass-passed.new.self.hold c.after_pass.new.self.hold c.after_pass.ensures.hold (c.pass-passed.ensures.paced_service s),
+          λ n. let w = c.after_pass.ensures.same (unfailed c.pass-passed.result.failed c.after_pass.new.self.outcome (c.after_pass.ensures.outcome ∙ c.pass-passed.ensures.outcome) n) in (w.0 ∙ a.3, w.1 ∙ a.4),
         ))
         (λ s. let a = c.pass-passed.ensures.apart_next s in (
           c.after_pass.ensures.kept.0 ∙ a.0,
@@ -255,8 +256,9 @@ pub returns-then-now-self-2-clause-keeps : goal.returns-then-now-self-2-clause-k
 returns-then-now-self-2-clause-keeps g c = (
   λ o. (
     took_fail c.args.side c.args.self.now.hold c.fail_by.new.self.hold Deadline (sym c.is_closed.ensures ∙ c.if-is_closed.false) c.fail_by.ensures.hold,
-    for_side c.args.side _ _ _ (λ s. (c.fail_by.ensures.kept.1, c.fail_by.ensures.kept.2, λ n. absurd (n Deadline c.fail_by.ensures.outcome)))
-        (λ s. (c.fail_by.ensures.kept.3, c.fail_by.ensures.kept.0, c.fail_by.ensures.kept.2, λ n. absurd (n Deadline c.fail_by.ensures.outcome)))
+    for_side c.args.side _ _ _
+        (λ s. (c.fail_by.ensures.kept.1, c.fail_by.ensures.kept.2, fail_received c.args.self.now.hold c.fail_by.new.self.hold Deadline TURN_BYTES c.fail_by.ensures.hold, λ n. absurd (n Deadline c.fail_by.ensures.outcome)))
+        (λ s. (c.fail_by.ensures.kept.3, c.fail_by.ensures.kept.0, c.fail_by.ensures.kept.2, fail_adapted c.args.self.now.hold c.fail_by.new.self.hold Deadline TURN_BYTES c.fail_by.ensures.hold, λ n. absurd (n Deadline c.fail_by.ensures.outcome)))
         (λ s. (c.fail_by.ensures.kept.3, c.fail_by.ensures.kept.1, inl c.fail_by.ensures.kept.0, λ n. absurd (n Deadline c.fail_by.ensures.outcome))),
     λ n m. absurd (idle_no_message _ n (c.fail_by.ensures.messages.1 m)),
     λ n m. absurd (idle_no_message _ n (c.fail_by.ensures.messages.0 m)),
@@ -268,7 +270,7 @@ pub returns-then-is_broken-clause-keeps : goal.returns-then-is_broken-clause-kee
 returns-then-is_broken-clause-keeps g c = (
   λ o. (
     ([], tt, refl),
-    for_side c.args.side _ _ _ (λ s. (refl, refl, λ n. (refl, refl, omega arith))) (λ s. (refl, refl, refl, λ n. (refl, refl, omega arith))) (λ s. (refl, refl, inl refl, λ n. (λ e. refl, λ k. refl))),
+    for_side c.args.side _ _ _ (λ s. (refl, refl, omega arith, λ n. (refl, refl))) (λ s. (refl, refl, refl, omega arith, λ n. (refl, refl))) (λ s. (refl, refl, inl refl, λ n. (λ e. refl, λ k. refl))),
     λ n m. absurd (idle_no_message _ n m),
     λ n m. absurd (idle_no_message _ n m),
   ),
