@@ -12,7 +12,8 @@ use Rattle.trace_core.specs.Turns.{after_all, AllAre, in_sum, ad_sum, is_of_send
 use Rattle.plan_rules.specs.declared.room.TheConstants.{TURN_BYTES}
 use Rattle.plan_rules.specs.Room.{original_room, adapted_room}
 use Rattle.wire_kit.specs.Past.{Past}
-use Rattle.adapt_hold.specs.Holding.{Holding, IsTied, shows, moved}
+use Rattle.adapt_hold.specs.Holding.{Holding, IsTied, shows, history_then, moved}
+use Rattle.adapt_hold.proofs.Closes.{then_shows}
 use Rattle.adapt_turn.specs.declared.parts.Passed.{Passed}
 use Rattle.adapt_turn.specs.Parts.{Part, stepped}
 use Rattle.adapt_turn.proofs.Stepped.{part_shows}
@@ -74,12 +75,21 @@ part_adapted of_wire own h k test reported out given taken delta f0 f1 rests wai
     let at : (after_all (shows h.history) (stepped passed.failed reported)).adapted_received ≤ (shows h.history).adapted_received + n = omega (arith, all, less, few) in
     subst (λ (x : Seen). x.adapted_received ≤ (shows h.history).adapted_received + n) (sym shown) at
 
--- nor does closing bring a byte of either body
-pub fail_received : (h k : Holding) (cause : Cause) (n : ℕ) → k ≡ moved h (Fail cause) [] → (shows k.history).received ≤ (shows h.history).received + n
-fail_received h k cause n e = subst (λ (y : Holding). (shows y.history).received ≤ (shows h.history).received + n) (sym e) (omega arith)
+-- closing brings no byte of either body
+fail_shows : (h k : Holding) (cause : Cause) → IsTied h → (shows h.history).closed ≡ false → k ≡ moved h (Fail cause) [] → shows k.history ≡ after (shows h.history) (Fail cause)
+fail_shows h k cause t c e = ap (λ (y : Holding). shows y.history) e ∙ then_shows h (Fail cause) (history_then h.history (Fail cause)) t (c, tt) refl
 
-pub fail_adapted : (h k : Holding) (cause : Cause) (n : ℕ) → k ≡ moved h (Fail cause) [] → (shows k.history).adapted_received ≤ (shows h.history).adapted_received + n
-fail_adapted h k cause n e = subst (λ (y : Holding). (shows y.history).adapted_received ≤ (shows h.history).adapted_received + n) (sym e) (omega arith)
+pub fail_received : (h k : Holding) (cause : Cause) (n : ℕ) → IsTied h → (shows h.history).closed ≡ false → k ≡ moved h (Fail cause) [] → (shows k.history).received ≤ (shows h.history).received + n
+fail_received h k cause n t c e =
+    let few = received_after (shows h.history) (Fail cause) in
+    let at : (after (shows h.history) (Fail cause)).received ≤ (shows h.history).received + n = omega (arith, few) in
+    subst (λ (x : Seen). x.received ≤ (shows h.history).received + n) (sym (fail_shows h k cause t c e)) at
+
+pub fail_adapted : (h k : Holding) (cause : Cause) (n : ℕ) → IsTied h → (shows h.history).closed ≡ false → k ≡ moved h (Fail cause) [] → (shows k.history).adapted_received ≤ (shows h.history).adapted_received + n
+fail_adapted h k cause n t c e =
+    let few = adapted_after (shows h.history) (Fail cause) in
+    let at : (after (shows h.history) (Fail cause)).adapted_received ≤ (shows h.history).adapted_received + n = omega (arith, few) in
+    subst (λ (x : Seen). x.adapted_received ≤ (shows h.history).adapted_received + n) (sym (fail_shows h k cause t c e)) at
 
 -- sending brings no adapted byte
 pub none_of_sending : (reported : List Event) → AllAre is_of_sending reported → ad_sum reported ≤ 0

@@ -1,5 +1,5 @@
 -- What a point's table says of its service.
-use Rattle.std.specs.Prelude.{◌≡◌, ◌≢◌, ℕ, ◌≤◌, List, length, string_bytes, Option, Some, None, codes, MatchOption, option_and_then}
+use Rattle.std.specs.Prelude.{◌≡◌, ℕ, ◌≤◌, List, length, string_bytes, Option, Some, None, codes, MatchOption, option_and_then}
 use Rattle.toml.specs.Data.{Members, get_member, as_str, as_table}
 use Rattle.std.specs.Net.Grammar.{IsIpv4Text}
 use Rattle.std.specs.Net.Socket.{v4_ip, v4_port}

@@ -5,7 +5,7 @@ use Rattle.std.proofs.lemmas.List.{length-drop, drop-drop, drop-append-le}
 use Rattle.circular_buffer.specs.Buffer.{keep_last}
 use Rattle.service_pool.specs.declared.step.Numbers.{Numbers}
 use Rattle.service_pool.specs.declared.step.PoolStep.{PoolStep}
-use Rattle.service_pool.specs.Replay.{after, replay}
+use Rattle.service_pool.specs.Replay.{after}
 use Rattle.service_pool.specs.Journal.{Journaled, opening, rebased, shortened, slid, pushed, stepped, run}
 use Rattle.service_pool.specs.History.{HasLast}
 use Rattle.service_pool.proofs.StepLemmas.{replay-append, keep_all}

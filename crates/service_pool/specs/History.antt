@@ -2,7 +2,7 @@
 use Rattle.std.specs.Prelude.{◌≡◌, Bool, true, false, List, ◌++◌}
 use Rattle.service_pool.specs.declared.step.Numbers.{Numbers}
 use Rattle.service_pool.specs.declared.step.PoolStep.{PoolStep}
-use Rattle.service_pool.specs.declared.step.PoolStep.TheVariants.{Take, Put, GiveUp, Replace, Limit}
+use Rattle.service_pool.specs.declared.step.PoolStep.TheVariants.{Take, Put, GiveUp, Limit}
 use Rattle.service_pool.specs.Replay.{replay}
 use Rattle.service_pool.specs.Journal.{Journaled}
 

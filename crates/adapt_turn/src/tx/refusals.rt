@@ -1,8 +1,9 @@
 //! The proxy's own refusals.
 
-ghost use Rattle.std.specs.Prelude.{◌≡◌, ℕ, ◌⊎◌, true, false, [], Some, None};
+ghost use Rattle.std.specs.Prelude.{◌≡◌, ℕ, ◌+◌, ◌≤◌, ◌⊎◌, true, false, [], Some, None};
 ghost use Rattle.trace_core.specs.declared.history.Event.TheVariants.{Fail};
 ghost use Rattle.trace_core.specs.declared.history.Cause.{Cause};
+ghost use Rattle.plan_rules.specs.declared.room.TheConstants.{TURN_BYTES};
 ghost use Rattle.adapt_sides.specs.Turns.{Gift, IsOwnStatus};
 ghost use Rattle.adapt_sides.specs.Turns.Gift.{refusal, message};
 ghost use Rattle.adapt_hold.specs.Holding.{shows, moved};
@@ -189,6 +190,8 @@ impl<B: Ledgers, S: Source, V: Service, K: Hop, F: Forward<S, K>, A: Wire, W: Wi
         ensures timed { (self.new.last_moved ≡ self.old.last_moved) × (self.new.deadline ≡ self.old.deadline) }
         ensures marked { (self.new.broken ≡ self.old.broken) × (self.new.reused ≡ self.old.reused) }
         ensures hold { self.new.hold ≡ moved self.old.hold (Fail cause) [] }
+        ensures paced { ((shows self.new.hold.history).received ≤ (shows self.old.hold.history).received + TURN_BYTES)
+            × ((shows self.new.hold.history).adapted_received ≤ (shows self.old.hold.history).adapted_received + TURN_BYTES) }
         ensures over { (shows self.new.hold.history).closed ≡ true }
         ensures messages { (K.gift self.new.next ≡ message → K.gift self.old.next ≡ message) × (K.gift self.new.back ≡ message → K.gift self.old.back ≡ message) }
         ensures outcome { self.new.outcome ≡ Outcome.Fail cause }

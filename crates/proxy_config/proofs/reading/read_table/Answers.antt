@@ -1,5 +1,5 @@
 -- Each key before the one at fault is good.
-use Rattle.std.proofs.Common.{◌≡◌, List, ℕ, IsSome, Some, None, codes, inl, inr, rules}
+use Rattle.std.proofs.Common.{◌≡◌, IsSome, None, codes, inl, inr, rules}
 use Rattle.std.specs.declared.net.socket_addr.SocketAddrV4.{SocketAddrV4}
 use Rattle.toml.specs.View.{table_view}
 use Rattle.proxy_config.specs.Values.{HasAddress}

@@ -1,6 +1,5 @@
-use Rattle.std.proofs.Common.{◌≡◌, ℕ, ◌+◌, ◌-◌, ◌*◌, ◌≤◌, ◌<◌, List, ◌++◌, length, take, drop, ap, sym, ◌∙◌, subst, arith}
-use Rattle.std.proofs.lemmas.List.{length-take, length-drop}
-use Rattle.span_bank.specs.Chain.{text_of, down_of}
+use Rattle.std.proofs.Common.{◌≡◌, ◌+◌, ◌-◌, ◌≤◌, ◌++◌, length, take, drop, ap, ◌∙◌, arith}
+use Rattle.span_bank.specs.Chain.{down_of}
 use Rattle.span_tape.proofs.PageLemmas.{another_page, length_down}
 use Rattle.span_tape.proofs.queue.append_last.Goals as goal
 

@@ -1,5 +1,5 @@
 use Rattle.std.specs.Prelude.{◌≡◌, ◌+◌, ◌-◌, ◌*◌, ◌≤◌, ◌<◌, ◌++◌, length, take}
-use Rattle.span_bank.specs.Chain.{text_of, down_of}
+use Rattle.span_bank.specs.Chain.{down_of}
 use Rattle.span_tape.specs.Tape.{page_count}
 use Rattle.span_tape.proofs.queue.append_last.Given as goal
 

@@ -1,4 +1,4 @@
-use Rattle.std.proofs.Common.{◌≡◌, ℕ, ◌+◌, ◌-◌, ◌*◌, ◌≤◌, ◌<◌, List, length, take, drop, ap, ◌∙◌, subst, arith}
+use Rattle.std.proofs.Common.{◌≡◌, ℕ, ◌+◌, ◌-◌, ◌≤◌, List, length, take, drop, ap, ◌∙◌, subst, arith}
 use Rattle.span_bank.specs.Chain.{text_of}
 use Rattle.span_tape.proofs.PageLemmas.{another_copied, next_text}
 use Rattle.span_tape.proofs.queue.copy_first.Goals as goal

@@ -1,6 +1,6 @@
-use Rattle.std.proofs.Common.{◌≡◌, ℕ, ◌+◌, ◌*◌, ◌%◌, ◌≤◌, List, ◌++◌, length, take, drop, ap, append_assoc, sym, ◌∙◌, arith}
+use Rattle.std.proofs.Common.{◌≡◌, ◌+◌, ◌%◌, ◌≤◌, ◌++◌, length, take, drop, ap, append_assoc, sym, ◌∙◌, arith}
 use Rattle.std.proofs.lemmas.List.{length-take}
-use Rattle.span_bank.specs.Chain.{text_of, down_of}
+use Rattle.span_bank.specs.Chain.{down_of}
 use Rattle.span_tape.proofs.PageLemmas.{first_page, length_down}
 use Rattle.span_tape.proofs.queue.fill_last.Goals as goal
 

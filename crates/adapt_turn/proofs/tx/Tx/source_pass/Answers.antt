@@ -75,7 +75,7 @@ pub returns-then-agrees_with-clause-paced : goal.returns-then-agrees_with-clause
 returns-then-agrees_with-clause-paced g c = part_received _ _ _ _ _ _ _ _ _ _ _ _ _ _ _ _ _ c.state-state.ensures.tied c.read_source-passed.ensures.part.part _ c.read_source-passed.ensures.part.few (original_few (shows c.args.self.now.hold.history) c.args.self.now.hold.claim c.args.self.now.hold.limits.window)
 
 pub returns-else-agrees_with-clause-paced : goal.returns-else-agrees_with-clause-paced
-returns-else-agrees_with-clause-paced g c = fail_received c.args.self.now.hold c.close-passed.new.hold causes.Source TURN_BYTES c.close-passed.ensures.moved
+returns-else-agrees_with-clause-paced g c = fail_received c.args.self.now.hold c.close-passed.new.hold causes.Source TURN_BYTES c.state-state.ensures.tied c.requires.running c.close-passed.ensures.moved
 
 pub returns-else-agrees_with-clause-reason : goal.returns-else-agrees_with-clause-reason
 returns-else-agrees_with-clause-reason g c = cause_none _ _ _ refl

@@ -22,8 +22,7 @@ use Rattle.adapt_turn.specs.declared.turned.Turned.TheVariants as answers
 use Rattle.std.proofs.Common.{true, false, [], Some, None, arith}
 use Rattle.adapt_turn.specs.Made.{response_of, answers_user}
 use Rattle.std.specs.Prelude.{MatchOption, ⊤}
-use Rattle.plan_rules.specs.declared.room.TheConstants.{TURN_BYTES}
-use Rattle.adapt_turn.proofs.Paced.{paced_kept, fail_received, fail_adapted}
+use Rattle.adapt_turn.proofs.Paced.{paced_kept}
 use Rattle.adapt_sides.specs.Turns.{FailsGiving}
 use Rattle.adapt_turn.specs.Parts.{fault_of}
 use Rattle.adapt_turn.specs.declared.start.Line.{Line}
@@ -257,8 +256,8 @@ returns-then-now-self-2-clause-keeps g c = (
   λ o. (
     took_fail c.args.side c.args.self.now.hold c.fail_by.new.self.hold Deadline (sym c.is_closed.ensures ∙ c.if-is_closed.false) c.fail_by.ensures.hold,
     for_side c.args.side _ _ _
-        (λ s. (c.fail_by.ensures.kept.1, c.fail_by.ensures.kept.2, fail_received c.args.self.now.hold c.fail_by.new.self.hold Deadline TURN_BYTES c.fail_by.ensures.hold, λ n. absurd (n Deadline c.fail_by.ensures.outcome)))
-        (λ s. (c.fail_by.ensures.kept.3, c.fail_by.ensures.kept.0, c.fail_by.ensures.kept.2, fail_adapted c.args.self.now.hold c.fail_by.new.self.hold Deadline TURN_BYTES c.fail_by.ensures.hold, λ n. absurd (n Deadline c.fail_by.ensures.outcome)))
+        (λ s. (c.fail_by.ensures.kept.1, c.fail_by.ensures.kept.2, c.fail_by.ensures.paced.0, λ n. absurd (n Deadline c.fail_by.ensures.outcome)))
+        (λ s. (c.fail_by.ensures.kept.3, c.fail_by.ensures.kept.0, c.fail_by.ensures.kept.2, c.fail_by.ensures.paced.1, λ n. absurd (n Deadline c.fail_by.ensures.outcome)))
         (λ s. (c.fail_by.ensures.kept.3, c.fail_by.ensures.kept.1, inl c.fail_by.ensures.kept.0, λ n. absurd (n Deadline c.fail_by.ensures.outcome))),
     λ n m. absurd (idle_no_message _ n (c.fail_by.ensures.messages.1 m)),
     λ n m. absurd (idle_no_message _ n (c.fail_by.ensures.messages.0 m)),

@@ -1,4 +1,4 @@
-use Rattle.std.specs.Prelude.{◌≡◌, ◌+◌}
+use Rattle.std.specs.Prelude.{◌≡◌}
 use Rattle.span_bank.proofs.pages.Pages.make.Given as goal
 
 abbrev pub invariant-loop-i : goal.invariant-loop-i

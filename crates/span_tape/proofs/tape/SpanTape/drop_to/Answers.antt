@@ -1,4 +1,4 @@
-use Rattle.std.proofs.Common.{◌≡◌, ◌≤◌, ◌+◌, arith, length}
+use Rattle.std.proofs.Common.{◌≤◌, ◌+◌, arith, length}
 use Rattle.span_tape.proofs.PageLemmas.{dropped_of, before_end}
 use Rattle.span_tape.proofs.tape.SpanTape.drop_to.Goals as goal
 
