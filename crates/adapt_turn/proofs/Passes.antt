@@ -21,9 +21,7 @@ use Rattle.wire_kit.specs.Past.{Past, IsLater}
 use Rattle.adapt_sides.specs.Tapes.{Follows, KeepsUnsent, KeepsUndelivered, chosen, chosen_received, chosen_delivered}
 use Rattle.adapt_sides.specs.Turns.{ReadsBody, Sends, Hears, Gives, HasReason, SaysWaiting, OfRelayWire, OfClientWire}
 use Rattle.adapt_sides.specs.declared.fault.ClientFault.{ClientFault}
-use Rattle.adapt_sides.specs.declared.fault.ClientFault.TheVariants as client
 use Rattle.adapt_sides.specs.declared.fault.RelayFault.{RelayFault}
-use Rattle.adapt_sides.specs.declared.fault.RelayFault.TheVariants as relay
 use Rattle.adapt_sides.specs.declared.turn.Turn.{Turn}
 use Rattle.adapt_hold.specs.Spans.{Span, EndsBody, span_of, span_end}
 use Rattle.adapt_hold.specs.Holding.{Holding, IsTied, IsRoomy, shows, moved}
@@ -60,7 +58,7 @@ room_of_source x claim window (Heard ∷ events) s m o r = absurd (false≢true 
 room_of_source x claim window (Retry ∷ events) s m o r = absurd (false≢true o.0)
 room_of_source x claim window (Continue ∷ events) s m o r = absurd (false≢true o.0)
 room_of_source x claim window (NoMod ∷ events) s m o r = absurd (false≢true o.0)
-room_of_source x claim window (Mod body ∷ events) s m o r = absurd (false≢true o.0)
+room_of_source x claim window (Mod _ ∷ events) s m o r = absurd (false≢true o.0)
 room_of_source x claim window (Ad n ∷ events) s m o r = absurd (false≢true o.0)
 room_of_source x claim window (AdEnd ∷ events) s m o r = absurd (false≢true o.0)
 room_of_source x claim window (Usr n ∷ events) s m o r = absurd (false≢true o.0)
@@ -76,8 +74,8 @@ room-continue x rest window s c a r = grind (arith, nat_tests)
 room-no_mod : (x : Seen) (rest window : ℕ) → Sound x → x.closed ≡ false → Allows x NoMod → rest ≤ adapted_room x window → rest ≤ adapted_room (after x NoMod) window
 room-no_mod x rest window s c a r = grind (arith, nat_tests)
 
-room-mod : (x : Seen) (body : Payload) (rest window : ℕ) → Sound x → x.closed ≡ false → Allows x (Mod body) → rest ≤ adapted_room x window → rest ≤ adapted_room (after x (Mod body)) window
-room-mod x body rest window s c a r = grind (arith, nat_tests)
+room-mod : (x : Seen) (payload : Payload) (rest window : ℕ) → Sound x → x.closed ≡ false → Allows x (Mod payload) → rest ≤ adapted_room x window → rest ≤ adapted_room (after x (Mod payload)) window
+room-mod x payload rest window s c a r = grind (arith, nat_tests)
 
 room-ad_end : (x : Seen) (rest window : ℕ) → Sound x → x.closed ≡ false → Allows x AdEnd → rest ≤ adapted_room x window → rest ≤ adapted_room (after x AdEnd) window
 room-ad_end x rest window s c a r = grind (arith, nat_tests)
@@ -163,7 +161,7 @@ replies_brought (Ad n ∷ events) o = let e = replies_brought events o.1 in omeg
 replies_brought (Continue ∷ events) o = let e = replies_brought events o.1 in omega (arith, e)
 replies_brought (Heard ∷ events) o = let e = replies_brought events o.1 in omega (arith, e)
 replies_brought (NoMod ∷ events) o = let e = replies_brought events o.1 in omega (arith, e)
-replies_brought (Mod body ∷ events) o = let e = replies_brought events o.1 in omega (arith, e)
+replies_brought (Mod _ ∷ events) o = let e = replies_brought events o.1 in omega (arith, e)
 replies_brought (AdEnd ∷ events) o = let e = replies_brought events o.1 in omega (arith, e)
 replies_brought (_ ∷ events) o = absurd (false≢true o.0)
 

@@ -1,5 +1,5 @@
 -- What a turn answers, by what its wire answered.
-use Rattle.std.proofs.Common.{◌≡◌, ◌↔◌, ℕ, Bool, true, false, List, [], refl, ap, sym, subst, ◌∙◌, Option, Some, None, Result, Ok, Err, inl, inr}
+use Rattle.std.proofs.Common.{◌≡◌, ◌↔◌, ℕ, Bool, true, false, List, [], refl, ap, sym, subst, ◌∙◌, Option, Some, None, Result, inl, inr}
 use Rattle.trace_core.specs.declared.history.Seen.{Seen}
 use Rattle.trace_core.specs.declared.history.Event.{Event}
 use Rattle.trace_core.proofs.Sound.{Sound}
@@ -12,10 +12,9 @@ use Rattle.chunk_writer.specs.Writer.{Writer, IsIdle, offered}
 use Rattle.chunk_writer.specs.Moves.{Moves, IsStill}
 use Rattle.adapt_sides.specs.declared.turn.Turn.{Turn}
 use Rattle.adapt_sides.specs.declared.fault.ClientFault.{ClientFault}
-use Rattle.adapt_sides.specs.declared.fault.ClientFault.TheVariants.{Device}
-use Rattle.icap_client.specs.Sending.{KeepsUnsent, Decides, NothingDue, sending_events}
+use Rattle.icap_client.specs.Sending.{KeepsUnsent, Decides, sending_events}
 use Rattle.icap_client.specs.Turns.{GoesOn, WriteTurn, FitsOffer, FitsAnswer, events_of}
-use Rattle.icap_client.proofs.Turning.{goes_on, goes_same, nothing_due}
+use Rattle.icap_client.proofs.Turning.{goes_on, nothing_due}
 
 pub turned : (x : Seen) (tape : Tape) (next : Next) (v w : Writer) (before after : Past → Type 0) (result : Result Turn ClientFault) (answer : Option Put) (k : ℕ) (e : Bool)
     → Sound x → KeepsUnsent x tape → Decides x v next → Offers before after (offered v tape next) answer → (answer ≡ None ↔ offered v tape next ≡ []) → Moves tape next v k e (delta_of (offered v tape next) answer) w

@@ -1,5 +1,5 @@
 -- A turn of an OPTIONS request's side.
-use Rattle.std.proofs.Common.{◌≡◌, ℕ, ◌<◌, ◌≤◌, ◌⊎◌, inl, inr, Bool, true, false, List, [], ◌++◌, length, take, drop, refl, ap, sym, subst, ◌∙◌, append_assoc, append-nil, Option, Some, None, IfSome, IfNone, is_some, Result, Ok, Err, IfOk, IfErr, option_map, arith}
+use Rattle.std.proofs.Common.{◌≡◌, ℕ, ◌<◌, ◌≤◌, ◌⊎◌, inl, inr, true, false, List, [], ◌++◌, length, take, drop, refl, ap, sym, subst, ◌∙◌, append_assoc, append-nil, Option, Some, None, IfSome, IfNone, Result, Ok, Err, IfOk, IfErr, option_map, arith}
 use Rattle.std.proofs.lemmas.List.{take-append-drop}
 use Rattle.wire_kit.specs.Past.{Past, Offers, FitsPut, after_write, part_taken}
 use Rattle.wire_kit.specs.declared.wire.Put.{Put}
@@ -9,7 +9,6 @@ use Rattle.adapt_sides.specs.declared.fault.ClientFault.TheVariants as faults
 use Rattle.icap_head.specs.Heads.{Response, response_parts}
 use Rattle.icap_head.specs.declared.responses.IcapResponse.{IcapResponse}
 use Rattle.adapt_sides.specs.Filling.{IsFilled}
-use Rattle.adapt_sides.specs.declared.filling.Filled.{Filled}
 use Rattle.adapt_sides.specs.declared.filling.Filled.TheVariants as fills
 use Rattle.icap_client.specs.declared.options.OptionsStage.{OptionsStage}
 use Rattle.icap_client.specs.declared.options.OptionsStage.TheVariants.{Head, Body, Over}

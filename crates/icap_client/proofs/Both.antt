@@ -1,8 +1,7 @@
 -- Both halves' turns, as a transaction calls them.
-use Rattle.std.proofs.Common.{◌≡◌, ℕ, ◌+◌, ◌<◌, ◌≤◌, ◌⊎◌, inl, inr, Bool, true, false, List, [], ◌++◌, length, take, refl, ap, sym, subst, ◌∙◌, append-nil, arith, Option, Some, None, IfSome, IfErr, OnOk, Result, Ok, Err}
+use Rattle.std.proofs.Common.{◌≡◌, ℕ, ◌<◌, ◌≤◌, ◌⊎◌, inl, inr, Bool, true, false, List, [], ◌++◌, length, take, refl, ap, sym, subst, ◌∙◌, append-nil, arith, Option, Some, None, IfSome, IfErr, OnOk, Result, Ok, Err}
 use Rattle.std.proofs.lemmas.List.{length-take-le}
 use Rattle.std.proofs.Math.Seq.{take-length}
-use Rattle.trace_core.specs.declared.history.Event.{Event}
 use Rattle.trace_core.specs.declared.history.Seen.{Seen}
 use Rattle.span_tape.specs.Tape.{Tape}
 use Rattle.wire_kit.specs.Past.{Past, FitsPut, after_offer, delta_of, IsGiven, after_ask}
@@ -17,16 +16,15 @@ use Rattle.adapt_sides.specs.declared.fault.ClientFault.TheVariants.{Closed, Dev
 use Rattle.trace_core.specs.declared.history.Plan.{Plan}
 use Rattle.trace_core.specs.declared.history.Point.{Point}
 use Rattle.trace_core.specs.History.{seen}
-use Rattle.trace_core.specs.View.{after}
 use Rattle.icap_client.specs.Laws.{first_reader}
 use Rattle.icap_client.specs.declared.stage.Stage.{Stage}
 use Rattle.icap_client.specs.Heard.{Reader, HasHeard}
 use Rattle.icap_client.proofs.Whole.{nothing_heard}
-use Rattle.icap_client.specs.Events.{Follows, ad_sum, is_of_replies}
+use Rattle.icap_client.specs.Events.{Follows}
 use Rattle.icap_client.specs.Sending.{HasSent, Came, KeepsUnsent, NothingDue}
 use Rattle.icap_client.specs.HeadFront.{HasToWait}
 use Rattle.icap_client.specs.Reading.{Side, SideHeard, NothingToRead, FitsGot, IsCause, CameOf, ReadTurn}
-use Rattle.icap_client.specs.Turns.{WriteTurn, FitsOffer, FitsAnswer, events_of, waits_of, IsLater, SaysWaiting, Remembers, Sends, Hears}
+use Rattle.icap_client.specs.Turns.{WriteTurn, FitsOffer, FitsAnswer, events_of, waits_of, IsLater, SaysWaiting, Sends, Hears}
 use Rattle.adapt_sides.specs.Turns.{HasReason, OfClientWire}
 
 -- ---- writing

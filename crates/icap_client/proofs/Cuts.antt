@@ -1,6 +1,6 @@
 -- Two readers that were handed the same bytes, cut differently.
-use Rattle.std.proofs.Common.{◌≡◌, ◌≢◌, ℕ, ◌+◌, ◌-◌, ◌<◌, ◌≤◌, ◌⊎◌, inl, inr, Bool, true, false, Option, Some, None, List, [], ◌∷◌, ◌++◌, length, take, drop, refl, ap, sym, subst, ◌∙◌, append_assoc, append-nil, arith, length-append, ◌||◌, ◌==◌}
-use Rattle.std.specs.List.{list_any, flat_map}
+use Rattle.std.proofs.Common.{◌≡◌, ℕ, ◌<◌, ◌≤◌, ◌⊎◌, inl, inr, Bool, true, false, Some, None, List, [], ◌∷◌, ◌++◌, length, take, drop, refl, ap, sym, subst, ◌∙◌, append_assoc, append-nil, arith, length-append, ◌||◌, ◌==◌}
+use Rattle.std.specs.List.{flat_map}
 use Rattle.std.proofs.lemmas.Bool.{cases_lt}
 use Rattle.std.proofs.lemmas.List.{take-append-le, drop-append-le, take-append-drop, take-take, length-take, length-take-le}
 use Rattle.std.proofs.Math.Seq.{take-length}
@@ -11,7 +11,7 @@ use Rattle.icap_head.specs.declared.reading.HeadFault.TheVariants.{More}
 use Rattle.icap_head.proofs.OneReading.{response_unique, no_response_fault}
 use Rattle.icap_head.proofs.Readings.{has_head-append}
 use Rattle.encapsulated.specs.declared.offsets.Layout.{Layout}
-use Rattle.icap_chunks.specs.Machine.{HasRead, run, start, body_of, end_of}
+use Rattle.icap_chunks.specs.Machine.{HasRead, run, start, end_of}
 use Rattle.icap_chunks.specs.Grammar.{IsChunked}
 use Rattle.icap_chunks.specs.declared.reader.ChunkReader.{ChunkReader}
 use Rattle.icap_chunks.proofs.Runs.{run-append}
@@ -21,7 +21,7 @@ use Rattle.trace_core.specs.declared.history.Seen.{Seen}
 use Rattle.icap_client.specs.Replies.{IsInterim, IsBareReply, IsModHead, IsModHeads, IsMod, IsBody, HasLayout, lists_of, has_body}
 use Rattle.adapt_bytes.specs.Text.{has_line}
 use Rattle.icap_client.specs.HeadFront.{IsHeadFront, HasToWait}
-use Rattle.icap_client.specs.Heard.{Reader, HasHeard, HeardTo, Marks, HeardInterim, HeardModHead, HeardBody, HeardNoMod, HeardMod, HeardFinal}
+use Rattle.icap_client.specs.Heard.{Reader, HeardTo, Marks, HeardFinal}
 use Rattle.icap_client.specs.Heard.HeardFinal.{unchanged as was_unchanged, changed as was_changed}
 use Rattle.icap_client.specs.Reading.{Side, SideHeard}
 use Rattle.icap_client.specs.Laws.{AreSame}

@@ -1,5 +1,5 @@
 -- Heads of responses: why one is refused, and what the adapted message's makes of what was heard.
-use Rattle.std.proofs.Common.{◌≡◌, ◌≢◌, ℕ, ◌+◌, ◌≤◌, ◌⊎◌, inl, inr, Bool, true, false, List, [], ◌∷◌, ◌++◌, length, take, refl, ap, sym, subst, ◌∙◌, append_assoc, append-nil, arith, length-append, Option, Some, None, Result, Ok, Err, IfOk, is_some, IsTrue}
+use Rattle.std.proofs.Common.{◌≡◌, ◌≢◌, ℕ, ◌≤◌, ◌⊎◌, inl, inr, Bool, true, false, List, [], ◌∷◌, ◌++◌, length, take, refl, ap, sym, subst, ◌∙◌, append_assoc, append-nil, arith, Option, None, Result, Ok, Err, IfOk, IsTrue}
 use Rattle.std.proofs.lemmas.List.{take-take, length-take-le, length-take}
 use Rattle.icap_head.specs.Heads.{Response, HasResponse, RefusesIcapHead, ReadsHead, StartsResponse}
 use Rattle.icap_head.specs.StartLines.{StatusForm}
@@ -19,13 +19,13 @@ use Rattle.trace_core.specs.View.{after}
 use Rattle.icap_client.specs.Events.{May}
 use Rattle.icap_client.specs.Replies.{IsEncapsulatedHead, has_body, payload_if, IsBody, IsHead, IsBareReply, IsModHead, lists_of, HasNothing, HasLayout, HasAdaptedHead}
 use Rattle.icap_client.specs.Said.{tag_in, says_close}
-use Rattle.icap_client.specs.Heard.{noted, Reader, HasHeard, HeardTo, HeardModHead, HeardBody, HeardMod, HeardInterim, HeardNoMod, with_head, in_stage, KeepsLimits}
+use Rattle.icap_client.specs.Heard.{noted, Reader, HasHeard, HeardTo, HeardModHead, HeardMod, HeardInterim, HeardNoMod, with_head, in_stage, KeepsLimits}
 use Rattle.icap_client.specs.Heard.HeardFinal.{changed, unchanged}
 use Rattle.icap_client.specs.Hearing.{ReaderHears, PassesWithoutEvent}
 use Rattle.icap_client.specs.Hearing.PassesWithoutEvent.{waits, goes_on}
 use Rattle.icap_client.specs.Replies.{IsInterim}
 use Rattle.icap_client.specs.Refused.{RefusesReply, RefusesHead, SpellsReply, SpellsNoReply, MayReply, IsMisfit, IsFit}
-use Rattle.icap_client.specs.Refused.IsMisfit.{ends_early, ends_late}
+use Rattle.icap_client.specs.Refused.IsMisfit.{ends_early}
 use Rattle.adapt_sides.specs.declared.fault.ClientFault.{ClientFault}
 use Rattle.adapt_sides.specs.declared.fault.ClientFault.TheVariants as faults
 use Rattle.icap_client.specs.declared.replies.Reply.{Reply}

@@ -1,13 +1,12 @@
 -- How many of the bytes that are kept were judged.
-use Rattle.std.proofs.Common.{◌≡◌, ℕ, ◌+◌, ◌<◌, ◌≤◌, ◌⊎◌, inl, inr, Bool, true, false, not, List, ◌++◌, length, take, drop, refl, ap, sym, subst, ◌∙◌, arith, length-append}
+use Rattle.std.proofs.Common.{◌≡◌, ℕ, ◌≤◌, inl, inr, Bool, true, false, not, List, ◌++◌, length, refl, sym, subst, arith, length-append}
 use Rattle.std.proofs.lemmas.List.{take-append-le}
 use Rattle.std.proofs.Math.Seq.{take-length}
 use Rattle.icap_head.specs.Heads.{RefusesIcapHead}
 use Rattle.icap_head.specs.StartLines.{StatusForm}
 use Rattle.icap_head.specs.declared.reading.HeadFault.TheVariants.{More}
 use Rattle.wire_kit.specs.Past.{Past}
-use Rattle.adapt_bytes.specs.Text.{has_line}
-use Rattle.icap_client.specs.HeadFront.{IsJudged, IsHeadFront}
+use Rattle.icap_client.specs.HeadFront.{IsJudged}
 use Rattle.adapt_sides.specs.Filling.{IsFilled}
 use Rattle.adapt_sides.specs.declared.filling.Filled.{Filled}
 use Rattle.adapt_sides.specs.declared.filling.Filled.TheVariants as filled

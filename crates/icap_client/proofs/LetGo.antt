@@ -1,19 +1,19 @@
 -- The heads' text is let go once it is out.
-use Rattle.std.proofs.Common.{◌≡◌, ℕ, ◌+◌, ◌≤◌, Bool, true, false, List, [], ◌++◌, length, take, refl, ap, sym, subst, ◌∙◌, arith, Option, Some, None, IfSome, Result, Ok, Err, ◌==◌}
+use Rattle.std.proofs.Common.{◌≡◌, ℕ, ◌+◌, ◌≤◌, Bool, true, false, List, ◌++◌, length, take, refl, ap, sym, subst, ◌∙◌, arith, Option, IfSome, Result, Ok, Err, ◌==◌}
 use Rattle.trace_core.specs.declared.history.Seen.{Seen}
 use Rattle.trace_core.specs.Legal.{open_preview}
 use Rattle.span_tape.specs.Tape.{Tape}
 use Rattle.wire_kit.specs.Past.{Past}
 use Rattle.wire_kit.specs.declared.wire.Put.{Put}
 use Rattle.chunk_writer.specs.declared.next.Next.{Next}
-use Rattle.chunk_writer.specs.Writer.{Writer, IsFraming, waiting, after_data}
-use Rattle.chunk_writer.specs.Moves.{Moves, Passes}
+use Rattle.chunk_writer.specs.Writer.{Writer, IsFraming, after_data}
+use Rattle.chunk_writer.specs.Moves.{Moves}
 use Rattle.chunk_writer.specs.Moves.Moves.{start, passed, begun_chunk, sent, ended}
 use Rattle.adapt_sides.specs.declared.turn.Turn.{Turn}
 use Rattle.adapt_sides.specs.declared.fault.ClientFault.{ClientFault}
 use Rattle.icap_client.specs.Front.{Front}
 use Rattle.icap_client.specs.Sending.{HasSent, LetsGo, NothingDue}
-use Rattle.icap_client.specs.Turns.{WriteTurn, FitsOffer, FitsAnswer, is_flushed}
+use Rattle.icap_client.specs.Turns.{WriteTurn, FitsOffer, is_flushed}
 
 pub sent_still : (head : List ℕ) (x : Seen) (came taken : List ℕ) (old new : Writer) → LetsGo old new → HasSent head x came taken old → HasSent head x came taken new
 sent_still head x came taken old new l h = record {

@@ -1,5 +1,5 @@
 -- The side's marks behind a turn's events.
-use Rattle.std.proofs.Common.{◌≡◌, ℕ, ◌+◌, Bool, true, false, not, ◌||◌, ◌&&◌, List, [], ◌∷◌, ◌++◌, length, take, refl, ap, sym, subst, ◌∙◌, arith, Option, None, Some, Result, Ok, Err, IfOk, if◌then◌else◌, ◌==◌, ◌⊎◌, inl, inr}
+use Rattle.std.proofs.Common.{◌≡◌, ℕ, ◌+◌, Bool, true, false, not, ◌||◌, ◌&&◌, List, [], ◌∷◌, refl, ap, sym, ◌∙◌, arith, Option, Result, ◌==◌, ◌⊎◌, inl, inr}
 use Rattle.std.specs.List.{list_any}
 use Rattle.trace_core.specs.declared.history.Event.{Event}
 use Rattle.trace_core.specs.declared.history.Event.TheVariants.{Svc, Stop, Retry}
@@ -13,7 +13,7 @@ use Rattle.adapt_sides.specs.declared.turn.Turn.{Turn}
 use Rattle.adapt_sides.specs.declared.fault.ClientFault.{ClientFault}
 use Rattle.icap_client.specs.Events.{May, AllAre, after_all, is_final, is_of_sending}
 use Rattle.icap_client.specs.Marks.{might_retry}
-use Rattle.icap_client.specs.Sending.{HasSent, NothingDue, sending_events, svc_events}
+use Rattle.icap_client.specs.Sending.{HasSent, NothingDue, sending_events}
 use Rattle.icap_client.specs.Reading.{Side, SideHeard, HasBegun, NotBegun}
 use Rattle.icap_client.specs.Turns.{Service, ServiceSent, ServiceHeard, Sends, Hears, events_of, is_answered, is_last_at}
 

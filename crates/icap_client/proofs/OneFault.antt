@@ -1,5 +1,5 @@
 -- Bytes are refused for one fault.
-use Rattle.std.proofs.Common.{◌≡◌, ◌≢◌, ℕ, ◌+◌, ◌<◌, ◌≤◌, ◌⊎◌, inl, inr, Bool, true, false, Option, Some, None, List, [], ◌∷◌, ◌++◌, length, take, drop, refl, ap, sym, subst, ◌∙◌, append_assoc, append-nil, arith, length-append}
+use Rattle.std.proofs.Common.{◌≡◌, ◌≢◌, ℕ, ◌+◌, ◌<◌, ◌⊎◌, inl, inr, Bool, true, false, Some, None, List, [], ◌++◌, length, take, drop, refl, ap, sym, subst, ◌∙◌, append_assoc, arith, length-append}
 use Rattle.std.proofs.lemmas.List.{take-take, take-append-drop, length-take-le}
 use Rattle.std.proofs.Math.Seq.{take-length}
 use Rattle.icap_head.specs.Heads.{Response, HasResponse, StartsResponse, RefusesIcapHead}
@@ -20,9 +20,8 @@ use Rattle.trace_core.specs.declared.history.Point.{Point}
 use Rattle.trace_core.specs.declared.history.Seen.{Seen}
 use Rattle.adapt_sides.specs.declared.fault.ClientFault.{ClientFault}
 use Rattle.adapt_sides.specs.declared.fault.ClientFault.TheVariants as faults
-use Rattle.icap_client.specs.Replies.{lists_of, HasAdaptedHead, IsEncapsulatedHead, IsModHead, HasLayout, ends_in_empty_line}
+use Rattle.icap_client.specs.Replies.{lists_of, HasAdaptedHead, HasLayout, ends_in_empty_line}
 use Rattle.icap_client.specs.Heard.{Reader, HasHeard, HeardTo}
-use Rattle.icap_client.specs.Hearing.{HasNoEmptyLine}
 use Rattle.icap_client.specs.Refused.{Refuses, RefusesReply, RefusesHead, RefusesBody, RefusesBehind, WithHead, HasBadList, IsUntimely, IsOtherStatus, IsMisfit, IsFit, IsUntimelyBody}
 use Rattle.icap_client.specs.Refused.IsMisfit.{ends_early, ends_late}
 use Rattle.icap_client.specs.Refused.IsUntimelyBody.{bytes, end}

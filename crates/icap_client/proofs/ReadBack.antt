@@ -1,5 +1,5 @@
 -- The list of a request is read back by a server.
-use Rattle.std.proofs.Common.{◌≡◌, ℕ, ◌+◌, ◌<◌, ◌≤◌, Bool, true, false, List, [], ◌∷◌, ◌++◌, refl, ap, sym, subst, ◌∙◌, append_assoc, arith, codes, Some, None}
+use Rattle.std.proofs.Common.{◌≡◌, ℕ, ◌+◌, ◌<◌, Bool, true, false, List, [], ◌∷◌, ◌++◌, refl, ap, sym, ◌∙◌, append_assoc, arith, codes}
 use Rattle.adapt_bytes.specs.declared.limits.TheConstants.{COUNT_LIMIT}
 use Rattle.adapt_bytes.specs.Numeral.{numeral}
 use Rattle.icap_chunks.specs.Grammar.{crlf}
@@ -7,8 +7,6 @@ use Rattle.encapsulated.specs.declared.offsets.Layout.{Layout}
 use Rattle.encapsulated.specs.declared.parts.BodyPart.{BodyPart}
 use Rattle.encapsulated.specs.declared.parts.BodyPart.TheVariants.{ReqBody, ResBody, NullBody}
 use Rattle.encapsulated.specs.declared.parts.Part.TheVariants.{ReqHdr, ResHdr, Body}
-use Rattle.encapsulated.specs.declared.message.Method.{Method}
-use Rattle.encapsulated.specs.declared.message.Method.TheVariants as methods
 use Rattle.encapsulated.specs.declared.message.Direction.TheVariants.{Request}
 use Rattle.encapsulated.specs.Grammar.{name_of}
 use Rattle.encapsulated.specs.Layouts.{IsLayout, MayHave, written}

@@ -2,10 +2,9 @@
 use Rattle.std.proofs.Common.{◌≡◌, ℕ, Bool, true, false, not, ◌||◌, ◌&&◌, List, [], ◌∷◌, ◌++◌, length, is_none, refl, ap, sym, subst, ◌∙◌, append-nil, arith, ◌==◌}
 use Rattle.std.proofs.lemmas.Bool.Decides.{nat_tests}
 use Rattle.trace_core.specs.declared.history.Seen.{Seen}
-use Rattle.chunk_writer.specs.Writer.{Writer, waiting}
+use Rattle.chunk_writer.specs.Writer.{waiting}
 use Rattle.icap_client.specs.declared.stage.Stage.{Stage}
 use Rattle.icap_client.specs.declared.stage.Stage.TheVariants.{Replies, Head, Body, Over}
-use Rattle.icap_client.specs.Heard.{Reader, HasHeard}
 use Rattle.icap_client.specs.Laws.{IsWhole}
 use Rattle.icap_client.specs.Reading.{Side, SideHeard}
 use Rattle.icap_client.specs.Turns.{Service, ServiceSent, ServiceHeard, IsClean, is_over, is_answered, is_whole_request, is_flushed, is_reusable}

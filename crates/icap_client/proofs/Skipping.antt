@@ -8,7 +8,6 @@ use Rattle.adapt_sides.specs.declared.fault.ClientFault.TheVariants as faults
 use Rattle.icap_head.specs.Heads.{Response, HasResponse, RefusesIcapHead, response_parts}
 use Rattle.icap_head.specs.declared.responses.IcapResponse.{IcapResponse}
 use Rattle.icap_head.specs.StartLines.{StatusForm}
-use Rattle.icap_head.specs.FieldLines.{unended}
 use Rattle.icap_head.specs.declared.reading.HeadFault.{HeadFault}
 use Rattle.icap_head.specs.declared.reading.HeadFault.TheVariants as heads
 use Rattle.icap_chunks.specs.Machine.{HasRead, start, end_of, end_at, fault_of, faulted_at}
@@ -17,7 +16,7 @@ use Rattle.icap_chunks.specs.declared.fault.ChunkFault.{ChunkFault}
 use Rattle.icap_chunks.specs.declared.reader.ChunkReader.{ChunkReader}
 use Rattle.icap_chunks.proofs.Readings.{reads_nothing, reads_end}
 use Rattle.icap_client.specs.Hearing.{ReadsOn}
-use Rattle.icap_client.specs.Replies.{IsHead, lists_of}
+use Rattle.icap_client.specs.Replies.{lists_of}
 use Rattle.icap_chunks.specs.Grammar.{crlf}
 use Rattle.icap_client.specs.RequestHead.{joined, host_pieces}
 use Rattle.icap_client.specs.Asking.{options_pieces, options_request, HasOptionsBody, IsOptionsAnswer, IsOptionsFront, Asker, AnsweredTo, Frames, Tells, HasAnyHead, RefusesOptionsHead, RefusesOptions, RefusesRaw, HoldsHead}

@@ -1,12 +1,12 @@
 -- How framing goes on: from one head to the next, and within a body.
-use Rattle.std.proofs.Common.{◌≡◌, ℕ, zero, suc, ◌+◌, ◌<◌, ◌≤◌, ◌⊎◌, inl, inr, Bool, true, false, List, [], ◌∷◌, ◌++◌, length, take, drop, refl, ap, sym, subst, ◌∙◌, append_assoc, append-nil, arith, length-append, Option, Some, None, is_some}
+use Rattle.std.proofs.Common.{◌≡◌, ℕ, zero, suc, ◌+◌, ◌<◌, ◌≤◌, ◌⊎◌, inl, inr, Bool, true, false, List, [], ◌++◌, length, take, drop, refl, ap, sym, subst, ◌∙◌, append_assoc, append-nil, arith, length-append, Option, Some, None, is_some}
 use Rattle.std.proofs.lemmas.List.{take-append-drop, length-take-le}
 use Rattle.std.proofs.Math.Seq.{take-add}
 use Rattle.icap_head.specs.Heads.{RefusesIcapHead}
 use Rattle.icap_head.specs.StartLines.{StatusForm}
 use Rattle.icap_head.specs.declared.reading.HeadFault.TheVariants.{More}
 use Rattle.encapsulated.specs.declared.offsets.Layout.{Layout}
-use Rattle.icap_chunks.specs.Machine.{HasRead, end_of, fault_of}
+use Rattle.icap_chunks.specs.Machine.{end_of, fault_of}
 use Rattle.icap_chunks.specs.declared.reader.ChunkReader.{ChunkReader}
 use Rattle.icap_chunks.proofs.Readings.{reads_end}
 use Rattle.trace_core.specs.declared.history.Event.{Event}
@@ -14,7 +14,7 @@ use Rattle.trace_core.specs.declared.history.Event.TheVariants.{Ad, AdEnd}
 use Rattle.trace_core.specs.declared.history.Seen.{Seen}
 use Rattle.trace_core.specs.View.{after}
 use Rattle.icap_client.specs.Events.{AllAre, is_of_replies, MayHear, MayAllFollow, after_all, listed, ad_sum, ad_events, adapted_events}
-use Rattle.icap_client.specs.Replies.{IsInterim, IsModHead, IsBody, has_body}
+use Rattle.icap_client.specs.Replies.{IsInterim, IsModHead, IsBody}
 use Rattle.icap_client.specs.Heard.{Reader, HasHeard, HeardTo, HeardBody, HeardMod, in_stage}
 use Rattle.icap_client.specs.Heard.HeardFinal.{changed}
 use Rattle.icap_client.specs.Hearing.{ReaderHears, PassesWithoutEvent, MustWait, HasNoEmptyLine, ReadsOn}

@@ -1,20 +1,19 @@
 -- A turn's moves, as steps of what was sent.
-use Rattle.std.proofs.Common.{◌≡◌, ℕ, ◌+◌, ◌-◌, ◌<◌, ◌≤◌, ◌⊎◌, inl, inr, Bool, true, false, not, ◌||◌, ◌&&◌, List, [], ◌∷◌, ◌++◌, length, take, drop, refl, ap, sym, subst, ◌∙◌, append_assoc, append-nil, arith, length-append, length-drop, Option, Some, None, IfSome, IsSomeAnd, min, if◌then◌else◌, ◌==◌}
+use Rattle.std.proofs.Common.{◌≡◌, ℕ, ◌+◌, ◌-◌, ◌<◌, ◌≤◌, ◌⊎◌, inl, inr, Bool, true, false, not, ◌&&◌, List, [], ◌∷◌, ◌++◌, length, take, drop, refl, ap, sym, subst, ◌∙◌, append_assoc, append-nil, arith, Option, Some, None, IfSome, IsSomeAnd, if◌then◌else◌, ◌==◌}
 use Rattle.std.proofs.lemmas.Bool.Decides.{nat_tests}
 use Rattle.std.proofs.lemmas.Bool.{cases_lt}
-use Rattle.std.proofs.lemmas.List.{length-take-le, length-take, take-take, drop-drop}
+use Rattle.std.proofs.lemmas.List.{length-take-le, take-take, drop-drop}
 use Rattle.icap_chunks.specs.Grammar.{last_chunk}
 use Rattle.trace_core.specs.declared.history.Seen.{Seen}
-use Rattle.trace_core.specs.declared.history.Event.{Event}
 use Rattle.trace_core.specs.declared.history.Event.TheVariants.{Svc, Stop}
 use Rattle.trace_core.specs.History.{is_preview}
 use Rattle.trace_core.specs.Legal.{Allows, MaySend, open_preview}
-use Rattle.trace_core.specs.View.{after, ieof_now}
+use Rattle.trace_core.specs.View.{after}
 use Rattle.trace_core.proofs.Sound.{Sound, sound-after}
-use Rattle.span_tape.specs.Tape.{Tape, end_of}
+use Rattle.span_tape.specs.Tape.{Tape}
 use Rattle.chunk_writer.specs.declared.next.Next.{Next}
-use Rattle.chunk_writer.specs.Writer.{Writer, waiting, begun, fixed, sent_on, after_data, bytes_of, end_text, is_ending, MayGoOn, IsIdle}
-use Rattle.chunk_writer.specs.Moves.{Moves, Passes}
+use Rattle.chunk_writer.specs.Writer.{Writer, waiting, fixed, sent_on, after_data, bytes_of, end_text, is_ending, MayGoOn, IsIdle}
+use Rattle.chunk_writer.specs.Moves.{Moves}
 use Rattle.chunk_writer.specs.Moves.Moves.{start, passed, begun_chunk, sent, ended}
 use Rattle.chunk_writer.proofs.Moving.{Reaches, reaches, there}
 use Rattle.icap_client.specs.RequestText.{is_null}

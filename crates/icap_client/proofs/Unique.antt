@@ -1,5 +1,5 @@
 -- A service's bytes have one reading.
-use Rattle.std.proofs.Common.{◌≡◌, ℕ, ◌+◌, suc, Bool, true, false, List, [], ◌∷◌, ◌++◌, length, refl, ap, sym, subst, ◌∙◌, append_assoc, arith}
+use Rattle.std.proofs.Common.{◌≡◌, ℕ, Bool, true, false, List, [], ◌∷◌, ◌++◌, length, refl, ap, sym, subst, ◌∙◌, append_assoc, arith}
 use Rattle.icap_head.specs.Heads.{Response, HasResponse, StartsResponse}
 use Rattle.icap_head.proofs.OneReading.{response_unique}
 use Rattle.icap_head.proofs.Readings.{has_head-append}
@@ -7,7 +7,7 @@ use Rattle.encapsulated.specs.declared.offsets.Layout.{Layout}
 use Rattle.encapsulated.proofs.OneAnswer.{parts_unique, layout_unique}
 use Rattle.icap_chunks.proofs.Written.{one_reading}
 use Rattle.trace_core.specs.declared.history.Point.{Point}
-use Rattle.icap_client.specs.Replies.{Final, IsFinal, IsAnswer, IsInterim, IsBareReply, IsMod, IsModHead, IsBody, HasLayout, lists_of, has_body}
+use Rattle.icap_client.specs.Replies.{Final, IsFinal, IsAnswer, IsInterim, IsBareReply, IsMod, IsBody, HasLayout, lists_of, has_body}
 use Rattle.icap_client.specs.Replies.Final.{unchanged, changed}
 
 pub split_one : (p q r s : List ℕ) → p ++ q ≡ r ++ s → length p ≡ length r → (p ≡ r) × (q ≡ s)

@@ -1,22 +1,15 @@
 -- The beginning, the other sides' events, and the end.
-use Rattle.std.proofs.Common.{◌≡◌, ℕ, ◌+◌, Bool, true, false, List, [], ◌++◌, length, refl, ap, sym, subst, ◌∙◌, append_assoc, append-nil, arith, Some}
-use Rattle.icap_chunks.specs.declared.reader.ChunkReader.{ChunkReader}
-use Rattle.encapsulated.specs.declared.offsets.Layout.{Layout}
+use Rattle.std.proofs.Common.{◌≡◌, ℕ, List, [], ◌++◌, refl, ap, sym, subst, ◌∙◌, append_assoc, append-nil}
 use Rattle.trace_core.specs.declared.history.Plan.{Plan}
 use Rattle.trace_core.specs.declared.history.Point.{Point}
-use Rattle.trace_core.specs.declared.history.Event.{Event}
-use Rattle.trace_core.specs.declared.history.Event.TheVariants.{In, End, Svc, Stop, Continue, NoMod, Mod, Ad, AdEnd, Usr, Done, Fail}
 use Rattle.trace_core.specs.declared.history.Seen.{Seen}
 use Rattle.trace_core.specs.History.{seen}
-use Rattle.trace_core.specs.View.{after}
-use Rattle.icap_client.specs.Replies.{IsInterim, has_body}
 use Rattle.icap_client.specs.Replies.Final.{unchanged, changed}
-use Rattle.icap_client.specs.Heard.{Reader, HasHeard, HeardTo, Marks, HeardInterim, HeardModHead, HeardBody, HeardNoMod, HeardMod, HeardFinal}
+use Rattle.icap_client.specs.Heard.{Reader, HasHeard, HeardTo, HeardFinal}
 use Rattle.icap_client.specs.Heard.HeardFinal.{unchanged as was_unchanged, changed as was_changed}
 use Rattle.icap_client.specs.Laws.{first_reader, IsWhole, WasSaid}
-use Rattle.icap_client.specs.Events.{is_of_replies}
 use Rattle.icap_client.specs.declared.stage.Stage.{Stage}
-use Rattle.icap_client.specs.declared.stage.Stage.TheVariants.{Replies, Head, Body, Over}
+use Rattle.icap_client.specs.declared.stage.Stage.TheVariants.{Over}
 
 pub nothing_heard : (plan : Plan) (point : Point) → HasHeard (seen plan []) [] [] (first_reader point)
 nothing_heard plan point = record { marks = record { no_mod_is = refl; modified_is = refl; has_body_is = refl; over_is = refl }; none = refl; count = refl; interim = refl }

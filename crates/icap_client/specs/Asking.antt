@@ -1,5 +1,5 @@
 -- What an OPTIONS request and its answer are (RFC 3507, section 4.10), and how far a side is with both.
-use Rattle.std.specs.Prelude.{◌≡◌, ◌≢◌, ℕ, ◌<◌, ◌≤◌, ◌⊎◌, ⊤, Bool, true, false, List, [], ◌∷◌, ◌++◌, length, codes, Option, Some, None, IfSome, IfNone, IfOk, is_some, option_map, Result, Ok, Err}
+use Rattle.std.specs.Prelude.{◌≡◌, ◌≢◌, ℕ, ◌<◌, ◌≤◌, ◌⊎◌, Bool, true, false, List, [], ◌∷◌, ◌++◌, length, codes, Option, Some, None, IfSome, IfNone, IfOk, is_some, option_map, Result, Ok, Err}
 use Rattle.adapt_bytes.specs.Numeral.{numeral}
 use Rattle.icap_chunks.specs.Grammar.{crlf, IsChunked}
 use Rattle.icap_chunks.specs.Machine.{HasRead, end_of, fault_of}

@@ -1,5 +1,5 @@
 -- The front of a reply's head, which is judged where a line has ended.
-use Rattle.std.specs.Prelude.{◌≡◌, ℕ, ◌<◌, ◌⊎◌, Bool, false, ◌==◌, List, length, take, drop}
+use Rattle.std.specs.Prelude.{◌≡◌, ℕ, ◌<◌, ◌⊎◌, false, List, length, take, drop}
 use Rattle.adapt_bytes.specs.declared.limits.TheConstants.{MAX_HEAD}
 use Rattle.adapt_bytes.specs.Text.{has_line}
 use Rattle.icap_head.specs.Heads.{RefusesIcapHead}

@@ -1,5 +1,5 @@
 -- What framing bytes does, and when no more can be framed.
-use Rattle.std.specs.Prelude.{◌≡◌, ℕ, ◌<◌, ◌≤◌, ◌⊎◌, ⊤, Bool, true, false, List, [], ◌∷◌, ◌++◌, length, take}
+use Rattle.std.specs.Prelude.{◌≡◌, ℕ, ◌<◌, ◌≤◌, ◌⊎◌, true, false, List, [], ◌++◌, length, take}
 use Rattle.icap_head.specs.Heads.{RefusesIcapHead}
 use Rattle.icap_head.specs.StartLines.{StatusForm}
 use Rattle.icap_head.specs.declared.reading.HeadFault.TheVariants.{More}
@@ -10,7 +10,7 @@ use Rattle.trace_core.specs.declared.history.Event.{Event}
 use Rattle.trace_core.specs.declared.history.Seen.{Seen}
 use Rattle.icap_client.specs.Events.{after_all, MayAllFollow, AllAre, is_of_replies}
 use Rattle.icap_client.specs.Replies.{ends_in_empty_line, IsModHead}
-use Rattle.icap_client.specs.Heard.{Reader, HasHeard, in_stage}
+use Rattle.icap_client.specs.Heard.{Reader, HasHeard}
 use Rattle.icap_client.specs.declared.stage.Stage.{Stage}
 use Rattle.icap_client.specs.declared.stage.Stage.TheVariants.{Replies, Head, Body, Over}
 

@@ -1,12 +1,11 @@
 -- The side's marks beside the other sides' events, and behind a turn's.
-use Rattle.std.proofs.Common.{◌≡◌, ℕ, Bool, true, false, not, ◌||◌, ◌&&◌, List, [], ◌∷◌, ◌++◌, length, refl, ap, sym, subst, ◌∙◌}
-use Rattle.std.specs.List.{list_any}
+use Rattle.std.proofs.Common.{◌≡◌, ℕ, Bool, false, not, ◌||◌, ◌&&◌, List, ◌++◌, length, refl, ap, sym, ◌∙◌}
 use Rattle.trace_core.specs.declared.history.Event.{Event}
 use Rattle.trace_core.specs.declared.history.Event.TheVariants.{In, End, Svc, Stop, Heard, Continue, NoMod, Mod, Ad, AdEnd, Usr, Done, Fail, Retry}
 use Rattle.trace_core.specs.declared.history.Seen.{Seen}
-use Rattle.trace_core.specs.History.{in_bytes, is_retry, is_continue, is_preview}
+use Rattle.trace_core.specs.History.{in_bytes, is_retry, is_preview}
 use Rattle.trace_core.specs.View.{after}
-use Rattle.icap_client.specs.Events.{May, after_all, is_of_sending, is_of_replies, is_final}
+use Rattle.icap_client.specs.Events.{May, is_of_sending, is_of_replies}
 use Rattle.icap_client.specs.Turns.{Service, ServiceSent, ServiceHeard, is_answered}
 use Rattle.icap_client.specs.OthersSent.{others}
 use Rattle.icap_client.specs.OthersHeard.{Same, same_after, side_keeps}

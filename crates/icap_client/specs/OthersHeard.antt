@@ -1,19 +1,15 @@
 -- The other sides' events leave what was heard.
-use Rattle.std.proofs.Common.{◌≡◌, ℕ, ◌+◌, ◌<◌, ◌⊎◌, inl, inr, Bool, true, false, ◌||◌, List, [], ◌++◌, length, refl, ap, sym, subst, ◌∙◌, arith, Some}
-use Rattle.icap_chunks.specs.declared.reader.ChunkReader.{ChunkReader}
-use Rattle.encapsulated.specs.declared.offsets.Layout.{Layout}
-use Rattle.trace_core.specs.declared.history.Plan.{Plan}
+use Rattle.std.proofs.Common.{◌≡◌, ℕ, ◌<◌, ◌⊎◌, inl, inr, Bool, true, false, ◌||◌, List, [], length, refl, ap, sym, subst, ◌∙◌, arith}
 use Rattle.trace_core.specs.declared.history.Point.{Point}
 use Rattle.trace_core.specs.declared.history.Event.{Event}
 use Rattle.trace_core.specs.declared.history.Event.TheVariants.{In, End, Svc, Stop, Heard, Continue, NoMod, Mod, Ad, AdEnd, Usr, Done, Fail, Retry}
 use Rattle.trace_core.specs.declared.history.Seen.{Seen}
-use Rattle.trace_core.specs.History.{seen, is_heard, is_preview}
+use Rattle.trace_core.specs.History.{is_heard, is_preview}
 use Rattle.trace_core.specs.View.{after}
-use Rattle.icap_client.specs.Replies.{IsInterim, has_body}
-use Rattle.icap_client.specs.Replies.Final.{unchanged, changed}
-use Rattle.icap_client.specs.Heard.{Reader, HasHeard, HeardTo, Marks, HeardInterim, HeardModHead, HeardBody, HeardNoMod, HeardMod, HeardFinal}
+use Rattle.icap_client.specs.Replies.{IsInterim}
+use Rattle.icap_client.specs.Heard.{Reader, HasHeard, HeardTo, Marks, HeardInterim, HeardFinal}
 use Rattle.icap_client.specs.Heard.HeardFinal.{unchanged as was_unchanged, changed as was_changed}
-use Rattle.icap_client.specs.Laws.{first_reader, IsWhole}
+use Rattle.icap_client.specs.Laws.{first_reader}
 use Rattle.icap_client.specs.Events.{is_of_replies}
 use Rattle.icap_client.specs.declared.stage.Stage.{Stage}
 use Rattle.icap_client.specs.declared.stage.Stage.TheVariants.{Replies, Head, Body, Over}

@@ -1,10 +1,7 @@
 -- The other sides' events, and the beginning.
-use Rattle.std.proofs.Common.{◌≡◌, ℕ, ◌+◌, ◌<◌, ◌≤◌, Bool, true, false, List, [], ◌∷◌, ◌++◌, length, take, drop, refl, ap, sym, subst, ◌∙◌, append-nil, arith, Option, Some, None, IfSome, if◌then◌else◌}
-use Rattle.std.proofs.lemmas.Bool.Decides.{nat_tests}
+use Rattle.std.proofs.Common.{◌≡◌, ℕ, ◌+◌, ◌≤◌, Bool, true, false, List, [], ◌++◌, length, take, refl, ap, sym, subst, ◌∙◌, arith, Option, Some, None, IfSome, if◌then◌else◌}
 use Rattle.std.proofs.lemmas.List.{take-append-le}
 use Rattle.trace_core.specs.declared.history.Plan.{Plan}
-use Rattle.trace_core.specs.declared.history.Kind.{Kind}
-use Rattle.trace_core.specs.declared.history.Kind.TheVariants.{Plain, Whole, Preview}
 use Rattle.trace_core.specs.declared.history.Event.{Event}
 use Rattle.trace_core.specs.declared.history.Event.TheVariants.{In, End, Svc, Stop, Heard, Continue, NoMod, Mod, Ad, AdEnd, Usr, Done, Fail, Retry}
 use Rattle.trace_core.specs.declared.history.Seen.{Seen}
@@ -13,7 +10,6 @@ use Rattle.trace_core.specs.Legal.{Allows, open_preview, preview_size}
 use Rattle.trace_core.specs.View.{after}
 use Rattle.icap_client.specs.RequestText.{is_null, BodyText}
 use Rattle.chunk_writer.specs.Cut.IsCut.{no_chunk}
-use Rattle.chunk_writer.specs.Cut.{Run}
 use Rattle.icap_client.specs.Front.{Front}
 use Rattle.chunk_writer.specs.Cut.Run.{between}
 use Rattle.icap_client.specs.Front.Front.{null, first, rest, over}

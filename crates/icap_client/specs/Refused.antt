@@ -1,5 +1,5 @@
 -- Why the bytes behind those that were framed are refused.
-use Rattle.std.specs.Prelude.{◌≡◌, ◌≢◌, ℕ, ◌<◌, ◌≤◌, ◌⊎◌, ⊤, Bool, Some, List, [], ◌++◌, length, take}
+use Rattle.std.specs.Prelude.{◌≡◌, ◌≢◌, ℕ, ◌<◌, ◌≤◌, ◌⊎◌, Bool, Some, List, [], ◌++◌, length, take}
 use Rattle.adapt_bytes.specs.declared.limits.TheConstants.{MAX_HEAD}
 use Rattle.icap_head.specs.Heads.{Response, HasResponse, RefusesIcapHead}
 use Rattle.icap_head.specs.StartLines.{StatusForm}
@@ -10,7 +10,6 @@ use Rattle.icap_chunks.specs.Machine.{HasRead, end_of}
 use Rattle.icap_chunks.specs.Faults.{Breaks}
 use Rattle.icap_chunks.specs.declared.fault.ChunkFault.{ChunkFault}
 use Rattle.icap_chunks.specs.declared.reader.ChunkReader.{ChunkReader}
-use Rattle.trace_core.specs.declared.history.Event.{Event}
 use Rattle.trace_core.specs.declared.history.Event.TheVariants.{Continue, NoMod, Mod, Ad, AdEnd}
 use Rattle.trace_core.specs.declared.history.Point.{Point}
 use Rattle.trace_core.specs.declared.history.Seen.{Seen}

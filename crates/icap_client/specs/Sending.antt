@@ -1,13 +1,13 @@
 -- What the sending side has written, as a relation over histories.
-use Rattle.std.specs.Prelude.{◌≡◌, ℕ, ◌+◌, ◌-◌, ◌<◌, ◌≤◌, ◌⊎◌, ⊤, Bool, true, false, List, [], ◌∷◌, ◌++◌, length, take, drop, Option, Some, None, IfSome, if◌then◌else◌, nat_lt, min, ◌||◌, ◌&&◌, not, ◌==◌, IsSomeAnd}
+use Rattle.std.specs.Prelude.{◌≡◌, ℕ, ◌+◌, ◌<◌, ◌≤◌, ◌⊎◌, Bool, true, false, List, [], ◌∷◌, ◌++◌, length, take, drop, IfSome, if◌then◌else◌, ◌&&◌, not, ◌==◌, IsSomeAnd}
 use Rattle.icap_chunks.specs.Grammar.{last_chunk}
 use Rattle.trace_core.specs.declared.history.Event.{Event}
 use Rattle.trace_core.specs.declared.history.Event.TheVariants.{Svc, Stop}
 use Rattle.trace_core.specs.declared.history.Seen.{Seen}
-use Rattle.trace_core.specs.History.{is_stop, is_preview, svc_bytes, in_bytes}
+use Rattle.trace_core.specs.History.{is_preview}
 use Rattle.trace_core.specs.Legal.{Allows, MaySend, open_preview}
-use Rattle.trace_core.specs.View.{after, ieof_now}
-use Rattle.span_tape.specs.Tape.{Tape, end_of}
+use Rattle.trace_core.specs.View.{ieof_now}
+use Rattle.span_tape.specs.Tape.{Tape}
 pub use Rattle.adapt_sides.specs.Tapes.{KeepsUnsent}
 use Rattle.chunk_writer.specs.Writer.{Writer, waiting, IsFraming, is_ending, end_text, FitsTurn}
 use Rattle.chunk_writer.specs.declared.next.Next.{Next}

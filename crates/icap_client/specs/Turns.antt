@@ -1,5 +1,5 @@
 -- What a write turn of the service's side does.
-use Rattle.std.specs.Prelude.{◌&&◌, ◌||◌, not, option_map, is_some, is_none, ◌≡◌, ℕ, ◌<◌, ◌≤◌, ◌⊎◌, ◌↔◌, ◌==◌, length, take, ⊤, Bool, true, false, List, [], ◌++◌, Option, Some, None, Result, Ok, Err}
+use Rattle.std.specs.Prelude.{◌&&◌, ◌||◌, not, option_map, is_some, is_none, ◌≡◌, ℕ, ◌⊎◌, ◌↔◌, ◌==◌, length, Bool, true, false, List, [], ◌++◌, Option, Some, None, Result, Ok, Err}
 use Rattle.trace_core.specs.declared.history.Event.{Event}
 use Rattle.trace_core.specs.declared.history.Event.TheVariants.{Retry}
 use Rattle.trace_core.specs.declared.history.Seen.{Seen}

@@ -1,12 +1,12 @@
 -- A service's side before its first turn.
-use Rattle.std.proofs.Common.{◌≡◌, ℕ, Bool, true, false, not, ◌&&◌, ◌||◌, List, [], Option, Some, None, IfSome, refl, ap, sym, subst, ◌∙◌}
+use Rattle.std.proofs.Common.{◌≡◌, ℕ, Bool, true, false, ◌&&◌, List, [], Option, Some, None, IfSome, refl, ap, sym, subst, ◌∙◌}
 use Rattle.trace_core.specs.declared.history.Plan.{Plan}
 use Rattle.trace_core.specs.declared.history.Point.{Point}
 use Rattle.trace_core.specs.History.{seen, is_preview}
 use Rattle.chunk_writer.specs.Writer.{Writer, fresh}
 use Rattle.icap_client.specs.Laws.{first_reader}
 use Rattle.icap_client.specs.Sending.{HasSent}
-use Rattle.icap_client.specs.Turns.{Service, ServiceSent, ServiceHeard, is_answered}
+use Rattle.icap_client.specs.Turns.{Service, ServiceSent, ServiceHeard}
 use Rattle.icap_client.specs.OthersSent.{it_begins}
 use Rattle.icap_client.proofs.Both.{side_begins}
 use Rattle.adapt_turn.specs.declared.start.Line.{Line}

@@ -1,18 +1,14 @@
 -- What the wires took, by what stands.
-use Rattle.std.proofs.Common.{◌≡◌, ℕ, ◌≤◌, ◌⊎◌, inl, inr, Bool, true, false, List, [], ◌∷◌, ◌++◌, length, take, Option, Some, None, MatchOption, IfSome, if◌then◌else◌, refl, ap, sym, subst, ◌∙◌, arith}
-use Rattle.std.proofs.lemmas.List.{take_all}
+use Rattle.std.proofs.Common.{◌≡◌, ℕ, ◌≤◌, ◌⊎◌, inl, inr, Bool, true, false, List, [], ◌∷◌, ◌++◌, length, Option, Some, None, MatchOption, IfSome, if◌then◌else◌, refl, ap, sym, ◌∙◌}
 use Rattle.trace_core.specs.declared.history.Seen.{Seen}
 use Rattle.trace_core.specs.declared.history.Point.{Point}
 use Rattle.trace_core.specs.declared.history.Point.TheVariants.{Reqmod, Respmod}
 use Rattle.trace_core.specs.Faults.{chooses_original}
 use Rattle.trace_core.specs.History.{is_plain}
-use Rattle.trace_core.proofs.Sound.{Sound, sound}
+use Rattle.trace_core.proofs.Sound.{sound}
 use Rattle.chunk_writer.specs.Writer.{Writer, waiting}
-use Rattle.chunk_writer.specs.Cut.{IsPrefixOf}
-use Rattle.http_side.specs.Refusals.{refusal}
 use Rattle.http_side.specs.declared.body.Framing.{Framing}
-use Rattle.adapt_sides.specs.Tapes.{chosen, chosen_received, chosen_delivered}
-use Rattle.adapt_sides.specs.Turns.{Gift}
+use Rattle.adapt_sides.specs.Tapes.{chosen, chosen_received}
 use Rattle.adapt_sides.specs.Turns.Gift.{message, refusal as refused_by}
 use Rattle.adapt_hold.specs.Spans.{EndsBody}
 use Rattle.adapt_hold.specs.Holding.{Holding, IsTied, shows}

@@ -1,4 +1,3 @@
-use Rattle.std.proofs.Common.{ℕ, List}
 use Rattle.adapt_hold.specs.Holding.{shows}
 use Rattle.proxy_rules.proofs.WireLemmas.{service_one, whole_one, hops_one, other_one}
 use Rattle.proxy_rules.proofs.laws.the_wires_take_one_message.Goals as goal

@@ -4,7 +4,7 @@ use Rattle.trace_core.specs.declared.history.Cause.TheVariants.{Deadline, Stoppi
 use Rattle.plan_rules.specs.Room.{original_room, adapted_room}
 use Rattle.adapt_hold.specs.Holding.{Holding, shows}
 use Rattle.adapt_turn.proofs.Reasons.{waits_kept, both_kept, blamed_kept, line_blamed_kept, fails_kept, breaks_kept, cause_kept, outcome_fails, not_failed}
-use Rattle.adapt_turn.proofs.Moved.{moves_of, moves_none, refreshed_by}
+use Rattle.adapt_turn.proofs.Moved.{moves_of, moves_none}
 use Rattle.adapt_turn.specs.declared.turned.Outcome.TheVariants as outcomes
 use Rattle.adapt_turn.proofs.Told.{done_told}
 use Rattle.std.proofs.Common.{◌≡◌, refl, subst}

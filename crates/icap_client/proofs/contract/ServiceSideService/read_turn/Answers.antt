@@ -1,4 +1,4 @@
-use Rattle.std.proofs.Common.{◌≡◌, ◌∙◌, Bool, length, subst, sym}
+use Rattle.std.proofs.Common.{◌∙◌, Bool, length, subst, sym}
 use Rattle.trace_core.specs.History.{seen}
 use Rattle.icap_client.specs.Reading.{IsCause}
 use Rattle.icap_client.proofs.Both.{came_cause}

@@ -1,4 +1,3 @@
-use Rattle.std.proofs.Common.{◌≡◌}
 use Rattle.icap_client.proofs.Judged.{filled_judged}
 use Rattle.icap_client.proofs.kept.Kept.fill.Goals as goal
 

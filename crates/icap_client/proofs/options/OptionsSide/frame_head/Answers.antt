@@ -1,4 +1,4 @@
-use Rattle.std.proofs.Common.{rules, ◌≡◌, ◌∙◌, sym, subst, refl, List, ℕ}
+use Rattle.std.proofs.Common.{rules, ◌≡◌, subst, refl, List, ℕ}
 use Rattle.icap_head.specs.Heads.{response_parts, HasResponse}
 use Rattle.icap_client.specs.declared.options.OptionsStage.TheVariants.{Head}
 use Rattle.adapt_sides.specs.declared.fault.ClientFault.TheVariants as faults

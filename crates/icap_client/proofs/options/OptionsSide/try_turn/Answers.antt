@@ -1,4 +1,4 @@
-use Rattle.std.proofs.Common.{rules, ◌≡◌, []}
+use Rattle.std.proofs.Common.{rules, ◌≡◌}
 use Rattle.icap_client.specs.declared.options.OptionsStage.TheVariants.{Over}
 use Rattle.icap_client.proofs.Asked.{asks_over, asks_told, asks_refused, asks_behind}
 use Rattle.icap_client.proofs.options.OptionsSide.try_turn.Goals as goal

@@ -1,4 +1,4 @@
-use Rattle.std.proofs.Common.{rules, ◌≡◌, ap, Err}
+use Rattle.std.proofs.Common.{ap, Err}
 use Rattle.icap_client.specs.Asking.{Asker}
 use Rattle.icap_client.proofs.Asked.{asks_kept}
 use Rattle.icap_client.proofs.options.OptionsSide.turn.Goals as goal

@@ -1,4 +1,3 @@
-use Rattle.std.proofs.Common.{◌≡◌}
 use Rattle.icap_client.proofs.Asked.{asks_let_go}
 use Rattle.icap_client.proofs.options.OptionsSide.turn_once.Goals as goal
 

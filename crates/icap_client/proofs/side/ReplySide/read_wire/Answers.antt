@@ -1,8 +1,6 @@
-use Rattle.std.proofs.Common.{◌≡◌, Bool, true, false, List, ℕ, [], length, take, refl, ap, sym, subst, ◌∙◌, Ok, Err, rules}
-use Rattle.trace_core.specs.declared.history.Event.{Event}
+use Rattle.std.proofs.Common.{true, false, length, refl, ap, subst}
 use Rattle.trace_core.specs.History.{seen}
-use Rattle.icap_client.specs.Events.{ad_sum}
-use Rattle.icap_client.specs.Reading.{Side, SideHears, IsReadDue, ReadTurn}
+use Rattle.icap_client.specs.Reading.{Side, IsReadDue}
 use Rattle.adapt_sides.specs.Filling.{IsFilled}
 use Rattle.adapt_sides.specs.declared.filling.Filled.TheVariants as filled
 use Rattle.adapt_sides.specs.declared.turn.Turn.{Turn}

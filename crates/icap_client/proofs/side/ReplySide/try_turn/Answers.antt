@@ -1,11 +1,8 @@
-use Rattle.std.proofs.Common.{◌≡◌, Bool, true, false, List, ℕ, [], length, take, refl, ap, sym, subst, ◌∙◌, Ok, Err, rules}
+use Rattle.std.proofs.Common.{◌≡◌, List, ℕ, [], length, take, subst, rules}
 use Rattle.trace_core.specs.declared.history.Event.{Event}
 use Rattle.trace_core.specs.History.{seen}
 use Rattle.icap_client.specs.Events.{ad_sum}
-use Rattle.icap_client.specs.Reading.{Side, SideHears, MayRead, ReadTurn}
-use Rattle.adapt_sides.specs.Filling.{IsFilled}
-use Rattle.adapt_sides.specs.declared.filling.Filled.TheVariants as filled
-use Rattle.adapt_sides.specs.declared.turn.Turn.{Turn}
+use Rattle.icap_client.specs.Reading.{SideHears, MayRead, ReadTurn}
 use Rattle.icap_client.proofs.ReadTurns.{turn_refused, turn_behind, turn_unheard}
 use Rattle.icap_client.proofs.side.ReplySide.try_turn.Goals as goal
 

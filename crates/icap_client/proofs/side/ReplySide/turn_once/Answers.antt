@@ -1,4 +1,4 @@
-use Rattle.std.proofs.Common.{◌≡◌, length}
+use Rattle.std.proofs.Common.{length}
 use Rattle.trace_core.specs.History.{seen}
 use Rattle.icap_client.proofs.ReadTurns.{turn_given_back}
 use Rattle.icap_client.proofs.side.ReplySide.turn_once.Goals as goal
