@@ -5,6 +5,7 @@ mod commas;
 mod digits;
 pub mod laws;
 mod limits;
+mod pieces;
 mod room;
 mod text;
 
@@ -14,5 +15,6 @@ pub use limits::{
     COUNT_LIMIT, MAX_ALLOW_LIMIT, MAX_CAPACITY, MAX_CONNECTIONS, MAX_FIELDS, MAX_HEAD, MAX_INPUT,
     MAX_PORT, MAX_PREVIEW, MAX_ROWS, MAX_SMALL, MAX_WINDOW,
 };
+pub use pieces::{behind, front};
 pub use room::Room;
 pub use text::{is_blank, is_token, same_ascii, trim};

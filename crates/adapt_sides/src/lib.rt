@@ -17,7 +17,7 @@ pub use copied::Copied;
 pub use fault::{ClientFault, RelayFault};
 pub use filling::{Filled, MAX_READ, fill};
 pub use hop::Hop;
-pub use pieces::{behind, front, part_of, put_front};
+pub use pieces::{part_of, put_front};
 pub use service::Service;
 pub use source::Source;
 pub use turn::{Turn, push_event};

@@ -10,8 +10,8 @@ ghost use Rattle.adapt_bytes.specs.Text.{has_line};
 ghost use Rattle.icap_client.specs.HeadFront.{IsHeadFront};
 ghost use Rattle.adapt_sides.specs.Filling.{IsFilled};
 
-use adapt_bytes::MAX_HEAD;
-use adapt_sides::{Filled, behind, fill};
+use adapt_bytes::{MAX_HEAD, behind};
+use adapt_sides::{Filled, fill};
 use bytes::BytesMut;
 use std::alloc::Global;
 use std::marker::Model;

@@ -6,7 +6,7 @@ ghost use Rattle.icap_head.specs.declared.reading.HeadFault.TheVariants as Fault
 ghost use Rattle.icap_head.specs.FieldLines.{unended};
 ghost use Rattle.icap_head.specs.Heads.{fault_number};
 
-use adapt_bytes::MAX_HEAD;
+use adapt_bytes::{MAX_HEAD, front};
 use std::alloc::AllocError;
 
 /// A head that was read, and the bytes that it has, its empty line included.
@@ -59,7 +59,7 @@ pub(crate) fn judged(text: &[u8]) -> &[u8]
     ensures len { length result.now ≤ length text.now }
     ensures limit { length result.now ≤ MAX_HEAD }
 {
-    &text[..text.len().min(MAX_HEAD)]
+    front(text, MAX_HEAD)
 }
 
 /// What is said of a head without its end, in a text of so many bytes.

@@ -6,8 +6,7 @@ ghost use Rattle.http_side.specs.Targets.{authority_of};
 ghost use Rattle.proxy_rules.specs.Origins.{host_len, host_of, port_in, port_of};
 
 use crate::scan::{authority, count_before};
-use adapt_bytes::{COUNT_LIMIT, MAX_PORT, read_decimal};
-use adapt_sides::{behind, front};
+use adapt_bytes::{COUNT_LIMIT, MAX_PORT, behind, front, read_decimal};
 use http_side::HttpRequest;
 
 /// The origin that a target names.

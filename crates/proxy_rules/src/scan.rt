@@ -4,7 +4,7 @@ ghost use Rattle.std.specs.Prelude.{◌≡◌, ◌≤◌, length};
 ghost use Rattle.http_side.specs.Targets.{authority_of, count_before};
 ghost use Rattle.proxy_rules.specs.Origins.{is_any, bare_path};
 
-use adapt_sides::{behind, front};
+use adapt_bytes::{behind, front};
 
 /// How long `http://` is.
 const SCHEME: usize = 7;

@@ -3,6 +3,7 @@
 use crate::desk::Desk;
 use crate::phase::{Ends, Phase, Step};
 use crate::seats::At;
+use adapt_bytes::behind;
 use event_loop::{Closing, close_turn};
 use http_side::own_refusal;
 use proxy_rules::{Reason, origin_head_reason, user_head_reason};
@@ -159,13 +160,5 @@ impl<'a, B: Ledgers, Q: Ledger, A: Ledger, G: Gate> Desk<'a, B, Q, A, G> {
             Closing::Waiting => Step::Waits(Phase::Closing(user)),
             Closing::CutShort => Step::On(Phase::Closing(user)),
         }
-    }
-}
-
-/// The text without its first so many bytes.
-pub fn behind(text: &'static [u8], count: usize) -> &'static [u8] {
-    match text.get(count..) {
-        Some(rest) => rest,
-        None => &[],
     }
 }

@@ -3,7 +3,7 @@
 use crate::desk::Desk;
 use crate::phase::{Ends, Phase, Step};
 use crate::seats::At;
-use crate::steps::behind;
+use adapt_bytes::behind;
 use socket_wire::{Dial, SocketWire};
 use span_bank::Ledgers;
 use std::boxed::Box;

@@ -8,8 +8,8 @@ ghost use Rattle.http_relay.specs.Reading.{AtHead, HeadTurn, JudgesHeadTo, Scann
 
 use crate::side::{Asks, SourceHead, SourceSide};
 use crate::source_body::SourceBody;
-use adapt_bytes::MAX_HEAD;
-use adapt_sides::{Filled, RelayFault, behind, fill};
+use adapt_bytes::{MAX_HEAD, behind};
+use adapt_sides::{Filled, RelayFault, fill};
 use http_side::{HttpFault, read_request, read_response};
 use wire_kit::Wire;
 

@@ -1,4 +1,5 @@
 //! 100 fields and 16,384 bytes, and one more of each.
+use adapt_bytes::front;
 use icap_head::{HeadFault, MAX_HEAD, NoMemory, read_request, read_response};
 use std::alloc::Global;
 use std::test::Fail;
@@ -79,11 +80,6 @@ fn the_limit_of_bytes_is_exact(rt: HostRuntime) -> Result<(), Fail> {
         assert_eq!(rt; head.length, size);
     }
     Ok(())
-}
-
-/// The first bytes of a text.
-fn front(text: &[u8], size: usize) -> &[u8] {
-    &text[..text.len().min(size)]
 }
 
 #[test]
