@@ -282,8 +282,7 @@ returns-clause-faultless g c = λ o f.
     let a = c.after_pass.ensures in
     let mid = c.pass-passed.new.self in
     let n = not_failed c.pass-passed.result.failed _ p.over (ap (λ (h : Holding). (shows h.history).closed) (sym a.hold) ∙ o) in
-    let of_line = fault_of (λ (l : Line g.row.V.Denot g.row.W.Denot). g.V.Service.fault l.side) in
-    (
+    let of_line = fault_of (λ (l : Line g.row.V.Denot g.row.W.Denot). g.V.Service.fault l.side) in (
       ap g.S.Source.fault a.kept.0 ∙ by_side c.args.side (λ side. g.S.Source.fault mid.source ≡ None)
           (λ s. p.sound_source s n) (λ s. ap g.S.Source.fault (p.apart_service s).0 ∙ f.0) (λ s. ap g.S.Source.fault (p.apart_next s).0 ∙ f.0),
       λ b. ap of_line a.kept.2 ∙ (
