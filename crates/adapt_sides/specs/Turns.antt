@@ -114,7 +114,3 @@ pub record Gives (x : Seen) (tape : Tape) (old new : Seen → List ℕ → List 
   pub aside : (taken : List ℕ) → old_aside taken → new_aside (taken ++ delta)
   pub waiting : SaysWaiting (events_of result) delta result
   pub fault : Remembers old_fault new_fault result
-
--- the statuses of the proxy's own refusals
-abbrev pub IsOwnStatus : ℕ → Type 0
-IsOwnStatus status = (status ≡ 400) ⊎ ((status ≡ 501) ⊎ ((status ≡ 502) ⊎ ((status ≡ 503) ⊎ (status ≡ 504))))

@@ -1,6 +1,6 @@
 //! The side that a message goes to.
 
-ghost use Rattle.std.specs.Prelude.{◌≡◌, ℕ, ◌≤◌, ◌++◌, Bool, List, [], ◌∷◌, length, Option, None, true, false, is_some};
+ghost use Rattle.std.specs.Prelude.{IsTrue, ◌≡◌, ℕ, ◌≤◌, ◌++◌, Bool, List, [], ◌∷◌, length, Option, None, true, false, is_some};
 ghost use Rattle.trace_core.specs.declared.history.Plan.{Plan};
 ghost use Rattle.trace_core.specs.declared.history.Event.{Event};
 ghost use Rattle.trace_core.specs.declared.history.Seen.{Seen};
@@ -9,7 +9,8 @@ ghost use Rattle.trace_core.specs.Legal.{Allows, IsLegal};
 ghost use Rattle.trace_core.specs.Turns.{is_of_hop};
 ghost use Rattle.adapt_sides.specs.declared.fault.RelayFault.{RelayFault as Fault};
 ghost use Rattle.adapt_sides.specs.Tapes.{KeepsUndelivered, chosen, chosen_received};
-ghost use Rattle.adapt_sides.specs.Turns.{Gives, Gift, IsOwnStatus, IsExplained, FailsGiving};
+ghost use Rattle.adapt_sides.specs.Turns.{Gives, Gift, IsExplained, FailsGiving};
+ghost use Rattle.adapt_bytes.specs.OwnStatus.{is_own_status};
 ghost use Rattle.adapt_sides.specs.Turns.Gift.{nothing, message, refusal};
 
 use crate::fault::RelayFault;
@@ -81,7 +82,7 @@ pub trait Hop {
     /// Puts the proxy's own refusal in the message's place. No byte has gone out.
     fn refuse(&mut self, status: u16)
         requires untouched { untouched self.old ≡ true }
-        requires status { IsOwnStatus status }
+        requires status { IsTrue (is_own_status status) }
         ensures gift { gift self.new ≡ refusal status }
         ensures aside { aside [] self.new }
         ensures framing { body_framing self.new ≡ body_framing self.old }

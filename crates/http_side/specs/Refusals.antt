@@ -1,8 +1,6 @@
 -- The proxy's own error responses.
-use Rattle.std.specs.Prelude.{ℕ, Bool, ◌||◌, List, ◌++◌, codes, if◌then◌else◌, ◌==◌}
-
-abbrev pub is_own_status : ℕ → Bool
-is_own_status s = (s == 400) || ((s == 501) || ((s == 502) || ((s == 503) || (s == 504))))
+use Rattle.std.specs.Prelude.{ℕ, List, ◌++◌, codes, if◌then◌else◌, ◌==◌}
+pub use Rattle.adapt_bytes.specs.OwnStatus.{is_own_status}
 
 -- the status and its phrase
 abbrev pub status_text : ℕ → List ℕ

@@ -18,7 +18,7 @@ use Rattle.icap_chunks.proofs.Runs.{run-append}
 use Rattle.icap_chunks.proofs.Endings.{end_stays, chunked_ends}
 use Rattle.trace_core.specs.declared.history.Point.{Point}
 use Rattle.trace_core.specs.declared.history.Seen.{Seen}
-use Rattle.icap_client.specs.Replies.{IsInterim, IsBareReply, IsModHead, IsModHeads, IsMod, IsBody, HasLayout, lists_of, has_body}
+use Rattle.icap_client.specs.Replies.{IsContinueOrNothing, IsBareReply, IsModHead, IsModHeads, IsMod, IsBody, HasLayout, lists_of, has_body}
 use Rattle.adapt_bytes.specs.Text.{has_line}
 use Rattle.icap_client.specs.HeadFront.{IsHeadFront, HasToWait}
 use Rattle.icap_client.specs.Heard.{Reader, HeardTo, Marks, HeardFinal}
@@ -108,7 +108,7 @@ record Parsed (x : Seen) (xs raw : List ℕ) (r : Reader) (read : List ℕ) : Ty
   before : List ℕ
   rest : List ℕ
   text_is : read ≡ before ++ rest
-  interim : IsInterim r.point x.continued before
+  interim : IsContinueOrNothing r.point x.continued before
   told : Told x xs raw r r.point rest
 
 no_raw : (raw : List ℕ) (room : ℕ) (chunks : ChunkReader) → 0 < room → HasToWait (Body chunks) raw room → raw ≡ []
@@ -202,7 +202,7 @@ no_interim x xs raw r point rest (in_body layout chunks heads text s e n h b o w
 no_interim x xs raw r point rest (no_change last s e h n m) g = omega (arith, one_status rest 204 100 (bare_first point last raw rest e h) g)
 no_interim x xs raw r point rest (change layout last s e h k m) g = omega (arith, one_status rest 200 100 (begins_first point layout rest (r.head ++ (h.rest ++ raw)) (change_begins point layout r.head xs last raw rest e h)) g)
 
-interim_one : (point : Point) (c d : Bool) (before rest first other : List ℕ) → before ++ rest ≡ first ++ other → IsInterim point c before → IsInterim point d first → (First rest 100 → ⊥) → (First other 100 → ⊥) → (c ≡ d) × (rest ≡ other)
+interim_one : (point : Point) (c d : Bool) (before rest first other : List ℕ) → before ++ rest ≡ first ++ other → IsContinueOrNothing point c before → IsContinueOrNothing point d first → (First rest 100 → ⊥) → (First other 100 → ⊥) → (c ≡ d) × (rest ≡ other)
 interim_one point true true before rest first other e h i n m =
     let text = before ++ rest in
     let fa : HasResponse text h.value (length before) = has_head-append (StartsResponse h.value) before rest h.value.fields (length before) h.head in
@@ -351,7 +351,7 @@ cut_anyhow x y xs ys read a b room more e s t h w i v =
     let q = parsed b.reader.stage y ys i.framed b.raw b.reader read more refl t i.text_is i.heard v in
     let point = a.reader.point in
     let there : Told y ys b.raw b.reader point q.rest = subst (λ (z : Point). Told y ys b.raw b.reader z q.rest) e q.told in
-    let interim : IsInterim point y.continued q.before = subst (λ (z : Point). IsInterim z y.continued q.before) e q.interim in
+    let interim : IsContinueOrNothing point y.continued q.before = subst (λ (z : Point). IsContinueOrNothing z y.continued q.before) e q.interim in
     let same = interim_one point x.continued y.continued p.before p.rest q.before q.rest (sym p.text_is ∙ q.text_is) p.interim interim
     (no_interim x xs a.raw a.reader point p.rest p.told) (no_interim y ys b.raw b.reader point q.rest there) in
     let l = told_one x y xs ys a.raw b.raw a.reader b.reader point q.rest (subst (λ (z : List ℕ). Told x xs a.raw a.reader point z) same.1 p.told) there in

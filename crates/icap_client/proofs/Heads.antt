@@ -16,14 +16,14 @@ use Rattle.trace_core.specs.declared.history.Payload.TheVariants as payloads
 use Rattle.trace_core.specs.declared.history.Point.{Point}
 use Rattle.trace_core.specs.declared.history.Seen.{Seen}
 use Rattle.trace_core.specs.View.{after}
-use Rattle.icap_client.specs.Events.{May}
+use Rattle.icap_client.specs.Events.{MayCome}
 use Rattle.icap_client.specs.Replies.{IsEncapsulatedHead, has_body, payload_if, IsBody, IsHead, IsBareReply, IsModHead, lists_of, HasNothing, HasLayout, HasAdaptedHead}
 use Rattle.icap_client.specs.Said.{tag_in, says_close}
 use Rattle.icap_client.specs.Heard.{noted, Reader, HasHeard, HeardTo, HeardModHead, HeardMod, HeardInterim, HeardNoMod, with_head, in_stage, KeepsLimits}
 use Rattle.icap_client.specs.Heard.HeardFinal.{changed, unchanged}
 use Rattle.icap_client.specs.Hearing.{ReaderHears, PassesWithoutEvent}
 use Rattle.icap_client.specs.Hearing.PassesWithoutEvent.{waits, goes_on}
-use Rattle.icap_client.specs.Replies.{IsInterim}
+use Rattle.icap_client.specs.Replies.{IsContinueOrNothing}
 use Rattle.icap_client.specs.Refused.{RefusesReply, RefusesHead, SpellsReply, SpellsNoReply, MayReply, IsMisfit, IsFit}
 use Rattle.icap_client.specs.Refused.IsMisfit.{ends_early}
 use Rattle.adapt_sides.specs.declared.fault.ClientFault.{ClientFault}
@@ -62,7 +62,7 @@ misfit_early layout raw size l h n =
 
 -- a head that fits is refused where its response may not come
 pub fit_refused : (fault : ClientFault) (x : Seen) (layout : Layout) (raw head : List ℕ) → head ≡ take layout.offset raw → IsEncapsulatedHead head → length head ≡ layout.offset
-    → (fault ≡ faults.NoMemory) ⊎ ((fault ≡ faults.NotLegal) × (May x (Mod (payload_if (has_body layout.body))) → ⊥)) → RefusesHead fault x layout raw
+    → (fault ≡ faults.NoMemory) ⊎ ((fault ≡ faults.NotLegal) × (MayCome x (Mod (payload_if (has_body layout.body))) → ⊥)) → RefusesHead fault x layout raw
 fit_refused fault x layout raw head e h l (inl n) = subst (λ (f : ClientFault). RefusesHead f x layout raw) (sym n) tt
 fit_refused fault x layout raw head e h l (inr n) =
     let long : length head ≡ length (take layout.offset raw) = ap (λ (t : List ℕ). length t) e in
@@ -81,7 +81,7 @@ unfolding faulted_at
 sound_starts = refl
 
 -- an adapted message's head with a body behind it
-pub hears_body : (x : Seen) (r : Reader) (layout : Layout) (head : List ℕ) → May x (Mod payloads.Body) → has_body layout.body ≡ true → r.stage ≡ Head layout
+pub hears_body : (x : Seen) (r : Reader) (layout : Layout) (head : List ℕ) → MayCome x (Mod payloads.Body) → has_body layout.body ≡ true → r.stage ≡ Head layout
     → IsEncapsulatedHead head → length head ≡ layout.offset → ReaderHears x r (with_head r layout head (Body start)) (Mod payloads.Body ∷ []) head []
 hears_body x r layout head may b stage ended size = record {
   legal = (may.0, may.1, tt);
@@ -110,7 +110,7 @@ hears_body x r layout head may b stage ended size = record {
 }
 
 -- and with none
-pub hears_null : (x : Seen) (r : Reader) (layout : Layout) (head : List ℕ) → May x (Mod payloads.NullBody) → has_body layout.body ≡ false → r.stage ≡ Head layout
+pub hears_null : (x : Seen) (r : Reader) (layout : Layout) (head : List ℕ) → MayCome x (Mod payloads.NullBody) → has_body layout.body ≡ false → r.stage ≡ Head layout
     → IsEncapsulatedHead head → length head ≡ layout.offset → ReaderHears x r (with_head r layout head Over) (Mod payloads.NullBody ∷ []) head []
 hears_null x r layout head may b stage ended size = record {
   legal = (may.0, may.1, tt);
@@ -163,7 +163,7 @@ interim_at : (x : Seen) (adapted read : List ℕ) (r : Reader) → r.stage ≡ R
 interim_at x adapted read r stage h = subst (λ (s : Stage). HeardTo s x adapted read r) stage h
 
 -- a 100
-pub hears_continue : (x : Seen) (r : Reader) (raw : List ℕ) (value : Response) (size : ℕ) → May x Continue → r.stage ≡ Replies → HasResponse raw value size
+pub hears_continue : (x : Seen) (r : Reader) (raw : List ℕ) (value : Response) (size : ℕ) → MayCome x Continue → r.stage ≡ Replies → HasResponse raw value size
     → (value.status ≡ 100) × HasNothing r.point (lists_of value) → ReaderHears x r r (Continue ∷ []) (take size raw) []
 hears_continue x r raw value size may stage h s = record {
   legal = (may.0, may.1, tt);
@@ -172,7 +172,7 @@ hears_continue x r raw value size may stage h s = record {
   heard = λ adapted read i.
       let m : HeardInterim x adapted read r = interim_at x adapted read r stage i in
       let none : adapted ++ [] ≡ [] = append-nil adapted ∙ m.none in
-      let before : read ≡ [] = subst (λ (c : Bool). IsInterim r.point c read) may.1.4 m.interim in
+      let before : read ≡ [] = subst (λ (c : Bool). IsContinueOrNothing r.point c read) may.1.4 m.interim in
       let text : read ++ take size raw ≡ take size raw = ap (λ (t : List ℕ). t ++ take size raw) before in
       let now : HeardInterim (after x Continue) (adapted ++ []) (read ++ take size raw) r = record {
         marks = record { no_mod_is = m.marks.no_mod_is; modified_is = m.marks.modified_is; has_body_is = m.marks.has_body_is; over_is = m.marks.over_is };
@@ -184,7 +184,7 @@ hears_continue x r raw value size may stage h s = record {
 }
 
 -- a 204
-pub hears_no_mod : (x : Seen) (r new : Reader) (raw : List ℕ) (value : Response) (size : ℕ) → new ≡ in_stage r Over → May x NoMod → r.stage ≡ Replies → HasResponse raw value size
+pub hears_no_mod : (x : Seen) (r new : Reader) (raw : List ℕ) (value : Response) (size : ℕ) → new ≡ in_stage r Over → MayCome x NoMod → r.stage ≡ Replies → HasResponse raw value size
     → (value.status ≡ 204) × HasNothing r.point (lists_of value) → (r.tag ≡ tag_in value.fields) × (r.closes ≡ says_close value.fields) → ReaderHears x r new (NoMod ∷ []) (take size raw) []
 hears_no_mod x r new raw value size is may stage h s n = subst (λ (n : Reader). ReaderHears x r n (NoMod ∷ []) (take size raw) []) (sym is) (record {
   legal = (may.0, may.1, tt);
@@ -250,22 +250,22 @@ passes_noted r new tag closes used raw (goes_on layout e p h) = goes_on layout e
 
 -- the adapted message's head, with a body behind it or with none
 pub hears_mod : (x : Seen) (r new : Reader) (layout : Layout) (head : List ℕ) (b : Bool) (p : Payload) (stage : Stage) → p ≡ payload_if b → b ≡ has_body layout.body → ((b ≡ true) → stage ≡ Body start) → ((b ≡ false) → stage ≡ Over)
-    → new ≡ with_head r layout head stage → May x (Mod p) → r.stage ≡ Head layout → IsEncapsulatedHead head → length head ≡ layout.offset → ReaderHears x r new (Mod p ∷ []) head []
+    → new ≡ with_head r layout head stage → MayCome x (Mod p) → r.stage ≡ Head layout → IsEncapsulatedHead head → length head ≡ layout.offset → ReaderHears x r new (Mod p ∷ []) head []
 hears_mod x r new layout head true p stage q e t f is may at ended size =
     subst (λ (k : Payload). ReaderHears x r new (Mod k ∷ []) head []) (sym q)
     (subst (λ (n : Reader). ReaderHears x r n (Mod payloads.Body ∷ []) head []) (sym (is ∙ ap (λ (s : Stage). with_head r layout head s) (t refl)))
-    (hears_body x r layout head (subst (λ (k : Payload). May x (Mod k)) q may) (sym e) at ended size))
+    (hears_body x r layout head (subst (λ (k : Payload). MayCome x (Mod k)) q may) (sym e) at ended size))
 hears_mod x r new layout head false p stage q e t f is may at ended size =
     subst (λ (k : Payload). ReaderHears x r new (Mod k ∷ []) head []) (sym q)
     (subst (λ (n : Reader). ReaderHears x r n (Mod payloads.NullBody ∷ []) head []) (sym (is ∙ ap (λ (s : Stage). with_head r layout head s) (f refl)))
-    (hears_null x r layout head (subst (λ (k : Payload). May x (Mod k)) q may) (sym e) at ended size))
+    (hears_null x r layout head (subst (λ (k : Payload). MayCome x (Mod k)) q may) (sym e) at ended size))
 
 -- a 100 or a 204 that may not come
-untimely_continue : (t : Bool) (x : Seen) (point : Point) (raw : List ℕ) (value : Response) (size : ℕ) → t ≡ false → (May x Continue → IsTrue t) → HasResponse raw value size
+untimely_continue : (t : Bool) (x : Seen) (point : Point) (raw : List ℕ) (value : Response) (size : ℕ) → t ≡ false → (MayCome x Continue → IsTrue t) → HasResponse raw value size
     → (value.status ≡ 100) × HasNothing point (lists_of value) → RefusesReply faults.NotLegal x point raw
 untimely_continue t x point raw value size e m h s = (value, size, h, inl (s.0, s.1, λ may. false_is_not_true (sym e ∙ m may)))
 
-untimely_no_mod : (t : Bool) (x : Seen) (point : Point) (raw : List ℕ) (value : Response) (size : ℕ) → t ≡ false → (May x NoMod → IsTrue t) → HasResponse raw value size
+untimely_no_mod : (t : Bool) (x : Seen) (point : Point) (raw : List ℕ) (value : Response) (size : ℕ) → t ≡ false → (MayCome x NoMod → IsTrue t) → HasResponse raw value size
     → (value.status ≡ 204) × HasNothing point (lists_of value) → RefusesReply faults.NotLegal x point raw
 untimely_no_mod t x point raw value size e m h s = (value, size, h, inr (s.0, s.1, λ may. false_is_not_true (sym e ∙ m may)))
 

@@ -11,7 +11,7 @@ use Rattle.span_tape.specs.Tape.{Tape}
 use Rattle.wire_kit.specs.Past.{Past}
 use Rattle.adapt_sides.specs.declared.turn.Turn.{Turn}
 use Rattle.adapt_sides.specs.declared.fault.ClientFault.{ClientFault}
-use Rattle.icap_client.specs.Events.{May, AllAre, after_all, is_final, is_of_sending}
+use Rattle.icap_client.specs.Events.{MayCome, AllAre, after_all, is_final, is_of_sending}
 use Rattle.icap_client.specs.Marks.{might_retry}
 use Rattle.icap_client.specs.Sending.{HasSent, NothingDue, sending_events}
 use Rattle.icap_client.specs.Reading.{Side, SideHeard, HasBegun, NotBegun}
@@ -131,13 +131,13 @@ sending_is_no_retry Retry o = cc
 sending_is_no_retry _ o = refl
 
 -- what was sent is no reason against a new beginning
-might_retry_all : (x : Seen) (events : List Event) → AllAre is_of_sending events → May (after_all x events) Retry → May x Retry
+might_retry_all : (x : Seen) (events : List Event) → AllAre is_of_sending events → MayCome (after_all x events) Retry → MayCome x Retry
 might_retry_all x [] o m = m
 might_retry_all x (event ∷ events) o m = might_retry x event (sending_is_no_retry event o.0) (might_retry_all (after x event) events o.1 m)
 
 pub sends_marked : (x : Seen) (tape : Tape) (old new : Service) (fault kept : Option ClientFault) (P Q : Past → Type 0) (result : Result Turn ClientFault)
     → (old.last_stop ≡ x.last_stop → new.last_stop ≡ (after_all x (events_of result)).last_stop)
-    → (May x Retry → new.writer.head ≡ old.writer.head)
+    → (MayCome x Retry → new.writer.head ≡ old.writer.head)
     → Sends x tape (λ head x came taken. HasSent head x came taken old.writer) (λ head x came taken. HasSent head x came taken new.writer) fault kept (NothingDue x new.writer) P Q result
     → Sends x tape (λ head x came taken. ServiceSent head x came taken old) (λ head x came taken. ServiceSent head x came taken new) fault kept (NothingDue x new.writer) P Q result
 sends_marked x tape old new fault kept P Q result mark same s = record {

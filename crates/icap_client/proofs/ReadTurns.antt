@@ -8,7 +8,7 @@ use Rattle.trace_core.specs.declared.history.Seen.{Seen}
 use Rattle.wire_kit.specs.Past.{Past, Gave, ReadsAtMostOnce}
 use Rattle.wire_kit.specs.declared.wire.Got.{Got}
 use Rattle.wire_kit.specs.declared.wire.Got.TheVariants as got
-use Rattle.icap_client.specs.Events.{May, ad_sum}
+use Rattle.icap_client.specs.Events.{MayCome, ad_sum}
 use Rattle.icap_client.specs.Heard.{Reader}
 use Rattle.icap_client.specs.HeadFront.{HasToWait}
 use Rattle.icap_client.specs.Refused.{Refuses}
@@ -127,7 +127,7 @@ turn_bytes_refused x a room old mid new P Q out fault was d e f h r = record {
 }
 
 -- the first bytes of a reply came
-pub turn_first : (x : Seen) (a : Bool) (room : ℕ) (old new : Side) (P Q : Past → Type 0) (out : List ℕ) (t : Turn) → May x Heard → IsReadDue x a room old → new.reader ≡ old.reader → IsFilled P Q old.raw new.raw filled.Bytes
+pub turn_first : (x : Seen) (a : Bool) (room : ℕ) (old new : Side) (P Q : Past → Type 0) (out : List ℕ) (t : Turn) → MayCome x Heard → IsReadDue x a room old → new.reader ≡ old.reader → IsFilled P Q old.raw new.raw filled.Bytes
     → t.events.items ≡ Heard ∷ [] → t.waiting ≡ false → ReadTurn x a room old new P Q out (Ok t)
 turn_first x a room old new P Q out t may d e f is w =
     let first : SideHears x old new (Heard ∷ []) f.0 (take (ad_sum (Heard ∷ [])) out) = filled_first x old new f.0 out may f.1 e f.2 in
@@ -147,7 +147,7 @@ turn_first x a room old new P Q out t may d e f is w =
     }
 
 -- no byte of a reply may come
-pub turn_unheard : (x : Seen) (a : Bool) (room : ℕ) (old new : Side) (P : Past → Type 0) (out : List ℕ) → x.heard ≡ false → MayRead x a → (May x Heard → ⊥) → SideHears x old new [] [] [] → ReadTurn x a room old new P P out (Err NotLegal)
+pub turn_unheard : (x : Seen) (a : Bool) (room : ℕ) (old new : Side) (P : Past → Type 0) (out : List ℕ) → x.heard ≡ false → MayRead x a → (MayCome x Heard → ⊥) → SideHears x old new [] [] [] → ReadTurn x a room old new P P out (Err NotLegal)
 turn_unheard x a room old new P out was may never h = record {
   given = [];
   answer = None;

@@ -16,10 +16,10 @@ use Rattle.trace_core.specs.declared.history.Event.TheVariants.{Heard}
 use Rattle.trace_core.specs.History.{is_heard}
 use Rattle.trace_core.specs.View.{after}
 use Rattle.icap_client.specs.OthersHeard.{to_same, same_heard}
-use Rattle.icap_client.specs.Events.{May, after_all, ad_sum}
+use Rattle.icap_client.specs.Events.{MayCome, after_all, ad_sum}
 use Rattle.icap_client.specs.Heard.{Reader, HasHeard, HeardTo, HeardInterim, KeepsLimits, Stays}
 use Rattle.icap_client.specs.Heard.Stays.{same, before}
-use Rattle.icap_client.specs.Replies.{IsInterim}
+use Rattle.icap_client.specs.Replies.{IsContinueOrNothing}
 use Rattle.trace_core.specs.declared.history.Point.{Point}
 use Rattle.icap_client.specs.Hearing.{ReaderHears, MustWait}
 use Rattle.adapt_sides.specs.declared.fault.ClientFault.{ClientFault}
@@ -122,7 +122,7 @@ stays_heard : (x : Seen) (adapted read : List ℕ) (old new : Reader) → Stays 
 stays_heard x adapted read old new (same e) h = subst (λ (r : Reader). HasHeard x adapted read r) (sym e) h
 stays_heard x adapted read old new (before o n p) h =
     let m : HeardInterim x adapted read old = subst (λ (s : Stage). HeardTo s x adapted read old) o h in
-    let now : HeardInterim x adapted read new = record { marks = m.marks; none = m.none; count = m.count; interim = subst (λ (p : Point). IsInterim p x.continued read) (sym p) m.interim } in
+    let now : HeardInterim x adapted read new = record { marks = m.marks; none = m.none; count = m.count; interim = subst (λ (p : Point). IsContinueOrNothing p x.continued read) (sym p) m.interim } in
     subst (λ (s : Stage). HeardTo s x adapted read new) (sym n) now
 
 begun_none : (x : Seen) (adapted read : List ℕ) → HasBegun x read ⊎ NotBegun x adapted read → HasBegun x (read ++ []) ⊎ NotBegun x (adapted ++ []) (read ++ [])
@@ -175,7 +175,7 @@ filled_more x old new delta was e r = record {
 }
 
 -- the first bytes of a reply
-pub filled_first : (x : Seen) (old new : Side) (delta out : List ℕ) → May x Heard → 0 < length delta → new.reader ≡ old.reader → new.raw ≡ old.raw ++ delta → SideHears x old new (Heard ∷ []) delta (take (ad_sum (Heard ∷ [])) out)
+pub filled_first : (x : Seen) (old new : Side) (delta out : List ℕ) → MayCome x Heard → 0 < length delta → new.reader ≡ old.reader → new.raw ≡ old.raw ++ delta → SideHears x old new (Heard ∷ []) delta (take (ad_sum (Heard ∷ [])) out)
 filled_first x old new delta out may some e r =
     let none : ad_sum (Heard ∷ []) ≡ 0 = omega arith in
     subst (λ (n : ℕ). SideHears x old new (Heard ∷ []) delta (take n out)) (sym none) (record {

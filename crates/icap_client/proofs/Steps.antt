@@ -14,7 +14,7 @@ use Rattle.trace_core.specs.declared.history.Event.TheVariants.{Ad, AdEnd}
 use Rattle.trace_core.specs.declared.history.Seen.{Seen}
 use Rattle.trace_core.specs.View.{after}
 use Rattle.icap_client.specs.Events.{AllAre, is_of_replies, MayHear, MayAllFollow, after_all, listed, ad_sum, ad_events, adapted_events}
-use Rattle.icap_client.specs.Replies.{IsInterim, IsModHead, IsBody}
+use Rattle.icap_client.specs.Replies.{IsContinueOrNothing, IsModHead, IsBody}
 use Rattle.icap_client.specs.Heard.{Reader, HasHeard, HeardTo, HeardBody, HeardMod, in_stage}
 use Rattle.icap_client.specs.Heard.HeardFinal.{changed}
 use Rattle.icap_client.specs.Hearing.{ReaderHears, PassesWithoutEvent, MustWait, HasNoEmptyLine, ReadsOn}
@@ -140,7 +140,7 @@ hears_more x r chunks next raw part used n long stage on none sound may was = re
         heads = m.heads;
         text = m.text ++ take used raw;
         text_is = ap (λ (t : List ℕ). t ++ take used raw) m.text_is ∙ regrouped m.before m.heads m.text (take used raw);
-        interim = subst (λ (c : Bool). IsInterim r.point c m.before) (sym a.continued_is) m.interim;
+        interim = subst (λ (c : Bool). IsContinueOrNothing r.point c m.before) (sym a.continued_is) m.interim;
         heads_are = m.heads_are;
         said = m.said;
         layout_is = m.layout_is;
@@ -169,7 +169,7 @@ hears_end x r chunks next raw part used n ieof long stage on ended may was = rec
         before = m.before;
         last = m.heads ++ (m.text ++ take used raw);
         text_is = ap (λ (t : List ℕ). t ++ take used raw) m.text_is ∙ regrouped m.before m.heads m.text (take used raw);
-        interim = subst (λ (c : Bool). IsInterim r.point c m.before) (sym a.continued_is) m.interim;
+        interim = subst (λ (c : Bool). IsContinueOrNothing r.point c m.before) (sym a.continued_is) m.interim;
         reply = record {
           heads = m.heads;
           rest = m.text ++ take used raw;

@@ -7,7 +7,7 @@ use Rattle.encapsulated.specs.declared.offsets.Layout.{Layout}
 use Rattle.encapsulated.proofs.OneAnswer.{parts_unique, layout_unique}
 use Rattle.icap_chunks.proofs.Written.{one_reading}
 use Rattle.trace_core.specs.declared.history.Point.{Point}
-use Rattle.icap_client.specs.Replies.{Final, IsFinal, IsAnswer, IsInterim, IsBareReply, IsMod, IsBody, HasLayout, lists_of, has_body}
+use Rattle.icap_client.specs.Replies.{Final, IsFinal, IsAnswer, IsContinueOrNothing, IsBareReply, IsMod, IsBody, HasLayout, lists_of, has_body}
 use Rattle.icap_client.specs.Replies.Final.{unchanged, changed}
 
 pub split_one : (p q r s : List ℕ) → p ++ q ≡ r ++ s → length p ≡ length r → (p ≡ r) × (q ≡ s)
@@ -93,7 +93,7 @@ unfolding code
 no_100 point unchanged text h i = omega (arith, one_status text 100 204 h (first_final point unchanged text i))
 no_100 point (changed l d b) text h i = omega (arith, one_status text 100 200 h (first_final point (changed l d b) text i))
 
-answer_by : (point : Point) (c d : Bool) (f g : Final) (text before last first rest : List ℕ) → text ≡ before ++ last → text ≡ first ++ rest → IsInterim point c before → IsInterim point d first
+answer_by : (point : Point) (c d : Bool) (f g : Final) (text before last first rest : List ℕ) → text ≡ before ++ last → text ≡ first ++ rest → IsContinueOrNothing point c before → IsContinueOrNothing point d first
     → IsFinal point f last → IsFinal point g rest → (c ≡ d) × (f ≡ g)
 answer_by point true true f g text before last first rest a b h i m n =
     let fa : HasResponse text h.value (length before) = subst (λ (t : List ℕ). HasResponse t h.value (length before)) (sym a) (has_head-append (StartsResponse h.value) before last h.value.fields (length before) h.head) in

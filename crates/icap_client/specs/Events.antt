@@ -4,17 +4,13 @@ use Rattle.trace_core.specs.declared.history.Event.{Event}
 use Rattle.trace_core.specs.declared.history.Event.TheVariants.{Ad, AdEnd}
 use Rattle.trace_core.specs.declared.history.Seen.{Seen}
 use Rattle.trace_core.specs.History.{is_no_mod, is_mod}
-use Rattle.trace_core.specs.Legal.{Allows}
+pub use Rattle.trace_core.specs.Legal.{MayCome}
 pub use Rattle.trace_core.specs.Turns.{after_all, MayAllFollow, AllAre, ad_sum, is_of_sending, is_of_replies}
 pub use Rattle.adapt_sides.specs.Tapes.{Follows}
 
--- the event may come next
-abbrev pub May : Seen → Event → Type 0
-May x event = (x.closed ≡ false) × Allows x event
-
 -- the event may come next, and a byte of a reply was read before it
 abbrev pub MayHear : Seen → Event → Type 0
-MayHear x event = (x.heard ≡ true) × May x event
+MayHear x event = (x.heard ≡ true) × MayCome x event
 
 -- a final response
 abbrev pub is_final : Event → Bool

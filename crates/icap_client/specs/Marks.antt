@@ -5,7 +5,7 @@ use Rattle.trace_core.specs.declared.history.Event.TheVariants.{In, End, Svc, St
 use Rattle.trace_core.specs.declared.history.Seen.{Seen}
 use Rattle.trace_core.specs.History.{in_bytes, is_retry, is_preview}
 use Rattle.trace_core.specs.View.{after}
-use Rattle.icap_client.specs.Events.{May, is_of_sending, is_of_replies}
+use Rattle.icap_client.specs.Events.{MayCome, is_of_sending, is_of_replies}
 use Rattle.icap_client.specs.Turns.{Service, ServiceSent, ServiceHeard, is_answered}
 use Rattle.icap_client.specs.OthersSent.{others}
 use Rattle.icap_client.specs.OthersHeard.{Same, same_after, side_keeps}
@@ -27,7 +27,7 @@ last_stop_kept x (Fail cause) o n = refl
 last_stop_kept x Retry o n = cc
 
 -- a request that may begin anew behind an event might before it
-pub might_retry : (x : Seen) (event : Event) → is_retry event ≡ false → May (after x event) Retry → May x Retry
+pub might_retry : (x : Seen) (event : Event) → is_retry event ≡ false → MayCome (after x event) Retry → MayCome x Retry
 might_retry x (In k) n m = m
 might_retry x End n m = m
 might_retry x (Svc k) n m = m

@@ -6,7 +6,7 @@ use Rattle.trace_core.specs.declared.history.Event.TheVariants.{In, End, Svc, St
 use Rattle.trace_core.specs.declared.history.Seen.{Seen}
 use Rattle.trace_core.specs.History.{is_heard, is_preview}
 use Rattle.trace_core.specs.View.{after}
-use Rattle.icap_client.specs.Replies.{IsInterim}
+use Rattle.icap_client.specs.Replies.{IsContinueOrNothing}
 use Rattle.icap_client.specs.Heard.{Reader, HasHeard, HeardTo, Marks, HeardInterim, HeardFinal}
 use Rattle.icap_client.specs.Heard.HeardFinal.{unchanged as was_unchanged, changed as was_changed}
 use Rattle.icap_client.specs.Laws.{first_reader}
@@ -49,8 +49,8 @@ same_after x Retry o = same_by x _ refl refl refl refl refl (omega arith)
 marks_same : (x y : Seen) (a b c d : Bool) → Same x y → Marks x a b c d → Marks y a b c d
 marks_same x y a b c d s m = record { no_mod_is = s.no_mod_is ∙ m.no_mod_is; modified_is = s.modified_is ∙ m.modified_is; has_body_is = s.has_body_is ∙ m.has_body_is; over_is = s.over_is ∙ m.over_is }
 
-interim_same : (x y : Seen) (point : Point) (text : List ℕ) → Same x y → IsInterim point x.continued text → IsInterim point y.continued text
-interim_same x y point text s i = subst (λ (c : Bool). IsInterim point c text) (sym s.continued_is) i
+interim_same : (x y : Seen) (point : Point) (text : List ℕ) → Same x y → IsContinueOrNothing point x.continued text → IsContinueOrNothing point y.continued text
+interim_same x y point text s i = subst (λ (c : Bool). IsContinueOrNothing point c text) (sym s.continued_is) i
 
 first_same : (x y : Seen) (adapted read : List ℕ) (r : Reader) → Same x y → HeardInterim x adapted read r → HeardInterim y adapted read r
 first_same x y adapted read r s h = record { marks = marks_same x y _ _ _ _ s h.marks; none = h.none; count = s.count_is ∙ h.count; interim = interim_same x y r.point read s h.interim }
@@ -165,7 +165,7 @@ fresh_by x adapted read s point e r (inr b) n =
     let same : Same x (after x Retry) = same_after x Retry refl in
     let marks : Marks (after x Retry) false false false false = marks_same x (after x Retry) false false false false same b.marks in
     let count : (after x Retry).adapted_received ≡ 0 = same.count_is ∙ b.count in
-    let first : HasHeard (after x Retry) [] [] (first_reader point) = record { marks = marks; none = refl; count = count; interim = subst (λ (c : Bool). IsInterim point c []) (sym b.continued) refl } in
+    let first : HasHeard (after x Retry) [] [] (first_reader point) = record { marks = marks; none = refl; count = count; interim = subst (λ (c : Bool). IsContinueOrNothing point c []) (sym b.continued) refl } in
     record {
       framed = [];
       text_is = sym r;

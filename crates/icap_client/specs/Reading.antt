@@ -7,7 +7,7 @@ use Rattle.trace_core.specs.History.{is_preview}
 use Rattle.wire_kit.specs.Past.{Past, ReadsAtMostOnce}
 use Rattle.wire_kit.specs.declared.wire.Got.{Got}
 use Rattle.wire_kit.specs.declared.wire.Got.TheVariants as got
-use Rattle.icap_client.specs.Events.{May, after_all, MayAllFollow, AllAre, is_of_replies, ad_sum}
+use Rattle.icap_client.specs.Events.{MayCome, after_all, MayAllFollow, AllAre, is_of_replies, ad_sum}
 use Rattle.icap_client.specs.Heard.{Reader, HasHeard, Marks}
 use Rattle.icap_client.specs.HeadFront.{HasToWait}
 use Rattle.icap_client.specs.Refused.{Refuses}
@@ -94,7 +94,7 @@ FitsGot x all_sent room stage (Some got.Fault) result = result ≡ Err Device
 
 -- the service may answer now, but no first byte of a reply may come
 abbrev pub IsUnheard : ClientFault → Seen → Bool → Type 0
-IsUnheard fault x all_sent = (fault ≡ NotLegal) × (x.heard ≡ false) × MayRead x all_sent × ¬ (May x Heard)
+IsUnheard fault x all_sent = (fault ≡ NotLegal) × (x.heard ≡ false) × MayRead x all_sent × ¬ (MayCome x Heard)
 
 -- the fault is the wire's, which ended or failed, or want of memory; or the service may answer and no reply may come; or the raw
 -- bytes are refused

@@ -13,7 +13,7 @@ use Rattle.icap_chunks.specs.declared.reader.ChunkReader.{ChunkReader}
 use Rattle.trace_core.specs.declared.history.Event.TheVariants.{Continue, NoMod, Mod, Ad, AdEnd}
 use Rattle.trace_core.specs.declared.history.Point.{Point}
 use Rattle.trace_core.specs.declared.history.Seen.{Seen}
-use Rattle.icap_client.specs.Events.{May, MayHear}
+use Rattle.icap_client.specs.Events.{MayCome, MayHear}
 use Rattle.icap_client.specs.Replies.{lists_of, HasNothing, HasLayout, HasAdaptedHead, IsModHead, IsEncapsulatedHead, has_body, payload_if}
 use Rattle.icap_client.specs.Hearing.{HasNoEmptyLine, ReadsOn}
 use Rattle.adapt_sides.specs.declared.fault.ClientFault.{ClientFault}
@@ -36,8 +36,8 @@ HasBadList point value =
 -- a 100 or 204, well formed, may not come now
 abbrev pub IsUntimely : Point → Seen → Response → Type 0
 IsUntimely point x value =
-    ((value.status ≡ 100) × HasNothing point (lists_of value) × ¬ (May x Continue))
-    ⊎ ((value.status ≡ 204) × HasNothing point (lists_of value) × ¬ (May x NoMod))
+    ((value.status ≡ 100) × HasNothing point (lists_of value) × ¬ (MayCome x Continue))
+    ⊎ ((value.status ≡ 204) × HasNothing point (lists_of value) × ¬ (MayCome x NoMod))
 
 -- the status is none of the three
 pub record IsOtherStatus (value : Response) : Type 0 where
@@ -67,7 +67,7 @@ pub record IsFit (layout : Layout) (raw : List ℕ) : Type 0 where
 -- why bytes with an adapted message's head first are refused; one that fits is a response that may not come
 abbrev pub RefusesHead : ClientFault → Seen → Layout → List ℕ → Type 0
 RefusesHead faults.Layout x layout raw = IsMisfit layout raw
-RefusesHead faults.NotLegal x layout raw = IsFit layout raw × ¬ (May x (Mod (payload_if (has_body layout.body))))
+RefusesHead faults.NotLegal x layout raw = IsFit layout raw × ¬ (MayCome x (Mod (payload_if (has_body layout.body))))
 RefusesHead faults.NoMemory x layout raw = Unit {0}
 RefusesHead _ x layout raw = ⊥
 
@@ -108,8 +108,8 @@ SpellsReply point value (replies.Mod layout) = (value.status ≡ 200) × HasLayo
 
 -- the response may come now; of a 200 that is asked where its other head is read
 abbrev pub MayReply : Seen → Reply → Type 0
-MayReply x replies.Continue = May x Continue
-MayReply x replies.NoMod = May x NoMod
+MayReply x replies.Continue = MayCome x Continue
+MayReply x replies.NoMod = MayCome x NoMod
 MayReply x (replies.Mod layout) = Unit {0}
 
 -- no response that is taken has such a head

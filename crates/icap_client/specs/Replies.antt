@@ -107,9 +107,9 @@ IsBody true text body = (ieof : Bool) × IsChunked text body ieof
 IsBody false text body = (text ≡ []) × (body ≡ [])
 
 -- a 100, or nothing
-abbrev pub IsInterim : Point → Bool → List ℕ → Type 0
-IsInterim point true text = IsBareReply point 100 text
-IsInterim point false text = text ≡ []
+abbrev pub IsContinueOrNothing : Point → Bool → List ℕ → Type 0
+IsContinueOrNothing point true text = IsBareReply point 100 text
+IsContinueOrNothing point false text = text ≡ []
 
 -- a final response: a 204, or a 200 with this layout, this head and this body
 pub data Final : Type 0 where
@@ -134,5 +134,5 @@ pub record IsAnswer (point : Point) (continued : Bool) (final : Final) (text : L
   pub before : List ℕ
   pub last : List ℕ
   pub text_is : text ≡ before ++ last
-  pub interim : IsInterim point continued before
+  pub interim : IsContinueOrNothing point continued before
   pub final_is : IsFinal point final last

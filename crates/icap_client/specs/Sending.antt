@@ -12,7 +12,7 @@ pub use Rattle.adapt_sides.specs.Tapes.{KeepsUnsent}
 use Rattle.chunk_writer.specs.Writer.{Writer, waiting, IsFraming, is_ending, end_text, FitsTurn}
 use Rattle.chunk_writer.specs.declared.next.Next.{Next}
 use Rattle.icap_client.specs.RequestText.{is_null}
-use Rattle.icap_client.specs.Events.{May}
+use Rattle.icap_client.specs.Events.{MayCome}
 use Rattle.icap_client.specs.Front.{Front}
 
 -- the text of the next zero chunk: nothing where there is no body
@@ -76,8 +76,8 @@ pub record Decides (x : Seen) (w : Writer) (next : Next) : Type 0 where
   pub chunked : next.chunked ≡ true
   pub from : next.from ≡ x.sent
   pub fits : FitsTurn w true next.count
-  pub svc : 0 < next.count → May x (Svc next.count)
-  pub greatest : (n : ℕ) → May x (Svc n) → FitsTurn w true n → n ≤ next.count
+  pub svc : 0 < next.count → MayCome x (Svc next.count)
+  pub greatest : (n : ℕ) → MayCome x (Svc n) → FitsTurn w true n → n ≤ next.count
   pub stop : is_ending next.end ≡ true → StopsBehind x next.count
   pub no_stop : is_ending next.end ≡ false → StopsBehind x next.count → ⊥
   pub text : is_ending next.end ≡ true → end_text next.end ≡ stop_text_at x (x.sent + next.count)

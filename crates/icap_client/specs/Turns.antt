@@ -14,7 +14,7 @@ use Rattle.wire_kit.specs.declared.wire.Put.TheVariants as put
 use Rattle.chunk_writer.specs.declared.next.Next.{Next}
 use Rattle.chunk_writer.specs.Writer.{Writer, waiting, offered}
 use Rattle.icap_client.specs.Sending.{HasSent, Came, NothingDue, Decides}
-use Rattle.icap_client.specs.Events.{May, after_all, MayAllFollow, AllAre, is_of_sending}
+use Rattle.icap_client.specs.Events.{MayCome, after_all, MayAllFollow, AllAre, is_of_sending}
 use Rattle.icap_client.specs.Reading.{Side, SideHeard, NothingToRead, IsCause}
 use Rattle.icap_client.specs.HeadFront.{HasToWait}
 use Rattle.icap_client.specs.Laws.{IsWhole}
@@ -103,7 +103,7 @@ adapted_head_of s = option_map (λ layout. s.replies.reader.head) s.replies.read
 -- the request may begin anew; and the side's mark is the history's
 pub record ServiceSent (head : List ℕ) (x : Seen) (came taken : List ℕ) (s : Service) : Type 0 where
   pub sent : HasSent head x came taken s.writer
-  pub kept : May x Retry → s.writer.head ≡ head
+  pub kept : MayCome x Retry → s.writer.head ≡ head
   pub last_stop : s.last_stop ≡ x.last_stop
 
 -- these adapted bytes came and these bytes were read, and the side's mark is the history's

@@ -5,7 +5,7 @@ ghost use Rattle.icap_head.specs.Heads.{Response, HasResponse, response_parts, R
 ghost use Rattle.icap_head.specs.StartLines.{StatusForm};
 ghost use Rattle.icap_head.specs.declared.reading.HeadFault.TheVariants as heads;
 ghost use Rattle.trace_core.specs.History.{seen};
-ghost use Rattle.icap_client.specs.Events.{listed, May, MayHear, MayAllFollow, ad_sum, adapted_events};
+ghost use Rattle.icap_client.specs.Events.{listed, MayCome, MayHear, MayAllFollow, ad_sum, adapted_events};
 ghost use Rattle.icap_client.specs.Said.{tag_in, says_close};
 ghost use Rattle.icap_client.specs.Heard.{noted, Reader, in_stage, KeepsLimits, KeepsHead, Stays};
 ghost use Rattle.icap_client.specs.Laws.{first_reader};
@@ -333,7 +333,7 @@ impl ReplyReader {
         ensures event { IfOk result (λ framed. framed.event ≡ Some (Event.Mod (payload_if (has_body layout.body)))) }
         ensures silent { IfOk result (λ framed. ad_sum (listed framed.event) ≡ 0) }
         ensures hears { IfOk result (λ framed. ReaderHears (seen state.now.plan state.now.events) self.old self.new (listed framed.event) head.now []) }
-        ensures refuses { IfErr result (λ fault. (fault ≡ ClientFault.NoMemory) ⊎ ((fault ≡ ClientFault.NotLegal) × (May (seen state.now.plan state.now.events) (Event.Mod (payload_if (has_body layout.body))) → ⊥))) }
+        ensures refuses { IfErr result (λ fault. (fault ≡ ClientFault.NoMemory) ⊎ ((fault ≡ ClientFault.NotLegal) × (MayCome (seen state.now.plan state.now.events) (Event.Mod (payload_if (has_body layout.body))) → ⊥))) }
         ensures head { KeepsHead (seen state.now.plan state.now.events) self.old self.new }
         ensures stays { IfErr result (λ _. Stays self.old self.new) }
     {

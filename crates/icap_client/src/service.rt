@@ -9,7 +9,7 @@ ghost use Rattle.chunk_writer.specs.Writer.{fresh, waiting};
 ghost use Rattle.icap_client.specs.Heard.{KeepsHead};
 ghost use Rattle.icap_client.specs.Laws.{first_reader};
 ghost use Rattle.icap_client.specs.Reading.{ReadTurn};
-ghost use Rattle.icap_client.specs.Events.{after_all, May};
+ghost use Rattle.icap_client.specs.Events.{after_all, MayCome};
 ghost use Rattle.icap_client.specs.Sending.{KeepsUnsent, NothingDue, sending_events, LetsGo, KeepsOrDrops, KeepsNoText};
 ghost use Rattle.icap_client.specs.RequestHead.{request_head};
 ghost use Rattle.icap_client.specs.Turns.{ServiceSent, ServiceHeard, is_whole_request, is_reusable, is_answered, WriteTurn, Sends, Hears, RestsReading, HasFramed, events_of, is_flushed};
@@ -238,8 +238,8 @@ impl ServiceSide {
         // The heads' text is kept as long as the request may begin anew; where it may not, what is out is let go. No other text
         // comes in its place.
         ensures heads { KeepsOrDrops self.old.writer self.new.writer }
-        ensures kept { May (seen state.now.plan state.now.events) Event.Retry → self.new.writer.head ≡ self.old.writer.head }
-        ensures gone { IfOk result (λ _. (May (seen state.now.plan state.now.events) Event.Retry → ⊥) → KeepsNoText self.new.writer) }
+        ensures kept { MayCome (seen state.now.plan state.now.events) Event.Retry → self.new.writer.head ≡ self.old.writer.head }
+        ensures gone { IfOk result (λ _. (MayCome (seen state.now.plan state.now.events) Event.Retry → ⊥) → KeepsNoText self.new.writer) }
     {
         if let Some(fault) = self.replies.fault() {
             return Err(fault);
@@ -286,8 +286,8 @@ impl ServiceSide {
         // The heads' text is kept as long as the request may begin anew, which it may not behind a byte of a reply; then what is
         // out is let go. No other text comes in its place.
         ensures heads { KeepsOrDrops self.old.writer self.new.writer }
-        ensures kept { May (seen state.now.plan state.now.events) Event.Retry → self.new.writer.head ≡ self.old.writer.head }
-        ensures gone { IfOk result (λ _. (May (seen state.now.plan state.now.events) Event.Retry → ⊥) → KeepsNoText self.new.writer) }
+        ensures kept { MayCome (seen state.now.plan state.now.events) Event.Retry → self.new.writer.head ≡ self.old.writer.head }
+        ensures gone { IfOk result (λ _. (MayCome (seen state.now.plan state.now.events) Event.Retry → ⊥) → KeepsNoText self.new.writer) }
     {
         let all_sent = flushed(&self.writer);
         match self.replies.read_turn(state, all_sent, wire, out) {

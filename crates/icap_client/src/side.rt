@@ -3,7 +3,7 @@
 ghost use Rattle.std.specs.Prelude.{option_copied, is_none, not, ◌&&◌, ◌==◌, ◌≡◌, ◌<◌, ◌≤◌, ◌↔◌, [], length, take, IsTrue, IfOk, IfErr, IfSome, OnOk, None, Some, Bool, true, false, Err, MatchOption};
 ghost use Rattle.adapt_bytes.specs.declared.limits.TheConstants.{MAX_HEAD};
 ghost use Rattle.trace_core.specs.History.{seen};
-ghost use Rattle.icap_client.specs.Events.{May, ad_sum};
+ghost use Rattle.icap_client.specs.Events.{MayCome, ad_sum};
 ghost use Rattle.icap_client.specs.HeadFront.{HasToWait, IsHeadFront};
 ghost use Rattle.icap_client.specs.Heard.{KeepsLimits, KeepsHead};
 ghost use Rattle.icap_client.specs.Laws.{first_reader};
@@ -211,7 +211,7 @@ impl ReplySide {
         requires waits { HasToWait self.old.reader.stage self.old.raw (length out.old) }
         requires room { 0 < length out.old }
         requires going_on { self.old.reader.stage ≡ Stage.Over → ⊥ }
-        requires may { May (seen state.now.plan state.now.events) Event.Heard }
+        requires may { MayCome (seen state.now.plan state.now.events) Event.Heard }
         ensures fault { self.new.fault ≡ self.old.fault }
         ensures turn { (all_sent : Bool) → MayRead (seen state.now.plan state.now.events) all_sent → ReadTurn (seen state.now.plan state.now.events) all_sent (length out.old) self.old self.new (W.past wire.old) (W.past wire.new) out.new result }
         ensures head { KeepsHead (seen state.now.plan state.now.events) self.old.reader self.new.reader }

@@ -19,8 +19,8 @@ use Rattle.http_relay.specs.Giving.{Front}
 abbrev pub TookNoMessage : List ℕ → Type 0
 TookNoMessage taken = (taken ≡ []) ⊎ ((status : ℕ) × IsPrefixOf taken (refusal status))
 
--- A front of one message with a head that was made: behind the head stands the text of just the bytes of this body that went out by
--- the history. As long as no more of the body came than the head says, it is a front of the whole message, however that goes on.
+-- A front of one message with a head that was made: behind the head stands the text of the bytes of this body that went out by the
+-- history, and no further ones. As long as no more of the body came than the head says, it is a front of the whole message, however that goes on.
 pub record TookFront (made : List ℕ → Type 0) (framing : Framing) (x : Seen) (body taken : List ℕ) : Type 0 where
   pub head : List ℕ
   pub made_is : made head

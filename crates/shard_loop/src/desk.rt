@@ -3,6 +3,7 @@
 use crate::book::PointBook;
 use crate::pools::Pools;
 use crate::seats::Seats;
+use adapt_sides::MAX_READ;
 use plan_rules::Limits;
 use proxy_config::{Config, ServicePoint};
 use proxy_rules::limits_of;
@@ -11,9 +12,6 @@ use std::alloc::{AllocError, Global};
 use std::sync::ledger::Ledger;
 use trace_core::Point;
 use wire_kit::Gate;
-
-/// How many bytes are read at once of what a user sends behind its last answer.
-const SCRATCH: usize = 4096;
 
 /// What all threads share.
 #[derive(Drop)]
@@ -55,7 +53,7 @@ impl<'a, B: Ledgers, Q: Ledger, A: Ledger, G: Gate> Desk<'a, B, Q, A, G> {
         shared: Shared<'a, B, Q, A, G>,
         rows: usize,
     ) -> Result<Desk<'a, B, Q, A, G>, AllocError> {
-        let scratch = Vec::from_elem(alloc, 0u8, SCRATCH)?;
+        let scratch = Vec::from_elem(alloc, 0u8, MAX_READ)?;
         let limits = limits_of(shared.config);
         Ok(Desk {
             alloc,

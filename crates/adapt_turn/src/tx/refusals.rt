@@ -1,10 +1,11 @@
 //! The proxy's own refusals.
 
-ghost use Rattle.std.specs.Prelude.{◌≡◌, ℕ, ◌+◌, ◌≤◌, ◌⊎◌, true, false, [], Some, None};
+ghost use Rattle.std.specs.Prelude.{IsTrue, ◌≡◌, ℕ, ◌+◌, ◌≤◌, ◌⊎◌, true, false, [], Some, None};
 ghost use Rattle.trace_core.specs.declared.history.Event.TheVariants.{Fail};
 ghost use Rattle.trace_core.specs.declared.history.Cause.{Cause};
 ghost use Rattle.plan_rules.specs.declared.room.TheConstants.{TURN_BYTES};
-ghost use Rattle.adapt_sides.specs.Turns.{Gift, IsOwnStatus};
+ghost use Rattle.adapt_bytes.specs.OwnStatus.{is_own_status};
+ghost use Rattle.adapt_sides.specs.Turns.{Gift};
 ghost use Rattle.adapt_sides.specs.Turns.Gift.{refusal, message};
 ghost use Rattle.adapt_hold.specs.Holding.{shows, moved};
 ghost use Rattle.adapt_turn.specs.Parts.{outcome_by};
@@ -26,7 +27,7 @@ use wire_kit::Wire;
 /// The status of the proxy's own refusal.
 fn status_of(cause: Cause, point: Point) -> u16
     ensures status { result ≡ refusal_status cause point }
-    ensures own { IsOwnStatus result }
+    ensures own { IsTrue (is_own_status result) }
 {
     match cause {
         Cause::Source if matches!(point, Point::Reqmod) => 400,
@@ -65,7 +66,7 @@ fn refusal_turn<B: Ledgers, K: Hop, C: Wire>(
 
 /// Puts a refusal where no byte has gone out, and says whether it did.
 fn refuse_on<K: Hop>(hop: &mut K, status: u16) -> bool
-    requires { IsOwnStatus status }
+    requires { IsTrue (is_own_status status) }
     ensures untouched { result ≡ true → K.untouched hop.old ≡ true }
     ensures gift { result ≡ true → K.gift hop.new ≡ refusal status }
     ensures aside { result ≡ true → K.aside [] hop.new }

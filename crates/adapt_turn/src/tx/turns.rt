@@ -142,6 +142,7 @@ impl<B: Ledgers, S: Source, V: Service, K: Hop, F: Forward<S, K>, A: Wire, W: Wi
         ensures timed { (self.new.last_moved ≡ self.old.last_moved) × (self.new.deadline ≡ self.old.deadline) }
         ensures turns { Drives (λ old side new. (turned : TurnAnswer) × ⟦<Self as Answering>⟧.answers old side new turned × ⟦<Self as Answering>⟧.keeps old side new
             × (new.broken ≡ true ↔ (old.broken ≡ true) ⊎ (turned ≡ Turned.Broken)) × (new.reused ≡ old.reused)
+            × ((shows new.hold.history).closed ≡ false → ⟦<Self as Answering>⟧.faultless old → ⟦<Self as Answering>⟧.faultless new)
             × ((shows old.hold.history).closed ≡ false → (cause : Cause) → new.outcome ≡ Outcome.Fail cause → ⟦<Self as Answering>⟧.fails old side old.last_moved new cause)) self.old schedule.now self.new }
         ensures closed { (shows self.old.hold.history).closed ≡ true → (self.new.hold ≡ self.old.hold) × (self.new.outcome ≡ self.old.outcome) × (self.new.refusing ≡ self.old.refusing) }
         ensures deadline { (shows self.old.hold.history).closed ≡ false → self.old.deadline ≡ 0 → 0 < length schedule.now

@@ -17,7 +17,7 @@ pub returns-in-len1-up : goal.returns-in-len1-up
 returns-in-len1-up g t c = record {
   goes = goes_then _ _ _ _ _ _ _ _ _ _ _ _ c.turn.ensures.goes c.drive.ensures.goes;
   timed = (c.drive.ensures.timed.0 ∙ same_moment _ _ c.turn.ensures.moment, c.drive.ensures.timed.1 ∙ c.turn.ensures.limit);
-  turns = drives_more _ _ c.turn.new.self _ c.args.schedule.now _ c.in-len1-up.len_at_least (c.turn.result, c.turn.ensures.answers, c.turn.ensures.keeps, c.turn.ensures.marked.0, c.turn.ensures.marked.1, c.turn.ensures.fails) c.drive.ensures.turns;
+  turns = drives_more _ _ c.turn.new.self _ c.args.schedule.now _ c.in-len1-up.len_at_least (c.turn.result, c.turn.ensures.answers, c.turn.ensures.keeps, c.turn.ensures.marked.0, c.turn.ensures.marked.1, c.turn.ensures.faultless, c.turn.ensures.fails) c.drive.ensures.turns;
   closed = λ e. (let w = c.turn.ensures.closed e in let v = c.drive.ensures.closed (subst (λ (y : Holding). (shows y.history).closed ≡ true) (sym w.0) e) in (v.0 ∙ w.0, v.1 ∙ w.1, v.2 ∙ w.2));
   deadline = λ o d n. (let w = c.turn.ensures.deadline o (omega (arith, d)) in let v = c.drive.ensures.closed (failed_over c.turn.new.self.hold.history c.turn.new.self.outcome Deadline c.turn.new.self.told w.2) in (v.0 ∙ w.0, v.1 ∙ w.2));
   refuses = λ o cause e. by_closed (shows c.turn.new.self.hold.history).closed _
