@@ -1,5 +1,5 @@
 -- The methods' names in a request line (RFC 3507, section 4.3.2).
-use Rattle.std.specs.Prelude.{ℕ, List, codes}
+use Rattle.std.specs.Prelude.{◌≢◌, ℕ, List, codes}
 use Rattle.encapsulated.specs.declared.message.Method.{Method}
 use Rattle.encapsulated.specs.declared.message.Method.TheVariants.{Reqmod, Respmod, Options}
 
@@ -7,3 +7,7 @@ abbrev pub method_name : Method → List ℕ
 method_name Reqmod = codes "REQMOD"
 method_name Respmod = codes "RESPMOD"
 method_name Options = codes "OPTIONS"
+
+-- no method has this name
+abbrev pub NamesNoMethod : List ℕ → Type 0
+NamesNoMethod name = (method : Method) → name ≢ method_name method

@@ -4,7 +4,7 @@ use Rattle.adapt_bytes.specs.declared.limits.TheConstants.{MAX_FIELDS, MAX_HEAD}
 use Rattle.adapt_bytes.specs.Fields.{FieldList}
 use Rattle.icap_head.specs.Fields.{field_list}
 use Rattle.icap_head.specs.FieldLines.{ReadsFields, HasFields, RefusesFields, unended}
-use Rattle.icap_head.specs.Methods.{method_name}
+use Rattle.icap_head.specs.Methods.{request_method_name}
 use Rattle.icap_head.specs.StartLines.{IsFirstLine, HasNoLine, IsRequestLine, IsStatusLine, RequestForm, RefusesStartLine, MayBeRequestLine}
 use Rattle.icap_head.specs.declared.reading.HeadFault.{HeadFault}
 use Rattle.icap_head.specs.declared.reading.HeadFault.TheVariants as Faults
@@ -98,7 +98,7 @@ HasResponse text value size = HasHead (StartsResponse value) text value.fields s
 
 -- what a contract sees of a request
 abbrev pub request_parts : IcapRequest → Request
-request_parts r = record { method = method_name r.method; uri = r.uri.items; fields = field_list r.fields }
+request_parts r = record { method = request_method_name r.method; uri = r.uri.items; fields = field_list r.fields }
 
 -- what a contract sees of a response
 abbrev pub response_parts : IcapResponse → Response

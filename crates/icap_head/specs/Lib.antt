@@ -3,6 +3,5 @@ pub mod Fields
 pub mod Heads
 pub mod LineFront
 pub mod Methods
-pub mod OtherName
 pub mod StartLines
 pub mod Written

@@ -1,11 +1,10 @@
--- The methods of ICAP (RFC 3507, section 4.3.2).
-use Rattle.std.specs.Prelude.{ℕ, List, codes}
-use Rattle.icap_head.specs.declared.methods.Method.{Method}
-use Rattle.icap_head.specs.declared.methods.Method.TheVariants.{Reqmod, Respmod, Options, Other}
+-- The methods of requests (RFC 3507, section 4.3.2).
+use Rattle.std.specs.Prelude.{ℕ, List}
+use Rattle.encapsulated.specs.Methods.{method_name}
+use Rattle.icap_head.specs.declared.methods.RequestMethod.{RequestMethod}
+use Rattle.icap_head.specs.declared.methods.RequestMethod.TheVariants.{Known, Other}
 
--- the names of methods
-abbrev pub method_name : Method → List ℕ
-method_name Reqmod = codes "REQMOD"
-method_name Respmod = codes "RESPMOD"
-method_name Options = codes "OPTIONS"
-method_name (Other other) = other.name.items
+-- the name of a request's method
+abbrev pub request_method_name : RequestMethod → List ℕ
+request_method_name (Known method) = method_name method
+request_method_name (Other other) = other.name.items

@@ -19,7 +19,7 @@ mod start_lines;
 pub use adapt_bytes::{MAX_FIELDS, MAX_HEAD};
 pub use field_list::{Fields, Values};
 pub use line_front::is_still_front;
-pub use methods::{Method, OtherMethod};
+pub use methods::{OtherMethod, RequestMethod};
 pub use reading::{Head, HeadFault};
 pub use requests::{IcapRequest, judge_request_line, read_request, write_request};
 pub use responses::{IcapResponse, read_response, write_response};

@@ -1,59 +1,49 @@
 //! Methods of ICAP requests (RFC 3507, section 4.3.2).
-ghost use Rattle.std.specs.Prelude.{◌≡◌, ◌≢◌, IfOk, OnErr, codes};
-ghost use Rattle.icap_head.specs.OtherName.{IsOtherName};
+ghost use Rattle.std.specs.Prelude.{◌≡◌, IfOk, OnErr};
+ghost use Rattle.encapsulated.specs.Methods.{NamesNoMethod};
 
+use encapsulated::Method;
 use std::alloc::{AllocError, Global};
 
-/// The name of a method that has no variant of its own.
+/// A name that is none of ICAP's methods.
 #[derive(Debug, Drop)]
 pub struct OtherMethod {
     name: Vec<u8>,
-    ghost other: { IsOtherName name.items },
+    ghost other: { NamesNoMethod name.items },
 }
 
 /// The method of a request. Names are compared in exact case.
 #[derive(Debug, Drop)]
-pub enum Method {
-    /// `REQMOD` (RFC 3507, section 4.8).
-    Reqmod,
-    /// `RESPMOD` (RFC 3507, section 4.9).
-    Respmod,
-    /// `OPTIONS` (RFC 3507, section 4.10).
-    Options,
+pub enum RequestMethod {
+    /// One of ICAP's methods.
+    Known(Method),
     /// Any other name.
     Other(OtherMethod),
 }
 
-impl Method {
-    ghost use Rattle.icap_head.specs.Methods.{method_name};
+impl RequestMethod {
+    ghost use Rattle.icap_head.specs.Methods.{request_method_name};
 
-    /// The method of this name. Only a name that is none of the three takes memory.
-    pub fn of_name(alloc: Global, name: &[u8]) -> Result<Method, AllocError>
-        ensures ok { IfOk result (λ method. method_name method ≡ name.now) }
-        ensures named { OnErr result ((name.now ≢ codes "REQMOD") × (name.now ≢ codes "RESPMOD") × (name.now ≢ codes "OPTIONS")) }
+    /// The method of this name. Only a name that is none of ICAP's takes memory.
+    pub fn of_name(alloc: Global, name: &[u8]) -> Result<RequestMethod, AllocError>
+        ensures ok { IfOk result (λ method. request_method_name method ≡ name.now) }
+        ensures named { OnErr result (NamesNoMethod name.now) }
     {
-        if name == b"REQMOD".as_slice() {
-            Ok(Method::Reqmod)
-        } else if name == b"RESPMOD".as_slice() {
-            Ok(Method::Respmod)
-        } else if name == b"OPTIONS".as_slice() {
-            Ok(Method::Options)
-        } else {
-            Ok(Method::Other(OtherMethod {
+        match Method::of_name(name) {
+            Some(method) => Ok(RequestMethod::Known(method)),
+            None => Ok(RequestMethod::Other(OtherMethod {
                 name: name.to_vec(alloc)?,
-            }))
+            })),
         }
     }
 
     /// The method's name.
     pub fn name(&self) -> &[u8]
-        ensures { result.now ≡ method_name self.now }
+        ensures { result.now ≡ request_method_name self.now }
     {
         match self {
-            Method::Reqmod => b"REQMOD",
-            Method::Respmod => b"RESPMOD",
-            Method::Options => b"OPTIONS",
-            Method::Other(other) => &other.name,
+            RequestMethod::Known(method) => method.name(),
+            RequestMethod::Other(other) => &other.name,
         }
     }
 }

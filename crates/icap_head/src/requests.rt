@@ -8,14 +8,14 @@ ghost use Rattle.icap_head.specs.Written.{IsRequest, request_text};
 use crate::field_lines::{are_writable, put_fields, read_fields};
 use crate::reading::{judged, unended};
 use crate::start_lines::{first_line, is_icap_uri, read_request_line};
-use crate::{Fields, Head, HeadFault, Method, NoMemory};
+use crate::{Fields, Head, HeadFault, NoMemory, RequestMethod};
 use adapt_bytes::is_token;
 use std::alloc::Global;
 
 /// The head of a request (RFC 3507, section 4.3.2).
 #[derive(Debug, Drop)]
 pub struct IcapRequest {
-    pub method: Method,
+    pub method: RequestMethod,
     /// The URI as it came.
     pub uri: Vec<u8>,
     pub fields: Fields,
@@ -90,7 +90,7 @@ fn find_request(alloc: Global, text: &[u8]) -> Result<Head<IcapRequest>, HeadFau
     let Some((method, uri)) = words else {
         return Err(HeadFault::NoMemory);
     };
-    let method = Method::of_name(alloc, method)?;
+    let method = RequestMethod::of_name(alloc, method)?;
     let uri = uri.to_vec(alloc)?;
     Ok(Head {
         value: IcapRequest {

@@ -1,5 +1,6 @@
 //! Whole heads, cut at every byte: `More` until the last one.
-use icap_head::{Fields, HeadFault, Method, NoMemory, Values, read_request, read_response};
+use encapsulated::Method;
+use icap_head::{Fields, HeadFault, NoMemory, RequestMethod, Values, read_request, read_response};
 use std::alloc::Global;
 use std::process::Abort;
 use std::test::Fail;
@@ -307,7 +308,7 @@ fn request_lines(rt: HostRuntime) -> Result<(), Fail> {
         let head = read_request(rt.alloc(), text)?;
         assert_eq!(rt; head.value.uri.as_slice(), uri);
         assert_eq!(rt; head.length, length);
-        assert!(rt; matches!(&head.value.method, Method::Reqmod));
+        assert!(rt; matches!(&head.value.method, RequestMethod::Known(Method::Reqmod)));
         for cut in 0..length.min(text.len()) {
             let found = read_request(rt.alloc(), &text[..cut]).err();
             assert_eq!(rt; found, Some(HeadFault::More), "at {cut}");
@@ -327,7 +328,10 @@ fn methods_keep_their_names(rt: HostRuntime) -> Result<(), Fail> {
     for (text, name, other) in cases {
         let head = read_request(rt.alloc(), text)?;
         assert_eq!(rt; head.value.method.name(), name);
-        assert_eq!(rt; matches!(&head.value.method, Method::Other(_)), other);
+        assert_eq!(rt;
+            matches!(&head.value.method, RequestMethod::Other(_)),
+            other
+        );
     }
     Ok(())
 }

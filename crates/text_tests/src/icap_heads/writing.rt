@@ -1,6 +1,6 @@
 //! The texts that are written, and which values can be: CRLF, one space behind each colon, three digits.
 use icap_head::{
-    Fields, IcapRequest, IcapResponse, Method, NoMemory, read_request, read_response,
+    Fields, IcapRequest, IcapResponse, NoMemory, RequestMethod, read_request, read_response,
     write_request, write_response,
 };
 use std::alloc::Global;
@@ -82,7 +82,7 @@ fn requests_that_heads_hold_are_writable(rt: HostRuntime) -> Result<(), Fail> {
     ];
     for (method, uri, wanted) in cases {
         let request = IcapRequest {
-            method: Method::of_name(rt.alloc(), method)?,
+            method: RequestMethod::of_name(rt.alloc(), method)?,
             uri: uri.to_vec(rt.alloc())?,
             fields: field(rt.alloc(), b"Host", b"h")?,
         };

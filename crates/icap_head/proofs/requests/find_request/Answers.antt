@@ -1,6 +1,6 @@
 use Rattle.std.proofs.Common.{◌≡◌, inl, drop, rules, subst, codes}
 use Rattle.std.proofs.lemmas.Result.{err_from_is_err_and}
-use Rattle.icap_head.specs.Methods.{method_name}
+use Rattle.icap_head.specs.Methods.{request_method_name}
 use Rattle.icap_head.specs.StartLines.{HasNoLine, IsRequestLine}
 use Rattle.icap_head.specs.Fields.{field_list}
 use Rattle.icap_head.proofs.Refusals.{request_line_refused, request_fields_refused, request_unkept, has_request}
@@ -47,8 +47,8 @@ pub returns-clause-ok : goal.returns-clause-ok
 returns-clause-ok c =
     let found = c.in_ok-fields.ensures.found in
     let words : IsRequestLine c.in-Some.line.now c.in-Some-words.method.now c.in-Some-words.uri.now (codes "ICAP/1.0") = search rules in
-    let method : method_name c.in_ok-method.method ≡ c.in-Some-words.method.now = c.in_ok-method.ensures.ok in
+    let method : request_method_name c.in_ok-method.method ≡ c.in-Some-words.method.now = c.in_ok-method.ensures.ok in
     let uri : c.in_ok-uri.uri.items ≡ c.in-Some-words.uri.now = search rules in
-    let line : IsRequestLine c.in-Some.line.now (method_name c.in_ok-method.method) c.in_ok-uri.uri.items (codes "ICAP/1.0") = rw (method, uri) words in
-    has_request (record { method = method_name c.in_ok-method.method; uri = c.in_ok-uri.uri.items; fields = field_list c.in_ok-fields.fields }) c.args.text.now c.judged-seen.result.now
+    let line : IsRequestLine c.in-Some.line.now (request_method_name c.in_ok-method.method) c.in_ok-uri.uri.items (codes "ICAP/1.0") = rw (method, uri) words in
+    has_request (record { method = request_method_name c.in_ok-method.method; uri = c.in_ok-uri.uri.items; fields = field_list c.in_ok-fields.fields }) c.args.text.now c.judged-seen.result.now
     c.in-Some.line.now (drop c.in-Some.start c.judged-seen.result.now) c.in_ok-fields.length c.judged-seen.ensures.front found.1 c.in-Some.ensures.some.1 line found.2 found.3
