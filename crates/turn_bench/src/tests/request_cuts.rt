@@ -149,6 +149,26 @@ fn a_service_that_breaks_behind_each_byte_of_its_answer(rt: HostRuntime) -> Resu
     Ok(())
 }
 
+/// The service's wire fails behind each byte that it takes, of the preview and of the rest behind its 100: the user gets the proxy's
+/// own answer, and the origin nothing.
+#[test]
+fn a_service_that_takes_no_more_behind_each_byte(rt: HostRuntime) -> Result<(), Fail> {
+    for bytes in 0..TO_SERVICE.len() {
+        let pace = Pace {
+            given: Input::whole(REQUEST, 512),
+            heard: Input::whole(GO_ON_ADAPTED, 1),
+            sent: Output::failing(bytes),
+            ..Pace::whole(512)
+        };
+        let ended = ended(&rt, rt.alloc(), &pace, &mut RequestRounds(400))?;
+        assert_eq!(rt; ended.outcome, Outcome::Fail(Cause::Service), "{bytes}");
+        assert_eq!(rt; ended.to_service(), &TO_SERVICE[..bytes], "{bytes}");
+        assert!(rt; ended.next_hop.taken().is_empty());
+        assert_eq!(rt; ended.source.taken(), BAD_GATEWAY, "{bytes}");
+    }
+    Ok(())
+}
+
 /// The front of what the service gets, up to the end of the heads.
 fn offer() -> &'static [u8] {
     &PREVIEW[..PREVIEW.len() - PREVIEW_BODY]
