@@ -70,6 +70,13 @@ pub data IsFraming : List ℕ → Type 0 where
   tail : IsFraming crlf
   last : (ieof : Bool) → IsFraming (last_chunk ieof)
 
+-- the rest of one framing text, without body bytes
+pub record IsFramingRest (text : List ℕ) : Type 0 where
+  pub framing : List ℕ
+  pub is_framing : IsFraming framing
+  pub from : ℕ
+  pub rest : text ≡ drop from framing
+
 -- What may come next.
 
 -- the body's bytes

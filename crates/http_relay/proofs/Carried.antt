@@ -181,6 +181,7 @@ same_message x f b head body taken w g =
       front = subst (λ (n : ℕ). Front f b (take n body) g.behind w.left) (sym s.0) g.front;
       there = omega (arith, g.there, s.0, s.1);
       within = subst (λ (m : ℕ). IfSome (length_of f) (λ n. m ≤ n)) (sym s.0) g.within;
+      waits = λ some. g.waits (omega (arith, some, s.0));
       all_out = λ h. (s.2 ∙ (g.all_out h).0, s.0 ∙ ((g.all_out h).1 ∙ sym s.1), subst (λ (m : ℕ). IfSome (length_of f) (λ n. m ≡ n)) (sym s.0) (g.all_out h).2);
     }
 

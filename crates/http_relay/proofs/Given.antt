@@ -2,11 +2,13 @@
 use Rattle.std.proofs.Common.{◌≡◌, ℕ, ◌+◌, ◌-◌, ◌<◌, ◌≤◌, Bool, true, false, List, [], ◌++◌, length, take, drop, refl, ap, sym, subst, ◌∙◌, append_assoc, append-nil, arith, IfSome, if◌then◌else◌, nat_lt, Option, Some, None}
 use Rattle.std.proofs.lemmas.Bool.Decides.{nat_tests}
 use Rattle.std.proofs.Math.Seq.{take-add}
-use Rattle.icap_chunks.specs.Grammar.{chunk_head, crlf}
+use Rattle.icap_chunks.specs.Grammar.{chunk_head, last_chunk, crlf}
 use Rattle.trace_core.specs.declared.history.Seen.{Seen}
 use Rattle.chunk_writer.specs.Cut.{IsCut, Run}
 use Rattle.chunk_writer.specs.Cut.Run.{between, inside}
-use Rattle.chunk_writer.specs.Writer.{Writer, waiting, begun, fixed, after_data}
+use Rattle.chunk_writer.specs.Writer.{Writer, IsFraming, IsFramingRest, waiting, begun, fixed, after_data}
+use Rattle.chunk_writer.specs.Writer.IsFraming.{none, size, tail, last}
+use Rattle.chunk_writer.proofs.Rests.{rest_none, rest_whole, rest_passed}
 use Rattle.chunk_writer.proofs.Runs.{run_begun, run_on, run_closed}
 use Rattle.chunk_writer.proofs.Moving.{fixed_next}
 use Rattle.http_side.specs.declared.body.Framing.{Framing}
@@ -60,6 +62,7 @@ gives_passed x f b head body taken part v w r l g = record {
   front = subst (Front f b (take (chosen_delivered x) body) g.behind) (sym l) g.front;
   there = omega (arith, g.there, l);
   within = g.within;
+  waits = λ some. rest_passed part (waiting w) (waiting v) r (g.waits some);
   all_out = g.all_out;
 }
 
@@ -71,8 +74,13 @@ gives_begun x f head body taken w n c some e z r g = record {
   front = front_begun f (take (chosen_delivered x) body) g.behind n c some (subst (Front f false (take (chosen_delivered x) body) g.behind) z g.front);
   there = r;
   within = g.within;
+  waits = λ some. subst IsFramingRest (sym (fixed_next w (chunk_head n) e)) (rest_whole (chunk_head n) (size n));
   all_out = λ h. cc;
 }
+
+framing_end : (chunked : Bool) → IsFraming (if chunked then last_chunk false else [])
+framing_end true = last false
+framing_end false = none
 
 pub gives_ended : (x : Seen) (f : Framing) (head body taken : List ℕ) (w : Writer) → waiting w ≡ [] → chosen_over x ≡ true → chosen_delivered x ≡ chosen_received x → IfSome (length_of f) (λ n. chosen_delivered x ≡ n)
     → GivesMessage x f false head body taken w → GivesMessage x f true head body taken (fixed w (body_end f))
@@ -84,6 +92,7 @@ gives_ended x f head body taken w e o a i g =
       front = subst (Front f true (take (chosen_delivered x) body) (g.behind ++ body_end f)) (sym z) (front_end f (take (chosen_delivered x) body) g.behind (subst (Front f false (take (chosen_delivered x) body) g.behind) z g.front));
       there = g.there;
       within = g.within;
+      waits = λ some. subst IsFramingRest (sym (fixed_next w (body_end f) e)) (rest_whole (body_end f) (framing_end (is_chunked f)));
       all_out = λ h. (o, a, i);
     }
 
@@ -106,6 +115,7 @@ data_plain x y f head body taken d w c m e i room l g =
           (front_plain f (take (chosen_delivered x) body) g.behind d w.left c g.front);
       there = omega (arith, m.out, m.came);
       within = subst (λ (n : ℕ). IfSome (length_of f) (λ k. n ≤ k)) (sym m.out) (within_more (length_of f) (chosen_delivered x) (length d) (chosen_received x) room l);
+      waits = λ some. subst IsFramingRest (sym e) rest_none;
       all_out = λ h. cc;
     }
   where
@@ -127,6 +137,7 @@ data_by x y f head body taken d w true t m e i some most room l g =
           (front_on f (take (chosen_delivered x) body) g.behind d w.left more g.front);
       there = omega (arith, m.out, m.came, g.there);
       within = subst (λ (n : ℕ). IfSome (length_of f) (λ k. n ≤ k)) (sym m.out) (within_more (length_of f) (chosen_delivered x) (length d) (chosen_received x) room l);
+      waits = λ some. subst IsFramingRest (sym e) rest_none;
       all_out = λ h. cc;
     }
 data_by x y f head body taken d w false t m e i some most room l g =
@@ -140,6 +151,7 @@ data_by x y f head body taken d w false t m e i some most room l g =
           (front_closed f (take (chosen_delivered x) body) g.behind d w.left (omega arith) all g.front));
       there = omega (arith, m.out, m.came, g.there);
       within = subst (λ (n : ℕ). IfSome (length_of f) (λ k. n ≤ k)) (sym m.out) (within_more (length_of f) (chosen_delivered x) (length d) (chosen_received x) room l);
+      waits = λ some. subst IsFramingRest (sym (fixed_next w crlf e)) (rest_whole crlf tail);
       all_out = λ h. cc;
     }
 

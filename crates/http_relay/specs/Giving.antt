@@ -8,7 +8,7 @@ use Rattle.trace_core.specs.Legal.{Allows}
 use Rattle.trace_core.specs.Faults.{chooses_original}
 use Rattle.chunk_writer.specs.declared.next.Next.{Next}
 use Rattle.chunk_writer.specs.Cut.{IsCut, Run}
-use Rattle.chunk_writer.specs.Writer.{Writer, waiting, is_ending, end_text, FitsTurn}
+use Rattle.chunk_writer.specs.Writer.{Writer, IsFramingRest, waiting, is_ending, end_text, FitsTurn}
 use Rattle.http_side.specs.Refusals.{refusal}
 use Rattle.http_side.specs.declared.body.Framing.{Framing}
 use Rattle.http_relay.specs.declared.hop.Stage.{Stage}
@@ -40,6 +40,8 @@ pub record GivesMessage (x : Seen) (framing : Framing) (whole : Bool) (head body
   pub front : Front framing whole (take (chosen_delivered x) body) behind w.left
   pub there : chosen_delivered x + w.left ≤ chosen_received x
   pub within : IfSome (length_of framing) (λ n. chosen_delivered x ≤ n)
+  -- once a byte of the body is out, what waits has none
+  pub waits : 0 < chosen_delivered x → IsFramingRest (waiting w)
   pub all_out : whole ≡ true → (chosen_over x ≡ true) × (chosen_delivered x ≡ chosen_received x) × IfSome (length_of framing) (λ n. chosen_delivered x ≡ n)
 
 -- the bytes that the next hop took of a message: none yet, or a front of one; a refusal is no message

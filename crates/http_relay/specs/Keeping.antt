@@ -43,6 +43,7 @@ message_begins x body head f z = record {
   front = subst (λ (n : ℕ). Front f false (take n body) [] 0) (sym z) (begins_by f (is_chunked f) refl);
   there = omega arith;
   within = zero_fits (length_of f) (chosen_delivered x) z;
+  waits = λ some. absurd (omega (arith, some, z));
   all_out = λ h. cc;
 }
 
@@ -124,6 +125,7 @@ message_kept x y f b head body more taken w k l g = record {
   front = subst (λ (xs : List ℕ). Front f b xs g.behind w.left) (sym (ap (λ (n : ℕ). take n (body ++ more)) k.out ∙ take-append-le (chosen_delivered x) body more (omega (arith, g.there)))) g.front;
   there = omega (arith, g.there, k.out, k.came);
   within = subst (λ (m : ℕ). IfSome (length_of f) (λ n. m ≤ n)) (sym k.out) g.within;
+  waits = λ some. g.waits (omega (arith, some, k.out));
   all_out = λ h.
       let all = g.all_out h in
       let still = k.over all.0 in

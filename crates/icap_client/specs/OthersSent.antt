@@ -34,6 +34,7 @@ it_begins plan head = record {
   there = omega arith;
   in_preview = zero_fits (open_preview (seen plan []));
   framing = none;
+  waits = λ some. absurd (omega (arith, some));
 }
 
 -- what a request's front and its bound depend on is the same
@@ -69,6 +70,7 @@ moved head x y came more taken w m l h = record {
   there = omega (arith, h.there, m.sent, m.received);
   in_preview = preview_moved x y w.left m h.in_preview;
   framing = h.framing;
+  waits = λ some. h.waits (omega (arith, some, m.sent));
 }
 
 same_by : (x y : Seen) → y.plan ≡ x.plan → y.stopped ≡ x.stopped → y.last_stop ≡ x.last_stop → y.ieof ≡ x.ieof → y.sent ≡ x.sent → x.received ≤ y.received → Same x y
@@ -107,6 +109,7 @@ begins_again x came w head e = subst (λ (v : Writer). HasSent head (after x Ret
   there = omega arith;
   in_preview = zero_fits (open_preview (after x Retry));
   framing = none;
+  waits = λ some. absurd (omega (arith, some));
 })
 
 -- where nothing is due, no event of sending may follow

@@ -9,7 +9,7 @@ use Rattle.trace_core.specs.Legal.{Allows, MaySend, open_preview}
 use Rattle.trace_core.specs.View.{ieof_now}
 use Rattle.span_tape.specs.Tape.{Tape}
 pub use Rattle.adapt_sides.specs.Tapes.{KeepsUnsent}
-use Rattle.chunk_writer.specs.Writer.{Writer, waiting, IsFraming, is_ending, end_text, FitsTurn}
+use Rattle.chunk_writer.specs.Writer.{Writer, waiting, IsFraming, IsFramingRest, is_ending, end_text, FitsTurn}
 use Rattle.chunk_writer.specs.declared.next.Next.{Next}
 use Rattle.icap_client.specs.RequestText.{is_null}
 use Rattle.icap_client.specs.Events.{MayCome}
@@ -28,6 +28,8 @@ pub record HasSent (head : List ℕ) (x : Seen) (came taken : List ℕ) (w : Wri
   pub there : x.sent + w.left ≤ x.received
   pub in_preview : IfSome (open_preview x) (λ p. x.sent + w.left ≤ p)
   pub framing : IsFraming w.framing
+  -- once a byte of the body is out, what waits has none
+  pub waits : 0 < x.sent → IsFramingRest (waiting w)
 
 -- The text of a request's heads, as it is let go once it is out: what waits stays.
 pub record LetsGo (old new : Writer) : Type 0 where

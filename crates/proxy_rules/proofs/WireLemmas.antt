@@ -15,14 +15,13 @@ use Rattle.adapt_hold.specs.Holding.{Holding, IsTied, shows}
 use Rattle.adapt_turn.specs.declared.start.Line.{Line}
 use Rattle.adapt_turn.specs.Stands.{HopsAre, IsDelivered, other_gift}
 use Rattle.icap_client.specs.Turns.{Service, ServiceSent}
-use Rattle.icap_client.specs.RequestText.{IsFrontOfRequest}
 use Rattle.icap_client.proofs.Prefixes.{sent_is_front_legal}
 use Rattle.http_relay.specs.declared.hop.Stage.{Stage}
 use Rattle.http_relay.specs.declared.hop.Stage.TheVariants as at
 use Rattle.http_relay.specs.Message.{IsFrontOfMessage, IsMessage, length_of}
 use Rattle.http_relay.specs.Giving.{Hop, HasGiven, GivesMessage, GivenAt, IsAside, AsideAt, gift_of}
 use Rattle.http_relay.proofs.Whole.{front_at, whole_front_at}
-use Rattle.proxy_rules.specs.Wires.{TookNoMessage, TookFront, TookMessage, TookOne, OtherTook}
+use Rattle.proxy_rules.specs.Wires.{TookNoMessage, TookFront, TookMessage, TookRequest, TookOne, OtherTook}
 
 pub received_is : (h : Holding) (body : List ℕ) → IsTied h → EndsBody h.original body → length body ≡ (shows h.history).received
 received_is h body t e = sym e.end ∙ ap (λ (p : ℕ × ℕ). p.1) t.original
@@ -43,8 +42,16 @@ chosen_is h original adapted t o a =
     chosen_by (chooses_original x) x.modified x.received x.adapted_received original adapted (sound h.history.plan h.history.events t.legal).unmodified (received_is h original t o) (adapted_received_is h adapted t a)
 
 pub sent_one : (head : List ℕ) (h : Holding) (original taken : List ℕ) (s : Service) → IsTied h → EndsBody h.original original → is_plain (shows h.history).plan.kind ≡ false
-    → ServiceSent head (shows h.history) original taken s → IsFrontOfRequest (shows h.history) head original taken
-sent_one head h original taken s t o n g = sent_is_front_legal h.history.plan h.history.events head original taken s.writer t.legal n (received_is h original t o) g.sent
+    → ServiceSent head (shows h.history) original taken s → TookRequest (shows h.history) head original taken
+sent_one head h original taken s t o n g = record {
+  chunks = g.sent.chunks;
+  left = s.writer.left;
+  body_is = g.sent.front;
+  waits = waiting s.writer;
+  taken_is = g.sent.fixed;
+  waits_is = g.sent.waits;
+  front = sent_is_front_legal h.history.plan h.history.events head original taken s.writer t.legal n (received_is h original t o) g.sent;
+}
 
 first_none : (xs ys : List ℕ) → xs ++ ys ≡ [] → xs ≡ []
 first_none [] ys e = refl
@@ -68,7 +75,9 @@ message_front made whole x f head body taken w k i g = record {
   behind = g.behind;
   left = w.left;
   body_is = g.front;
-  taken_is = record { rest = waiting w; whole = sym g.fixed_is };
+  waits = waiting w;
+  taken_is = g.fixed_is;
+  waits_is = g.waits;
   front = i;
 }
 
@@ -95,7 +104,7 @@ unrefused taken h none a = unrefused_at h.stage taken h.writer none a.text
 
 pub service_one : {W : Type 0} (head : List ℕ) (h : Holding) (original taken : List ℕ) (service : Option (Line Service W)) → IsTied h → EndsBody h.original original
     → MatchOption service (taken ≡ []) (λ line. ServiceSent head (shows h.history) original taken line.side)
-    → MatchOption service (taken ≡ []) (λ _. is_plain (shows h.history).plan.kind ≡ false → IsFrontOfRequest (shows h.history) head original taken)
+    → MatchOption service (taken ≡ []) (λ _. is_plain (shows h.history).plan.kind ≡ false → TookRequest (shows h.history) head original taken)
 service_one head h original taken None t o e = e
 service_one head h original taken (Some line) t o g = λ n. sent_one head h original taken line.side t o n g
 
@@ -115,7 +124,7 @@ pub hops_one : (h : Holding) (next back : Hop) (next_made back_made : List ℕ �
     → ((head body taken : List ℕ) → back_given (shows h.history) head body taken → back_made head × HasGiven (shows h.history) head body taken back)
     → HopsAre (gift_of next.stage) (gift_of back.stage) next_given (λ taken. IsAside taken next) back_given (λ taken. IsAside taken back) (shows h.history) (chosen (shows h.history) original adapted) to_next to_back
     → (TookOne next_made next.framing (shows h.history) (chosen (shows h.history) original adapted) to_next × TookNoMessage to_back) ⊎ (TookNoMessage to_next × TookOne back_made back.framing (shows h.history) (chosen (shows h.history) original adapted) to_back)
-hops_one h next back next_made back_made next_given back_given original adapted to_next to_back t o a as_next as_back (inl m) = inl (inl (aside_none to_next next m.next_aside_is), aside_none to_back back m.back_aside_is)
+hops_one h next back next_made back_made next_given back_given original adapted to_next to_back t o a as_next as_back (inl m) = inl (inl (m.none, aside_none to_next next m.next_aside_is), aside_none to_back back m.back_aside_is)
 hops_one h next back next_made back_made next_given back_given original adapted to_next to_back t o a as_next as_back (inr (inl m)) =
     let x = shows h.history in
     let body = chosen x original adapted in
@@ -127,7 +136,7 @@ hops_one h next back next_made back_made next_given back_given original adapted 
     let w = as_back m.head body to_back m.given_is in
     inr (aside_none to_next next m.aside_is, inr (front_one back_made x m.head body to_back back w.0 m.begun (chosen_is h original adapted t o a) w.1))
 hops_one h next back next_made back_made next_given back_given original adapted to_next to_back t o a as_next as_back (inr (inr (inr m))) =
-    inl (inl (aside_none to_next next m.next_aside_is), aside_none to_back back m.back_aside_is)
+    inl (inl (m.none, aside_none to_next next m.next_aside_is), aside_none to_back back m.back_aside_is)
 
 pub other_one : (point : Point) (h : Holding) (next back : Hop) (next_made : List ℕ → Type 0) (next_given back_given : Seen → List ℕ → List ℕ → List ℕ → Type 0) (original adapted to_next to_back : List ℕ)
     → IsTied h → EndsBody h.original original → EndsBody h.adapted adapted

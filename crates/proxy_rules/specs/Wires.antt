@@ -1,17 +1,19 @@
 -- What the wires of a transaction of the proxy's own sides took.
-use Rattle.std.specs.Prelude.{◌≡◌, ℕ, ◌≤◌, ◌⊎◌, ◌++◌, Bool, false, List, [], take, Option, IfSome, MatchOption}
+use Rattle.std.specs.Prelude.{◌≡◌, ℕ, ◌<◌, ◌≤◌, ◌⊎◌, ◌++◌, Bool, false, List, [], take, Option, IfSome, MatchOption}
 use Rattle.trace_core.specs.declared.history.Point.{Point}
 use Rattle.trace_core.specs.declared.history.Point.TheVariants.{Reqmod, Respmod}
 use Rattle.trace_core.specs.declared.history.Seen.{Seen}
 use Rattle.trace_core.specs.History.{is_plain}
 use Rattle.chunk_writer.specs.Cut.{IsPrefixOf}
+use Rattle.chunk_writer.specs.Writer.{IsFramingRest}
 use Rattle.http_side.specs.Refusals.{refusal}
 use Rattle.http_side.specs.declared.body.Framing.{Framing}
-use Rattle.adapt_sides.specs.Tapes.{chosen, chosen_delivered, chosen_received}
+use Rattle.adapt_sides.specs.Tapes.{chosen, chosen_delivered, chosen_received, IsUndelivered}
 use Rattle.adapt_hold.specs.Spans.{EndsBody}
 use Rattle.adapt_hold.specs.Holding.{Holding, shows}
 use Rattle.adapt_turn.specs.Stands.{Texts, IsDone}
 use Rattle.icap_client.specs.RequestText.{IsFrontOfRequest}
+use Rattle.icap_client.specs.Front.{Front as Sent}
 use Rattle.http_relay.specs.Message.{IsFrontOfMessage, IsMessage, length_of}
 use Rattle.http_relay.specs.Giving.{Front}
 
@@ -19,8 +21,8 @@ use Rattle.http_relay.specs.Giving.{Front}
 abbrev pub TookNoMessage : List ℕ → Type 0
 TookNoMessage taken = (taken ≡ []) ⊎ ((status : ℕ) × IsPrefixOf taken (refusal status))
 
--- A front of one message with a head that was made: behind the head stands the text of the bytes of this body that went out by the
--- history, and no further ones. As long as no more of the body came than the head says, it is a front of the whole message, however that goes on.
+-- A front of one message with a head that was made: behind the head stands the text of just the bytes of this body that went out by
+-- the history, for what of it isn't taken yet has none of them. As long as no more of the body came than the head says, it is a front of the whole message, however that goes on.
 pub record TookFront (made : List ℕ → Type 0) (framing : Framing) (x : Seen) (body taken : List ℕ) : Type 0 where
   pub head : List ℕ
   pub made_is : made head
@@ -28,12 +30,25 @@ pub record TookFront (made : List ℕ → Type 0) (framing : Framing) (x : Seen)
   pub behind : List ℕ
   pub left : ℕ
   pub body_is : Front framing whole (take (chosen_delivered x) body) behind left
-  pub taken_is : IsPrefixOf taken (head ++ behind)
+  pub waits : List ℕ
+  pub taken_is : taken ++ waits ≡ head ++ behind
+  pub waits_is : 0 < chosen_delivered x → IsFramingRest waits
   pub front : IfSome (length_of framing) (λ n. chosen_received x ≤ n) → IsFrontOfMessage framing head body taken
 
--- one of these
+-- one of these: no byte of a body went out by the history, or such a message
 abbrev pub TookOne : (made : List ℕ → Type 0) → Framing → Seen → List ℕ → List ℕ → Type 0
-TookOne made framing x body taken = TookNoMessage taken ⊎ TookFront made framing x body taken
+TookOne made framing x body taken = (IsUndelivered x × TookNoMessage taken) ⊎ TookFront made framing x body taken
+
+-- A front of one request with these heads: behind them stands the text of just the bytes of the original that went to the service by
+-- the history, for what of it isn't taken yet has none of them.
+pub record TookRequest (x : Seen) (head came taken : List ℕ) : Type 0 where
+  pub chunks : List ℕ
+  pub left : ℕ
+  pub body_is : Sent x (take x.sent came) chunks left
+  pub waits : List ℕ
+  pub taken_is : taken ++ waits ≡ head ++ chunks
+  pub waits_is : 0 < x.sent → IsFramingRest waits
+  pub front : IsFrontOfRequest x head came taken
 
 -- what the wire took that isn't the user's, of such a message or of none: at REQMOD the user is the source; at RESPMOD the source is
 -- the origin, which gets nothing of the kind
@@ -59,7 +74,7 @@ pub record WiresTook {Line : Type 0} (read heard : Seen → List ℕ → List �
   pub adapted_is : EndsBody h.adapted adapted
   pub original_read : read (shows h.history) original t.source_read
   pub adapted_read : heard (shows h.history) adapted t.service_read
-  pub service_took : MatchOption service (t.service_taken ≡ []) (λ _. is_plain (shows h.history).plan.kind ≡ false → IsFrontOfRequest (shows h.history) request original t.service_taken)
+  pub service_took : MatchOption service (t.service_taken ≡ []) (λ _. is_plain (shows h.history).plan.kind ≡ false → TookRequest (shows h.history) request original t.service_taken)
   pub next_and_back : (TookOne next_made next_framing (shows h.history) (chosen (shows h.history) original adapted) t.next_taken × TookNoMessage t.back_taken)
       ⊎ (TookNoMessage t.next_taken × TookOne back_made back_framing (shows h.history) (chosen (shows h.history) original adapted) t.back_taken)
   pub other : OtherTook (shows h.history).plan.point next_made next_framing (shows h.history) (chosen (shows h.history) original adapted) t.next_taken t.back_taken
