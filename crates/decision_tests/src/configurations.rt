@@ -1,5 +1,5 @@
 use proxy_config::{ConfigFault, read_config};
-use std::alloc::Global;
+use std::alloc::{AllocError, Global};
 use std::process::Abort;
 use std::test::Fail;
 
@@ -13,6 +13,7 @@ fn fault(alloc: Global, text: &str) -> Result<String, Fail> {
     match read_config(alloc, text.as_bytes()) {
         Ok(_) => Ok(String::from_str(alloc, "-")?),
         Err(ConfigFault::Key(key)) => Ok(key),
+        Err(ConfigFault::NoMemory) => Err(AllocError)?,
         Err(_) => Ok(String::from_str(alloc, "?")?),
     }
 }
