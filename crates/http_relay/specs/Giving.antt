@@ -40,7 +40,7 @@ pub record GivesMessage (x : Seen) (framing : Framing) (whole : Bool) (head body
   pub front : Front framing whole (take (chosen_delivered x) body) behind w.left
   pub there : chosen_delivered x + w.left ≤ chosen_received x
   pub within : IfSome (length_of framing) (λ n. chosen_delivered x ≤ n)
-  -- once a byte of the body is out, what waits has none
+  -- once a byte of the body is out, what waits spells the rest of a framing text
   pub waits : 0 < chosen_delivered x → IsFramingRest (waiting w)
   pub all_out : whole ≡ true → (chosen_over x ≡ true) × (chosen_delivered x ≡ chosen_received x) × IfSome (length_of framing) (λ n. chosen_delivered x ≡ n)
 

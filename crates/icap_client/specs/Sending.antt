@@ -28,7 +28,7 @@ pub record HasSent (head : List ℕ) (x : Seen) (came taken : List ℕ) (w : Wri
   pub there : x.sent + w.left ≤ x.received
   pub in_preview : IfSome (open_preview x) (λ p. x.sent + w.left ≤ p)
   pub framing : IsFraming w.framing
-  -- once a byte of the body is out, what waits has none
+  -- once a byte of the body is out, what waits spells the rest of a framing text
   pub waits : 0 < x.sent → IsFramingRest (waiting w)
 
 -- The text of a request's heads, as it is let go once it is out: what waits stays.

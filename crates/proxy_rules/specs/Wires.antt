@@ -22,7 +22,7 @@ abbrev pub TookNoMessage : List ℕ → Type 0
 TookNoMessage taken = (taken ≡ []) ⊎ ((status : ℕ) × IsPrefixOf taken (refusal status))
 
 -- A front of one message with a head that was made: behind the head stands the text of just the bytes of this body that went out by
--- the history, for what of it isn't taken yet has none of them. As long as no more of the body came than the head says, it is a front of the whole message, however that goes on.
+-- the history, and what of it isn't taken yet spells the rest of a framing text. As long as no more of the body came than the head says, it is a front of the whole message, however that goes on.
 pub record TookFront (made : List ℕ → Type 0) (framing : Framing) (x : Seen) (body taken : List ℕ) : Type 0 where
   pub head : List ℕ
   pub made_is : made head
@@ -40,7 +40,7 @@ abbrev pub TookOne : (made : List ℕ → Type 0) → Framing → Seen → List 
 TookOne made framing x body taken = (IsUndelivered x × TookNoMessage taken) ⊎ TookFront made framing x body taken
 
 -- A front of one request with these heads: behind them stands the text of just the bytes of the original that went to the service by
--- the history, for what of it isn't taken yet has none of them.
+-- the history, and what of it isn't taken yet spells the rest of a framing text.
 pub record TookRequest (x : Seen) (head came taken : List ℕ) : Type 0 where
   pub chunks : List ℕ
   pub left : ℕ
