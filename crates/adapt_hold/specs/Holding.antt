@@ -5,6 +5,7 @@ use Rattle.trace_core.specs.declared.history.Event.TheVariants.{In, Ad}
 use Rattle.trace_core.specs.Faults.{chooses_original}
 use Rattle.trace_core.specs.declared.history.Seen.{Seen}
 use Rattle.trace_core.specs.History.{History, seen, in_bytes, ad_bytes}
+pub use Rattle.trace_core.specs.History.{shows}
 use Rattle.trace_core.specs.Legal.{IsLegal, MayFollow}
 use Rattle.trace_core.specs.Norm.{norm}
 use Rattle.trace_core.specs.Held.{original_from, adapted_from, held_original, held_adapted, original_places, adapted_places, held_places}
@@ -20,9 +21,6 @@ pub record Holding : Type 0 where
   -- the reservation: its bytes in use, and its size
   pub held : ℕ
   pub claim : ℕ
-
-abbrev pub shows : History → Seen
-shows history = seen history.plan history.events
 
 abbrev pub interval : Span → ℕ × ℕ
 interval t = (t.base, span_end t)
