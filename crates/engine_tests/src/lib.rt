@@ -6,6 +6,8 @@ mod clients;
 #[cfg(test)]
 mod relays;
 #[cfg(test)]
+mod servers;
+#[cfg(test)]
 mod services;
 #[cfg(test)]
 mod wires;

@@ -30,7 +30,8 @@ const RAISED: &[u8] = b"ICAP/1.0 200 OK\r\nISTag: \"adapt-1\"\r\n\
 Encapsulated: res-hdr=0, res-body=38\r\n\r\n\
 HTTP/1.1 200 OK\r\nContent-Length: 6\r\n\r\n6\r\nABCDEF\r\n0\r\n\r\n";
 
-fn settings(alloc: Global) -> Result<Settings, NoMemory> {
+/// What answers say of the server, here and in the tests of the server itself.
+pub fn settings(alloc: Global) -> Result<Settings, NoMemory> {
     let tag = b"adapt-1".to_vec(alloc)?;
     match Settings::new(tag, 16, 3600, 1024) {
         Some(settings) => Ok(settings),

@@ -29,11 +29,11 @@ use Rattle.icap_head.specs.Heads.{Request}
 use Rattle.icap_head.specs.StartLines.{RequestForm}
 use Rattle.icap_head.proofs.OneReading.{request_unique, request_version, no_request_fault}
 use Rattle.icap_head.proofs.Readings.{one_fault}
-use Rattle.icap_services.specs.declared.request.Point.{Point}
-use Rattle.icap_services.specs.declared.request.Point.TheVariants.{Reqmod as AtRequest, Respmod as AtResponse}
 use Rattle.icap_services.specs.declared.service.Service.{Service}
 use Rattle.icap_services.specs.declared.service.Service.TheVariants.{Pass, Stamp, Upper, Block}
 use Rattle.icap_services.specs.Texts.{Shown}
+use Rattle.trace_core.specs.declared.history.Point.{Point}
+use Rattle.trace_core.specs.declared.history.Point.TheVariants.{Reqmod as AtRequest, Respmod as AtResponse}
 use Rattle.icap_server.specs.declared.call.Call.{Call}
 use Rattle.icap_server.specs.declared.call.Verdict.{Verdict}
 use Rattle.icap_server.specs.declared.call.Verdict.TheVariants.{Refused, Describes, Offers}

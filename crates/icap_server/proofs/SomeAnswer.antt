@@ -19,11 +19,11 @@ use Rattle.icap_chunks.proofs.Totals.{some_reading}
 use Rattle.icap_head.specs.Heads.{Request, HasRequest}
 use Rattle.icap_head.specs.StartLines.{IsIcapUri}
 use Rattle.icap_head.proofs.Totals.{NotNot, surely, and_so, decided, some_request}
-use Rattle.icap_services.specs.declared.request.Point.{Point}
 use Rattle.icap_services.specs.declared.service.Service.{Service}
 use Rattle.icap_services.specs.declared.status.Status.TheVariants.{BadRequest, ServerError, NotFound, MethodNotAllowed, NotImplemented}
 use Rattle.icap_services.specs.Answers.{wants_rest}
 use Rattle.icap_services.specs.Texts.{Shown, options_text, continue_text, error_text}
+use Rattle.trace_core.specs.declared.history.Point.{Point}
 use Rattle.icap_server.specs.declared.call.Call.{Call}
 use Rattle.icap_server.specs.declared.call.Verdict.{Verdict}
 use Rattle.icap_server.specs.declared.call.Verdict.TheVariants.{Refused, Describes, Offers}

@@ -19,8 +19,8 @@ use Rattle.icapd_program.specs.declared.error.Key.TheVariants.{Listen, Istag, Ma
 abbrev pub is_at : List ℕ → Members → Bool
 is_at key table = is_some (get_member key table)
 
-abbrev pub string_at : List ℕ → Members → Option (List ℕ)
-string_at key table = option_and_then as_str (get_member key table)
+abbrev pub text_at : List ℕ → Members → Option (List ℕ)
+text_at key table = option_and_then as_str (get_member key table)
 
 abbrev pub integer_at : List ℕ → Members → Option ℤ
 integer_at key table = option_and_then as_integer (get_member key table)
@@ -28,13 +28,17 @@ integer_at key table = option_and_then as_integer (get_member key table)
 -- `listen` is a text that writes this address, with a port from 1 on
 abbrev pub ListenIs : Members → SocketAddrV4 → Type 0
 ListenIs table address =
-    (text : List ℕ) × (string_at (codes "listen") table ≡ Some text) × IsSocketV4Text text address × (v4_port address ≢ 0)
+    (text : List ℕ) × (text_at (codes "listen") table ≡ Some text) × IsSocketV4Text text address × (v4_port address ≢ 0)
+
+-- the ISTag where none is configured
+abbrev pub default_tag : List ℕ
+default_tag = codes "adapt-1"
 
 -- `istag` is this text, which can be an ISTag; its default where it is missing
 abbrev pub TagIs : Members → List ℕ → Type 0
 TagIs table tag =
-    ((is_at (codes "istag") table ≡ false) × (tag ≡ codes "adapt-1"))
-    ⊎ ((is_at (codes "istag") table ≡ true) × (string_at (codes "istag") table ≡ Some tag) × IsTag tag)
+    ((is_at (codes "istag") table ≡ false) × (tag ≡ default_tag))
+    ⊎ ((is_at (codes "istag") table ≡ true) × (text_at (codes "istag") table ≡ Some tag) × IsTag tag)
 
 -- the key holds this number, which is within its range; its default where it is missing
 abbrev pub NumberIs : List ℕ → ℕ → ℕ → ℕ → Members → ℕ → Type 0

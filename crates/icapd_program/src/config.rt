@@ -3,7 +3,7 @@ ghost use Rattle.std.specs.Prelude.{◌≡◌, ◌↔◌, ℕ, List, IsTrue, IfO
 ghost use Rattle.std.specs.declared.net.socket_addr.SocketAddrV4.{SocketAddrV4 as Address};
 ghost use Rattle.toml.specs.View.{table_view};
 ghost use Rattle.icap_services.specs.Texts.{shown};
-ghost use Rattle.icapd_program.specs.Config.{is_at, string_at, integer_at, ListenIs, TagIs, NumberIs, IsKnown, HasValues, IsTableBad, IsConfig, IsRefused};
+ghost use Rattle.icapd_program.specs.Config.{is_at, text_at, integer_at, ListenIs, TagIs, NumberIs, IsKnown, HasValues, IsTableBad, IsConfig, IsRefused};
 
 use crate::error::{Error, Key};
 use adapt_bytes::{MAX_CONNECTIONS, MAX_INPUT, MAX_PREVIEW};
@@ -11,6 +11,9 @@ use icap_services::{MAX_TTL, Settings, is_tag};
 use std::alloc::Global;
 use std::net::SocketAddrV4;
 use toml::Table;
+
+/// The ISTag, without its quotes, where nothing else is said.
+pub(crate) const DEFAULT_TAG: &[u8] = b"adapt-1";
 
 /// How many connections are served at once, where nothing else is said.
 pub(crate) const DEFAULT_MAX: u64 = 16;
@@ -100,8 +103,8 @@ fn is_at(table: &Table, key: &str) -> bool
 }
 
 /// The string at a key, if the key holds a string.
-fn string_at<'a>(table: &'a Table, key: &str) -> Option<&'a str>
-    ensures { option_map (λ text. text.now) result ≡ string_at key.now (table_view table.now) }
+fn text_at<'a>(table: &'a Table, key: &str) -> Option<&'a str>
+    ensures { option_map (λ text. text.now) result ≡ text_at key.now (table_view table.now) }
 {
     match table.get(key) {
         Some(value) => value.as_str(),
@@ -124,7 +127,7 @@ fn listen_of(table: &Table) -> Option<SocketAddrV4>
     ensures some { IfSome result (ListenIs (table_view table.now)) }
     ensures none { IfNone result ((address : Address) → ListenIs (table_view table.now) address → ⊥) }
 {
-    let Some(text) = string_at(table, "listen") else {
+    let Some(text) = text_at(table, "listen") else {
         return None;
     };
     let Ok(address) = text.parse::<SocketAddrV4>() else {
@@ -143,9 +146,9 @@ fn tag_of(table: &Table) -> Option<&[u8]>
     ensures none { IfNone result ((tag : List ℕ) → TagIs (table_view table.entry.now) tag → ⊥) }
 {
     if !is_at(table, "istag") {
-        return Some(b"adapt-1");
+        return Some(DEFAULT_TAG);
     }
-    let Some(text) = string_at(table, "istag") else {
+    let Some(text) = text_at(table, "istag") else {
         return None;
     };
     let tag = text.as_bytes();

@@ -5,7 +5,7 @@ ghost use Rattle.icap_server.specs.Connection.{AnswersAll, AnswersFront};
 ghost use Rattle.icapd_program.specs.Once.{default_shown};
 ghost use Rattle.icap_services.specs.Texts.{shown};
 
-use crate::config::{DEFAULT_MAX, DEFAULT_PREVIEW, DEFAULT_TTL};
+use crate::config::{DEFAULT_MAX, DEFAULT_PREVIEW, DEFAULT_TAG, DEFAULT_TTL};
 use crate::error::Error;
 use adapt_bytes::MAX_INPUT;
 use icap_server::{NoMemory, ServeFault, Settings, serve};
@@ -40,7 +40,7 @@ fn default_settings(alloc: Global) -> Result<Settings, NoMemory>
     ensures { IfOk result (λ settings. shown settings ≡ default_shown) }
 {
     Ok(Settings {
-        istag: b"adapt-1".to_vec(alloc)?,
+        istag: DEFAULT_TAG.to_vec(alloc)?,
         max: DEFAULT_MAX,
         ttl: DEFAULT_TTL,
         preview: DEFAULT_PREVIEW,

@@ -1,21 +1,16 @@
-//! Streams in any pieces, errors at the byte that decides them, and the limit on a body.
+//! The ICAP server: streams in any pieces, errors at the byte that decides them, the limit on a body, and readers and writers
+//! that fail.
 
 mod streams;
 
-use crate::{NoMemory, ServeFault, ServerFault, ServerSide, Settings, serve};
+use crate::services::settings;
 use icap_head::is_still_front;
+use icap_server::{NoMemory, ServeFault, ServerFault, ServerSide, serve};
 use std::alloc::Global;
 use std::io::{self, ErrorKind, Read, Write};
 use streams::{ERRORS, STREAMS};
 
-fn settings(alloc: Global) -> Result<Settings, NoMemory> {
-    let tag = b"adapt-1".to_vec(alloc)?;
-    match Settings::new(tag, 16, 3600, 1024) {
-        Some(settings) => Ok(settings),
-        None => Err(NoMemory),
-    }
-}
-
+/// A connection of which nothing has come.
 fn new_side(alloc: Global) -> Result<ServerSide, NoMemory> {
     Ok(ServerSide::new(alloc, settings(alloc)?))
 }

@@ -1,6 +1,6 @@
 use Rattle.std.proofs.Common.{◌∙◌}
 use Rattle.toml.proofs.Views.{table_get}
-use Rattle.icapd_program.proofs.config.string_at.Goals as goal
+use Rattle.icapd_program.proofs.config.text_at.Goals as goal
 
 pub returns-in-Some : goal.returns-in-Some
 returns-in-Some c =
