@@ -1,5 +1,5 @@
 -- How an event of a message changes the number of bytes held.
-use Rattle.std.proofs.Common.{◌≡◌, ℕ, ◌+◌, ◌-◌, ◌≤◌, zero, suc, false, List, ◌∷◌, Option, Some, None, arith, refl, sym, subst, ap, ◌∙◌}
+use Rattle.std.proofs.Common.{◌≡◌, ℕ, ◌+◌, ◌-◌, ◌≤◌, zero, suc, Bool, false, List, ◌∷◌, Option, Some, None, arith, refl, sym, subst, ap, ◌∙◌}
 use Rattle.std.specs.Prelude.{nat_lt, cond}
 use Rattle.std.proofs.lemmas.Bool.Decides.{nat_tests}
 use Rattle.std.proofs.lemmas.Bool.{cond_both}
@@ -28,6 +28,10 @@ adds-in x n s c a = grind (arith, nat_tests)
 
 adds-ad : (x : Seen) (n : ℕ) → Sound x → x.closed ≡ false → Allows x (Ad n) → held_places (after x (Ad n)) ≡ held_places x + n
 adds-ad x n s c a = grind (arith, nat_tests)
+
+-- and those that are dropped aren't
+adds-none : (x : Seen) (n : ℕ) → Sound x → x.closed ≡ false → Allows x (In n) → keeps_original x ≡ false → held_places (after x (In n)) ≡ held_places x
+adds-none x n s c a d = let e = subst (λ (keeps : Bool). held_places (after x (In n)) ≡ held_places x + cond keeps n 0) d (adds-in x n s c a) in omega arith
 
 -- these leave as many
 
@@ -177,3 +181,9 @@ quiet w before t event l q = by_case (open_at t before) refl
     by_case (Some o) e =
         let is = taken w before t event o l e in
         step_of before t event o e ∙ no_step (held_places (shown o)) (held_places (after (shown o) event)) (stays (shown o) event is.sane is.unclosed is.allowed q)
+
+pub dropped : (w : Setting) (before : List WorldEvent) (t n : ℕ) (o : Opened) → IsLegalWorld w (Of t (In n) ∷ before) → open_at t before ≡ Some o → keeps_original (shown o) ≡ false
+    → bank_step before (Of t (In n)) ≡ None
+dropped w before t n o l e d =
+    let is = taken w before t (In n) o l e in
+    step_of before t (In n) o e ∙ no_step (held_places (shown o)) (held_places (after (shown o) (In n))) (adds-none (shown o) n is.sane is.unclosed is.allowed d)

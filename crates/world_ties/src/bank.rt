@@ -4,11 +4,12 @@ ghost use Rattle.std.specs.Prelude.{◌≡◌, ◌≤◌, ◌<◌, ◌↔◌, �
 ghost use Rattle.trace_core.specs.declared.history.Event.{Event};
 ghost use Rattle.trace_core.specs.declared.history.Plan.{Plan};
 ghost use Rattle.trace_core.specs.declared.history.Event.TheVariants.{In, Ad};
+ghost use Rattle.trace_core.specs.Held.{keeps_original};
 ghost use Rattle.plan_rules.specs.Claims.{least_claim};
 ghost use Rattle.world_core.specs.declared.event.WorldEvent.{WorldEvent};
 ghost use Rattle.world_core.specs.declared.event.WorldFault.TheVariants.{NoRoom, TooLow};
 ghost use Rattle.world_core.specs.WorldHistory.{Setting, Opened, open_at, was_opened, claimed};
-ghost use Rattle.world_core.specs.WorldFaults.{IsLegalWorld, world_fault};
+ghost use Rattle.world_core.specs.WorldFaults.{IsLegalWorld, world_fault, shown};
 ghost use Rattle.world_core.specs.WorldNeeds.{IsBook};
 ghost use Rattle.adapt_bytes.specs.declared.limits.TheConstants.{MAX_CAPACITY};
 ghost use Rattle.span_bank.specs.declared.step.BankStep.{BankStep};
@@ -73,9 +74,9 @@ pub fn bank_holds_the_book()
         → (book w events).held ≡ n }
 {}
 
-/// Which events of a message are steps: bytes that come and are kept are a `Grow` by their number; an end, a last
-/// chunk, the first byte of a response, a 204, a new beginning of the request and `Done` are none; every other one is a
-/// `Shrink`, or none.
+/// Which events of a message are steps: bytes that come and are kept are a `Grow` by their number; original bytes that
+/// come once the original is kept no more, an end, a last chunk, the first byte of a response, a 204, a new beginning
+/// of the request and `Done` are none; every other one is a `Shrink`, or none.
 pub fn events_are_their_steps()
     ensures grows { (w : Setting) (before : List WorldEvent) (t n : ℕ) (event : Event) (o : Opened)
         → IsLegalWorld w (WorldEvent.Of t event ∷ before) → open_at t before ≡ Some o → brings o event ≡ n → 1 ≤ n
@@ -86,4 +87,7 @@ pub fn events_are_their_steps()
     ensures quiet { (w : Setting) (before : List WorldEvent) (t : ℕ) (event : Event)
         → IsLegalWorld w (WorldEvent.Of t event ∷ before) → IsQuiet event
         → bank_step before (WorldEvent.Of t event) ≡ None }
+    ensures dropped { (w : Setting) (before : List WorldEvent) (t n : ℕ) (o : Opened)
+        → IsLegalWorld w (WorldEvent.Of t (In n) ∷ before) → open_at t before ≡ Some o → keeps_original (shown o) ≡ false
+        → bank_step before (WorldEvent.Of t (In n)) ≡ None }
 {}

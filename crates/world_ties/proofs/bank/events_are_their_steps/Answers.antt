@@ -1,4 +1,4 @@
-use Rattle.world_ties.proofs.Moving.{grows, only_brought, quiet}
+use Rattle.world_ties.proofs.Moving.{grows, only_brought, quiet, dropped}
 use Rattle.world_ties.proofs.bank.events_are_their_steps.Goals as goal
 
 pub returns-clause-grows : goal.returns-clause-grows
@@ -9,3 +9,6 @@ returns-clause-only c = only_brought
 
 pub returns-clause-quiet : goal.returns-clause-quiet
 returns-clause-quiet c = quiet
+
+pub returns-clause-dropped : goal.returns-clause-dropped
+returns-clause-dropped c = dropped
