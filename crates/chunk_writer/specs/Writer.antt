@@ -40,6 +40,10 @@ fresh head = record { head = head; head_out = 0; framing = []; framing_out = 0; 
 abbrev pub waiting : Writer → List ℕ
 waiting w = drop w.head_out w.head ++ drop w.framing_out w.framing
 
+-- no text is kept that is out
+abbrev pub KeepsNoText : Writer → Type 0
+KeepsNoText w = drop w.head_out w.head ≡ [] → w.head ≡ []
+
 -- with a chunk of n bytes begun
 abbrev pub begun : Writer → ℕ → Writer
 begun w n = record { head = w.head; head_out = w.head_out; framing = chunk_head n; framing_out = 0; left = n }
@@ -69,13 +73,6 @@ pub data IsFraming : List ℕ → Type 0 where
   size : (n : ℕ) → IsFraming (chunk_head n)
   tail : IsFraming crlf
   last : (ieof : Bool) → IsFraming (last_chunk ieof)
-
--- the rest of one framing text, without body bytes
-pub record IsFramingRest (text : List ℕ) : Type 0 where
-  pub framing : List ℕ
-  pub is_framing : IsFraming framing
-  pub from : ℕ
-  pub rest : text ≡ drop from framing
 
 -- What may come next.
 

@@ -2,7 +2,7 @@
 
 ghost use Rattle.std.specs.Prelude.{◌≡◌, ℕ, ◌+◌, ◌-◌, ◌<◌, ◌≤◌, ◌++◌, ◌⊎◌, List, [], length, drop, take, true, false, min};
 ghost use Rattle.span_tape.specs.Tape.{Tape};
-ghost use Rattle.chunk_writer.specs.Writer.{Writer, fresh, waiting, begun, fixed, sent_on, after_data, bytes_of, end_text, is_ending, data_text, chunk_text, next_text, FitsTurn};
+ghost use Rattle.chunk_writer.specs.Writer.{Writer, fresh, waiting, begun, fixed, sent_on, after_data, bytes_of, end_text, is_ending, data_text, chunk_text, next_text, FitsTurn, KeepsNoText};
 ghost use Rattle.chunk_writer.specs.Moves.{Moves};
 ghost use Rattle.adapt_bytes.specs.declared.limits.TheConstants.{COUNT_LIMIT};
 ghost use Rattle.chunk_writer.specs.declared.next.TheConstants.{MAX_CHUNK};
@@ -83,7 +83,7 @@ impl ChunkWriter {
         ensures left { self.new.left ≡ self.old.left }
         ensures head { (self.new.head ≡ self.old.head) ⊎ (self.new.head ≡ []) }
         ensures released { self.old.head_out ≡ length self.old.head → self.new.head ≡ [] }
-        ensures out { drop self.new.head_out self.new.head ≡ [] → self.new.head ≡ [] }
+        ensures out { KeepsNoText self.new }
     {
         if self.head_out == self.head.as_slice().len() {
             self.head = HeadText::Constant(b"");

@@ -18,9 +18,9 @@ use Rattle.chunk_writer.proofs.Moving.{Reaches, there}
 use Rattle.http_side.specs.declared.body.Framing.{Framing}
 use Rattle.http_relay.specs.declared.hop.Stage.{Stage}
 use Rattle.http_relay.specs.declared.hop.Stage.TheVariants as at
-use Rattle.http_relay.specs.Message.{length_of}
+use Rattle.http_relay.specs.Message.{is_chunks, length_of}
 use Rattle.adapt_sides.specs.Tapes.{chosen_delivered, chosen_received}
-use Rattle.http_relay.specs.Giving.{Front, GivesMessage, GivenAt, AsideAt, Decides, is_message, usr_events, hop_events, stage_then}
+use Rattle.http_relay.specs.Giving.{Front, GivesMessage, Waits, GivenAt, AsideAt, Decides, is_message, usr_events, hop_events, stage_then}
 use Rattle.adapt_sides.specs.Tapes.{IsUndelivered}
 use Rattle.trace_core.specs.Turns.{after_all, MayAllFollow}
 use Rattle.adapt_sides.specs.Tapes.{Follows, KeepsUndelivered}
@@ -181,7 +181,7 @@ same_message x f b head body taken w g =
       front = subst (λ (n : ℕ). Front f b (take n body) g.behind w.left) (sym s.0) g.front;
       there = omega (arith, g.there, s.0, s.1);
       within = subst (λ (m : ℕ). IfSome (length_of f) (λ n. m ≤ n)) (sym s.0) g.within;
-      waits = λ some. g.waits (omega (arith, some, s.0));
+      waits = λ some. subst (λ (n : ℕ). Waits (is_chunks f) (take n body) g.behind (waiting w)) (sym s.0) (g.waits (omega (arith, some, s.0)));
       all_out = λ h. (s.2 ∙ (g.all_out h).0, s.0 ∙ ((g.all_out h).1 ∙ sym s.1), subst (λ (m : ℕ). IfSome (length_of f) (λ n. m ≡ n)) (sym s.0) (g.all_out h).2);
     }
 

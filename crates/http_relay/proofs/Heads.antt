@@ -11,7 +11,8 @@ use Rattle.wire_kit.specs.Past.{Past}
 use Rattle.wire_kit.specs.declared.wire.Got.TheVariants as got
 use Rattle.http_relay.specs.Reading.{AtHead, GivesBack, Begins, SideRead, SideReads, JudgesHeadTo, ScannedTo, FitsHead, HeadTurn, IsBefore}
 use Rattle.adapt_sides.specs.Filling.{IsFilled}
-use Rattle.http_relay.specs.Source.{Agrees, known}
+use Rattle.http_relay.specs.Source.{Agrees}
+use Rattle.http_relay.specs.Message.{length_of}
 use Rattle.http_relay.specs.declared.source_body.SourceBody.{SourceBody}
 use Rattle.http_relay.proofs.Sides.{filled_more}
 use Rattle.adapt_sides.specs.declared.fault.RelayFault.{RelayFault}
@@ -258,7 +259,7 @@ begins_given_back old new read b s x count going =
     let one = s x count going in
     let k : SideReads old new [] [] [] = filled_more old new [] b.asks b.head b.body (b.raw ∙ sym (append-nil old.raw.items)) in (
       subst (λ (t : List ℕ). SideRead x [] t new) (append-nil read) (k.reads x [] read one.0),
-      λ len. subst (λ (t : SourceBody). Agrees x t) (sym b.body) (one.1 (subst (λ (t : SourceBody). IfSome x.plan.len (λ n. known t.framing ≡ Some n)) b.body len)),
+      λ len. subst (λ (t : SourceBody). Agrees x t) (sym b.body) (one.1 (subst (λ (t : SourceBody). IfSome x.plan.len (λ n. length_of t.framing ≡ Some n)) b.body len)),
     )
 
 scanned_given_back : (old new : SourceSide) (read : List ℕ) (result : Result Bool RelayFault) → GivesBack old new → ScannedTo result read old → ScannedTo result read new

@@ -11,7 +11,8 @@ use Rattle.trace_core.specs.declared.history.Seen.{Seen}
 use Rattle.http_relay.specs.Body.{ReadsOn}
 use Rattle.trace_core.specs.Turns.{after_all, MayAllFollow, AllAre, is_of_source, in_sum}
 use Rattle.http_relay.specs.Events.{source_events}
-use Rattle.http_relay.specs.Source.{known, MayTell, Agrees, BodyReads}
+use Rattle.http_relay.specs.Source.{MayTell, Agrees, BodyReads}
+use Rattle.http_relay.specs.Message.{length_of}
 use Rattle.http_relay.specs.declared.source_body.SourceBody.{SourceBody}
 
 pub sum_is : (n : ℕ) (ended : Bool) → in_sum (source_events n ended) ≡ n
@@ -54,23 +55,23 @@ may_tell s (suc n) false x f e a c =
     let some : 1 ≤ suc n = omega arith in
     let sum : x.received + suc n < COUNT_LIMIT = subst (λ (r : ℕ). r + suc n < COUNT_LIMIT) (sym a.received) f.sum in
     let len : IfSome x.plan.len (λ len. x.received + suc n ≤ len) =
-    subst (λ (r : ℕ). IfSome x.plan.len (λ len. r + suc n ≤ len)) (sym a.received) (at_len x.plan.len (known s.framing) (λ len. s.received + suc n ≤ len) a.len f.len) in
+    subst (λ (r : ℕ). IfSome x.plan.len (λ len. r + suc n ≤ len)) (sym a.received) (at_len x.plan.len (length_of s.framing) (λ len. s.received + suc n ≤ len) a.len f.len) in
     (c, (now, (some, sum), len), tt)
 may_tell s zero true x f e a c =
     let now : x.ended ≡ false = a.ended ∙ e in
-    let at : IfSome (known s.framing) (λ len. s.received ≡ len) = if_more (known s.framing) (λ len. s.received + zero ≡ len) (λ len. s.received ≡ len) (λ n h. omega (arith, h)) (f.end refl) in
+    let at : IfSome (length_of s.framing) (λ len. s.received ≡ len) = if_more (length_of s.framing) (λ len. s.received + zero ≡ len) (λ len. s.received ≡ len) (λ n h. omega (arith, h)) (f.end refl) in
     let len : IfSome x.plan.len (λ len. x.received ≡ len) =
-    subst (λ (r : ℕ). IfSome x.plan.len (λ len. r ≡ len)) (sym a.received) (at_len x.plan.len (known s.framing) (λ len. s.received ≡ len) a.len at) in
+    subst (λ (r : ℕ). IfSome x.plan.len (λ len. r ≡ len)) (sym a.received) (at_len x.plan.len (length_of s.framing) (λ len. s.received ≡ len) a.len at) in
     (c, (now, len), tt)
 may_tell s (suc n) true x f e a c =
     let now : x.ended ≡ false = a.ended ∙ e in
     let some : 1 ≤ suc n = omega arith in
     let sum : x.received + suc n < COUNT_LIMIT = subst (λ (r : ℕ). r + suc n < COUNT_LIMIT) (sym a.received) f.sum in
     let len : IfSome x.plan.len (λ len. x.received + suc n ≤ len) =
-    subst (λ (r : ℕ). IfSome x.plan.len (λ len. r + suc n ≤ len)) (sym a.received) (at_len x.plan.len (known s.framing) (λ len. s.received + suc n ≤ len) a.len f.len) in
-    let at : IfSome (known s.framing) (λ len. suc n + s.received ≡ len) = if_more (known s.framing) (λ len. s.received + suc n ≡ len) (λ len. suc n + s.received ≡ len) (λ m h. omega (arith, h)) (f.end refl) in
+    subst (λ (r : ℕ). IfSome x.plan.len (λ len. r + suc n ≤ len)) (sym a.received) (at_len x.plan.len (length_of s.framing) (λ len. s.received + suc n ≤ len) a.len f.len) in
+    let at : IfSome (length_of s.framing) (λ len. suc n + s.received ≡ len) = if_more (length_of s.framing) (λ len. s.received + suc n ≡ len) (λ len. suc n + s.received ≡ len) (λ m h. omega (arith, h)) (f.end refl) in
     let end : IfSome x.plan.len (λ len. suc n + x.received ≡ len) =
-    subst (λ (r : ℕ). IfSome x.plan.len (λ len. suc n + r ≡ len)) (sym a.received) (at_len x.plan.len (known s.framing) (λ len. suc n + s.received ≡ len) a.len at) in
+    subst (λ (r : ℕ). IfSome x.plan.len (λ len. suc n + r ≡ len)) (sym a.received) (at_len x.plan.len (length_of s.framing) (λ len. suc n + s.received ≡ len) a.len at) in
     (c, (now, (some, sum), len), (c, (now, end), tt))
 
 closed_too : (way : Framing) (text body : List ℕ) → IsBody way text body → IsClosedBody way text body
@@ -83,7 +84,7 @@ agrees_then : (s new : SourceBody) (n : ℕ) (ended : Bool) (x y : Seen) → Tol
 agrees_then s new n ended x y t e way count end a = record {
   received = omega (arith, t.count, count, a.received);
   ended = t.end (a.ended ∙ e) ∙ sym end;
-  len = subst (λ (p : Plan). IfSome p.len (λ len. known new.framing ≡ Some len)) (sym t.plan) (subst (λ (w : Framing). IfSome x.plan.len (λ len. known w ≡ Some len)) (sym way) a.len);
+  len = subst (λ (p : Plan). IfSome p.len (λ len. length_of new.framing ≡ Some len)) (sym t.plan) (subst (λ (w : Framing). IfSome x.plan.len (λ len. length_of w ≡ Some len)) (sym way) a.len);
 }
 
 -- so many bytes of the body were read, and its end

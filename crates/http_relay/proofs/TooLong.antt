@@ -10,46 +10,47 @@ use Rattle.http_side.specs.declared.body.BodyReader.{BodyReader}
 use Rattle.http_side.proofs.Ends.{over_is}
 use Rattle.adapt_sides.specs.declared.fault.RelayFault.TheVariants as faults
 use Rattle.http_relay.specs.Body.{ReadsOn}
-use Rattle.http_relay.specs.Source.{known, MayTell, Refuses}
+use Rattle.http_relay.specs.Source.{MayTell, Refuses}
+use Rattle.http_relay.specs.Message.{length_of}
 use Rattle.http_relay.specs.declared.source_body.SourceBody.{SourceBody}
 use Rattle.http_relay.proofs.Telling.{if_more}
 
 -- no more is read than the framing says
-read_within : (way : Framing) (text body : List ℕ) (r : BodyReader) → HasRead way text body r → IfSome (known way) (λ len. length body ≤ len)
+read_within : (way : Framing) (text body : List ℕ) (r : BodyReader) → HasRead way text body r → IfSome (length_of way) (λ len. length body ≤ len)
 read_within None text body r h = omega (arith, ap (λ (t : List ℕ). length t) h.1)
 read_within (Length n) text body r h = omega (arith, ap (λ (t : List ℕ). length t) h.0, h.1)
 read_within Chunked text body r h = tt
 read_within Close text body r h = tt
 
 -- a whole body is as long as the framing says
-whole_is : (way : Framing) (text body : List ℕ) → IsBody way text body → IfSome (known way) (λ len. length body ≡ len)
+whole_is : (way : Framing) (text body : List ℕ) → IsBody way text body → IfSome (length_of way) (λ len. length body ≡ len)
 whole_is None text body h = ap (λ (t : List ℕ). length t) h.1
 whole_is (Length n) text body h = ap (λ (t : List ℕ). length t) h.1 ∙ h.0
 whole_is Chunked text body h = tt
 whole_is Close text body h = tt
 
-closed_is : (way : Framing) (text body : List ℕ) → IsClosedBody way text body → IfSome (known way) (λ len. length body ≡ len)
+closed_is : (way : Framing) (text body : List ℕ) → IsClosedBody way text body → IfSome (length_of way) (λ len. length body ≡ len)
 closed_is None text body h = whole_is None text body h
 closed_is (Length n) text body h = whole_is (Length n) text body h
 closed_is Chunked text body h = tt
 closed_is Close text body h = tt
 
 -- what doesn't fit, although it is within the length, is too long to count
-passes : (s : SourceBody) (n : ℕ) (ended : Bool) → IfSome (known s.framing) (λ len. s.received + n ≤ len) → (ended ≡ true → IfSome (known s.framing) (λ len. s.received + n ≡ len))
-    → (MayTell s n ended → ⊥) → (COUNT_LIMIT ≤ s.received + n) × IfSome (known s.framing) (λ len. COUNT_LIMIT ≤ len)
+passes : (s : SourceBody) (n : ℕ) (ended : Bool) → IfSome (length_of s.framing) (λ len. s.received + n ≤ len) → (ended ≡ true → IfSome (length_of s.framing) (λ len. s.received + n ≡ len))
+    → (MayTell s n ended → ⊥) → (COUNT_LIMIT ≤ s.received + n) × IfSome (length_of s.framing) (λ len. COUNT_LIMIT ≤ len)
 passes s n ended within at not =
     let long : COUNT_LIMIT < s.received + n + 1 = lt_of_not-le (λ l. not (record { sum = omega (arith, l); len = within; end = at })) in
-    (omega (arith, long), if_more (known s.framing) (λ len. s.received + n ≤ len) (λ len. COUNT_LIMIT ≤ len) (λ len h. omega (arith, long, h)) within)
+    (omega (arith, long), if_more (length_of s.framing) (λ len. s.received + n ≤ len) (λ len. COUNT_LIMIT ≤ len) (λ len h. omega (arith, long, h)) within)
 
 pub too_long : (s : SourceBody) (raw out : List ℕ) (used n : ℕ) (ended : Bool) (new : BodyReader) → ReadsOn s.reader raw used (take n out) new → n ≤ length out → n ≤ length raw → ended ≡ is_over new
     → (MayTell s n ended → ⊥) → Refuses faults.Length s raw
 too_long s raw out used n ended new on l few over not x body text a b =
     let there : HasRead s.framing (text ++ take used raw) (body ++ take n out) new = on s.framing text body b.reads in
     let sum : length (body ++ take n out) ≡ s.received + n = omega (arith, length-append body (take n out), length-take-le n out l, a.received, b.count) in
-    let within : IfSome (known s.framing) (λ len. s.received + n ≤ len) =
-    subst (λ (k : ℕ). IfSome (known s.framing) (λ len. k ≤ len)) sum (read_within s.framing (text ++ take used raw) (body ++ take n out) new there) in
-    let at : ended ≡ true → IfSome (known s.framing) (λ len. s.received + n ≡ len) = λ e.
-    subst (λ (k : ℕ). IfSome (known s.framing) (λ len. k ≡ len)) sum
+    let within : IfSome (length_of s.framing) (λ len. s.received + n ≤ len) =
+    subst (λ (k : ℕ). IfSome (length_of s.framing) (λ len. k ≤ len)) sum (read_within s.framing (text ++ take used raw) (body ++ take n out) new there) in
+    let at : ended ≡ true → IfSome (length_of s.framing) (λ len. s.received + n ≡ len) = λ e.
+    subst (λ (k : ℕ). IfSome (length_of s.framing) (λ len. k ≡ len)) sum
     (whole_is s.framing (text ++ take used raw) (body ++ take n out) ((over_is s.framing (text ++ take used raw) (body ++ take n out) new there).0 (sym over ∙ e))) in
     let p = passes s n ended within at not in
     (omega (arith, p.0, few), p.1)
@@ -57,9 +58,9 @@ too_long s raw out used n ended new on l few over not x body text a b =
 pub too_long_closed : (s : SourceBody) → ((way : Framing) (text body : List ℕ) → HasRead way text body s.reader → IsClosedBody way text body) → (MayTell s 0 true → ⊥) → Refuses faults.Length s []
 too_long_closed s closed not x body text a b =
     let sum : length body ≡ s.received + 0 = omega (arith, a.received, b.count) in
-    let at : IfSome (known s.framing) (λ len. s.received + 0 ≡ len) =
-    subst (λ (k : ℕ). IfSome (known s.framing) (λ len. k ≡ len)) sum (closed_is s.framing text body (closed s.framing text body b.reads)) in
-    let within : IfSome (known s.framing) (λ len. s.received + 0 ≤ len) =
-    if_more (known s.framing) (λ len. s.received + 0 ≡ len) (λ len. s.received + 0 ≤ len) (λ len h. omega (arith, h)) at in
+    let at : IfSome (length_of s.framing) (λ len. s.received + 0 ≡ len) =
+    subst (λ (k : ℕ). IfSome (length_of s.framing) (λ len. k ≡ len)) sum (closed_is s.framing text body (closed s.framing text body b.reads)) in
+    let within : IfSome (length_of s.framing) (λ len. s.received + 0 ≤ len) =
+    if_more (length_of s.framing) (λ len. s.received + 0 ≡ len) (λ len. s.received + 0 ≤ len) (λ len h. omega (arith, h)) at in
     let p = passes s 0 true within (λ e. at) not in
     (omega (arith, p.0), p.1)

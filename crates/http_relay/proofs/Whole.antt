@@ -12,7 +12,7 @@ use Rattle.http_side.specs.declared.body.Framing.TheVariants as by
 use Rattle.http_relay.specs.declared.hop.Stage.{Stage}
 use Rattle.http_relay.specs.declared.hop.Stage.TheVariants as at
 use Rattle.http_side.specs.Refusals.{refusal}
-use Rattle.http_relay.specs.Message.{BodyTextOf, IsMessage, IsFrontOfMessage, length_of, is_chunked}
+use Rattle.http_relay.specs.Message.{BodyTextOf, IsMessage, IsFrontOfMessage, length_of, is_chunks}
 use Rattle.adapt_sides.specs.Tapes.{chosen_delivered, chosen_received}
 use Rattle.http_relay.specs.Giving.{Front, GivesMessage, GivenAt, AsideAt, IsAside, Hop}
 use Rattle.http_relay.specs.Giving.Front.{plain, run, over}
@@ -40,7 +40,7 @@ record Continues (f : Framing) (body text : List ℕ) : Type 0 where
 parted : (n : ℕ) (body text : List ℕ) → text ≡ take n body → body ≡ text ++ drop n body
 parted n body text t = sym (ap (λ (xs : List ℕ). xs ++ drop n body) t ∙ take-append-drop n body)
 
-continues_plain : (f : Framing) (n : ℕ) (body text : List ℕ) → is_chunked f ≡ false → text ≡ take n body → IfSome (length_of f) (λ k. length body ≤ k) → Continues f body text
+continues_plain : (f : Framing) (n : ℕ) (body text : List ℕ) → is_chunks f ≡ false → text ≡ take n body → IfSome (length_of f) (λ k. length body ≤ k) → Continues f body text
 continues_plain by.None n body text c t l =
     let none : body ≡ [] = nil_of body l in
     record { more = []; behind = []; has_body = (append-nil body ∙ none, refl); rest = drop n body; whole = sym none ∙ parted n body text t }
@@ -56,7 +56,7 @@ continues_plain (by.Length k) n body text c t l =
 continues_plain by.Chunked n body text c t l = cc
 continues_plain by.Close n body text c t l = record { more = []; behind = body; has_body = sym (append-nil body); rest = drop n body; whole = parted n body text t }
 
-continues_run : (f : Framing) (n : ℕ) (body text : List ℕ) (left : ℕ) → is_chunked f ≡ true → n + left ≤ length body → Run (take n body) text left → Continues f body text
+continues_run : (f : Framing) (n : ℕ) (body text : List ℕ) (left : ℕ) → is_chunks f ≡ true → n + left ≤ length body → Run (take n body) text left → Continues f body text
 continues_run by.None n body text left c l r = cc
 continues_run (by.Length k) n body text left c l r = cc
 continues_run by.Chunked n body text left c l r =
@@ -100,13 +100,13 @@ front_at at.Whole x f head body taken w e l i g = cc
 front_at (at.Refusal status) x f head body taken w e l i g = cc
 
 -- the whole body's text
-whole_plain : (f : Framing) (body text : List ℕ) → is_chunked f ≡ false → text ≡ body → IfSome (length_of f) (λ n. length body ≡ n) → BodyTextOf f body text
+whole_plain : (f : Framing) (body text : List ℕ) → is_chunks f ≡ false → text ≡ body → IfSome (length_of f) (λ n. length body ≡ n) → BodyTextOf f body text
 whole_plain by.None body text c t l = let none : body ≡ [] = nil_of body (omega (arith, l)) in (none, t ∙ none)
 whole_plain (by.Length n) body text c t l = (l, t)
 whole_plain by.Chunked body text c t l = cc
 whole_plain by.Close body text c t l = t
 
-whole_chunks : (f : Framing) (body text chunks : List ℕ) → is_chunked f ≡ true → IsCut body chunks → text ≡ chunks ++ last_chunk false → BodyTextOf f body text
+whole_chunks : (f : Framing) (body text chunks : List ℕ) → is_chunks f ≡ true → IsCut body chunks → text ≡ chunks ++ last_chunk false → BodyTextOf f body text
 whole_chunks by.None body text chunks c i t = cc
 whole_chunks (by.Length n) body text chunks c i t = cc
 whole_chunks by.Chunked body text chunks c i t = record { chunks = chunks; is_cut = i; whole = t }
@@ -159,7 +159,7 @@ whole_front_at at.Whole x f head body taken w e l g = whole_front_of x f head bo
 whole_front_at (at.Refusal status) x f head body taken w e l g = cc
 
 -- Whatever comes behind what went out, some body that begins with that goes on.
-fills_run : (f : Framing) (body text : List ℕ) (left : ℕ) → is_chunked f ≡ true → Run body text left → Continues f body text
+fills_run : (f : Framing) (body text : List ℕ) (left : ℕ) → is_chunks f ≡ true → Run body text left → Continues f body text
 fills_run by.None body text left c r = cc
 fills_run (by.Length k) body text left c r = cc
 fills_run by.Chunked body text left c r =

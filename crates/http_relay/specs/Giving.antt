@@ -8,7 +8,8 @@ use Rattle.trace_core.specs.Legal.{Allows}
 use Rattle.trace_core.specs.Faults.{chooses_original}
 use Rattle.chunk_writer.specs.declared.next.Next.{Next}
 use Rattle.chunk_writer.specs.Cut.{IsCut, Run}
-use Rattle.chunk_writer.specs.Writer.{Writer, IsFramingRest, waiting, is_ending, end_text, FitsTurn}
+use Rattle.chunk_writer.specs.Writer.{Writer, waiting, is_ending, end_text, FitsTurn}
+use Rattle.chunk_writer.specs.Behind.{WaitsBehind}
 use Rattle.http_side.specs.Refusals.{refusal}
 use Rattle.http_side.specs.declared.body.Framing.{Framing}
 use Rattle.http_relay.specs.declared.hop.Stage.{Stage}
@@ -17,7 +18,7 @@ use Rattle.adapt_sides.specs.declared.fault.RelayFault.{RelayFault}
 use Rattle.adapt_sides.specs.Turns.{Gift}
 use Rattle.adapt_sides.specs.Turns.Gift.{nothing as no_gift, message as message_gift, refusal as refusal_gift}
 use Rattle.adapt_sides.specs.Tapes.{chosen_delivered, chosen_received, chosen_over, IsUndelivered}
-use Rattle.http_relay.specs.Message.{is_chunked, length_of}
+use Rattle.http_relay.specs.Message.{is_chunks, length_of}
 
 -- a next hop's end: the text that is on its way, how the body goes, what is written, whether a byte went out, and its fault
 pub record Hop : Type 0 where
@@ -29,9 +30,14 @@ pub record Hop : Type 0 where
 
 -- what is fixed of the body's text, these bytes of the body being in it; with its end or not
 pub data Front (framing : Framing) (whole : Bool) (body text : List ℕ) (left : ℕ) : Type 0 where
-  plain : is_chunked framing ≡ false → left ≡ 0 → text ≡ body → Front framing whole body text left
-  run : is_chunked framing ≡ true → whole ≡ false → Run body text left → Front framing whole body text left
-  over : is_chunked framing ≡ true → whole ≡ true → left ≡ 0 → (chunks : List ℕ) → IsCut body chunks → text ≡ chunks ++ last_chunk false → Front framing whole body text left
+  plain : is_chunks framing ≡ false → left ≡ 0 → text ≡ body → Front framing whole body text left
+  run : is_chunks framing ≡ true → whole ≡ false → Run body text left → Front framing whole body text left
+  over : is_chunks framing ≡ true → whole ≡ true → left ≡ 0 → (chunks : List ℕ) → IsCut body chunks → text ≡ chunks ++ last_chunk false → Front framing whole body text left
+
+-- what waits of a text that is fixed once a byte of the body is out: nothing behind a plain body; in chunks framing text behind these bytes
+abbrev pub Waits : Bool → (body fixed waits : List ℕ) → Type 0
+Waits false body fixed waits = waits ≡ []
+Waits true body fixed waits = WaitsBehind (Run body) fixed waits
 
 -- of a message with this head, these bytes were taken
 pub record GivesMessage (x : Seen) (framing : Framing) (whole : Bool) (head body taken : List ℕ) (w : Writer) : Type 0 where
@@ -40,8 +46,8 @@ pub record GivesMessage (x : Seen) (framing : Framing) (whole : Bool) (head body
   pub front : Front framing whole (take (chosen_delivered x) body) behind w.left
   pub there : chosen_delivered x + w.left ≤ chosen_received x
   pub within : IfSome (length_of framing) (λ n. chosen_delivered x ≤ n)
-  -- once a byte of the body is out, what waits spells the rest of a framing text
-  pub waits : 0 < chosen_delivered x → IsFramingRest (waiting w)
+  -- once a byte of the body is out, all that were counted are, and what waits is framing text behind them
+  pub waits : 0 < chosen_delivered x → Waits (is_chunks framing) (take (chosen_delivered x) body) behind (waiting w)
   pub all_out : whole ≡ true → (chosen_over x ≡ true) × (chosen_delivered x ≡ chosen_received x) × IfSome (length_of framing) (λ n. chosen_delivered x ≡ n)
 
 -- the bytes that the next hop took of a message: none yet, or a front of one; a refusal is no message
@@ -81,12 +87,12 @@ is_empty at.Empty = true
 is_empty _ = false
 
 abbrev pub body_end : Framing → List ℕ
-body_end framing = if is_chunked framing then last_chunk false else []
+body_end framing = if is_chunks framing then last_chunk false else []
 
 -- What comes next: of the chosen message's bytes that may go all that fit into a turn and into the chunk that was begun, and the
 -- body's end behind them where it stands there. Before a message is begun, and behind its end, nothing. So there is one such next.
 pub record Decides (x : Seen) (w : Writer) (framing : Framing) (stage : Stage) (next : Next) : Type 0 where
-  pub chunked : next.chunked ≡ is_chunked framing
+  pub chunked : next.chunked ≡ is_chunks framing
   pub from : next.from ≡ chosen_delivered x
   pub fits : FitsTurn w next.chunked next.count
   pub usr : 0 < next.count → (is_message stage ≡ true) × (x.closed ≡ false) × Allows x (Usr next.count)

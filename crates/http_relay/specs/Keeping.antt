@@ -20,15 +20,15 @@ use Rattle.http_side.specs.declared.body.Framing.TheVariants as by
 use Rattle.http_relay.specs.declared.hop.Stage.{Stage}
 use Rattle.http_relay.specs.declared.hop.Stage.TheVariants as at
 use Rattle.adapt_sides.specs.declared.fault.RelayFault.{RelayFault}
-use Rattle.http_relay.specs.Message.{is_chunked, length_of}
+use Rattle.http_relay.specs.Message.{is_chunks, length_of}
 use Rattle.http_side.specs.Refusals.{refusal}
 use Rattle.trace_core.specs.Turns.{is_of_hop}
 use Rattle.adapt_sides.specs.Tapes.{chosen_delivered, chosen_received, chosen_over}
-use Rattle.http_relay.specs.Giving.{Front, GivesMessage, GivenAt, IsAside, Hop, HasGiven}
+use Rattle.http_relay.specs.Giving.{Front, GivesMessage, Waits, GivenAt, IsAside, Hop, HasGiven}
 use Rattle.adapt_sides.specs.Tapes.{IsUndelivered}
 use Rattle.http_relay.specs.Giving.Front.{plain, run}
 
-begins_by : (f : Framing) (b : Bool) → is_chunked f ≡ b → Front f false [] [] 0
+begins_by : (f : Framing) (b : Bool) → is_chunks f ≡ b → Front f false [] [] 0
 begins_by f true e = run e refl (between refl no_chunk)
 begins_by f false e = plain e refl refl
 
@@ -40,7 +40,7 @@ pub message_begins : (x : Seen) (body head : List ℕ) (f : Framing) → chosen_
 message_begins x body head f z = record {
   behind = [];
   fixed_is = refl;
-  front = subst (λ (n : ℕ). Front f false (take n body) [] 0) (sym z) (begins_by f (is_chunked f) refl);
+  front = subst (λ (n : ℕ). Front f false (take n body) [] 0) (sym z) (begins_by f (is_chunks f) refl);
   there = omega arith;
   within = zero_fits (length_of f) (chosen_delivered x) z;
   waits = λ some. absurd (omega (arith, some, z));
@@ -122,15 +122,18 @@ message_kept : (x y : Seen) (f : Framing) (b : Bool) (head body more taken : Lis
 message_kept x y f b head body more taken w k l g = record {
   behind = g.behind;
   fixed_is = g.fixed_is;
-  front = subst (λ (xs : List ℕ). Front f b xs g.behind w.left) (sym (ap (λ (n : ℕ). take n (body ++ more)) k.out ∙ take-append-le (chosen_delivered x) body more (omega (arith, g.there)))) g.front;
+  front = subst (λ (xs : List ℕ). Front f b xs g.behind w.left) (sym same) g.front;
   there = omega (arith, g.there, k.out, k.came);
   within = subst (λ (m : ℕ). IfSome (length_of f) (λ n. m ≤ n)) (sym k.out) g.within;
-  waits = λ some. g.waits (omega (arith, some, k.out));
+  waits = λ some. subst (λ (xs : List ℕ). Waits (is_chunks f) xs g.behind (waiting w)) (sym same) (g.waits (omega (arith, some, k.out)));
   all_out = λ h.
       let all = g.all_out h in
       let still = k.over all.0 in
       (still.0, k.out ∙ (all.1 ∙ sym still.1), subst (λ (m : ℕ). IfSome (length_of f) (λ n. m ≡ n)) (sym k.out) all.2);
 }
+  where
+    same : take (chosen_delivered y) (body ++ more) ≡ take (chosen_delivered x) body
+    same = ap (λ (n : ℕ). take n (body ++ more)) k.out ∙ take-append-le (chosen_delivered x) body more (omega (arith, l, g.there))
 
 undelivered_kept : (x y : Seen) → Keeps x y → IsUndelivered x → IsUndelivered y
 undelivered_kept x y k h = (k.original ∙ h.0, k.adapted ∙ h.1)

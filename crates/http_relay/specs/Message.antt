@@ -1,9 +1,11 @@
 -- The text of an HTTP message: its head, then its body by its framing (RFC 9112, sections 6 and 7).
-use Rattle.std.specs.Prelude.{◌≡◌, ℕ, Bool, true, false, List, [], ◌++◌, length, Option, Some, None}
+use Rattle.std.specs.Prelude.{◌≡◌, ℕ, false, List, [], ◌++◌, length, Option, Some, None}
 use Rattle.icap_chunks.specs.Grammar.{last_chunk}
 use Rattle.chunk_writer.specs.Cut.{IsCut, IsPrefixOf}
 use Rattle.http_side.specs.declared.body.Framing.{Framing}
 use Rattle.http_side.specs.declared.body.Framing.TheVariants as by
+-- the body goes in chunks
+pub use Rattle.http_side.specs.Forward.{is_chunks}
 
 -- the body in chunks, cut in any way, and the last chunk
 pub record IsInChunks (body text : List ℕ) : Type 0 where
@@ -37,7 +39,3 @@ length_of by.None = Some 0
 length_of (by.Length n) = Some n
 length_of by.Chunked = None
 length_of by.Close = None
-
-abbrev pub is_chunked : Framing → Bool
-is_chunked by.Chunked = true
-is_chunked _ = false

@@ -10,7 +10,8 @@ use Rattle.trace_core.specs.declared.history.Event.{Event}
 use Rattle.trace_core.specs.declared.history.Seen.{Seen}
 use Rattle.wire_kit.specs.Past.{Past, ReadsAtMostOnce}
 use Rattle.trace_core.specs.Turns.{after_all, MayAllFollow, AllAre, in_sum, is_of_source}
-use Rattle.http_relay.specs.Source.{known, Agrees, BodyRead, IsCutShort, MustWait, Refuses}
+use Rattle.http_relay.specs.Source.{Agrees, BodyRead, IsCutShort, MustWait, Refuses}
+use Rattle.http_relay.specs.Message.{length_of}
 use Rattle.wire_kit.specs.declared.wire.Got.{Got}
 use Rattle.wire_kit.specs.declared.wire.Got.TheVariants as got
 use Rattle.adapt_sides.specs.Turns.{SaysWaiting, events_of, waits_of}
@@ -146,7 +147,7 @@ pub record ReadTurn (room : ℕ) (old new : SourceSide) (before after : Past →
 
 -- the message begins: of its body nothing was read, and its numbers are those of a history without In and End
 abbrev pub Begins : List ℕ → SourceSide → Type 0
-Begins read s = (x : Seen) → x.received ≡ 0 → x.ended ≡ false → SideRead x [] read s × (IfSome x.plan.len (λ len. known s.body.framing ≡ Some len) → Agrees x s.body)
+Begins read s = (x : Seen) → x.received ≡ 0 → x.ended ≡ false → SideRead x [] read s × (IfSome x.plan.len (λ len. length_of s.body.framing ≡ Some len) → Agrees x s.body)
 
 -- what judging the raw bytes gives: the message begins, or its head is still to come
 abbrev pub JudgesHeadTo : Result HeadProgress RelayFault → List ℕ → SourceSide → Type 0

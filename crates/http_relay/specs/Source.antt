@@ -1,36 +1,29 @@
 -- A source's body, as far as it was read.
-use Rattle.std.specs.Prelude.{◌≡◌, ℕ, ◌+◌, ◌<◌, ◌≤◌, ◌⊎◌, Bool, true, false, List, [], ◌++◌, length, Option, Some, None as Nothing, IfSome}
+use Rattle.std.specs.Prelude.{◌≡◌, ℕ, ◌+◌, ◌<◌, ◌≤◌, ◌⊎◌, Bool, true, false, List, [], ◌++◌, length, Some, IfSome}
 use Rattle.adapt_bytes.specs.declared.limits.TheConstants.{COUNT_LIMIT}
 use Rattle.icap_chunks.specs.declared.fault.ChunkFault.{ChunkFault}
 use Rattle.http_side.specs.Body.{HasRead, IsClosedBody}
 use Rattle.http_side.specs.declared.body.Framing.{Framing}
-use Rattle.http_side.specs.declared.body.Framing.TheVariants.{None, Length, Chunked, Close}
 use Rattle.trace_core.specs.declared.history.Event.{Event}
 use Rattle.trace_core.specs.declared.history.Seen.{Seen}
 use Rattle.http_relay.specs.Body.{IsBodyNext, IsBroken}
+use Rattle.http_relay.specs.Message.{length_of}
 use Rattle.trace_core.specs.Turns.{after_all, MayAllFollow, AllAre, is_of_source}
 use Rattle.http_relay.specs.declared.source_body.SourceBody.{SourceBody}
 use Rattle.adapt_sides.specs.declared.fault.RelayFault.{RelayFault}
 use Rattle.adapt_sides.specs.declared.fault.RelayFault.TheVariants as faults
 
--- the length that a framing tells
-abbrev pub known : Framing → Option ℕ
-known None = Some 0
-known (Length n) = Some n
-known Chunked = Nothing
-known Close = Nothing
-
 -- so many more bytes of the body may be told, and then its end
 pub record MayTell (s : SourceBody) (count : ℕ) (ended : Bool) : Type 0 where
   pub sum : s.received + count < COUNT_LIMIT
-  pub len : IfSome (known s.framing) (λ len. s.received + count ≤ len)
-  pub end : ended ≡ true → IfSome (known s.framing) (λ len. s.received + count ≡ len)
+  pub len : IfSome (length_of s.framing) (λ len. s.received + count ≤ len)
+  pub end : ended ≡ true → IfSome (length_of s.framing) (λ len. s.received + count ≡ len)
 
 -- its numbers are those of what is seen; a length that the plan knows is the framing's
 pub record Agrees (x : Seen) (s : SourceBody) : Type 0 where
   pub received : x.received ≡ s.received
   pub ended : x.ended ≡ s.ended
-  pub len : IfSome x.plan.len (λ len. known s.framing ≡ Some len)
+  pub len : IfSome x.plan.len (λ len. length_of s.framing ≡ Some len)
 
 -- of the text this was read, and these bytes of the body came; its end was told only where the text is a whole body
 pub record BodyRead (x : Seen) (body text : List ℕ) (s : SourceBody) : Type 0 where
@@ -58,5 +51,5 @@ IsCutShort s = (way : Framing) (text body : List ℕ) → HasRead way text body 
 abbrev pub Refuses : RelayFault → SourceBody → List ℕ → Type 0
 Refuses faults.Chunk s raw = (fault : ChunkFault) × IsBroken s.reader raw fault
 Refuses faults.Length s raw = (x : Seen) (body text : List ℕ) → Agrees x s → BodyRead x body text s
-    → (COUNT_LIMIT ≤ s.received + length raw) × IfSome (known s.framing) (λ len. COUNT_LIMIT ≤ len)
+    → (COUNT_LIMIT ≤ s.received + length raw) × IfSome (length_of s.framing) (λ len. COUNT_LIMIT ≤ len)
 Refuses _ s raw = ⊥

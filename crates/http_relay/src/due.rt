@@ -4,7 +4,7 @@ ghost use Rattle.std.specs.Prelude.{◌≡◌, ◌+◌, ◌≤◌, [], IfSome, t
 ghost use Rattle.trace_core.specs.History.{seen};
 ghost use Rattle.trace_core.specs.Legal.{IsGreatest, MayFollow};
 ghost use Rattle.chunk_writer.specs.Writer.{is_ending, end_text};
-ghost use Rattle.http_relay.specs.Message.{is_chunked, length_of};
+ghost use Rattle.http_relay.specs.Message.{is_chunks, length_of};
 ghost use Rattle.adapt_sides.specs.Tapes.{chosen_delivered, chosen_received, chosen_over};
 ghost use Rattle.http_relay.specs.Giving.{is_message, body_end, Decides, BreaksLength, hop_events};
 
@@ -86,7 +86,7 @@ fn is_begun(stage: Stage) -> bool
 }
 
 fn is_in_chunks(framing: Framing) -> bool
-    ensures { result ≡ is_chunked framing }
+    ensures { result ≡ is_chunks framing }
 {
     matches!(framing, Framing::Chunked)
 }

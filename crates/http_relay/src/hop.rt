@@ -3,7 +3,7 @@
 ghost use Rattle.std.specs.Prelude.{◌≡◌, ℕ, List, IfSome, IfErr, OnOk, Err, IsTrue, true, false, Some, None, [], ◌⊎◌, not, length};
 ghost use Rattle.trace_core.specs.declared.history.Seen.{Seen};
 ghost use Rattle.trace_core.specs.History.{seen};
-ghost use Rattle.chunk_writer.specs.Writer.{fresh, waiting};
+ghost use Rattle.chunk_writer.specs.Writer.{fresh, waiting, KeepsNoText};
 ghost use Rattle.http_side.specs.Refusals.{is_own_status, refusal};
 ghost use Rattle.adapt_sides.specs.Tapes.{KeepsUndelivered};
 ghost use Rattle.http_relay.specs.Giving.{Hop, HasGiven, IsAside, LetsGo, is_flushed, is_whole, is_empty, stage_then};
@@ -119,7 +119,8 @@ impl NextHop {
 
     /// Gives back the head's memory, once all of it is out.
     fn let_go(&mut self)
-        ensures { LetsGo self.old self.new }
+        ensures still { LetsGo self.old self.new }
+        ensures gone { KeepsNoText self.new.writer }
     {
         self.writer.release();
     }
@@ -155,6 +156,9 @@ impl NextHop {
         ensures faulted { IfSome self.old.fault (λ fault. result ≡ Err fault) }
         ensures keeps { IfErr result (λ fault. self.new.fault ≡ Some fault) }
         ensures sound { OnOk result (self.new.fault ≡ None) }
+
+        // A head that is out is kept no longer.
+        ensures gone { OnOk result (KeepsNoText self.new.writer) }
     {
         if let Some(fault) = self.fault {
             return Err(fault);
@@ -174,7 +178,10 @@ impl NextHop {
                 self.fault = Some(RelayFault::Device);
                 Err(RelayFault::Device)
             }
-            Some(Put::Wait) => Ok(turn_of(0, false, false)),
+            Some(Put::Wait) => {
+                self.let_go();
+                Ok(turn_of(0, false, false))
+            }
             Some(Put::Took(_)) => {
                 self.touched = true;
                 let done = self.settle(wrote.sent, wrote.ended, may);
@@ -183,6 +190,7 @@ impl NextHop {
             }
             None => {
                 let done = self.settle(0, wrote.ended, may);
+                self.let_go();
                 Ok(turn_of(0, done, false))
             }
         }

@@ -4,7 +4,8 @@ ghost use Rattle.std.specs.Prelude.{◌≡◌, ℕ, ◌+◌, ◌<◌, ◌≤◌,
 ghost use Rattle.http_side.specs.Body.{HasRead};
 ghost use Rattle.trace_core.specs.Turns.{in_sum};
 ghost use Rattle.http_relay.specs.Events.{source_events};
-ghost use Rattle.http_relay.specs.Source.{Agrees, MayTell, BodyReads, IsCutShort, MustWait, Refuses, known};
+ghost use Rattle.http_relay.specs.Source.{Agrees, MayTell, BodyReads, IsCutShort, MustWait, Refuses};
+ghost use Rattle.http_relay.specs.Message.{length_of};
 
 use crate::body::read_body;
 use adapt_bytes::COUNT_LIMIT;
@@ -72,7 +73,7 @@ impl SourceBody {
 
     /// Whether nothing of it was told yet, and this length, if there is one, is the framing's.
     pub(crate) fn begins(&self, len: Option<u64>) -> bool
-        ensures { IsTrue result ↔ ((self.now.received ≡ 0) × (self.now.ended ≡ false) × IfSome len (λ n. known self.now.framing ≡ Some n)) }
+        ensures { IsTrue result ↔ ((self.now.received ≡ 0) × (self.now.ended ≡ false) × IfSome len (λ n. length_of self.now.framing ≡ Some n)) }
     {
         self.received == 0 && !self.ended && self.has_length(len)
     }
@@ -86,7 +87,7 @@ impl SourceBody {
 
     /// Whether this length, if there is one, is the framing's.
     fn has_length(&self, len: Option<u64>) -> bool
-        ensures { IsTrue result ↔ IfSome len (λ n. known self.now.framing ≡ Some n) }
+        ensures { IsTrue result ↔ IfSome len (λ n. length_of self.now.framing ≡ Some n) }
     {
         match (len, self.framing) {
             (None, _) => true,

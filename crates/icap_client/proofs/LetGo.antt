@@ -6,12 +6,13 @@ use Rattle.span_tape.specs.Tape.{Tape}
 use Rattle.wire_kit.specs.Past.{Past}
 use Rattle.wire_kit.specs.declared.wire.Put.{Put}
 use Rattle.chunk_writer.specs.declared.next.Next.{Next}
-use Rattle.chunk_writer.specs.Writer.{Writer, IsFraming, IsFramingRest, after_data}
+use Rattle.chunk_writer.specs.Writer.{Writer, IsFraming, after_data}
+use Rattle.chunk_writer.specs.Behind.{WaitsBehind}
 use Rattle.chunk_writer.specs.Moves.{Moves}
 use Rattle.chunk_writer.specs.Moves.Moves.{start, passed, begun_chunk, sent, ended}
 use Rattle.adapt_sides.specs.declared.turn.Turn.{Turn}
 use Rattle.adapt_sides.specs.declared.fault.ClientFault.{ClientFault}
-use Rattle.icap_client.specs.Front.{Front}
+use Rattle.icap_client.specs.Front.{Front, HasBody}
 use Rattle.icap_client.specs.Sending.{HasSent, LetsGo, NothingDue}
 use Rattle.icap_client.specs.Turns.{WriteTurn, FitsOffer, is_flushed}
 
@@ -23,7 +24,7 @@ sent_still head x came taken old new l h = record {
   there = omega (arith, h.there, l.left);
   in_preview = subst (λ (n : ℕ). IfSome (open_preview x) (λ p. x.sent + n ≤ p)) (sym l.left) h.in_preview;
   framing = subst IsFraming (sym l.framing) h.framing;
-  waits = λ some. subst IsFramingRest (sym l.waiting_is) (h.waits some);
+  waits = λ some. subst (WaitsBehind (HasBody (take x.sent came)) h.chunks) (sym l.waiting_is) (h.waits some);
 }
 
 pub due_still : (x : Seen) (old new : Writer) → LetsGo old new → NothingDue x old → NothingDue x new

@@ -10,12 +10,13 @@ use Rattle.trace_core.specs.Legal.{Allows, open_preview, preview_size}
 use Rattle.trace_core.specs.View.{after}
 use Rattle.icap_client.specs.RequestText.{is_null, BodyText}
 use Rattle.chunk_writer.specs.Cut.IsCut.{no_chunk}
-use Rattle.icap_client.specs.Front.{Front}
+use Rattle.icap_client.specs.Front.{Front, HasBody}
 use Rattle.chunk_writer.specs.Cut.Run.{between}
 use Rattle.icap_client.specs.Front.Front.{null, first, rest, over}
 use Rattle.icap_client.specs.Sending.{HasSent, NothingDue}
 use Rattle.icap_client.specs.Events.{is_of_sending}
-use Rattle.chunk_writer.specs.Writer.{Writer, fresh}
+use Rattle.chunk_writer.specs.Writer.{Writer, waiting, fresh}
+use Rattle.chunk_writer.specs.Behind.{WaitsBehind}
 use Rattle.chunk_writer.specs.Writer.IsFraming.{none}
 
 begins_by : (plan : Plan) (b : Bool) → is_null plan.len ≡ b → Front (seen plan []) [] [] 0
@@ -61,16 +62,19 @@ preview_moved x y n m h =
     (subst (λ (b : Bool). IfSome (if b then None else preview_size y.plan.kind) (λ p. x.sent + n ≤ p)) (sym m.stopped)
     (subst (λ (p : Plan). IfSome (if x.stopped then None else preview_size p.kind) (λ p. x.sent + n ≤ p)) (sym m.plan) h))
 
+-- the bytes that were sent are the same
+same_sent : (x y : Seen) (came more : List ℕ) → Same x y → length came ≡ x.received → x.sent ≤ x.received → take y.sent (came ++ more) ≡ take x.sent came
+same_sent x y came more m l t = ap (λ (n : ℕ). take n (came ++ more)) m.sent ∙ take-append-le x.sent came more (omega (arith, t))
+
 moved : (head : List ℕ) (x y : Seen) (came more taken : List ℕ) (w : Writer) → Same x y → length came ≡ x.received → HasSent head x came taken w → HasSent head y (came ++ more) taken w
 moved head x y came more taken w m l h = record {
   chunks = h.chunks;
   fixed = h.fixed;
-  front = subst (λ (body : List ℕ). Front y body h.chunks w.left) (sym (ap (λ (n : ℕ). take n (came ++ more)) m.sent ∙ take-append-le x.sent came more (omega (arith, h.there))))
-      (front_moved x y (take x.sent came) h.chunks w.left m h.front);
+  front = subst (λ (body : List ℕ). Front y body h.chunks w.left) (sym (same_sent x y came more m l (omega (arith, h.there)))) (front_moved x y (take x.sent came) h.chunks w.left m h.front);
   there = omega (arith, h.there, m.sent, m.received);
   in_preview = preview_moved x y w.left m h.in_preview;
   framing = h.framing;
-  waits = λ some. h.waits (omega (arith, some, m.sent));
+  waits = λ some. subst (λ (body : List ℕ). WaitsBehind (HasBody body) h.chunks (waiting w)) (sym (same_sent x y came more m l (omega (arith, h.there)))) (h.waits (omega (arith, some, m.sent)));
 }
 
 same_by : (x y : Seen) → y.plan ≡ x.plan → y.stopped ≡ x.stopped → y.last_stop ≡ x.last_stop → y.ieof ≡ x.ieof → y.sent ≡ x.sent → x.received ≤ y.received → Same x y

@@ -9,11 +9,13 @@ use Rattle.trace_core.specs.Legal.{Allows, MaySend, open_preview}
 use Rattle.trace_core.specs.View.{ieof_now}
 use Rattle.span_tape.specs.Tape.{Tape}
 pub use Rattle.adapt_sides.specs.Tapes.{KeepsUnsent}
-use Rattle.chunk_writer.specs.Writer.{Writer, waiting, IsFraming, IsFramingRest, is_ending, end_text, FitsTurn}
+use Rattle.chunk_writer.specs.Writer.{Writer, waiting, IsFraming, is_ending, end_text, FitsTurn}
+pub use Rattle.chunk_writer.specs.Writer.{KeepsNoText}
+use Rattle.chunk_writer.specs.Behind.{WaitsBehind}
 use Rattle.chunk_writer.specs.declared.next.Next.{Next}
 use Rattle.icap_client.specs.RequestText.{is_null}
 use Rattle.icap_client.specs.Events.{MayCome}
-use Rattle.icap_client.specs.Front.{Front}
+use Rattle.icap_client.specs.Front.{Front, HasBody}
 
 -- the text of the next zero chunk: nothing where there is no body
 abbrev pub stop_text : Seen → List ℕ
@@ -28,8 +30,8 @@ pub record HasSent (head : List ℕ) (x : Seen) (came taken : List ℕ) (w : Wri
   pub there : x.sent + w.left ≤ x.received
   pub in_preview : IfSome (open_preview x) (λ p. x.sent + w.left ≤ p)
   pub framing : IsFraming w.framing
-  -- once a byte of the body is out, what waits spells the rest of a framing text
-  pub waits : 0 < x.sent → IsFramingRest (waiting w)
+  -- once a byte of the body is out, all that were counted are, and what waits is framing text behind them
+  pub waits : 0 < x.sent → WaitsBehind (HasBody (take x.sent came)) chunks (waiting w)
 
 -- The text of a request's heads, as it is let go once it is out: what waits stays.
 pub record LetsGo (old new : Writer) : Type 0 where
@@ -40,10 +42,6 @@ pub record LetsGo (old new : Writer) : Type 0 where
 -- the text of the heads is the one it was, or none
 abbrev pub KeepsOrDrops : Writer → Writer → Type 0
 KeepsOrDrops old new = (new.head ≡ old.head) ⊎ (new.head ≡ [])
-
--- no text is kept that is out
-abbrev pub KeepsNoText : Writer → Type 0
-KeepsNoText w = drop w.head_out w.head ≡ [] → w.head ≡ []
 
 -- so many came, and the tape's bytes are the end of them
 pub record Came (x : Seen) (tape : Tape) (came : List ℕ) : Type 0 where

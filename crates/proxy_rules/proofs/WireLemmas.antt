@@ -1,5 +1,6 @@
 -- What the wires took, by what stands.
-use Rattle.std.proofs.Common.{◌≡◌, ℕ, ◌≤◌, ◌⊎◌, inl, inr, Bool, true, false, List, [], ◌∷◌, ◌++◌, length, Option, Some, None, MatchOption, IfSome, if◌then◌else◌, refl, ap, sym, ◌∙◌}
+use Rattle.std.proofs.Common.{◌≡◌, ℕ, ◌≤◌, ◌⊎◌, inl, inr, Bool, true, false, List, [], ◌∷◌, ◌++◌, length, take, Option, Some, None, MatchOption, IfSome, if◌then◌else◌, refl, ap, sym, subst, ◌∙◌}
+use Rattle.std.proofs.Math.Seq.{take-length}
 use Rattle.trace_core.specs.declared.history.Seen.{Seen}
 use Rattle.trace_core.specs.declared.history.Point.{Point}
 use Rattle.trace_core.specs.declared.history.Point.TheVariants.{Reqmod, Respmod}
@@ -8,7 +9,7 @@ use Rattle.trace_core.specs.History.{is_plain}
 use Rattle.trace_core.proofs.Sound.{sound}
 use Rattle.chunk_writer.specs.Writer.{Writer, waiting}
 use Rattle.http_side.specs.declared.body.Framing.{Framing}
-use Rattle.adapt_sides.specs.Tapes.{chosen, chosen_received}
+use Rattle.adapt_sides.specs.Tapes.{chosen, chosen_delivered, chosen_received}
 use Rattle.adapt_sides.specs.Turns.Gift.{message, refusal as refused_by}
 use Rattle.adapt_hold.specs.Spans.{EndsBody}
 use Rattle.adapt_hold.specs.Holding.{Holding, IsTied, shows}
@@ -20,7 +21,7 @@ use Rattle.http_relay.specs.declared.hop.Stage.{Stage}
 use Rattle.http_relay.specs.declared.hop.Stage.TheVariants as at
 use Rattle.http_relay.specs.Message.{IsFrontOfMessage, IsMessage, length_of}
 use Rattle.http_relay.specs.Giving.{Hop, HasGiven, GivesMessage, GivenAt, IsAside, AsideAt, gift_of}
-use Rattle.http_relay.proofs.Whole.{front_at, whole_front_at}
+use Rattle.http_relay.proofs.Whole.{front_at, out_front_at, whole_front_at}
 use Rattle.proxy_rules.specs.Wires.{TookNoMessage, TookFront, TookMessage, TookRequest, TookOne, OtherTook}
 
 pub received_is : (h : Holding) (body : List ℕ) → IsTied h → EndsBody h.original body → length body ≡ (shows h.history).received
@@ -67,8 +68,9 @@ pub aside_none : (taken : List ℕ) (h : Hop) → IsAside taken h → TookNoMess
 aside_none taken h a = aside_at h.stage taken h.writer a.text
 
 message_front : (made : List ℕ → Type 0) (whole : Bool) (x : Seen) (f : Framing) (head body taken : List ℕ) (w : Writer) → made head
+    → IsFrontOfMessage f head (take (chosen_delivered x) body) taken
     → (IfSome (length_of f) (λ n. chosen_received x ≤ n) → IsFrontOfMessage f head body taken) → GivesMessage x f whole head body taken w → TookFront made f x body taken
-message_front made whole x f head body taken w k i g = record {
+message_front made whole x f head body taken w k d i g = record {
   head = head;
   made_is = k;
   whole = whole;
@@ -78,14 +80,21 @@ message_front made whole x f head body taken w k i g = record {
   waits = waiting w;
   taken_is = g.fixed_is;
   waits_is = g.waits;
+  within = g.within;
+  delivered = d;
   front = i;
 }
+
+-- a whole message's body is just what was delivered
+whole_out_at : (x : Seen) (f : Framing) (head body taken : List ℕ) (w : Writer) → length body ≡ chosen_received x → GivesMessage x f true head body taken w → IsFrontOfMessage f head (take (chosen_delivered x) body) taken
+whole_out_at x f head body taken w l g = subst (λ (xs : List ℕ). IsFrontOfMessage f head xs taken)
+    (sym (ap (λ (n : ℕ). take n body) ((g.all_out refl).1 ∙ sym l) ∙ take-length body)) (whole_front_at at.Whole x f head body taken w refl l g)
 
 took_at : (made : List ℕ → Type 0) (stage : Stage) (x : Seen) (f : Framing) (head body taken : List ℕ) (w : Writer) → made head → gift_of stage ≡ message → length body ≡ chosen_received x → GivenAt stage x f head body taken w
     → TookFront made f x body taken
 took_at made at.Empty x f head body taken w k m l g = cc
-took_at made at.Message x f head body taken w k m l g = message_front made false x f head body taken w k (λ i. front_at at.Message x f head body taken w refl l i g) g
-took_at made at.Whole x f head body taken w k m l g = message_front made true x f head body taken w k (λ i. whole_front_at at.Whole x f head body taken w refl l g) g
+took_at made at.Message x f head body taken w k m l g = message_front made false x f head body taken w k (out_front_at at.Message x f head body taken w refl l g) (λ i. front_at at.Message x f head body taken w refl l i g) g
+took_at made at.Whole x f head body taken w k m l g = message_front made true x f head body taken w k (whole_out_at x f head body taken w l g) (λ i. whole_front_at at.Whole x f head body taken w refl l g) g
 took_at made (at.Refusal status) x f head body taken w k m l g = cc
 
 pub front_one : (made : List ℕ → Type 0) (x : Seen) (head body taken : List ℕ) (h : Hop) → made head → gift_of h.stage ≡ message → length body ≡ chosen_received x → HasGiven x head body taken h

@@ -5,7 +5,7 @@ use Rattle.trace_core.specs.declared.history.Point.TheVariants.{Reqmod, Respmod}
 use Rattle.trace_core.specs.declared.history.Seen.{Seen}
 use Rattle.trace_core.specs.History.{is_plain}
 use Rattle.chunk_writer.specs.Cut.{IsPrefixOf}
-use Rattle.chunk_writer.specs.Writer.{IsFramingRest}
+use Rattle.chunk_writer.specs.Behind.{WaitsBehind}
 use Rattle.http_side.specs.Refusals.{refusal}
 use Rattle.http_side.specs.declared.body.Framing.{Framing}
 use Rattle.adapt_sides.specs.Tapes.{chosen, chosen_delivered, chosen_received, IsUndelivered}
@@ -13,16 +13,18 @@ use Rattle.adapt_hold.specs.Spans.{EndsBody}
 use Rattle.adapt_hold.specs.Holding.{Holding, shows}
 use Rattle.adapt_turn.specs.Stands.{Texts, IsDone}
 use Rattle.icap_client.specs.RequestText.{IsFrontOfRequest}
-use Rattle.icap_client.specs.Front.{Front as Sent}
-use Rattle.http_relay.specs.Message.{IsFrontOfMessage, IsMessage, length_of}
-use Rattle.http_relay.specs.Giving.{Front}
+use Rattle.icap_client.specs.Front.{Front as Sent, HasBody}
+use Rattle.http_relay.specs.Message.{IsFrontOfMessage, IsMessage, length_of, is_chunks}
+use Rattle.http_relay.specs.Giving.{Front, Waits}
 
 -- nothing, or a front of one of the proxy's own refusals
 abbrev pub TookNoMessage : List ℕ → Type 0
 TookNoMessage taken = (taken ≡ []) ⊎ ((status : ℕ) × IsPrefixOf taken (refusal status))
 
 -- A front of one message with a head that was made: behind the head stands the text of just the bytes of this body that went out by
--- the history, and what of it isn't taken yet spells the rest of a framing text. As long as no more of the body came than the head says, it is a front of the whole message, however that goes on.
+-- the history, no more than the head says. All of these were taken, and what of the text isn't yet is framing text behind them. So
+-- it is a front of a message whose body begins with these; and as long as no more of the body came than the head says, of the whole
+-- message, however that goes on.
 pub record TookFront (made : List ℕ → Type 0) (framing : Framing) (x : Seen) (body taken : List ℕ) : Type 0 where
   pub head : List ℕ
   pub made_is : made head
@@ -32,7 +34,9 @@ pub record TookFront (made : List ℕ → Type 0) (framing : Framing) (x : Seen)
   pub body_is : Front framing whole (take (chosen_delivered x) body) behind left
   pub waits : List ℕ
   pub taken_is : taken ++ waits ≡ head ++ behind
-  pub waits_is : 0 < chosen_delivered x → IsFramingRest waits
+  pub waits_is : 0 < chosen_delivered x → Waits (is_chunks framing) (take (chosen_delivered x) body) behind waits
+  pub within : IfSome (length_of framing) (λ n. chosen_delivered x ≤ n)
+  pub delivered : IsFrontOfMessage framing head (take (chosen_delivered x) body) taken
   pub front : IfSome (length_of framing) (λ n. chosen_received x ≤ n) → IsFrontOfMessage framing head body taken
 
 -- one of these: no byte of a body went out by the history, or such a message
@@ -40,14 +44,14 @@ abbrev pub TookOne : (made : List ℕ → Type 0) → Framing → Seen → List 
 TookOne made framing x body taken = (IsUndelivered x × TookNoMessage taken) ⊎ TookFront made framing x body taken
 
 -- A front of one request with these heads: behind them stands the text of just the bytes of the original that went to the service by
--- the history, and what of it isn't taken yet spells the rest of a framing text.
+-- the history. All of these were taken, and what of the text isn't yet is framing text behind them.
 pub record TookRequest (x : Seen) (head came taken : List ℕ) : Type 0 where
   pub chunks : List ℕ
   pub left : ℕ
   pub body_is : Sent x (take x.sent came) chunks left
   pub waits : List ℕ
   pub taken_is : taken ++ waits ≡ head ++ chunks
-  pub waits_is : 0 < x.sent → IsFramingRest waits
+  pub waits_is : 0 < x.sent → WaitsBehind (HasBody (take x.sent came)) chunks waits
   pub front : IsFrontOfRequest x head came taken
 
 -- what the wire took that isn't the user's, of such a message or of none: at REQMOD the user is the source; at RESPMOD the source is

@@ -48,7 +48,7 @@ pub fn a_missing_head_is_of_a_side()
 /// Of a transaction of the proxy's own sides, wherever it stands: its source's wire gave a message with the original body, and its
 /// service's the adapted one. The service's wire took a front of the one request whose heads were offered at the beginning, with
 /// the original. One of the wires to the next hop and to the user took a front of one message with the chosen body, or of a refusal
-/// alone, and the other one nothing of a message. No byte of a body was taken that the history doesn't count. The message's head,
+/// alone, and the other one nothing of a message. Of the body just the bytes were taken that the history counts. The message's head,
 /// and how its body goes, were made of the heads that were read, at a moment of such a history. A refusal goes to the user alone.
 /// Where Done stands, the whole message was taken.
 pub fn the_wires_take_one_message<B: Ledgers, A: Wire, W: Wire, C: Wire>(

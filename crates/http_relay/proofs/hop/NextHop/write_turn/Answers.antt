@@ -64,11 +64,12 @@ returns-in-Some-Wait-clause-turn g c =
     let te = ap (λ (h : Hop). h.touched) c.self.view_is in
     let answer : wrote.answer ≡ Some put.Wait = search rules in
     let still = still_wait wrote.answer wrote.sent wrote.ended answer o.still in
-    turned x tape next c.args.self.now _ in'.writer in'.framing in'.stage _ _ (Ok c.turn_of.result) wrote.answer wrote.sent wrote.ended false we fe se
+    turned_let_go x tape c.args.self.now _ c.let_go.new.self _ _ (Ok c.turn_of.result) c.let_go.ensures.still
+    (turned x tape next c.args.self.now _ in'.writer in'.framing in'.stage _ _ (Ok c.turn_of.result) wrote.answer wrote.sent wrote.ended false we fe se
     (sound c.args.state.now.plan c.args.state.now.events c.trace.ensures.legal) c.requires c.in-Some-decide.ensures.next o.wire o.silent o.asks o.moves
     (settles_still x next c.args.self.now _ wrote.sent wrote.ended (delta_of text wrote.answer) still (no_delta_wait wrote.answer text answer) fe se te)
     (c.turn_of.ensures.events ∙ none_still wrote.sent wrote.ended still)
-    (λ no. fits_wait x _ wrote.answer c.turn_of.result answer c.turn_of.ensures.events (λ h. c.turn_of.ensures.goes h refl))
+    (λ no. fits_wait x _ wrote.answer c.turn_of.result answer c.turn_of.ensures.events (λ h. c.turn_of.ensures.goes h refl)))
 
 pub returns-in-Some-Took-clause-turn : goal.returns-in-Some-Took-clause-turn
 returns-in-Some-Took-clause-turn g c =
@@ -86,7 +87,7 @@ returns-in-Some-Took-clause-turn g c =
     let fe = ap (λ (h : Hop). h.framing) c.self.view_is in
     let se = ap (λ (h : Hop). h.stage) c.self.view_is in
     let answer : wrote.answer ≡ Some (put.Took c.in-Some-Took.field-0-0) = search rules in
-    turned_let_go x tape c.args.self.now c.settle-done.new.self c.let_go.new.self _ _ (Ok turn.result) c.let_go.ensures
+    turned_let_go x tape c.args.self.now c.settle-done.new.self c.let_go-in-Some-Took.new.self _ _ (Ok turn.result) c.let_go-in-Some-Took.ensures.still
     (turned x tape next c.args.self.now c.settle-done.new.self in'.writer in'.framing in'.stage _ _ (Ok turn.result) wrote.answer wrote.sent wrote.ended done we fe se
     (sound c.args.state.now.plan c.args.state.now.events c.trace.ensures.legal) c.requires c.in-Some-decide.ensures.next o.wire o.silent o.asks
     (subst (λ (v : Writer). Moves tape next in'.writer wrote.sent wrote.ended (delta_of text wrote.answer) v) (sym (ap (λ (h : Hop). h.writer) e.stage)) o.moves)
@@ -115,7 +116,8 @@ returns-in-None-answer-clause-turn g c =
     let idle = o.idle answer in
     let s = sound c.args.state.now.plan c.args.state.now.events c.trace.ensures.legal in
     let may = c.sendable-may.ensures.done in
-    turned x tape next c.args.self.now settle.new.self in'.writer in'.framing in'.stage _ _ (Ok turn.result) wrote.answer wrote.sent wrote.ended done we fe se
+    turned_let_go x tape c.args.self.now settle.new.self c.let_go-in-None-answer.new.self _ _ (Ok turn.result) c.let_go-in-None-answer.ensures.still
+    (turned x tape next c.args.self.now settle.new.self in'.writer in'.framing in'.stage _ _ (Ok turn.result) wrote.answer wrote.sent wrote.ended done we fe se
     s c.requires c.in-Some-decide.ensures.next o.wire o.silent o.asks
     (subst (λ (v : Writer). Moves tape next in'.writer wrote.sent wrote.ended (delta_of text wrote.answer) v) (sym (ap (λ (h : Hop). h.writer) e.stage)) o.moves)
     (settles_by x next c.args.self.now settle.new.self c.write-wrote.new.self in'.framing in'.stage in'.touched in'.fault wrote.sent 0 wrote.ended done c.sendable-may.result.done (delta_of text wrote.answer)
@@ -125,4 +127,4 @@ returns-in-None-answer-clause-turn g c =
     (subst (λ (v : Writer). IsIdle v next wrote.sent wrote.ended) we idle) turn.ensures.events
     (λ d. e.ended d (o.out answer)) (λ d w still_open a. e.may d (o.out answer) (ap is_whole se ∙ w) refl (may.1 (still_open, a)))
     (λ h. (turn.ensures.waits h).0) (λ h. turn.ensures.goes h refl)
-    (ap (λ (h : Hop). waiting h.writer) e.stage ∙ o.out answer) (ap (λ (h : Hop). h.stage) e.stage ∙ ap (λ (st : Stage). stage_then st wrote.ended) se))
+    (ap (λ (h : Hop). waiting h.writer) e.stage ∙ o.out answer) (ap (λ (h : Hop). h.stage) e.stage ∙ ap (λ (st : Stage). stage_then st wrote.ended) se)))
