@@ -116,7 +116,7 @@ fn one<B: Ledgers, R: Wait + Clock>(
 /// Whether no reservation is left of a budget.
 pub fn is_empty<B: Ledgers>(alloc: Global, bank: Bank<B>) -> bool {
     match bank.audit(Vec::new(alloc)) {
-        Ok(audit) => audit.rows == 0 && audit.held == 0 && audit.claimed == 0,
+        Ok(audit) => audit.rows == 0 && audit.held == 0 && audit.claimed == 0 && audit.pages == 0,
         Err((_, stakes, _)) => {
             stakes.destroy_empty();
             false
