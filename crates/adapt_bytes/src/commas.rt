@@ -1,4 +1,4 @@
-//! What stands between the commas of a list (RFC 9110, section 5.6.1).
+//! Comma-separated lists (RFC 9110, section 5.6.1).
 ghost use Rattle.std.specs.Prelude.{◌≡◌};
 ghost use Rattle.std.specs.Iterator.{YieldsFirstRef, item_count};
 ghost use Rattle.adapt_bytes.specs.Text.{comma_parts, comma_items, has_item, parts_left, items_left};
@@ -11,7 +11,7 @@ pub struct CommaParts<'a> {
     rest: Option<&'a [u8]>,
 }
 
-/// The parts of a list in their order, the empty ones included: one more than it has commas.
+/// The parts of a list in order, empty ones included: one more than the list has commas.
 pub fn comma_parts(text: &[u8]) -> CommaParts<'_>
     ensures { parts_left result ≡ comma_parts text.now }
 {
@@ -40,13 +40,13 @@ impl<'a> Iterator for CommaParts<'a> {
     }
 }
 
-/// The items of a list: its parts that aren't empty.
+/// The items of a list: its non-empty parts.
 #[derive(Debug, Drop)]
 pub struct CommaItems<'a> {
     parts: CommaParts<'a>,
 }
 
-/// The items of a list in their order, without the spaces and tabs around each; an empty part is none (RFC 9110,
+/// The items of a list in order, without the spaces and tabs around each. Empty parts are skipped (RFC 9110,
 /// section 5.6.1.2).
 #[tactic(auto, unfolding(crate::specs::Text::comma_items))]
 pub fn comma_items(text: &[u8]) -> CommaItems<'_>
@@ -74,7 +74,7 @@ impl<'a> Iterator for CommaItems<'a> {
     }
 }
 
-/// Whether an item of the list is the word, ASCII case ignored.
+/// Whether the list has this word as an item, ignoring ASCII case.
 pub fn has_item(list: &[u8], word: &[u8]) -> bool
     ensures { result ≡ has_item word.now list.now }
 {

@@ -1,4 +1,4 @@
-//! Numbers in bytes: read with any leading zeros, written with none, or with three digits.
+//! Numbers as text: reading accepts leading zeros; writing adds none, or pads a status to three digits.
 ghost use Rattle.std.specs.Prelude.{◌≡◌, ℕ, ◌+◌, ◌*◌, ◌^◌, ◌<◌, ◌≤◌, ◌++◌, length, map, IfSome, IfNone};
 ghost use Rattle.std.specs.Char.{digit_char, digit_value};
 ghost use Rattle.std.specs.Option.{SomeIff};
@@ -10,12 +10,12 @@ ghost use Rattle.adapt_bytes.specs.Numeral.{Writes, numeral, three_digits};
 use crate::limits::MAX_SMALL;
 use arrayvec::ArrayVec;
 
-/// A short text that is written without memory: at most `MAX_SMALL` bytes.
+/// A short text that is written without allocating: at most `MAX_SMALL` bytes.
 pub type Small = ArrayVec<u8, MAX_SMALL>;
 
 /// The number that a text spells in decimal: one or more digits, with any leading zeros, up to `2^64 - 1`.
 ///
-/// `None` where the text spells no such number.
+/// `None` if the text isn't such a number.
 pub fn read_decimal(bytes: &[u8]) -> Option<u64>
     ensures found { IfSome result (λ n. Writes 10 bytes.now n) }
     ensures none { IfNone result ((n : ℕ) → n < 2 ^ 64 → Writes 10 bytes.now n → ⊥) }
@@ -26,7 +26,7 @@ pub fn read_decimal(bytes: &[u8]) -> Option<u64>
 /// The number that a text spells in hexadecimal: one or more digits of either case, with any leading zeros, up to
 /// `2^64 - 1`.
 ///
-/// `None` where the text spells no such number.
+/// `None` if the text isn't such a number.
 pub fn read_hex(bytes: &[u8]) -> Option<u64>
     ensures found { IfSome result (λ n. Writes 16 bytes.now n) }
     ensures none { IfNone result ((n : ℕ) → n < 2 ^ 64 → Writes 16 bytes.now n → ⊥) }
@@ -50,7 +50,7 @@ fn read_digits(bytes: &[u8], base: u32) -> Option<u64>
     Some(value)
 }
 
-/// The number with one more digit behind it, where the byte is a digit and the number fits.
+/// The number with one more digit appended, if the byte is a digit and the number fits.
 fn with_digit(value: u64, byte: u8, base: u32) -> Option<u64>
     requires low { 2 ≤ base }
     requires high { base ≤ 16 }

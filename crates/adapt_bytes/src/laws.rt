@@ -5,17 +5,17 @@ ghost use Rattle.http_header.specs.Token.{lowercase};
 ghost use Rattle.adapt_bytes.specs.Fields.{FieldList, as_header_map, values_of};
 ghost use Rattle.adapt_bytes.specs.Numeral.{Writes, numeral, three_digits, HasNoLeadingZero, IsLowerCase};
 
-/// A text spells one number at most.
+/// A text spells at most one number.
 pub fn spells_one_number()
     ensures { (base m n : ℕ) (text : List ℕ) → Writes base text m → Writes base text n → m ≡ n }
 {}
 
-/// A numeral that was written is read again.
+/// A number that was written is read back as itself.
 pub fn reads_what_it_writes()
     ensures { (base n : ℕ) → 2 ≤ base → base ≤ 16 → Writes base (numeral base n) n }
 {}
 
-/// Three digits are read as the number that they were written for.
+/// Three digits are read back as the number that they were written for.
 pub fn three_digits_write_it()
     ensures { (n : ℕ) → n < 1000 → Writes 10 (three_digits n) n }
 {}
@@ -27,7 +27,7 @@ pub fn writes_the_only_short_spelling()
         → text ≡ numeral base n }
 {}
 
-/// How long a numeral is at most.
+/// The greatest length of a numeral.
 pub fn is_short()
     ensures { (base n k : ℕ) → 2 ≤ base → 0 < k → n < base ^ k → length (numeral base n) ≤ k }
 {}

@@ -1,4 +1,4 @@
-//! Limits that several crates share. They are ours: no RFC sets them.
+//! Limits that several crates share. No RFC sets them.
 
 /// Each number of bytes of a body that is read, counted or kept is below this, and so is their sum.
 pub const COUNT_LIMIT: u64 = 1 << 62;
@@ -7,10 +7,10 @@ pub const COUNT_LIMIT: u64 = 1 << 62;
 /// connections, this many are open at most.
 pub const MAX_CONNECTIONS: u64 = 1024;
 
-/// The bytes of a head that are judged, in HTTP and in ICAP: it has to end within them, its empty line included.
+/// The largest size of a head in HTTP and in ICAP, its empty line included, in bytes.
 pub const MAX_HEAD: usize = 16_384;
 
-/// The fields that a head may have, in HTTP and in ICAP.
+/// The largest number of fields of a head, in HTTP and in ICAP.
 pub const MAX_FIELDS: usize = 100;
 
 /// The greatest preview (RFC 3507, section 4.5) that may be configured, in bytes: as the most that the proxy sends, or as
@@ -20,20 +20,20 @@ pub const MAX_PREVIEW: u64 = 65_536;
 /// The greatest limit on a body that is kept for a 204 outside a preview (RFC 3507, section 4.6), in bytes.
 pub const MAX_ALLOW_LIMIT: u64 = 1_048_576;
 
-/// The greatest read-ahead window, in bytes.
+/// The largest read-ahead window, in bytes.
 pub const MAX_WINDOW: u64 = 65_536;
 
-/// The greatest text that a program takes, in bytes: a configuration, a script of events, chunks to read.
+/// The largest input that a program reads, in bytes: a configuration, a script of events, chunks to read.
 pub const MAX_INPUT: usize = 1_048_576;
 
-/// The greatest capacity of a buffer budget, in bytes.
+/// The largest capacity of a buffer budget, in bytes.
 pub const MAX_CAPACITY: u64 = 1 << 40;
 
-/// The most reservations that a buffer budget can have open.
+/// The largest number of reservations that a buffer budget can have open.
 pub const MAX_ROWS: u64 = 4096;
 
-/// The most bytes of a short text that is written without memory.
+/// The largest size of a short text that is written without allocating, in bytes.
 pub const MAX_SMALL: usize = 64;
 
-/// The greatest port (RFC 9293, section 3.1).
+/// The largest port (RFC 9293, section 3.1).
 pub const MAX_PORT: u64 = 65_535;

@@ -1,7 +1,7 @@
-//! Parts of a text.
+//! The first bytes of a text, and the rest.
 ghost use Rattle.std.specs.Prelude.{◌≡◌, ◌≤◌, length, take, drop};
 
-/// A first part of the text, of so many bytes where it is that long.
+/// The first `most` bytes of the text, or all of it if it is shorter.
 pub fn front(text: &[u8], most: usize) -> &[u8]
     ensures front { result.now ≡ take most text.now }
     ensures len { length result.now ≤ length text.now }
@@ -12,7 +12,7 @@ pub fn front(text: &[u8], most: usize) -> &[u8]
     &text[..text.len().min(most)]
 }
 
-/// The text without its first so many bytes; nothing, where it is no longer.
+/// The text without its first `from` bytes; empty if it is shorter.
 pub fn behind(text: &[u8], from: usize) -> &[u8]
     ensures { result.now ≡ drop from text.now }
 {

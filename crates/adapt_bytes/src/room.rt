@@ -7,6 +7,13 @@ use std::alloc::{AllocError, Global};
 use std::marker::Model;
 
 /// A text that is written into room of a known size; contracts see the text and the room that is left.
+///
+/// ```
+/// let mut room = Room::new(rt.alloc, 13)?;
+/// room.put(b"HTTP/1.1 ");
+/// room.put(b"200 ");
+/// assert_eq!(rt; room.into_vec(), b"HTTP/1.1 200 ");
+/// ```
 #[derive(Debug, Drop)]
 pub struct Room {
     bytes: Vec<u8>,
@@ -26,9 +33,9 @@ impl Model for Room {
 }
 
 impl Room {
-    /// Room for so many bytes.
+    /// An empty text with room for `size` bytes, in one allocation.
     ///
-    /// `AllocError` where no memory is found for them.
+    /// `AllocError` if that allocation fails.
     pub fn new(alloc: Global, size: usize) -> Result<Room, AllocError>
         ensures { IfOk result (λ room. (room.text ≡ []) × (room.left ≡ size) × (size < 2 ^ 63)) }
     {
@@ -39,7 +46,7 @@ impl Room {
         Ok(Room { bytes, written: 0 })
     }
 
-    /// Puts the bytes behind the text. It asks for room, and takes no memory.
+    /// Appends the bytes to the text. The caller ensures that there is room; nothing is allocated.
     pub fn put(&mut self, bytes: &[u8])
         requires { length bytes.now ≤ self.old.left }
         ensures { Puts self.old self.new bytes.now }

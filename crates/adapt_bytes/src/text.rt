@@ -3,14 +3,14 @@ ghost use Rattle.std.specs.Prelude.{◌≡◌, ◌↔◌, reverse, IsTrue};
 ghost use Rattle.std.specs.Str.{str_eq_ignore_ascii_case};
 ghost use Rattle.adapt_bytes.specs.Text.{is_token_byte, IsToken, is_blank, skip_blanks, trim};
 
-/// Whether two texts are the same but for the case of ASCII letters.
+/// Whether two texts are equal, ignoring ASCII case.
 pub fn same_ascii(a: &[u8], b: &[u8]) -> bool
     ensures { result ≡ str_eq_ignore_ascii_case a.now b.now }
 {
     a.eq_ignore_ascii_case(b)
 }
 
-/// Whether the text is a token: one or more of its bytes, and no others (RFC 9110, section 5.6.2).
+/// Whether the text is a token: one or more token characters, and nothing else (RFC 9110, section 5.6.2).
 pub fn is_token(text: &[u8]) -> bool
     ensures { IsTrue result ↔ IsToken text.now }
 {

@@ -18,7 +18,7 @@ rank ReqHdr = 0
 rank ResHdr = 1
 rank (Body body) = 2
 
--- the ranks rise, behind this part
+-- the ranks rise, after this part
 abbrev pub rises_from : Part → List Part → Bool
 rises_from last [] = true
 rises_from last (part ∷ parts) = nat_lt (rank last) (rank part) && rises_from part parts
@@ -37,7 +37,7 @@ body_part (Some body) = (Body body.0, body.1) ∷ []
 abbrev pub seen_parts : Seen → List (Part × ℕ)
 seen_parts s = if_there ReqHdr s.req_hdr ++ if_there ResHdr s.res_hdr ++ body_part s.body
 
--- what is seen are these parts; None where they are out of order, whatever comes behind them
+-- what is seen are these parts; None where they are out of order, whatever comes after them
 abbrev pub HasSeen : Option Seen → List (Part × ℕ) → Type 0
 HasSeen None parts = (more : List Part) → ¬ (IsTrue (ascends (names parts ++ more)))
 HasSeen (Some seen) parts = seen_parts seen ≡ parts
@@ -88,7 +88,7 @@ head_if false part = []
 abbrev pub heads_of : Row → List Part
 heads_of row = head_if row.req_hdr ReqHdr ++ head_if row.res_hdr ResHdr
 
--- whether some list has this body behind these heads, whatever their offsets
+-- whether some list has this body after these heads, whatever their offsets
 abbrev pub heads_fit : BodyPart → Option ℕ → Option ℕ → Bool
 heads_fit ReqBody req_hdr None = true
 heads_fit ReqBody req_hdr (Some offset) = false

@@ -4,7 +4,7 @@ ghost use Rattle.encapsulated.specs.Faults.{fault_number};
 
 use thiserror::Error;
 
-/// Why a list is refused. Of those that stand, the first in this order is answered.
+/// Why a list is refused. The first that applies, in this order, is returned.
 #[derive(Clone, Copy, Debug, PartialEq, Eq, Error)]
 pub enum EncFault {
     /// An item isn't a name, `=` and an offset of at most `2^64 - 1`, or there is no item.
@@ -16,7 +16,7 @@ pub enum EncFault {
     /// No list that the message may have begins with these parts.
     #[error("the list's parts don't belong to this message, or not in this order")]
     Order = 3,
-    /// The message may have these parts, and the body part behind them is missing.
+    /// The message may have these parts, but the body part that must follow them is missing.
     #[error("the list has no body part")]
     NoBodyPart = 4,
     /// The first offset isn't 0, or one is smaller than the one before.

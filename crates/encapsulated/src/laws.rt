@@ -18,7 +18,7 @@ pub fn reads_one_way()
         → IsLayout method direction text layout → IsLayout other opposite text same → layout ≡ same }
 {}
 
-/// A text is one layout of a message, or one fault stands; never both.
+/// A text is either one layout of a message, or one fault applies; never both.
 pub fn has_one_answer()
     ensures { (method : Method) (direction : Direction) (text : List ℕ) → HasOneAnswer method direction text }
 {}

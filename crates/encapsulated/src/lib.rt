@@ -1,11 +1,11 @@
 //! The Encapsulated list: which heads and which body a message carries, and at which offsets (RFC 3507, section 4.4.1).
 //!
-//! [`read`] takes the value of an Encapsulated field and answers a [`Layout`], or the first
-//! [`EncFault`] that stands; it takes no memory. [`write`] makes the text of a layout.
-//! Offsets are bytes from the first one behind the ICAP head.
+//! [`read`] takes the value of an Encapsulated field and returns a [`Layout`], or the first
+//! [`EncFault`] that applies; it never allocates. [`write`] makes the text of a layout.
+//! Offsets count bytes from the first byte after the ICAP head.
 //!
-//! Both know nothing of fields: what a missing or a second Encapsulated field means is for the caller to
-//! say. An empty value is [`EncFault::Syntax`].
+//! Neither looks at fields: the caller decides what a missing or a second Encapsulated field means.
+//! An empty value is [`EncFault::Syntax`].
 #![tactic(auto)]
 
 mod fault;

@@ -14,7 +14,7 @@ pub enum Method {
 }
 
 impl Method {
-    /// The method of this name, in exact case.
+    /// The method of this name, if it is one. Case matters.
     pub fn of_name(name: &[u8]) -> Option<Method>
         ensures some { IfSome result (λ method. name.now ≡ method_name method) }
         ensures none { IfNone result (NamesNoMethod name.now) }

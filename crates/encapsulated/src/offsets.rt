@@ -5,18 +5,25 @@ ghost use Rattle.encapsulated.specs.Order.{heads_fit};
 
 use crate::parts::BodyPart;
 
-/// Where each part of an encapsulated message begins, in bytes behind the ICAP head (RFC 3507, section 4.4.1).
+/// The parts of an encapsulated message and their offsets, in bytes after the ICAP head (RFC 3507, section 4.4.1).
 ///
-/// A head is as long as the next offset minus its own; how long a body is its chunks say.
+/// The length of a head is the next offset minus its own; the length of a body follows from its chunks.
+///
+/// ```
+/// let layout = read(Method::Reqmod, Direction::Request, b"req-hdr=0, req-body=147")?;
+/// assert_eq!(rt; layout.req_hdr, Some(0));
+/// assert_eq!(rt; layout.body, BodyPart::ReqBody);
+/// assert_eq!(rt; layout.offset, 147);
+/// ```
 #[derive(Clone, Copy, Debug, PartialEq, Eq)]
 pub struct Layout {
     /// The head of an HTTP request, where there is one.
     pub req_hdr: Option<u64>,
     /// The head of an HTTP response, where there is one.
     pub res_hdr: Option<u64>,
-    /// Which body follows.
+    /// The kind of body.
     pub body: BodyPart,
-    /// Where the body begins; of a null-body, where the last head ends.
+    /// The offset of the body; for null-body, the end of the last head.
     pub offset: u64,
 }
 

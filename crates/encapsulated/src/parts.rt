@@ -5,7 +5,7 @@ ghost use Rattle.encapsulated.specs.Grammar.{name_of};
 
 use adapt_bytes::same_ascii;
 
-/// The body that a message carries, or that it has none (RFC 3507, section 4.4.1).
+/// The kind of body that a message carries, or `null-body` (RFC 3507, section 4.4.1).
 #[derive(Clone, Copy, Debug, PartialEq, Eq)]
 pub enum BodyPart {
     /// `req-body`: the body of an HTTP request.
@@ -14,7 +14,7 @@ pub enum BodyPart {
     ResBody,
     /// `opt-body`: the body of an OPTIONS response.
     OptBody,
-    /// `null-body`: there is none.
+    /// `null-body`: no body.
     NullBody,
 }
 
@@ -45,7 +45,7 @@ impl Part {
     }
 }
 
-/// The part that has this name, whatever the case of its letters.
+/// The part of this name, ignoring ASCII case.
 pub(crate) fn part_named(name: &[u8]) -> Option<Part>
     ensures some { IfSome result (λ part. SameAscii name.now (name_of part)) }
     ensures none { IfNone result ((part : Part) → SameAscii name.now (name_of part) → ⊥) }

@@ -16,9 +16,9 @@ use adapt_bytes::comma_parts;
 
 /// Reads the value of an Encapsulated field of this kind of message (RFC 3507, section 4.4.1).
 ///
-/// Names are compared without the case of their letters, spaces and tabs may stand round each item,
-/// and offsets may have leading zeros. An OPTIONS request, of which the RFC has no row, may have
-/// null-body alone. The fault is the first that stands, in the order of [`EncFault`].
+/// Names are compared ignoring ASCII case. Spaces and tabs may surround each item, and offsets may
+/// have leading zeros. An OPTIONS request, for which the RFC has no row, may have only null-body.
+/// The fault is the first that applies, in the order of [`EncFault`].
 pub fn read(method: Method, direction: Direction, list: &[u8]) -> Result<Layout, EncFault>
     // A layout is answered exactly where the list is that layout.
     ensures ok { (layout : Layout) → (result ≡ Ok layout) ↔ IsLayout method direction list.now layout }

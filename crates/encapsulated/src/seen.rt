@@ -7,7 +7,7 @@ ghost use Rattle.encapsulated.specs.Order.{seen_parts, ascends, HasSeen, any_fro
 use crate::offsets::Layout;
 use crate::parts::{BodyPart, Part};
 
-/// The parts that a list has named so far, where they are in order.
+/// The parts that a list has named so far, while they are in order.
 #[derive(Clone, Copy, Debug, PartialEq, Eq)]
 pub(crate) struct Seen {
     req_hdr: Option<u64>,
@@ -30,7 +30,7 @@ impl Seen {
         body: None,
     };
 
-    /// With one more part behind them, where that part may still come.
+    /// These parts and one more, if that part may still come.
     fn with_part(self, part: Part, offset: u64) -> Option<Seen>
         ensures some { IfSome result (λ new. seen_parts new ≡ seen_parts self ++ (part, offset) ∷ []) }
         ensures none { IfNone result ((more : List Part)

@@ -1,4 +1,4 @@
-//! Lists are written with a comma and a space between each two items.
+//! Writing a list, with a comma and a space between items.
 ghost use Rattle.std.specs.Prelude.{◌≡◌, ◌++◌, ◌^◌, ◌<◌, IfOk, OnOk, IfSome};
 ghost use Rattle.encapsulated.specs.declared.message.Direction.{Direction};
 ghost use Rattle.encapsulated.specs.declared.message.Method.{Method};
@@ -11,11 +11,11 @@ use crate::parts::Part;
 use adapt_bytes::{Small, put_decimal};
 use std::alloc::Global;
 
-/// The text of a list that some message may have: `name=offset` for each part, in lower case and
-/// without leading zeros, joined by a comma and a space (RFC 3507, section 4.4.1). What is asked is what
+/// The text of a list: `name=offset` for each part, in lower case and without leading zeros, joined by
+/// a comma and a space (RFC 3507, section 4.4.1). The layout must be one that some message may have, as
 /// [`Layout::is_writable`] tests.
 ///
-/// [`NoMemory`] where the text finds no memory.
+/// [`NoMemory`] if the text finds no memory.
 pub fn write(alloc: Global, layout: &Layout) -> Result<Vec<u8>, NoMemory>
     requires { IsWritableLayout layout.now }
     ensures text { IfOk result (λ text. text.items ≡ written layout.now) }

@@ -17,14 +17,14 @@ IsBody (Length n) text body = (length text ≡ n) × (body ≡ text)
 IsBody Chunked text body = (ieof : Bool) × IsChunked text body ieof
 IsBody Close text body = ⊥
 
--- the text is a whole body where the connection closes behind it
+-- the text is a whole body where the connection closes after it
 abbrev pub IsClosedBody : Framing → List ℕ → List ℕ → Type 0
 IsClosedBody Close text body = body ≡ text
 IsClosedBody None text body = IsBody None text body
 IsClosedBody (Length n) text body = IsBody (Length n) text body
 IsClosedBody Chunked text body = IsBody Chunked text body
 
--- the reader has read these bytes of a body of this framing, none of them behind its end, and has found these of the body
+-- the reader has read these bytes of a body of this framing, none of them after its end, and has found these of the body
 abbrev pub HasRead : Framing → List ℕ → List ℕ → BodyReader → Type 0
 HasRead None text body r = (text ≡ []) × (body ≡ []) × (r.place ≡ Left 0)
 HasRead (Length n) text body r = (body ≡ text) × (length text ≤ n) × (r.place ≡ Left (n - length text))

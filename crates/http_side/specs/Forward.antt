@@ -105,7 +105,7 @@ request_fields authority fields =
 abbrev pub via_value : ℕ → List ℕ
 via_value minor = if minor == 0 then codes "1.0 adaptproxy" else codes "1.1 adaptproxy"
 
--- what is added behind them, each where it holds: how long the body is
+-- what is added after them, each where it holds: how long the body is
 abbrev pub framing_fields : Extra → List (List ℕ × List ℕ)
 framing_fields extra = when extra.empty (codes "Content-Length", codes "0") ++ when extra.chunked (codes "Transfer-Encoding", codes "chunked")
 
@@ -135,7 +135,7 @@ head_text first fields = first_line first ++ field_lines fields ++ codes "\r\n"
 abbrev pub request_line : List ℕ → List ℕ → List ℕ
 request_line method target = method ++ codes " " ++ target ++ codes " HTTP/1.1"
 
--- a status line keeps the space behind its status, also before an empty phrase
+-- a status line keeps the space after its status, also before an empty phrase
 abbrev pub status_line : ℕ → List ℕ → List ℕ
 status_line status phrase = codes "HTTP/1.1 " ++ three_digits status ++ codes " " ++ phrase
 
@@ -178,7 +178,7 @@ abbrev pub kept_length : Message → Option ℕ
 kept_length (Request r) = length_of r.now.fields
 kept_length (Response r) = if both_lengths r.now.fields then None else length_of r.now.fields
 
--- the message is an answer behind which no body follows, whatever its fields say
+-- the message is an answer after which no body follows, whatever its fields say
 abbrev pub has_no_place : Message → Bool
 has_no_place (Request r) = false
 has_no_place (Response r) = is_bare r.now
@@ -229,7 +229,7 @@ abbrev pub is_chunks : Framing → Bool
 is_chunks Chunked = true
 is_chunks _ = false
 
--- the user's connection ends behind the answer: an old user, `close` in the request, a body that isn't read, or an answer
+-- the user's connection ends after the answer: an old user, `close` in the request, a body that isn't read, or an answer
 -- that the close ends
 abbrev pub closes : Forward → Bool
 closes f = (f.user.now.minor == 0) || (is_named_by f.user.now.fields (codes "close") || (not f.body_read || is_close (next_framing f)))
@@ -242,7 +242,7 @@ is_none (Some x) = false
 abbrev pub gets_zero : Forward → Bool
 gets_zero f = is_response f.message && (not (has_no_place f.message) && (is_none (kept_length f.message) && not (has_body f.part f.message)))
 
--- an origin's connection always ends behind its answer
+-- an origin's connection always ends after its answer
 abbrev pub extra_of : Forward → Extra
 extra_of f = record { empty = gets_zero f; chunked = is_chunks (next_framing f); close = not (is_response f.message) || closes f; via = true }
 

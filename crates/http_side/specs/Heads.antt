@@ -64,7 +64,7 @@ pub record IsResponseAt (text : List ℕ) (parts : ResponseParts) (len : ℕ) : 
 abbrev pub judged : List ℕ → List ℕ
 judged text = take MAX_HEAD text
 
--- a head without an end among so many bytes: more may come, or it is too long
+-- a head without an end among this many bytes: more may come, or it is too long
 abbrev pub unended : ℕ → HttpFault
 unended len = if nat_lt len MAX_HEAD then More else TooLong
 

@@ -27,7 +27,7 @@ pub record ArePlaced (fields : List (List ℕ × List ℕ)) (names : List Placed
 abbrev pub has_place : ℕ → List PlacedName → Bool
 has_place i names = list_any (λ n. n.place == i) names
 
--- the names in front that are this one
+-- the first names that are this one
 abbrev pub run_of : List ℕ → List PlacedName → List PlacedName
 run_of name names = take_while (λ n. str_eq_ignore_ascii_case name n.name.now) names
 

@@ -12,12 +12,12 @@ abbrev pub is_port_number : Option ℕ → Bool
 is_port_number None = false
 is_port_number (Some n) = nat_lt 0 n && nat_le n MAX_PORT
 
--- behind the colon: nothing, or a decimal from 1 to 65,535
+-- after the colon: nothing, or a decimal from 1 to 65,535
 abbrev pub is_port : List ℕ → Bool
 is_port [] = true
 is_port (b ∷ digits) = is_port_number (length_value (b ∷ digits))
 
--- behind the host: nothing, or a colon and a port
+-- after the host: nothing, or a colon and a port
 abbrev pub is_port_part : List ℕ → Bool
 is_port_part [] = true
 is_port_part (b ∷ port) = b == 58 && is_port port
@@ -28,7 +28,7 @@ is_plain_authority authority =
     not (list_any (λ b. b == 64) authority)
     && (nat_lt 0 (length (authority_host authority)) && is_port_part (drop (length (authority_host authority)) authority))
 
--- behind `http://` and the authority stands a path
+-- a path follows `http://` and the authority
 abbrev pub has_path_behind : List ℕ → List ℕ → Bool
 has_path_behind authority text = slice_index (drop (length authority) (drop 7 text)) 0 == 47
 

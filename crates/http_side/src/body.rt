@@ -1,4 +1,4 @@
-//! Where an HTTP body ends (RFC 9112, section 6.3), and a reader of it that is fed in any pieces.
+//! The end of an HTTP body (RFC 9112, section 6.3), and a reader that is fed in pieces of any size.
 
 ghost use Rattle.std.specs.Prelude.{◌≡◌, ℕ, ◌+◌, ◌-◌, ◌<◌, ◌≤◌, ◌++◌, List, [], length, take, slice_range, Some, None, Err, IfOk, IfErr, IfSome, IsOkAnd, OnOk, IsTrue, ◌↔◌, true, if◌then◌else◌, false, is_some, min};
 ghost use Rattle.icap_chunks.specs.Faults.{Breaks};
@@ -14,17 +14,17 @@ use icap_chunks::{ChunkFault, ChunkReader, Fed};
 /// Where a body ends (RFC 9112, section 6.3).
 #[derive(Clone, Copy, Debug, PartialEq, Eq)]
 pub enum Framing {
-    /// There is none.
+    /// No body.
     None,
-    /// After so many bytes.
+    /// After this many bytes.
     Length(u64),
-    /// With its last chunk and the trailers behind it (RFC 9112, section 7.1).
+    /// After its last chunk and the trailers that follow it (RFC 9112, section 7.1).
     Chunked,
-    /// With the connection; in responses alone.
+    /// With the connection; in responses only.
     Close,
 }
 
-/// A reader of one body, fed in any pieces. It keeps numbers alone, and takes no memory.
+/// A reader of one body, fed in pieces of any size. It keeps numbers only and never allocates.
 #[derive(Clone, Copy, Debug, PartialEq, Eq)]
 pub struct BodyReader {
     place: Place,
@@ -33,7 +33,7 @@ pub struct BodyReader {
 /// What is left of a body.
 #[derive(Clone, Copy, Debug, PartialEq, Eq)]
 enum Place {
-    /// So many bytes.
+    /// This many bytes.
     Left(u64),
     Chunks(ChunkReader),
     /// All bytes up to the close.
@@ -41,7 +41,7 @@ enum Place {
 }
 
 impl BodyReader {
-    /// A reader of a body with this framing, none of which has been read.
+    /// A reader before the first byte of a body with this framing.
     pub fn new(framing: Framing) -> BodyReader
         ensures { HasRead framing [] [] result }
     {
@@ -54,18 +54,18 @@ impl BodyReader {
         BodyReader { place }
     }
 
-    /// Reads on in the piece, up to the end of a run of body bytes, of the body or of the piece. It never uses a byte behind
-    /// the body's end. After a fault, which only chunks can have, every feed answers it again.
+    /// Reads the next piece of input, up to the end of a run of body bytes, of the body or of the piece. It never uses
+    /// a byte after the body's end. After a fault, which only chunks can have, every call returns it again.
     pub fn feed(&mut self, piece: &[u8]) -> Result<Fed, ChunkFault>
         ensures within { IfOk result (λ fed. (fed.part.0 ≤ fed.part.1) × (fed.part.1 ≤ fed.used) × (fed.used ≤ length piece.now)) }
 
-        // What was read before, the bytes used behind it, and the body with the part.
+        // What was read before, then the bytes used; and the body so far, then the part.
         ensures read { IfOk result (λ fed. (framing : Way) (text body : List ℕ) → HasRead framing text body self.old
             → HasRead framing (text ++ take fed.used piece.now) (body ++ slice_range piece.now fed.part.0 fed.part.1) self.new) }
         ensures ended { IfOk result (λ fed. fed.ended ≡ end_said self.new) }
         ensures no_fault { OnOk result (fault_of self.new ≡ None) }
 
-        // It stops at the end of the body, or behind the whole of a run, and else behind the whole piece.
+        // It stops at the end of the body, or after a whole run, and else after the whole piece.
         ensures stops { IfOk result (λ fed. fed.used < length piece.now → fed.ended ≡ None
             → (fed.part.0 < fed.part.1) × (fed.used ≡ fed.part.1) × (is_in_data self.new ≡ false)) }
 
@@ -141,7 +141,7 @@ impl BodyReader {
         }
     }
 
-    /// Whether the body is whole where the connection closes here.
+    /// Whether the body is complete if the connection closes now.
     pub fn at_close(&self) -> bool
         ensures { (framing : Way) (text body : List ℕ) → HasRead framing text body self.now → (IsTrue result ↔ IsClosedBody framing text body) }
     {

@@ -1,4 +1,4 @@
-//! Which fields of a head Connection names (RFC 9110, section 7.6.1).
+//! The fields of a head that Connection names (RFC 9110, section 7.6.1).
 ghost use Rattle.std.specs.Prelude.{◌≡◌, ℕ, ◌<◌, ◌≤◌, All, ◌||◌, false, length, slice_index_or};
 ghost use Rattle.std.specs.Str.{str_eq_ignore_ascii_case};
 ghost use Rattle.adapt_bytes.specs.Text.{has_item};
@@ -21,7 +21,7 @@ pub(crate) fn is_named_by(fields: &Fields<'_>, name: &[u8]) -> bool
     false
 }
 
-/// A value of Connection with no more bytes than these has so few items that each may go over all fields.
+/// For a Connection value of at most this many bytes, each item is compared with all fields.
 const SHORT_VALUE: usize = 64;
 
 /// Which fields Connection names, by their places.
@@ -39,8 +39,8 @@ pub(crate) fn named_fields(fields: &Fields<'_>) -> [bool; MAX_FIELDS]
     }
 }
 
-/// The same where Connection may have many items. Each is searched for among the fields' names in order, where those of one
-/// name stand together, and no field is marked twice.
+/// Which fields Connection names, if it may have many items. Each item is looked up among the sorted field names, where
+/// equal names stand together, and no field is marked twice.
 fn searched_fields(fields: &Fields<'_>) -> [bool; MAX_FIELDS]
     ensures { AreNamed fields.now result }
 {
@@ -82,7 +82,7 @@ fn mark_found(named: &mut [bool], fields: &Fields<'_>, names: &[PlacedName<'_>],
     }
 }
 
-/// Marks the fields at the places of the names in front that are the item.
+/// Marks the fields at the places of the first names, those that are the item.
 fn mark_run(named: &mut [bool], names: &[PlacedName<'_>], item: &[u8])
     requires { All (λ n. n.place < length named.old) names.now }
     ensures size { length named.new ≡ length named.old }

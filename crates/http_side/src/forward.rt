@@ -1,5 +1,5 @@
-//! What goes on to the next hop and to a service: the framing, the end of the user's connection, and the heads (RFC 9112,
-//! sections 6 and 9.6; RFC 9110, section 7.6).
+//! What is forwarded to the next hop and to a service: the framing, the end of the user's connection, and the heads
+//! (RFC 9112, sections 6 and 9.6; RFC 9110, section 7.6).
 ghost use Rattle.std.specs.Prelude.{◌≡◌, length, IfOk};
 ghost use Rattle.std.specs.Vec.{vec_capacity};
 ghost use Rattle.http_side.specs.Lengths.{content_length, coding};
@@ -15,7 +15,7 @@ use crate::targets::authority_of;
 use crate::writing::{Extra, written_head};
 use std::alloc::{AllocError, Global};
 
-/// A head that goes on: a request to an origin, or a response to the user.
+/// A head to forward: a request to an origin, or a response to the user.
 #[derive(Clone, Copy, Debug)]
 pub enum Message<'a> {
     /// A request, the user's or an adapted one.
@@ -24,7 +24,7 @@ pub enum Message<'a> {
     Response(&'a HttpResponse),
 }
 
-/// What follows the head.
+/// The body that follows the head.
 #[derive(Clone, Copy, Debug, PartialEq, Eq)]
 pub enum Part {
     /// The message is the original: its own framing says.
@@ -40,7 +40,7 @@ pub enum Part {
 pub struct Forward<'u, 'm> {
     /// The user's own request: its target names the origin, and its version and Connection say what the user can take.
     pub user: &'u HttpRequest,
-    /// What goes on.
+    /// The head to forward.
     pub message: Message<'m>,
     /// What follows its head.
     pub part: Part,
@@ -58,7 +58,7 @@ pub struct Encapsulated<'u, 'm> {
 }
 
 impl<'a> Message<'a> {
-    /// The length that goes on: a response with Transfer-Encoding loses its own.
+    /// The forwarded length: a response with Transfer-Encoding loses its own.
     fn kept_length(&self) -> Option<u64>
         ensures { result ≡ kept_length self.now }
     {
@@ -149,8 +149,8 @@ impl<'u, 'm> Forward<'u, 'm> {
         }
     }
 
-    /// The framing towards the next hop: by the length that goes on; else a body goes chunked, and to a user of HTTP/1.0
-    /// until the close.
+    /// The framing towards the next hop: the forwarded length, if there is one; else chunked, or up to the close for a
+    /// user of HTTP/1.0.
     pub fn framing(&self) -> Framing
         ensures { result ≡ next_framing self.now }
     {
@@ -163,7 +163,7 @@ impl<'u, 'm> Forward<'u, 'm> {
         }
     }
 
-    /// Whether the user's connection ends behind this answer, as far as its head can know.
+    /// Whether the user's connection ends after this response, as far as its head can tell.
     pub fn closes(&self) -> bool
         ensures { result ≡ closes self.now }
     {
@@ -194,7 +194,7 @@ impl<'u, 'm> Forward<'u, 'm> {
 }
 
 /// The head as the next hop gets it. A request goes in origin form and as HTTP/1.1, with the authority of the user's target
-/// as its Host; fields that end at a proxy, and those that Connection names, stay behind.
+/// as its Host. Fields that end at a proxy, and those that Connection names, are dropped.
 pub fn forward_head(alloc: Global, forward: &Forward<'_, '_>) -> Result<Vec<u8>, AllocError>
     ensures text { IfOk result (λ text. text.items ≡ forwarded forward.now) }
 

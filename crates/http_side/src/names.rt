@@ -39,7 +39,7 @@ fn placed_names<'a>(fields: &Fields<'a>) -> ArrayVec<PlacedName<'a>, MAX_FIELDS>
     names
 }
 
-/// The names behind those that stand before this one: the names of its spelling, ASCII case ignored, are in front.
+/// The sorted names without those before this one: the names equal to it, ignoring ASCII case, come first.
 pub(crate) fn names_from<'n, 'a>(names: &'n [PlacedName<'a>], name: &[u8]) -> &'n [PlacedName<'a>]
     ensures within { (fields : FieldList) → ArePlaced fields names.now → All (λ n. n.place < length fields) result.now }
     ensures front { (fields : FieldList) → ArePlaced fields names.now → (i : ℕ) → i < length fields → has_place i (run_of name.now result.now) ≡ str_eq_ignore_ascii_case name.now (name_at fields i) }

@@ -1,5 +1,5 @@
-//! How long the heads that are written are, before they are: each answer is the length, or the greatest number where it
-//! passes that.
+//! The lengths of heads before they are written: each result is the length, or the largest number if the length exceeds
+//! it.
 ghost use Rattle.std.specs.Prelude.{◌≡◌, ℕ, ◌+◌, ◌-◌, ◌^◌, ◌<◌, min, All, length, option_copied};
 ghost use Rattle.http_side.specs.Forward.{field_line, field_lines, first_line, added_fields, when, request_line, status_line, sent_fields, form_of, size_of};
 
@@ -19,7 +19,7 @@ pub(crate) fn len_when(on: bool, name: &[u8], value: &[u8]) -> usize
     if on { line_len(name, value) } else { 0 }
 }
 
-/// Of the fields at these places.
+/// The length of the fields at these places.
 pub(crate) fn fields_len(fields: &Fields<'_>, places: &[u8], authority: Option<&[u8]>) -> usize
     requires { All (λ at. at < length fields.now) places.now }
     ensures { result ≡ size_of (field_lines (sent_fields fields.now places.now (option_copied authority.entry))) }
@@ -34,7 +34,7 @@ pub(crate) fn fields_len(fields: &Fields<'_>, places: &[u8], authority: Option<&
     len
 }
 
-/// Of what is added behind them.
+/// The length of the added fields.
 pub(crate) fn added_len(extra: Extra, minor: u8) -> usize
     ensures { result ≡ size_of (field_lines (added_fields extra minor)) }
 {
@@ -79,7 +79,7 @@ pub(crate) fn status_line_len(phrase: &[u8]) -> usize
     phrase.len().saturating_add(15)
 }
 
-/// Of a head of these parts and its empty line.
+/// The length of a head of these parts and its empty line.
 pub(crate) fn head_len(first: usize, host: usize, fields: usize, added: usize) -> usize
     ensures { (a b c d : ℕ) → first ≡ min a (2 ^ 64 - 1) → host ≡ min b (2 ^ 64 - 1) → fields ≡ min c (2 ^ 64 - 1) → added ≡ min d (2 ^ 64 - 1)
         → result ≡ min (a + b + c + d + 2) (2 ^ 64 - 1) }

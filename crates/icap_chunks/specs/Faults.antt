@@ -9,7 +9,7 @@ use Rattle.adapt_bytes.specs.declared.limits.TheConstants.{COUNT_LIMIT}
 use Rattle.icap_chunks.specs.declared.places.TheConstants.{MAX_LINE, MAX_TRAILERS}
 use Rattle.icap_chunks.specs.Grammar.{is_line_byte, AllPass, SizeLine, print_line, print_extension, IsExtension, IsSizeLine, Chunks, TrailerLines}
 
--- what a text ends in, behind its whole chunks
+-- what a text ends in, after its whole chunks
 pub data Part : Type 0 where
   -- a size line before its CR: digits, blanks and an extension, as far as they have come
   in_line : List ℕ → List ℕ → Option (List ℕ) → Part
@@ -20,7 +20,7 @@ pub data Part : Type 0 where
   -- a size line, and all of its data; then CR
   behind_data : Part
   behind_data_cr : Part
-  -- the last size line, and so many bytes of trailers; then CR, as the last of them
+  -- the last size line, and this many bytes of trailers; then CR, as the last of them
   in_trailers : ℕ → Part
   behind_trailers_cr : ℕ → Part
 
@@ -28,17 +28,17 @@ pub data Part : Type 0 where
 abbrev pub is_hex_digit : ℕ → Bool
 is_hex_digit b = nat_lt (digit_value b) 16
 
--- may stand behind a size: a blank, `;` or CR
+-- may stand after a size: a blank, `;` or CR
 abbrev pub ends_size : ℕ → Bool
 ends_size b = is_blank b || (b == 59 || b == 13)
 
--- Line: LF without CR, another byte than CR behind 256 of a size line, or another byte than LF behind its CR
+-- Line: LF without CR, another byte than CR after 256 of a size line, or another byte than LF after its CR
 abbrev pub is_line : Part → ℕ → Bool
 is_line (in_line digits pad extension) b = b == 10 || (nat_le MAX_LINE (length (digits ++ (pad ++ print_extension extension))) && not (b == 13))
 is_line (behind_line size) b = not (b == 10)
 is_line _ b = false
 
--- Size: no digit first, or behind the digits or the blanks a byte that may not stand there
+-- Size: no digit first, or after the digits or the blanks a byte that may not stand there
 abbrev pub is_size : Part → ℕ → Bool
 is_size (in_line [] pad extension) b = not (is_hex_digit b)
 is_size (in_line (d ∷ digits) [] None) b = not (is_hex_digit b || ends_size b)
@@ -51,19 +51,19 @@ is_too_big sum (in_line digits [] None) b = is_hex_digit b && nat_le COUNT_LIMIT
 is_too_big sum (behind_line size) b = nat_le COUNT_LIMIT (sum + size)
 is_too_big sum _ b = false
 
--- Break: another byte than CR LF behind the data
+-- Break: another byte than CR LF after the data
 abbrev pub is_break : Part → ℕ → Bool
 is_break behind_data b = not (b == 13)
 is_break behind_data_cr b = not (b == 10)
 is_break _ b = false
 
--- Trailers: a byte past 8,192 of them, LF without CR, or another byte than LF behind CR
+-- Trailers: a byte past 8,192 of them, LF without CR, or another byte than LF after CR
 abbrev pub is_trailers : Part → ℕ → Bool
 is_trailers (in_trailers count) b = nat_le MAX_TRAILERS count || b == 10
 is_trailers (behind_trailers_cr count) b = nat_le MAX_TRAILERS count || not (b == 10)
 is_trailers _ b = false
 
--- the fault of a byte behind a part, where the sizes of the chunks before it have this sum; Line comes before the others
+-- the fault of a byte after a part, where the sizes of the chunks before it have this sum; Line comes before the others
 abbrev pub fault_at : ℕ → Part → ℕ → Option ChunkFault
 fault_at sum part b =
     if is_line part b then Some Line
@@ -80,7 +80,7 @@ pub record Behind (text body tail : List ℕ) : Type 0 where
   pub chunks : Chunks front body
   pub text_is : text ≡ front ++ tail
 
--- blanks and an extension stand behind a digit at least
+-- blanks and an extension stand after a digit at least
 pub record InLine (text body digits pad : List ℕ) (extension : Option (List ℕ)) : Type 0 where
   pub behind : Behind text body (digits ++ (pad ++ print_extension extension))
   pub all : AllDigits 16 digits
@@ -130,7 +130,7 @@ EndsIn text body behind_data_cr = InChunk text body 0 (13 ∷ [])
 EndsIn text body (in_trailers count) = InTrailers text body count []
 EndsIn text body (behind_trailers_cr count) = InTrailers text body count (13 ∷ [])
 
--- No byte of a first part of the text breaks the grammar, and the byte behind it breaks it with this fault. What follows is not read.
+-- No byte of a first part of the text breaks the grammar, and the byte after it breaks it with this fault. What follows is not read.
 pub record Breaks (text body : List ℕ) (fault : ChunkFault) : Type 0 where
   pub good : List ℕ
   pub byte : ℕ

@@ -36,7 +36,7 @@ in_digits count size b =
     else (if is_blank b then Pad (count + 1) size
     else (if b == 59 then Extension (count + 1) size Blank false else Faulted Size)))))
 
--- within the blanks behind them
+-- within the blanks after them
 unfoldable pub in_pad : ℕ → ℕ → ℕ → Place
 in_pad count size b =
     if b == 13 then LineCr size false
@@ -52,7 +52,7 @@ in_extension count size item found b =
     else (if b == 59 then Extension (count + 1) size Blank (found || is_word item)
     else Extension (count + 1) size (item_with item b) found))
 
--- behind the CR of a size line
+-- after the CR of a size line
 unfoldable pub in_line_cr : ℕ → ℕ → Bool → ℕ → ChunkReader
 in_line_cr sum size ieof b =
     if b == 10 then (if nat_lt (sum + size) COUNT_LIMIT
@@ -60,7 +60,7 @@ in_line_cr sum size ieof b =
     else record { sum = sum; place = Faulted TooBig })
     else record { sum = sum; place = Faulted Line }
 
--- within a run of the body, with so many of its bytes behind this one
+-- within a run of the body, with this many of its bytes after this one
 unfoldable pub in_data : ℕ → Place
 in_data more = if nat_lt 0 more then Data (more - 1) else DataEnd
 
@@ -152,7 +152,7 @@ abbrev pub body_of : ChunkReader → List ℕ → List ℕ
 body_of r [] = []
 body_of r (b ∷ bytes) = (if is_data r.place then b ∷ [] else []) ++ body_of (step r b) bytes
 
--- the reader behind so many bytes of a run of the body
+-- the reader after this many bytes of a run of the body
 abbrev pub data_behind : ℕ → ℕ → ℕ → ChunkReader
 data_behind sum more n = record { sum = sum; place = if nat_le n more then Data (more - n) else DataEnd }
 
@@ -161,7 +161,7 @@ pub record EndsAt (text : List ℕ) (ieof : Bool) : Type 0 where
   pub ended : end_of (run start text) ≡ Some ieof
   pub first : (k : ℕ) → k < length text → end_of (run start (take k text)) ≡ None
 
--- the reader has read these bytes, none of them behind the end, and has found this body
+-- the reader has read these bytes, none of them after the end, and has found this body
 pub record HasRead (text body : List ℕ) (r : ChunkReader) : Type 0 where
   pub read : run start text ≡ r
   pub found : body_of start text ≡ body

@@ -1,10 +1,10 @@
-//! Whether an item of a chunk extension is `ieof` (RFC 3507, section 4.5), byte by byte.
+//! Recognizes `ieof` among the items of a chunk extension, byte by byte (RFC 3507, section 4.5).
 ghost use Rattle.std.specs.Prelude.{◌≡◌};
 ghost use Rattle.icap_chunks.specs.Machine.{item_with, is_word};
 
 use adapt_bytes::is_blank;
 
-/// An item of a chunk's extension, by how much of `ieof` it is.
+/// How much of `ieof` an item of a chunk extension has matched.
 #[derive(Clone, Copy, Debug, PartialEq, Eq)]
 pub enum Item {
     Blank,

@@ -1,17 +1,18 @@
-//! How a text can break the grammar of chunked bodies.
+//! The ways in which a text breaks the grammar of chunked bodies.
 ghost use Rattle.std.specs.Prelude.{◌≡◌};
 ghost use Rattle.icap_chunks.specs.Reading.{number_of};
 
 /// A byte that breaks the grammar of a chunked body (RFC 9112, section 7.1).
 #[derive(Clone, Copy, Debug, PartialEq, Eq)]
 pub enum ChunkFault {
-    /// A size line that begins with no hexadecimal digit, or has another byte behind its digits than a blank, `;` or CR.
+    /// A size line that doesn't begin with a hexadecimal digit, or whose digits are followed by another byte than a
+    /// blank, `;` or CR.
     Size = 1,
     /// A size, or a sum of sizes, above `2^62 - 1`.
     TooBig = 2,
     /// A size line of over 256 bytes without its CR LF, or one that ends in a bare CR or LF.
     Line = 3,
-    /// Data with no CR LF behind it.
+    /// Data without a CR LF after it.
     Break = 4,
     /// Trailers of over 8,192 bytes, the last CR LF included, or a bare CR or LF in them.
     Trailers = 5,

@@ -1,4 +1,4 @@
-//! A whole text, however it is cut into pieces.
+//! Reading a whole text, cut into pieces in any way.
 ghost use Rattle.std.specs.Prelude.{◌≡◌, ℕ, ◌<◌, ◌≤◌, List, IfOk, IfSome, Ok, None, length};
 ghost use Rattle.icap_chunks.specs.Collected.{HasReadTo};
 ghost use Rattle.icap_chunks.specs.Reading.{IsReading};
@@ -7,34 +7,34 @@ use crate::fault::ChunkFault;
 use crate::reader::ChunkReader;
 use std::alloc::{AllocError as NoMemory, Global};
 
-/// How the reading of a text went.
+/// The outcome of reading a text.
 #[derive(Clone, Copy, Debug, PartialEq, Eq)]
 pub enum Outcome {
-    /// The text is the front of a body: more has to come.
+    /// The text is a prefix of a body: more must come.
     More,
     /// The body has ended.
     Ended {
-        /// Whether with `ieof`.
+        /// Whether it ended with `ieof`.
         ieof: bool,
-        /// How many bytes of the text the body took; the others are left over.
+        /// The number of bytes of the text that the body took; the rest is left over.
         used: usize,
     },
     /// A byte breaks the grammar.
     Faulted(ChunkFault),
 }
 
-/// What a text is, as a chunked body.
+/// A text read as a chunked body.
 #[derive(Debug, Drop)]
 pub struct Reading {
     /// The body's bytes, up to the end, the fault or the end of the text.
     pub body: Vec<u8>,
-    /// How it went.
+    /// The outcome.
     pub outcome: Outcome,
 }
 
 /// Reads a text that comes in pieces of `piece_size` bytes, the last one shorter.
 ///
-/// The answer doesn't depend on the size of the pieces. `NoMemory` where there is none for the body.
+/// The answer doesn't depend on the size of the pieces. `NoMemory` if the body finds no memory.
 pub fn read_in_pieces(alloc: Global, text: &[u8], piece_size: usize) -> Result<Reading, NoMemory>
     requires { 0 < piece_size }
     ensures { IfOk result (λ reading. IsReading text.now reading.body.items reading.outcome) }
@@ -49,9 +49,9 @@ pub fn read_in_pieces(alloc: Global, text: &[u8], piece_size: usize) -> Result<R
     Ok(collector.reading(Outcome::More))
 }
 
-/// Reads a text that comes in pieces of these sizes, and what is behind them as a last piece: any way to cut it.
+/// Reads a text that comes in pieces of these sizes, with the rest as a last piece: any way to cut it.
 ///
-/// The answer doesn't depend on the sizes. `NoMemory` where there is none for the body.
+/// The answer doesn't depend on the sizes. `NoMemory` if the body finds no memory.
 pub fn read_cut(alloc: Global, text: &[u8], sizes: &[usize]) -> Result<Reading, NoMemory>
     ensures { IfOk result (λ reading. IsReading text.now reading.body.items reading.outcome) }
 {
@@ -89,7 +89,8 @@ impl Collector {
         }
     }
 
-    /// Reads the piece of the text up to `end`. Says how the reading went once the body has ended or a byte breaks the grammar.
+    /// Reads the piece of the text up to `end`. Returns the outcome once the body has ended or a byte breaks the
+    /// grammar.
     fn read_to(&mut self, text: &[u8], end: usize) -> Result<Option<Outcome>, NoMemory>
         requires low { self.old.at ≤ end }
         requires high { end ≤ length text.now }

@@ -1,4 +1,4 @@
-//! Where in a chunked body a byte stands, and where the next one does.
+//! Positions in a chunked body, and the step from one byte to the next.
 ghost use Rattle.std.specs.Prelude.{◌≡◌, ◌<◌, ◌+◌, ◌*◌};
 ghost use Rattle.std.specs.Option.{SomeIff};
 ghost use Rattle.adapt_bytes.specs.declared.limits.TheConstants.{COUNT_LIMIT};
@@ -8,41 +8,41 @@ use crate::extension::Item;
 use crate::fault::ChunkFault;
 use adapt_bytes::{COUNT_LIMIT, is_blank};
 
-/// Where in a chunked body the next byte stands.
+/// The position of the next byte in a chunked body.
 #[derive(Clone, Copy, Debug, PartialEq, Eq)]
 pub enum Place {
-    /// In the digits of a size line, or at its start: so many bytes of the line, and the size so far.
+    /// In the digits of a size line, or at its start: the bytes of the line so far, and the size so far.
     Digits(u16, u64),
-    /// In the blanks behind the digits.
+    /// In the blanks after the digits.
     Pad(u16, u64),
     /// In the extension: the present item, and whether an earlier one is `ieof`.
     Extension(u16, u64, Item, bool),
-    /// Behind the CR of a size line: its size, and whether it has `ieof`.
+    /// After the CR of a size line: its size, and whether it has `ieof`.
     LineCr(u64, bool),
-    /// In a run of the body, with so many of its bytes behind the next one.
+    /// In the data of a chunk, with this many bytes left after the next one.
     Data(u64),
-    /// Behind the data of a chunk.
+    /// After the data of a chunk.
     DataEnd,
-    /// Behind the CR that follows the data.
+    /// After the CR that follows the data.
     DataCr,
-    /// At the start of a trailer line: so many bytes of trailers, and whether the body ends with `ieof`.
+    /// At the start of a trailer line: the bytes of trailers so far, and whether the body ends with `ieof`.
     TrailerStart(u16, bool),
     /// In a trailer line.
     Trailer(u16, bool),
-    /// Behind the CR of a trailer line.
+    /// After the CR of a trailer line.
     TrailerCr(u16, bool),
-    /// Behind the CR of the empty line.
+    /// After the CR of the empty line.
     LastCr(u16, bool),
-    /// Behind the body: whether it ended with `ieof`.
+    /// After the body: whether it ended with `ieof`.
     Ended(bool),
-    /// At a byte that breaks the grammar, or behind it.
+    /// At or after a byte that breaks the grammar.
     Faulted(ChunkFault),
 }
 
-/// The most bytes of a size line, without its CR LF. A limit of ours.
+/// The largest size of a size line, without its CR LF, in bytes. No RFC sets it.
 pub const MAX_LINE: u16 = 256;
 
-/// The most bytes behind the last size line, the last CR LF included. A limit of ours.
+/// The largest number of bytes after the last size line, the final CR LF included. No RFC sets it.
 pub const MAX_TRAILERS: u16 = 8192;
 
 /// The size with one more digit, where that is below the limit.

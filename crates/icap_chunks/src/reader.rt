@@ -1,4 +1,5 @@
-//! The reader: numbers alone, fed in any pieces. A run of body bytes is a range of the piece and is never walked.
+//! The reader of a chunked body. It keeps numbers only; a run of body bytes is a range of the input and is never
+//! scanned.
 ghost use Rattle.std.specs.Prelude.{◌≡◌, ℕ, ◌+◌, ◌<◌, ◌≤◌, ◌++◌, true, false, List, IfOk, IfErr, IfSome, IsOkAnd, Err, OnOk, is_some, [], length, take, slice_range, Some, None, min};
 ghost use Rattle.icap_chunks.specs.declared.places.Place.TheVariants.{Data};
 ghost use Rattle.icap_chunks.specs.Machine.{start, step, run, body_of, end_of, fault_of, end_at, is_in_data, pauses_at, data_behind, in_line_cr, HasRead};
@@ -11,18 +12,27 @@ use crate::places::{
 };
 use adapt_bytes::COUNT_LIMIT;
 
-/// What one call of `feed` has found in its piece.
+/// What one call of `feed` found in its piece of input.
 #[derive(Clone, Copy, Debug, PartialEq, Eq)]
 pub struct Fed {
-    /// How many bytes of the piece were read.
+    /// The number of bytes of the piece that were read.
     pub used: usize,
-    /// The range of the piece that is body: from the first offset up to the second. Without body bytes both are `used`.
+    /// The range of the piece that is body, `(from, to)` with `to` excluded. Without body bytes both are `used`.
     pub part: (usize, usize),
-    /// Set once the body has ended: whether with `ieof`.
+    /// `Some` once the body has ended: `true` if it ended with `ieof`.
     pub ended: Option<bool>,
 }
 
-/// A reader of one chunked body, fed in any pieces. It keeps numbers alone and takes no memory.
+/// A reader of one chunked body, fed in pieces of any size. It keeps numbers only and never allocates.
+///
+/// ```
+/// let text = b"5\r\nhello\r\n0; ieof\r\n\r\n";
+/// let mut reader = ChunkReader::new();
+/// let run = reader.feed(text)?;
+/// assert_eq!(rt; run.part, (3, 8));
+/// let rest = reader.feed(&text[run.used..])?;
+/// assert_eq!(rt; rest.ended, Some(true));
+/// ```
 #[derive(Clone, Copy, Debug, PartialEq, Eq)]
 pub struct ChunkReader {
     sum: u64,
@@ -40,20 +50,20 @@ impl ChunkReader {
         }
     }
 
-    /// Reads on in the piece: up to the end of one run of body bytes, of the body or of the piece.
+    /// Reads the next piece of input, up to the end of one run of body bytes, of the body or of the piece.
     ///
-    /// After the end it uses nothing and says again how the body ended. Where a byte breaks the grammar the answer is its
-    /// fault, once the body bytes before it are handed out; every later call answers the same fault.
+    /// After the end of the body it uses nothing and reports again how the body ended. If a byte breaks the grammar,
+    /// the body bytes before it are handed out first; then this call and every later one return the fault.
     pub fn feed(&mut self, piece: &[u8]) -> Result<Fed, ChunkFault>
         ensures within { IfOk result (λ fed. (fed.part.0 ≤ fed.part.1) × (fed.part.1 ≤ fed.used) × (fed.used ≤ length piece.now)) }
 
-        // What was read before, the bytes used behind it, and the body with the part.
+        // What was read before, then the bytes used; and the body so far, then the part.
         ensures read { IfOk result (λ fed. (text body : List ℕ) → HasRead text body self.old
             → HasRead (text ++ take fed.used piece.now) (body ++ slice_range piece.now fed.part.0 fed.part.1) self.new) }
         ensures ended { IfOk result (λ fed. fed.ended ≡ end_of self.new) }
         ensures no_fault { OnOk result (fault_of self.new ≡ None) }
 
-        // It stops at the end of the body, or behind the whole of a run, and else behind the whole piece.
+        // It stops at the end of the body, or after a whole run, and else after the whole piece.
         ensures stops { IfOk result (λ fed. fed.used < length piece.now → fed.ended ≡ None
             → (fed.part.0 < fed.part.1) × (fed.used ≡ fed.part.1) × (is_in_data self.new ≡ false)) }
 
@@ -86,10 +96,10 @@ impl ChunkReader {
         ensures ended { IfOk result (λ fed. fed.ended ≡ end_of self.new) }
         ensures no_fault { OnOk result (fault_of self.new ≡ None) }
 
-        // Nothing behind the end is used.
+        // Nothing after the end is used.
         ensures end_first { IfOk result (λ fed. (k : ℕ) → k < fed.used → end_of (run self.old (take k piece.now)) ≡ None) }
 
-        // It stops at the end of the body, or behind the whole of a run.
+        // It stops at the end of the body, or after a whole run.
         ensures stops { IfOk result (λ fed. fed.used < length piece.now → fed.ended ≡ None
             → (fed.part.0 < fed.part.1) × (fed.used ≡ fed.part.1) × (is_in_data self.new ≡ false)) }
         ensures part_end { IfOk result (λ fed. fed.part.1 ≡ fed.used) }
@@ -124,7 +134,7 @@ impl ChunkReader {
         }
     }
 
-    /// Whether no framing is read here.
+    /// Whether no framing is read next: in a run of body bytes, at the end, or at a fault.
     #[tactic(auto, unfolding(crate::specs::Machine::pauses_at))]
     fn pauses(&self) -> bool
         ensures { result ≡ pauses_at self.now.place }
@@ -135,7 +145,7 @@ impl ChunkReader {
         )
     }
 
-    /// Reads the framing at the front of the piece, and says how many bytes it has.
+    /// Reads the framing at the start of the piece, and returns its number of bytes.
     fn read_framing(&mut self, piece: &[u8]) -> usize
         ensures within { result ≤ length piece.now }
         ensures read { self.new ≡ run self.old (take result piece.now) }
@@ -198,7 +208,7 @@ impl ChunkReader {
     }
 }
 
-/// The reader behind the size line whose CR it has read.
+/// The reader after the size line whose CR it has read.
 #[tactic(auto, unfolding(crate::specs::Machine::in_line_cr))]
 fn in_line_cr(sum: u64, size: u64, ieof: bool, byte: u8) -> ChunkReader
     ensures { result ≡ in_line_cr sum size ieof byte }

@@ -1,4 +1,4 @@
-//! What a chunked body is written as.
+//! Writing a chunked body.
 ghost use Rattle.std.specs.Prelude.{◌≡◌, ◌+◌, ◌<◌, ◌≤◌, ◌++◌, length};
 ghost use Rattle.arrayvec.specs.ArrayVec.{array_vec_len};
 ghost use Rattle.adapt_bytes.specs.declared.limits.TheConstants.{COUNT_LIMIT, MAX_SMALL};
@@ -6,8 +6,8 @@ ghost use Rattle.icap_chunks.specs.Grammar.{chunk_head, last_chunk, crlf};
 
 use adapt_bytes::{Small, put_hex};
 
-/// Writes what stands before the `n` bytes of a chunk: the size in lower-case hexadecimal without leading zeros, and CR LF.
-/// It needs room for 18 bytes.
+/// Writes the size line of a chunk of `n` bytes: lower-case hexadecimal without leading zeros, and CR LF. It needs room
+/// for 18 bytes.
 pub fn put_chunk_head(n: u64, out: &mut Small)
     requires some { 1 ≤ n }
     requires fits { n < COUNT_LIMIT }
@@ -20,7 +20,7 @@ pub fn put_chunk_head(n: u64, out: &mut Small)
     put_line_end(out);
 }
 
-/// Writes what stands behind the bytes of a chunk: CR LF. It needs room for 2 bytes.
+/// Writes the CR LF that ends a chunk's data. It needs room for 2 bytes.
 pub fn put_chunk_tail(out: &mut Small)
     requires { array_vec_len out.old + 2 ≤ MAX_SMALL }
     ensures items { out.new.items ≡ out.old.items ++ crlf }

@@ -1,4 +1,4 @@
--- The field lines of a head and the empty line behind them (RFC 9112, section 5), as `httparse` reads them.
+-- The field lines of a head and the empty line after them (RFC 9112, section 5), as `httparse` reads them.
 use Rattle.std.specs.Prelude.{◌≡◌, ℕ, ◌≤◌, ◌⊎◌, List, length, map, nat_lt, if◌then◌else◌, ◌==◌}
 use Rattle.std.specs.List.{count_by}
 use Rattle.adapt_bytes.specs.declared.limits.TheConstants.{MAX_FIELDS, MAX_HEAD}
@@ -13,23 +13,23 @@ abbrev pub ReadsFields : List ℕ → FieldList → List ℕ → Type 0
 ReadsFields text fields rest =
     (lines : List Line) × (last : LineEnd) × ReadsSection text lines last rest × (map name_and_value lines ≡ fields)
 
--- at most 100 fields and an empty line stand at the front
+-- the text begins with at most 100 fields and an empty line
 abbrev pub HasFields : List ℕ → Type 0
 HasFields text = (fields : FieldList) × (rest : List ℕ) × ReadsFields text fields rest × (length fields ≤ MAX_FIELDS)
 
--- more than 100 whole field lines stand at the front
+-- the text begins with more than 100 whole field lines
 abbrev pub HasTooMany : List ℕ → Type 0
 HasTooMany text = SectionExceeds MAX_FIELDS text
 
--- no front is field lines and an empty line, and some bytes can follow that make it so
+-- no prefix is field lines and an empty line, and some bytes can follow that make it so
 abbrev pub IsOpen : List ℕ → Type 0
 IsOpen text = HasNoSection text × MayBecomeSection text
 
--- what is said of a head without its end in a text of so many bytes: More, and TooLong once the limit is reached
+-- what is said of a head without its end in a text of this many bytes: More, and TooLong once the limit is reached
 abbrev pub unended : ℕ → HeadFault
 unended len = if nat_lt len MAX_HEAD then More else TooLong
 
--- why the fields are refused, in a text of so many bytes
+-- why the fields are refused, in a text of this many bytes
 abbrev pub RefusesFields : HeadFault → ℕ → List ℕ → Type 0
 RefusesFields fault len text =
     ((fault ≡ Field) × NeverHasSection text × ¬ (HasTooMany text))

@@ -19,7 +19,7 @@ pub record ReadsHead (IsStart : List ℕ → Type 0) (text : List ℕ) (fields :
   pub start : IsStart line
   pub section : ReadsFields behind fields rest
 
--- the first bytes of the text, so many as size says, are such a head of at most 100 fields, and it ends within the limit
+-- the first bytes of the text, as many as size says, are such a head of at most 100 fields, and it ends within the limit
 pub record HasHead (IsStart : List ℕ → Type 0) (text : List ℕ) (fields : FieldList) (size : ℕ) : Type 0 where
   pub inside : size ≤ length text
   pub within : size ≤ MAX_HEAD
@@ -48,7 +48,7 @@ RefusesIcapHead Form fault text =
 abbrev pub NeedsUri : List ℕ → Type 0
 NeedsUri text = (line : List ℕ) × (behind : List ℕ) × IsFirstLine (take MAX_HEAD text) line behind × MayBeRequestLine line
 
--- what may be answered where memory runs out: the first line may be that of a request, and the fields behind it are refused
+-- what may be answered where memory runs out: the first line may be that of a request, and the fields after it are refused
 -- for this fault, or the fault is NoMemory and they are whole
 abbrev pub ForWantOfMemory : HeadFault → List ℕ → Type 0
 ForWantOfMemory fault text =
@@ -88,11 +88,11 @@ IsRequestHead text value = ReadsHead (StartsRequest value) text value.fields []
 abbrev pub IsResponseHead : List ℕ → Response → Type 0
 IsResponseHead text value = ReadsHead (StartsResponse value) text value.fields []
 
--- the text begins with the head of this request, of so many bytes
+-- the text begins with the head of this request, of this many bytes
 abbrev pub HasRequest : List ℕ → Request → ℕ → Type 0
 HasRequest text value size = HasHead (StartsRequest value) text value.fields size
 
--- the text begins with the head of this response, of so many bytes
+-- the text begins with the head of this response, of this many bytes
 abbrev pub HasResponse : List ℕ → Response → ℕ → Type 0
 HasResponse text value size = HasHead (StartsResponse value) text value.fields size
 

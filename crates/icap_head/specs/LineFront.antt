@@ -16,13 +16,13 @@ IsAt Name line = IsToken line
 IsAt Value line = IsInValue line
 IsAt Return line = (line ≡ 13 ∷ []) ⊎ ((front : List ℕ) × IsInValue front × (line ≡ front ++ 13 ∷ []))
 
--- the front of an empty line, or of a field line, without its LF
+-- a prefix of an empty line, or of a field line, without its LF
 abbrev pub IsLineFront : List ℕ → Type 0
 IsLineFront line =
     ((line ≡ []) ⊎ (line ≡ 13 ∷ []))
     ⊎ ((field : Field) × (left : List ℕ) × IsField field × (print_field field ≡ line ++ left) × (0 < length left))
 
--- the last line begins here: behind the last LF, or with the text
+-- the last line begins here: after the last LF, or with the text
 pub record IsLastLine (text : List ℕ) (start : ℕ) : Type 0 where
   pub inside : start ≤ length text
   pub no_feed : (k : ℕ) → start ≤ k → k < length text → slice_index text k ≢ 10

@@ -1,4 +1,4 @@
--- How a head is written: CRLF at each line, one space behind each colon, three digits of a status.
+-- How a head is written: CRLF at each line, one space after each colon, three digits of a status.
 use Rattle.std.specs.Prelude.{◌≡◌, ℕ, ◌<◌, ◌++◌, List, [], ◌∷◌, reverse, codes}
 use Rattle.std.specs.List.{flat_map, AllByRecursion}
 use Rattle.adapt_bytes.specs.Text.{IsToken, Lacks}

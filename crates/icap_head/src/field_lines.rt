@@ -14,7 +14,7 @@ use httparse::spans::{EMPTY_HEADER_SPAN, parse_headers_from};
 use httparse::{Error, Status};
 use std::alloc::Global;
 
-/// The fields behind `start`, and where their empty line ends, in the front of a text of `whole` bytes.
+/// The fields after `start`, and where their empty line ends, in a prefix of a text of `whole` bytes.
 pub(crate) fn read_fields(
     alloc: Global,
     seen: &[u8],
@@ -39,7 +39,7 @@ pub(crate) fn read_fields(
     }
 }
 
-/// The fault of the first 101 lines behind `start`, where that of all of them is known. A head that goes on behind its
+/// The fault of the first 101 lines after `start`, where that of all of them is known. A head that goes on after its
 /// 101st field line has too many, whatever follows.
 fn first_fault(seen: &[u8], start: usize, fault: HeadFault) -> HeadFault
     requires inside { start ≤ length seen.now }
@@ -53,7 +53,7 @@ fn first_fault(seen: &[u8], start: usize, fault: HeadFault) -> HeadFault
     }
 }
 
-/// The fault of the lines behind `start`, which are too many where nothing is wrong with them.
+/// The fault of the lines after `start`: too many fields, if nothing is wrong with the lines themselves.
 fn lines_fault(lines: &[u8], start: usize) -> HeadFault
     requires inside { start ≤ length lines.now }
     requires unread { ¬ (HasFields (drop start lines.now)) }
@@ -66,7 +66,7 @@ fn lines_fault(lines: &[u8], start: usize) -> HeadFault
     }
 }
 
-/// Where so many lines have ended.
+/// The offset at which this many lines have ended.
 fn lines_end(text: &[u8], count: usize) -> Option<usize>
     requires { 0 < count }
     ensures some { IfSome result (λ end. (0 < end) × (end ≤ length text.now) × (line_count (take end text.now) ≡ count)
@@ -123,7 +123,7 @@ pub(crate) fn is_value_byte(byte: u8) -> bool
     byte == b'\t' || (byte >= b' ' && byte != 0x7f)
 }
 
-/// Adds the field lines and the empty line behind them.
+/// Adds the field lines and the empty line after them.
 pub(crate) fn put_fields(out: &mut Vec<u8>, fields: &Fields) -> Result<(), NoMemory>
     ensures { OnOk result (out.new.items ≡ out.old.items ++ fields_text (field_list fields.now)) }
 {

@@ -1,4 +1,4 @@
-//! Fields of a head, and looking them up by name (RFC 9110, section 5).
+//! The fields of a head, with look-up by name (RFC 9110, section 5).
 ghost use Rattle.std.specs.Prelude.{◌≡◌, ◌↔◌, ◌<◌, ◌≤◌, ◌∷◌, ◌++◌, [], length, drop, map, option_map, slice_get, Some, All, IsTrue, IfOk, IfSome, IfNone, OnOk, OnErr};
 ghost use Rattle.std.specs.Iterator.{YieldsFirstRef, item_count};
 ghost use Rattle.adapt_bytes.specs.Numeral.{Writes};
@@ -9,7 +9,7 @@ use adapt_bytes::{read_decimal, same_ascii};
 use httparse::spans::{HeaderSpan, Span};
 use std::alloc::Global;
 
-/// The fields of a head, in their order: names as they came, and values without the spaces and tabs around them.
+/// The fields of a head, in order: names as received, and values without the spaces and tabs around them.
 #[derive(Debug, Drop)]
 pub struct Fields {
     text: Vec<u8>,
@@ -18,12 +18,12 @@ pub struct Fields {
     ghost inside: { All (IsHeaderWithin (length text.items)) lines.items },
 }
 
-/// The values of the fields of one name, in their order.
+/// The values of all fields of one name, in order.
 #[derive(Debug, Drop)]
 pub struct Values<'a> {
     fields: &'a Fields,
     name: &'a [u8],
-    /// How many fields are behind it.
+    /// The number of fields after it.
     passed: usize,
 }
 
@@ -31,7 +31,7 @@ impl Fields {
     ghost use Rattle.adapt_bytes.specs.Fields.{name_at, value_at, values_of};
     ghost use Rattle.icap_head.specs.Fields.{field_list, first_of, values_left};
 
-    /// No fields. It takes no memory.
+    /// An empty list. It doesn't allocate.
     pub fn new(alloc: Global) -> Fields
         ensures { field_list result ≡ [] }
     {
@@ -41,7 +41,7 @@ impl Fields {
         }
     }
 
-    /// The fields that lie here in the first bytes of a text, with a copy of these bytes.
+    /// The fields at these places of a text's first bytes, with a copy of these bytes.
     pub(crate) fn of_lines(
         alloc: Global,
         text: &[u8],
@@ -57,7 +57,7 @@ impl Fields {
         Ok(Fields { text, lines })
     }
 
-    /// Adds a field behind the others; where memory runs out, they stay as they are.
+    /// Appends a field. If memory runs out, the list stays as it is.
     pub fn push(&mut self, name: &[u8], value: &[u8]) -> Result<(), NoMemory>
         ensures ok { OnOk result (field_list self.new ≡ field_list self.old ++ (name.now, value.now) ∷ []) }
         ensures err { OnErr result (field_list self.new ≡ field_list self.old) }
@@ -68,14 +68,14 @@ impl Fields {
         Ok(())
     }
 
-    /// How many there are.
+    /// The number of fields.
     pub fn len(&self) -> usize
         ensures { result ≡ length (field_list self.now) }
     {
         self.lines.len()
     }
 
-    /// The name of the field at this place, as it came. It asks for a place below `len`.
+    /// The name of the field at this place, as received. The place must be below `len`.
     pub fn name(&self, at: usize) -> &[u8]
         requires { at < length (field_list self.now) }
         ensures { result.now ≡ name_at (field_list self.now) at }
@@ -83,7 +83,7 @@ impl Fields {
         line_at(&self.lines, at).name.of(&self.text)
     }
 
-    /// The value of the field at this place, without the spaces and tabs around it. It asks for a place below `len`.
+    /// The value of the field at this place, without the spaces and tabs around it. The place must be below `len`.
     pub fn value(&self, at: usize) -> &[u8]
         requires { at < length (field_list self.now) }
         ensures { result.now ≡ value_at (field_list self.now) at }
@@ -91,7 +91,7 @@ impl Fields {
         line_at(&self.lines, at).value.of(&self.text)
     }
 
-    /// The values of all fields of this name, ASCII case ignored, in their order.
+    /// The values of all fields of this name, ignoring ASCII case, in order.
     pub fn values<'a>(&'a self, name: &'a [u8]) -> Values<'a>
         ensures { values_left result ≡ values_of name.now (field_list self.now) }
     {
@@ -102,7 +102,7 @@ impl Fields {
         }
     }
 
-    /// The value of the first field of this name, ASCII case ignored.
+    /// The value of the first field of this name, ignoring ASCII case.
     pub fn first(&self, name: &[u8]) -> Option<&[u8]>
         ensures { option_map (λ value. value.now) result ≡ first_of name.now (field_list self.now) }
     {
@@ -110,7 +110,7 @@ impl Fields {
         Some(value)
     }
 
-    /// The value of the first field of this name behind so many fields, and how many it leaves behind.
+    /// The value of the first field of this name after this many fields, and the number of fields up to and with it.
     fn next_value(&self, name: &[u8], passed: usize) -> Option<(&[u8], usize)>
         ensures some { IfSome result (λ r. values_of name.now (drop passed (field_list self.now))
             ≡ r.0.now ∷ values_of name.now (drop r.1 (field_list self.now))) }
@@ -128,7 +128,7 @@ impl Fields {
 impl Values<'_> {
     ghost use Rattle.icap_head.specs.Fields.{AllSpell, values_left};
 
-    /// Whether all values that are still to come spell the number, with any leading zeros.
+    /// Whether all remaining values spell the number, leading zeros allowed.
     pub fn all_spell(self, number: u64) -> bool
         ensures { IsTrue result ↔ AllSpell number (values_left self.entry) }
     {
@@ -180,7 +180,7 @@ fn line_at(lines: &[HeaderSpan], at: usize) -> HeaderSpan
     lines[at]
 }
 
-/// Adds bytes to a text, and says where they lie.
+/// Appends bytes to a text, and returns where they lie.
 fn add(text: &mut Vec<u8>, bytes: &[u8]) -> Result<Span, NoMemory>
     ensures ok { IfOk result (λ span. (span.start ≡ length text.old.items) × (span.end ≡ length text.new.items)) }
     ensures text { OnOk result (text.new.items ≡ text.old.items ++ bytes.now) }

@@ -6,7 +6,7 @@ ghost use Rattle.icap_head.specs.Heads.{Request, Response, HasRequest, HasRespon
 ghost use Rattle.icap_head.specs.StartLines.{RequestForm, StatusForm};
 ghost use Rattle.icap_head.specs.Written.{IsRequest, IsResponse, request_text, response_text};
 
-/// A text has one head at its front, of one length, at most.
+/// A text begins with at most one head, of one length.
 pub fn one_head()
     ensures requests { (text : List ℕ) (value other : Request) (size length : ℕ)
         → HasRequest text value size → HasRequest text other length → (value ≡ other) × (size ≡ length) }
@@ -14,7 +14,7 @@ pub fn one_head()
         → HasResponse text value size → HasResponse text other length → (value ≡ other) × (size ≡ length) }
 {}
 
-/// Where a fault stands, there is no head and no other fault.
+/// If a fault applies, there is no head and no other fault.
 pub fn one_fault()
     ensures requests { (text : List ℕ) (fault other : HeadFault)
         → RefusesIcapHead RequestForm fault text → RefusesIcapHead RequestForm other text → fault ≡ other }
@@ -26,7 +26,7 @@ pub fn one_fault()
         → RefusesIcapHead StatusForm fault text → ¬ (HasResponse text value size) }
 {}
 
-/// Each text has an answer: it can't be that no head is at its front and that no fault stands, `More` among them.
+/// Each text has an answer: it can't be that it begins with no head and no fault applies, `More` among them.
 pub fn some_answer()
     ensures requests { (text : List ℕ) → ((value : Request) (size : ℕ) → ¬ (HasRequest text value size))
         → ((fault : HeadFault) → ¬ (RefusesIcapHead RequestForm fault text)) → ⊥ }
@@ -42,7 +42,7 @@ pub fn heads_stay()
         → HasResponse text value size → HasResponse (text ++ more) value size }
 {}
 
-/// A fault but `More` stays the same whatever follows.
+/// A fault other than `More` stays the same whatever follows.
 pub fn faults_stay()
     ensures requests { (text more : List ℕ) (fault : HeadFault) → fault ≢ HeadFault.More
         → RefusesIcapHead RequestForm fault text → RefusesIcapHead RequestForm fault (text ++ more) }
@@ -64,8 +64,8 @@ pub fn writes_what_heads_hold()
     ensures responses { (value : Response) → IsResponse value ↔ ((text : List ℕ) × IsResponseHead text value) }
 {}
 
-/// What is written within the limits is read again by the reader: a head of at most 100 fields and 16,384 bytes is found
-/// whole, whatever follows. A written head beyond them is a head too, and is refused by its reader as any other.
+/// What is written within the limits is read back: a head of at most 100 fields and 16,384 bytes is found whole,
+/// whatever follows. A written head beyond the limits is a head too, and its reader refuses it like any other.
 pub fn reads_what_it_writes()
     ensures requests { (value : Request) (more : List ℕ) → IsRequest value → length value.fields ≤ MAX_FIELDS
         → length (request_text value) ≤ MAX_HEAD → HasRequest (request_text value ++ more) value (length (request_text value)) }

@@ -1,4 +1,4 @@
-//! A head that comes in small pieces: whether what came last is worth judging the whole again.
+//! A head that comes in small pieces: whether the last piece calls for judging the whole head again.
 ghost use Rattle.std.specs.Prelude.{◌≡◌, ℕ, ◌++◌, ◌∷◌, [], List, IsTrue, IfSome};
 ghost use Rattle.icap_head.specs.Heads.{RefusesIcapHead};
 ghost use Rattle.icap_head.specs.StartLines.{RequestForm, StatusForm};
@@ -14,15 +14,15 @@ enum Place {
     Start,
     Name,
     Value,
-    /// Behind the CR.
+    /// After the CR.
     Return,
 }
 
-/// Whether the front of a head is one still with a piece behind it, so that it needn't be judged again: where `More` stands
-/// before the piece, it stands behind it too.
+/// Whether a prefix of a head is still one with this piece after it, so that it needn't be judged again: if `More`
+/// applies before the piece, it applies after it too.
 ///
-/// It is so where the piece ends no line, and the last line may still become a start line, a field line or the empty one. It
-/// looks at the piece and at the last line alone, and says `false` where that doesn't show.
+/// That holds if the piece ends no line, and the last line may still become a start line, a field line or the empty
+/// line. It looks only at the piece and at the last line, and returns `false` if they don't decide it.
 pub fn is_still_front(front: &[u8], piece: &[u8]) -> bool
     ensures requests { IsTrue result → RefusesIcapHead RequestForm More front.now → RefusesIcapHead RequestForm More (front.now ++ piece.now) }
     ensures responses { IsTrue result → RefusesIcapHead StatusForm More front.now → RefusesIcapHead StatusForm More (front.now ++ piece.now) }
@@ -54,7 +54,7 @@ fn last_line(text: &[u8]) -> usize
     start
 }
 
-/// The place behind some bytes more; none where no line has them there, or where the line ends.
+/// The place after some more bytes; `None` if no line has them there, or if the line ends.
 fn behind_all(place: Place, bytes: &[u8]) -> Option<Place>
     ensures { IfSome result (λ next. (line : List ℕ) → IsAt place line → IsAt next (line ++ bytes.now)) }
 {
@@ -65,7 +65,7 @@ fn behind_all(place: Place, bytes: &[u8]) -> Option<Place>
     Some(next)
 }
 
-/// The place behind one byte more.
+/// The place after one more byte.
 fn behind(place: Place, byte: u8) -> Option<Place>
     ensures { IfSome result (λ next. (line : List ℕ) → IsAt place line → IsAt next (line ++ byte ∷ [])) }
 {

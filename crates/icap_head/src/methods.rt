@@ -5,14 +5,14 @@ ghost use Rattle.encapsulated.specs.Methods.{NamesNoMethod};
 use encapsulated::Method;
 use std::alloc::{AllocError, Global};
 
-/// A name that is none of ICAP's methods.
+/// A name that isn't one of ICAP's methods.
 #[derive(Debug, Drop)]
 pub struct OtherMethod {
     name: Vec<u8>,
     ghost other: { NamesNoMethod name.items },
 }
 
-/// The method of a request. Names are compared in exact case.
+/// The method of a request. Case matters.
 #[derive(Debug, Drop)]
 pub enum RequestMethod {
     /// One of ICAP's methods.
@@ -24,7 +24,7 @@ pub enum RequestMethod {
 impl RequestMethod {
     ghost use Rattle.icap_head.specs.Methods.{request_method_name};
 
-    /// The method of this name. Only a name that is none of ICAP's takes memory.
+    /// The method of this name. Only a name that isn't one of ICAP's methods allocates.
     pub fn of_name(alloc: Global, name: &[u8]) -> Result<RequestMethod, AllocError>
         ensures ok { IfOk result (λ method. request_method_name method ≡ name.now) }
         ensures named { OnErr result (NamesNoMethod name.now) }

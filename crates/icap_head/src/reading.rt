@@ -1,4 +1,4 @@
-//! What reading a head answers.
+//! The result of reading a head.
 ghost use Rattle.std.specs.Prelude.{◌≡◌, ◌≤◌, ◌<◌, length, take};
 ghost use Rattle.adapt_bytes.specs.declared.limits.TheConstants.{MAX_HEAD};
 ghost use Rattle.icap_head.specs.declared.reading.HeadFault.{HeadFault};
@@ -9,24 +9,25 @@ ghost use Rattle.icap_head.specs.Heads.{fault_number};
 use adapt_bytes::{MAX_HEAD, front};
 use std::alloc::AllocError;
 
-/// A head that was read, and the bytes that it has, its empty line included.
+/// A head that was read, and its length in bytes, its empty line included.
 #[derive(Debug, Drop)]
 pub struct Head<T> {
     pub value: T,
     pub length: usize,
 }
 
-/// Why no head was read. Only the first 16,384 bytes are judged, and once the answer isn't `More` (or `NoMemory`) it is the same
-/// whatever follows, where memory is found for a request's URI.
+/// Why no head was read. Only the first 16,384 bytes are judged. Once the fault isn't `More` or `NoMemory`, more bytes
+/// don't change it, as long as memory is found for a request's URI.
 #[derive(Clone, Copy, Debug, PartialEq, Eq)]
 pub enum HeadFault {
-    /// The head isn't whole yet, and nothing in it is wrong so far, but perhaps a request's URI that no memory was found to judge.
+    /// The head isn't complete yet, and nothing in it is wrong so far, except perhaps a request's URI that no memory
+    /// was found to judge.
     More = 1,
     /// The start line isn't of its form (RFC 3507, section 4.3).
     StartLine = 2,
     /// The start line is of its form, for another version than `ICAP/1.0`.
     Version = 3,
-    /// No continuation makes a head, by one of the first 101 field lines.
+    /// One of the first 101 field lines is such that no continuation makes a head.
     Field = 4,
     /// The head doesn't end within the first 16,384 bytes.
     TooLong = 5,
@@ -53,7 +54,7 @@ impl From<AllocError> for HeadFault {
     }
 }
 
-/// The bytes that are judged: a head has to end within them.
+/// The bytes that are judged: a head must end within them.
 pub(crate) fn judged(text: &[u8]) -> &[u8]
     ensures front { result.now ≡ take MAX_HEAD text.now }
     ensures len { length result.now ≤ length text.now }
@@ -62,7 +63,7 @@ pub(crate) fn judged(text: &[u8]) -> &[u8]
     front(text, MAX_HEAD)
 }
 
-/// What is said of a head without its end, in a text of so many bytes.
+/// The fault of a head whose end is missing, in a text of this many bytes.
 pub(crate) fn unended(len: usize) -> HeadFault
     ensures { result ≡ unended len }
 {

@@ -13,16 +13,24 @@ use adapt_bytes::is_token;
 use std::alloc::Global;
 
 /// The head of a request (RFC 3507, section 4.3.2).
+///
+/// ```
+/// let text = b"OPTIONS icap://scanner/respmod ICAP/1.0\r\nHost: scanner\r\n\r\n";
+/// let head = read_request(alloc, text)?;
+/// assert_eq!(rt; head.length, text.len());
+/// assert_eq!(rt; head.value.method.name(), b"OPTIONS".as_slice());
+/// assert_eq!(rt; head.value.fields.first(b"host"), Some(b"scanner".as_slice()));
+/// ```
 #[derive(Debug, Drop)]
 pub struct IcapRequest {
     pub method: RequestMethod,
-    /// The URI as it came.
+    /// The URI as received.
     pub uri: Vec<u8>,
     pub fields: Fields,
 }
 
 impl IcapRequest {
-    /// Whether some head holds this request, so that it can be written: its method is a token, its URI
+    /// Whether this request can be written, since some head holds it: its method is a token, its URI
     /// an ICAP URI without a space or an LF, and its fields are such that a line can hold.
     pub fn is_writable(&self, alloc: Global) -> Result<bool, NoMemory>
         ensures { IfOk result (λ is. IsTrue is ↔ IsRequest (request_parts self.now)) }
@@ -43,24 +51,24 @@ impl IcapRequest {
     }
 }
 
-/// Reads the head of a request at the front of the text: `METHOD URI ICAP/1.0`, field lines and an
+/// Reads the head of a request at the start of the text: `METHOD URI ICAP/1.0`, field lines and an
 /// empty line (RFC 3507, section 4.3.2; RFC 9112, sections 2 and 5). A line ends at its LF, and one CR
 /// before that is dropped. The URI has scheme `icap` in any case, an authority, and no fragment.
 ///
-/// The errors are those of `HeadFault`, the first that stands. A URI is judged by a copy: where that finds no
-/// memory, the fault of what stands behind the start line is answered, `More` among them, and `NoMemory` where
-/// that has none. So `NoMemory` stands in place of a fault of the start line alone, or of a head. To judge a
-/// start line whatever stands behind it, ask `judge_request_line`.
+/// The error is the first `HeadFault` that applies. A URI is judged on a copy. If that copy finds no memory,
+/// the fault of what follows the start line is returned, which may be `More`; `NoMemory` if that has no fault.
+/// So `NoMemory` replaces only a fault of the start line, or a head. To judge a start line whatever follows
+/// it, call `judge_request_line`.
 pub fn read_request(alloc: Global, text: &[u8]) -> Result<Head<IcapRequest>, HeadFault>
     ensures ok { IfOk result (λ head. HasRequest text.now (request_parts head.value) head.length) }
     ensures writable { IfOk result (λ head. IsRequest (request_parts head.value)) }
 
-    // A head is read wherever one is, unless memory runs out.
+    // If the text begins with a head, it is read, unless memory runs out.
     ensures found { (value : Request) (size : ℕ) → HasRequest text.now value size
         → (result ≡ Err HeadFault.NoMemory)
         ⊎ IsOkAnd result (λ head. (request_parts head.value ≡ value) × (head.length ≡ size)) }
 
-    // A fault is answered only where it stands, or behind a line whose URI found no memory.
+    // A fault is returned only where it applies, or after a line whose URI found no memory.
     ensures err { IfErr result (λ fault. RefusesIcapHead RequestForm fault text.now ⊎ ForWantOfMemory fault text.now) }
 
     // Each fault but those of the start line is answered wherever it stands, whatever memory says; so is one of a start line
@@ -102,8 +110,8 @@ fn find_request(alloc: Global, text: &[u8]) -> Result<Head<IcapRequest>, HeadFau
     })
 }
 
-/// Judges the first line of a text as that of a request, whatever stands behind it: `Ok` where it is one, and where no
-/// line has ended within the bytes that are judged.
+/// Judges the first line of a text as a request line, whatever follows it: `Ok` if it is one, or if no line has ended
+/// yet within the bytes that are judged.
 pub fn judge_request_line(alloc: Global, text: &[u8]) -> Result<(), HeadFault>
     ensures ok { OnOk result ((line : List ℕ) (behind : List ℕ) → IsFirstLine (take MAX_HEAD text.now) line behind
         → RequestForm (codes "ICAP/1.0") line) }
@@ -118,8 +126,8 @@ pub fn judge_request_line(alloc: Global, text: &[u8]) -> Result<(), HeadFault>
     }
 }
 
-/// The text of a head that holds this request: CRLF behind each line, and one space behind each
-/// field's colon, also before an empty value. What is asked is what `is_writable` tests.
+/// The text of a head that holds this request: CRLF after each line, and one space after each
+/// field's colon, also before an empty value. The request must be writable, as `is_writable` tests.
 pub fn write_request(alloc: Global, request: &IcapRequest) -> Result<Vec<u8>, NoMemory>
     requires { IsRequest (request_parts request.now) }
     ensures text { IfOk result (λ text. text.items ≡ request_text (request_parts request.now)) }

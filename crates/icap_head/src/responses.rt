@@ -14,7 +14,7 @@ use std::alloc::Global;
 /// The head of a response (RFC 3507, section 4.3.3).
 #[derive(Debug, Drop)]
 pub struct IcapResponse {
-    /// Three digits: 0 to 999.
+    /// The status, written with three digits: 0 to 999.
     pub status: u16,
     /// The reason phrase, which may be empty.
     pub phrase: Vec<u8>,
@@ -22,7 +22,7 @@ pub struct IcapResponse {
 }
 
 impl IcapResponse {
-    /// Whether some head holds this response, so that it can be written: its status is below 1,000, its
+    /// Whether this response can be written, since some head holds it: its status is below 1,000, its
     /// phrase has no LF, and its fields are such that a line can hold.
     pub fn is_writable(&self) -> bool
         ensures { IsTrue result ↔ IsResponse (response_parts self.now) }
@@ -37,16 +37,16 @@ impl IcapResponse {
     }
 }
 
-/// Reads the head of a response at the front of the text: `ICAP/1.0`, a space, three digits, and nothing
+/// Reads the head of a response at the start of the text: `ICAP/1.0`, a space, three digits, and nothing
 /// or a space and a phrase; field lines and an empty line (RFC 3507, section 4.3.3; RFC 9112, sections 2,
 /// 4 and 5). A line ends at its LF, and one CR before that is dropped; a phrase has any other bytes.
 ///
-/// The errors are those of `HeadFault`, the first that stands; `NoMemory` only where a head is there.
+/// The error is the first `HeadFault` that applies. `NoMemory` comes only if the text begins with a head.
 pub fn read_response(alloc: Global, text: &[u8]) -> Result<Head<IcapResponse>, HeadFault>
     ensures ok { IfOk result (λ head. HasResponse text.now (response_parts head.value) head.length) }
     ensures writable { IfOk result (λ head. IsResponse (response_parts head.value)) }
 
-    // A head is read wherever one is, unless memory runs out.
+    // If the text begins with a head, it is read, unless memory runs out.
     ensures found { (value : Response) (size : ℕ) → HasResponse text.now value size
         → (result ≡ Err HeadFault.NoMemory)
         ⊎ IsOkAnd result (λ head. (response_parts head.value ≡ value) × (head.length ≡ size)) }
@@ -81,9 +81,9 @@ fn find_response(alloc: Global, text: &[u8]) -> Result<Head<IcapResponse>, HeadF
     })
 }
 
-/// The text of a head that holds this response: CRLF behind each line, a status of three digits with a
-/// space behind it, also before an empty phrase, and one space behind each field's colon. What is asked
-/// is what `is_writable` tests.
+/// The text of a head that holds this response: CRLF after each line, a status of three digits and a
+/// space, also before an empty phrase, and one space after each field's colon. The response must be
+/// writable, as `is_writable` tests.
 pub fn write_response(alloc: Global, response: &IcapResponse) -> Result<Vec<u8>, NoMemory>
     requires { IsResponse (response_parts response.now) }
     ensures text { IfOk result (λ text. text.items ≡ response_text (response_parts response.now)) }

@@ -10,7 +10,7 @@ use adapt_bytes::{is_token, same_ascii};
 use http_uri::{Uri, UriError};
 use std::alloc::Global;
 
-/// The first line, and where the text behind it begins.
+/// The first line, and the offset of the text after it.
 pub(crate) fn first_line(text: &[u8]) -> Option<(&[u8], usize)>
     ensures some { IfSome result (λ r. (r.1 ≤ length text.now) × IsFirstLine text.now r.0.now (drop r.1 text.now)) }
     ensures none { IfNone result (HasNoLine text.now) }
@@ -29,7 +29,7 @@ fn strip_cr(raw: &[u8]) -> &[u8]
     }
 }
 
-/// The text before the first space, and that behind it.
+/// The text before the first space, and the text after it.
 fn cut_at_space(text: &[u8]) -> Option<(&[u8], &[u8])>
     ensures some { IfSome result (λ r. (text.now ≡ r.0.now ++ 32 ∷ r.1.now) × Lacks 32 r.0.now) }
     ensures none { IfNone result (Lacks 32 text.now) }
@@ -38,7 +38,7 @@ fn cut_at_space(text: &[u8]) -> Option<(&[u8], &[u8])>
     Some((&text[..at], &text[at + 1..]))
 }
 
-/// The method and the URI of a request line, or `None` where memory ran out before the URI was judged.
+/// The method and the URI of a request line, or `None` if memory ran out before the URI was judged.
 pub(crate) fn read_request_line(
     alloc: Global,
     line: &[u8],

@@ -11,7 +11,7 @@ abbrev pub AreAll : Option (List ℕ) → List ℕ → Type 0
 AreAll None bytes = ⊤
 AreAll (Some all) bytes = all ≡ bytes
 
--- the answers to all of the reader's bytes were added to what the writer holds; or where memory ran out, those to a front of
+-- the answers to all of the reader's bytes were added to what the writer holds; or where memory ran out, those to a prefix of
 -- them and a 500
 pub record AnswersAll (s : Shown) (reader old new : Option (List ℕ)) : Type 0 where
   pub bytes : List ℕ
@@ -20,7 +20,7 @@ pub record AnswersAll (s : Shown) (reader old new : Option (List ℕ)) : Type 0 
   pub answers : Answers s bytes text ⊎ AnswersUntilMemoryRanOut s bytes text
   pub written : Appends old new text
 
--- the answers to a front of the reader's bytes were added
+-- the answers to a prefix of the reader's bytes were added
 pub record AnswersFront (s : Shown) (reader old new : Option (List ℕ)) : Type 0 where
   pub front : List ℕ
   pub left : Option (List ℕ)

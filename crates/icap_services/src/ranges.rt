@@ -9,7 +9,7 @@ use adapt_bytes::{MAX_CONNECTIONS, MAX_PREVIEW};
 use std::alloc::Global;
 
 impl Settings {
-    /// These settings, or `None` where one is out of its range.
+    /// These settings, or `None` if one is out of its range.
     pub fn new(istag: Vec<u8>, max: u64, ttl: u64, preview: u64) -> Option<Settings>
         ensures same { IfSome result (λ settings. shown settings
             ≡ record { istag = istag.items; max = max; ttl = ttl; preview = preview }) }
@@ -38,7 +38,7 @@ impl Settings {
         })
     }
 
-    /// The same settings once more.
+    /// A copy of the settings. `NoMemory` if the tag finds no memory.
     pub fn try_clone(&self, alloc: Global) -> Result<Settings, NoMemory>
         ensures { IfOk result (λ copy. shown copy ≡ shown self.now) }
     {

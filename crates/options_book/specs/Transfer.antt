@@ -6,7 +6,7 @@ use Rattle.options_book.specs.declared.transfer.Treat.{Treat}
 use Rattle.options_book.specs.declared.transfer.Treat.TheVariants.{Complete, Preview, Ignore}
 use Rattle.options_book.specs.declared.transfer.TransferLists.{TransferLists}
 
--- the items of comma-separated lists, one list behind the other
+-- the items of comma-separated lists, one list after the other
 abbrev pub items_of : List (List ℕ) → List (List ℕ)
 items_of [] = []
 items_of (list ∷ lists) = comma_items list ++ items_of lists

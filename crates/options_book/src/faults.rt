@@ -1,27 +1,27 @@
-//! Why an OPTIONS response is no record.
+//! Why an OPTIONS response is refused.
 
 ghost use Rattle.std.specs.Prelude.{◌≡◌};
 ghost use Rattle.options_book.specs.Options.{fault_number};
 
 use thiserror::Error;
 
-/// Why an OPTIONS response is no record; the first in this order that stands.
+/// Why an OPTIONS response is refused: the first of these that applies.
 #[derive(Clone, Copy, Debug, PartialEq, Eq, Error)]
 pub enum OptFault {
     /// The status isn't 200.
     #[error("the status isn't 200")]
     Status = 1,
-    /// There is no Methods field, or none with the method of the point.
+    /// No Methods field names the method of the point.
     #[error("Methods is missing, or lacks the method")]
     NoMethods = 2,
-    /// There is no ISTag field, or without its quotes it is empty or has over 256 bytes.
+    /// The ISTag field is missing, or without its quotes it is empty or longer than 256 bytes.
     #[error("ISTag is missing, empty or too long")]
     NoTag = 3,
-    /// Preview, Max-Connections or Options-TTL is no decimal up to `2^62 - 1`, or has two different values, or
+    /// Preview, Max-Connections or Options-TTL isn't a decimal number up to `2^62 - 1`, or has two different values, or
     /// Max-Connections is 0.
     #[error("Preview, Max-Connections or Options-TTL is no good number")]
     Number = 4,
-    /// The Encapsulated list isn't one of an OPTIONS response, or stands in two fields.
+    /// The Encapsulated list isn't one of an OPTIONS response, or there are two Encapsulated fields.
     #[error("bad Encapsulated list")]
     Encapsulated = 5,
     /// No memory was found for the record.

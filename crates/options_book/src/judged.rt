@@ -1,4 +1,4 @@
-//! Judging an OPTIONS response, before memory is taken for its record.
+//! Judging an OPTIONS response, before memory is allocated for its record.
 
 ghost use Rattle.std.specs.Prelude.{◌≡◌, ◌<◌, ◌↔◌, ℕ, List, Option, IfOk, IfErr, OnErr, IfSome, IsTrue, MatchOption};
 ghost use Rattle.adapt_bytes.specs.declared.limits.TheConstants.{COUNT_LIMIT};
@@ -16,7 +16,7 @@ use icap_head::{Fields, IcapResponse, NoMemory};
 use std::alloc::Global;
 use trace_core::Point;
 
-/// The most bytes of a tag, without its quotes.
+/// The largest size of a tag, without its quotes, in bytes.
 const MAX_ACCEPTED_TAG: usize = 256;
 
 /// The numbers of a response: bytes of a preview, connections, seconds.
@@ -27,7 +27,7 @@ pub(crate) struct Numbers {
     ttl: Option<u64>,
 }
 
-/// What a good response says, but for its lists.
+/// What a valid response says, except for its lists.
 #[derive(Clone, Copy, Debug)]
 pub(crate) struct Verified<'a> {
     tag: &'a [u8],

@@ -10,7 +10,7 @@ use crate::judged::judge;
 use icap_head::IcapResponse;
 use trace_core::Point;
 
-/// A response is read in one way: it is one record at most, it has one fault at most, and not both.
+/// A response has one reading: at most one record, at most one fault, and never both.
 pub fn reads_one_way()
     ensures one_record { (point : Point) (moment : ℕ) (response : Response) (options others : Options)
         → IsRecordOf point moment response options → IsRecordOf point moment response others → options ≡ others }
@@ -20,7 +20,7 @@ pub fn reads_one_way()
         → IsRecordOf point moment response options → RefusesOptions fault point response → ⊥ }
 {}
 
-/// Each response has a reading: it is a record, or one of the faults stands.
+/// Each response has a reading: a record, or one of the faults.
 pub fn has_a_reading(response: &IcapResponse, point: Point)
     ensures { (moment : ℕ) → ((options : Options) × IsRecordOf point moment (response_parts response.now) options)
         ⊎ ((fault : OptFault) × RefusesOptions fault point (response_parts response.now)) }

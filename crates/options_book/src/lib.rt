@@ -1,4 +1,4 @@
-//! What a service's OPTIONS response allows, and how long it stays fresh (RFC 3507, section 4.10).
+//! What a service's OPTIONS response says, and for how long it stays fresh (RFC 3507, section 4.10).
 #![tactic(auto)]
 
 mod faults;

@@ -1,4 +1,4 @@
-//! The numbers of an OPTIONS response: each below the limit of counts, and the same wherever it is said.
+//! The numbers of an OPTIONS response: each is below the limit of counts, and repeated fields must agree.
 
 ghost use Rattle.std.specs.Prelude.{◌≡◌, ◌<◌, ℕ, Option, IfOk, OnErr, MatchOption};
 ghost use Rattle.adapt_bytes.specs.declared.limits.TheConstants.{COUNT_LIMIT};
@@ -11,7 +11,7 @@ use crate::OptFault;
 use adapt_bytes::{COUNT_LIMIT, read_decimal};
 use icap_head::Fields;
 
-/// The number of the fields of this name; none where there is no such field.
+/// The number that the fields of this name give; `None` if there is no such field.
 pub(crate) fn number(fields: &Fields, name: &[u8]) -> Result<Option<u64>, OptFault>
     ensures ok { IfOk result (IsNumber (values_of name.now (field_list fields.now))) }
     ensures err { OnErr result ((number : Option ℕ) → IsNumber (values_of name.now (field_list fields.now)) number → ⊥) }
@@ -27,7 +27,7 @@ pub(crate) fn number(fields: &Fields, name: &[u8]) -> Result<Option<u64>, OptFau
     }
 }
 
-/// The number that a text spells, where it is a decimal below the limit of counts.
+/// The number that a text spells, if it is a decimal number below the limit of counts.
 fn read_number(text: &[u8]) -> Option<u64>
     ensures { MatchOption result ((n : ℕ) → n < COUNT_LIMIT → Writes 10 text.now n → ⊥) (λ n. (n < COUNT_LIMIT) × Writes 10 text.now n) }
 {

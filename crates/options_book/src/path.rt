@@ -4,7 +4,7 @@ ghost use Rattle.std.specs.Prelude.{◌≡◌, ◌++◌, ◌∷◌, List, ℕ, I
 ghost use Rattle.adapt_bytes.specs.Text.{Lacks};
 ghost use Rattle.options_book.specs.Extension.{IsLastSegment, IsExtension};
 
-/// The text behind the last `.` of the path's last segment, which may be empty; none where that segment has no `.`.
+/// The text after the last `.` of the path's last segment, which may be empty; `None` if that segment has no `.`.
 pub fn extension(path: &[u8]) -> Option<&[u8]>
     ensures some { IfSome result (λ found. IsExtension path.now found.now) }
     ensures none { IfNone result ((found : List ℕ) → IsExtension path.now found → ⊥) }
@@ -12,14 +12,14 @@ pub fn extension(path: &[u8]) -> Option<&[u8]>
     behind_last(last_segment(path), b'.')
 }
 
-/// The text behind the path's last `/`, or the whole path.
+/// The text after the path's last `/`, or the whole path.
 fn last_segment(path: &[u8]) -> &[u8]
     ensures { IsLastSegment path.now result.now }
 {
     behind_last(path, b'/').unwrap_or(path)
 }
 
-/// The text behind the last byte of this value.
+/// The text after the last byte of this value.
 fn behind_last(text: &[u8], byte: u8) -> Option<&[u8]>
     ensures some { IfSome result (λ found. (front : List ℕ)
         × (text.now ≡ front ++ byte ∷ found.now) × Lacks byte found.now) }

@@ -10,9 +10,9 @@ use icap_head::IcapResponse;
 use std::alloc::Global;
 use trace_core::Point;
 
-/// The record of an OPTIONS response that a point's service gave, read at the moment `now`, in seconds.
+/// Reads the OPTIONS response of a point's service as a record, at the time `now`, in seconds.
 ///
-/// The fault is the first that stands, in the order of [`OptFault`]; `NoMemory` comes only where the response is a record.
+/// The fault is the first that applies, in the order of [`OptFault`]; `NoMemory` comes only if the response is valid.
 pub fn read_record(
     alloc: Global,
     response: &IcapResponse,

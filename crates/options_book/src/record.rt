@@ -1,4 +1,4 @@
-//! What a record holds of an OPTIONS response.
+//! The record of an OPTIONS response.
 
 use crate::Treat;
 use crate::transfer::TransferLists;
@@ -6,7 +6,17 @@ use crate::words::unquoted;
 use adapt_bytes::MAX_CONNECTIONS;
 use std::marker::Model;
 
-/// What a service's OPTIONS response says, and when it was read (RFC 3507, section 4.10.2).
+/// The record of a service's OPTIONS response, with the time at which it was read (RFC 3507, section 4.10.2).
+///
+/// ```
+/// let text = b"ICAP/1.0 200 OK\r\nMethods: RESPMOD\r\nISTag: \"v1\"\r\n\
+///              Preview: 1024\r\nOptions-TTL: 60\r\nEncapsulated: null-body=0\r\n\r\n";
+/// let response = read_response(alloc, text)?.value;
+/// let record = read_record(alloc, &response, Point::Respmod, 1000)?;
+/// assert_eq!(rt; record.preview(), Some(1024));
+/// assert!(rt; record.is_fresh(1059, None));
+/// assert!(rt; !record.is_fresh(1060, None));
+/// ```
 #[derive(Debug, Drop)]
 pub struct Record {
     pub(crate) tag: Vec<u8>,
@@ -38,9 +48,9 @@ impl Record {
     ghost use Rattle.options_book.specs.Options.{IsFresh, most_connections, unquoted};
     ghost use Rattle.options_book.specs.Transfer.{treat_of};
 
-    /// Whether the record serves at the moment `now`, in seconds: fewer seconds than Options-TTL says have passed since
-    /// it was read, and the last answer of the service, where it had an ISTag, had the record's. Without Options-TTL time
-    /// never makes it stale; a moment before the reading counts as the reading.
+    /// Whether the record is fresh at the time `now`, in seconds: fewer seconds than Options-TTL have passed since it
+    /// was read, and the service's last answer, if it had an ISTag, had the record's ISTag. Without Options-TTL a
+    /// record never expires. A time before the reading counts as the time of the reading.
     pub fn is_fresh(&self, now: u64, last_tag: Option<&[u8]>) -> bool
         ensures { IsTrue result ↔ IsFresh self.now now (option_copied last_tag.entry) }
     {
@@ -57,7 +67,7 @@ impl Record {
         }
     }
 
-    /// Whether a later answer's tag, where there is one, is the record's.
+    /// Whether a later answer's tag, if it has one, is the record's.
     fn has_tag(&self, last_tag: Option<&[u8]>) -> bool
         ensures { IsTrue result ↔ IfSome (option_copied last_tag.entry) (λ tag. unquoted tag ≡ self.now.tag) }
     {
@@ -67,15 +77,15 @@ impl Record {
         }
     }
 
-    /// How the service wants a message whose path has this extension, or none: by the Transfer list that names it, Complete
-    /// before Preview before Ignore; else by the list that has `*`; else whole.
+    /// How the service wants a message whose path has this extension, or no extension: by the Transfer list that names
+    /// it, Complete before Preview before Ignore; else by the list that has `*`; else whole.
     pub fn treat(&self, extension: Option<&[u8]>) -> Treat
         ensures { result ≡ treat_of self.now.lists (option_copied extension.entry) }
     {
         self.lists.treat(extension)
     }
 
-    /// How many bytes of a preview the service wants, where it says so.
+    /// The size of the preview that the service wants, in bytes, if it says so.
     pub fn preview(&self) -> Option<u64>
         ensures size { result ≡ self.now.preview }
         ensures bound { IfSome result (λ n. n < COUNT_LIMIT) }
@@ -83,7 +93,7 @@ impl Record {
         self.preview
     }
 
-    /// How many connections may be open at once: Max-Connections, and at most 1,024; none where the service doesn't say.
+    /// The largest number of open connections: Max-Connections, at most 1,024; `None` if the service doesn't say.
     pub fn max(&self) -> Option<u64>
         ensures { result ≡ most_connections self.now }
     {

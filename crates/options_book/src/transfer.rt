@@ -29,7 +29,7 @@ pub struct TransferLists {
 }
 
 impl TransferLists {
-    /// What the lists say of an item, an extension or `*`; Complete wins, then Preview, then Ignore.
+    /// What the lists say of an item, an extension or `*`: Complete wins, then Preview, then Ignore.
     fn listed(&self, item: &[u8]) -> Option<Treat>
         ensures { result ≡ listed (kept_lists self.now) item.now }
     {
@@ -44,7 +44,7 @@ impl TransferLists {
         }
     }
 
-    /// How the service wants a message whose path has this extension, or none.
+    /// How the service wants a message whose path has this extension, or no extension.
     pub(crate) fn treat(&self, extension: Option<&[u8]>) -> Treat
         ensures { result ≡ treat_of (kept_lists self.now) (option_copied extension.entry) }
     {
@@ -59,7 +59,7 @@ impl TransferLists {
     }
 }
 
-/// Whether the item is one of these, ASCII case ignored.
+/// Whether the item is one of these, ignoring ASCII case.
 fn is_among(items: &[Vec<u8>], item: &[u8]) -> bool
     ensures { result ≡ is_among (map vec_bytes items.now) item.now }
 {

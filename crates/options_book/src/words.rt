@@ -35,7 +35,7 @@ pub(crate) fn serves(fields: &Fields, point: Point) -> bool
     false
 }
 
-/// Whether a comma-separated list has the item, in its exact case.
+/// Whether a comma-separated list has the item. Case matters.
 fn lists_item(list: &[u8], item: &[u8]) -> bool
     ensures { result ≡ lists_item list.now item.now }
 {
@@ -47,7 +47,7 @@ fn lists_item(list: &[u8], item: &[u8]) -> bool
     false
 }
 
-/// Copies of the items that the comma-separated lists of all fields of this name have.
+/// Copies of the items of the comma-separated lists in all fields of this name.
 pub(crate) fn copy_items(
     alloc: Global,
     fields: &Fields,
@@ -62,7 +62,7 @@ pub(crate) fn copy_items(
     Ok(copies)
 }
 
-/// Copies of the items of one list, behind the others.
+/// Appends copies of the items of one list.
 fn push_items(alloc: Global, copies: &mut Vec<Vec<u8>>, list: &[u8]) -> Result<(), NoMemory>
     ensures { OnOk result (map vec_bytes copies.new.items ≡ map vec_bytes copies.old.items ++ comma_items list.now) }
 {

@@ -7,7 +7,7 @@ ghost use Rattle.service_pool.specs.History.{is_take, is_return, is_limit, HasLa
 ghost use Rattle.service_pool.specs.Replay.{open_count, replay};
 ghost use Rattle.service_pool.specs.Journal.{IsWithin, AreAllowed, Journaled, IsSound, opening, rebased, slid, run};
 
-/// At every moment at most the maximum are open, or none is idle.
+/// At every moment at most the maximum are open, or no connection is idle.
 pub fn at_most_the_maximum_or_none_idle()
     ensures lists { (base : Numbers) (steps : List PoolStep)
         → IsWithin base → AreAllowed base steps → IsWithin (replay base steps) }
@@ -54,15 +54,15 @@ pub fn maximum_is_the_last_one_set()
         → (replay base (earlier ++ PoolStep.Limit maximum ∷ later)).maximum ≡ maximum }
 {}
 
-/// A log that is cut in two replays as it did whole: its second part from the numbers after its
+/// A log that is cut in two replays as the whole does: its second part from the numbers after its
 /// first.
 pub fn parts_replay_as_the_whole()
     ensures { (base : Numbers) (first second : List PoolStep)
         → replay base (first ++ second) ≡ replay (replay base first) second }
 {}
 
-/// However often a full journal made room, it has the last of all steps ever taken, its base is
-/// what the earlier ones replay to, and the numbers are what all of them replay to.
+/// However often a full journal made room, it has the most recent of all steps ever taken, its base
+/// is what the earlier ones replay to, and the numbers are what all of them replay to.
 pub fn journals_forget_nothing()
     ensures windows { (start : Journaled) (steps : List PoolStep)
         → start.base ≡ start.numbers → start.steps ≡ []
@@ -72,7 +72,7 @@ pub fn journals_forget_nothing()
         → HasLast start.numbers steps (run rebased start steps) }
 {}
 
-/// A window holds the last steps: as many as it has room for, or all that were taken.
+/// A window holds the most recent steps: as many as it has room for, or all that were taken.
 pub fn windows_hold_the_last_steps()
     ensures { (base : Numbers) (room : ℕ) (steps : List PoolStep) → 0 < room
         → (run slid (opening base room) steps).steps ≡ keep_last room steps }

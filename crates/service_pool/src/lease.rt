@@ -6,8 +6,8 @@ use std::sync::ledger::{Book, Ledger, Share};
 
 /// A lease, or connection slot: the right to have one connection of a pool open.
 ///
-/// `L` names the ledger of its pool, so a pool takes no lease of another one. A lease has one part
-/// of the ledger, and counts one in it. It has no `Drop`: it has to go back to its pool, by `put`,
+/// `L` names the ledger of its pool, so a pool takes no lease of another pool. A lease has one part
+/// of the ledger, and counts one in it. It has no `Drop`: it must go back to its pool, by `put`,
 /// `give_up` or `audit`. Contracts see whether its connection was idle when it was taken.
 #[must_use]
 pub struct Lease<L: Ledger> {
@@ -26,14 +26,14 @@ impl<L: Ledger> Model for Lease<L> {
     ghost invariant = { λ l. (l.share.parts ≡ 1) × (l.share.amount ≡ 1) };
 }
 
-/// What a `take` gives.
+/// The result of a `take`.
 #[must_use]
 pub enum Taken<C, L: Ledger> {
     /// The idle connection that was put last, leased.
     Idle(C, Lease<L>),
-    /// None is idle: the lease of a connection that the caller may open.
+    /// No connection is idle: the lease of one that the caller may open.
     Fresh(Lease<L>),
-    /// None is idle, and none may be opened.
+    /// No connection is idle, and no more may be opened.
     Busy,
 }
 
@@ -68,7 +68,7 @@ pub(crate) fn give_back<L: Ledger>(leased: &mut Book<L>, rest: &mut Share<L>, le
 }
 
 impl<L: Ledger> Lease<L> {
-    /// Whether the connection was idle when it was taken: true from then on until it is replaced.
+    /// Whether the connection was idle when it was taken, and hasn't been replaced since.
     pub fn reused(&self) -> bool
         ensures { result ≡ self.now.reused }
     {

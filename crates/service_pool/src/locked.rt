@@ -1,4 +1,4 @@
-//! What lies under a pool's lock: its state, and the book of its leases.
+//! The locked part of a pool: its state, and the book of its leases.
 ghost use Rattle.std.specs.Prelude.{◌≡◌, ◌↔◌, ◌+◌, ◌≤◌, ◌<◌, [], ◌∷◌, ◌++◌, false, IsErr, IfOk, IfErr, OnOk, OnErr, IfSome, IfNone, vec_len};
 ghost use Rattle.service_pool.specs.Leasing.{found, Tells};
 ghost use Rattle.service_pool.specs.Pooled.{Takes, IsBusy, IsKept};
@@ -15,7 +15,7 @@ use std::alloc::Global;
 use std::marker::Model;
 use std::sync::ledger::{Blank, Book, Ledger, Share};
 
-/// The locked part of a pool, which its lock keeps as each method leaves it.
+/// The locked part of a pool, between two calls of its methods.
 ///
 /// The total of its leases is the leased number: each lease has one part of the ledger and counts
 /// one in it, and the other parts lie here. Contracts see it as its state.
@@ -43,7 +43,7 @@ impl<C, L: Ledger> Model for Locked<C, L> {
 }
 
 impl<C, L: Ledger> Locked<C, L> {
-    /// The locked part round a state with no lease. The blank has `LEDGER_PARTS` parts.
+    /// The locked part of a state with no lease. The blank has `LEDGER_PARTS` parts.
     pub fn new(state: PoolState<C, Window>, blank: Blank) -> Locked<C, L>
         requires blank { (blank.name ≡ L.name) × (blank.parts ≡ L.parts)
             × (blank.parts ≡ LEDGER_PARTS) }
@@ -66,7 +66,7 @@ impl<C, L: Ledger> Locked<C, L> {
         ensures take { Takes slid self.old self.new (found result) }
         ensures tells { Tells result }
 
-        // It is refused exactly where none is idle and the leased aren't below the maximum.
+        // It is refused exactly if no connection is idle and the leased aren't below the maximum.
         ensures busy { (result ≡ Taken.Busy) ↔ IsBusy self.old }
         ensures kept { IsKept self.new }
     {
@@ -82,8 +82,8 @@ impl<C, L: Ledger> Locked<C, L> {
         }
     }
 
-    /// Puts a leased connection back and ends its lease, as the step `Put`. Where more than the
-    /// maximum are open, itself among them, it is handed back to be closed.
+    /// Puts a leased connection back and ends its lease, as the step `Put`. If more than the
+    /// maximum are open, itself included, it is handed back to be closed.
     pub fn put(&mut self, connection: C, lease: Lease<L>) -> Option<C>
         ensures stays { IfNone result
             ((open_count self.old.journal.numbers ≤ self.old.journal.numbers.maximum)
@@ -122,7 +122,7 @@ impl<C, L: Ledger> Locked<C, L> {
     }
 
     /// Opens a connection in place of a leased one that broke and that the caller closes, as the
-    /// step `Replace`. `Over` where more than the maximum are open; then nothing changes.
+    /// step `Replace`. `Over` if more than the maximum are open; then nothing changes.
     pub fn replace(&mut self, lease: &mut Lease<L>) -> Result<(), Over>
         ensures over { IsErr result
             ↔ (self.old.journal.numbers.maximum < open_count self.old.journal.numbers) }
@@ -140,9 +140,9 @@ impl<C, L: Ledger> Locked<C, L> {
         Ok(())
     }
 
-    /// Sets how many connections may be open, as the step `Limit`, and hands back the idle ones to
-    /// be closed: the oldest first, until at most that many are open or none is idle. `Err` where
-    /// there is no memory for their list.
+    /// Sets the largest number of open connections, as the step `Limit`, and hands back idle ones to
+    /// be closed: oldest first, until at most that many are open or no connection is idle. `Err` if
+    /// their list finds no memory.
     pub fn set_max(&mut self, alloc: Global, maximum: u64) -> Result<Vec<C>, NoMemory>
         requires { maximum ≤ MAX_CONNECTIONS }
         ensures oldest { IfOk result (λ closed. closed.items ++ self.new.idle ≡ self.old.idle) }
@@ -155,8 +155,9 @@ impl<C, L: Ledger> Locked<C, L> {
         self.state.set_max(alloc, maximum)
     }
 
-    /// The number of all leases, which is the leased number; idle connections are closed. With
-    /// fewer leases than are out it is `Missing`, and everything is handed back as it was.
+    /// Ends the pool with all its leases, and returns their number, which is the leased number; idle
+    /// connections are closed. `Missing` if fewer leases were handed in than are out; then
+    /// everything is handed back as it was.
     pub fn audit(
         self,
         leases: Vec<Lease<L>>,

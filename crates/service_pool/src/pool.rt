@@ -1,5 +1,5 @@
-//! The pool that threads share: one lock, and calls that take it, call one method of what lies
-//! under it, and let go.
+//! The pool that threads share: each call takes its one lock, calls one method of the locked part,
+//! and releases the lock.
 ghost use Rattle.std.specs.Prelude.{◌≡◌, ◌≤◌, ◌<◌, false, OnOk, OnErr, IfOk, IfErr, IfSome, vec_len};
 ghost use Rattle.service_pool.specs.Leasing.{Tells};
 
@@ -15,17 +15,32 @@ use std::sync::{Mutex, Wait};
 
 /// A bounded pool of connections to one service, which threads share by reference.
 ///
-/// `L` names the ledger of its leases. A ledger is picked once for each pool, so no lease of
-/// another pool fits the types of its calls. Only `new` and `set_max` take memory.
+/// `L` names the ledger of its leases. A ledger is picked once for each pool, so its calls accept no
+/// lease of another pool. Only `new` and `set_max` allocate.
+///
+/// ```
+/// let pool: Pool<u32, L> = Pool::new(alloc, blank, 1, 16)?;
+/// match pool.take(rt) {
+///     Taken::Idle(connection, lease) => {
+///         let closed = pool.put(rt, connection, lease);
+///     }
+///     // The caller opens connection 7, uses it, and puts it back.
+///     Taken::Fresh(lease) => {
+///         let closed = pool.put(rt, 7, lease);
+///         assert_eq!(rt; closed, None);
+///     }
+///     Taken::Busy => {}
+/// }
+/// ```
 #[derive(Drop)]
 pub struct Pool<C, L: Ledger> {
     locked: Mutex<Locked<C, L>>,
 }
 
 impl<C, L: Ledger> Pool<C, L> {
-    /// A pool with no connection, of which at most `maximum` may be open, with room for
-    /// `MAX_CONNECTIONS` idle connections and a journal of so many steps. The blank has
-    /// `LEDGER_PARTS` parts. `Err` where there is no memory for that room.
+    /// A pool without connections, of which at most `maximum` may be open, with room for
+    /// `MAX_CONNECTIONS` idle connections and `journal` steps. The blank has `LEDGER_PARTS` parts.
+    /// `Err` if that room finds no memory.
     pub fn new(
         alloc: Global,
         blank: Blank,
@@ -43,17 +58,16 @@ impl<C, L: Ledger> Pool<C, L> {
         })
     }
 
-    /// Takes the idle connection that was put last, or the right to open one where none is idle
-    /// and fewer than the maximum are leased; else `Busy`. The lease tells
-    /// which.
+    /// Takes the idle connection that was put last. If there is none, takes the right to open one if
+    /// fewer than the maximum are leased; else returns `Busy`. The lease tells which.
     pub fn take(&self, rt: &impl Wait) -> Taken<C, L>
         ensures { Tells result }
     {
         self.locked.lock(rt).take()
     }
 
-    /// Puts a leased connection back. Where more than the maximum are open, itself among them, it
-    /// is handed back to be closed.
+    /// Puts a leased connection back. If more than the maximum are open, itself included, it is
+    /// handed back to be closed.
     pub fn put(&self, rt: &impl Wait, connection: C, lease: Lease<L>) -> Option<C>
         ensures { IfSome result (λ c. c ≡ connection) }
     {
@@ -65,9 +79,9 @@ impl<C, L: Ledger> Pool<C, L> {
         self.locked.lock(rt).give_up(lease)
     }
 
-    /// Lets a fresh connection be opened in place of a leased one that its service has ended or
-    /// that failed. The caller closes what is left of that, as soon as the fresh one is opened at
-    /// the latest. `Over` where more than the maximum are open; then the lease stays as it is.
+    /// Allows a fresh connection in place of a leased one that its service has ended or that failed.
+    /// The caller closes the old one, at the latest once the fresh one is opened. `Over` if more than
+    /// the maximum are open; then the lease stays as it is.
     pub fn replace(&self, rt: &impl Wait, lease: &mut Lease<L>) -> Result<(), Over>
         ensures fresh { OnOk result (lease.new ≡ record { reused = false }) }
         ensures err { OnErr result (lease.new ≡ lease.old) }
@@ -75,9 +89,9 @@ impl<C, L: Ledger> Pool<C, L> {
         self.locked.lock(rt).replace(lease)
     }
 
-    /// Sets how many connections may be open, and hands back the idle ones to be closed: the
-    /// oldest first, until at most that many are open or none is idle. `Err` where there is no
-    /// memory for their list; nothing has changed then.
+    /// Sets the largest number of open connections, and hands back idle ones to be closed: oldest
+    /// first, until at most that many are open or no connection is idle. `Err` if their list finds
+    /// no memory; then nothing has changed.
     pub fn set_max(&self, rt: &impl Wait, alloc: Global, maximum: u64) -> Result<Vec<C>, NoMemory>
         requires { maximum ≤ MAX_CONNECTIONS }
         ensures { IfOk result (λ closed. vec_len closed ≤ MAX_CONNECTIONS) }
@@ -85,8 +99,9 @@ impl<C, L: Ledger> Pool<C, L> {
         self.locked.lock(rt).set_max(alloc, maximum)
     }
 
-    /// The number of all leases, which is the leased number; idle connections are closed. With
-    /// fewer leases than are out it is `Missing`, and the pool and the leases are handed back.
+    /// Ends the pool with all its leases, and returns their number, which is the leased number; idle
+    /// connections are closed. `Missing` if fewer leases were handed in than are out; then the pool
+    /// and the leases are handed back.
     pub fn audit(
         self,
         leases: Vec<Lease<L>>,

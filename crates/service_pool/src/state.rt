@@ -21,7 +21,7 @@ use std::marker::Model;
 /// journal's form: `Window`, or `RebasingJournal`.
 #[derive(Drop)]
 pub struct PoolState<C, J: Journal> {
-    // The oldest in front.
+    // Oldest first.
     idle: VecDeque<C>,
     journal: J,
 }
@@ -40,21 +40,20 @@ impl<C, J: Journal> Model for PoolState<C, J> {
         × (MAX_CONNECTIONS ≤ deque_capacity s.idle) };
 }
 
-/// What a `take` finds.
+/// The result of a `take`.
 #[derive(Debug, Drop, PartialEq, Eq)]
 pub enum Found<C> {
     /// The idle connection that was put last.
     Idle(C),
-    /// None is idle, and one may be opened.
+    /// No connection is idle, and one may be opened.
     Fresh,
-    /// None is idle, and none may be opened.
+    /// No connection is idle, and no more may be opened.
     Busy,
 }
 
 impl<C, J: Journal> PoolState<C, J> {
-    /// A pool with no connection, of which at most `maximum` may be open, with room for
-    /// `MAX_CONNECTIONS` idle connections and a journal of so many steps. `Err` where there is no
-    /// memory for that room.
+    /// A pool without connections, of which at most `maximum` may be open, with room for
+    /// `MAX_CONNECTIONS` idle connections and `journal` steps. `Err` if that room finds no memory.
     pub fn new(alloc: Global, maximum: u64, journal: usize) -> Result<PoolState<C, J>, NoMemory>
         requires maximum { maximum ≤ MAX_CONNECTIONS }
         requires journal { 1 ≤ journal }
@@ -89,7 +88,7 @@ impl<C, J: Journal> PoolState<C, J> {
         self.journal.base()
     }
 
-    /// The step at an index of the journal, 0 being the oldest that it keeps; `None` behind the
+    /// The step at an index of the journal, 0 being the oldest that it keeps; `None` after the
     /// last.
     pub fn journal_at(&self, index: usize) -> Option<PoolStep>
         ensures { result ≡ slice_get self.now.journal.steps index }
@@ -101,7 +100,7 @@ impl<C, J: Journal> PoolState<C, J> {
     pub fn take(&mut self) -> Found<C>
         ensures take { Takes J.makes_room self.old self.new result }
 
-        // It is refused exactly where none is idle and the leased aren't below the maximum.
+        // It is refused exactly if no connection is idle and the leased aren't below the maximum.
         ensures busy { (result ≡ Found.Busy) ↔ IsBusy self.old }
         ensures leased { self.new.journal.numbers.leased
             ≡ self.old.journal.numbers.leased + lease_count result }
@@ -121,8 +120,8 @@ impl<C, J: Journal> PoolState<C, J> {
         }
     }
 
-    /// Puts a leased connection back, as the step `Put`. It is kept as an idle one where at most
-    /// the maximum are open, itself among them. Otherwise it is handed back to be closed.
+    /// Puts a leased connection back, as the step `Put`. It is kept as an idle one if at most the
+    /// maximum are open, itself included. Otherwise it is handed back to be closed.
     pub fn put(&mut self, connection: C) -> Option<C>
         requires { 1 ≤ self.old.journal.numbers.leased }
         ensures stays { IfNone result
@@ -156,8 +155,8 @@ impl<C, J: Journal> PoolState<C, J> {
         self.journal.apply(PoolStep::GiveUp);
     }
 
-    /// Opens a connection in place of a leased one that broke, as the step `Replace`. `Over` where
-    /// more than the maximum are open; then it is no step.
+    /// Opens a connection in place of a leased one that broke, as the step `Replace`. `Over` if
+    /// more than the maximum are open; then it isn't a step.
     pub fn replace(&mut self) -> Result<(), Over>
         requires { 1 ≤ self.old.journal.numbers.leased }
         ensures over { IsErr result
@@ -177,9 +176,9 @@ impl<C, J: Journal> PoolState<C, J> {
         Ok(())
     }
 
-    /// Sets how many connections may be open, as the step `Limit`, and hands back the idle ones to
-    /// be closed: the oldest first, until at most that many are open or none is idle. `Err` where
-    /// there is no memory for their list.
+    /// Sets the largest number of open connections, as the step `Limit`, and hands back idle ones to
+    /// be closed: oldest first, until at most that many are open or no connection is idle. `Err` if
+    /// their list finds no memory.
     pub fn set_max(&mut self, alloc: Global, maximum: u64) -> Result<Vec<C>, NoMemory>
         requires { maximum ≤ MAX_CONNECTIONS }
         ensures oldest { IfOk result (λ closed. closed.items ++ self.new.idle ≡ self.old.idle) }

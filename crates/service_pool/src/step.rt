@@ -7,7 +7,7 @@ ghost use Rattle.service_pool.specs.Journal.{IsAllowed, IsBounded};
 use adapt_bytes::MAX_CONNECTIONS;
 use thiserror::Error;
 
-/// How many parts the ledger of a pool's leases has: one for each lease that may be out, and one
+/// The number of parts of the ledger of a pool's leases: one for each lease that may be out, and one
 /// that stays under the lock.
 pub const LEDGER_PARTS: u64 = MAX_CONNECTIONS + 1;
 
@@ -18,16 +18,16 @@ pub struct Numbers {
     pub idle: u64,
     /// Connections that are leased.
     pub leased: u64,
-    /// How many may be open. Where it was lowered more may still be; then none is idle.
+    /// The largest number of open connections. After it was lowered more may still be open; then none of them is idle.
     pub maximum: u64,
 }
 
 /// A step of a pool.
 #[derive(Clone, Copy, PartialEq, Eq, Debug)]
 pub enum PoolStep {
-    /// An idle connection is leased; where none is idle one is opened, and leased.
+    /// An idle connection is leased; if there is none, one is opened and leased.
     Take,
-    /// A leased connection becomes idle, or is closed where more than the maximum are open.
+    /// A leased connection becomes idle, or is closed if more than the maximum are open.
     Put,
     /// A leased connection is closed.
     GiveUp,

@@ -1,4 +1,4 @@
-//! The journal that keeps the last steps, as many as it has room for.
+//! The journal that keeps the most recent steps.
 ghost use Rattle.std.specs.Prelude.{◌≡◌, ◌≤◌, ◌<◌, length, IfOk, slice_get};
 ghost use Rattle.service_pool.specs.Journal.{Journaled, IsAllowed, IsBounded, opening, slid, pushed, stepped, IsSound};
 ghost use Rattle.service_pool.specs.Replay.{after};
@@ -10,8 +10,8 @@ use circular_buffer::HeapCircularBuffer;
 use std::alloc::Global;
 use std::marker::Model;
 
-/// A window of the last steps. A step that comes to a full one pushes out the oldest, which is
-/// applied to the base.
+/// A journal of the most recent steps, as many as it has room for. A step added to a full one
+/// pushes out the oldest, which is applied to the base.
 #[derive(Drop)]
 pub struct Window {
     numbers: Numbers,

@@ -1,5 +1,5 @@
-//! The budget, shared by threads. A call with `rt` takes the lock, calls one method of what lies
-//! under it, and lets go.
+//! The budget, shared by threads. A call with `rt` takes the lock, calls one method of the locked
+//! part, and releases the lock.
 ghost use Rattle.std.specs.Prelude.{◌≡◌, ◌+◌, ◌-◌, ◌≤◌, ◌<◌, ℕ, Err, IfOk, IfErr, IfSome, vec_len};
 ghost use Rattle.adapt_bytes.specs.declared.limits.TheConstants.{MAX_CAPACITY, MAX_ROWS};
 ghost use Rattle.span_bank.specs.declared.step.CapacityFault.TheVariants.{TooLow};
@@ -20,9 +20,18 @@ pub type Book = Numbers;
 
 /// The buffer budget of all transactions, which threads share by reference.
 ///
-/// `B` names its ledgers, which are picked once for each bank, so no stake of another bank fits the
-/// types of its calls.
-/// A call with `rt` takes the lock, calls one method of what lies under it, and lets go.
+/// `B` names its ledgers, which are picked once for each bank, so its calls accept no stake of another
+/// bank. A call with `rt` takes the lock, calls one method of the locked part, and releases the lock.
+///
+/// ```
+/// let bank: Bank<B> = Bank::new(alloc, blanks, 8192, 2, 16)?;
+/// let mut stake = bank.open(rt, 4096)?;
+/// // 100 bytes arrive, on one page.
+/// let pages = bank.grow(rt, &mut stake, 100, 1);
+/// assert_eq!(rt; bank.book(rt, Some(&mut stake)).held, 100);
+/// bank.shrink(rt, &mut stake, 100, pages);
+/// bank.close(rt, stake, Pages::none());
+/// ```
 #[derive(Drop)]
 pub struct Bank<B: Ledgers> {
     alloc: Global,
@@ -30,9 +39,9 @@ pub struct Bank<B: Ledgers> {
 }
 
 impl<B: Ledgers> Bank<B> {
-    /// A budget of `capacity` bytes for at most `rows` reservations, with a journal of so many
-    /// steps, and all pages that they can need. Each blank has a part for each row, and one more.
-    /// `Err` where there is too little memory; only `set_capacity` takes memory later.
+    /// A budget of `capacity` bytes for at most `rows` reservations, with room for `journal` steps
+    /// and all pages that the reservations can need. Each blank has a part for each row, and one
+    /// more. `Err` if memory runs out; later only `set_capacity` allocates.
     pub fn new(
         alloc: Global,
         blanks: Blanks,
@@ -58,8 +67,8 @@ impl<B: Ledgers> Bank<B> {
         })
     }
 
-    /// Reserves `claim` bytes, of which none is held yet. `Full` where the reservations would pass
-    /// the capacity, with the bytes that are reserved; else `NoRow` where each slot is taken.
+    /// Reserves `claim` bytes and holds none of them yet. `Full` if the reservations would exceed
+    /// the capacity, with the bytes that are reserved; else `NoRow` if each slot is taken.
     pub fn open(&self, rt: &impl Wait, claim: u64) -> Result<Stake<B>, OpenFault>
         requires { 1 ≤ claim }
         ensures stake { IfOk result (λ s. s ≡ record { held = 0; claim = claim; pages = 0 }) }
@@ -79,7 +88,7 @@ impl<B: Ledgers> Bank<B> {
         self.locked.lock(rt).grow(stake, n, k)
     }
 
-    /// Lets `n` bytes in use go, with pages. The bytes stay reserved.
+    /// Returns `n` bytes in use, with pages. The bytes stay reserved.
     pub fn shrink(&self, rt: &impl Wait, stake: &mut Stake<B>, n: u64, pages: Pages)
         requires some { 1 ≤ n }
         requires held { n ≤ stake.old.held }
@@ -90,8 +99,7 @@ impl<B: Ledgers> Bank<B> {
         self.locked.lock(rt).shrink(stake, n, pages)
     }
 
-    /// Lowers the reservation to `claim` bytes, for others to reserve. It collects no garbage: the
-    /// bytes in use stay in use.
+    /// Lowers the reservation to `claim` bytes, for others to reserve. The bytes in use stay in use.
     pub fn reclaim(&self, rt: &impl Wait, stake: &mut Stake<B>, claim: u64)
         requires held { stake.old.held ≤ claim }
         requires lower { claim ≤ stake.old.claim }
@@ -128,8 +136,8 @@ impl<B: Ledgers> Bank<B> {
         }
     }
 
-    /// Makes the budget `n` bytes large. `TooLow` where more bytes are reserved, with their number;
-    /// `NoMemory` where there is too little memory for new pages. Then nothing has changed.
+    /// Sets the size of the budget to `n` bytes. `TooLow` if more bytes are reserved, with their
+    /// number; `NoMemory` if new pages find no memory. In both cases nothing changes.
     pub fn set_capacity(&self, rt: &impl Wait, n: u64) -> Result<(), CapacityFault>
         requires { (1 ≤ n) × (n ≤ MAX_CAPACITY) }
         ensures { (claimed : ℕ) → result ≡ Err (TooLow claimed) → n < claimed }
@@ -152,7 +160,7 @@ impl<B: Ledgers> Bank<B> {
         unreachable!()
     }
 
-    /// Ends the bank with all its reservations, and answers their number and sums. `Missing` where
+    /// Ends the bank with all its reservations, and returns their number and sums. `Missing` if
     /// fewer stakes were handed in than are open: then the bank and the stakes come back.
     pub fn audit(self, stakes: Vec<Stake<B>>) -> Result<Audit, (Bank<B>, Vec<Stake<B>>, AuditFault)>
         ensures rows { IfOk result (λ a. a.rows ≡ vec_len stakes) }

@@ -1,4 +1,4 @@
-//! A chain of boxed pages with what stands on them.
+//! A chain of boxed pages with their contents.
 ghost use Rattle.std.specs.Prelude.{◌≡◌, ◌+◌, ◌-◌, ◌≤◌, ◌<◌, ◌*◌, [], ◌∷◌, ◌++◌, length, take, drop, replicate, IfOk, IfSome, IfNone};
 ghost use Rattle.span_bank.specs.Chain.{contents_of, text_of};
 
@@ -9,10 +9,10 @@ use std::boxed::Box;
 use std::marker::Model;
 use std::mem;
 
-/// The most pages of a chain.
+/// The largest number of pages of a chain.
 pub const MAX_PAGES: u64 = 1 << 40;
 
-/// A page, with those behind it. Between calls none is.
+/// A page, with the pages after it. Between calls no page has another after it.
 #[cycle(chain)]
 #[derive(Drop)]
 pub struct Page {
@@ -26,7 +26,7 @@ enum Top {
     More(Box<Page>),
 }
 
-/// A chain of pages in order. Contracts see what stands on each.
+/// A chain of pages in order. Contracts see the contents of each page.
 #[cycle(chain)]
 #[derive(Drop)]
 pub struct Chain {
@@ -54,7 +54,7 @@ impl Model for Chain {
     ghost size_decreases = { λ a h. Prim.grind (arith) };
 }
 
-/// A page with nothing on it.
+/// An empty page.
 pub(crate) fn blank(alloc: Global) -> Result<Box<Page>, NoMemory>
     ensures { IfOk result (λ p. p.value.rest ≡ []) }
 {
@@ -68,7 +68,7 @@ pub(crate) fn blank(alloc: Global) -> Result<Box<Page>, NoMemory>
 }
 
 impl Page {
-    /// What stands on it.
+    /// The contents of the page.
     pub fn bytes(&self) -> &[u8]
         ensures bytes { result.now ≡ self.now.bytes }
         ensures size { length self.now.bytes ≡ PAGE_BYTES }
@@ -76,7 +76,7 @@ impl Page {
         &self.bytes[..]
     }
 
-    /// Writes bytes at a place.
+    /// Writes bytes at an offset.
     pub fn write(&mut self, at: usize, bytes: &[u8])
         requires { at + length bytes.now ≤ PAGE_BYTES }
         ensures written { self.new.bytes ≡ take at self.old.bytes ++ bytes.now ++ drop (at + length bytes.now) self.old.bytes }
@@ -87,7 +87,7 @@ impl Page {
 }
 
 impl Chain {
-    /// No page.
+    /// An empty chain.
     pub fn none() -> Chain
         ensures { result ≡ [] }
     {
@@ -97,7 +97,7 @@ impl Chain {
         }
     }
 
-    /// How many there are.
+    /// The number of pages.
     pub fn count(&self) -> u64
         ensures count { result ≡ length self.now }
         ensures within { length self.now ≤ MAX_PAGES }
@@ -106,7 +106,7 @@ impl Chain {
         self.count
     }
 
-    /// Puts a page before the others.
+    /// Adds a page before the others.
     pub fn push(&mut self, page: Box<Page>)
         requires room { length self.old < MAX_PAGES }
         requires alone { page.value.rest ≡ [] }
@@ -141,7 +141,7 @@ impl Chain {
         }
     }
 
-    // The first page, with the others behind it.
+    // The first page, with the others after it.
     fn into_top(self) -> Top
         ensures { self ≡ contents_of result }
     {
@@ -149,7 +149,7 @@ impl Chain {
         top
     }
 
-    /// The first page, read in place, and those behind it.
+    /// The first page, borrowed, and the pages after it.
     pub fn first(&self) -> Option<(&Page, &Chain)>
         ensures some { IfSome result (λ p. self.now ≡ p.0.now.bytes ∷ p.1.now) }
         ensures size { IfSome result (λ p. length p.0.now.bytes ≡ PAGE_BYTES) }
@@ -167,7 +167,7 @@ impl Chain {
 }
 
 impl Top {
-    // The first page, with the others behind it.
+    // The first page, with the others after it.
     fn first(self) -> Option<Box<Page>>
         ensures some { IfSome result (λ p. contents_of self ≡ p.value.bytes ∷ p.value.rest) }
         ensures none { IfNone result (contents_of self ≡ []) }

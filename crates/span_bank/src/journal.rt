@@ -16,7 +16,7 @@ pub trait Journal: Drop {
 
     ghost makes_room: { Journaled → Journaled };
 
-    /// A journal with no step, and room for so many. `Err` where there is no memory for that room.
+    /// An empty journal with room for this many steps. `Err` if that room finds no memory.
     fn new(alloc: Global, numbers: Numbers, room: usize) -> Result<Self, NoMemory>
         requires bounded { IsBounded numbers }
         requires room { 1 ≤ room }
@@ -31,7 +31,7 @@ pub trait Journal: Drop {
     fn base(&self) -> Numbers
         ensures { result ≡ (seen self.now).base };
 
-    /// The step at an index, 0 being the oldest that is kept; `None` behind the last.
+    /// The step at an index, 0 being the oldest that is kept; `None` after the last.
     fn step_at(&self, index: usize) -> Option<BankStep>
         ensures { result ≡ slice_get (seen self.now).steps index };
 

@@ -1,4 +1,4 @@
-//! Four ledgers as one: the type that names them, their books, and the shares that go together.
+//! Four ledgers as one: the type that names them, their books and their shares.
 ghost use Rattle.std.specs.Prelude.{◌≡◌, ◌+◌, ◌≤◌, ◌<◌};
 ghost use Rattle.span_bank.specs.Ledgers.{Amounts, Parted, plus, no_amounts, IsWithin};
 
@@ -42,7 +42,7 @@ pub struct Blanks {
 }
 
 impl Blanks {
-    /// Ledgers of so many parts.
+    /// New ledgers of this many parts each.
     pub fn new(parts: u64) -> Blanks
         ensures held { result.held.parts ≡ parts }
         ensures free { result.free.parts ≡ parts }

@@ -1,4 +1,4 @@
-//! What lies under the budget's lock: the totals with their journal, the books of the ledgers, and
+//! The locked part of the budget: the totals with their journal, the books of the ledgers, and
 //! the store of pages.
 ghost use Rattle.std.specs.Prelude.{◌≡◌, ◌+◌, ◌-◌, ◌*◌, ◌/◌, ◌≤◌, ◌<◌, ◌↔◌, ℕ, IsOk, IsErr, IfOk, IfErr, OnOk, OnErr, vec_len};
 ghost use Rattle.adapt_bytes.specs.declared.limits.TheConstants.{MAX_CAPACITY, MAX_ROWS};
@@ -19,9 +19,9 @@ use crate::step::{
 use crate::window::Window;
 use std::marker::Model;
 
-/// The locked part of a bank, which its lock keeps as each method leaves it.
+/// The locked part of a bank, between two calls of its methods.
 ///
-/// It keeps sums alone, and no list of reservations: each stake carries its own numbers, with one
+/// It keeps only sums, and no list of reservations: each stake carries its own numbers, with one
 /// part of each ledger. Contracts see its totals with their journal, and the numbers of its pages.
 #[derive(Drop)]
 pub struct Locked<B: Ledgers> {
@@ -80,7 +80,7 @@ fn apply_fitting(state: &mut BankState<Window>, step: BankStep)
 }
 
 impl<B: Ledgers> Locked<B> {
-    /// The locked part round a state with no open reservation. Each blank has a part for each row,
+    /// The locked part of a state with no open reservation. Each blank has a part for each row,
     /// and one more, which stays here. The store has all pages that the reservations can need.
     pub fn new(state: BankState<Window>, blanks: Blanks, store: Pages) -> Locked<B>
         requires held { (blanks.held.name ≡ B.Held.name) × (blanks.held.parts ≡ B.Held.parts) }
@@ -194,7 +194,7 @@ impl<B: Ledgers> Locked<B> {
         self.store.join(pages);
     }
 
-    /// The totals now. The journal's replay is these, and they are in order.
+    /// The totals now. The journal replays to them, and they are consistent.
     pub fn book(&self) -> Numbers
         ensures numbers { result ≡ self.now.state.journal.numbers }
         ensures sound { IsKept self.now.state }
@@ -219,8 +219,8 @@ impl<B: Ledgers> Locked<B> {
         }
     }
 
-    /// Makes the budget `n` bytes large, as the step `Capacity`, where no more bytes are reserved
-    /// and `fresh` has the pages that are missing. Pages that aren't needed are in `fresh` then.
+    /// Sets the size of the budget to `n` bytes, as the step `Capacity`, if no more bytes are reserved
+    /// and `fresh` has the missing pages. Afterwards `fresh` has the pages that aren't needed.
     pub fn set_capacity(&mut self, n: u64, fresh: &mut Pages) -> Resized
         requires size { (1 ≤ n) × (n ≤ MAX_CAPACITY) }
         requires fresh { fresh.old ≤ pages_of MAX_CAPACITY MAX_ROWS }
@@ -261,8 +261,8 @@ impl<B: Ledgers> Locked<B> {
         self.state.numbers()
     }
 
-    /// Ends all reservations at once, and answers their number and sums, which are the book's.
-    /// `Missing` is answered where fewer stakes were handed in than are open, and hands all back.
+    /// Ends all reservations at once, and returns their number and sums, which are the book's.
+    /// `Missing` if fewer stakes were handed in than are open; then everything is handed back.
     pub fn audit(
         self,
         stakes: Vec<Stake<B>>,

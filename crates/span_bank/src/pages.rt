@@ -7,7 +7,7 @@ use std::alloc::Global;
 use std::boxed::Box;
 use std::marker::Model;
 
-/// Pages in no use. Contracts see their number.
+/// Pages that aren't in use. Contracts see their number.
 #[derive(Drop)]
 pub struct Pages {
     chain: Chain,
@@ -22,7 +22,7 @@ impl Model for Pages {
 }
 
 impl Pages {
-    /// No page.
+    /// An empty chain.
     pub fn none() -> Pages
         ensures { result ≡ 0 }
     {
@@ -31,7 +31,7 @@ impl Pages {
         }
     }
 
-    /// So many pages of new memory. `Err` where there is too little; then none is taken.
+    /// This many newly allocated pages. `Err` if memory runs out; then no page is allocated.
     pub(crate) fn make(alloc: Global, count: u64) -> Result<Pages, NoMemory>
         requires { count ≤ MAX_PAGES }
         ensures { IfOk result (λ p. p ≡ count) }
@@ -43,7 +43,7 @@ impl Pages {
         Ok(pages)
     }
 
-    /// How many there are.
+    /// The number of pages.
     pub fn count(&self) -> u64
         ensures count { result ≡ self.now }
         ensures within { self.now ≤ MAX_PAGES }
@@ -79,7 +79,7 @@ impl Pages {
         }
     }
 
-    /// Cuts off so many pages.
+    /// Cuts off this many pages.
     pub fn cut(&mut self, count: u64) -> Pages
         requires { count ≤ self.old }
         ensures cut { result ≡ count }

@@ -1,4 +1,4 @@
-//! The journal that starts anew where it is full.
+//! The journal that starts anew when it is full.
 ghost use Rattle.std.specs.Prelude.{◌≡◌, ◌≤◌, ◌<◌, length, IfOk, slice_get};
 ghost use Rattle.span_bank.specs.Journal.{Journaled, IsAllowed, IsBounded, opening, rebased, pushed, stepped, IsSound};
 ghost use Rattle.span_bank.specs.Replay.{after};
@@ -9,7 +9,7 @@ use crate::step::{BankStep, Numbers};
 use std::alloc::Global;
 use std::marker::Model;
 
-/// A log of the steps since a checkpoint. A full one takes the present totals as its base, and
+/// A journal of the steps since a checkpoint. A full one takes the present totals as its base, and
 /// starts empty.
 #[derive(Drop)]
 pub struct RebasingJournal {

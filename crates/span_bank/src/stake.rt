@@ -8,10 +8,10 @@ use crate::ledgers::{Books, Change, Ledgers, NOTHING, Parts};
 use crate::step::{PAGE_BYTES, SPARE_PAGES};
 use std::marker::Model;
 
-/// A reservation: the bytes that its owner holds, the bytes that it may hold at most, and its pages.
+/// A reservation: the bytes that its owner holds, the largest number that it may hold, and its pages.
 ///
-/// `B` names the ledgers of its bank, so a bank takes no stake of another one. A stake has one
-/// part of each ledger. It has no `Drop`: it has to go back to its bank, by `close` or `audit`.
+/// `B` names the ledgers of its bank, so a bank takes no stake of another bank. A stake has one
+/// part of each ledger. It has no `Drop`: it must go back to its bank, by `close` or `audit`.
 #[must_use]
 pub struct Stake<B: Ledgers> {
     held: u64,
@@ -73,7 +73,7 @@ impl<B: Ledgers> Stake<B> {
         self.held
     }
 
-    /// The size of the reservation: the bytes that its owner may hold at most.
+    /// The size of the reservation: the largest number of bytes that its owner may hold.
     pub fn claim(&self) -> u64
         ensures { result ≡ self.now.claim }
     {

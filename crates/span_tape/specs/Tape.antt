@@ -8,11 +8,11 @@ pub record Tape : Type 0 where
   pub start : ℕ
   pub bytes : List ℕ
 
--- the place behind the last byte
+-- the place after the last byte
 abbrev pub end_of : Tape → ℕ
 end_of t = t.base + length t.bytes
 
--- the pages that so many bytes fill, the last one perhaps in part
+-- the pages that this many bytes fill, the last one perhaps in part
 abbrev pub page_count : ℕ → ℕ
 page_count n = (n + (PAGE_BYTES - 1)) / PAGE_BYTES
 

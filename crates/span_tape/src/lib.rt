@@ -1,4 +1,4 @@
-//! The retained bytes of one body, from a base offset to an end offset.
+//! A retained body buffer: the bytes of one body from a base offset to an end offset.
 #![tactic(auto)]
 
 mod queue;

@@ -1,5 +1,5 @@
-//! Bytes on pages: they come at the last page, and go at the first. A queue takes and frees no
-//! memory, and knows nothing of a tape's offsets.
+//! Bytes on pages: appended at the last page, dropped at the first. A queue neither allocates nor
+//! frees memory, and knows nothing of a tape's offsets.
 ghost use Rattle.std.specs.Prelude.{◌≡◌, ◌+◌, ◌-◌, ◌*◌, ◌/◌, ◌≤◌, ◌<◌, [], ◌++◌, length, take, drop, min, IfSome, IfNone};
 ghost use Rattle.span_bank.specs.Chain.{text_of, down_of};
 ghost use Rattle.span_bank.specs.declared.chain.TheConstants.{MAX_PAGES};
@@ -12,10 +12,10 @@ use std::boxed::Box;
 use std::marker::Model;
 use std::mem;
 
-/// Pages in order, so that the first and the last are at hand.
+/// Pages in order, with the first and the last at hand.
 ///
-/// The first ones lie first to last, and those behind them last to first; where there is a page,
-/// the last one lies with the latter. A page is turned over at most once on its way.
+/// The first pages are kept first to last, and the pages after them last to first; if there is a
+/// page, the last one is among the latter. A page is turned over at most once on its way.
 #[derive(Drop)]
 pub(crate) struct Queue {
     front: Chain,
@@ -64,7 +64,7 @@ impl Queue {
         front + back
     }
 
-    // Adds bytes behind the first `at`, which fill all pages but a part of the last one.
+    // Adds bytes after the first `at`, which fill all pages but a part of the last one.
     #[tactic(auto, using(crate::proofs::PageLemmas::joined, crate::proofs::PageLemmas::length_down))]
     pub(crate) fn append(&mut self, at: u64, bytes: &[u8], pages: &mut Pages)
         requires small { at + length bytes.now < 2 * MAX_TAPE }
@@ -183,7 +183,7 @@ fn first_of(front: &mut Chain, back: &mut Chain) -> Option<Box<Page>>
     }
 }
 
-// Puts a page with bytes written on it behind the others, which stand last to first.
+// Puts a page with bytes written on it after the others, which are kept last to first.
 fn put_last(back: &mut Chain, page: Box<Page>, at: usize, bytes: &[u8])
     requires room { length back.old < MAX_PAGES }
     requires fits { at + length bytes.now ≤ PAGE_BYTES }
@@ -196,7 +196,7 @@ fn put_last(back: &mut Chain, page: Box<Page>, at: usize, bytes: &[u8])
     back.push(page);
 }
 
-// Fills the last page of those that stand last to first, and says how many bytes that took.
+// Fills the last page of those kept last to first, and returns the number of bytes that this took.
 #[tactic(auto, using(crate::proofs::PageLemmas::first_page, crate::proofs::PageLemmas::length_down))]
 fn fill_last(back: &mut Chain, at: u64, bytes: &[u8]) -> usize
     requires small { at + length bytes.now < 2 * MAX_TAPE }
@@ -223,7 +223,7 @@ fn fill_last(back: &mut Chain, at: u64, bytes: &[u8]) -> usize
     }
 }
 
-// Adds bytes behind the first `at` of those that stand last to first.
+// Adds bytes after the first `at` of the pages kept last to first.
 fn append_last(back: &mut Chain, at: u64, bytes: &[u8], pages: &mut Pages)
     requires small { at + length bytes.now < 2 * MAX_TAPE }
     requires count { length back.old ≡ page_count at }
@@ -247,7 +247,7 @@ fn append_last(back: &mut Chain, at: u64, bytes: &[u8], pages: &mut Pages)
     }
 }
 
-// Copies a page's bytes from a place on behind the first `done`, and says how many there are then.
+// Copies a page's bytes from an offset on after the first `done`, and returns how many there are then.
 fn copy_page(page: &Page, from: usize, out: &mut [u8], done: usize) -> usize
     requires from { from < PAGE_BYTES }
     requires done { done < length out.old }
@@ -261,7 +261,7 @@ fn copy_page(page: &Page, from: usize, out: &mut [u8], done: usize) -> usize
     done + more
 }
 
-// Copies the bytes from a place on, of pages that stand first to last.
+// Copies the bytes from an offset on, of pages kept first to last.
 #[tactic(auto, using(crate::proofs::PageLemmas::next_page, crate::proofs::PageLemmas::next_text, crate::proofs::PageLemmas::another_copied))]
 fn copy_first(front: &Chain, at: u64, out: &mut [u8])
     requires { at + length out.old ≤ PAGE_BYTES * length front.now }
@@ -289,8 +289,8 @@ fn copy_first(front: &Chain, at: u64, out: &mut [u8])
     }
 }
 
-// Copies a page's bytes up to a place before those of `out` that stand already, of which the first
-// `left` are missing, and says how many are missing then.
+// Copies a page's bytes up to an offset, before those that are in `out` already, of which the first
+// `left` are missing, and returns how many are missing then.
 fn copy_page_before(page: &Page, upto: usize, out: &mut [u8], left: usize) -> usize
     requires upto { (0 < upto) × (upto ≤ PAGE_BYTES) }
     requires left { (0 < left) × (left ≤ length out.old) }
@@ -303,7 +303,7 @@ fn copy_page_before(page: &Page, upto: usize, out: &mut [u8], left: usize) -> us
     left - more
 }
 
-// Copies the bytes from a place on, of pages that stand last to first.
+// Copies the bytes from an offset on, of pages kept last to first.
 #[tactic(auto, using(crate::proofs::PageLemmas::before_last, crate::proofs::PageLemmas::length_down))]
 fn copy_last(back: &Chain, at: u64, out: &mut [u8])
     requires { at + length out.old ≤ PAGE_BYTES * length back.now }

@@ -1,4 +1,4 @@
-//! The body bytes that are kept, by their offsets.
+//! The retained bytes of a body, by their offsets.
 ghost use Rattle.std.specs.Prelude.{◌≡◌, ◌+◌, ◌-◌, ◌<◌, ◌≤◌, [], ◌++◌, length, take, drop, min};
 ghost use Rattle.adapt_bytes.specs.declared.limits.TheConstants.{COUNT_LIMIT};
 ghost use Rattle.span_tape.specs.Tape.{Tape, end_of, from_place, page_count, pages_in};
@@ -8,14 +8,26 @@ use crate::queue::Queue;
 use span_bank::{PAGE_BYTES, Pages};
 use std::marker::Model;
 
-/// The most bytes that a tape keeps.
+/// The largest number of bytes that a tape keeps.
 pub const MAX_TAPE: u64 = 1 << 50;
 
-/// A retained body buffer: the bytes of one body from an offset on, as far as they were appended.
+/// A retained body buffer: the bytes of one body from a base offset up to the last byte appended.
 ///
-/// They lie on pages, in order: the last one may be filled in part, and of the first one a part may
-/// be done with. It takes no memory and frees none: pages come with `append`, and go by `drop_to`.
-/// An append, and a copy at either end, take as long on a long tape as on a short one.
+/// The bytes are stored on pages, in order. The last page may be partly filled, and a part of the
+/// first may already be dropped. The tape neither allocates nor frees memory: `append` brings pages,
+/// and `drop_to` returns them. Appending, and copying at either end, take the same time whatever the
+/// length of the tape.
+///
+/// ```
+/// let mut tape = SpanTape::new();
+/// let mut pages = bank.grow(rt, &mut stake, 5, tape.pages_for(5));
+/// tape.append(b"hello", &mut pages);
+/// let mut out = [0; 8];
+/// assert_eq!(rt; tape.copy_out(3, &mut out), 2);
+/// assert_eq!(rt; &out[..2], b"lo".as_slice());
+/// let gone = tape.drop_to(5);
+/// assert_eq!(rt; (tape.base(), tape.end()), (5, 5));
+/// ```
 #[derive(Drop)]
 pub struct SpanTape {
     base: u64,
@@ -46,7 +58,7 @@ impl Model for SpanTape {
 }
 
 impl SpanTape {
-    /// A tape with nothing on it, from offset 0 on.
+    /// An empty tape at offset 0.
     pub fn new() -> SpanTape
         ensures { result ≡ record { base = 0; start = 0; bytes = [] } }
     {
@@ -58,14 +70,14 @@ impl SpanTape {
         }
     }
 
-    /// The offset of the first byte that is kept.
+    /// The offset of the first retained byte.
     pub fn base(&self) -> u64
         ensures { result ≡ self.now.base }
     {
         self.base
     }
 
-    /// The offset behind the last byte.
+    /// The offset after the last retained byte.
     pub fn end(&self) -> u64
         ensures end { result ≡ end_of self.now }
         ensures small { result < COUNT_LIMIT }
@@ -73,7 +85,7 @@ impl SpanTape {
         self.base + self.len
     }
 
-    /// How many pages `n` bytes more need.
+    /// The number of new pages that `n` more bytes need.
     pub fn pages_for(&self, n: u64) -> u64
         requires { n ≤ MAX_TAPE }
         ensures { result + pages_in self.now ≡ page_count (self.now.start + length self.now.bytes + n) }
@@ -81,7 +93,7 @@ impl SpanTape {
         (self.start + self.len + n).div_ceil(PAGE_BYTES) - self.pages.count()
     }
 
-    /// Adds bytes at the end, on as many more pages as `pages_for` says.
+    /// Appends bytes, on as many new pages as `pages_for` says.
     #[tactic(auto, using(crate::proofs::PageLemmas::appended))]
     pub fn append(&mut self, bytes: &[u8], pages: &mut Pages)
         requires fits { end_of self.old + length bytes.now < COUNT_LIMIT }
@@ -96,8 +108,8 @@ impl SpanTape {
         let _count = self.pages.count();
     }
 
-    /// Lets go what stands before an offset, and gives every page with no byte left. Past the end
-    /// it leaves an empty tape there.
+    /// Drops the bytes before an offset, and returns every page with no byte left. An offset past the
+    /// end leaves an empty tape at that offset.
     #[tactic(auto, using(crate::proofs::PageLemmas::dropped))]
     pub fn drop_to(&mut self, place: u64) -> Pages
         requires from { self.old.base ≤ place }
@@ -120,7 +132,7 @@ impl SpanTape {
         }
     }
 
-    /// Copies the bytes from an offset on, as many as there are and fit, and says how many.
+    /// Copies bytes from an offset on, as many as there are and as fit, and returns their number.
     #[tactic(auto, using(crate::proofs::PageLemmas::copied))]
     pub fn copy_out(&self, from: u64, out: &mut [u8]) -> usize
         requires low { self.now.base ≤ from }

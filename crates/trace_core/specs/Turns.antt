@@ -6,7 +6,7 @@ use Rattle.trace_core.specs.History.{Seen, in_bytes, ad_bytes}
 use Rattle.trace_core.specs.Legal.{Allows}
 use Rattle.trace_core.specs.View.{after}
 
--- what is seen behind these events
+-- what is seen after these events
 abbrev pub after_all : Seen → List Event → Seen
 after_all x [] = x
 after_all x (event ∷ events) = after_all (after x event) events

@@ -7,7 +7,7 @@ ghost use Rattle.wire_kit.specs.Memory.{IsPast};
 use crate::memory::MemoryWire;
 use crate::wire::{Got, Put, Wire};
 
-/// How often a wire was called, as far as 64 bits count.
+/// The numbers of calls of a wire, as 64-bit counts.
 #[derive(Clone, Copy, Debug, Drop, PartialEq, Eq)]
 pub struct Calls {
     pub reads: u64,
@@ -50,7 +50,7 @@ impl<W> CountedWire<W> {
         }
     }
 
-    /// How often it was called.
+    /// The calls so far.
     pub fn calls(&self) -> Calls
         ensures { result ≡ self.now.calls }
     {

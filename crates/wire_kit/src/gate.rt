@@ -1,4 +1,4 @@
-//! What holds a transaction back before its next hop is written, so that a test's order is certain.
+//! Gates that hold a transaction back before its next hop is written, so that a test's order is certain.
 
 ghost use Rattle.std.specs.Prelude.{◌≡◌, true};
 
@@ -6,12 +6,12 @@ use std::sync::atomic::{AtomicBool, Ordering};
 use std::thread;
 use std::time::{Clock, Duration};
 
-/// The most looks at a gate that stays shut, a millisecond apart.
+/// The largest number of looks at a gate that stays shut, a millisecond apart.
 const MAX_LOOKS: u32 = 10_000;
 
-/// Whether a transaction may go on.
+/// A gate that decides whether a transaction may go on.
 pub trait Gate {
-    /// Waits until the transaction of this number may go on. False says that it never may: the test fails.
+    /// Waits until the transaction of this number may go on. `false` if it never may: the test fails.
     fn may_pass<R: Clock>(&self, rt: &R, transaction: u64) -> bool;
 }
 
@@ -34,14 +34,14 @@ pub struct HoldGate {
 }
 
 impl HoldGate {
-    /// A gate before the second is answered.
+    /// A gate before transaction 2 is answered.
     pub fn new() -> HoldGate {
         HoldGate {
             second: AtomicBool::new(false),
         }
     }
 
-    /// Says that the second was answered, as its client does once it has read the answer.
+    /// Says that transaction 2 is answered; its client calls this once it has read the answer.
     pub fn answered(&self) {
         self.second.store(true, Ordering::SeqCst);
     }

@@ -1,4 +1,4 @@
-//! Non-blocking byte streams as a trait, and scripted ones in memory.
+//! Non-blocking connections as a trait, and scripted ones in memory for tests.
 #![tactic(auto)]
 
 mod counted;

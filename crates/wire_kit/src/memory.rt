@@ -1,4 +1,4 @@
-//! A wire in memory, which answers by lists that were handed in.
+//! A wire in memory, whose answers are given as lists.
 
 ghost use Rattle.std.specs.Prelude.{◌≡◌, ◌≤◌, IfOk, vec_capacity};
 ghost use Rattle.wire_kit.specs.Past.{Past, nothing_yet};
@@ -8,7 +8,18 @@ use crate::stream::{ReadAnswer, Stream, WriteAnswer};
 use crate::wire::{Got, Put, Wire};
 use std::alloc::{AllocError, Global};
 
-/// A wire that gives the bytes it was made with, and keeps those that it takes. Behind its answers it answers Wait.
+/// A wire that gives the bytes it was made with, and keeps those that it takes. After its last answer it answers `Wait`.
+///
+/// ```
+/// let reads = vec![in alloc; ReadAnswer::Bytes(2), ReadAnswer::Wait]?;
+/// let writes = vec![in alloc; WriteAnswer::Took(1)]?;
+/// let mut wire = MemoryWire::new(alloc, b"abc".to_vec(alloc)?, reads, writes)?;
+/// let mut buf = [0; 8];
+/// assert_eq!(rt; wire.try_read(&mut buf), Got::Bytes(2));
+/// assert_eq!(rt; wire.try_read(&mut buf), Got::Wait);
+/// assert_eq!(rt; wire.try_write(b"xyz"), Put::Took(1));
+/// assert_eq!(rt; wire.taken(), b"x".as_slice());
+/// ```
 #[derive(Drop)]
 pub struct MemoryWire {
     stream: Stream,
@@ -19,8 +30,8 @@ pub struct MemoryWire {
 }
 
 impl MemoryWire {
-    /// A wire that gives these bytes as `reads` says, and takes bytes as `writes` says. It reserves the room for all that
-    /// it may take. NoMemory where that can't be had.
+    /// A wire that gives these bytes as `reads` says, and takes bytes as `writes` says. It reserves room for all that
+    /// it may take. `NoMemory` if that finds no memory.
     pub fn new(
         alloc: Global,
         input: Vec<u8>,
@@ -48,7 +59,7 @@ impl MemoryWire {
     }
 }
 
-/// The next answer of a list, or another behind its end.
+/// The next answer of a list, or `otherwise` after its end.
 fn next_answer<A: Copy>(answers: &[A], next: &mut usize, otherwise: A) -> A {
     match answers.get(*next) {
         Some(answer) => {
@@ -59,7 +70,7 @@ fn next_answer<A: Copy>(answers: &[A], next: &mut usize, otherwise: A) -> A {
     }
 }
 
-/// The room for all that these answers let a wire take. An error where no memory has so much.
+/// The room for all that these answers let a wire take. An error if no memory has that much.
 fn room_for(answers: &[WriteAnswer]) -> Result<usize, AllocError>
     ensures { IfOk result (λ room. room ≡ total_room answers.now) }
 {

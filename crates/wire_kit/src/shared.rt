@@ -8,18 +8,18 @@ use crate::wire::{Got, Put, Wire};
 use std::alloc::{AllocError, Global};
 use std::cell::Cell;
 
-/// What a read or a write answers.
+/// The answer to a read or a write.
 #[derive(Clone, Copy, Debug, PartialEq, Eq)]
 pub enum Answer {
-    /// At most so many bytes go over; Wait where none can.
+    /// At most this many bytes are moved; `Wait` if none can be.
     Moved(usize),
-    /// The other side has ended its bytes; a write answers Wait.
+    /// The other side has closed its direction; a write answers `Wait`.
     Ended,
     Wait,
     Fault,
 }
 
-/// Answers that some wires take in turn. Behind the last they answer Wait.
+/// Answers that several wires take in turn. After the last one the answer is `Wait`.
 #[derive(Drop)]
 pub struct Answers {
     list: Vec<Answer>,
@@ -48,7 +48,7 @@ impl Answers {
     }
 }
 
-/// A wire that gives the bytes it was made with, keeps those that it takes, and answers by a list that it shares.
+/// A wire that gives the bytes it was made with, keeps those that it takes, and shares its list of answers.
 #[derive(Drop)]
 pub struct SharedWire<'a> {
     stream: Stream,
@@ -58,7 +58,7 @@ pub struct SharedWire<'a> {
 impl<'a> SharedWire<'a> {
     ghost use Rattle.wire_kit.specs.Memory.{StreamPast};
 
-    /// A wire that gives these bytes, with room for so many that it takes. NoMemory where that can't be had.
+    /// A wire that gives these bytes, with room for the bytes that it takes. `NoMemory` if that finds no memory.
     pub fn new(
         alloc: Global,
         answers: &'a Answers,

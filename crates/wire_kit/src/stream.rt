@@ -6,20 +6,20 @@ ghost use Rattle.wire_kit.specs.Past.{Past, FitsRoom, FitsPut, after_read, after
 use crate::wire::{Got, Put};
 use std::alloc::{AllocError, Global};
 
-/// What a read answers.
+/// The answer to a read.
 #[derive(Clone, Copy, Debug, PartialEq, Eq)]
 pub enum ReadAnswer {
-    /// At most so many of the bytes that are left; Wait where none are.
+    /// At most this many of the remaining bytes; `Wait` if none remain.
     Bytes(usize),
     Ended,
     Wait,
     Fault,
 }
 
-/// What a write answers.
+/// The answer to a write.
 #[derive(Clone, Copy, Debug, PartialEq, Eq)]
 pub enum WriteAnswer {
-    /// At most so many bytes are taken; Wait for 0.
+    /// At most this many bytes are taken; `Wait` for 0.
     Took(usize),
     Wait,
     Fault,
@@ -44,7 +44,7 @@ pub(crate) struct Stream {
 impl Stream {
     ghost use Rattle.wire_kit.specs.Memory.{StreamPast};
 
-    /// A stream of which nothing was read, with room for so many bytes to take.
+    /// A stream of which nothing was read, with room for this many bytes to take.
     pub(crate) fn new(alloc: Global, input: Vec<u8>, room: usize) -> Result<Stream, AllocError>
         ensures past { IfOk result (λ stream. StreamPast stream nothing_yet) }
         ensures room { IfOk result (λ stream. vec_capacity stream.taken ≡ room) }
@@ -69,7 +69,7 @@ impl Stream {
         &self.taken
     }
 
-    /// How many bytes were read and taken.
+    /// The numbers of bytes read and taken.
     pub(crate) fn counts(&self) -> (u64, u64)
         ensures { (p : Past) → StreamPast self.now p → (result.0 ≡ length p.read) × (result.1 ≡ length p.taken) }
     {
@@ -138,7 +138,7 @@ impl Stream {
         }
     }
 
-    /// Keeps a first part of the bytes, at most so many, and as far as there is room.
+    /// Keeps the first bytes, at most this many, as far as there is room.
     fn take(&mut self, most: usize, bytes: &[u8]) -> usize
         ensures count { result ≤ length bytes.now }
         ensures taken { self.new.taken.items ≡ self.old.taken.items ++ take result bytes.now }
@@ -153,7 +153,7 @@ impl Stream {
     }
 }
 
-/// Copies the front of what is left, as much as fits and at most so many bytes.
+/// Copies the start of what is left, as much as fits and at most this many bytes.
 fn copy_front(rest: &[u8], most: usize, buf: &mut [u8]) -> usize
     ensures there { result ≤ length rest.now }
     ensures fits { result ≤ length buf.old }

@@ -1,27 +1,27 @@
-//! A connection, as the answers of its reads and writes.
+//! Non-blocking connections, by the answers of their reads and writes.
 
 ghost use Rattle.std.specs.Prelude.{◌≡◌, ℕ, ◌<◌, length};
 ghost use Rattle.wire_kit.specs.Past.{Past, FitsRoom, FitsPut, after_read, after_write};
 
-/// What a read gives.
+/// The result of a read.
 #[derive(Clone, Copy, Debug, PartialEq, Eq)]
 pub enum Got {
-    /// So many bytes, at least one, at the front of the buffer.
+    /// This many bytes, at least one, at the start of the buffer.
     Bytes(usize),
-    /// The other side has ended its bytes.
+    /// The other side has closed its direction.
     Ended,
-    /// Nothing now.
+    /// Nothing now; try again later.
     Wait,
     /// The connection has failed.
     Fault,
 }
 
-/// What a write does.
+/// The result of a write.
 #[derive(Clone, Copy, Debug, PartialEq, Eq)]
 pub enum Put {
-    /// So many of the bytes were taken, at least one, from the front.
+    /// This many bytes were taken, at least one, from the start.
     Took(usize),
-    /// None now.
+    /// No byte was taken; try again later.
     Wait,
     /// The connection has failed.
     Fault,
@@ -29,13 +29,13 @@ pub enum Put {
 
 /// A connection that never blocks.
 ///
-/// To a contract it is what may have happened on it so far. A wire that keeps its bytes has one such past. A socket's
-/// wire keeps counts alone, so each past with these counts is one: there a clause on bytes rests on the premise that the
-/// socket took and gave what it said.
+/// Contracts see a wire as its possible pasts: what may have happened on it so far. A wire that keeps its bytes has one
+/// past. The wire of a socket keeps only counts, so each past with these counts is possible: there a clause about bytes
+/// rests on the premise that the socket took and gave what it said.
 pub trait Wire {
     ghost past: { Self → Past → Type 0 };
 
-    /// Reads into the front of the buffer, which has room for at least one byte.
+    /// Reads into the start of the buffer, which has room for at least one byte.
     fn try_read(&mut self, buf: &mut [u8]) -> Got
         requires { 0 < length buf.old }
         ensures fits { FitsRoom (length buf.old) result }
@@ -48,7 +48,7 @@ pub trait Wire {
         ensures fits { FitsPut (length bytes.now) result }
         ensures past { (p : Past) → past self.old p → past self.new (after_write p bytes.now result) };
 
-    /// The bytes read and the bytes taken so far. Neither count passes its last value: there the wire answers Wait.
+    /// The bytes read and the bytes taken so far. Neither count overflows: at its largest value the wire answers `Wait`.
     fn counts(&self) -> (u64, u64)
         ensures { (p : Past) → past self.now p → (result.0 ≡ length p.read) × (result.1 ≡ length p.taken) };
 }

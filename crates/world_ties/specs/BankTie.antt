@@ -49,7 +49,7 @@ bank_step before (Lease t s) = None
 bank_step before (Back t kept) = None
 bank_step before (Limit s n) = None
 
--- a step, if there is one, behind others
+-- a step, if there is one, after others
 abbrev pub with_step : List BankStep → Option BankStep → List BankStep
 with_step steps None = steps
 with_step steps (Some step) = steps ++ step ∷ []

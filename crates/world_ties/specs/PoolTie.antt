@@ -29,7 +29,7 @@ pool_step s before (Reclaim t claim) = None
 pool_step s before (Close t) = None
 pool_step s before (Capacity n) = None
 
--- a step, if there is one, behind others
+-- a step, if there is one, after others
 abbrev pub with_step : List PoolStep → Option PoolStep → List PoolStep
 with_step steps None = steps
 with_step steps (Some step) = steps ++ step ∷ []

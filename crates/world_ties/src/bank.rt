@@ -21,8 +21,8 @@ ghost use Rattle.span_bank.specs.History.{HasLast};
 ghost use Rattle.span_bank.specs.State.{Budget, MaySum, Fits, Refuses, none_open};
 ghost use Rattle.world_ties.specs.BankTie.{book, bank_step, bank_steps, IsBankEvent, AreBankEvents, brings, IsQuiet};
 
-/// Where the bank has the world's totals, an event that the world takes leaves it with the world's totals: by the one
-/// step that the event is, or as it is where the event is none. So it is of both forms of the bank's journal.
+/// If the bank has the world's totals, an event that the world takes leaves it with the world's totals: by the one
+/// step that the event is, or unchanged if the event isn't a step. This holds for both forms of the bank's journal.
 pub fn bank_steps_with_the_world()
     ensures step { (w : Setting) (before : List WorldEvent) (event : WorldEvent) (step : BankStep) → IsLegalWorld w (event ∷ before)
         → bank_step before event ≡ Some step → after (book w before) step ≡ book w (event ∷ before) }
@@ -74,9 +74,9 @@ pub fn bank_holds_the_book()
         → (book w events).held ≡ n }
 {}
 
-/// Which events of a message are steps: bytes that come and are kept are a `Grow` by their number; original bytes that
-/// come once the original is kept no more, an end, a last chunk, the first byte of a response, a 204, a new beginning
-/// of the request and `Done` are none; every other one is a `Shrink`, or none.
+/// Which events of a message are steps: bytes that arrive and are kept are a `Grow` by their number. Original bytes
+/// that arrive once the original is kept no more, an end, a last chunk, the first byte of a response, a 204, a retry and
+/// `Done` aren't steps. Every other event is a `Shrink`, or isn't a step.
 pub fn events_are_their_steps()
     ensures grows { (w : Setting) (before : List WorldEvent) (t n : ℕ) (event : Event) (o : Opened)
         → IsLegalWorld w (WorldEvent.Of t event ∷ before) → open_at t before ≡ Some o → brings o event ≡ n → 1 ≤ n

@@ -1,5 +1,5 @@
-//! What ties the locks to the world: the budget's bank and the services' pools, each behind a lock of its own, take
-//! just the steps that the events of a world's history are.
+//! The tie between the locks and the world: the budget's bank and the services' pools, each with a lock of its own, take
+//! exactly the steps that the events of a world's history are.
 //!
 //! [`world_core`] speaks of one list of events of all transactions; [`span_bank`] and [`service_pool`] of numbers and
 //! the steps that change them. The laws here stand on the definitions of all three: the sums over a world's open

@@ -15,8 +15,9 @@ ghost use Rattle.service_pool.specs.History.{HasLast};
 ghost use Rattle.service_pool.specs.Pooled.{Pooled, IsKept, IsBusy, none_open};
 ghost use Rattle.world_ties.specs.PoolTie.{numbers_of, pool_step, pool_steps, IsPoolEvent, ArePoolEvents};
 
-/// Where a service's pool has the world's numbers, an event that the world takes leaves it with the world's numbers: by
-/// the one step that the event is for it, or as it is where the event is none. So it is of both forms of its journal.
+/// If a service's pool has the world's numbers, an event that the world takes leaves it with the world's numbers: by
+/// the one step that the event is for it, or unchanged if the event isn't a step. This holds for both forms of its
+/// journal.
 pub fn pool_steps_with_the_world()
     ensures step { (w : Setting) (before : List WorldEvent) (event : WorldEvent) (step : PoolStep) (s : ℕ) (p q : world.Numbers)
         → IsLegalWorld w (event ∷ before) → pool_of w.maxima s before ≡ Some p → pool_of w.maxima s (event ∷ before) ≡ Some q
@@ -38,8 +39,8 @@ pub fn pool_takes_what_the_world_takes()
 {}
 
 /// Want of connections is one condition: a take is `Busy` exactly where the world answers `PoolFull` to a lease of a
-/// transaction that has none; and a fresh connection in a broken one's place is `Over` exactly where the world answers
-/// `PoolFull` to a new beginning that the message and its connection allow.
+/// transaction that has no connection; and a fresh connection in a broken one's place is `Over` exactly where the world
+/// answers `PoolFull` to a retry that the message and its connection allow.
 pub fn pool_refuses_where_the_world_does<C>()
     ensures busy { (w : Setting) (before : List WorldEvent) (t s : ℕ) (p : world.Numbers) (pool : Pooled C)
         → pool_of w.maxima s before ≡ Some p → lease_of t before ≡ None → IsKept pool → pool.journal.numbers ≡ numbers_of p

@@ -13,7 +13,7 @@ use icap_chunks::ChunkReader;
 use icap_services::{Status, put_continue};
 use std::alloc::Global;
 
-/// The bytes that a body may have, its preview included.
+/// The largest size of a body, its preview included, in bytes.
 const MAX_BODY: usize = 1_048_576;
 
 impl ServerSide {
@@ -60,7 +60,7 @@ impl ServerSide {
         Ok(fed.used)
     }
 
-    /// Reads on within the rest of the body, behind a 100.
+    /// Reads on within the rest of the body, after a 100.
     pub(super) fn read_rest(
         &mut self,
         alloc: Global,
@@ -94,7 +94,7 @@ impl ServerSide {
         Ok(fed.used)
     }
 
-    /// Keeps more of the body, unless that were too much.
+    /// Keeps more of the body, unless that is too much.
     fn keep(&mut self, part: &[u8]) -> Result<bool, NoMemory>
         ensures kept { IfOk result (λ kept. kept ≡ true → (self.new.body.items ≡ self.old.body.items ++ part.now)
             × (length self.new.body.items ≤ MAX_BODY)) }
