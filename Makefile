@@ -1,5 +1,6 @@
-# SCRIPT names a file of examples/, without its ending. What the toolchain says while a program is built goes to a file
-# below crates/; a line names each crate that is proved first, and then the program's output stands alone.
+# `serve`, `trace` and `icapd` run the programs that `make build` proved. Where these are missing or older than their sources,
+# they run programs that are compiled in about a minute, with checks at run time in place of proofs.
+# SCRIPT names a file of examples/, without its ending.
 SCRIPT ?= whole_body_without_allow
 PREFIX ?= /usr/local
 
@@ -12,8 +13,8 @@ build: ## proves and builds the programs, and leaves them under bin/
 	@tools/build_program proxy_program adaptproxy chunks 1
 	@tools/build_program icapd_program icapd once
 
-serve: build ## starts icapd and adaptproxy with the examples' configurations, until `make stop`
-	@tools/serve_examples
+serve: ## starts icapd and adaptproxy with the examples' configurations, until `make stop`
+	@programs=$$(tools/have_programs adaptproxy icapd) && exec tools/serve_examples $$programs
 
 stop: ## stops what `make serve` started
 	@bash -c 'echo stop > /dev/tcp/127.0.0.1/3129'
@@ -27,17 +28,15 @@ try-serve: build ## tries `adaptproxy serve` over loopback: some thirty cases, w
 bench-serve: build ## requests/s and CPU of `adaptproxy serve` beside Squid's, where squid, wrk, nginx and c-icap are installed
 	@tools/bench_serve
 
-icapd: ## answers examples/blocked.icap by the proved ICAP server
-	@tools/build_program icapd_program icapd once
-	@bin/icapd once < examples/blocked.icap
+icapd: ## answers examples/blocked.icap by the ICAP server
+	@program=$$(tools/have_programs icapd) && exec $$program once < examples/blocked.icap
 
 bench-icapd: ## the ICAP server: requests/s of `icapd once` on 10,000 piped requests
 	@tools/build_program icapd_program icapd once
 	@tools/bench_icapd
 
-trace: ## runs examples/$(SCRIPT).trace through the proved program, and prints its answers
-	@tools/build_program proxy_program adaptproxy chunks 1
-	@bin/adaptproxy trace < examples/$(SCRIPT).trace
+trace: ## runs examples/$(SCRIPT).trace, and prints its answers
+	@program=$$(tools/have_programs adaptproxy) && exec $$program trace < examples/$(SCRIPT).trace
 
 check: ## proves every crate, over what earlier runs kept
 	rt all check
