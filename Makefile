@@ -4,7 +4,7 @@
 SCRIPT ?= whole_body_without_allow
 PREFIX ?= /usr/local
 
-.PHONY: help build serve stop install try-serve bench-serve trace check ci must-fail fmt bench-chunks bench-heads bench-exchange bench-turns bench-bank refuse-allocations icapd bench-icapd
+.PHONY: help build serve stop install try-serve bench-serve trace check ci gate-cost must-fail wrong-bodies fmt bench-chunks bench-heads bench-exchange bench-turns bench-bank refuse-allocations icapd bench-icapd
 
 help: ## lists the targets
 	@grep -E '^[a-z-]+:.*##' Makefile | sed 's/:.*## /	/'
@@ -44,8 +44,14 @@ check: ## proves every crate, over what earlier runs kept
 ci: ## the merge gate: every proof from nothing, the must-fail edits, the tests, the programs
 	rt ci
 
+gate-cost: ## the gate's minutes of processor time by crate, as last measured; ANEW=1 runs the whole gate from nothing, and measures it
+	@tools/gate_cost $(if $(ANEW),run --anew)
+
 must-fail: ## tries the must-fail edits alone
 	rt must-fail
+
+wrong-bodies: ## tries the wrong bodies that the gate doesn't; CRATE=NAME those of one crate
+	@tools/wrong_bodies $(CRATE)
 
 fmt: ## lays out the files of the crate CRATE
 	@test -n "$(CRATE)" || { echo "make fmt CRATE=NAME lays out crates/NAME"; exit 2; }
