@@ -9,9 +9,8 @@ PREFIX ?= /usr/local
 help: ## lists the targets
 	@grep -E '^[a-z-]+:.*##' Makefile | sed 's/:.*## /	/'
 
-build: ## proves and builds the programs, and leaves them under bin/
-	@tools/build_program proxy_program adaptproxy chunks 1
-	@tools/build_program icapd_program icapd once
+build: ## proves and builds the programs, and leaves them under bin/: half an hour on four processors
+	@tools/prove_programs adaptproxy icapd
 
 serve: ## starts icapd and adaptproxy with the examples' configurations, until `make stop`
 	@programs=$$(tools/have_programs adaptproxy icapd) && exec tools/serve_examples $$programs
@@ -32,7 +31,7 @@ icapd: ## answers examples/blocked.icap by the ICAP server
 	@program=$$(tools/have_programs icapd) && exec $$program once < examples/blocked.icap
 
 bench-icapd: ## the ICAP server: requests/s of `icapd once` on 10,000 piped requests
-	@tools/build_program icapd_program icapd once
+	@tools/prove_programs icapd
 	@tools/bench_icapd
 
 trace: ## runs examples/$(SCRIPT).trace, and prints its answers
@@ -58,23 +57,23 @@ fmt: ## lays out the files of the crate CRATE
 	@cd crates/$(CRATE) && rt fmt
 
 bench-chunks: ## chunked bodies: seconds and MB/s for 1 GiB
-	@tools/build_program chunk_bench chunk_bench 1
+	@tools/prove_programs chunk_bench
 	@bin/chunk_bench 1024
 
 bench-heads: ## heads: nanoseconds to read an HTTP request and write two, and to read ICAP responses, beside the parser alone
-	@tools/build_program head_bench head_bench 1
+	@tools/prove_programs head_bench
 	@bin/head_bench 200000
 
 bench-exchange: ## a whole exchange with a service over memory wires: nanoseconds, and calls of its wire
-	@tools/build_program exchange_bench exchange_bench 1
+	@tools/prove_programs exchange_bench
 	@bin/exchange_bench 200000
 
 bench-turns: ## a whole exchange by a transaction's turns over memory wires: nanoseconds, a transaction's bytes, and calls of its wires
-	@tools/build_program turn_bench turn_bench 1
+	@tools/prove_programs turn_bench
 	@bin/turn_bench 20000
 
 bench-bank: ## the buffer budget: nanoseconds for a pair of calls, for turns of 4,096 bytes on tapes, and four threads' rounds
-	@tools/build_program bank_bench bank_bench 1
+	@tools/prove_programs bank_bench
 	@bin/bank_bench 1000000
 
 refuse-allocations: ## refuses each allocation in turn, and compares how each run ends
