@@ -1,0 +1,9 @@
+# Completion of `adaptproxy` and `icapd` for bash.
+_adaptproxy() {
+  [ "$COMP_CWORD" -eq 1 ] || return 0
+  local words="serve trace chunks"
+  [ "${1##*/}" != icapd ] || words="serve once"
+  # shellcheck disable=SC2207
+  COMPREPLY=($(compgen -W "$words" -- "$2"))
+}
+complete -o default -F _adaptproxy adaptproxy icapd
