@@ -1,0 +1,158 @@
+//! Texts with escapes and repeated parts.
+use std::alloc::AllocError as NoMemory;
+
+/// Where the reading of a text is.
+#[derive(Clone, Copy)]
+enum Place {
+    Plain,
+    /// After a backslash.
+    Escape,
+    /// After `\x`.
+    Hex,
+    /// After `\x` and one digit.
+    SecondHex(u8),
+    /// After `\{` and some digits.
+    Count(usize),
+    /// After an escape that there isn't.
+    Bad,
+}
+
+/// What a text says so far.
+#[derive(Drop)]
+struct Reading<'a> {
+    place: Place,
+    said: &'a mut Vec<u8>,
+    /// Where the part begins that is to be repeated, and how often.
+    part: Option<(usize, usize)>,
+}
+
+/// The value of a hexadecimal digit.
+fn hex_digit(byte: u8) -> Option<u8> {
+    match byte {
+        b'0'..=b'9' => Some(byte - b'0'),
+        b'a'..=b'f' => Some(byte - b'a' + 10),
+        _ => None,
+    }
+}
+
+/// What one letter behind a backslash stands for.
+fn escaped(byte: u8) -> Option<u8> {
+    match byte {
+        b'r' => Some(b'\r'),
+        b'n' => Some(b'\n'),
+        b't' => Some(b'\t'),
+        b'0' => Some(0),
+        b's' => Some(b' '),
+        b'\\' | b'}' => Some(byte),
+        _ => None,
+    }
+}
+
+/// The count with one digit more.
+fn counted(count: usize, byte: u8) -> Option<usize> {
+    if !byte.is_ascii_digit() {
+        return None;
+    }
+    count.checked_mul(10)?.checked_add(usize::from(byte - b'0'))
+}
+
+/// Adds a part behind itself, so that it stands there so often.
+fn repeat(said: &mut Vec<u8>, from: usize, count: usize) -> Result<(), NoMemory> {
+    let end = said.len();
+    for _ in 1..count {
+        for at in from..end {
+            if let Some(byte) = said.get(at).copied() {
+                said.push(byte)?;
+            }
+        }
+    }
+    Ok(())
+}
+
+impl Reading<'_> {
+    fn put(&mut self, byte: u8) -> Result<(), NoMemory> {
+        self.place = Place::Plain;
+        self.said.push(byte)?;
+        Ok(())
+    }
+
+    fn step_plain(&mut self, byte: u8) -> Result<(), NoMemory> {
+        match (byte, self.part) {
+            (b'\\', _) => {
+                self.place = Place::Escape;
+                Ok(())
+            }
+            (b'}', Some((from, count))) => {
+                self.part = None;
+                repeat(self.said, from, count)
+            }
+            _ => self.put(byte),
+        }
+    }
+
+    fn step_escape(&mut self, byte: u8) -> Result<(), NoMemory> {
+        if let Some(meant) = escaped(byte) {
+            return self.put(meant);
+        }
+        self.place = match byte {
+            b'x' => Place::Hex,
+            b'{' if self.part.is_none() => Place::Count(0),
+            _ => Place::Bad,
+        };
+        Ok(())
+    }
+
+    fn step_count(&mut self, count: usize, byte: u8) {
+        self.place = if byte == b'*' && count != 0 {
+            self.part = Some((self.said.len(), count));
+            Place::Plain
+        } else {
+            match counted(count, byte) {
+                Some(count) => Place::Count(count),
+                None => Place::Bad,
+            }
+        };
+    }
+
+    fn step(&mut self, byte: u8) -> Result<(), NoMemory> {
+        match self.place {
+            Place::Plain => return self.step_plain(byte),
+            Place::Escape => return self.step_escape(byte),
+            Place::Hex => {
+                self.place = match hex_digit(byte) {
+                    Some(digit) => Place::SecondHex(digit),
+                    None => Place::Bad,
+                };
+            }
+            Place::SecondHex(high) => match hex_digit(byte) {
+                Some(low) => return self.put(high.wrapping_mul(16) | low),
+                None => self.place = Place::Bad,
+            },
+            Place::Count(count) => self.step_count(count, byte),
+            Place::Bad => {}
+        }
+        Ok(())
+    }
+}
+
+/// Adds what a text says, with an LF behind it where it is a whole line. `false` where an escape is none, or isn't whole, or
+/// a repeated part has no end.
+pub(crate) fn put_text(
+    said: &mut Vec<u8>,
+    written: &[u8],
+    is_whole: bool,
+) -> Result<bool, NoMemory> {
+    let mut reading = Reading {
+        place: Place::Plain,
+        said,
+        part: None,
+    };
+    for byte in written {
+        reading.step(*byte)?;
+    }
+    let is_read = reading.part.is_none() && matches!(reading.place, Place::Plain);
+    if is_whole {
+        reading.put(b'\n')?;
+    }
+    Ok(is_read)
+}

@@ -1,0 +1,109 @@
+//! Chunked bodies (RFC 9112, section 7.1; RFC 3507, section 4.5), in pieces and cut at each byte and each pair of bytes.
+use crate::random::put_random_bodies;
+use adapt_bytes::{COUNT_LIMIT, Small};
+use icap_chunks::{
+    Outcome, Reading, put_chunk_head, put_chunk_tail, put_last, read_cut, read_in_pieces,
+};
+use std::alloc::Global;
+use test_rows::{NoMemory, Row, put_fault, put_line, put_number};
+
+/// The longest text that is cut at each pair of bytes, and read in pieces of each size.
+const SHORT: usize = 400;
+
+fn put_outcome(out: &mut Vec<u8>, outcome: Outcome) -> Result<(), NoMemory> {
+    match outcome {
+        Outcome::More => put_line(out, b"more"),
+        Outcome::Ended { ieof: true, used } => put_number(out, b"ended with ieof at", used as u64),
+        Outcome::Ended { ieof: false, used } => put_number(out, b"ended at", used as u64),
+        Outcome::Faulted(fault) => put_fault(out, u64::from(fault.number()), &fault),
+    }
+}
+
+fn is_same(one: &Reading, other: &Reading) -> bool {
+    one.body.as_slice() == other.body.as_slice() && one.outcome == other.outcome
+}
+
+/// Whether a text is read so in pieces of each size.
+fn is_read_in_pieces(alloc: Global, text: &[u8], whole: &Reading) -> Result<bool, NoMemory> {
+    for size in 1..=text.len().max(1) {
+        let is_tried = text.len() <= SHORT || size <= 2 || size % 255 <= 2 || size % 8191 <= 2;
+        if is_tried && !is_same(&read_in_pieces(alloc, text, size)?, whole) {
+            return Ok(false);
+        }
+    }
+    Ok(true)
+}
+
+/// Whether a text is read so that is cut at a byte, and there and at each later one.
+fn is_read_cut_at(
+    alloc: Global,
+    text: &[u8],
+    whole: &Reading,
+    first: usize,
+) -> Result<bool, NoMemory> {
+    if text.len() > SHORT {
+        return Ok(is_same(&read_cut(alloc, text, &[first])?, whole));
+    }
+    for second in 0..=text.len().saturating_sub(first) {
+        if !is_same(&read_cut(alloc, text, &[first, second])?, whole) {
+            return Ok(false);
+        }
+    }
+    Ok(true)
+}
+
+fn is_read_cut(alloc: Global, text: &[u8], whole: &Reading) -> Result<bool, NoMemory> {
+    for first in 0..=text.len() {
+        if !is_read_cut_at(alloc, text, whole, first)? {
+            return Ok(false);
+        }
+    }
+    let sizes = [0, 1, 0, 2, 3, usize::MAX, 1];
+    Ok(is_same(&read_cut(alloc, text, &sizes)?, whole))
+}
+
+fn put_reading(alloc: Global, out: &mut Vec<u8>, text: &[u8]) -> Result<(), NoMemory> {
+    let whole = read_cut(alloc, text, &[])?;
+    put_outcome(out, whole.outcome)?;
+    if !whole.body.is_empty() {
+        out.extend_from_slice(b"body ")?;
+        put_line(out, &whole.body)?;
+    }
+    if !is_read_in_pieces(alloc, text, &whole)? {
+        put_line(out, b"another answer in pieces")?;
+    }
+    if !is_read_cut(alloc, text, &whole)? {
+        put_line(out, b"another answer where it is cut")?;
+    }
+    Ok(())
+}
+
+fn put_written(out: &mut Vec<u8>, row: &Row<'_>) -> Result<(), NoMemory> {
+    let mut text = Small::new();
+    match row.get(b"text") {
+        b"tail" => put_chunk_tail(&mut text),
+        b"last with ieof" => put_last(true, &mut text),
+        b"last" => put_last(false, &mut text),
+        digits => {
+            let size = test_rows::number(digits).unwrap_or(0);
+            if 0 < size && size < COUNT_LIMIT {
+                put_chunk_head(size, &mut text);
+            }
+        }
+    }
+    out.extend_from_slice(text.as_slice())
+}
+
+pub fn put_answer(
+    alloc: Global,
+    call: &[u8],
+    row: &Row<'_>,
+    out: &mut Vec<u8>,
+) -> Result<(), NoMemory> {
+    match call {
+        b"read chunks" => put_reading(alloc, out, row.get(b"text")),
+        b"write chunks" => put_written(out, row),
+        b"random bodies" => put_random_bodies(alloc, out, row),
+        _ => Ok(()),
+    }
+}

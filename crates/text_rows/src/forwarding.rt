@@ -1,0 +1,114 @@
+//! The heads that go on, to an origin, to a service and to the user (RFC 9110, section 7.6; RFC 9112, section 3.2).
+use crate::http_heads::put_request;
+use http_side::{
+    Encapsulated, Forward, HttpRequest, Message, Part, encapsulated_head, forward_head,
+    read_request, read_response,
+};
+use std::alloc::Global;
+use test_rows::{NoMemory, Row, put_line, put_shown};
+
+fn part_of(row: &Row<'_>) -> Part {
+    match row.get(b"part") {
+        b"null-body" => Part::NullBody,
+        b"body" => Part::Body,
+        _ => Part::Own,
+    }
+}
+
+fn put_forward(
+    alloc: Global,
+    out: &mut Vec<u8>,
+    forward: &Forward<'_, '_>,
+) -> Result<(), NoMemory> {
+    put_shown(out, b"body", &forward.framing())?;
+    if forward.closes() {
+        put_line(out, b"the user's connection ends")?;
+    }
+    out.extend_from_slice(&forward_head(alloc, forward)?)
+}
+
+/// The user's own request as an origin gets it.
+fn put_to_origin(alloc: Global, out: &mut Vec<u8>, user: &HttpRequest) -> Result<(), NoMemory> {
+    let forward = Forward {
+        user,
+        message: Message::Request(user),
+        part: Part::Own,
+        body_read: true,
+    };
+    out.extend_from_slice(&forward_head(alloc, &forward)?)
+}
+
+/// The user's own request as a service gets it.
+fn put_to_service(alloc: Global, out: &mut Vec<u8>, user: &HttpRequest) -> Result<(), NoMemory> {
+    let message = Message::Request(user);
+    out.extend_from_slice(&encapsulated_head(alloc, &Encapsulated { user, message })?)
+}
+
+/// How the request that goes on is read again.
+fn put_read_again(alloc: Global, out: &mut Vec<u8>, user: &HttpRequest) -> Result<(), NoMemory> {
+    let mut text = Vec::new(alloc);
+    put_to_origin(alloc, &mut text, user)?;
+    put_request(alloc, out, &text, true)
+}
+
+fn put_adapted(
+    alloc: Global,
+    out: &mut Vec<u8>,
+    user: &HttpRequest,
+    row: &Row<'_>,
+) -> Result<(), NoMemory> {
+    match read_request(alloc, row.get(b"text"), true) {
+        Ok(adapted) => {
+            let forward = Forward {
+                user,
+                message: Message::Request(&adapted.value),
+                part: part_of(row),
+                body_read: true,
+            };
+            put_forward(alloc, out, &forward)
+        }
+        Err(_) => put_line(out, b"the text is no request"),
+    }
+}
+
+fn put_to_user(
+    alloc: Global,
+    out: &mut Vec<u8>,
+    user: &HttpRequest,
+    row: &Row<'_>,
+) -> Result<(), NoMemory> {
+    match read_response(alloc, row.get(b"text"), false) {
+        Ok(response) => {
+            let forward = Forward {
+                user,
+                message: Message::Response(&response.value),
+                part: part_of(row),
+                body_read: !row.has(b"early"),
+            };
+            put_forward(alloc, out, &forward)
+        }
+        Err(_) => put_line(out, b"the text is no response"),
+    }
+}
+
+pub fn put_answer(
+    alloc: Global,
+    call: &[u8],
+    row: &Row<'_>,
+    out: &mut Vec<u8>,
+) -> Result<(), NoMemory> {
+    if !row.has(b"user") {
+        return Ok(());
+    }
+    let Ok(user) = read_request(alloc, row.get(b"user"), false) else {
+        return put_line(out, b"the user's text is no request");
+    };
+    match call {
+        b"head to origin" => put_to_origin(alloc, out, &user.value),
+        b"head to service" => put_to_service(alloc, out, &user.value),
+        b"read head to origin" => put_read_again(alloc, out, &user.value),
+        b"adapted head to origin" => put_adapted(alloc, out, &user.value, row),
+        b"head to user" => put_to_user(alloc, out, &user.value, row),
+        _ => Ok(()),
+    }
+}

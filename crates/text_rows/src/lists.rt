@@ -1,0 +1,116 @@
+//! Encapsulated lists (RFC 3507, section 4.4.1).
+use encapsulated::{BodyPart, Direction, EncFault, Layout, Method, Part, read, write};
+use std::alloc::Global;
+use test_rows::{NoMemory, Row, put_fault, put_line, put_number, put_shown};
+
+const METHODS: [Method; 3] = [Method::Reqmod, Method::Respmod, Method::Options];
+
+const DIRECTIONS: [Direction; 2] = [Direction::Request, Direction::Response];
+
+fn method_of(row: &Row<'_>) -> Method {
+    Method::of_name(row.get(b"method")).unwrap_or(Method::Options)
+}
+
+fn direction_of(row: &Row<'_>) -> Direction {
+    match row.get(b"direction") {
+        b"response" => Direction::Response,
+        _ => Direction::Request,
+    }
+}
+
+fn body_of(row: &Row<'_>) -> Option<BodyPart> {
+    match row.get(b"body") {
+        b"req-body" => Some(BodyPart::ReqBody),
+        b"res-body" => Some(BodyPart::ResBody),
+        b"opt-body" => Some(BodyPart::OptBody),
+        b"null-body" => Some(BodyPart::NullBody),
+        _ => None,
+    }
+}
+
+fn put_head(out: &mut Vec<u8>, name: &[u8], offset: Option<u64>) -> Result<(), NoMemory> {
+    match offset {
+        Some(offset) => put_number(out, name, offset),
+        None => Ok(()),
+    }
+}
+
+fn put_layout(out: &mut Vec<u8>, layout: &Layout) -> Result<(), NoMemory> {
+    put_head(out, b"request head at", layout.req_hdr)?;
+    put_head(out, b"response head at", layout.res_hdr)?;
+    out.extend_from_slice(Part::Body(layout.body).name())?;
+    put_number(out, b" at", layout.offset)
+}
+
+fn put_read(out: &mut Vec<u8>, found: Result<Layout, EncFault>) -> Result<(), NoMemory> {
+    match found {
+        Ok(layout) => put_layout(out, &layout),
+        Err(fault) => put_fault(out, fault.number(), &fault),
+    }
+}
+
+/// The kinds of message that take a list; what another is refused for, where that isn't its order.
+fn put_takers(out: &mut Vec<u8>, list: &[u8]) -> Result<(), NoMemory> {
+    for method in METHODS {
+        for direction in DIRECTIONS {
+            match read(method, direction, list) {
+                Ok(_) => {
+                    out.extend_from_slice(method.name())?;
+                    put_shown(out, b"", &direction)?;
+                }
+                Err(EncFault::Order) => {}
+                Err(fault) => put_fault(out, fault.number(), &fault)?,
+            }
+        }
+    }
+    put_line(out, b"no other")
+}
+
+fn put_written(alloc: Global, out: &mut Vec<u8>, row: &Row<'_>) -> Result<(), NoMemory> {
+    let Some(body) = body_of(row) else {
+        return Ok(());
+    };
+    let layout = Layout {
+        req_hdr: row.number(b"req-hdr"),
+        res_hdr: row.number(b"res-hdr"),
+        body,
+        offset: row.number(b"offset").unwrap_or(0),
+    };
+    if !layout.is_writable() {
+        return put_line(out, b"not writable");
+    }
+    put_line(out, &write(alloc, &layout)?)
+}
+
+/// A list that is read, as it is written again.
+fn put_again(
+    alloc: Global,
+    out: &mut Vec<u8>,
+    found: Result<Layout, EncFault>,
+) -> Result<(), NoMemory> {
+    match found {
+        Ok(layout) => put_line(out, &write(alloc, &layout)?),
+        Err(fault) => {
+            let text = format!(in alloc; "{fault}")?;
+            put_line(out, text.as_bytes())
+        }
+    }
+}
+
+pub fn put_answer(
+    alloc: Global,
+    call: &[u8],
+    row: &Row<'_>,
+    out: &mut Vec<u8>,
+) -> Result<(), NoMemory> {
+    let list = row.get(b"list");
+    match call {
+        b"read list" => put_read(out, read(method_of(row), direction_of(row), list)),
+        b"takers of a list" => put_takers(out, list),
+        b"write list" => put_written(alloc, out, row),
+        b"write list again" => {
+            put_again(alloc, out, read(method_of(row), direction_of(row), list))
+        }
+        _ => Ok(()),
+    }
+}

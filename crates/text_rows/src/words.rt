@@ -1,0 +1,87 @@
+//! Numbers, tokens, lists with commas, and room for a text.
+use adapt_bytes::{
+    Room, Small, comma_items, comma_parts, is_token, put_decimal, put_hex, read_decimal, read_hex,
+    same_ascii, trim,
+};
+use std::alloc::Global;
+use test_rows::{NoMemory, Row, put_line, put_number};
+
+fn put_read(out: &mut Vec<u8>, number: Option<u64>) -> Result<(), NoMemory> {
+    match number {
+        Some(number) => put_number(out, b"number", number),
+        None => put_line(out, b"no number"),
+    }
+}
+
+fn put_truth(out: &mut Vec<u8>, is_so: bool) -> Result<(), NoMemory> {
+    put_line(out, if is_so { b"yes" } else { b"no" })
+}
+
+fn put_written(out: &mut Vec<u8>, number: u64) -> Result<(), NoMemory> {
+    let mut decimal = Small::new();
+    put_decimal(number, &mut decimal);
+    put_line(out, decimal.as_slice())?;
+    let mut hex = Small::new();
+    put_hex(number, &mut hex);
+    put_line(out, hex.as_slice())
+}
+
+fn put_items(out: &mut Vec<u8>, text: &[u8]) -> Result<(), NoMemory> {
+    for item in comma_items(text) {
+        put_line(out, item)?;
+    }
+    put_line(out, b"end")
+}
+
+fn put_parts(out: &mut Vec<u8>, text: &[u8]) -> Result<(), NoMemory> {
+    for part in comma_parts(text) {
+        put_line(out, part)?;
+    }
+    put_line(out, b"end")
+}
+
+/// Puts two pieces into room for so many bytes.
+fn put_room(
+    alloc: Global,
+    out: &mut Vec<u8>,
+    size: usize,
+    first: &[u8],
+    second: &[u8],
+) -> Result<(), NoMemory> {
+    if first.len() > size || second.len() > size - first.len() {
+        return put_line(out, b"no room");
+    }
+    let mut room = Room::new(alloc, size)?;
+    room.put(first);
+    room.put(b"");
+    room.put(second);
+    let text = room.into_vec();
+    put_line(out, &text)
+}
+
+pub fn put_answer(
+    alloc: Global,
+    call: &[u8],
+    row: &Row<'_>,
+    out: &mut Vec<u8>,
+) -> Result<(), NoMemory> {
+    let text = row.get(b"text");
+    match call {
+        b"read decimal" => put_read(out, read_decimal(text)),
+        b"read hexadecimal" => put_read(out, read_hex(text)),
+        b"write number" => match row.number(b"number") {
+            Some(number) => put_written(out, number),
+            None => Ok(()),
+        },
+        b"comma items" => put_items(out, text),
+        b"comma parts" => put_parts(out, text),
+        b"trim" => put_line(out, trim(text)),
+        b"is token" => put_truth(out, is_token(text)),
+        b"same in ASCII" => put_truth(out, same_ascii(text, row.get(b"other"))),
+        b"room" => {
+            let size = row.number(b"number").unwrap_or(0) as usize;
+            put_room(alloc, out, size, text, row.get(b"other"))
+        }
+        _ => Ok(()),
+    }
+}
