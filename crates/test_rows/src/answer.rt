@@ -2,6 +2,14 @@
 use std::alloc::AllocError as NoMemory;
 use std::fmt::Debug;
 
+/// Adds texts, one behind the other.
+pub fn put_all(out: &mut Vec<u8>, texts: &[&[u8]]) -> Result<(), NoMemory> {
+    for text in texts {
+        out.extend_from_slice(*text)?;
+    }
+    Ok(())
+}
+
 /// Adds a line.
 pub fn put_line(out: &mut Vec<u8>, text: &[u8]) -> Result<(), NoMemory> {
     out.extend_from_slice(text)?;

@@ -1,8 +1,8 @@
 //! Tests as data: rows of plain text, each a case with the answer that it wants, and the report on them.
 //!
 //! A file is a table. Blank lines part its rows, and a line that begins with `#` is a comment. The first row is the
-//! table's head: `table` names it, `call` says what is called for each row, and `keys` names the keys that a row may
-//! have beside `name`, `call`, `want` and `or`.
+//! table's head: `table` names it, and `call` says what is called for each row that doesn't say so itself. A row may have
+//! just the keys that the head has, where each says what it is for.
 //!
 //! A line `key: text` adds the text to what the key says, and `key| text` adds it as a line, its LF included. In a text
 //! `\r`, `\n`, `\t`, `\0`, `\s` (a space), `\\`, `\}` and `\x80` stand for one byte, and `\{99*A: b\r\n}` is 99 times what
@@ -17,8 +17,8 @@ mod row;
 mod table;
 mod text;
 
-pub use answer::{put_decimal, put_escaped, put_fault, put_line, put_number, put_shown};
+pub use answer::{put_all, put_decimal, put_escaped, put_fault, put_line, put_number, put_shown};
 pub use report::Report;
-pub use row::{Row, number};
+pub use row::{Row, number, says};
 pub use std::alloc::AllocError as NoMemory;
 pub use table::{Table, read_table};

@@ -1,24 +1,22 @@
 //! One row: its keys with what they say.
-ghost use Rattle.std.specs.Prelude.{◌≤◌, length};
 
-use crate::text::put_text;
-use std::alloc::{AllocError as NoMemory, Global};
-
-/// A key with what it says.
-#[derive(Drop)]
-struct Entry<'a> {
-    key: &'a [u8],
-    said: Vec<u8>,
+/// Where a key stands, and up to where what it says behind it.
+#[derive(Clone, Copy)]
+pub(crate) struct Entry {
+    pub(crate) key_from: usize,
+    pub(crate) from: usize,
+    pub(crate) to: usize,
 }
 
 /// A case of a table.
-#[derive(Drop)]
+#[derive(Clone, Copy)]
 pub struct Row<'a> {
     /// The number of its first line in the file, from 1 on.
     pub line: u64,
     /// Whether each of its lines is one.
     pub is_readable: bool,
-    entries: Vec<Entry<'a>>,
+    pub(crate) entries: &'a [Entry],
+    pub(crate) said: &'a [u8],
 }
 
 /// The number that decimal digits write. `None` for other bytes, for none and for a number above `2^64 - 1`.
@@ -33,45 +31,37 @@ pub fn number(digits: &[u8]) -> Option<u64> {
     if digits.is_empty() { None } else { Some(sum) }
 }
 
-/// Where a line's key ends.
-fn key_end(line: &[u8]) -> usize
-    ensures { result ≤ length line.now }
-{
-    for at in 0..line.len() {
-        if line[at] == b':' || line[at] == b'|' {
-            return at;
-        }
-    }
-    line.len()
+/// Whether a text is this one.
+pub fn says(text: &[u8], words: &[u8]) -> bool {
+    text == words
 }
 
-/// Whether a word is one of these, which spaces part.
-fn is_among(word: &[u8], words: &[u8]) -> bool {
-    for other in words.split(|byte| *byte == b' ') {
-        if other == word {
-            return true;
-        }
+/// A part of a text; nothing where it has no such part.
+pub(crate) fn part(text: &[u8], from: usize, to: usize) -> &[u8] {
+    if from <= to && to <= text.len() {
+        &text[from..to]
+    } else {
+        &[]
     }
-    false
 }
 
 impl<'a> Row<'a> {
-    pub(crate) fn new(alloc: Global, line: u64) -> Row<'a> {
-        Row {
-            line,
-            is_readable: true,
-            entries: Vec::new(alloc),
+    /// What a key says; `None` where the row doesn't have it.
+    fn find(&self, key: &[u8]) -> Option<&'a [u8]> {
+        for entry in self.entries {
+            if part(self.said, entry.key_from, entry.from) == key {
+                return Some(part(self.said, entry.from, entry.to));
+            }
         }
+        None
     }
 
     /// What a key says; nothing where the row doesn't have it.
-    pub fn get(&self, key: &[u8]) -> &[u8] {
-        for entry in &self.entries {
-            if entry.key == key {
-                return &entry.said;
-            }
+    pub fn get(&self, key: &[u8]) -> &'a [u8] {
+        match self.find(key) {
+            Some(said) => said,
+            None => &[],
         }
-        &[]
     }
 
     /// The number that a key says; `None` where it says none.
@@ -81,60 +71,17 @@ impl<'a> Row<'a> {
 
     /// Whether it has a key.
     pub fn has(&self, key: &[u8]) -> bool {
-        for entry in &self.entries {
-            if entry.key == key {
-                return true;
-            }
-        }
-        false
+        self.find(key).is_some()
     }
 
-    /// Whether each of its keys is among these, some of every row and some of a table.
-    pub(crate) fn has_only(&self, every: &[u8], keys: &[u8]) -> bool {
-        for entry in &self.entries {
-            if !is_among(entry.key, every) && !is_among(entry.key, keys) {
+    /// Whether each of its keys is one of a table's head, and says but one thing.
+    pub(crate) fn has_only(&self, head: &Row<'_>) -> bool {
+        for entry in self.entries {
+            let key = part(self.said, entry.key_from, entry.from);
+            if !head.has(key) || self.get(key) != part(self.said, entry.from, entry.to) {
                 return false;
             }
         }
         true
-    }
-
-    /// Makes a key the last one. A key that comes again behind others can't be read.
-    fn open(&mut self, alloc: Global, key: &'a [u8]) -> Result<(), NoMemory> {
-        if let Some(entry) = self.entries.last() {
-            if entry.key == key {
-                return Ok(());
-            }
-        }
-        if self.has(key) {
-            self.is_readable = false;
-        }
-        let said = Vec::new(alloc);
-        self.entries.push(Entry { key, said })?;
-        Ok(())
-    }
-
-    /// Adds a line: a key, `:` or `|`, and after a space a text.
-    pub(crate) fn add_line(&mut self, alloc: Global, line: &'a [u8]) -> Result<(), NoMemory> {
-        let (key, rest) = line.split_at(key_end(line));
-        self.open(alloc, key)?;
-        let is_read = match (self.entries.last_mut(), rest.split_first()) {
-            (Some(entry), Some((mark, written))) => {
-                put_text(&mut entry.said, without_space(written), *mark == b'|')?
-            }
-            _ => false,
-        };
-        if !is_read {
-            self.is_readable = false;
-        }
-        Ok(())
-    }
-}
-
-/// A text without a space before it.
-fn without_space(written: &[u8]) -> &[u8] {
-    match written {
-        [b' ', rest @ ..] => rest,
-        _ => written,
     }
 }

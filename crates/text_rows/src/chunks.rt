@@ -5,10 +5,10 @@ use icap_chunks::{
     Outcome, Reading, put_chunk_head, put_chunk_tail, put_last, read_cut, read_in_pieces,
 };
 use std::alloc::Global;
-use test_rows::{NoMemory, Row, put_fault, put_line, put_number};
+use test_rows::{NoMemory, Row, number, put_all, put_fault, put_line, put_number, says};
 
 /// The longest text that is cut at each pair of bytes, and read in pieces of each size.
-const SHORT: usize = 400;
+const SHORT: usize = 64;
 
 fn put_outcome(out: &mut Vec<u8>, outcome: Outcome) -> Result<(), NoMemory> {
     match outcome {
@@ -23,11 +23,15 @@ fn is_same(one: &Reading, other: &Reading) -> bool {
     one.body.as_slice() == other.body.as_slice() && one.outcome == other.outcome
 }
 
+/// Whether a text of this length is read in pieces of this size: of each one, and a long text near the limits.
+fn is_tried(size: usize, len: usize) -> bool {
+    len <= 1024 || size <= 2 || size % 255 <= 2 || size % 8191 <= 2
+}
+
 /// Whether a text is read so in pieces of each size.
 fn is_read_in_pieces(alloc: Global, text: &[u8], whole: &Reading) -> Result<bool, NoMemory> {
     for size in 1..=text.len().max(1) {
-        let is_tried = text.len() <= SHORT || size <= 2 || size % 255 <= 2 || size % 8191 <= 2;
-        if is_tried && !is_same(&read_in_pieces(alloc, text, size)?, whole) {
+        if is_tried(size, text.len()) && !is_same(&read_in_pieces(alloc, text, size)?, whole) {
             return Ok(false);
         }
     }
@@ -62,36 +66,53 @@ fn is_read_cut(alloc: Global, text: &[u8], whole: &Reading) -> Result<bool, NoMe
     Ok(is_same(&read_cut(alloc, text, &sizes)?, whole))
 }
 
+fn put_body(out: &mut Vec<u8>, body: &[u8]) -> Result<(), NoMemory> {
+    if body.is_empty() {
+        return Ok(());
+    }
+    put_all(out, &[b"body ", body, b"\n"])
+}
+
 fn put_reading(alloc: Global, out: &mut Vec<u8>, text: &[u8]) -> Result<(), NoMemory> {
     let whole = read_cut(alloc, text, &[])?;
     put_outcome(out, whole.outcome)?;
-    if !whole.body.is_empty() {
-        out.extend_from_slice(b"body ")?;
-        put_line(out, &whole.body)?;
+    put_body(out, &whole.body)?;
+    if is_read_in_pieces(alloc, text, &whole)? && is_read_cut(alloc, text, &whole)? {
+        return Ok(());
     }
-    if !is_read_in_pieces(alloc, text, &whole)? {
-        put_line(out, b"another answer in pieces")?;
-    }
-    if !is_read_cut(alloc, text, &whole)? {
-        put_line(out, b"another answer where it is cut")?;
-    }
-    Ok(())
+    put_line(out, b"another answer in pieces")
 }
 
-fn put_written(out: &mut Vec<u8>, row: &Row<'_>) -> Result<(), NoMemory> {
+fn put_head(out: &mut Vec<u8>, size: u64) -> Result<(), NoMemory> {
     let mut text = Small::new();
-    match row.get(b"text") {
-        b"tail" => put_chunk_tail(&mut text),
-        b"last with ieof" => put_last(true, &mut text),
-        b"last" => put_last(false, &mut text),
-        digits => {
-            let size = test_rows::number(digits).unwrap_or(0);
-            if 0 < size && size < COUNT_LIMIT {
-                put_chunk_head(size, &mut text);
-            }
-        }
+    if 0 < size && size < COUNT_LIMIT {
+        put_chunk_head(size, &mut text);
     }
     out.extend_from_slice(text.as_slice())
+}
+
+fn put_tail(out: &mut Vec<u8>) -> Result<(), NoMemory> {
+    let mut text = Small::new();
+    put_chunk_tail(&mut text);
+    out.extend_from_slice(text.as_slice())
+}
+
+fn put_end(out: &mut Vec<u8>, ieof: bool) -> Result<(), NoMemory> {
+    let mut text = Small::new();
+    put_last(ieof, &mut text);
+    out.extend_from_slice(text.as_slice())
+}
+
+fn put_written(out: &mut Vec<u8>, what: &[u8]) -> Result<(), NoMemory> {
+    if says(what, b"tail") {
+        put_tail(out)
+    } else if says(what, b"last with ieof") {
+        put_end(out, true)
+    } else if says(what, b"last") {
+        put_end(out, false)
+    } else {
+        put_head(out, number(what).unwrap_or(0))
+    }
 }
 
 pub fn put_answer(
@@ -100,10 +121,13 @@ pub fn put_answer(
     row: &Row<'_>,
     out: &mut Vec<u8>,
 ) -> Result<(), NoMemory> {
-    match call {
-        b"read chunks" => put_reading(alloc, out, row.get(b"text")),
-        b"write chunks" => put_written(out, row),
-        b"random bodies" => put_random_bodies(alloc, out, row),
-        _ => Ok(()),
+    if says(call, b"read chunks") {
+        put_reading(alloc, out, row.get(b"text"))
+    } else if says(call, b"write chunks") {
+        put_written(out, row.get(b"text"))
+    } else if says(call, b"random bodies") {
+        put_random_bodies(alloc, out, row)
+    } else {
+        Ok(())
     }
 }

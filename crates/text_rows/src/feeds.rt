@@ -1,7 +1,7 @@
 //! Readers of bodies that are fed piece by piece.
 use http_side::{BodyReader, Framing};
 use icap_chunks::{ChunkFault, ChunkReader, Fed};
-use test_rows::{NoMemory, Row, number, put_decimal, put_fault, put_line, put_number};
+use test_rows::{NoMemory, Row, number, put_decimal, put_fault, put_line, put_number, says};
 
 /// A reader of chunks, or of a body with any framing.
 #[derive(Drop)]
@@ -34,16 +34,25 @@ impl Reader {
     }
 }
 
+fn framing_of(row: &Row<'_>) -> Option<Framing> {
+    let word = row.get(b"framing");
+    if says(word, b"none") {
+        Some(Framing::None)
+    } else if says(word, b"length") {
+        Some(Framing::Length(row.number(b"length").unwrap_or(0)))
+    } else if says(word, b"chunked") {
+        Some(Framing::Chunked)
+    } else if says(word, b"close") {
+        Some(Framing::Close)
+    } else {
+        None
+    }
+}
+
 fn reader_of(row: &Row<'_>) -> Reader {
-    match row.get(b"framing") {
-        b"none" => Reader::Body(BodyReader::new(Framing::None)),
-        b"length" => {
-            let length = row.number(b"length").unwrap_or(0);
-            Reader::Body(BodyReader::new(Framing::Length(length)))
-        }
-        b"chunked" => Reader::Body(BodyReader::new(Framing::Chunked)),
-        b"close" => Reader::Body(BodyReader::new(Framing::Close)),
-        _ => Reader::Chunks(ChunkReader::new()),
+    match framing_of(row) {
+        Some(framing) => Reader::Body(BodyReader::new(framing)),
+        None => Reader::Chunks(ChunkReader::new()),
     }
 }
 
@@ -54,7 +63,14 @@ fn piece(text: &[u8], at: usize, size: usize) -> &[u8] {
 }
 
 fn put_end(out: &mut Vec<u8>, reader: &Reader) -> Result<(), NoMemory> {
-    put_line(out, if reader.has_ended() { b"it has ended" } else { b"it goes on" })?;
+    put_line(
+        out,
+        if reader.has_ended() {
+            b"it has ended"
+        } else {
+            b"it goes on"
+        },
+    )?;
     if reader.is_whole_at_close() {
         put_line(out, b"whole where the connection closes")?;
     }
@@ -124,9 +140,11 @@ fn put_bytes(out: &mut Vec<u8>, reader: &mut Reader, text: &[u8]) -> Result<(), 
 
 pub fn put_answer(call: &[u8], row: &Row<'_>, out: &mut Vec<u8>) -> Result<(), NoMemory> {
     let mut reader = reader_of(row);
-    match call {
-        b"feed pieces" => put_pieces(out, &mut reader, row.get(b"text"), row.get(b"sizes")),
-        b"feed each byte" => put_bytes(out, &mut reader, row.get(b"text")),
-        _ => Ok(()),
+    if says(call, b"feed pieces") {
+        put_pieces(out, &mut reader, row.get(b"text"), row.get(b"sizes"))
+    } else if says(call, b"feed each byte") {
+        put_bytes(out, &mut reader, row.get(b"text"))
+    } else {
+        Ok(())
     }
 }

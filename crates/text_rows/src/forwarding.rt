@@ -5,13 +5,16 @@ use http_side::{
     read_request, read_response,
 };
 use std::alloc::Global;
-use test_rows::{NoMemory, Row, put_line, put_shown};
+use test_rows::{NoMemory, Row, put_line, put_shown, says};
 
 fn part_of(row: &Row<'_>) -> Part {
-    match row.get(b"part") {
-        b"null-body" => Part::NullBody,
-        b"body" => Part::Body,
-        _ => Part::Own,
+    let word = row.get(b"part");
+    if says(word, b"null-body") {
+        Part::NullBody
+    } else if says(word, b"body") {
+        Part::Body
+    } else {
+        Part::Own
     }
 }
 
@@ -103,12 +106,17 @@ pub fn put_answer(
     let Ok(user) = read_request(alloc, row.get(b"user"), false) else {
         return put_line(out, b"the user's text is no request");
     };
-    match call {
-        b"head to origin" => put_to_origin(alloc, out, &user.value),
-        b"head to service" => put_to_service(alloc, out, &user.value),
-        b"read head to origin" => put_read_again(alloc, out, &user.value),
-        b"adapted head to origin" => put_adapted(alloc, out, &user.value, row),
-        b"head to user" => put_to_user(alloc, out, &user.value, row),
-        _ => Ok(()),
+    if says(call, b"head to origin") {
+        put_to_origin(alloc, out, &user.value)
+    } else if says(call, b"head to service") {
+        put_to_service(alloc, out, &user.value)
+    } else if says(call, b"read head to origin") {
+        put_read_again(alloc, out, &user.value)
+    } else if says(call, b"adapted head to origin") {
+        put_adapted(alloc, out, &user.value, row)
+    } else if says(call, b"head to user") {
+        put_to_user(alloc, out, &user.value, row)
+    } else {
+        Ok(())
     }
 }

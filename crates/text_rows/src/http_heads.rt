@@ -2,7 +2,7 @@
 use crate::cuts::{Grammar, put_cuts};
 use http_side::{HttpFault, HttpResponse, own_refusal, read_request, read_response};
 use std::alloc::Global;
-use test_rows::{NoMemory, Row, put_decimal, put_fault, put_line, put_number, put_shown};
+use test_rows::{NoMemory, Row, put_decimal, put_fault, put_line, put_number, put_shown, says};
 
 fn put_http_fault(out: &mut Vec<u8>, fault: HttpFault) -> Result<(), NoMemory> {
     put_fault(out, fault.number(), &fault)
@@ -61,18 +61,17 @@ pub fn put_answer(
     out: &mut Vec<u8>,
 ) -> Result<(), NoMemory> {
     let text = row.get(b"text");
-    match call {
-        b"read request" => {
-            let adapted = row.has(b"adapted");
-            put_request(alloc, out, text, adapted)?;
-            put_cuts(alloc, Grammar::HttpRequest { adapted }, text, out)
-        }
-        b"read response" => {
-            let to_head = row.has(b"to HEAD");
-            put_response(alloc, out, text, to_head)?;
-            put_cuts(alloc, Grammar::HttpResponse { to_head }, text, out)
-        }
-        b"own refusal" => put_refusal(out, row.number(b"status").unwrap_or(0)),
-        _ => Ok(()),
+    if says(call, b"read request") {
+        let adapted = row.has(b"adapted");
+        put_request(alloc, out, text, adapted)?;
+        put_cuts(alloc, Grammar::HttpRequest { adapted }, text, out)
+    } else if says(call, b"read response") {
+        let to_head = row.has(b"to-HEAD");
+        put_response(alloc, out, text, to_head)?;
+        put_cuts(alloc, Grammar::HttpResponse { to_head }, text, out)
+    } else if says(call, b"own refusal") {
+        put_refusal(out, row.number(b"status").unwrap_or(0))
+    } else {
+        Ok(())
     }
 }

@@ -5,7 +5,7 @@ use icap_head::{
     read_response,
 };
 use std::alloc::Global;
-use test_rows::{NoMemory, Row, put_decimal, put_fault, put_line, put_number};
+use test_rows::{NoMemory, Row, put_decimal, put_fault, put_line, put_number, says};
 
 fn put_head_fault(out: &mut Vec<u8>, fault: HeadFault) -> Result<(), NoMemory> {
     put_fault(out, fault.number(), &fault)
@@ -107,6 +107,19 @@ fn put_line_fault(alloc: Global, out: &mut Vec<u8>, text: &[u8]) -> Result<(), N
     }
 }
 
+/// Heads that are read as a whole alone.
+fn put_once(alloc: Global, out: &mut Vec<u8>, call: &[u8], text: &[u8]) -> Result<(), NoMemory> {
+    if says(call, b"read ICAP request once") {
+        put_request_size(alloc, out, text)
+    } else if says(call, b"read ICAP response once") {
+        put_response_size(alloc, out, text)
+    } else if says(call, b"judge ICAP request line") {
+        put_line_fault(alloc, out, text)
+    } else {
+        Ok(())
+    }
+}
+
 pub fn put_answer(
     alloc: Global,
     call: &[u8],
@@ -114,26 +127,19 @@ pub fn put_answer(
     out: &mut Vec<u8>,
 ) -> Result<(), NoMemory> {
     let text = row.get(b"text");
-    match call {
-        b"read ICAP request" => {
-            put_read_request(alloc, out, row)?;
-            put_cuts(alloc, Grammar::IcapRequest, text, out)
-        }
-        b"read ICAP response" => {
-            put_read_response(alloc, out, row)?;
-            put_cuts(alloc, Grammar::IcapResponse, text, out)
-        }
-        b"size of ICAP request" => {
-            put_request_size(alloc, out, text)?;
-            put_cuts(alloc, Grammar::IcapRequest, text, out)
-        }
-        b"size of ICAP response" => {
-            put_response_size(alloc, out, text)?;
-            put_cuts(alloc, Grammar::IcapResponse, text, out)
-        }
-        b"read ICAP request once" => put_request_size(alloc, out, text),
-        b"read ICAP response once" => put_response_size(alloc, out, text),
-        b"judge ICAP request line" => put_line_fault(alloc, out, text),
-        _ => Ok(()),
+    if says(call, b"read ICAP request") {
+        put_read_request(alloc, out, row)?;
+        put_cuts(alloc, Grammar::IcapRequest, text, out)
+    } else if says(call, b"read ICAP response") {
+        put_read_response(alloc, out, row)?;
+        put_cuts(alloc, Grammar::IcapResponse, text, out)
+    } else if says(call, b"size of ICAP request") {
+        put_request_size(alloc, out, text)?;
+        put_cuts(alloc, Grammar::IcapRequest, text, out)
+    } else if says(call, b"size of ICAP response") {
+        put_response_size(alloc, out, text)?;
+        put_cuts(alloc, Grammar::IcapResponse, text, out)
+    } else {
+        put_once(alloc, out, call, text)
     }
 }

@@ -4,7 +4,7 @@ use icap_head::{
     write_response,
 };
 use std::alloc::Global;
-use test_rows::{NoMemory, Row, put_fault, put_line};
+use test_rows::{NoMemory, Row, put_fault, put_line, says};
 
 /// The one field that a row says.
 fn field_of(alloc: Global, row: &Row<'_>) -> Result<Fields, NoMemory> {
@@ -67,11 +67,15 @@ pub fn put_answer(
     row: &Row<'_>,
     out: &mut Vec<u8>,
 ) -> Result<(), NoMemory> {
-    match call {
-        b"write ICAP request" => put_built_request(alloc, out, row),
-        b"write ICAP response" => put_built_response(alloc, out, row),
-        b"write ICAP request again" => put_request_again(alloc, out, row.get(b"text")),
-        b"write ICAP response again" => put_response_again(alloc, out, row.get(b"text")),
-        _ => Ok(()),
+    if says(call, b"write ICAP request") {
+        put_built_request(alloc, out, row)
+    } else if says(call, b"write ICAP response") {
+        put_built_response(alloc, out, row)
+    } else if says(call, b"write ICAP request again") {
+        put_request_again(alloc, out, row.get(b"text"))
+    } else if says(call, b"write ICAP response again") {
+        put_response_again(alloc, out, row.get(b"text"))
+    } else {
+        Ok(())
     }
 }

@@ -1,31 +1,38 @@
 //! Encapsulated lists (RFC 3507, section 4.4.1).
 use encapsulated::{BodyPart, Direction, EncFault, Layout, Method, Part, read, write};
 use std::alloc::Global;
-use test_rows::{NoMemory, Row, put_fault, put_line, put_number, put_shown};
+use test_rows::{NoMemory, Row, put_fault, put_line, put_number, put_shown, says};
 
 const METHODS: [Method; 3] = [Method::Reqmod, Method::Respmod, Method::Options];
 
 const DIRECTIONS: [Direction; 2] = [Direction::Request, Direction::Response];
+
+const BODIES: [BodyPart; 4] = [
+    BodyPart::ReqBody,
+    BodyPart::ResBody,
+    BodyPart::OptBody,
+    BodyPart::NullBody,
+];
 
 fn method_of(row: &Row<'_>) -> Method {
     Method::of_name(row.get(b"method")).unwrap_or(Method::Options)
 }
 
 fn direction_of(row: &Row<'_>) -> Direction {
-    match row.get(b"direction") {
-        b"response" => Direction::Response,
-        _ => Direction::Request,
+    if says(row.get(b"direction"), b"response") {
+        Direction::Response
+    } else {
+        Direction::Request
     }
 }
 
 fn body_of(row: &Row<'_>) -> Option<BodyPart> {
-    match row.get(b"body") {
-        b"req-body" => Some(BodyPart::ReqBody),
-        b"res-body" => Some(BodyPart::ResBody),
-        b"opt-body" => Some(BodyPart::OptBody),
-        b"null-body" => Some(BodyPart::NullBody),
-        _ => None,
+    for body in BODIES {
+        if says(row.get(b"body"), Part::Body(body).name()) {
+            return Some(body);
+        }
     }
+    None
 }
 
 fn put_head(out: &mut Vec<u8>, name: &[u8], offset: Option<u64>) -> Result<(), NoMemory> {
@@ -104,13 +111,15 @@ pub fn put_answer(
     out: &mut Vec<u8>,
 ) -> Result<(), NoMemory> {
     let list = row.get(b"list");
-    match call {
-        b"read list" => put_read(out, read(method_of(row), direction_of(row), list)),
-        b"takers of a list" => put_takers(out, list),
-        b"write list" => put_written(alloc, out, row),
-        b"write list again" => {
-            put_again(alloc, out, read(method_of(row), direction_of(row), list))
-        }
-        _ => Ok(()),
+    if says(call, b"read list") {
+        put_read(out, read(method_of(row), direction_of(row), list))
+    } else if says(call, b"takers of a list") {
+        put_takers(out, list)
+    } else if says(call, b"write list") {
+        put_written(alloc, out, row)
+    } else if says(call, b"write list again") {
+        put_again(alloc, out, read(method_of(row), direction_of(row), list))
+    } else {
+        Ok(())
     }
 }

@@ -40,12 +40,19 @@ fn put_answer(
 fn judged(alloc: Global, text: &[u8]) -> Result<Report, NoMemory> {
     let table = read_table(alloc, text)?;
     let mut report = Report::new(alloc);
-    for row in table.rows() {
+    let head = table.head();
+    for at in 1..table.len() {
+        let row = table.row(at);
+        let call = if row.has(b"call") {
+            row.get(b"call")
+        } else {
+            head.get(b"call")
+        };
         let mut answer = Vec::new(alloc);
-        put_answer(alloc, table.call(row), row, &mut answer)?;
-        report.judge(&table, row, &answer)?;
+        put_answer(alloc, call, &row, &mut answer)?;
+        report.judge(&head, &row, &answer)?;
     }
-    report.finish(&table)?;
+    report.finish(&head)?;
     Ok(report)
 }
 

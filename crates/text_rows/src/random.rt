@@ -1,7 +1,7 @@
 //! Random bodies in random chunks, from a written seed.
 use icap_chunks::{Outcome, read_cut};
 use std::alloc::Global;
-use test_rows::{NoMemory, Row, put_number};
+use test_rows::{NoMemory, Row, put_all, put_number};
 
 /// Numbers that look random, by Knuth's linear congruential generator.
 #[derive(Drop)]
@@ -26,95 +26,72 @@ impl Random {
     }
 }
 
-/// A body, the text that carries it in chunks, and how it ends.
-#[derive(Drop)]
-struct Sample {
-    body: Vec<u8>,
-    text: Vec<u8>,
-    ieof: bool,
-    used: usize,
-}
-
 fn hex_letter(digit: u64) -> u8 {
     b"0123456789abcdef"[(digit % 16) as usize]
 }
 
-/// The most bytes of a chunk in a sample.
+/// The most bytes of a chunk.
 const MOST: u64 = 40;
 
-impl Sample {
-    fn new(alloc: Global) -> Sample {
-        Sample {
-            body: Vec::new(alloc),
-            text: Vec::new(alloc),
-            ieof: false,
-            used: 0,
-        }
+/// Adds a chunk of a size in two digits, some with an extension, and its bytes to the body.
+fn put_chunk(
+    text: &mut Vec<u8>,
+    body: &mut Vec<u8>,
+    random: &mut Random,
+    size: u64,
+) -> Result<(), NoMemory> {
+    text.extend_from_slice(&[hex_letter(size / 16), hex_letter(size)])?;
+    if random.below(4) == 0 {
+        text.extend_from_slice(b"; a=\"b;ieof\"")?;
     }
-
-    /// Adds a chunk of a size in two digits, some with an extension.
-    fn add_chunk(&mut self, random: &mut Random, size: u64) -> Result<(), NoMemory> {
-        self.text
-            .extend_from_slice(&[hex_letter(size / 16), hex_letter(size)])?;
-        if random.below(4) == 0 {
-            self.text.extend_from_slice(b"; a=\"b;ieof\"")?;
-        }
-        self.text.extend_from_slice(b"\r\n")?;
-        for _ in 0..size {
-            let byte = random.byte();
-            self.text.push(byte)?;
-            self.body.push(byte)?;
-        }
-        self.text.extend_from_slice(b"\r\n")
+    text.extend_from_slice(b"\r\n")?;
+    let from = text.len();
+    for _ in 0..size {
+        text.extend_from_slice(&[random.byte()])?;
     }
-
-    /// Adds the last chunk, and bytes of what comes next.
-    fn end(&mut self, random: &mut Random) -> Result<(), NoMemory> {
-        self.ieof = random.below(2) == 0;
-        let last: &[u8] = if self.ieof { b"0; ieof\r\n" } else { b"0\r\n" };
-        self.text.extend_from_slice(last)?;
-        if random.below(3) == 0 {
-            self.text.extend_from_slice(b"Trailer: x\r\n")?;
-        }
-        self.text.extend_from_slice(b"\r\n")?;
-        self.used = self.text.len();
-        for _ in 0..random.below(5) {
-            self.text.push(random.byte())?;
-        }
-        Ok(())
-    }
-
-    /// Whether it is read back in pieces of these sizes.
-    fn is_read(&self, alloc: Global, sizes: &[usize]) -> Result<bool, NoMemory> {
-        let reading = read_cut(alloc, &self.text, sizes)?;
-        let wanted = Outcome::Ended {
-            ieof: self.ieof,
-            used: self.used,
-        };
-        Ok(reading.body == self.body && reading.outcome == wanted)
-    }
+    body.extend_from_slice(&text[from.min(text.len())..])?;
+    text.extend_from_slice(b"\r\n")
 }
 
-fn sample(alloc: Global, random: &mut Random) -> Result<Sample, NoMemory> {
-    let mut sample = Sample::new(alloc);
+fn put_chunks(text: &mut Vec<u8>, body: &mut Vec<u8>, random: &mut Random) -> Result<(), NoMemory> {
     for _ in 0..random.below(6) {
         let size = random.below(MOST).saturating_add(1);
-        sample.add_chunk(random, size)?;
+        put_chunk(text, body, random, size)?;
     }
-    sample.end(random)?;
-    Ok(sample)
+    Ok(())
 }
 
+/// Adds the last chunk, and up to four bytes of what comes next; says how the body ends.
+fn put_end(text: &mut Vec<u8>, random: &mut Random) -> Result<Outcome, NoMemory> {
+    let ieof = random.below(2) == 0;
+    let last: &[u8] = if ieof { b"0; ieof\r\n" } else { b"0\r\n" };
+    let trailer: &[u8] = if random.below(3) == 0 {
+        b"Trailer: x\r\n\r\n"
+    } else {
+        b"\r\n"
+    };
+    put_all(text, &[last, trailer])?;
+    let used = text.len();
+    let next = [random.byte(), random.byte(), random.byte(), random.byte()];
+    text.extend_from_slice(&next[..random.below(5).min(4) as usize])?;
+    Ok(Outcome::Ended { ieof, used })
+}
+
+/// Whether a random body is read back in random pieces.
 fn is_read_back(alloc: Global, random: &mut Random) -> Result<bool, NoMemory> {
-    let sample = sample(alloc, random)?;
+    let mut text = Vec::new(alloc);
+    let mut body = Vec::new(alloc);
+    put_chunks(&mut text, &mut body, random)?;
+    let outcome = put_end(&mut text, random)?;
     let mut sizes = [0; 8];
     for size in &mut sizes {
         *size = random.below(MOST) as usize;
     }
-    sample.is_read(alloc, &sizes)
+    let reading = read_cut(alloc, &text, &sizes)?;
+    Ok(reading.body == body && reading.outcome == outcome)
 }
 
-/// Adds how many of so many random bodies are read back in random pieces.
+/// Adds how many of so many random bodies are read back.
 pub fn put_random_bodies(alloc: Global, out: &mut Vec<u8>, row: &Row<'_>) -> Result<(), NoMemory> {
     let mut random = Random(row.number(b"seed").unwrap_or(0));
     let mut read: u64 = 0;

@@ -4,7 +4,7 @@ use adapt_bytes::{
     same_ascii, trim,
 };
 use std::alloc::Global;
-use test_rows::{NoMemory, Row, put_line, put_number};
+use test_rows::{NoMemory, Row, put_line, put_number, says};
 
 fn put_read(out: &mut Vec<u8>, number: Option<u64>) -> Result<(), NoMemory> {
     match number {
@@ -59,6 +59,24 @@ fn put_room(
     put_line(out, &text)
 }
 
+/// The questions about a word or a list.
+fn put_word(out: &mut Vec<u8>, call: &[u8], row: &Row<'_>) -> Result<(), NoMemory> {
+    let text = row.get(b"text");
+    if says(call, b"comma items") {
+        put_items(out, text)
+    } else if says(call, b"comma parts") {
+        put_parts(out, text)
+    } else if says(call, b"trim") {
+        put_line(out, trim(text))
+    } else if says(call, b"is token") {
+        put_truth(out, is_token(text))
+    } else if says(call, b"same in ASCII") {
+        put_truth(out, same_ascii(text, row.get(b"other")))
+    } else {
+        Ok(())
+    }
+}
+
 pub fn put_answer(
     alloc: Global,
     call: &[u8],
@@ -66,22 +84,16 @@ pub fn put_answer(
     out: &mut Vec<u8>,
 ) -> Result<(), NoMemory> {
     let text = row.get(b"text");
-    match call {
-        b"read decimal" => put_read(out, read_decimal(text)),
-        b"read hexadecimal" => put_read(out, read_hex(text)),
-        b"write number" => match row.number(b"number") {
-            Some(number) => put_written(out, number),
-            None => Ok(()),
-        },
-        b"comma items" => put_items(out, text),
-        b"comma parts" => put_parts(out, text),
-        b"trim" => put_line(out, trim(text)),
-        b"is token" => put_truth(out, is_token(text)),
-        b"same in ASCII" => put_truth(out, same_ascii(text, row.get(b"other"))),
-        b"room" => {
-            let size = row.number(b"number").unwrap_or(0) as usize;
-            put_room(alloc, out, size, text, row.get(b"other"))
-        }
-        _ => Ok(()),
+    let number = row.number(b"number").unwrap_or(0);
+    if says(call, b"read decimal") {
+        put_read(out, read_decimal(text))
+    } else if says(call, b"read hexadecimal") {
+        put_read(out, read_hex(text))
+    } else if says(call, b"write number") {
+        put_written(out, number)
+    } else if says(call, b"room") {
+        put_room(alloc, out, number as usize, text, row.get(b"other"))
+    } else {
+        put_word(out, call, row)
     }
 }

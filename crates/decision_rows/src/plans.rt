@@ -1,0 +1,74 @@
+//! The plan of a message, and what it reserves.
+use crate::claims::limits_of;
+use crate::events::read_plan;
+use crate::options::response_of;
+use adapt_bytes::COUNT_LIMIT;
+use options_book::{Record, extension, read_record};
+use plan_rules::{Limits, claim, least_claim, plan};
+use std::alloc::Global;
+use test_rows::{NoMemory, Row, put_fault, put_line, put_number, put_shown, says};
+use trace_core::Point;
+
+fn put_planned(
+    out: &mut Vec<u8>,
+    record: &Record,
+    limits: &Limits,
+    row: &Row<'_>,
+) -> Result<(), NoMemory> {
+    let point = if row.has(b"request") {
+        Point::Reqmod
+    } else {
+        Point::Respmod
+    };
+    let len = match row.number(b"len") {
+        Some(len) if len < COUNT_LIMIT => Some(len),
+        _ => None,
+    };
+    let planned = plan(record, limits, point, extension(row.get(b"path")), len);
+    put_shown(out, b"kind", &planned.kind)?;
+    put_shown(out, b"allow", &planned.allow)?;
+    put_shown(out, b"retry", &planned.retry)?;
+    put_number(out, b"claim", claim(&planned, limits))
+}
+
+fn put_plan(alloc: Global, out: &mut Vec<u8>, row: &Row<'_>) -> Result<(), NoMemory> {
+    let Some(limits) = limits_of(row) else {
+        return put_line(out, b"no limits");
+    };
+    let response = response_of(alloc, row)?;
+    match read_record(alloc, &response, Point::Respmod, 1000) {
+        Ok(record) => put_planned(out, &record, &limits, row),
+        Err(fault) => put_fault(out, fault.number(), &fault),
+    }
+}
+
+fn put_limits(out: &mut Vec<u8>, row: &Row<'_>) -> Result<(), NoMemory> {
+    match limits_of(row) {
+        Some(_) => put_line(out, b"limits"),
+        None => put_line(out, b"no limits"),
+    }
+}
+
+fn put_least(out: &mut Vec<u8>, row: &Row<'_>) -> Result<(), NoMemory> {
+    match read_plan(row.get(b"plan")) {
+        Some(plan) => put_number(out, b"claim", least_claim(&plan)),
+        None => put_line(out, b"no plan"),
+    }
+}
+
+pub fn put_answer(
+    alloc: Global,
+    call: &[u8],
+    row: &Row<'_>,
+    out: &mut Vec<u8>,
+) -> Result<(), NoMemory> {
+    if says(call, b"plan of a message") {
+        put_plan(alloc, out, row)
+    } else if says(call, b"limits in range") {
+        put_limits(out, row)
+    } else if says(call, b"least claim") {
+        put_least(out, row)
+    } else {
+        Ok(())
+    }
+}

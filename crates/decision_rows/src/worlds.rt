@@ -1,0 +1,135 @@
+//! All transactions at once: each line of `want` is an event of the world, and what is said of it.
+use crate::events::{asked, cut, read_event, read_plan};
+use std::alloc::Global;
+use test_rows::{NoMemory, Row, number, put_fault, put_line, put_number, says};
+use world_core::{World, WorldEvent, WorldFault};
+
+/// A number, and what stands behind the space after it.
+fn numbered(text: &[u8]) -> Option<(u64, &[u8])> {
+    let (digits, rest) = cut(text, b" ");
+    Some((number(digits)?, rest))
+}
+
+fn place(text: &[u8]) -> Option<usize> {
+    match number(text) {
+        Some(place) => Some(place as usize),
+        None => None,
+    }
+}
+
+fn read_open(at: u64, rest: &[u8]) -> Option<WorldEvent> {
+    let (claim, plan) = numbered(rest)?;
+    Some(WorldEvent::Open(at, read_plan(plan)?, claim))
+}
+
+/// An event of one transaction, whose number is known.
+fn read_of(word: &[u8], at: u64, rest: &[u8]) -> Option<WorldEvent> {
+    if says(word, b"lease") {
+        Some(WorldEvent::Lease(at, place(rest)?))
+    } else if says(word, b"open") {
+        read_open(at, rest)
+    } else if says(word, b"of") {
+        Some(WorldEvent::Of(at, read_event(rest)?))
+    } else if says(word, b"back") {
+        Some(WorldEvent::Back(at, says(rest, b"kept")))
+    } else if says(word, b"reclaim") {
+        Some(WorldEvent::Reclaim(at, number(rest)?))
+    } else {
+        None
+    }
+}
+
+fn read_world_event(text: &[u8]) -> Option<WorldEvent> {
+    let (word, rest) = cut(text, b" ");
+    let (at, rest) = numbered(rest)?;
+    if says(word, b"close") {
+        Some(WorldEvent::Close(at))
+    } else if says(word, b"limit") {
+        Some(WorldEvent::Limit(at as usize, number(rest)?))
+    } else if says(word, b"capacity") {
+        Some(WorldEvent::Capacity(at))
+    } else {
+        read_of(word, at, rest)
+    }
+}
+
+fn put_taken(out: &mut Vec<u8>, taken: Result<(), WorldFault>) -> Result<(), NoMemory> {
+    match taken {
+        Ok(()) => put_line(out, b"taken"),
+        Err(WorldFault::NoMemory) => Err(NoMemory),
+        Err(fault) => put_fault(out, fault.number(), &fault),
+    }
+}
+
+fn put_said(out: &mut Vec<u8>, world: &mut World, asked: &[u8]) -> Result<(), NoMemory> {
+    if says(asked, b"held") {
+        return put_number(out, b"held =", world.book());
+    }
+    out.extend_from_slice(asked)?;
+    out.extend_from_slice(b" = ")?;
+    match read_world_event(asked) {
+        Some(event) => put_taken(out, world.step(&event)),
+        None => put_line(out, b"no event"),
+    }
+}
+
+fn maxima_of(alloc: Global, words: &[u8]) -> Result<Vec<u64>, NoMemory> {
+    let mut maxima = Vec::new(alloc);
+    for word in words.split(|byte| *byte == b' ') {
+        if let Some(maximum) = number(word) {
+            maxima.push(maximum)?;
+        }
+    }
+    Ok(maxima)
+}
+
+fn events_of(alloc: Global, lines: &[u8]) -> Result<Vec<WorldEvent>, NoMemory> {
+    let mut events = Vec::new(alloc);
+    for line in lines.split(|byte| *byte == b'\n') {
+        if let Some(event) = read_world_event(asked(line)) {
+            events.push(event)?;
+        }
+    }
+    Ok(events)
+}
+
+/// How many bytes are held once all events came in one go.
+fn held_at_end(
+    alloc: Global,
+    capacity: u64,
+    maxima: &[u64],
+    lines: &[u8],
+) -> Result<u64, NoMemory> {
+    let events = events_of(alloc, lines)?;
+    let (world, _) = World::run(alloc, capacity, maxima, &events)?;
+    Ok(world.book())
+}
+
+fn put_world(alloc: Global, out: &mut Vec<u8>, row: &Row<'_>) -> Result<(), NoMemory> {
+    let capacity = row.number(b"capacity").unwrap_or(0);
+    let maxima = maxima_of(alloc, row.get(b"maxima"))?;
+    let lines = row.get(b"want");
+    let mut world = World::new(alloc, capacity, &maxima)?;
+    for line in lines.split(|byte| *byte == b'\n') {
+        if !line.is_empty() {
+            put_said(out, &mut world, asked(line))?;
+        }
+    }
+    if held_at_end(alloc, capacity, &maxima, lines)? != world.book() {
+        put_line(out, b"other bytes are held in one go")?;
+    }
+    Ok(())
+}
+
+pub fn put_answer(
+    alloc: Global,
+    call: &[u8],
+    row: &Row<'_>,
+    out: &mut Vec<u8>,
+) -> Result<(), NoMemory> {
+    if says(call, b"world") {
+        put_world(alloc, out, row)
+    } else {
+        Ok(())
+    }
+}
