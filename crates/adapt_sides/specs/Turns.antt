@@ -1,5 +1,5 @@
 -- What one turn of each side does, as a relation between histories and whole texts.
-use Rattle.std.specs.Prelude.{◌≡◌, ℕ, ◌<◌, ◌≤◌, ◌⊎◌, Bool, true, false, List, [], ◌++◌, length, take, Option, Some, None, Result, Ok, Err}
+use Rattle.std.specs.Prelude.{◌≡◌, ℕ, ◌<◌, ◌≤◌, ◌⊎◌, ◌||◌, Bool, true, false, List, [], ◌++◌, length, take, Option, Some, None, Result, Ok, Err}
 use Rattle.trace_core.specs.declared.history.Event.{Event}
 use Rattle.trace_core.specs.declared.history.Seen.{Seen}
 use Rattle.trace_core.specs.Turns.{after_all, MayAllFollow, AllAre, in_sum, ad_sum, is_of_source, is_of_sending, is_of_replies, is_of_hop}
@@ -43,10 +43,6 @@ pub record HasReason {F : Type 0} (of_wire : F → Past → Past → Type 0) (p 
 abbrev pub IsExplained : {F : Type 0} → (old_fault : Option F) → (reason : F → Type 0) → Result Turn F → Type 0
 IsExplained {F} old_fault reason result = old_fault ≡ None → (fault : F) → result ≡ Err fault → reason fault
 
--- why a next hop's side fails first: the wire failed, or the chosen body breaks the length that its head said
-abbrev pub FailsGiving : (breaks : Type 0) → RelayFault → Type 0
-FailsGiving breaks fault = (fault ≡ relay.Device) ⊎ ((fault ≡ relay.Length) × breaks)
-
 -- a turn that waits did nothing, and one that did nothing waits
 pub record SaysWaiting {F : Type 0} (events : List Event) (delta : List ℕ) (result : Result Turn F) : Type 0 where
   pub idle : waits_of result ≡ true → (events ≡ []) × (delta ≡ [])
@@ -58,17 +54,30 @@ pub record Remembers {F : Type 0} (old new : Option F) (result : Result Turn F) 
   pub again : (fault : F) → old ≡ Some fault → result ≡ Err fault
   pub stays : (fault : F) → result ≡ Err fault → new ≡ Some fault
 
--- A read of the source's wire, which gave these bytes: In and End. `all_framed` says that none of the bytes that are kept can be framed.
-pub record ReadsBody (old new : Seen → List ℕ → List ℕ → Type 0) (agrees_old agrees_new : Seen → Type 0) (old_fault new_fault : Option RelayFault) (rests all_framed : Type 0) (before after : Past → Type 0) (out : List ℕ) (result : Result Turn RelayFault) : Type 0 where
-  pub delta : List ℕ
-  pub wire : (p : Past) → before p → (q : Past) × after q × IsLater p delta [] q × HasReason OfRelayWire p q old_fault rests (λ past. past.read_waits) result
+-- what a wire gave: its bytes, and whether it said that it has ended
+pub record Given : Type 0 where
+  pub bytes : List ℕ
+  pub ended : Bool
+
+-- and what it gave after that
+abbrev pub given_then : Given → Given → Given
+given_then a b = record { bytes = a.bytes ++ b.bytes; ended = b.ended || a.ended }
+
+-- A read of the source's wire, which gave this: In and End. `all_framed` says that none of the bytes that are kept can be framed, and
+-- `over` that the framing tells the body's end. End comes only where the body is over so, or the wire has ended in this call; and an
+-- end that the framing tells isn't withheld.
+pub record ReadsBody (old new : Seen → List ℕ → Given → Type 0) (agrees_old agrees_new : Seen → Type 0) (old_fault new_fault : Option RelayFault) (rests all_framed over : Type 0) (before after : Past → Type 0) (out : List ℕ) (result : Result Turn RelayFault) : Type 0 where
+  pub delta : Given
+  pub wire : (p : Past) → before p → (q : Past) × after q × IsLater p delta.bytes [] q × HasReason OfRelayWire p q old_fault rests (λ past. past.read_waits) result × (delta.ended ≡ true → p.ends < q.ends)
   pub only : AllAre is_of_source (events_of result)
   pub count : in_sum (events_of result) ≤ length out
   pub framed : waits_of result ≡ true → all_framed
   pub legal : (x : Seen) → agrees_old x → x.closed ≡ false → MayAllFollow x (events_of result) × agrees_new (after_all x (events_of result))
-  pub goes_on : (x : Seen) (body read : List ℕ) → old x body read → x.closed ≡ false
-      → new (after_all x (events_of result)) (body ++ take (in_sum (events_of result)) out) (read ++ delta)
-  pub waiting : SaysWaiting (events_of result) delta result
+  pub ends : (x : Seen) → agrees_old x → x.closed ≡ false → x.ended ≡ false → (after_all x (events_of result)).ended ≡ true → over ⊎ (delta.ended ≡ true)
+  pub told : (turn : Turn) → result ≡ Ok turn → over → (x : Seen) → agrees_new x → x.ended ≡ true
+  pub goes_on : (x : Seen) (body : List ℕ) (read : Given) → old x body read → x.closed ≡ false
+      → new (after_all x (events_of result)) (body ++ take (in_sum (events_of result)) out) (given_then read delta)
+  pub waiting : SaysWaiting (events_of result) delta.bytes result
   pub fault : Remembers old_fault new_fault result
 
 -- A write to the service's wire, which took these bytes: Svc and Stop. Of a request with these heads.
@@ -99,6 +108,15 @@ pub data Gift : Type 0 where
   nothing : Gift
   message : Gift
   refusal : (status : ℕ) → Gift
+
+-- why a next hop's side fails first: the wire failed, or the chosen body breaks the length that the message's head said
+abbrev pub FailsGiving : (breaks : Type 0) → RelayFault → Type 0
+FailsGiving breaks fault = (fault ≡ relay.Device) ⊎ ((fault ≡ relay.Length) × breaks)
+
+-- the fault that outlasts a refusal in the message's place: that the wire has failed
+abbrev pub wire_fault : Option RelayFault → Option RelayFault
+wire_fault (Some relay.Device) = Some relay.Device
+wire_fault _ = None
 
 -- A write to the next hop's wire, which took these bytes: Usr and Done. Done stands only where the message is out whole.
 -- Of a message with this head; or aside, of a refusal.

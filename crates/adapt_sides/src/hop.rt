@@ -1,6 +1,6 @@
 //! The side that a message goes to.
 
-ghost use Rattle.std.specs.Prelude.{IsTrue, ◌≡◌, ℕ, ◌≤◌, ◌++◌, Bool, List, [], ◌∷◌, length, Option, None, true, false, is_some};
+ghost use Rattle.std.specs.Prelude.{IsTrue, ◌≡◌, ℕ, ◌<◌, ◌≤◌, ◌++◌, Bool, List, [], ◌∷◌, length, Option, None, true, false, is_some};
 ghost use Rattle.trace_core.specs.declared.history.Plan.{Plan};
 ghost use Rattle.trace_core.specs.declared.history.Event.{Event};
 ghost use Rattle.trace_core.specs.declared.history.Seen.{Seen};
@@ -9,7 +9,7 @@ ghost use Rattle.trace_core.specs.Legal.{Allows, IsLegal};
 ghost use Rattle.trace_core.specs.Turns.{is_of_hop};
 ghost use Rattle.adapt_sides.specs.declared.fault.RelayFault.{RelayFault as Fault};
 ghost use Rattle.adapt_sides.specs.Tapes.{KeepsUndelivered, chosen, chosen_received};
-ghost use Rattle.adapt_sides.specs.Turns.{Gives, Gift, IsExplained, FailsGiving};
+ghost use Rattle.adapt_sides.specs.Turns.{Gives, Gift, IsExplained, FailsGiving, wire_fault};
 ghost use Rattle.adapt_bytes.specs.OwnStatus.{is_own_status};
 ghost use Rattle.adapt_sides.specs.Turns.Gift.{nothing, message, refusal};
 
@@ -79,14 +79,15 @@ pub trait Hop {
         ensures given { (x : Seen) (none body taken : List ℕ) → has_given x none body taken self.old → has_given x head.items body taken self.new }
         ensures fault { fault self.new ≡ fault self.old };
 
-    /// Puts the proxy's own refusal in the message's place. No byte has gone out.
+    /// Puts the proxy's own refusal in the message's place. No byte has gone out. A fault of the message ends with it; one of the
+    /// wire stays.
     fn refuse(&mut self, status: u16)
         requires untouched { untouched self.old ≡ true }
         requires status { IsTrue (is_own_status status) }
         ensures gift { gift self.new ≡ refusal status }
         ensures aside { aside [] self.new }
         ensures framing { body_framing self.new ≡ body_framing self.old }
-        ensures fault { fault self.new ≡ fault self.old };
+        ensures fault { fault self.new ≡ wire_fault (fault self.old) };
 
     /// Writes what is due of the message or of the refusal.
     fn write_turn<W: Wire>(
@@ -104,7 +105,7 @@ pub trait Hop {
             (λ head body taken. is_whole head body taken self.new)
             (fault self.old) (fault self.new) (rests (seen state.now.plan state.now.events) self.new)
             (W.past wire.old) (W.past wire.new) result }
-        ensures reason { IsExplained (fault self.old) (FailsGiving (breaks_length (seen state.now.plan state.now.events) (body_framing self.new))) result };
+        ensures reason { IsExplained (fault self.old) (FailsGiving ((gift self.new ≡ message) × breaks_length (seen state.now.plan state.now.events) (body_framing self.new))) result };
 
     // the other sides' events leave it; what comes of the chosen message stands behind what came
     ghost others: { (plan : Plan) (before : List Event) (event : Event) (head original adapted bytes more taken : List ℕ) (s : Self)
@@ -130,6 +131,11 @@ pub trait Hop {
         → (taken ≡ []) × (x.original_delivered ≡ 0) × (x.adapted_delivered ≡ 0) };
 
     ghost untouched_aside: { (taken : List ℕ) (s : Self) → untouched s ≡ true → aside taken s → taken ≡ [] };
+
+    // and of any other one a byte was taken
+    ghost touched_given: { (x : Seen) (head body taken : List ℕ) (s : Self) → untouched s ≡ false → has_given x head body taken s → 0 < length taken };
+
+    ghost touched_aside: { (taken : List ℕ) (s : Self) → untouched s ≡ false → aside taken s → 0 < length taken };
 
     // where nothing is due, no event of giving may follow
     ghost rests_where: { (x : Seen) (head body taken : List ℕ) (s : Self) → has_given x head body taken s → gift s ≡ message → rests x s → x.closed ≡ false

@@ -48,6 +48,9 @@ pub trait Service {
     // with so much room, none of the bytes that it keeps can be framed
     ghost is_framed: { ℕ → Self → Type 0 };
 
+    // its connection may carry another request behind this one
+    ghost reusable: { Self → Bool };
+
     /// The adapted message's head, once it was read.
     fn adapted_head(&self) -> Option<&[u8]>
         ensures { option_copied result ≡ adapted_head self.now };
@@ -55,6 +58,10 @@ pub trait Service {
     /// Whether the adapted message is a response: a service may answer a request by one (RFC 3507, section 4.8.1).
     fn is_response(&self) -> bool
         ensures { result ≡ is_response self.now };
+
+    /// Whether its connection may carry another request behind this one.
+    fn is_reusable(&self) -> bool
+        ensures { result ≡ reusable self.now };
 
     /// Writes what is due of the request.
     fn write_turn<W: Wire>(

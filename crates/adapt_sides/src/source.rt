@@ -8,7 +8,7 @@ ghost use Rattle.trace_core.specs.History.{seen};
 ghost use Rattle.trace_core.specs.View.{after};
 ghost use Rattle.trace_core.specs.Turns.{is_of_source};
 ghost use Rattle.adapt_sides.specs.declared.fault.RelayFault.{RelayFault as Fault};
-ghost use Rattle.adapt_sides.specs.Turns.{ReadsBody, IsExplained};
+ghost use Rattle.adapt_sides.specs.Turns.{Given, ReadsBody, IsExplained};
 
 use crate::fault::RelayFault;
 use crate::turn::Turn;
@@ -26,8 +26,11 @@ pub trait Source {
     // the fault that each turn answers
     ghost fault: { Self → Option Fault };
 
-    // these body bytes came, and these bytes were read since the message began on its wire
-    ghost has_read: { Seen → List ℕ → List ℕ → Self → Type 0 };
+    // these body bytes came, and this the wire gave since the message began on it
+    ghost has_read: { Seen → List ℕ → Given → Self → Type 0 };
+
+    // the framing tells the body's end, and it was read
+    ghost is_over: { Self → Type 0 };
 
     // its numbers are those of what is seen: the bytes that came, the end, and a known length
     ghost agrees: { Seen → Self → Type 0 };
@@ -56,22 +59,26 @@ pub trait Source {
         ensures no { result ≡ false → agrees (seen state.now.plan state.now.events) self.now → ⊥ };
 
     /// Reads what the wire gives into the front of the buffer, as many body bytes as the sum of In. With an empty buffer it
-    /// asks no wire, and still answers an End that is due.
+    /// asks no wire, and still answers an End that is due. A body whose framing tells no end has ended where the wire has.
     fn read_turn<W: Wire>(&mut self, wire: &mut W, out: &mut [u8]) -> Result<Turn, RelayFault>
         ensures keeps { length out.new ≡ length out.old }
         ensures head { head self.new ≡ head self.old }
         ensures turn { ReadsBody (λ x body read. has_read x body read self.old) (λ x body read. has_read x body read self.new)
-            (λ x. agrees x self.old) (λ x. agrees x self.new) (fault self.old) (fault self.new) (rests (length out.old) self.new) (is_framed (length out.old) self.new)
+            (λ x. agrees x self.old) (λ x. agrees x self.new) (fault self.old) (fault self.new) (rests (length out.old) self.new) (is_framed (length out.old) self.new) (is_over self.new)
             (W.past wire.old) (W.past wire.new) out.new result }
         ensures reason { IsExplained (fault self.old) (λ fault. has_reason fault self.new) result };
 
     // the other sides' events leave it
-    ghost others: { (x : Seen) (event : Event) (body read : List ℕ) (s : Self) → is_of_source event ≡ false
+    ghost others: { (x : Seen) (event : Event) (body : List ℕ) (read : Given) (s : Self) → is_of_source event ≡ false
         → has_read x body read s → has_read (after x event) body read s };
 
     ghost others_agree: { (x : Seen) (event : Event) (s : Self) → is_of_source event ≡ false → agrees x s → agrees (after x event) s };
 
     // it rests where the body has ended, or where there is no room
-    ghost rests_where: { (x : Seen) (body read : List ℕ) (room : ℕ) (s : Self) → has_read x body read s → rests room s
+    ghost rests_where: { (x : Seen) (body : List ℕ) (read : Given) (room : ℕ) (s : Self) → has_read x body read s → rests room s
         → (x.ended ≡ true) ⊎ (room ≡ 0) };
+
+    // a body that has ended is over by its framing, or its wire has ended
+    ghost ended_where: { (x : Seen) (body : List ℕ) (read : Given) (s : Self) → has_read x body read s → x.ended ≡ true
+        → is_over s ⊎ (read.ended ≡ true) };
 }

@@ -1,6 +1,7 @@
 -- What a turn answers, by what its wire answered.
-use Rattle.std.proofs.Common.{◌≡◌, ℕ, ◌+◌, ◌≤◌, arith, Bool, true, false, ◌||◌, List, [], ◌++◌, refl, ap, sym, subst, ◌∙◌, append-nil, Option, Some, None, Result, Ok, Err, ◌⊎◌, inl, inr, ◌==◌}
+use Rattle.std.proofs.Common.{◌≡◌, ℕ, ◌+◌, ◌<◌, ◌≤◌, arith, Bool, true, false, ◌||◌, List, [], ◌++◌, length, length-append, refl, ap, sym, subst, ◌∙◌, append-nil, Option, Some, None, IfSome, Result, Ok, Err, ◌⊎◌, inl, inr, ◌==◌}
 use Rattle.std.proofs.lemmas.Bool.Decides.{nat_tests}
+use Rattle.std.proofs.lemmas.List.{length-take-le}
 use Rattle.trace_core.specs.declared.history.Seen.{Seen}
 use Rattle.trace_core.specs.declared.history.Event.{Event}
 use Rattle.trace_core.specs.declared.history.Event.TheVariants.{Usr, Done}
@@ -10,7 +11,7 @@ use Rattle.trace_core.specs.Faults.{chooses_original}
 use Rattle.trace_core.specs.View.{after}
 use Rattle.trace_core.proofs.Sound.{Sound}
 use Rattle.span_tape.specs.Tape.{Tape}
-use Rattle.wire_kit.specs.Past.{Past, Offers, delta_of}
+use Rattle.wire_kit.specs.Past.{Past, Offers, FitsPut, delta_of}
 use Rattle.wire_kit.specs.declared.wire.Put.{Put}
 use Rattle.wire_kit.specs.declared.wire.Put.TheVariants as put
 use Rattle.chunk_writer.specs.declared.next.Next.{Next}
@@ -46,11 +47,16 @@ with_done stage x f head body taken w n false g = g
 nothing_taken : (taken d : List ℕ) → taken ≡ [] → d ≡ [] → taken ++ d ≡ []
 nothing_taken taken d t e = ap (λ (xs : List ℕ). xs ++ d) t ∙ e
 
+some_taken : (taken d : List ℕ) → (0 < length taken) ⊎ (0 < length d) → 0 < length (taken ++ d)
+some_taken taken d (inl s) = omega (arith, length-append taken d, s)
+some_taken taken d (inr s) = omega (arith, length-append taken d, s)
+
 -- what the turn counts
 pub record Settles (x : Seen) (next : Next) (old new : Hop) (k : ℕ) (e done : Bool) (d : List ℕ) : Type 0 where
   framing : new.framing ≡ old.framing
   stage : new.stage ≡ stage_then old.stage e
   touched : new.touched ≡ false → (old.touched ≡ false) × (d ≡ []) × (k ≡ 0)
+  reached : new.touched ≡ true → (old.touched ≡ true) ⊎ (0 < length d)
   done_at : done ≡ true → (new.stage ≡ at.Whole) × (waiting new.writer ≡ [])
   may : done ≡ true → (e ≡ true) ⊎ ((x.closed ≡ false) × Allows x Done × (k ≡ 0))
 
@@ -73,6 +79,7 @@ given_by x tape next old new k e done d head body taken s u c m t i h =
       untouched = λ n.
           let q = t.touched n in
           untouched_then x k done taken d q.2 q.1 (h.untouched q.0);
+      touched = λ n. some_taken taken d (elim (t.reached n) [ inl o ↦ inl (h.touched o) | inr s ↦ inr s ]);
     }
 
 aside_by : (x : Seen) (tape : Tape) (next : Next) (old new : Hop) (k : ℕ) (e done : Bool) (d taken : List ℕ) → Decides x old.writer old.framing old.stage next
@@ -82,6 +89,7 @@ aside_by x tape next old new k e done d taken c m t h = record {
   untouched = λ n.
       let q = t.touched n in
       nothing_taken taken d (h.untouched q.0) q.1;
+  touched = λ n. some_taken taken d (elim (t.reached n) [ inl o ↦ inl (h.touched o) | inr s ↦ inr s ]);
 }
 
 -- the end of a body is fixed of a message alone
@@ -119,12 +127,14 @@ goes_same x tape old new w f s t = record {
         (subst (λ (f' : Framing). GivenAt old.stage x f' head body taken new.writer) (sym f)
         (subst (λ (v : Writer). GivenAt old.stage x old.framing head body taken v) (sym w) h.given)));
     untouched = λ n. (append-nil taken ∙ (h.untouched (sym t ∙ n)).0, (h.untouched (sym t ∙ n)).1);
+    touched = λ n. some_taken taken [] (inl (h.touched (sym t ∙ n)));
   };
   aside = λ taken h. record {
     text = subst (λ (xs : List ℕ). AsideAt new.stage xs new.writer) (sym (append-nil taken))
         (subst (λ (stage : Stage). AsideAt stage taken new.writer) (sym s)
         (subst (λ (v : Writer). AsideAt old.stage taken v) (sym w) h.text));
     untouched = λ n. append-nil taken ∙ h.untouched (sym t ∙ n);
+    touched = λ n. some_taken taken [] (inl (h.touched (sym t ∙ n)));
   };
   sent = 0;
   done = false;
@@ -154,12 +164,14 @@ let_go_given x head body taken old new l h = record {
       (subst (λ (f : Framing). GivenAt old.stage x f head body taken new.writer) (sym l.framing)
       (let_go_at old.stage x old.framing head body taken old.writer new.writer l.waiting_is l.left h.given));
   untouched = λ n. h.untouched (sym l.touched ∙ n);
+  touched = λ n. h.touched (sym l.touched ∙ n);
 }
 
 let_go_aside : (taken : List ℕ) (old new : Hop) → LetsGo old new → IsAside taken old → IsAside taken new
 let_go_aside taken old new l a = record {
   text = subst (λ (stage : Stage). AsideAt stage taken new.writer) (sym l.stage) (aside_let_go_at old.stage taken old.writer new.writer l.waiting_is a.text);
   untouched = λ n. a.untouched (sym l.touched ∙ n);
+  touched = λ n. a.touched (sym l.touched ∙ n);
 }
 
 goes_let_go : (x : Seen) (tape : Tape) (old mid new : Hop) (events : List Event) (delta : List ℕ) → LetsGo mid new → GoesOn x tape old mid events delta → GoesOn x tape old new events delta
@@ -270,9 +282,17 @@ settles_still x next old new k e d n z f s t = record {
   framing = f;
   stage = s ∙ ap (stage_then old.stage) (sym n.1);
   touched = λ u. (sym t ∙ u, z, n.0);
+  reached = λ u. inl (sym t ∙ u);
   done_at = λ h. cc;
   may = λ h. cc;
 }
+
+-- what the wire took is a byte at least
+pub took_some : (text : List ℕ) (answer : Option Put) (n : ℕ) → answer ≡ Some (put.Took n) → IfSome answer (FitsPut (length text)) → 0 < length (delta_of text answer)
+took_some text None n a f = cc
+took_some text (Some (put.Took k)) n a f = omega (arith, length-take-le k text f.1, f.0)
+took_some text (Some put.Wait) n a f = cc
+took_some text (Some put.Fault) n a f = cc
 
 pub none_still : (k : ℕ) (e : Bool) → (k ≡ 0) × (e ≡ false) → [] ≡ hop_events k false
 none_still k e s = subst (λ (n : ℕ). [] ≡ hop_events n false) (sym s.0) refl
@@ -362,13 +382,14 @@ may_by x e may k s a z (inl i) = inl i
 may_by x e may k s a z (inr i) = inr ((a i.0).0, (a i.0).1, z i.1)
 
 pub settles_by : (x : Seen) (next : Next) (old new : Hop) (w : Writer) (f : Framing) (stage : Stage) (touched : Bool) (fault : Option RelayFault) (k s : ℕ) (e done may : Bool) (d : List ℕ)
-    → new ≡ record { writer = w; framing = f; stage = stage_then stage e; touched = touched; fault = fault } → f ≡ old.framing → stage ≡ old.stage → (touched ≡ false → (old.touched ≡ false) × (d ≡ []) × (k ≡ 0))
+    → new ≡ record { writer = w; framing = f; stage = stage_then stage e; touched = touched; fault = fault } → f ≡ old.framing → stage ≡ old.stage → (touched ≡ false → (old.touched ≡ false) × (d ≡ []) × (k ≡ 0)) → (touched ≡ true → (old.touched ≡ true) ⊎ (0 < length d))
     → (done ≡ true → (stage_then stage e ≡ at.Whole) × (waiting w ≡ []) × ((e ≡ true) ⊎ ((may ≡ true) × (s ≡ 0)))) → (may ≡ true → (x.closed ≡ false) × Allows x Done) → (s ≡ 0 → k ≡ 0)
     → Settles x next old new k e done d
-settles_by x next old new w f stage touched fault k s e done may d n fe se t g a z = record {
+settles_by x next old new w f stage touched fault k s e done may d n fe se t r g a z = record {
   framing = ap (λ (h : Hop). h.framing) n ∙ fe;
   stage = ap (λ (h : Hop). h.stage) n ∙ ap (λ (st : Stage). stage_then st e) se;
   touched = λ u. t (sym (ap (λ (h : Hop). h.touched) n) ∙ u);
+  reached = λ u. r (sym (ap (λ (h : Hop). h.touched) n) ∙ u);
   done_at = λ h. (ap (λ (hop : Hop). hop.stage) n ∙ (g h).0, ap (λ (hop : Hop). waiting hop.writer) n ∙ (g h).1);
   may = λ h. may_by x e may k s a z (g h).2;
 }

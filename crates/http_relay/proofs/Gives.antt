@@ -18,7 +18,10 @@ use Rattle.adapt_sides.specs.declared.fault.RelayFault.{RelayFault}
 use Rattle.adapt_sides.specs.declared.fault.RelayFault.TheVariants.{Closed, Device, Length}
 use Rattle.http_relay.specs.Message.{IsMessage}
 use Rattle.http_side.specs.declared.body.Framing.{Framing}
-use Rattle.http_relay.specs.Giving.{Hop, HasGiven, IsAside, NothingDue, BreaksLength, usr_events, hop_events}
+use Rattle.adapt_sides.specs.Turns.Gift.{message}
+use Rattle.http_relay.specs.declared.hop.Stage.{Stage}
+use Rattle.http_relay.specs.declared.hop.Stage.TheVariants as at
+use Rattle.http_relay.specs.Giving.{Hop, HasGiven, IsAside, NothingDue, BreaksLength, is_message, gift_of, usr_events, hop_events}
 use Rattle.http_relay.specs.Writing.{WriteTurn, FitsOffer, FitsAnswer}
 use Rattle.http_relay.proofs.Chosen.{done_moves}
 use Rattle.http_relay.proofs.Whole.{whole_at}
@@ -58,12 +61,18 @@ reason x old new p text answer (Err fault) f r o e = record {
   waiting = λ w. cc;
 }
 
--- a first fault is the wire's, or the body's length
+message_at : (stage : Stage) → is_message stage ≡ true → gift_of stage ≡ message
+message_at at.Empty e = cc
+message_at at.Message e = refl
+message_at at.Whole e = cc
+message_at (at.Refusal status) e = cc
+
+-- a first fault is the wire's, or the message's length
 pub fails_giving : (x : Seen) (old new : Hop) (answer : Option Put) (result : Result Turn RelayFault) → FitsOffer x old new answer result → new.framing ≡ old.framing
-    → (fault : RelayFault) → result ≡ Err fault → FailsGiving (BreaksLength x new.framing) fault
-fails_giving x old new answer (Ok turn) f e fault r = cc
-fails_giving x old new answer (Err g) (inl h) e fault r = let is : g ≡ fault = cc in inl (sym is ∙ h.0)
-fails_giving x old new answer (Err g) (inr h) e fault r = let is : g ≡ fault = cc in inr (sym is ∙ h.0, subst (λ (way : Framing). BreaksLength x way) (sym e) h.3)
+    → gift_of new.stage ≡ gift_of old.stage → (fault : RelayFault) → result ≡ Err fault → FailsGiving ((gift_of new.stage ≡ message) × BreaksLength x new.framing) fault
+fails_giving x old new answer (Ok turn) f e s fault r = cc
+fails_giving x old new answer (Err g) (inl h) e s fault r = let is : g ≡ fault = cc in inl (sym is ∙ h.0)
+fails_giving x old new answer (Err g) (inr h) e s fault r = let is : g ≡ fault = cc in inr (sym is ∙ h.0, (s ∙ message_at old.stage h.2, subst (λ (way : Framing). BreaksLength x way) (sym e) h.3))
 
 take_some : (n : ℕ) (text : List ℕ) → 1 ≤ n → n ≤ length text → take n text ≡ [] → ⊥
 take_some n text some few none =

@@ -1,8 +1,8 @@
 -- The events that tell what was read of a body.
-use Rattle.std.proofs.Common.{◌≡◌, ℕ, zero, suc, ◌+◌, ◌<◌, ◌≤◌, Bool, true, false, List, ◌++◌, length, take, refl, sym, subst, ◌∙◌, arith, length-append, Option, Some, None as Nothing, IfSome}
+use Rattle.std.proofs.Common.{◌≡◌, ℕ, zero, suc, ◌+◌, ◌<◌, ◌≤◌, Bool, true, false, List, ◌++◌, length, take, refl, sym, subst, ◌∙◌, inl, arith, length-append, Option, Some, None as Nothing, IfSome}
 use Rattle.std.proofs.lemmas.List.{length-take-le}
 use Rattle.adapt_bytes.specs.declared.limits.TheConstants.{COUNT_LIMIT}
-use Rattle.http_side.specs.Body.{HasRead, IsBody, IsClosedBody, is_over}
+use Rattle.http_side.specs.Body.{HasRead, is_over}
 use Rattle.http_side.specs.declared.body.Framing.{Framing}
 use Rattle.http_side.specs.declared.body.Framing.TheVariants.{None, Length, Chunked, Close}
 use Rattle.http_side.proofs.Ends.{over_is}
@@ -74,12 +74,6 @@ may_tell s (suc n) true x f e a c =
     subst (λ (r : ℕ). IfSome x.plan.len (λ len. suc n + r ≡ len)) (sym a.received) (at_len x.plan.len (length_of s.framing) (λ len. suc n + s.received ≡ len) a.len at) in
     (c, (now, (some, sum), len), (c, (now, end), tt))
 
-closed_too : (way : Framing) (text body : List ℕ) → IsBody way text body → IsClosedBody way text body
-closed_too None text body h = h
-closed_too (Length n) text body h = h
-closed_too Chunked text body h = h
-closed_too Close text body h = absurd h
-
 agrees_then : (s new : SourceBody) (n : ℕ) (ended : Bool) (x y : Seen) → Told x y n ended → s.ended ≡ false → new.framing ≡ s.framing → new.received ≡ s.received + n → new.ended ≡ ended → Agrees x s → Agrees y new
 agrees_then s new n ended x y t e way count end a = record {
   received = omega (arith, t.count, count, a.received);
@@ -89,11 +83,11 @@ agrees_then s new n ended x y t e way count end a = record {
 
 -- so many bytes of the body were read, and its end
 pub tells : (s new : SourceBody) (raw out : List ℕ) (used n : ℕ) (ended : Bool) → s.ended ≡ false → new.framing ≡ s.framing → new.received ≡ s.received + n → new.ended ≡ ended
-    → ReadsOn s.reader raw used (take n out) new.reader → n ≤ length out → ended ≡ is_over new.reader → MayTell s n ended → BodyReads s new (source_events n ended) (take used raw) (take n out)
+    → ReadsOn s.reader raw used (take n out) new.reader → n ≤ length out → ended ≡ is_over new.reader → MayTell s n ended → BodyReads s new (source_events n ended) (take used raw) (take n out) false
 tells s new raw out used n ended e way count end on l over f = record {
   only = only_source n ended;
   legal = λ x a c. (may_tell s n ended x f e a c, agrees_then s new n ended x (after_all x (source_events n ended)) (told x n ended) e way count end a);
-  reads = λ x body text h.
+  reads = λ x body text closed h.
       let t = told x n ended in
       let long : length (take n out) ≡ n = length-take-le n out l in
       let here : HasRead s.framing (text ++ take used raw) (body ++ take n out) new.reader = on s.framing text body h.reads in
@@ -102,6 +96,6 @@ tells s new raw out used n ended e way count end on l over f = record {
         count = omega (arith, t.count, h.count, length-append body (take n out), long);
         ended = t.end (h.ended ∙ e) ∙ sym end;
         reads = there;
-        whole = λ w. closed_too new.framing (text ++ take used raw) (body ++ take n out) ((over_is new.framing (text ++ take used raw) (body ++ take n out) new.reader there).0 (sym over ∙ (sym end ∙ w)));
+        whole = λ w. inl ((over_is new.framing (text ++ take used raw) (body ++ take n out) new.reader there).0 (sym over ∙ (sym end ∙ w)));
       };
 }

@@ -44,7 +44,7 @@ passes s n ended within at not =
 
 pub too_long : (s : SourceBody) (raw out : List ℕ) (used n : ℕ) (ended : Bool) (new : BodyReader) → ReadsOn s.reader raw used (take n out) new → n ≤ length out → n ≤ length raw → ended ≡ is_over new
     → (MayTell s n ended → ⊥) → Refuses faults.Length s raw
-too_long s raw out used n ended new on l few over not x body text a b =
+too_long s raw out used n ended new on l few over not x body text shut a b =
     let there : HasRead s.framing (text ++ take used raw) (body ++ take n out) new = on s.framing text body b.reads in
     let sum : length (body ++ take n out) ≡ s.received + n = omega (arith, length-append body (take n out), length-take-le n out l, a.received, b.count) in
     let within : IfSome (length_of s.framing) (λ len. s.received + n ≤ len) =
@@ -56,7 +56,7 @@ too_long s raw out used n ended new on l few over not x body text a b =
     (omega (arith, p.0, few), p.1)
 
 pub too_long_closed : (s : SourceBody) → ((way : Framing) (text body : List ℕ) → HasRead way text body s.reader → IsClosedBody way text body) → (MayTell s 0 true → ⊥) → Refuses faults.Length s []
-too_long_closed s closed not x body text a b =
+too_long_closed s closed not x body text shut a b =
     let sum : length body ≡ s.received + 0 = omega (arith, a.received, b.count) in
     let at : IfSome (length_of s.framing) (λ len. s.received + 0 ≡ len) =
     subst (λ (k : ℕ). IfSome (length_of s.framing) (λ len. k ≡ len)) sum (closed_is s.framing text body (closed s.framing text body b.reads)) in

@@ -1,15 +1,16 @@
 -- Read turns, by what the wire gave.
-use Rattle.std.proofs.Common.{◌≡◌, ◌≢◌, ℕ, ◌+◌, ◌<◌, ◌≤◌, ◌⊎◌, inl, inr, true, false, List, [], ◌++◌, length, take, refl, ap, sym, subst, ◌∙◌, append-nil, arith, Option, Some, None, Result, Ok, Err}
+use Rattle.std.proofs.Common.{◌≡◌, ◌≢◌, ℕ, ◌+◌, ◌<◌, ◌≤◌, ◌⊎◌, ◌||◌, inl, inr, Bool, true, false, List, [], ◌++◌, length, take, refl, ap, sym, subst, ◌∙◌, append-nil, arith, Option, Some, None, Result, Ok, Err}
 use Rattle.std.proofs.Math.Seq.{take-length}
 use Rattle.trace_core.specs.declared.history.Event.{Event}
 use Rattle.wire_kit.specs.Past.{Past, Gave, IsGiven, ReadsAtMostOnce, after_ask}
 use Rattle.trace_core.specs.Turns.{in_sum, after_all}
-use Rattle.http_relay.specs.Source.{Agrees, BodyReads, IsCutShort, MustWait, Refuses}
+use Rattle.http_side.specs.Body.{is_over}
+use Rattle.http_relay.specs.Source.{Agrees, BodyReads, TellsEnd, IsCutShort, MustWait, Refuses}
 use Rattle.wire_kit.specs.Past.{IsLater}
 use Rattle.wire_kit.specs.declared.wire.Got.{Got}
 use Rattle.wire_kit.specs.declared.wire.Got.TheVariants as got
 use Rattle.adapt_sides.specs.Turns.{HasReason, OfRelayWire, SaysWaiting, Remembers, ReadsBody, events_of, waits_of}
-use Rattle.http_relay.specs.Reading.{SideRead, SideReads, Rests, HasFramed, IsCause, IsReadDue, ReadsWhereDue, FitsGot, ReadTurn}
+use Rattle.http_relay.specs.Reading.{SideRead, SideReads, Rests, HasFramed, IsOver, IsCause, IsReadDue, ReadsWhereDue, FitsGot, ReadTurn, says_ended}
 use Rattle.adapt_sides.specs.Filling.{IsFilled}
 use Rattle.adapt_sides.specs.declared.fault.RelayFault.{RelayFault}
 use Rattle.adapt_sides.specs.declared.fault.RelayFault.TheVariants.{Closed, Device, NoMemory}
@@ -42,7 +43,7 @@ bytes_read P Q given some g = record {
 
 -- nothing was framed before the read
 at_once : (room : ℕ) (old : SourceSide) (answer : Got) → IsReadDue room old → ReadsWhereDue room old (Some answer)
-at_once room old answer d = (old, filled_more old old [] refl refl refl (sym (append-nil old.raw.items)), d)
+at_once room old answer d = (old, filled_more old old [] false refl refl refl (sym (append-nil old.raw.items)), d)
 
 -- a fault of the bytes is none of the wire
 not_wire : (fault : RelayFault) (s : SourceBody) (raw : List ℕ) → Refuses fault s raw → (fault ≢ Closed) × (fault ≢ Device)
@@ -66,10 +67,19 @@ says_err fault delta = record { idle = λ h. cc; waits = λ u e n d. cc }
 zero_le : (n : ℕ) → 0 ≤ n
 zero_le n = omega arith
 
+-- the end of a body is where it was told, or was told before
+end_by : (b : Bool) (old new : SourceBody) → old.ended ≡ b → TellsEnd old new → is_over new.reader ≡ true → new.ended ≡ true
+end_by true old new e t o = t.stays e
+end_by false old new e t o = t.just e ∙ o
+
+-- a body that is the same has no new end
+no_end : (old new : SourceBody) (over : Type 0) → new ≡ old → old.ended ≡ false → new.ended ≡ true → over
+no_end old new over e going ended = let odd : false ≡ true = sym going ∙ (ap (λ (b : SourceBody). b.ended) (sym e) ∙ ended) in cc
+
 -- raw bytes gave events
-pub turn_spoke : (room : ℕ) (old new : SourceSide) (P : Past → Type 0) (out : List ℕ) (t : Turn) → SideReads old new t.events.items [] (take (in_sum t.events.items) out) → in_sum t.events.items ≤ room
+pub turn_spoke : (room : ℕ) (old new : SourceSide) (P : Past → Type 0) (out : List ℕ) (t : Turn) → SideReads old new t.events.items [] (take (in_sum t.events.items) out) false → TellsEnd old.body new.body → in_sum t.events.items ≤ room
     → t.waiting ≡ false → (t.events.items ≡ [] → ⊥) → ReadTurn room old new P P out (Ok t)
-turn_spoke room old new P out t h l w some = record {
+turn_spoke room old new P out t h ends l w some = record {
   delta = [];
   answer = None;
   wire = none_read P;
@@ -77,15 +87,17 @@ turn_spoke room old new P out t h l w some = record {
   fits = λ i. let odd : true ≡ false = sym i ∙ w in cc;
   count = l;
   reads = h;
+  ends = λ n y. inl (sym (ends.just n) ∙ y);
+  told = λ u e o. end_by old.body.ended old.body new.body refl ends o;
   waiting = says_spoke t [] w (λ none d. some none);
   waits = λ i. let odd : true ≡ false = sym i ∙ w in cc;
   cause = λ f e. cc;
 }
 
 -- nothing is to be read
-pub turn_idle : (room : ℕ) (old new : SourceSide) (P : Past → Type 0) (out : List ℕ) (t : Turn) → SideReads old new t.events.items [] (take (in_sum t.events.items) out) → in_sum t.events.items ≤ room
+pub turn_idle : (room : ℕ) (old new : SourceSide) (P : Past → Type 0) (out : List ℕ) (t : Turn) → SideReads old new t.events.items [] (take (in_sum t.events.items) out) false → TellsEnd old.body new.body → in_sum t.events.items ≤ room
     → t.waiting ≡ true → t.events.items ≡ [] → MustWait new.body new.raw.items room → Rests room new → ReadTurn room old new P P out (Ok t)
-turn_idle room old new P out t h l w none m rests = record {
+turn_idle room old new P out t h ends l w none m rests = record {
   delta = [];
   answer = None;
   wire = none_read P;
@@ -93,6 +105,8 @@ turn_idle room old new P out t h l w none m rests = record {
   fits = λ i. rests;
   count = l;
   reads = h;
+  ends = λ n y. inl (sym (ends.just n) ∙ y);
+  told = λ u e o. end_by old.body.ended old.body new.body refl ends o;
   waiting = says_idle t w none;
   waits = λ i. m;
   cause = λ f e. cc;
@@ -109,7 +123,9 @@ turn_refused room old new P out fault e r =
       due = tt;
       fits = not_wire fault old.body old.raw.items r;
       count = zero_le room;
-      reads = filled_more old new [] (ap (λ (s : SourceSide). s.asks) e) (ap (λ (s : SourceSide). s.head) e) (ap (λ (s : SourceSide). s.body) e) (ap (λ (s : SourceSide). s.raw.items) e ∙ sym (append-nil old.raw.items));
+      reads = filled_more old new [] false (ap (λ (s : SourceSide). s.asks) e) (ap (λ (s : SourceSide). s.head) e) (ap (λ (s : SourceSide). s.body) e) (ap (λ (s : SourceSide). s.raw.items) e ∙ sym (append-nil old.raw.items));
+      ends = no_end old.body new.body _ (ap (λ (s : SourceSide). s.body) e);
+      told = λ u i o. cc;
       waiting = says_err fault [];
       waits = λ i. cc;
       cause = λ f i. let is : fault ≡ f = cc in subst (λ (g : RelayFault). IsCause g new) is (inr (inr (inr here)));
@@ -117,9 +133,10 @@ turn_refused room old new P out fault e r =
 
 -- bytes came, and were framed
 pub turn_bytes : (room : ℕ) (old mid new : SourceSide) (P Q : Past → Type 0) (out : List ℕ) (t : Turn) → SameSide old mid → IsReadDue room old → IsFilled P Q old.raw.items mid.raw.items filled.Bytes
-    → SideReads mid new t.events.items [] (take (in_sum t.events.items) out) → in_sum t.events.items ≤ room → t.waiting ≡ false → ReadTurn room old new P Q out (Ok t)
-turn_bytes room old mid new P Q out t m d f h l w =
-    let both : SideReads old new t.events.items (f.0 ++ []) (take (in_sum t.events.items) out) = side_then old mid new t.events.items f.0 [] (take (in_sum t.events.items) out) (filled_more old mid f.0 m.asks m.head m.body f.2) h in
+    → SideReads mid new t.events.items [] (take (in_sum t.events.items) out) false → TellsEnd mid.body new.body → in_sum t.events.items ≤ room → t.waiting ≡ false → ReadTurn room old new P Q out (Ok t)
+turn_bytes room old mid new P Q out t m d f h tells l w =
+    let both : SideReads old new t.events.items (f.0 ++ []) (take (in_sum t.events.items) out) false = side_then old mid new t.events.items f.0 [] (take (in_sum t.events.items) out) false (filled_more old mid f.0 false m.asks m.head m.body f.2) h in
+    let ends : TellsEnd old.body new.body = subst (λ (b : SourceBody). TellsEnd b new.body) m.body tells in
     record {
       delta = f.0;
       answer = Some (got.Bytes (length f.0));
@@ -127,7 +144,9 @@ turn_bytes room old mid new P Q out t m d f h l w =
       due = at_once room old (got.Bytes (length f.0)) d;
       fits = w;
       count = l;
-      reads = subst (λ (d : List ℕ). SideReads old new t.events.items d (take (in_sum t.events.items) out)) (append-nil f.0) both;
+      reads = subst (λ (d : List ℕ). SideReads old new t.events.items d (take (in_sum t.events.items) out) false) (append-nil f.0) both;
+      ends = λ n y. inl (sym (ends.just n) ∙ y);
+      told = λ u e o. end_by old.body.ended old.body new.body refl ends o;
       waiting = says_spoke t f.0 w (λ none d. let some = f.1 in absurd (omega (arith, some, ap (λ (x : List ℕ). length x) d)));
       waits = λ i. let odd : true ≡ false = sym i ∙ w in cc;
       cause = λ g e. cc;
@@ -145,7 +164,9 @@ turn_bytes_refused room old mid new P Q out fault m e d f r =
       due = at_once room old (got.Bytes (length f.0)) d;
       fits = not_wire fault mid.body mid.raw.items r;
       count = zero_le room;
-      reads = subst (λ (s : SourceSide). SideReads old s [] f.0 []) (sym e) (filled_more old mid f.0 m.asks m.head m.body f.2);
+      reads = subst (λ (s : SourceSide). SideReads old s [] f.0 [] false) (sym e) (filled_more old mid f.0 false m.asks m.head m.body f.2);
+      ends = no_end old.body new.body _ (ap (λ (s : SourceSide). s.body) e ∙ m.body);
+      told = λ u i o. cc;
       waiting = says_err fault f.0;
       waits = λ i. cc;
       cause = λ g i. let is : fault ≡ g = cc in subst (λ (h : RelayFault). IsCause h new) is (inr (inr (inr here)));
@@ -155,7 +176,7 @@ turn_bytes_refused room old mid new P Q out fault m e d f r =
 pub turn_waited : (room : ℕ) (old new : SourceSide) (P Q : Past → Type 0) (out : List ℕ) (t : Turn) → SameSide old new → IsReadDue room old → IsFilled P Q old.raw.items new.raw.items filled.Wait
     → t.events.items ≡ [] → t.waiting ≡ true → ReadTurn room old new P Q out (Ok t)
 turn_waited room old new P Q out t m d f none w =
-    let still : SideReads old new [] [] [] = filled_more old new [] m.asks m.head m.body (f.0 ∙ sym (append-nil old.raw.items)) in
+    let still : SideReads old new [] [] [] false = filled_more old new [] false m.asks m.head m.body (f.0 ∙ sym (append-nil old.raw.items)) in
     record {
       delta = [];
       answer = Some got.Wait;
@@ -163,7 +184,9 @@ turn_waited room old new P Q out t m d f none w =
       due = at_once room old got.Wait d;
       fits = w;
       count = subst (λ (es : List Event). in_sum es ≤ room) (sym none) (zero_le room);
-      reads = subst (λ (es : List Event). SideReads old new es [] (take (in_sum es) out)) (sym none) still;
+      reads = subst (λ (es : List Event). SideReads old new es [] (take (in_sum es) out) false) (sym none) still;
+      ends = no_end old.body new.body _ m.body;
+      told = λ u e o. let odd : false ≡ true = sym d.not_over ∙ (ap (λ (b : SourceBody). is_over b.reader) (sym m.body) ∙ o) in cc;
       waiting = says_idle t w none;
       waits = λ i. inr (inl (f.0 ∙ d.none_kept));
       cause = λ g e. cc;
@@ -171,9 +194,9 @@ turn_waited room old new P Q out t m d f none w =
 
 -- the connection was closed at the end of the body
 pub turn_end : (room : ℕ) (old new : SourceSide) (P Q : Past → Type 0) (out : List ℕ) (t : Turn) → SameMessage old new → IsReadDue room old → IsFilled P Q old.raw.items new.raw.items filled.Ended
-    → BodyReads old.body new.body t.events.items [] [] → in_sum t.events.items ≡ 0 → (t.events.items ≡ [] → ⊥) → t.waiting ≡ false → ReadTurn room old new P Q out (Ok t)
-turn_end room old new P Q out t m d f b zero some w =
-    let heard : SideReads old new t.events.items [] [] = framed_raw old new t.events.items 0 [] m b f.0 in
+    → BodyReads old.body new.body t.events.items [] [] true → new.body.ended ≡ true → in_sum t.events.items ≡ 0 → (t.events.items ≡ [] → ⊥) → t.waiting ≡ false → ReadTurn room old new P Q out (Ok t)
+turn_end room old new P Q out t m d f b over zero some w =
+    let heard : SideReads old new t.events.items [] [] true = framed_raw old new t.events.items 0 [] true m b f.0 in
     record {
       delta = [];
       answer = Some got.Ended;
@@ -181,7 +204,9 @@ turn_end room old new P Q out t m d f b zero some w =
       due = at_once room old got.Ended d;
       fits = w;
       count = omega (arith, zero);
-      reads = subst (λ (k : ℕ). SideReads old new t.events.items [] (take k out)) (sym zero) heard;
+      reads = subst (λ (k : ℕ). SideReads old new t.events.items [] (take k out) true) (sym zero) heard;
+      ends = λ n y. inr refl;
+      told = λ u e o. over;
       waiting = says_spoke t [] w (λ none d. some none);
       waits = λ i. let odd : true ≡ false = sym i ∙ w in cc;
       cause = λ g e. cc;
@@ -203,7 +228,9 @@ turn_ended room old new P Q out fault m d f r =
       due = at_once room old got.Ended d;
       fits = not_device;
       count = zero_le room;
-      reads = filled_more old new [] m.asks m.head m.body (f.0 ∙ sym (append-nil old.raw.items));
+      reads = filled_more old new [] true m.asks m.head m.body (f.0 ∙ sym (append-nil old.raw.items));
+      ends = no_end old.body new.body _ m.body;
+      told = λ u i o. cc;
       waiting = says_err fault [];
       waits = λ i. cc;
       cause = λ g i. let is : fault ≡ g = cc in subst (λ (h : RelayFault). IsCause h new) is here;
@@ -218,7 +245,9 @@ turn_failed room old new P Q out m d f = record {
   due = at_once room old got.Fault d;
   fits = refl;
   count = zero_le room;
-  reads = filled_more old new [] m.asks m.head m.body (f.0 ∙ sym (append-nil old.raw.items));
+  reads = filled_more old new [] false m.asks m.head m.body (f.0 ∙ sym (append-nil old.raw.items));
+  ends = no_end old.body new.body _ m.body;
+  told = λ u i o. cc;
   waiting = says_err Device [];
   waits = λ i. cc;
   cause = λ g i. let is : Device ≡ g = cc in inr (inl (sym is));
@@ -233,27 +262,31 @@ turn_full room old new P Q out m f = record {
   due = tt;
   fits = ((λ e. cc), (λ e. cc));
   count = zero_le room;
-  reads = filled_more old new [] m.asks m.head m.body (f.0 ∙ sym (append-nil old.raw.items));
+  reads = filled_more old new [] false m.asks m.head m.body (f.0 ∙ sym (append-nil old.raw.items));
+  ends = no_end old.body new.body _ m.body;
+  told = λ u i o. cc;
   waiting = says_err NoMemory [];
   waits = λ i. cc;
   cause = λ g i. let is : NoMemory ≡ g = cc in inr (inr (inl (sym is)));
 }
 
-due_behind : (room : ℕ) (old mid : SourceSide) (answer : Option Got) → SideReads old mid [] [] [] → ReadsWhereDue room mid answer → ReadsWhereDue room old answer
+due_behind : (room : ℕ) (old mid : SourceSide) (answer : Option Got) → SideReads old mid [] [] [] false → ReadsWhereDue room mid answer → ReadsWhereDue room old answer
 due_behind room old mid None h d = tt
-due_behind room old mid (Some answer) h d = (d.0, side_then old mid d.0 [] [] [] [] h d.1, d.2)
+due_behind room old mid (Some answer) h d = (d.0, side_then old mid d.0 [] [] [] [] false h d.1, d.2)
 
 -- raw bytes gave no event, and then the wire was read
-pub turn_behind : (room : ℕ) (old mid new : SourceSide) (P Q : Past → Type 0) (out : List ℕ) (result : Result Turn RelayFault) → SideReads old mid [] [] [] → ReadTurn room mid new P Q out result
+pub turn_behind : (room : ℕ) (old mid new : SourceSide) (P Q : Past → Type 0) (out : List ℕ) (result : Result Turn RelayFault) → SideReads old mid [] [] [] false → mid.body.ended ≡ false → ReadTurn room mid new P Q out result
     → ReadTurn room old new P Q out result
-turn_behind room old mid new P Q out result h t = record {
+turn_behind room old mid new P Q out result h going t = record {
   delta = t.delta;
   answer = t.answer;
   wire = t.wire;
   due = due_behind room old mid t.answer h t.due;
   fits = t.fits;
   count = t.count;
-  reads = side_then old mid new (events_of result) [] t.delta (take (in_sum (events_of result)) out) h t.reads;
+  reads = side_then old mid new (events_of result) [] t.delta (take (in_sum (events_of result)) out) (says_ended t.answer) h t.reads;
+  ends = λ n y. t.ends going y;
+  told = t.told;
   waiting = t.waiting;
   waits = t.waits;
   cause = t.cause;
@@ -274,7 +307,7 @@ fits_same room mid new (Some got.Fault) result e f = f
 pub turn_kept : (room : ℕ) (old mid new : SourceSide) (P Q : Past → Type 0) (out : List ℕ) (result : Result Turn RelayFault) → SameSide mid new → new.raw.items ≡ mid.raw.items → ReadTurn room old mid P Q out result
     → ReadTurn room old new P Q out result
 turn_kept room old mid new P Q out result m r t =
-    let k : SideReads mid new [] [] [] = filled_more mid new [] m.asks m.head m.body (r ∙ sym (append-nil mid.raw.items)) in
+    let k : SideReads mid new [] [] [] false = filled_more mid new [] false m.asks m.head m.body (r ∙ sym (append-nil mid.raw.items)) in
     let es = events_of result in
     let part = take (in_sum (events_of result)) out in
     record {
@@ -287,11 +320,14 @@ turn_kept room old mid new P Q out result m r t =
       reads = record {
         only = t.reads.only;
         legal = λ x a c. let one = t.reads.legal x a c in (one.0, subst (λ (b : SourceBody). Agrees (after_all x es) b) (sym m.body) one.1);
-        reads = λ x body read s.
-            let two : SideRead (after_all x es) ((body ++ part) ++ []) ((read ++ t.delta) ++ []) new = k.reads (after_all x es) (body ++ part) (read ++ t.delta) (t.reads.reads x body read s) in
-            subst (λ (d : List ℕ). SideRead (after_all x es) d (read ++ t.delta) new) (append-nil (body ++ part))
-            (subst (λ (d : List ℕ). SideRead (after_all x es) ((body ++ part) ++ []) d new) (append-nil (read ++ t.delta)) two);
+        reads = λ x body read closed s.
+            let shut = says_ended t.answer || closed in
+            let two : SideRead (after_all x es) ((body ++ part) ++ []) ((read ++ t.delta) ++ []) shut new = k.reads (after_all x es) (body ++ part) (read ++ t.delta) shut (t.reads.reads x body read closed s) in
+            subst (λ (d : List ℕ). SideRead (after_all x es) d (read ++ t.delta) shut new) (append-nil (body ++ part))
+            (subst (λ (d : List ℕ). SideRead (after_all x es) ((body ++ part) ++ []) d shut new) (append-nil (read ++ t.delta)) two);
       };
+      ends = subst (λ (b : SourceBody). old.body.ended ≡ false → b.ended ≡ true → (is_over b.reader ≡ true) ⊎ (says_ended t.answer ≡ true)) (sym m.body) t.ends;
+      told = subst (λ (b : SourceBody). (turn : Turn) → result ≡ Ok turn → is_over b.reader ≡ true → b.ended ≡ true) (sym m.body) t.told;
       waiting = t.waiting;
       waits = λ w. subst (λ (b : SourceBody). MustWait b new.raw.items room) (sym m.body) (subst (λ (i : List ℕ). MustWait mid.body i room) (sym r) (t.waits w));
       cause = λ f e. subst (λ (b : SourceBody). ((f ≡ Closed) × IsCutShort b) ⊎ ((f ≡ Device) ⊎ ((f ≡ NoMemory) ⊎ Refuses f b new.raw.items))) (sym m.body) (subst (λ (i : List ℕ). ((f ≡ Closed) × IsCutShort mid.body) ⊎ ((f ≡ Device) ⊎ ((f ≡ NoMemory) ⊎ Refuses f mid.body i))) (sym r) (t.cause f e));
@@ -327,34 +363,46 @@ reason room new p given (Some got.Fault) fault result f = record {
   waiting = λ h. absurd (never_waits result Device f h);
 }
 
+-- the wire's count of its ends rose
+ended_later : (p : Past) (given : List ℕ) (answer : Option Got) → says_ended answer ≡ true → p.ends < (after_ask p given answer).ends
+ended_later p given None e = cc
+ended_later p given (Some (got.Bytes n)) e = cc
+ended_later p given (Some got.Ended) e = omega arith
+ended_later p given (Some got.Wait) e = cc
+ended_later p given (Some got.Fault) e = cc
+
 -- so it is what a transaction asks of a source
 pub as_source : (room : ℕ) (old new : SourceSide) (P Q : Past → Type 0) (out : List ℕ) (result : Result Turn RelayFault) → length out ≡ room → Remembers old.fault new.fault result → ReadTurn room old new P Q out result
-    → ReadsBody (λ x body read. SideRead x body read old) (λ x body read. SideRead x body read new) (λ x. Agrees x old.body) (λ x. Agrees x new.body) old.fault new.fault (Rests room new) (HasFramed room new) P Q out result
+    → ReadsBody (λ x body read. SideRead x body read.bytes read.ended old) (λ x body read. SideRead x body read.bytes read.ended new) (λ x. Agrees x old.body) (λ x. Agrees x new.body) old.fault new.fault (Rests room new) (HasFramed room new) (IsOver new) P Q out result
 as_source room old new P Q out result l k t = record {
-  delta = t.delta;
-  wire = λ p b. (after_ask p t.delta t.answer, t.wire.each p b, later_given p t.delta t.answer t.wire.fits, reason room new p t.delta t.answer old.fault result t.fits);
+  delta = record { bytes = t.delta; ended = says_ended t.answer };
+  wire = λ p b. (after_ask p t.delta t.answer, t.wire.each p b, later_given p t.delta t.answer t.wire.fits, reason room new p t.delta t.answer old.fault result t.fits, ended_later p t.delta t.answer);
   only = t.reads.only;
   count = omega (arith, l, t.count);
   framed = t.waits;
   legal = t.reads.legal;
-  goes_on = λ x body read s c. t.reads.reads x body read s;
+  ends = λ x a c n y. t.ends (sym a.ended ∙ n) (sym (t.reads.legal x a c).1.ended ∙ y);
+  told = λ turn e o x a. a.ended ∙ t.told turn e o;
+  goes_on = λ x body read s c. t.reads.reads x body read.bytes read.ended s;
   waiting = t.waiting;
   fault = k;
 }
 
 -- a fault is answered again, and nothing else is done
 pub source_again : (room : ℕ) (s : SourceSide) (P : Past → Type 0) (out : List ℕ) (fault : RelayFault) → s.fault ≡ Some fault
-    → ReadsBody (λ x body read. SideRead x body read s) (λ x body read. SideRead x body read s) (λ x. Agrees x s.body) (λ x. Agrees x s.body) s.fault s.fault (Rests room s) (HasFramed room s) P P out (Err fault)
+    → ReadsBody (λ x body read. SideRead x body read.bytes read.ended s) (λ x body read. SideRead x body read.bytes read.ended s) (λ x. Agrees x s.body) (λ x. Agrees x s.body) s.fault s.fault (Rests room s) (HasFramed room s) (IsOver s) P P out (Err fault)
 source_again room s P out fault f =
-    let k : SideReads s s [] [] [] = filled_more s s [] refl refl refl (sym (append-nil s.raw.items)) in
+    let k : SideReads s s [] [] [] false = filled_more s s [] false refl refl refl (sym (append-nil s.raw.items)) in
     record {
-      delta = [];
-      wire = λ p b. (p, b, later_none p, record { failed = λ h e n. (let odd : Some fault ≡ None = sym f ∙ n in cc); waiting = λ w. cc });
+      delta = record { bytes = []; ended = false };
+      wire = λ p b. (p, b, later_none p, record { failed = λ h e n. (let odd : Some fault ≡ None = sym f ∙ n in cc); waiting = λ w. cc }, λ e. cc);
       only = tt;
       count = zero_le (length out);
       framed = λ w. cc;
       legal = k.legal;
-      goes_on = λ x body read h c. k.reads x body read h;
+      ends = λ x a c n y. let odd : true ≡ false = sym y ∙ n in cc;
+      told = λ turn e o x a. cc;
+      goes_on = λ x body read h c. k.reads x body read.bytes read.ended h;
       waiting = says_err fault [];
       fault = record { sound = λ t e. cc; again = λ g e. (let is : Some fault ≡ Some g = sym f ∙ e in cc); stays = λ g e. (let is : fault ≡ g = cc in f ∙ ap (λ (h : RelayFault). Some h) is) };
     }

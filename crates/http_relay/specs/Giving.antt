@@ -61,6 +61,7 @@ GivenAt (at.Refusal status) x framing head body taken w = ⊥
 pub record HasGiven (x : Seen) (head body taken : List ℕ) (h : Hop) : Type 0 where
   pub given : GivenAt h.stage x h.framing head body taken h.writer
   pub untouched : h.touched ≡ false → (taken ≡ []) × IsUndelivered x
+  pub touched : h.touched ≡ true → 0 < length taken
 
 -- the bytes that were taken where no message is written: none, or a front of the refusal alone
 abbrev pub AsideAt : Stage → List ℕ → Writer → Type 0
@@ -72,6 +73,7 @@ AsideAt (at.Refusal status) taken w = taken ++ waiting w ≡ refusal status
 pub record IsAside (taken : List ℕ) (h : Hop) : Type 0 where
   pub text : AsideAt h.stage taken h.writer
   pub untouched : h.touched ≡ false → taken ≡ []
+  pub touched : h.touched ≡ true → 0 < length taken
 
 -- What a turn decides before it writes.
 abbrev pub is_message : Stage → Bool

@@ -1,5 +1,5 @@
 -- What holds of every next hop, whatever the other sides do.
-use Rattle.std.proofs.Common.{◌≡◌, ℕ, inl, inr, arith, Bool, true, false, ◌||◌, List, [], ◌∷◌, ◌++◌, length, refl, ap, sym, subst, ◌∙◌, not, if◌then◌else◌}
+use Rattle.std.proofs.Common.{◌≡◌, ℕ, ◌<◌, inl, inr, arith, Bool, true, false, ◌||◌, List, [], ◌∷◌, ◌++◌, length, refl, ap, sym, subst, ◌∙◌, not, if◌then◌else◌}
 use Rattle.std.proofs.lemmas.Bool.Decides.{nat_tests}
 use Rattle.trace_core.specs.declared.history.Plan.{Plan}
 use Rattle.trace_core.specs.declared.history.Event.{Event}
@@ -41,10 +41,10 @@ given_is_aside at.Whole x f head body taken w e g = cc
 given_is_aside (at.Refusal status) x f head body taken w e g = cc
 
 pub fresh_given : (x : Seen) (head body taken : List ℕ) (h : Hop) → h.stage ≡ at.Empty → IsAside taken h → IsUndelivered x → HasGiven x head body taken h
-fresh_given x head body taken h e a u = record { given = aside_is_given h.stage x h.framing head body taken h.writer e a.text u; untouched = λ n. (a.untouched n, u) }
+fresh_given x head body taken h e a u = record { given = aside_is_given h.stage x h.framing head body taken h.writer e a.text u; untouched = λ n. (a.untouched n, u); touched = a.touched }
 
 pub given_fresh : (x : Seen) (head body taken : List ℕ) (h : Hop) → h.stage ≡ at.Empty → HasGiven x head body taken h → IsAside taken h
-given_fresh x head body taken h e g = record { text = given_is_aside h.stage x h.framing head body taken h.writer e g.given; untouched = λ n. (g.untouched n).0 }
+given_fresh x head body taken h e g = record { text = given_is_aside h.stage x h.framing head body taken h.writer e g.given; untouched = λ n. (g.untouched n).0; touched = g.touched }
 
 -- The laws.
 
@@ -157,6 +157,16 @@ untouched_given x head body taken h e g = let u = g.untouched (not_true h.touche
 
 pub untouched_aside : (taken : List ℕ) (h : Hop) → not h.touched ≡ true → IsAside taken h → taken ≡ []
 untouched_aside taken h e a = a.untouched (not_true h.touched e)
+
+not_false : (b : Bool) → not b ≡ false → b ≡ true
+not_false true e = refl
+not_false false e = cc
+
+pub touched_given : (x : Seen) (head body taken : List ℕ) (h : Hop) → not h.touched ≡ false → HasGiven x head body taken h → 0 < length taken
+touched_given x head body taken h e g = g.touched (not_false h.touched e)
+
+pub touched_aside : (taken : List ℕ) (h : Hop) → not h.touched ≡ false → IsAside taken h → 0 < length taken
+touched_aside taken h e a = a.touched (not_false h.touched e)
 
 original_by : (x : Seen) → ChoosesOriginal x → chooses_original x ≡ true
 original_by x (inl p) = grind (arith, nat_tests, p)

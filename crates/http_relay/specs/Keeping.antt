@@ -55,10 +55,10 @@ no_out : (x : Seen) → IsUndelivered x → chosen_delivered x ≡ 0
 no_out x h = grind (arith, nat_tests, h.0, h.1)
 
 pub hop_begins : (x : Seen) (head body : List ℕ) (w : Writer) → w ≡ fresh [] → IsUndelivered x → HasGiven x head body [] (record { writer = w; framing = by.None; stage = at.Empty; touched = false; fault = None })
-hop_begins x head body w e u = record { given = (ap waiting e, u); untouched = λ n. (refl, u) }
+hop_begins x head body w e u = record { given = (ap waiting e, u); untouched = λ n. (refl, u); touched = λ t. cc }
 
 pub hop_aside : (w : Writer) → w ≡ fresh [] → IsAside [] (record { writer = w; framing = by.None; stage = at.Empty; touched = false; fault = None })
-hop_aside w e = record { text = ap waiting e; untouched = λ n. refl }
+hop_aside w e = record { text = ap waiting e; untouched = λ n. refl; touched = λ t. cc }
 
 -- a message begins where nothing was given
 begun_at : (x : Seen) (stage : Stage) (f g : Framing) (other head body taken : List ℕ) (w : Writer) → stage ≡ at.Empty → GivenAt stage x f other body taken w → GivesMessage x g false head body taken (fresh head)
@@ -72,10 +72,11 @@ pub begun : (x : Seen) (other head body taken : List ℕ) (g : Framing) (old : H
 begun x other head body taken g old w touched fault s e t h = record {
   given = subst (λ (v : Writer). GivesMessage x g false head body taken v) (sym e) (begun_at x old.stage old.framing g other head body taken old.writer s h.given);
   untouched = λ n. h.untouched (sym t ∙ n);
+  touched = λ n. h.touched (sym t ∙ n);
 }
 
-pub refused : (status : ℕ) (w : Writer) (framing : Framing) (touched : Bool) (fault : Option RelayFault) → w ≡ fresh (refusal status) → IsAside [] (record { writer = w; framing = framing; stage = at.Refusal status; touched = touched; fault = fault })
-refused status w framing touched fault e = record { text = ap waiting e ∙ append-nil (refusal status); untouched = λ n. refl }
+pub refused : (status : ℕ) (w : Writer) (framing : Framing) (touched : Bool) (fault : Option RelayFault) → touched ≡ false → w ≡ fresh (refusal status) → IsAside [] (record { writer = w; framing = framing; stage = at.Refusal status; touched = touched; fault = fault })
+refused status w framing touched fault n e = record { text = ap waiting e ∙ append-nil (refusal status); untouched = λ u. refl; touched = λ t. let odd : true ≡ false = sym t ∙ n in cc }
 
 -- what the message's front depends on is the same
 record Keeps (x y : Seen) : Type 0 where
@@ -152,6 +153,7 @@ others x event head body more taken h s a z l g =
     record {
       given = kept_at h.stage x (after x event) h.framing head body more taken h.writer k l g.given;
       untouched = λ n. ((g.untouched n).0, undelivered_kept x (after x event) k (g.untouched n).1);
+      touched = g.touched;
     }
 
 pub others_of : (plan : Plan) (events : List Event) (event : Event) (head body more taken : List ℕ) (h : Hop) → IsLegal plan (event ∷ events) → is_of_hop event ≡ false

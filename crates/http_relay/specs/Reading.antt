@@ -1,9 +1,10 @@
 -- A source's side over its wire.
-use Rattle.std.specs.Prelude.{◌≡◌, ◌≢◌, ℕ, ◌<◌, ◌≤◌, ◌⊎◌, Bool, true, false, List, [], ◌++◌, length, take, Option, Some, None as Nothing, Result, Ok, Err, IfSome}
+use Rattle.std.specs.Prelude.{◌≡◌, ◌≢◌, ℕ, ◌<◌, ◌≤◌, ◌⊎◌, ◌||◌, Bool, true, false, List, [], ◌++◌, length, take, Option, Some, None as Nothing, Result, Ok, Err, IfSome}
 use Rattle.http_side.specs.Heads.{RequestParts, ResponseParts}
 use Rattle.http_side.specs.Requests.{IsRead}
 use Rattle.http_side.specs.Responses.{IsResponseRead}
 use Rattle.http_side.specs.Framings.{request_framing, response_framing}
+use Rattle.http_side.specs.Body.{is_over}
 use Rattle.http_side.specs.declared.body.Framing.{Framing}
 use Rattle.http_side.specs.declared.body.Framing.TheVariants.{None}
 use Rattle.trace_core.specs.declared.history.Event.{Event}
@@ -68,8 +69,8 @@ framing_of (heads.Request r) = request_framing r
 framing_of (heads.Response r) = response_framing r
 
 -- these bytes of the body came; the bytes read since the message began are interim responses, its head, what was framed of
--- its body, and the raw ones
-pub record SideRead (x : Seen) (body read : List ℕ) (s : SourceSide) : Type 0 where
+-- its body, and the raw ones; and the wire has ended since, or hasn't
+pub record SideRead (x : Seen) (body read : List ℕ) (closed : Bool) (s : SourceSide) : Type 0 where
   pub before : List ℕ
   pub head_text : List ℕ
   pub framed : List ℕ
@@ -77,7 +78,7 @@ pub record SideRead (x : Seen) (body read : List ℕ) (s : SourceSide) : Type 0 
   pub interims : IsBefore s.asks before
   pub head : IsHeadText s.asks s.head head_text
   pub way : s.body.framing ≡ framing_of s.head
-  pub body_read : BodyRead x body framed s.body
+  pub body_read : BodyRead x body framed closed s.body
 
 -- the bytes read are interim responses and the raw ones: no head was taken yet
 pub record AtHead (read : List ℕ) (s : SourceSide) : Type 0 where
@@ -86,11 +87,11 @@ pub record AtHead (read : List ℕ) (s : SourceSide) : Type 0 where
   pub interims : IsBefore s.asks before
   pub unread : s.head ≡ heads.Unread
 
--- these events tell what further bytes of the wire do, with these of the body
-pub record SideReads (old new : SourceSide) (events : List Event) (delta part : List ℕ) : Type 0 where
+-- these events tell what further bytes of the wire do, with these of the body, and the wire's end, where it has ended now
+pub record SideReads (old new : SourceSide) (events : List Event) (delta part : List ℕ) (ended : Bool) : Type 0 where
   pub only : AllAre is_of_source events
   pub legal : (x : Seen) → Agrees x old.body → x.closed ≡ false → MayAllFollow x events × Agrees (after_all x events) new.body
-  pub reads : (x : Seen) (body read : List ℕ) → SideRead x body read old → SideRead (after_all x events) (body ++ part) (read ++ delta) new
+  pub reads : (x : Seen) (body read : List ℕ) (closed : Bool) → SideRead x body read closed old → SideRead (after_all x events) (body ++ part) (read ++ delta) (ended || closed) new
 
 -- nothing is to be read: the end was told, or there is no room
 abbrev pub Rests : ℕ → SourceSide → Type 0
@@ -106,16 +107,21 @@ HasFramed room s = MustWait s.body s.raw.items room
 abbrev pub IsCause : RelayFault → SourceSide → Type 0
 IsCause fault s = ((fault ≡ Closed) × IsCutShort s.body) ⊎ ((fault ≡ Device) ⊎ ((fault ≡ NoMemory) ⊎ Refuses fault s.body s.raw.items))
 
+-- the framing tells the body's end, and it was read
+abbrev pub IsOver : SourceSide → Type 0
+IsOver s = is_over s.body.reader ≡ true
+
 -- A read is due: the body goes on, there is room, and all bytes that were kept are framed.
 pub record IsReadDue (room : ℕ) (s : SourceSide) : Type 0 where
   pub going_on : s.body.ended ≡ false
+  pub not_over : is_over s.body.reader ≡ false
   pub some_room : 0 < room
   pub none_kept : s.raw.items ≡ []
 
 -- the wire is read only where that is due once the bytes that are kept were framed, and no event came of them
 abbrev pub ReadsWhereDue : ℕ → SourceSide → Option Got → Type 0
 ReadsWhereDue room old Nothing = Unit {0}
-ReadsWhereDue room old (Some answer) = (framed : SourceSide) × SideReads old framed [] [] [] × IsReadDue room framed
+ReadsWhereDue room old (Some answer) = (framed : SourceSide) × SideReads old framed [] [] [] false × IsReadDue room framed
 
 -- What a turn makes of its wire's answer. It waits where the wire says so, or, where it didn't read, where nothing is to be
 -- read; Closed is answered only where the wire ended, and Device just where it failed.
@@ -130,7 +136,13 @@ FitsGot room new (Some got.Wait) (Ok turn) = turn.waiting ≡ true
 FitsGot room new (Some got.Wait) (Err fault) = ⊥
 FitsGot room new (Some got.Fault) result = result ≡ Err Device
 
--- A turn of a side without a fault makes one read at most.
+-- the wire said that it has ended
+abbrev pub says_ended : Option Got → Bool
+says_ended (Some got.Ended) = true
+says_ended _ = false
+
+-- A turn of a side without a fault makes one read at most. The body's end is told where the framing tells it, or the wire has
+-- ended in this turn; one that the framing tells isn't withheld.
 pub record ReadTurn (room : ℕ) (old new : SourceSide) (before after : Past → Type 0) (out : List ℕ) (result : Result Turn RelayFault) : Type 0 where
   pub delta : List ℕ
   pub answer : Option Got
@@ -138,7 +150,9 @@ pub record ReadTurn (room : ℕ) (old new : SourceSide) (before after : Past →
   pub due : ReadsWhereDue room old answer
   pub fits : FitsGot room new answer result
   pub count : in_sum (events_of result) ≤ room
-  pub reads : SideReads old new (events_of result) delta (take (in_sum (events_of result)) out)
+  pub reads : SideReads old new (events_of result) delta (take (in_sum (events_of result)) out) (says_ended answer)
+  pub ends : old.body.ended ≡ false → new.body.ended ≡ true → IsOver new ⊎ (says_ended answer ≡ true)
+  pub told : (turn : Turn) → result ≡ Ok turn → IsOver new → new.body.ended ≡ true
   pub waiting : SaysWaiting (events_of result) delta result
   pub waits : waits_of result ≡ true → MustWait new.body new.raw.items room
   pub cause : (fault : RelayFault) → result ≡ Err fault → IsCause fault new
@@ -147,7 +161,7 @@ pub record ReadTurn (room : ℕ) (old new : SourceSide) (before after : Past →
 
 -- the message begins: of its body nothing was read, and its numbers are those of a history without In and End
 abbrev pub Begins : List ℕ → SourceSide → Type 0
-Begins read s = (x : Seen) → x.received ≡ 0 → x.ended ≡ false → SideRead x [] read s × (IfSome x.plan.len (λ len. length_of s.body.framing ≡ Some len) → Agrees x s.body)
+Begins read s = (x : Seen) → x.received ≡ 0 → x.ended ≡ false → SideRead x [] read false s × (IfSome x.plan.len (λ len. length_of s.body.framing ≡ Some len) → Agrees x s.body)
 
 -- what judging the raw bytes gives: the message begins, or its head is still to come
 abbrev pub JudgesHeadTo : Result HeadProgress RelayFault → List ℕ → SourceSide → Type 0

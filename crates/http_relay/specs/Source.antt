@@ -1,8 +1,8 @@
 -- A source's body, as far as it was read.
-use Rattle.std.specs.Prelude.{◌≡◌, ℕ, ◌+◌, ◌<◌, ◌≤◌, ◌⊎◌, Bool, true, false, List, [], ◌++◌, length, Some, IfSome}
+use Rattle.std.specs.Prelude.{◌≡◌, ℕ, ◌+◌, ◌<◌, ◌≤◌, ◌⊎◌, ◌||◌, Bool, true, false, List, [], ◌++◌, length, Some, IfSome}
 use Rattle.adapt_bytes.specs.declared.limits.TheConstants.{COUNT_LIMIT}
 use Rattle.icap_chunks.specs.declared.fault.ChunkFault.{ChunkFault}
-use Rattle.http_side.specs.Body.{HasRead, IsClosedBody}
+use Rattle.http_side.specs.Body.{HasRead, IsBody, IsClosedBody, is_over}
 use Rattle.http_side.specs.declared.body.Framing.{Framing}
 use Rattle.trace_core.specs.declared.history.Event.{Event}
 use Rattle.trace_core.specs.declared.history.Seen.{Seen}
@@ -25,18 +25,27 @@ pub record Agrees (x : Seen) (s : SourceBody) : Type 0 where
   pub ended : x.ended ≡ s.ended
   pub len : IfSome x.plan.len (λ len. length_of s.framing ≡ Some len)
 
+-- the text is a whole body: by its framing alone, or because the wire has ended behind it
+abbrev pub IsWholeBody : Framing → (closed : Bool) → List ℕ → List ℕ → Type 0
+IsWholeBody framing closed text body = IsBody framing text body ⊎ ((closed ≡ true) × IsClosedBody framing text body)
+
 -- of the text this was read, and these bytes of the body came; its end was told only where the text is a whole body
-pub record BodyRead (x : Seen) (body text : List ℕ) (s : SourceBody) : Type 0 where
+pub record BodyRead (x : Seen) (body text : List ℕ) (closed : Bool) (s : SourceBody) : Type 0 where
   pub count : x.received ≡ length body
   pub ended : x.ended ≡ s.ended
   pub reads : HasRead s.framing text body s.reader
-  pub whole : s.ended ≡ true → IsClosedBody s.framing text body
+  pub whole : s.ended ≡ true → IsWholeBody s.framing closed text body
 
--- these events tell what these further bytes do, with these of the body
-pub record BodyReads (old new : SourceBody) (events : List Event) (bytes part : List ℕ) : Type 0 where
+-- these events tell what these further bytes do, with these of the body, and the wire's end, where it has ended now
+pub record BodyReads (old new : SourceBody) (events : List Event) (bytes part : List ℕ) (ended : Bool) : Type 0 where
   pub only : AllAre is_of_source events
   pub legal : (x : Seen) → Agrees x old → x.closed ≡ false → MayAllFollow x events × Agrees (after_all x events) new
-  pub reads : (x : Seen) (body text : List ℕ) → BodyRead x body text old → BodyRead (after_all x events) (body ++ part) (text ++ bytes) new
+  pub reads : (x : Seen) (body text : List ℕ) (closed : Bool) → BodyRead x body text closed old → BodyRead (after_all x events) (body ++ part) (text ++ bytes) (ended || closed) new
+
+-- the end is told where the framing tells it, and only there; one that was told stays
+pub record TellsEnd (old new : SourceBody) : Type 0 where
+  pub just : old.ended ≡ false → new.ended ≡ is_over new.reader
+  pub stays : old.ended ≡ true → new.ended ≡ true
 
 -- none of these bytes can be framed, with so much room: the end was told, no byte is there, or the next is one of the body
 -- and there is no room
@@ -50,6 +59,6 @@ IsCutShort s = (way : Framing) (text body : List ℕ) → HasRead way text body 
 -- Why bytes of a body are refused. For its length only where there may be too many to count, which no Content-Length allows.
 abbrev pub Refuses : RelayFault → SourceBody → List ℕ → Type 0
 Refuses faults.Chunk s raw = (fault : ChunkFault) × IsBroken s.reader raw fault
-Refuses faults.Length s raw = (x : Seen) (body text : List ℕ) → Agrees x s → BodyRead x body text s
+Refuses faults.Length s raw = (x : Seen) (body text : List ℕ) (closed : Bool) → Agrees x s → BodyRead x body text closed s
     → (COUNT_LIMIT ≤ s.received + length raw) × IfSome (length_of s.framing) (λ len. COUNT_LIMIT ≤ len)
 Refuses _ s raw = ⊥

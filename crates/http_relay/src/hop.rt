@@ -6,6 +6,7 @@ ghost use Rattle.trace_core.specs.History.{seen};
 ghost use Rattle.chunk_writer.specs.Writer.{fresh, waiting, KeepsNoText};
 ghost use Rattle.http_side.specs.Refusals.{is_own_status, refusal};
 ghost use Rattle.adapt_sides.specs.Tapes.{KeepsUndelivered};
+ghost use Rattle.adapt_sides.specs.Turns.{wire_fault};
 ghost use Rattle.http_relay.specs.Giving.{Hop, HasGiven, IsAside, LetsGo, is_flushed, is_whole, is_empty, stage_then};
 ghost use Rattle.adapt_sides.specs.Tapes.{IsUndelivered};
 ghost use Rattle.http_relay.specs.Writing.{WriteTurn};
@@ -31,6 +32,16 @@ pub enum Stage {
     Whole,
     /// The proxy's own refusal with this status.
     Refusal(u16),
+}
+
+/// The fault that outlasts a refusal in the message's place: that the wire has failed.
+fn wire_fault(fault: Option<RelayFault>) -> Option<RelayFault>
+    ensures { result ≡ wire_fault fault }
+{
+    match fault {
+        Some(RelayFault::Device) => Some(RelayFault::Device),
+        _ => None,
+    }
 }
 
 /// The next hop's end of one transaction.
@@ -78,15 +89,17 @@ impl NextHop {
         self.stage = Stage::Message;
     }
 
-    /// Puts the proxy's own refusal in the message's place. No byte has gone out. It takes no memory.
+    /// Puts the proxy's own refusal in the message's place. No byte has gone out. A fault of the message ends with it; one of the
+    /// wire stays. It takes no memory.
     pub fn refuse(&mut self, status: u16)
         requires untouched { self.old.touched ≡ false }
         requires own { IsTrue (is_own_status status) }
-        ensures shows { self.new ≡ record { writer = fresh (refusal status); framing = self.old.framing; stage = Stage.Refusal status; touched = false; fault = self.old.fault } }
+        ensures shows { self.new ≡ record { writer = fresh (refusal status); framing = self.old.framing; stage = Stage.Refusal status; touched = false; fault = wire_fault self.old.fault } }
         ensures aside { IsAside [] self.new }
     {
         self.writer = ChunkWriter::constant(own_refusal(status));
         self.stage = Stage::Refusal(status);
+        self.fault = wire_fault(self.fault);
     }
 
     /// Whether no byte has gone out.

@@ -25,7 +25,7 @@ ghost use Rattle.adapt_sides.specs.Tapes.{IsUndelivered};
 
 /// Where a turn at the head answers that it was read, a message of each plan begins there: nothing of its body was told yet.
 pub fn a_message_begins()
-    ensures { (plan : Plan) (read : List ℕ) (s : SourceSide) → Begins read s → SideRead (seen plan []) [] read s }
+    ensures { (plan : Plan) (read : List ℕ) (s : SourceSide) → Begins read s → SideRead (seen plan []) [] read false s }
 {}
 
 /// What the next hop took is a front of one message with the head that was begun, whose body begins with what came of it;

@@ -1,13 +1,14 @@
 //! The source's side: a message's head, and its body, over a wire.
 
-ghost use Rattle.std.specs.Prelude.{◌≡◌, ◌<◌, ◌≤◌, [], length, take, IfOk, IfErr, OnErr, None, true, false, List, ℕ, ◌↔◌, IsTrue, option_copied};
+ghost use Rattle.std.specs.Prelude.{◌≡◌, ◌<◌, ◌≤◌, [], length, take, IfOk, IfErr, OnOk, OnErr, None, true, false, List, ℕ, ◌↔◌, IsTrue, option_copied};
 ghost use Rattle.trace_core.specs.History.{seen};
 ghost use Rattle.trace_core.specs.Turns.{in_sum};
 ghost use Rattle.adapt_sides.specs.declared.filling.TheConstants.{MAX_READ};
-ghost use Rattle.http_relay.specs.Source.{Agrees, MustWait, Refuses};
+ghost use Rattle.http_side.specs.Body.{is_over};
+ghost use Rattle.http_relay.specs.Source.{Agrees, MustWait, Refuses, TellsEnd};
 ghost use Rattle.adapt_sides.specs.Turns.{ReadsBody};
 ghost use Rattle.http_relay.specs.Judging.{IsLooking};
-ghost use Rattle.http_relay.specs.Reading.{AtHead, GivesBack, request_of, response_of, SideRead, SideReads, Rests, HasFramed, ReadTurn};
+ghost use Rattle.http_relay.specs.Reading.{AtHead, GivesBack, request_of, response_of, SideRead, SideReads, Rests, HasFramed, IsOver, ReadTurn};
 ghost use Rattle.trace_core.specs.declared.history.Seen.{Seen};
 ghost use Rattle.wire_kit.specs.Past.{Past};
 
@@ -54,7 +55,8 @@ impl SourceSide {
     /// Frames what may be framed of the raw bytes of the body.
     fn frame_raw(&mut self, out: &mut [u8]) -> Result<ArrayVec<Event, 4>, RelayFault>
         ensures room { IfOk result (λ events. in_sum events.items ≤ length out.old) }
-        ensures reads { IfOk result (λ events. SideReads self.old self.new events.items [] (take (in_sum events.items) out.new)) }
+        ensures reads { IfOk result (λ events. SideReads self.old self.new events.items [] (take (in_sum events.items) out.new) false) }
+        ensures ends { OnOk result (TellsEnd self.old.body self.new.body) }
         ensures waits { IfOk result (λ events. events.items ≡ [] → MustWait self.new.body self.new.raw.items (length out.old)) }
         ensures refuses { IfErr result (λ fault. Refuses fault self.old.body self.old.raw.items) }
         ensures err { OnErr result (self.new ≡ self.old) }
@@ -75,6 +77,7 @@ impl SourceSide {
     fn read_wire<W: Wire>(&mut self, wire: &mut W, out: &mut [u8]) -> Result<Turn, RelayFault>
         requires empty { self.old.raw.items ≡ [] }
         requires going_on { self.old.body.ended ≡ false }
+        requires not_over { is_over self.old.body.reader ≡ false }
         requires some_room { 0 < length out.old }
         ensures turn { ReadTurn (length out.old) self.old self.new (W.past wire.old) (W.past wire.new) out.new result }
         ensures kept { length self.new.raw.items ≤ MAX_READ }
@@ -146,11 +149,12 @@ impl SourceSide {
 
     /// Reads the message's body. The raw bytes come first; the wire is read once at most, where none of them can be framed and
     /// there is room. The bytes of the body go to the front of `out`, as many as the events say, and the caller steps the events.
+    /// The body's end is told where its framing tells it, with no room too, or where the connection was closed in this turn.
     ///
     /// A fault stays: every later turn answers it again.
     pub fn read_turn<W: Wire>(&mut self, wire: &mut W, out: &mut [u8]) -> Result<Turn, RelayFault>
-        ensures source { ReadsBody (λ x body read. SideRead x body read self.old) (λ x body read. SideRead x body read self.new)
-            (λ x. Agrees x self.old.body) (λ x. Agrees x self.new.body) self.old.fault self.new.fault (Rests (length out.old) self.new) (HasFramed (length out.old) self.new) (W.past wire.old) (W.past wire.new) out.new result }
+        ensures source { ReadsBody (λ x body read. SideRead x body read.bytes read.ended self.old) (λ x body read. SideRead x body read.bytes read.ended self.new)
+            (λ x. Agrees x self.old.body) (λ x. Agrees x self.new.body) self.old.fault self.new.fault (Rests (length out.old) self.new) (HasFramed (length out.old) self.new) (IsOver self.new) (W.past wire.old) (W.past wire.new) out.new result }
         ensures turn { self.old.fault ≡ None → ReadTurn (length out.old) self.old self.new (W.past wire.old) (W.past wire.new) out.new result }
         ensures head { self.new.head ≡ self.old.head }
 

@@ -1,10 +1,10 @@
 //! A source's body: bytes in, In and End out, and nothing of wires.
 
-ghost use Rattle.std.specs.Prelude.{◌≡◌, ℕ, ◌+◌, ◌<◌, ◌≤◌, ◌↔◌, ◌⊎◌, List, [], length, take, drop, IfOk, IfErr, OnErr, IfSome, Some, true, false, IsTrue};
+ghost use Rattle.std.specs.Prelude.{◌≡◌, ℕ, ◌+◌, ◌<◌, ◌≤◌, ◌↔◌, ◌⊎◌, List, [], length, take, drop, IfOk, IfErr, OnOk, OnErr, IfSome, Some, true, false, IsTrue};
 ghost use Rattle.http_side.specs.Body.{HasRead};
 ghost use Rattle.trace_core.specs.Turns.{in_sum};
 ghost use Rattle.http_relay.specs.Events.{source_events};
-ghost use Rattle.http_relay.specs.Source.{Agrees, MayTell, BodyReads, IsCutShort, MustWait, Refuses};
+ghost use Rattle.http_relay.specs.Source.{Agrees, MayTell, BodyReads, TellsEnd, IsCutShort, MustWait, Refuses};
 ghost use Rattle.http_relay.specs.Message.{length_of};
 
 use crate::body::read_body;
@@ -115,7 +115,8 @@ impl SourceBody {
     /// Frames what may be framed of the bytes. Those of the body go to the front of `out`, as many as the events say.
     pub(crate) fn frame(&mut self, raw: &[u8], out: &mut [u8]) -> Result<Framed, RelayFault>
         ensures within { IfOk result (λ framed. (framed.used ≤ length raw.now) × (in_sum framed.events.items ≤ length out.old)) }
-        ensures reads { IfOk result (λ framed. BodyReads self.old self.new framed.events.items (take framed.used raw.now) (take (in_sum framed.events.items) out.new)) }
+        ensures reads { IfOk result (λ framed. BodyReads self.old self.new framed.events.items (take framed.used raw.now) (take (in_sum framed.events.items) out.new) false) }
+        ensures ends { OnOk result (TellsEnd self.old self.new) }
         ensures waits { IfOk result (λ framed. framed.events.items ≡ [] → MustWait self.new (drop framed.used raw.now) (length out.old)) }
         ensures refuses { IfErr result (λ fault. Refuses fault self.old raw.now) }
         ensures err { OnErr result (self.new ≡ self.old) }
@@ -145,12 +146,13 @@ impl SourceBody {
         }
     }
 
-    /// The connection was closed behind what was read.
+    /// The connection was closed after what was read.
     pub(crate) fn close(&mut self) -> Result<ArrayVec<Event, 4>, RelayFault>
         requires { self.old.ended ≡ false }
         ensures none { IfOk result (λ events. in_sum events.items ≡ 0) }
         ensures some { IfOk result (λ events. events.items ≡ source_events 0 true) }
-        ensures reads { IfOk result (λ events. BodyReads self.old self.new events.items [] []) }
+        ensures reads { IfOk result (λ events. BodyReads self.old self.new events.items [] [] true) }
+        ensures ends { OnOk result (self.new.ended ≡ true) }
         ensures refuses { IfErr result (λ fault. Refuses fault self.old [] ⊎ ((fault ≡ RelayFault.Closed) × IsCutShort self.old)) }
         ensures err { OnErr result (self.new ≡ self.old) }
         ensures framing { self.new.framing ≡ self.old.framing }

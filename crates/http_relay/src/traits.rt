@@ -13,7 +13,7 @@ impl Source for SourceSide {
     ghost use Rattle.trace_core.specs.History.{seen};
     ghost use Rattle.http_relay.specs.declared.side.SourceHead.TheVariants as unread;
     ghost use Rattle.http_relay.specs.Source.{Agrees};
-    ghost use Rattle.http_relay.specs.Reading.{SideRead, Rests, HasFramed, IsCause};
+    ghost use Rattle.http_relay.specs.Reading.{SideRead, Rests, HasFramed, IsCause, IsOver};
     ghost use Rattle.http_relay.specs.SourceLaws as laws;
 
     type Head = SourceHead;
@@ -22,7 +22,9 @@ impl Source for SourceSide {
 
     ghost fault = { λ s. s.fault };
 
-    ghost has_read = { SideRead };
+    ghost has_read = { λ x body read s. SideRead x body read.bytes read.ended s };
+
+    ghost is_over = { IsOver };
 
     ghost agrees = { λ x s. Agrees x s.body };
 
@@ -39,6 +41,8 @@ impl Source for SourceSide {
     ghost others_agree = { laws.others_agree };
 
     ghost rests_where = { laws.rests_where };
+
+    ghost ended_where = { laws.ended_where };
 
     fn begins(&self, plan: &Plan) -> bool {
         SourceSide::begins(self, plan)
@@ -94,6 +98,10 @@ impl Hop for NextHop {
     ghost untouched_given = { laws.untouched_given };
 
     ghost untouched_aside = { laws.untouched_aside };
+
+    ghost touched_given = { laws.touched_given };
+
+    ghost touched_aside = { laws.touched_aside };
 
     ghost rests_where = { laws.rests_where };
 

@@ -2,7 +2,7 @@
 
 ghost use Rattle.std.specs.Prelude.{◌≡◌, ℕ, List, Option};
 ghost use Rattle.icap_client.specs.Sending.{NothingDue};
-ghost use Rattle.icap_client.specs.Turns.{ServiceSent, ServiceHeard, RestsReading, HasFramed, HasCause, adapted_head_of, is_response_of, is_flushed};
+ghost use Rattle.icap_client.specs.Turns.{ServiceSent, ServiceHeard, RestsReading, HasFramed, HasCause, adapted_head_of, is_response_of, is_reusable, is_flushed};
 ghost use Rattle.icap_client.specs.OthersSent.{none_may_send};
 ghost use Rattle.icap_client.specs.OthersHeard.{unheard_none, rests_where};
 ghost use Rattle.icap_client.specs.Marks.{service_others, service_keeps};
@@ -32,6 +32,8 @@ impl Service for ServiceSide {
 
     ghost is_response = { is_response_of };
 
+    ghost reusable = { is_reusable };
+
     ghost others_sent = { service_others };
 
     ghost others_heard = { λ x event adapted read s o n. service_keeps x event adapted read s o };
@@ -54,6 +56,10 @@ impl Service for ServiceSide {
             Some((layout, _)) => layout.res_hdr.is_some(),
             None => false,
         }
+    }
+
+    fn is_reusable(&self) -> bool {
+        ServiceSide::is_reusable(self)
     }
 
     fn write_turn<W: Wire>(

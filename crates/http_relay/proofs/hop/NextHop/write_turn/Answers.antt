@@ -10,7 +10,7 @@ use Rattle.adapt_sides.specs.declared.fault.RelayFault.TheVariants.{Device, Leng
 use Rattle.http_relay.specs.Giving.{Hop, BreaksLength, is_message, is_whole, stage_then}
 use Rattle.http_relay.specs.declared.hop.Stage.{Stage}
 use Rattle.http_relay.proofs.Carried.{may_go_on}
-use Rattle.http_relay.proofs.Answering.{turned, turned_let_go, unmoved, faulted, still_wait, still_fault, no_delta_wait, no_delta_fault, no_delta_none, settles_still, settles_by, none_still, fits_took, fits_wait, fits_none, idle_events, decides_at}
+use Rattle.http_relay.proofs.Answering.{turned, turned_let_go, unmoved, faulted, still_wait, still_fault, no_delta_wait, no_delta_fault, no_delta_none, settles_still, settles_by, took_some, none_still, fits_took, fits_wait, fits_none, idle_events, decides_at}
 use Rattle.http_relay.proofs.hop.NextHop.write_turn.Goals as goal
 
 pub returns-in-Some-clause-turn : goal.returns-in-Some-clause-turn
@@ -92,7 +92,7 @@ returns-in-Some-Took-clause-turn g c =
     (sound c.args.state.now.plan c.args.state.now.events c.trace.ensures.legal) c.requires c.in-Some-decide.ensures.next o.wire o.silent o.asks
     (subst (λ (v : Writer). Moves tape next in'.writer wrote.sent wrote.ended (delta_of text wrote.answer) v) (sym (ap (λ (h : Hop). h.writer) e.stage)) o.moves)
     (settles_by x next c.args.self.now c.settle-done.new.self c.write-wrote.new.self in'.framing in'.stage true in'.fault wrote.sent wrote.sent wrote.ended done c.sendable-may.result.done (delta_of text wrote.answer)
-    e.stage fe se (λ u. cc) e.done c.sendable-may.ensures.done.0 (λ z. z))
+    e.stage fe se (λ u. cc) (λ u. inr (took_some text wrote.answer c.in-Some-Took.field-0-0 answer o.wire.fits)) e.done c.sendable-may.ensures.done.0 (λ z. z))
     turn.ensures.events (λ no. fits_took x c.settle-done.new.self wrote.answer c.in-Some-Took.field-0-0 turn.result answer (λ h. (turn.ensures.waits h).1)))
 
 pub returns-in-None-answer-clause-turn : goal.returns-in-None-answer-clause-turn
@@ -121,7 +121,7 @@ returns-in-None-answer-clause-turn g c =
     s c.requires c.in-Some-decide.ensures.next o.wire o.silent o.asks
     (subst (λ (v : Writer). Moves tape next in'.writer wrote.sent wrote.ended (delta_of text wrote.answer) v) (sym (ap (λ (h : Hop). h.writer) e.stage)) o.moves)
     (settles_by x next c.args.self.now settle.new.self c.write-wrote.new.self in'.framing in'.stage in'.touched in'.fault wrote.sent 0 wrote.ended done c.sendable-may.result.done (delta_of text wrote.answer)
-    e.stage fe se (λ u. (sym te ∙ u, no_delta_none wrote.answer text answer, idle.none_sent)) e.done may.0 (λ z. idle.none_sent))
+    e.stage fe se (λ u. (sym te ∙ u, no_delta_none wrote.answer text answer, idle.none_sent)) (λ u. inl (sym te ∙ u)) e.done may.0 (λ z. idle.none_sent))
     (turn.ensures.events ∙ idle_events next in'.writer wrote.sent wrote.ended done idle)
     (λ no. fits_none x c.args.self.now settle.new.self next wrote.answer wrote.sent wrote.ended done turn.result answer s (decides_at x c.args.self.now in'.writer in'.framing in'.stage next we fe se c.in-Some-decide.ensures.next)
     (subst (λ (v : Writer). IsIdle v next wrote.sent wrote.ended) we idle) turn.ensures.events

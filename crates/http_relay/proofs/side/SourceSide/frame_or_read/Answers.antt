@@ -1,4 +1,4 @@
-use Rattle.std.proofs.Common.{◌≡◌, ◌⊎◌, inl, inr, true, List, ℕ, [], length, take, refl, sym, subst, ◌∙◌, rules}
+use Rattle.std.proofs.Common.{◌≡◌, ◌⊎◌, inl, inr, true, false, List, ℕ, [], length, take, refl, sym, subst, ◌∙◌, rules}
 use Rattle.trace_core.specs.Turns.{in_sum}
 use Rattle.http_relay.specs.Reading.{SideReads, ReadTurn}
 use Rattle.adapt_sides.specs.declared.turn.Turn.{Turn}
@@ -21,12 +21,13 @@ returns-then-has_ended-clause-turn g c =
       | then-has_ended-via-then-has_ended w ↦ inl (sym c.has_ended.ensures ∙ w.if-has_ended.true)
       | then-has_ended-via-else-has_ended+then-is_empty w ↦ inr (sym long ∙ eqb-true (length c.frame_raw.new.out) 0 (sym w.is_empty-else-has_ended.ensures ∙ w.if-is_empty.true))
     ] in
-    turn_idle (length c.args.out.now) c.args.self.now c.frame_raw.new.self (g.W.Wire.past c.args.wire.now) c.frame_raw.new.out t c.in-Ok.ensures.reads c.in-Ok.ensures.room refl none (c.in-Ok.ensures.waits none) rests
+    turn_idle (length c.args.out.now) c.args.self.now c.frame_raw.new.self (g.W.Wire.past c.args.wire.now) c.frame_raw.new.out t c.in-Ok.ensures.reads c.in-Ok.ensures.ends c.in-Ok.ensures.room refl none (c.in-Ok.ensures.waits none) rests
 
 pub returns-clause-turn : goal.returns-clause-turn
 returns-clause-turn g c =
     let none : c.in-Ok.events.items ≡ [] = search rules in
-    let still : SideReads c.args.self.now c.frame_raw.new.self [] [] [] =
-    subst (λ (es : List Event). SideReads c.args.self.now c.frame_raw.new.self es [] (take (in_sum es) c.frame_raw.new.out)) none c.in-Ok.ensures.reads in
-    turn_behind (length c.args.out.now) c.args.self.now c.frame_raw.new.self c.read_wire.new.self (g.W.Wire.past c.args.wire.now) (g.W.Wire.past c.read_wire.new.wire) c.read_wire.new.out c.read_wire.result still
+    let still : SideReads c.args.self.now c.frame_raw.new.self [] [] [] false =
+    subst (λ (es : List Event). SideReads c.args.self.now c.frame_raw.new.self es [] (take (in_sum es) c.frame_raw.new.out) false) none c.in-Ok.ensures.reads in
+    let going : c.frame_raw.new.self.body.ended ≡ false = search rules in
+    turn_behind (length c.args.out.now) c.args.self.now c.frame_raw.new.self c.read_wire.new.self (g.W.Wire.past c.args.wire.now) (g.W.Wire.past c.read_wire.new.wire) c.read_wire.new.out c.read_wire.result still going
     (subst (λ (n : ℕ). ReadTurn n c.frame_raw.new.self c.read_wire.new.self (g.W.Wire.past c.args.wire.now) (g.W.Wire.past c.read_wire.new.wire) c.read_wire.new.out c.read_wire.result) c.frame_raw.auto.out c.read_wire.ensures.turn)

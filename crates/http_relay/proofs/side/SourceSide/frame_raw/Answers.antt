@@ -1,4 +1,4 @@
-use Rattle.std.proofs.Common.{List, ℕ, take, length, length-drop, refl, ap, subst, arith}
+use Rattle.std.proofs.Common.{false, List, ℕ, take, length, length-drop, refl, ap, subst, arith}
 use Rattle.trace_core.specs.Turns.{in_sum}
 use Rattle.http_relay.specs.Source.{BodyReads}
 use Rattle.http_relay.specs.declared.side.SourceSide.{SourceSide}
@@ -8,9 +8,9 @@ use Rattle.http_relay.proofs.side.SourceSide.frame_raw.Goals as goal
 pub returns-in-Ok-clause-reads : goal.returns-in-Ok-clause-reads
 returns-in-Ok-clause-reads c =
     let new : SourceSide = record { alloc = c.args.self.now.alloc; asks = c.args.self.now.asks; head = c.args.self.now.head; head_fault = c.args.self.now.head_fault; body = c.frame.new.self; raw = c.advance.new.self; judged = c.args.self.now.judged; fault = c.args.self.now.fault } in
-    framed_raw c.args.self.now new c.in-Ok.framed.events.items c.in-Ok.framed.used (take (in_sum c.in-Ok.framed.events.items) c.frame.new.out)
+    framed_raw c.args.self.now new c.in-Ok.framed.events.items c.in-Ok.framed.used (take (in_sum c.in-Ok.framed.events.items) c.frame.new.out) false
     (record { asks = refl; head = refl; way = c.in-Ok.ensures.framing })
-    (subst (λ (t : List ℕ). BodyReads c.args.self.now.body c.frame.new.self c.in-Ok.framed.events.items (take c.in-Ok.framed.used t) (take (in_sum c.in-Ok.framed.events.items) c.frame.new.out)) c.as_slice.ensures c.in-Ok.ensures.reads)
+    (subst (λ (t : List ℕ). BodyReads c.args.self.now.body c.frame.new.self c.in-Ok.framed.events.items (take c.in-Ok.framed.used t) (take (in_sum c.in-Ok.framed.events.items) c.frame.new.out) false) c.as_slice.ensures c.in-Ok.ensures.reads)
     c.advance.ensures.items
 
 pub returns-in-Ok-clause-kept : goal.returns-in-Ok-clause-kept

@@ -18,4 +18,4 @@ returns-clause-turn g c =
 pub returns-clause-reason : goal.returns-clause-reason
 returns-clause-reason g c = λ none fault e.
     let t = c.write_turn.ensures.turn in
-    fails_giving (seen c.args.state.now.plan c.args.state.now.events) c.args.self.now c.write_turn.new.self t.answer c.write_turn.result (t.fits none) t.goes_on.framing fault e
+    fails_giving (seen c.args.state.now.plan c.args.state.now.events) c.args.self.now c.write_turn.new.self t.answer c.write_turn.result (t.fits none) t.goes_on.framing t.goes_on.gift fault e
