@@ -13,6 +13,7 @@ use Rattle.wire_kit.specs.Past.{Past}
 use Rattle.adapt_sides.specs.declared.fault.ClientFault.{ClientFault}
 use Rattle.adapt_sides.specs.declared.fault.RelayFault.{RelayFault}
 use Rattle.adapt_sides.specs.Tapes.{chosen}
+use Rattle.adapt_sides.specs.Turns.{Given, given_then}
 use Rattle.adapt_hold.specs.Spans.{EndsBody}
 use Rattle.adapt_hold.specs.Holding.{Holding, IsTied, IsRoomy, shows, moved}
 use Rattle.adapt_hold.specs.Steps.{MayRun, moved_all}
@@ -26,9 +27,9 @@ use Rattle.adapt_turn.proofs.Told.{never_done, done_reported}
 use Rattle.adapt_turn.proofs.Carry.{off_source, off_sending, off_replies, off_hop, source_off, sending_off, replies_off, hop_off, all_then, none_original, none_adapted, carry, carry_body, KeepsChosen, carry_chosen, own_then, own_source, own_replies, same_choices}
 
 -- what the sides say of events that aren't theirs
-pub record Others (agrees : Seen → Type 0) (read : Seen → List ℕ → List ℕ → Type 0) (sent : List ℕ → Seen → List ℕ → List ℕ → Type 0) (heard : Seen → List ℕ → List ℕ → Type 0) (hops : Seen → List ℕ → List ℕ → List ℕ → Type 0) (refuses : Seen → Type 0) : Type 0 where
+pub record Others (agrees : Seen → Type 0) (read : Seen → List ℕ → Given → Type 0) (sent : List ℕ → Seen → List ℕ → List ℕ → Type 0) (heard : Seen → List ℕ → List ℕ → Type 0) (hops : Seen → List ℕ → List ℕ → List ℕ → Type 0) (refuses : Seen → Type 0) : Type 0 where
   pub agrees_on : (x : Seen) (event : Event) → off_source event ≡ true → agrees x → agrees (after x event)
-  pub read_on : (x : Seen) (event : Event) (body text : List ℕ) → off_source event ≡ true → read x body text → read (after x event) body text
+  pub read_on : (x : Seen) (event : Event) (body : List ℕ) (text : Given) → off_source event ≡ true → read x body text → read (after x event) body text
   pub sent_on : (request : List ℕ) (x : Seen) (event : Event) (came bytes taken : List ℕ) → off_sending event ≡ true → length came ≡ x.received → length bytes ≡ in_bytes event
       → sent request x came taken → sent request (after x event) (came ++ bytes) taken
   pub heard_on : (x : Seen) (event : Event) (adapted text : List ℕ) → off_replies event ≡ true → heard x adapted text → heard (after x event) adapted text
@@ -40,7 +41,7 @@ carry_any P keep [] x p = p
 carry_any P keep (event ∷ events) x p = carry_any P keep events (after x event) (keep x event p)
 
 -- What stands once these events are stepped.
-record Then (x : Seen) (events : List Event) (out original adapted : List ℕ) (agrees : Seen → Type 0) (read : Seen → List ℕ → List ℕ → Type 0) (sent : List ℕ → Seen → List ℕ → List ℕ → Type 0) (heard : Seen → List ℕ → List ℕ → Type 0)
+record Then (x : Seen) (events : List Event) (out original adapted : List ℕ) (agrees : Seen → Type 0) (read : Seen → List ℕ → Given → Type 0) (sent : List ℕ → Seen → List ℕ → List ℕ → Type 0) (heard : Seen → List ℕ → List ℕ → Type 0)
     (hops : Seen → List ℕ → List ℕ → List ℕ → Type 0) (request : List ℕ) (t : Texts) : Type 0 where
   agrees_is : (after_all x events).closed ≡ false → agrees (after_all x events)
   read_is : read (after_all x events) (original ++ all_original events out) t.source_read
@@ -48,7 +49,7 @@ record Then (x : Seen) (events : List Event) (out original adapted : List ℕ) (
   heard_is : heard (after_all x events) (adapted ++ all_adapted events out) t.service_read
   hops_are : hops (after_all x events) (chosen (after_all x events) (original ++ all_original events out) (adapted ++ all_adapted events out)) t.next_taken t.back_taken
 
-assemble : (h k : Holding) (events : List Event) (out original adapted : List ℕ) (agrees : Seen → Type 0) (read : Seen → List ℕ → List ℕ → Type 0) (sent : List ℕ → Seen → List ℕ → List ℕ → Type 0) (heard : Seen → List ℕ → List ℕ → Type 0)
+assemble : (h k : Holding) (events : List Event) (out original adapted : List ℕ) (agrees : Seen → Type 0) (read : Seen → List ℕ → Given → Type 0) (sent : List ℕ → Seen → List ℕ → List ℕ → Type 0) (heard : Seen → List ℕ → List ℕ → Type 0)
     (hops : Seen → List ℕ → List ℕ → List ℕ → Type 0) (refuses : Seen → Type 0) (delivered : List ℕ → List ℕ → List ℕ → Type 0) (request : List ℕ) (t : Texts)
     → Ran h events out → k ≡ moved_all h events out → EndsBody h.original original → EndsBody h.adapted adapted
     → Then (shows h.history) events out original adapted agrees read sent heard hops request t → refuses (after_all (shows h.history) events)
@@ -73,8 +74,8 @@ assemble h k events out original adapted agrees read sent heard hops refuses del
 
 -- a relation of the source, or of what the service read, behind events that bring its body nothing
 
-read_kept : (read : Seen → List ℕ → List ℕ → Type 0) (x : Seen) (events : List Event) (out body text : List ℕ)
-    → ((y : Seen) (event : Event) (bs cs : List ℕ) → off_source event ≡ true → read y bs cs → read (after y event) bs cs)
+read_kept : (read : Seen → List ℕ → Given → Type 0) (x : Seen) (events : List Event) (out body : List ℕ) (text : Given)
+    → ((y : Seen) (event : Event) (bs : List ℕ) (cs : Given) → off_source event ≡ true → read y bs cs → read (after y event) bs cs)
     → AllAre off_source events → read x body text → read (after_all x events) (body ++ all_original events out) text
 read_kept read x events out body text law o p =
     subst (λ (bs : List ℕ). read (after_all x events) bs text) (sym (ap (λ (bs : List ℕ). body ++ bs) (none_original events out o) ∙ append-nil body))
@@ -111,20 +112,20 @@ hops_kept hops h events out original adapted next back law t o m l p =
 
 -- The source's pass.
 
-pub source_stands : (h k : Holding) (ao an : Seen → Type 0) (ro rn : Seen → List ℕ → List ℕ → Type 0) (sent : List ℕ → Seen → List ℕ → List ℕ → Type 0) (heard : Seen → List ℕ → List ℕ → Type 0) (hops : Seen → List ℕ → List ℕ → List ℕ → Type 0) (refuses : Seen → Type 0) (delivered : List ℕ → List ℕ → List ℕ → Type 0)
-    (f0 f1 : Option RelayFault) (rests framed : Type 0) (before after_ : Past → Type 0) (passed : Passed) (request : List ℕ) (t : Texts)
-    → Others an rn sent heard hops refuses → IsTied h → (shows h.history).closed ≡ false → (d : SourcePart h k ro rn an f0 f1 rests framed before after_ passed)
-    → Stands h ao ro sent heard hops refuses delivered request t → Stands k an rn sent heard hops refuses delivered request (record t { source_read = t.source_read ++ d.delta })
-source_stands h k ao an ro rn sent heard hops refuses delivered f0 f1 rests framed before after_ passed request t u tied c d s =
+pub source_stands : (h k : Holding) (ao an : Seen → Type 0) (ro rn : Seen → List ℕ → Given → Type 0) (sent : List ℕ → Seen → List ℕ → List ℕ → Type 0) (heard : Seen → List ℕ → List ℕ → Type 0) (hops : Seen → List ℕ → List ℕ → List ℕ → Type 0) (refuses : Seen → Type 0) (delivered : List ℕ → List ℕ → List ℕ → Type 0)
+    (f0 f1 : Option RelayFault) (rests framed over : Type 0) (before after_ : Past → Type 0) (passed : Passed) (request : List ℕ) (t : Texts)
+    → Others an rn sent heard hops refuses → IsTied h → (shows h.history).closed ≡ false → (d : SourcePart h k ro rn an f0 f1 rests framed over before after_ passed)
+    → Stands h ao ro sent heard hops refuses delivered request t → Stands k an rn sent heard hops refuses delivered request (record t { source_read = given_then t.source_read d.delta })
+source_stands h k ao an ro rn sent heard hops refuses delivered f0 f1 rests framed over before after_ passed request t u tied c d s =
     let x = shows h.history in
     let events = stepped passed.failed d.reported in
     let l = lengths h s.original s.adapted tied s.original_is s.adapted_is in
     let o = d.part.only in
     let m = d.part.runs in
-    assemble h k events d.out s.original s.adapted an rn sent heard hops refuses delivered request (record t { source_read = t.source_read ++ d.delta })
+    assemble h k events d.out s.original s.adapted an rn sent heard hops refuses delivered request (record t { source_read = given_then t.source_read d.delta })
     (part_ran _ _ h k is_of_source d.reported d.out _ _ _ _ _ _ _ _ _ passed tied d.part) d.part.is s.original_is s.adapted_is (record {
       agrees_is = λ c. own_then an x passed.failed d.reported (λ cause a. u.agrees_on x (Fail cause) refl a) d.part.quiet d.agrees;
-      read_is = own_source (λ y bs. rn y bs (t.source_read ++ d.delta)) x passed.failed d.reported d.out s.original (λ cause bs p. u.read_on x (Fail cause) bs (t.source_read ++ d.delta) refl p) o d.part.quiet
+      read_is = own_source (λ y bs. rn y bs (given_then t.source_read d.delta)) x passed.failed d.reported d.out s.original (λ cause bs p. u.read_on x (Fail cause) bs (given_then t.source_read d.delta) refl p) o d.part.quiet
           (d.goes_on s.original t.source_read s.read_is);
       sent_is = sent_kept (sent request) h events d.out s.original s.adapted t.service_taken (u.sent_on request) (all_then is_of_source off_sending (λ event q. (source_off event q).0) (λ cause. refl) passed.failed d.reported o) m l s.sent_is;
       heard_is = heard_kept heard x events d.out s.adapted t.service_read u.heard_on (all_then is_of_source off_replies (λ event q. (source_off event q).1) (λ cause. refl) passed.failed d.reported o) s.heard_is;
@@ -135,7 +136,7 @@ source_stands h k ao an ro rn sent heard hops refuses delivered f0 f1 rests fram
 
 -- The service's pass that writes.
 
-pub send_stands : (h k : Holding) (agrees : Seen → Type 0) (read : Seen → List ℕ → List ℕ → Type 0) (so sn : List ℕ → Seen → List ℕ → List ℕ → Type 0) (ho hn : Seen → List ℕ → List ℕ → Type 0) (hops : Seen → List ℕ → List ℕ → List ℕ → Type 0) (refuses : Seen → Type 0) (delivered : List ℕ → List ℕ → List ℕ → Type 0)
+pub send_stands : (h k : Holding) (agrees : Seen → Type 0) (read : Seen → List ℕ → Given → Type 0) (so sn : List ℕ → Seen → List ℕ → List ℕ → Type 0) (ho hn : Seen → List ℕ → List ℕ → Type 0) (hops : Seen → List ℕ → List ℕ → List ℕ → Type 0) (refuses : Seen → Type 0) (delivered : List ℕ → List ℕ → List ℕ → Type 0)
     (f0 f1 : Option ClientFault) (rests : Type 0) (before after_ : Past → Type 0) (passed : Passed) (request : List ℕ) (t : Texts)
     → Others agrees read sn hn hops refuses → ((x : Seen) (adapted text : List ℕ) → ho x adapted text → hn x adapted text) → IsTied h
     → (shows h.history).closed ≡ false → (d : SendPart h k so sn f0 f1 rests before after_ passed)
@@ -165,7 +166,7 @@ send_stands h k agrees read so sn ho hn hops refuses delivered f0 f1 rests befor
 
 -- The service's pass that reads.
 
-pub hear_stands : (h k : Holding) (agrees : Seen → Type 0) (read : Seen → List ℕ → List ℕ → Type 0) (so sn : List ℕ → Seen → List ℕ → List ℕ → Type 0) (ho hn : Seen → List ℕ → List ℕ → Type 0) (hops : Seen → List ℕ → List ℕ → List ℕ → Type 0) (refuses : Seen → Type 0) (delivered : List ℕ → List ℕ → List ℕ → Type 0)
+pub hear_stands : (h k : Holding) (agrees : Seen → Type 0) (read : Seen → List ℕ → Given → Type 0) (so sn : List ℕ → Seen → List ℕ → List ℕ → Type 0) (ho hn : Seen → List ℕ → List ℕ → Type 0) (hops : Seen → List ℕ → List ℕ → List ℕ → Type 0) (refuses : Seen → Type 0) (delivered : List ℕ → List ℕ → List ℕ → Type 0)
     (f0 f1 : Option ClientFault) (rests framed : Type 0) (before after_ : Past → Type 0) (passed : Passed) (request : List ℕ) (t : Texts)
     → Others agrees read sn hn hops refuses → ((heads came text : List ℕ) → so heads (shows h.history) came text → sn heads (shows h.history) came text) → IsTied h
     → (shows h.history).closed ≡ false → (d : HearPart h k ho hn f0 f1 rests framed before after_ passed)
@@ -202,7 +203,7 @@ fail_hops hops h original adapted next back cause law t c l p =
     (subst (λ (bs : List ℕ). hops x (chosen x (original ++ []) bs) next back) (append-nil adapted)
     (law h.history.plan h.history.events (Fail cause) original adapted [] [] ((c, tt), t.legal) refl l.original_is l.adapted_is refl refl p))
 
-pub give_stands : (h k : Holding) (agrees : Seen → Type 0) (read : Seen → List ℕ → List ℕ → Type 0) (sent : List ℕ → Seen → List ℕ → List ℕ → Type 0) (heard : Seen → List ℕ → List ℕ → Type 0) (hopso hopsn : Seen → List ℕ → List ℕ → List ℕ → Type 0) (refuses : Seen → Type 0) (before_done delivered : List ℕ → List ℕ → List ℕ → Type 0)
+pub give_stands : (h k : Holding) (agrees : Seen → Type 0) (read : Seen → List ℕ → Given → Type 0) (sent : List ℕ → Seen → List ℕ → List ℕ → Type 0) (heard : Seen → List ℕ → List ℕ → Type 0) (hopso hopsn : Seen → List ℕ → List ℕ → List ℕ → Type 0) (refuses : Seen → Type 0) (before_done delivered : List ℕ → List ℕ → List ℕ → Type 0)
     (go gn : Seen → List ℕ → List ℕ → List ℕ → Type 0) (whole : List ℕ → List ℕ → List ℕ → Type 0) (f0 f1 : Option RelayFault) (rests : Type 0) (before after_ : Past → Type 0) (passed : Passed) (request : List ℕ) (t t' : Texts)
     → Others agrees read sent heard hopsn refuses → IsTied h → (shows h.history).closed ≡ false → (d : HopPart h k go gn whole f0 f1 rests before after_ passed)
     → (t'.source_read ≡ t.source_read) → (t'.service_taken ≡ t.service_taken) → (t'.service_read ≡ t.service_read)
@@ -228,7 +229,7 @@ give_stands h k agrees read sent heard hopso hopsn refuses before_done delivered
     assemble h k events [] s.original s.adapted agrees read sent heard hopsn refuses delivered request t'
     (part_ran _ _ h k is_of_hop d.reported [] _ _ _ _ _ _ _ _ _ passed tied d.part) d.part.is s.original_is s.adapted_is (record {
       agrees_is = λ w. carry agrees off_source u.agrees_on events x os (s.agrees_is c);
-      read_is = subst (λ (bs : List ℕ). read (after_all x events) (s.original ++ all_original events []) bs) (sym e1) (read_kept read x events [] s.original t.source_read u.read_on os s.read_is);
+      read_is = subst (λ (bs : Given). read (after_all x events) (s.original ++ all_original events []) bs) (sym e1) (read_kept read x events [] s.original t.source_read u.read_on os s.read_is);
       sent_is = subst (λ (bs : List ℕ). sent request (after_all x events) (s.original ++ all_original events []) bs) (sym e2)
           (sent_kept (sent request) h events [] s.original s.adapted t.service_taken (u.sent_on request) (all_then is_of_hop off_sending (λ event q. (hop_off event q).1) (λ cause. refl) passed.failed d.reported o) m l s.sent_is);
       heard_is = subst (λ (bs : List ℕ). heard (after_all x events) (s.adapted ++ all_adapted events []) bs) (sym e3) (heard_kept heard x events [] s.adapted t.service_read u.heard_on oa s.heard_is);
@@ -243,7 +244,7 @@ give_stands h k agrees read sent heard hopso hopsn refuses before_done delivered
 
 -- A failure, and a new beginning, of which every side keeps what it says.
 
-pub fail_stands : (h k : Holding) (cause : Cause) (agrees : Seen → Type 0) (read : Seen → List ℕ → List ℕ → Type 0) (sent : List ℕ → Seen → List ℕ → List ℕ → Type 0) (heard : Seen → List ℕ → List ℕ → Type 0) (hops : Seen → List ℕ → List ℕ → List ℕ → Type 0) (refuses : Seen → Type 0) (delivered : List ℕ → List ℕ → List ℕ → Type 0) (request : List ℕ) (t : Texts)
+pub fail_stands : (h k : Holding) (cause : Cause) (agrees : Seen → Type 0) (read : Seen → List ℕ → Given → Type 0) (sent : List ℕ → Seen → List ℕ → List ℕ → Type 0) (heard : Seen → List ℕ → List ℕ → Type 0) (hops : Seen → List ℕ → List ℕ → List ℕ → Type 0) (refuses : Seen → Type 0) (delivered : List ℕ → List ℕ → List ℕ → Type 0) (request : List ℕ) (t : Texts)
     → Others agrees read sent heard hops refuses → IsTied h → MayRun h (Fail cause ∷ []) [] → (shows h.history).closed ≡ false → k ≡ moved h (Fail cause) []
     → Stands h agrees read sent heard hops refuses delivered request t → Stands k agrees read sent heard hops refuses delivered request t
 fail_stands h k cause agrees read sent heard hops refuses delivered request t u tied m c is s =
@@ -261,7 +262,7 @@ fail_stands h k cause agrees read sent heard hops refuses delivered request t u 
     (λ n. absurd (never_done h events [] c m.may (ran h events [] tied m.roomy m.may m.carried m.room) (refl, tt) n))
 
 -- The request begins anew: of the replies nothing was read, and nothing of the request is taken yet.
-pub retry_stands : (h k : Holding) (agrees : Seen → Type 0) (read : Seen → List ℕ → List ℕ → Type 0) (so sn : List ℕ → Seen → List ℕ → List ℕ → Type 0) (ho hn : Seen → List ℕ → List ℕ → Type 0) (hops : Seen → List ℕ → List ℕ → List ℕ → Type 0) (refuses : Seen → Type 0) (delivered : List ℕ → List ℕ → List ℕ → Type 0) (request : List ℕ) (t : Texts)
+pub retry_stands : (h k : Holding) (agrees : Seen → Type 0) (read : Seen → List ℕ → Given → Type 0) (so sn : List ℕ → Seen → List ℕ → List ℕ → Type 0) (ho hn : Seen → List ℕ → List ℕ → Type 0) (hops : Seen → List ℕ → List ℕ → List ℕ → Type 0) (refuses : Seen → Type 0) (delivered : List ℕ → List ℕ → List ℕ → Type 0) (request : List ℕ) (t : Texts)
     → Others agrees read sn hn hops refuses → IsTied h → IsRoomy h → MayFollow h.history.plan h.history.events Retry → k ≡ moved h Retry []
     → ((heads came taken adapted text : List ℕ) → (shows h.history).closed ≡ false → Allows (shows h.history) Retry → length came ≡ (shows h.history).received → so heads (shows h.history) came taken → ho (shows h.history) adapted text → sn heads (after (shows h.history) Retry) came [])
     → ((heads came taken adapted text : List ℕ) → (shows h.history).closed ≡ false → Allows (shows h.history) Retry → length came ≡ (shows h.history).received → so heads (shows h.history) came taken → ho (shows h.history) adapted text → hn (after (shows h.history) Retry) [] [])

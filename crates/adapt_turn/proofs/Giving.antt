@@ -11,7 +11,7 @@ use Rattle.trace_core.specs.Turns.{after_all, MayAllFollow, is_of_hop}
 use Rattle.wire_kit.specs.Past.{Past}
 use Rattle.adapt_sides.specs.declared.fault.RelayFault.{RelayFault}
 use Rattle.adapt_sides.specs.Tapes.{chosen}
-use Rattle.adapt_sides.specs.Turns.{Gift}
+use Rattle.adapt_sides.specs.Turns.{Gift, Given}
 use Rattle.adapt_sides.specs.Turns.Gift.{nothing, message, refusal}
 use Rattle.adapt_hold.specs.Holding.{Holding, IsTied, shows}
 use Rattle.adapt_turn.specs.declared.parts.Passed.{Passed}
@@ -22,7 +22,7 @@ use Rattle.adapt_turn.proofs.Advance.{Others, give_stands}
 use Rattle.adapt_turn.proofs.Stepped.{part_shows}
 use Rattle.adapt_turn.proofs.Made.{KeepsMade, made_all}
 use Rattle.adapt_turn.proofs.Hops.{next_gives, back_gives, next_whole, back_whole, next_begins, back_begins, BeginsWith, next_refuses, back_refuses, next_refuses_on, back_refuses_on, other_of_next, other_of_back, other_at_respmod, other_at_reqmod}
-use Rattle.adapt_turn.proofs.Together.{goes_still, of_five, still, rehop}
+use Rattle.adapt_turn.proofs.Together.{goes_still, of_five, no_given, given_still, still, still_source, rehop}
 
 -- What a writer did to a message whose head is a made one.
 
@@ -53,16 +53,16 @@ with_heads h k mo mn go gn whole f0 f1 rests before after_ passed tied same keep
 
 -- More of a message goes out.
 
-pub next_goes : (h k : Holding) (agrees : Seen → Type 0) (read : Seen → List ℕ → List ℕ → Type 0) (sent : List ℕ → Seen → List ℕ → List ℕ → Type 0) (heard : Seen → List ℕ → List ℕ → Type 0) (ng ng' bg : Gift) (go gn bgiven : Seen → List ℕ → List ℕ → List ℕ → Type 0) (ao an baside : List ℕ → Type 0) (refusing : Bool)
+pub next_goes : (h k : Holding) (agrees : Seen → Type 0) (read : Seen → List ℕ → Given → Type 0) (sent : List ℕ → Seen → List ℕ → List ℕ → Type 0) (heard : Seen → List ℕ → List ℕ → Type 0) (ng ng' bg : Gift) (go gn bgiven : Seen → List ℕ → List ℕ → List ℕ → Type 0) (ao an baside : List ℕ → Type 0) (refusing : Bool)
     (whole bwhole before_done : List ℕ → List ℕ → List ℕ → Type 0) (f0 f1 : Option RelayFault) (rests : Type 0) (source service before after_ : Past → Type 0) (passed : Passed)
     → Others agrees read sent heard (HopsAre ng' bg gn an bgiven baside) (IsRefusing refusing ng' bg) → IsTied h → (shows h.history).closed ≡ false → bg ≡ nothing → (ng ≡ nothing → ⊥) → ng' ≡ ng
     → HopPart h k go gn whole f0 f1 rests before after_ passed
     → Goes (Stands h agrees read sent heard (HopsAre ng bg go ao bgiven baside) (IsRefusing refusing ng bg) before_done) (Stands k agrees read sent heard (HopsAre ng' bg gn an bgiven baside) (IsRefusing refusing ng' bg) (IsDelivered refusing ng' bg whole an bwhole baside))
     source source service service before after_
 next_goes h k agrees read sent heard ng ng' bg go gn bgiven ao an baside refusing whole bwhole before_done f0 f1 rests source service before after_ passed u tied c idle busy same d = record {
-  delta = record { source_read = []; service_read = []; service_taken = []; next_taken = d.delta; back_taken = [] };
+  delta = record { source_read = no_given; service_read = []; service_taken = []; next_taken = d.delta; back_taken = [] };
   stands = λ request t o. of_five (Stands k agrees read sent heard (HopsAre ng' bg gn an bgiven baside) (IsRefusing refusing ng' bg) (IsDelivered refusing ng' bg whole an bwhole baside) request) _ _ _ _ _ _ _ _ _ _
-      (sym (append-nil t.source_read)) (sym (append-nil t.service_read)) (sym (append-nil t.service_taken)) refl (sym (append-nil t.back_taken))
+      (given_still t.source_read) (sym (append-nil t.service_read)) (sym (append-nil t.service_taken)) refl (sym (append-nil t.back_taken))
       (give_stands h k agrees read sent heard (HopsAre ng bg go ao bgiven baside) (HopsAre ng' bg gn an bgiven baside) (IsRefusing refusing ng' bg) before_done (IsDelivered refusing ng' bg whole an bwhole baside) go gn whole f0 f1 rests before after_ passed request t (record t { next_taken = t.next_taken ++ d.delta })
       u tied c d refl refl refl
       (λ original adapted f g p. next_gives ng ng' bg go gn bgiven ao an baside (shows h.history) (after_all (shows h.history) d.reported) (chosen (shows h.history) original adapted) t.next_taken t.back_taken d.delta c idle busy same
@@ -71,21 +71,21 @@ next_goes h k agrees read sent heard ng ng' bg go gn bgiven ao an baside refusin
       (λ head taken q. d.done original adapted head taken f g w q) p)
       (rehop h agrees read sent heard (HopsAre ng bg go ao bgiven baside) (HopsAre ng bg go ao bgiven baside) (IsRefusing refusing ng bg) (IsRefusing refusing ng' bg) before_done before_done request t t.next_taken t.back_taken (λ body p. p)
       (λ r. subst (λ (z : Gift). IsRefusing refusing z bg (shows h.history)) (sym same) r) (λ w body p. p) o));
-  source = λ p b. still source p b;
+  source = λ p b. still_source source p b;
   service = λ p b. still service p b;
   next = λ p b. let w = d.part.wire p b in (w.0, w.1, w.2);
 }
 
-pub back_goes : (h k : Holding) (agrees : Seen → Type 0) (read : Seen → List ℕ → List ℕ → Type 0) (sent : List ℕ → Seen → List ℕ → List ℕ → Type 0) (heard : Seen → List ℕ → List ℕ → Type 0) (ng bg bg' : Gift) (go gn ngiven : Seen → List ℕ → List ℕ → List ℕ → Type 0) (ao an naside : List ℕ → Type 0) (refusing : Bool)
+pub back_goes : (h k : Holding) (agrees : Seen → Type 0) (read : Seen → List ℕ → Given → Type 0) (sent : List ℕ → Seen → List ℕ → List ℕ → Type 0) (heard : Seen → List ℕ → List ℕ → Type 0) (ng bg bg' : Gift) (go gn ngiven : Seen → List ℕ → List ℕ → List ℕ → Type 0) (ao an naside : List ℕ → Type 0) (refusing : Bool)
     (whole nwhole before_done : List ℕ → List ℕ → List ℕ → Type 0) (f0 f1 : Option RelayFault) (rests : Type 0) (before after_ service next : Past → Type 0) (passed : Passed)
     → Others agrees read sent heard (HopsAre ng bg' ngiven naside gn an) (IsRefusing refusing ng bg') → IsTied h → (shows h.history).closed ≡ false → (bg ≡ nothing → ⊥) → bg' ≡ bg
     → HopPart h k go gn whole f0 f1 rests before after_ passed
     → Goes (Stands h agrees read sent heard (HopsAre ng bg ngiven naside go ao) (IsRefusing refusing ng bg) before_done) (Stands k agrees read sent heard (HopsAre ng bg' ngiven naside gn an) (IsRefusing refusing ng bg') (IsDelivered refusing ng bg' nwhole naside whole an))
     before after_ service service next next
 back_goes h k agrees read sent heard ng bg bg' go gn ngiven ao an naside refusing whole nwhole before_done f0 f1 rests before after_ service next passed u tied c busy same d = record {
-  delta = record { source_read = []; service_read = []; service_taken = []; next_taken = []; back_taken = d.delta };
+  delta = record { source_read = no_given; service_read = []; service_taken = []; next_taken = []; back_taken = d.delta };
   stands = λ request t o. of_five (Stands k agrees read sent heard (HopsAre ng bg' ngiven naside gn an) (IsRefusing refusing ng bg') (IsDelivered refusing ng bg' nwhole naside whole an) request) _ _ _ _ _ _ _ _ _ _
-      (sym (append-nil t.source_read)) (sym (append-nil t.service_read)) (sym (append-nil t.service_taken)) (sym (append-nil t.next_taken)) refl
+      (given_still t.source_read) (sym (append-nil t.service_read)) (sym (append-nil t.service_taken)) (sym (append-nil t.next_taken)) refl
       (give_stands h k agrees read sent heard (HopsAre ng bg ngiven naside go ao) (HopsAre ng bg' ngiven naside gn an) (IsRefusing refusing ng bg') before_done (IsDelivered refusing ng bg' nwhole naside whole an) go gn whole f0 f1 rests before after_ passed request t (record t { back_taken = t.back_taken ++ d.delta })
       u tied c d refl refl refl
       (λ original adapted f g p. back_gives ng bg bg' go gn ngiven ao an naside (shows h.history) (after_all (shows h.history) d.reported) (chosen (shows h.history) original adapted) t.next_taken t.back_taken d.delta c busy same
@@ -94,7 +94,7 @@ back_goes h k agrees read sent heard ng bg bg' go gn ngiven ao an naside refusin
       (λ head taken q. d.done original adapted head taken f g w q) p)
       (rehop h agrees read sent heard (HopsAre ng bg ngiven naside go ao) (HopsAre ng bg ngiven naside go ao) (IsRefusing refusing ng bg) (IsRefusing refusing ng bg') before_done before_done request t t.next_taken t.back_taken (λ body p. p)
       (λ r. subst (λ (z : Gift). IsRefusing refusing ng z (shows h.history)) (sym same) r) (λ w body p. p) o));
-  source = λ p b. let w = d.part.wire p b in (w.0, w.1, w.2);
+  source = λ p b. let w = d.part.wire p b in (w.0, w.1, w.2, λ e. cc);
   service = λ p b. still service p b;
   next = λ p b. still next p b;
 }
@@ -117,7 +117,7 @@ next_open refusing ng ng' bg x c m r = (λ e. absurd (false≢true (sym c ∙ (r
 back_open : (refusing : Bool) (ng bg bg' : Gift) (x : Seen) → x.closed ≡ false → (x.plan.point ≡ Respmod → ⊥) → bg' ≡ message → IsRefusing refusing ng bg x → IsRefusing refusing ng bg' x
 back_open refusing ng bg bg' x c p m r = (λ e. absurd (false≢true (sym c ∙ (r.0 e).0)), other_of_back x.plan.point ng bg bg' m r.1, λ q w. absurd (p q))
 
-pub next_begin_goes : (h : Holding) (agrees : Seen → Type 0) (read : Seen → List ℕ → List ℕ → Type 0) (sent : List ℕ → Seen → List ℕ → List ℕ → Type 0) (heard : Seen → List ℕ → List ℕ → Type 0) (ng ng' bg : Gift) (go gn bgo bgn : Seen → List ℕ → List ℕ → List ℕ → Type 0) (ao an baside : List ℕ → Type 0) (refusing : Bool) (done done' : List ℕ → List ℕ → List ℕ → Type 0) (head : List ℕ) (source service next : Past → Type 0)
+pub next_begin_goes : (h : Holding) (agrees : Seen → Type 0) (read : Seen → List ℕ → Given → Type 0) (sent : List ℕ → Seen → List ℕ → List ℕ → Type 0) (heard : Seen → List ℕ → List ℕ → Type 0) (ng ng' bg : Gift) (go gn bgo bgn : Seen → List ℕ → List ℕ → List ℕ → Type 0) (ao an baside : List ℕ → Type 0) (refusing : Bool) (done done' : List ℕ → List ℕ → List ℕ → Type 0) (head : List ℕ) (source service next : Past → Type 0)
     → (shows h.history).closed ≡ false → ng ≡ nothing → bg ≡ nothing → ng' ≡ message → BeginsWith (shows h.history) head ao gn
     → Goes (Stands h agrees read sent heard (HopsAre ng bg go ao bgo baside) (IsRefusing refusing ng bg) done) (Stands h agrees read sent heard (HopsAre ng' bg gn an bgn baside) (IsRefusing refusing ng' bg) done')
     source source service service next next
@@ -126,7 +126,7 @@ next_begin_goes h agrees read sent heard ng ng' bg go gn bgo bgn ao an baside re
     (λ body p. next_begins ng ng' bg go gn bgo bgn ao an baside (shows h.history) head body t.next_taken t.back_taken c n b m begin p)
     (next_open refusing ng ng' bg (shows h.history) c m) (λ w body p. absurd (false≢true (sym c ∙ w.0))) o)
 
-pub back_begin_goes : (h : Holding) (agrees : Seen → Type 0) (read : Seen → List ℕ → List ℕ → Type 0) (sent : List ℕ → Seen → List ℕ → List ℕ → Type 0) (heard : Seen → List ℕ → List ℕ → Type 0) (ng bg bg' : Gift) (go gn ngo ngn : Seen → List ℕ → List ℕ → List ℕ → Type 0) (ao an naside : List ℕ → Type 0) (refusing : Bool) (done done' : List ℕ → List ℕ → List ℕ → Type 0) (head : List ℕ) (source service next : Past → Type 0)
+pub back_begin_goes : (h : Holding) (agrees : Seen → Type 0) (read : Seen → List ℕ → Given → Type 0) (sent : List ℕ → Seen → List ℕ → List ℕ → Type 0) (heard : Seen → List ℕ → List ℕ → Type 0) (ng bg bg' : Gift) (go gn ngo ngn : Seen → List ℕ → List ℕ → List ℕ → Type 0) (ao an naside : List ℕ → Type 0) (refusing : Bool) (done done' : List ℕ → List ℕ → List ℕ → Type 0) (head : List ℕ) (source service next : Past → Type 0)
     → (shows h.history).closed ≡ false → ((shows h.history).plan.point ≡ Respmod → ⊥) → ng ≡ nothing → bg ≡ nothing → bg' ≡ message → BeginsWith (shows h.history) head ao gn
     → Goes (Stands h agrees read sent heard (HopsAre ng bg ngo naside go ao) (IsRefusing refusing ng bg) done) (Stands h agrees read sent heard (HopsAre ng bg' ngn naside gn an) (IsRefusing refusing ng bg') done')
     source source service service next next
@@ -141,7 +141,7 @@ refusal_no_message : (g : Gift) (status : ℕ) → g ≡ refusal status → g �
 refusal_no_message g status e f = let d : refusal status ≡ message = sym e ∙ f in absurd cc
 
 pub next_refuse_goes : {K : Type 0} (given : Seen → List ℕ → List ℕ → List ℕ → K → Type 0) (aside : List ℕ → K → Type 0) (gift : K → Gift) (untouched : K → Bool)
-    (h : Holding) (agrees : Seen → Type 0) (read : Seen → List ℕ → List ℕ → Type 0) (sent : List ℕ → Seen → List ℕ → List ℕ → Type 0) (heard : Seen → List ℕ → List ℕ → Type 0) (next next' back : K) (refusing r : Bool) (done done' : List ℕ → List ℕ → List ℕ → Type 0) (status : ℕ) (source service wire : Past → Type 0)
+    (h : Holding) (agrees : Seen → Type 0) (read : Seen → List ℕ → Given → Type 0) (sent : List ℕ → Seen → List ℕ → List ℕ → Type 0) (heard : Seen → List ℕ → List ℕ → Type 0) (next next' back : K) (refusing r : Bool) (done done' : List ℕ → List ℕ → List ℕ → Type 0) (status : ℕ) (source service wire : Past → Type 0)
     → ((x : Seen) (head body taken : List ℕ) (s : K) → untouched s ≡ true → given x head body taken s → (taken ≡ []) × (x.original_delivered ≡ 0) × (x.adapted_delivered ≡ 0))
     → ((taken : List ℕ) (s : K) → untouched s ≡ true → aside taken s → taken ≡ [])
     → (shows h.history).closed ≡ true → (IsDone h.history → ⊥) → (shows h.history).plan.point ≡ Respmod
@@ -161,7 +161,7 @@ next_refuse_goes {K} given aside gift untouched h agrees read sent heard next ne
     (rehop h agrees read sent heard _ _ (IsRefusing refusing (gift next) (gift back)) (IsRefusing false (gift next) (gift back)) done done' request t t.next_taken t.back_taken (λ body p. p) (λ r. (λ e. absurd (false≢true e), r.1, r.2)) (λ w body p. absurd (undone w)) o))
 
 pub back_refuse_goes : {K : Type 0} (given : Seen → List ℕ → List ℕ → List ℕ → K → Type 0) (aside : List ℕ → K → Type 0) (gift : K → Gift) (untouched : K → Bool)
-    (h : Holding) (agrees : Seen → Type 0) (read : Seen → List ℕ → List ℕ → Type 0) (sent : List ℕ → Seen → List ℕ → List ℕ → Type 0) (heard : Seen → List ℕ → List ℕ → Type 0) (next back back' : K) (refusing r : Bool) (done done' : List ℕ → List ℕ → List ℕ → Type 0) (status : ℕ) (source service wire : Past → Type 0)
+    (h : Holding) (agrees : Seen → Type 0) (read : Seen → List ℕ → Given → Type 0) (sent : List ℕ → Seen → List ℕ → List ℕ → Type 0) (heard : Seen → List ℕ → List ℕ → Type 0) (next back back' : K) (refusing r : Bool) (done done' : List ℕ → List ℕ → List ℕ → Type 0) (status : ℕ) (source service wire : Past → Type 0)
     → ((x : Seen) (head body taken : List ℕ) (s : K) → untouched s ≡ true → given x head body taken s → (taken ≡ []) × (x.original_delivered ≡ 0) × (x.adapted_delivered ≡ 0))
     → ((taken : List ℕ) (s : K) → untouched s ≡ true → aside taken s → taken ≡ [])
     → (shows h.history).closed ≡ true → (IsDone h.history → ⊥) → (shows h.history).plan.point ≡ Reqmod
@@ -185,36 +185,36 @@ back_refuse_goes {K} given aside gift untouched h agrees read sent heard next ba
 pub aside_still : (aside : List ℕ → Type 0) (wire : Past → Type 0) → TakesAside aside aside wire wire
 aside_still aside wire = record { delta = []; aside = λ taken a. subst aside (sym (append-nil taken)) a; wire = λ p b. still wire p b }
 
-pub next_refusal_goes : (h : Holding) (agrees : Seen → Type 0) (read : Seen → List ℕ → List ℕ → Type 0) (sent : List ℕ → Seen → List ℕ → List ℕ → Type 0) (heard : Seen → List ℕ → List ℕ → Type 0) (ng ng' bg : Gift) (go gn bgiven : Seen → List ℕ → List ℕ → List ℕ → Type 0) (ao an baside : List ℕ → Type 0) (refusing : Bool) (done done' : List ℕ → List ℕ → List ℕ → Type 0) (source service before after_ : Past → Type 0)
+pub next_refusal_goes : (h : Holding) (agrees : Seen → Type 0) (read : Seen → List ℕ → Given → Type 0) (sent : List ℕ → Seen → List ℕ → List ℕ → Type 0) (heard : Seen → List ℕ → List ℕ → Type 0) (ng ng' bg : Gift) (go gn bgiven : Seen → List ℕ → List ℕ → List ℕ → Type 0) (ao an baside : List ℕ → Type 0) (refusing : Bool) (done done' : List ℕ → List ℕ → List ℕ → Type 0) (source service before after_ : Past → Type 0)
     → refusing ≡ true → ((body next back : List ℕ) → done body next back → refusing ≡ false) → (shows h.history).plan.point ≡ Respmod → ng' ≡ ng → TakesAside ao an before after_
     → Goes (Stands h agrees read sent heard (HopsAre ng bg go ao bgiven baside) (IsRefusing refusing ng bg) done) (Stands h agrees read sent heard (HopsAre ng' bg gn an bgiven baside) (IsRefusing refusing ng' bg) done')
     source source service service before after_
 next_refusal_goes h agrees read sent heard ng ng' bg go gn bgiven ao an baside refusing done done' source service before after_ due none point same d = record {
-  delta = record { source_read = []; service_read = []; service_taken = []; next_taken = d.delta; back_taken = [] };
+  delta = record { source_read = no_given; service_read = []; service_taken = []; next_taken = d.delta; back_taken = [] };
   stands = λ request t o. of_five (Stands h agrees read sent heard (HopsAre ng' bg gn an bgiven baside) (IsRefusing refusing ng' bg) done' request) _ _ _ _ _ _ _ _ _ _
-      (sym (append-nil t.source_read)) (sym (append-nil t.service_read)) (sym (append-nil t.service_taken)) refl (sym (append-nil t.back_taken))
+      (given_still t.source_read) (sym (append-nil t.service_read)) (sym (append-nil t.service_taken)) refl (sym (append-nil t.back_taken))
       (rehop h agrees read sent heard (HopsAre ng bg go ao bgiven baside) (HopsAre ng' bg gn an bgiven baside) (IsRefusing refusing ng bg) (IsRefusing refusing ng' bg) done done' request t (t.next_taken ++ d.delta) t.back_taken
       (λ body p. next_refuses_on ng ng' bg go gn bgiven ao an baside (shows h.history) body t.next_taken t.back_taken d.delta
       (λ m. (o.refuses_is.0 due).1 (subst (λ (z : Point). user_gift z ng bg ≡ message) (sym point) m)) same d.aside p)
       (λ r. subst (λ (z : Gift). IsRefusing refusing z bg (shows h.history)) (sym same) r) (λ w body p. absurd (false≢true (sym (none body t.next_taken t.back_taken p) ∙ due))) o);
-  source = λ p b. still source p b;
+  source = λ p b. still_source source p b;
   service = λ p b. still service p b;
   next = d.wire;
 }
 
-pub back_refusal_goes : (h : Holding) (agrees : Seen → Type 0) (read : Seen → List ℕ → List ℕ → Type 0) (sent : List ℕ → Seen → List ℕ → List ℕ → Type 0) (heard : Seen → List ℕ → List ℕ → Type 0) (ng bg bg' : Gift) (go gn ngiven : Seen → List ℕ → List ℕ → List ℕ → Type 0) (ao an naside : List ℕ → Type 0) (refusing : Bool) (done done' : List ℕ → List ℕ → List ℕ → Type 0) (before after_ service next : Past → Type 0)
+pub back_refusal_goes : (h : Holding) (agrees : Seen → Type 0) (read : Seen → List ℕ → Given → Type 0) (sent : List ℕ → Seen → List ℕ → List ℕ → Type 0) (heard : Seen → List ℕ → List ℕ → Type 0) (ng bg bg' : Gift) (go gn ngiven : Seen → List ℕ → List ℕ → List ℕ → Type 0) (ao an naside : List ℕ → Type 0) (refusing : Bool) (done done' : List ℕ → List ℕ → List ℕ → Type 0) (before after_ service next : Past → Type 0)
     → refusing ≡ true → ((body next back : List ℕ) → done body next back → refusing ≡ false) → (shows h.history).plan.point ≡ Reqmod → bg' ≡ bg → TakesAside ao an before after_
     → Goes (Stands h agrees read sent heard (HopsAre ng bg ngiven naside go ao) (IsRefusing refusing ng bg) done) (Stands h agrees read sent heard (HopsAre ng bg' ngiven naside gn an) (IsRefusing refusing ng bg') done')
     before after_ service service next next
 back_refusal_goes h agrees read sent heard ng bg bg' go gn ngiven ao an naside refusing done done' before after_ service next due none point same d = record {
-  delta = record { source_read = []; service_read = []; service_taken = []; next_taken = []; back_taken = d.delta };
+  delta = record { source_read = no_given; service_read = []; service_taken = []; next_taken = []; back_taken = d.delta };
   stands = λ request t o. of_five (Stands h agrees read sent heard (HopsAre ng bg' ngiven naside gn an) (IsRefusing refusing ng bg') done' request) _ _ _ _ _ _ _ _ _ _
-      (sym (append-nil t.source_read)) (sym (append-nil t.service_read)) (sym (append-nil t.service_taken)) (sym (append-nil t.next_taken)) refl
+      (given_still t.source_read) (sym (append-nil t.service_read)) (sym (append-nil t.service_taken)) (sym (append-nil t.next_taken)) refl
       (rehop h agrees read sent heard (HopsAre ng bg ngiven naside go ao) (HopsAre ng bg' ngiven naside gn an) (IsRefusing refusing ng bg) (IsRefusing refusing ng bg') done done' request t t.next_taken (t.back_taken ++ d.delta)
       (λ body p. back_refuses_on ng bg bg' go gn ngiven ao an naside (shows h.history) body t.next_taken t.back_taken d.delta
       (λ m. (o.refuses_is.0 due).1 (subst (λ (z : Point). user_gift z ng bg ≡ message) (sym point) m)) same d.aside p)
       (λ r. subst (λ (z : Gift). IsRefusing refusing ng z (shows h.history)) (sym same) r) (λ w body p. absurd (false≢true (sym (none body t.next_taken t.back_taken p) ∙ due))) o);
-  source = d.wire;
+  source = λ p b. let w = d.wire p b in (w.0, w.1, w.2, λ e. cc);
   service = λ p b. still service p b;
   next = λ p b. still next p b;
 }

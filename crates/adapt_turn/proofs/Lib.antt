@@ -8,7 +8,8 @@ pub mod Advance
 pub mod Hops
 pub mod Made
 pub mod Together
-pub mod Giving
+pub mod Freeing
+mod Giving
 pub mod Reasons
 pub mod Rows
 pub mod Refusals

@@ -2,6 +2,8 @@
 use Rattle.std.proofs.Common.{◌≡◌, ℕ, Bool, true, false, zero, suc, ◌+◌, ◌-◌, ◌<◌, ◌^◌, ◌⊎◌, inl, inr, length, Option, Some, None, arith, refl, sym, ◌∙◌, ap, subst}
 use Rattle.std.specs.Prelude.{MatchOption, ⊤, min}
 use Rattle.wire_kit.specs.Past.{Past}
+use Rattle.adapt_turn.specs.declared.start.Line.{Line}
+use Rattle.adapt_turn.specs.Made.{wire_of, on_held}
 use Rattle.adapt_turn.specs.Moved.{MovesOver, SumsBytes, AreCounts, counted}
 use Rattle.adapt_turn.specs.Rows.{BytesOr}
 
@@ -14,32 +16,40 @@ moves_over before after_ c d f g = λ p q b a.
     ∙ ap (λ (k : ℕ). (d.0 - c.0) + (length q.taken - k)) (sym u.1)
     ∙ ap (λ (k : ℕ). (d.0 - c.0) + (k - c.1)) (sym w.1)
 
-over_line : {L : Type 0} (past : L → Past → Type 0) (line line' : Option L) (c d : ℕ × ℕ)
+over_wire : {L : Type 0} (past : L → Past → Type 0) (line line' : Option L) (c d : ℕ × ℕ)
     → MatchOption line ((c.0 ≡ 0) × (c.1 ≡ 0)) (λ l. AreCounts c (past l)) → MatchOption line' ((d.0 ≡ 0) × (d.1 ≡ 0)) (λ l. AreCounts d (past l)) → (line ≡ None → line' ≡ None)
     → MatchOption line (counted c d ≡ 0) (λ l. MovesOver (past l) (λ p. MatchOption line' ⊥ (λ m. past m p)) (counted c d))
-over_line past None None c d f g none = let f0 = f.0 in let f1 = f.1 in let g0 = g.0 in let g1 = g.1 in omega (arith, f0, f1, g0, g1)
-over_line past None (Some m) c d f g none = absurd (let e : Some m ≡ None = none refl in cc)
-over_line past (Some l) None c d f g none = λ p q b a. absurd a
-over_line past (Some l) (Some m) c d f g none = moves_over (past l) (past m) c d f g
+over_wire past None None c d f g none = let f0 = f.0 in let f1 = f.1 in let g0 = g.0 in let g1 = g.1 in omega (arith, f0, f1, g0, g1)
+over_wire past None (Some m) c d f g none = absurd (let e : Some m ≡ None = none refl in cc)
+over_wire past (Some l) None c d f g none = λ p q b a. absurd a
+over_wire past (Some l) (Some m) c d f g none = moves_over (past l) (past m) c d f g
+
+over_line : {V W : Type 0} (past : W → Past → Type 0) (line line' : Option (Line V W)) (c d : ℕ × ℕ)
+    → on_held line ((c.0 ≡ 0) × (c.1 ≡ 0)) (λ w. AreCounts c (past w)) → on_held line' ((d.0 ≡ 0) × (d.1 ≡ 0)) (λ w. AreCounts d (past w)) → (wire_of line ≡ None → wire_of line' ≡ None)
+    → on_held line (counted c d ≡ 0) (λ w. MovesOver (past w) (λ p. on_held line' ⊥ (λ m. past m p)) (counted c d))
+over_line {V} {W} past None None c d f g none = over_wire past None None c d f g none
+over_line {V} {W} past None (Some m) c d f g none = over_wire past None m.wire c d f g none
+over_line {V} {W} past (Some l) None c d f g none = over_wire past l.wire None c d f g none
+over_line {V} {W} past (Some l) (Some m) c d f g none = over_wire past l.wire m.wire c d f g none
 
 -- what the counts before and after a call say
-pub moves_of : {A C L : Type 0} (on_source : A → Past → Type 0) (on_line : L → Past → Type 0) (on_next : C → Past → Type 0) (a a' a2 : A) (line line' line2 : Option L) (x x' x2 : C) (c0 d0 c1 d1 c2 d2 : ℕ × ℕ) (n : ℕ)
+pub moves_of : {A C V W : Type 0} (on_source : A → Past → Type 0) (on_wire : W → Past → Type 0) (on_next : C → Past → Type 0) (a a' a2 : A) (line line' line2 : Option (Line V W)) (x x' x2 : C) (c0 d0 c1 d1 c2 d2 : ℕ × ℕ) (n : ℕ)
     → AreCounts c0 (on_source a) → AreCounts d0 (on_source a')
-    → MatchOption line ((c1.0 ≡ 0) × (c1.1 ≡ 0)) (λ l. AreCounts c1 (on_line l)) → MatchOption line' ((d1.0 ≡ 0) × (d1.1 ≡ 0)) (λ l. AreCounts d1 (on_line l))
+    → on_held line ((c1.0 ≡ 0) × (c1.1 ≡ 0)) (λ w. AreCounts c1 (on_wire w)) → on_held line' ((d1.0 ≡ 0) × (d1.1 ≡ 0)) (λ w. AreCounts d1 (on_wire w))
     → AreCounts c2 (on_next x) → AreCounts d2 (on_next x')
-    → (line ≡ None → line' ≡ None) → a2 ≡ a' → line2 ≡ line' → x2 ≡ x'
+    → (wire_of line ≡ None → wire_of line' ≡ None) → a2 ≡ a' → line2 ≡ line' → x2 ≡ x'
     → n ≡ min (counted c0 d0 + counted c1 d1 + counted c2 d2) (2 ^ 64 - 1)
-    → SumsBytes (MovesOver (on_source a) (on_source a2)) (λ k. MatchOption line (k ≡ 0) (λ l. MovesOver (on_line l) (λ p. MatchOption line2 ⊥ (λ m. on_line m p)) k)) (MovesOver (on_next x) (on_next x2)) n
-moves_of {A} {C} {L} on_source on_line on_next a a' a2 line line' line2 x x' x2 c0 d0 c1 d1 c2 d2 n f0 g0 f1 g1 f2 g2 none ea el ex e =
-    subst (λ (z : A). SumsBytes (MovesOver (on_source a) (on_source z)) (λ k. MatchOption line (k ≡ 0) (λ l. MovesOver (on_line l) (λ p. MatchOption line2 ⊥ (λ m. on_line m p)) k)) (MovesOver (on_next x) (on_next x2)) n) (sym ea)
-    (subst (λ (z : Option L). SumsBytes (MovesOver (on_source a) (on_source a')) (λ k. MatchOption line (k ≡ 0) (λ l. MovesOver (on_line l) (λ p. MatchOption z ⊥ (λ m. on_line m p)) k)) (MovesOver (on_next x) (on_next x2)) n) (sym el)
-    (subst (λ (z : C). SumsBytes (MovesOver (on_source a) (on_source a')) (λ k. MatchOption line (k ≡ 0) (λ l. MovesOver (on_line l) (λ p. MatchOption line' ⊥ (λ m. on_line m p)) k)) (MovesOver (on_next x) (on_next z)) n) (sym ex)
+    → SumsBytes (MovesOver (on_source a) (on_source a2)) (λ k. on_held line (k ≡ 0) (λ w. MovesOver (on_wire w) (λ p. on_held line2 ⊥ (λ m. on_wire m p)) k)) (MovesOver (on_next x) (on_next x2)) n
+moves_of {A} {C} {V} {W} on_source on_wire on_next a a' a2 line line' line2 x x' x2 c0 d0 c1 d1 c2 d2 n f0 g0 f1 g1 f2 g2 none ea el ex e =
+    subst (λ (z : A). SumsBytes (MovesOver (on_source a) (on_source z)) (λ k. on_held line (k ≡ 0) (λ w. MovesOver (on_wire w) (λ p. on_held line2 ⊥ (λ m. on_wire m p)) k)) (MovesOver (on_next x) (on_next x2)) n) (sym ea)
+    (subst (λ (z : Option (Line V W)). SumsBytes (MovesOver (on_source a) (on_source a')) (λ k. on_held line (k ≡ 0) (λ w. MovesOver (on_wire w) (λ p. on_held z ⊥ (λ m. on_wire m p)) k)) (MovesOver (on_next x) (on_next x2)) n) (sym el)
+    (subst (λ (z : C). SumsBytes (MovesOver (on_source a) (on_source a')) (λ k. on_held line (k ≡ 0) (λ w. MovesOver (on_wire w) (λ p. on_held line' ⊥ (λ m. on_wire m p)) k)) (MovesOver (on_next x) (on_next z)) n) (sym ex)
     (record {
       source = counted c0 d0;
       service = counted c1 d1;
       next = counted c2 d2;
       source_is = moves_over (on_source a) (on_source a') c0 d0 f0 g0;
-      service_is = over_line on_line line line' c1 d1 f1 g1 none;
+      service_is = over_line on_wire line line' c1 d1 f1 g1 none;
       next_is = moves_over (on_next x) (on_next x') c2 d2 f2 g2;
       sum = e;
     })))
@@ -51,25 +61,30 @@ same_over past c f = λ p q b a. let u = f p b in let w = f q a in let u0 = u.0 
 abbrev none_moved : ℕ
 none_moved = 0
 
-same_line : {L : Type 0} (past : L → Past → Type 0) (line : Option L) (c : ℕ × ℕ) → MatchOption line ((c.0 ≡ 0) × (c.1 ≡ 0)) (λ l. AreCounts c (past l))
+same_wire : {L : Type 0} (past : L → Past → Type 0) (line : Option L) (c : ℕ × ℕ) → MatchOption line ((c.0 ≡ 0) × (c.1 ≡ 0)) (λ l. AreCounts c (past l))
     → MatchOption line (none_moved ≡ 0) (λ l. MovesOver (past l) (λ p. MatchOption line ⊥ (λ m. past m p)) none_moved)
-same_line past None c f = refl
-same_line past (Some l) c f = same_over (past l) c f
+same_wire past None c f = refl
+same_wire past (Some l) c f = same_over (past l) c f
 
-pub moves_none : {A C L : Type 0} (on_source : A → Past → Type 0) (on_line : L → Past → Type 0) (on_next : C → Past → Type 0) (a a' : A) (line line' : Option L) (x x' : C) (c0 c1 c2 : ℕ × ℕ) (n : ℕ)
-    → AreCounts c0 (on_source a) → MatchOption line ((c1.0 ≡ 0) × (c1.1 ≡ 0)) (λ l. AreCounts c1 (on_line l)) → AreCounts c2 (on_next x)
+same_line : {V W : Type 0} (past : W → Past → Type 0) (line : Option (Line V W)) (c : ℕ × ℕ) → on_held line ((c.0 ≡ 0) × (c.1 ≡ 0)) (λ w. AreCounts c (past w))
+    → on_held line (none_moved ≡ 0) (λ w. MovesOver (past w) (λ p. on_held line ⊥ (λ m. past m p)) none_moved)
+same_line {V} {W} past None c f = same_wire past None c f
+same_line {V} {W} past (Some l) c f = same_wire past l.wire c f
+
+pub moves_none : {A C V W : Type 0} (on_source : A → Past → Type 0) (on_wire : W → Past → Type 0) (on_next : C → Past → Type 0) (a a' : A) (line line' : Option (Line V W)) (x x' : C) (c0 c1 c2 : ℕ × ℕ) (n : ℕ)
+    → AreCounts c0 (on_source a) → on_held line ((c1.0 ≡ 0) × (c1.1 ≡ 0)) (λ w. AreCounts c1 (on_wire w)) → AreCounts c2 (on_next x)
     → a' ≡ a → line' ≡ line → x' ≡ x → n ≡ 0
-    → SumsBytes (MovesOver (on_source a) (on_source a')) (λ k. MatchOption line (k ≡ 0) (λ l. MovesOver (on_line l) (λ p. MatchOption line' ⊥ (λ m. on_line m p)) k)) (MovesOver (on_next x) (on_next x')) n
-moves_none {A} {C} {L} on_source on_line on_next a a' line line' x x' c0 c1 c2 n f0 f1 f2 ea el ex e =
-    subst (λ (z : A). SumsBytes (MovesOver (on_source a) (on_source z)) (λ k. MatchOption line (k ≡ 0) (λ l. MovesOver (on_line l) (λ p. MatchOption line' ⊥ (λ m. on_line m p)) k)) (MovesOver (on_next x) (on_next x')) n) (sym ea)
-    (subst (λ (z : Option L). SumsBytes (MovesOver (on_source a) (on_source a)) (λ k. MatchOption line (k ≡ 0) (λ l. MovesOver (on_line l) (λ p. MatchOption z ⊥ (λ m. on_line m p)) k)) (MovesOver (on_next x) (on_next x')) n) (sym el)
-    (subst (λ (z : C). SumsBytes (MovesOver (on_source a) (on_source a)) (λ k. MatchOption line (k ≡ 0) (λ l. MovesOver (on_line l) (λ p. MatchOption line ⊥ (λ m. on_line m p)) k)) (MovesOver (on_next x) (on_next z)) n) (sym ex)
+    → SumsBytes (MovesOver (on_source a) (on_source a')) (λ k. on_held line (k ≡ 0) (λ w. MovesOver (on_wire w) (λ p. on_held line' ⊥ (λ m. on_wire m p)) k)) (MovesOver (on_next x) (on_next x')) n
+moves_none {A} {C} {V} {W} on_source on_wire on_next a a' line line' x x' c0 c1 c2 n f0 f1 f2 ea el ex e =
+    subst (λ (z : A). SumsBytes (MovesOver (on_source a) (on_source z)) (λ k. on_held line (k ≡ 0) (λ w. MovesOver (on_wire w) (λ p. on_held line' ⊥ (λ m. on_wire m p)) k)) (MovesOver (on_next x) (on_next x')) n) (sym ea)
+    (subst (λ (z : Option (Line V W)). SumsBytes (MovesOver (on_source a) (on_source a)) (λ k. on_held line (k ≡ 0) (λ w. MovesOver (on_wire w) (λ p. on_held z ⊥ (λ m. on_wire m p)) k)) (MovesOver (on_next x) (on_next x')) n) (sym el)
+    (subst (λ (z : C). SumsBytes (MovesOver (on_source a) (on_source a)) (λ k. on_held line (k ≡ 0) (λ w. MovesOver (on_wire w) (λ p. on_held line ⊥ (λ m. on_wire m p)) k)) (MovesOver (on_next x) (on_next z)) n) (sym ex)
     (record {
       source = 0;
       service = 0;
       next = 0;
       source_is = same_over (on_source a) c0 f0;
-      service_is = same_line on_line line c1 f1;
+      service_is = same_line on_wire line c1 f1;
       next_is = same_over (on_next x) c2 f2;
       sum = e;
     })))
@@ -93,8 +108,16 @@ waiting_not true n = absurd (let e = n refl in omega (arith, e))
 waiting_not false n = refl
 
 -- a line over which no byte went
-pub some_line : {L : Type 0} (past : L → Past → Type 0) (line line' : Option L) (this : Type 0) (p : Past) → MatchOption line ⊤ (λ l. past l p)
+some_wire : {L : Type 0} (past : L → Past → Type 0) (line line' : Option L) (this : Type 0) (p : Past) → MatchOption line ⊤ (λ l. past l p)
     → MatchOption line (none_moved ≡ 0) (λ l. MovesOver (past l) (λ q. MatchOption line' ⊥ (λ m. past m q)) none_moved)
     → (line ≡ None → ⊥) → BytesOr this (λ q. MatchOption line ⊥ (λ l. past l q)) (λ q. MatchOption line' ⊥ (λ m. past m q)) → this
-some_line past None line' this p b k n act = absurd (n refl)
-some_line past (Some l) line' this p b k n act = let v = act p b in v.4 (k p v.0 b v.1)
+some_wire past None line' this p b k n act = absurd (n refl)
+some_wire past (Some l) line' this p b k n act = let v = act p b in v.4 (k p v.0 b v.1)
+
+pub some_line : {V W : Type 0} (past : W → Past → Type 0) (line line' : Option (Line V W)) (this : Type 0) (p : Past) → on_held line ⊤ (λ w. past w p)
+    → on_held line (none_moved ≡ 0) (λ w. MovesOver (past w) (λ q. on_held line' ⊥ (λ m. past m q)) none_moved)
+    → (wire_of line ≡ None → ⊥) → BytesOr this (λ q. on_held line ⊥ (λ w. past w q)) (λ q. on_held line' ⊥ (λ m. past m q)) → this
+some_line {V} {W} past None None this p b k n act = absurd (n refl)
+some_line {V} {W} past None (Some m) this p b k n act = absurd (n refl)
+some_line {V} {W} past (Some l) None this p b k n act = some_wire past l.wire None this p b k n act
+some_line {V} {W} past (Some l) (Some m) this p b k n act = some_wire past l.wire m.wire this p b k n act

@@ -13,13 +13,13 @@ use Rattle.trace_core.specs.Faults.{chooses_original}
 use Rattle.trace_core.specs.Held.{original_from, adapted_from}
 use Rattle.trace_core.specs.View.{after}
 use Rattle.trace_core.specs.History.{History}
-use Rattle.trace_core.specs.Turns.{MayAllFollow, AllAre, in_sum, ad_sum, is_of_source, is_of_replies, is_of_sending, is_of_hop}
+use Rattle.trace_core.specs.Turns.{after_all, MayAllFollow, AllAre, in_sum, ad_sum, is_of_source, is_of_replies, is_of_sending, is_of_hop}
 use Rattle.trace_core.proofs.Sound.{Sound, sound-after}
 use Rattle.plan_rules.specs.Room.{original_room, adapted_room, claim_then}
 use Rattle.span_tape.specs.Tape.{Tape, end_of}
 use Rattle.wire_kit.specs.Past.{Past, IsLater}
 use Rattle.adapt_sides.specs.Tapes.{Follows, KeepsUnsent, KeepsUndelivered, chosen, chosen_received, chosen_delivered}
-use Rattle.adapt_sides.specs.Turns.{ReadsBody, Sends, Hears, Gives, HasReason, SaysWaiting, OfRelayWire, OfClientWire}
+use Rattle.adapt_sides.specs.Turns.{Given, ReadsBody, Sends, Hears, Gives, HasReason, SaysWaiting, OfRelayWire, OfClientWire}
 use Rattle.adapt_sides.specs.declared.fault.ClientFault.{ClientFault}
 use Rattle.adapt_sides.specs.declared.fault.RelayFault.{RelayFault}
 use Rattle.adapt_sides.specs.declared.turn.Turn.{Turn}
@@ -347,43 +347,47 @@ Closed cause passed = passed ≡ record { waiting = false; failed = Some cause; 
 abbrev WentOn : Turn → Passed → Type 0
 WentOn turn passed = passed ≡ record { waiting = turn.waiting; failed = None; broken = false }
 
-pub source_took : (h k : Holding) (turn : Turn) (events : List Event) (out : List ℕ) (ro rn : Seen → List ℕ → List ℕ → Type 0) (ao an : Seen → Type 0) (f0 f1 : Option RelayFault) (rests framed : ℕ → Type 0) (n room : ℕ) (before after_ : Past → Type 0) (passed : Passed)
+pub source_took : (h k : Holding) (turn : Turn) (events : List Event) (out : List ℕ) (ro rn : Seen → List ℕ → Given → Type 0) (ao an : Seen → Type 0) (f0 f1 : Option RelayFault) (rests framed : ℕ → Type 0) (over : Type 0) (n room : ℕ) (before after_ : Past → Type 0) (passed : Passed)
     → n ≡ room → IsTied h → IsRoomy h → (shows h.history).closed ≡ false → ao (shows h.history) → length out ≤ original_room (shows h.history) h.claim h.limits.window
     → events ≡ turn.events.items
-    → ReadsBody ro rn ao an f0 f1 (rests n) (framed n) before after_ out (Ok turn)
+    → ReadsBody ro rn ao an f0 f1 (rests n) (framed n) over before after_ out (Ok turn)
     → k ≡ moved_all h events out → WentOn turn passed
-    → SourcePart h k ro rn an f0 f1 (rests room) (framed room) before after_ passed
-source_took h k turn events out ro rn ao an f0 f1 rests framed n room before after_ passed same t r c a l e b0 is went =
-    let b = subst (λ (y : ℕ). ReadsBody ro rn ao an f0 f1 (rests y) (framed y) before after_ out (Ok turn)) same b0 in
+    → SourcePart h k ro rn an f0 f1 (rests room) (framed room) over before after_ passed
+source_took h k turn events out ro rn ao an f0 f1 rests framed over n room before after_ passed same t r c a l e b0 is went =
+    let b = subst (λ (y : ℕ). ReadsBody ro rn ao an f0 f1 (rests y) (framed y) over before after_ out (Ok turn)) same b0 in
     let legal = b.legal (shows h.history) a c in
     record {
       delta = b.delta;
       out = out;
       reported = turn.events.items;
-      part = took_part OfRelayWire source_cause h k is_of_source turn out b.delta [] b.delta f0 f1 (rests room) (λ past. past.read_waits) before after_ passed went b.wire b.only
+      part = took_part OfRelayWire source_cause h k is_of_source turn out b.delta.bytes [] b.delta.bytes f0 f1 (rests room) (λ past. past.read_waits) before after_ passed went (λ p w. let u = b.wire p w in (u.0, u.1, u.2, u.3)) b.only
           (source_runs h turn.events.items out t r legal.0 b.only b.count l) b.waiting (is ∙ ap (λ (es : List Event). moved_all h es out) e) (b.fault.sound turn refl);
       few = omega (arith, b.count, l);
       framed = λ w. b.framed (sym (ap (λ (y : Passed). y.waiting) went) ∙ w);
+      wire = λ p w. let u = b.wire p w in (u.0, u.1, u.2, u.4);
+      told = λ n o. b.told turn refl o (after_all (shows h.history) turn.events.items) legal.1;
       agrees = legal.1;
       goes_on = λ body read h0. b.goes_on (shows h.history) body read h0 c;
     }
 
-pub source_failed : (h k : Holding) (fault : RelayFault) (out : List ℕ) (ro rn : Seen → List ℕ → List ℕ → Type 0) (ao an : Seen → Type 0) (f0 f1 : Option RelayFault) (rests framed : ℕ → Type 0) (n room : ℕ) (before after_ : Past → Type 0) (cause : Cause) (passed : Passed)
+pub source_failed : (h k : Holding) (fault : RelayFault) (out : List ℕ) (ro rn : Seen → List ℕ → Given → Type 0) (ao an : Seen → Type 0) (f0 f1 : Option RelayFault) (rests framed : ℕ → Type 0) (over : Type 0) (n room : ℕ) (before after_ : Past → Type 0) (cause : Cause) (passed : Passed)
     → n ≡ room → IsRoomy h → (shows h.history).closed ≡ false → ao (shows h.history)
-    → ReadsBody ro rn ao an f0 f1 (rests n) (framed n) before after_ out (Err fault)
+    → ReadsBody ro rn ao an f0 f1 (rests n) (framed n) over before after_ out (Err fault)
     → cause ≡ source_cause fault → Closed cause passed → k ≡ moved h (Fail cause) []
-    → SourcePart h k ro rn an f0 f1 (rests room) (framed room) before after_ passed
-source_failed h k fault out ro rn ao an f0 f1 rests framed n room before after_ cause passed same r c a b0 own did is =
-    let b = subst (λ (y : ℕ). ReadsBody ro rn ao an f0 f1 (rests y) (framed y) before after_ out (Err fault)) same b0 in
+    → SourcePart h k ro rn an f0 f1 (rests room) (framed room) over before after_ passed
+source_failed h k fault out ro rn ao an f0 f1 rests framed over n room before after_ cause passed same r c a b0 own did is =
+    let b = subst (λ (y : ℕ). ReadsBody ro rn ao an f0 f1 (rests y) (framed y) over before after_ out (Err fault)) same b0 in
     let legal = b.legal (shows h.history) a c in
     record {
       delta = b.delta;
       out = [];
       reported = [];
-      part = failed_part OfRelayWire source_cause h k is_of_source fault [] b.delta [] b.delta f0 f1 (rests room) (λ past. past.read_waits) before after_ passed
-          (did ∙ ap (λ (y : Cause). record { waiting = false; failed = Some y; broken = false }) own) b.wire (b.fault.stays fault refl) r c (is ∙ ap (λ (y : Cause). moved h (Fail y) []) own);
+      part = failed_part OfRelayWire source_cause h k is_of_source fault [] b.delta.bytes [] b.delta.bytes f0 f1 (rests room) (λ past. past.read_waits) before after_ passed
+          (did ∙ ap (λ (y : Cause). record { waiting = false; failed = Some y; broken = false }) own) (λ p w. let u = b.wire p w in (u.0, u.1, u.2, u.3)) (b.fault.stays fault refl) r c (is ∙ ap (λ (y : Cause). moved h (Fail y) []) own);
       few = omega arith;
       framed = λ w. absurd (false≢true (sym (ap (λ (y : Passed). y.waiting) did) ∙ w));
+      wire = λ p w. let u = b.wire p w in (u.0, u.1, u.2, u.4);
+      told = λ n o. absurd (let odd : Some cause ≡ None = sym (ap (λ (y : Passed). y.failed) did) ∙ n in cc);
       agrees = legal.1;
       goes_on = λ body read h0. b.goes_on (shows h.history) body read h0 c;
     }

@@ -15,9 +15,10 @@ use Rattle.adapt_turn.specs.declared.parts.Passed.{Passed}
 use Rattle.adapt_turn.specs.declared.turned.Outcome.{Outcome}
 use Rattle.adapt_turn.specs.declared.turned.Outcome.TheVariants as outcomes
 use Rattle.adapt_sides.specs.declared.turn.Turn.{Turn}
-use Rattle.adapt_sides.specs.Turns.{OfClientWire, Remembers, IsExplained}
-use Rattle.adapt_turn.specs.Parts.{Breaks, HasCause, FailsFor, Part, stepped, outcome_by, fault_of}
-use Rattle.adapt_turn.specs.Stands.{Waited, WaitedBeside, WaitedBoth, Blamed, BlamedService}
+use Rattle.adapt_sides.specs.declared.fault.RelayFault.{RelayFault}
+use Rattle.adapt_sides.specs.Turns.{OfClientWire, OfRelayWire, FailsGiving, Remembers, IsExplained}
+use Rattle.adapt_turn.specs.Parts.{Breaks, HasCause, FailsFor, Part, stepped, hop_cause, outcome_by, fault_of}
+use Rattle.adapt_turn.specs.Stands.{Waited, WaitedBeside, WaitedBoth, Blamed, BlamedWriter, BlamedService}
 
 pub part_waits : {F : Type 0} (of_wire : F → Past → Past → Type 0) (own : F → Cause) (h k : Holding) (test : Event → Bool) (reported : List Event) (out given taken delta : List ℕ) (f0 f1 : Option F) (rests : Type 0) (waits : Past → ℕ) (before after_ : Past → Type 0) (passed : Passed)
     → Part of_wire own h k test reported out given taken delta f0 f1 rests waits before after_ passed → passed.waiting ≡ true → Waited rests waits before after_
@@ -89,8 +90,8 @@ line_blamed {L} line l fault past own h k test reported out given taken delta f1
     subst (λ (z : Option L). Blamed OfClientWire own cause (fault_of fault z) f1 (λ p. MatchOption z ⊥ (λ y. past y p)) after_) (sym same)
     (part_blames OfClientWire own h k test reported out given taken delta (fault l) f1 rests waits (past l) after_ passed part cause e)
 
--- behind a pass that left no fault, whatever stood before it
-pub blamed_then : (own : ClientFault → Cause) (cause : Cause) (f0 f1 f2 : Option ClientFault) (before mid after_ : Past → Type 0) (given taken : List ℕ) → f1 ≡ None
+-- behind a pass that left no new fault
+pub blamed_then : (own : ClientFault → Cause) (cause : Cause) (f0 f1 f2 : Option ClientFault) (before mid after_ : Past → Type 0) (given taken : List ℕ) → (f0 ≡ None → f1 ≡ None)
     → ((p : Past) → before p → (q : Past) × mid q × IsLater p given taken q) → Blamed OfClientWire own cause f1 f2 mid after_ → Blamed OfClientWire own cause f0 f2 before after_
 blamed_then own cause f0 f1 f2 before mid after_ given taken e goes blamed = λ p b.
     let u = goes p b in
@@ -98,7 +99,37 @@ blamed_then own cause f0 f1 f2 before mid after_ given taken e goes blamed = λ 
     let l = u.2.faults in
     let k = u.2.ends in
     let f = w.2 in
-    (w.0, w.1, (f.0, f.1, f.2, λ o. ((λ d. let m = (f.3 e).0 d in omega (arith, m, l)), (λ c. let m = (f.3 e).1 c in omega (arith, m, k)))))
+    (w.0, w.1, (f.0, f.1, f.2, λ o. ((λ d. let m = (f.3 (e o)).0 d in omega (arith, m, l)), (λ c. let m = (f.3 (e o)).1 c in omega (arith, m, k)))))
+
+-- A writer's.
+
+pub never_err : (turn : Turn) (fault : RelayFault) (this : Type 0) → Ok turn ≡ Err fault → this
+never_err turn fault this e = cc
+
+pub same_err : (f g : RelayFault) → (let r : Result Turn RelayFault = Err f in r) ≡ Err g → f ≡ g
+same_err f g e = cc
+
+pub writer_blamed : (cause : Cause) (failed : Option Cause) (reason : RelayFault → Type 0) (f0 f1 : Option RelayFault) (before after_ : Past → Type 0) → failed ≡ Some cause → Blamed OfRelayWire hop_cause cause f0 f1 before after_
+    → HasCause f0 f1 reason → ((had : RelayFault) → f0 ≡ Some had → failed ≡ Some (hop_cause had)) → BlamedWriter cause reason f0 before after_
+writer_blamed cause failed reason f0 f1 before after_ e blamed has again = λ p b.
+    let w = blamed p b in
+    let f = w.2 in
+    (w.0, w.1, (f.0, f.2, (λ had h. (let same : Some (hop_cause had) ≡ Some cause = sym (again had h) ∙ e in cc)), λ n. (f.3 n, has n f.0 f.1)))
+
+-- behind a beginning that changed neither its fault, nor what is held, nor its wire
+pub writer_from : {A : Type 0} (cause : Cause) (h m : Holding) (reason : Holding → RelayFault → Type 0) (f0 f1 : Option RelayFault) (past : A → Past → Type 0) (after_ : Past → Type 0) (a a' : A) → m ≡ h → f1 ≡ f0 → a' ≡ a
+    → BlamedWriter cause (reason m) f1 (past a') after_ → BlamedWriter cause (reason h) f0 (past a) after_
+writer_from {A} cause h m reason f0 f1 past after_ a a' e f k w =
+    subst (λ (z : Holding). BlamedWriter cause (reason z) f0 (past a) after_) e
+    (subst (λ (z : Option RelayFault). BlamedWriter cause (reason m) z (past a) after_) f
+    (subst (λ (z : A). BlamedWriter cause (reason m) f1 (past z) after_) k w))
+
+-- and before a refusal
+pub writer_kept : {A G : Type 0} (cause : Cause) (reason : G → RelayFault → Type 0) (f0 : Option RelayFault) (past : A → Past → Type 0) (before : Past → Type 0) (y y' : G) (a a' : A) → y' ≡ y → a' ≡ a
+    → BlamedWriter cause (reason y) f0 before (past a) → BlamedWriter cause (reason y') f0 before (past a')
+writer_kept {A} {G} cause reason f0 past before y y' a a' e k w =
+    subst (λ (z : G). BlamedWriter cause (reason z) f0 before (past a')) (sym e)
+    (subst (λ (z : A). BlamedWriter cause (reason y) f0 before (past z)) (sym k) w)
 
 -- The reasons of first faults.
 
@@ -109,6 +140,14 @@ cause_of {F} old new reason (Err fault) k r = λ none f n.
     let is : Some fault ≡ Some f = sym (k.stays fault refl) ∙ n in
     let same : fault ≡ f = cc in
     r none f (ap (λ (g : F). let e : Result Turn F = Err g in e) same)
+
+-- a weaker one
+pub cause_weaker : {F : Type 0} (old new : Option F) (reason wider : F → Type 0) → ((f : F) → reason f → wider f) → HasCause old new reason → HasCause old new wider
+cause_weaker {F} old new reason wider k w = λ none f n. k f (w none f n)
+
+pub giving_weaker : (this breaks : Type 0) (f : RelayFault) → FailsGiving (this × breaks) f → FailsGiving breaks f
+giving_weaker this breaks f (inl d) = inl d
+giving_weaker this breaks f (inr l) = inr (l.0, l.1.1)
 
 -- no side was touched
 pub cause_none : {F : Type 0} (old new : Option F) (reason : F → Type 0) → new ≡ old → HasCause old new reason
@@ -127,10 +166,10 @@ pub line_cause : {L : Type 0} (fault : L → Option ClientFault) (line : Option 
 line_cause {L} fault line l new reason wider same k w = λ none f n. k f (w (sym (ap (λ (z : Option L). fault_of fault z) same) ∙ none) f n)
 
 -- behind a pass that left no fault
-pub fails_then : {L : Type 0} (fault : L → Option ClientFault) (reason : ClientFault → Seen → L → Type 0) (cause : Cause) (was reused : Bool) (old mid new : Option L) (h : Holding) → fault_of fault mid ≡ None → was ≡ reused
+pub fails_then : {L : Type 0} (fault : L → Option ClientFault) (reason : ClientFault → Seen → L → Type 0) (cause : Cause) (was reused : Bool) (old mid new : Option L) (h : Holding) → (fault_of fault old ≡ None → fault_of fault mid ≡ None) → was ≡ reused
     → FailsFor fault reason cause was mid new h → FailsFor fault reason cause reused old new h
 fails_then {L} fault reason cause was reused old mid new h e same w =
-    (w.0, w.1, subst (λ (b : Bool). Breaks w.0.history b (fault_of fault new) → ⊥) same w.2, λ none. w.3 e)
+    (w.0, w.1, subst (λ (b : Bool). Breaks w.0.history b (fault_of fault new) → ⊥) same w.2, λ none. w.3 (e none))
 
 pub not_failed : (failed : Option Cause) (closed : Bool) → ((cause : Cause) → failed ≡ Some cause → closed ≡ true) → closed ≡ false → failed ≡ None
 not_failed None closed over c = refl

@@ -1,5 +1,5 @@
 -- Passes one behind the other, over the three wires.
-use Rattle.std.proofs.Common.{◌≡◌, ℕ, inl, Bool, true, false, ◌||◌, List, [], ◌∷◌, ◌++◌, length, Option, Some, None, arith, refl, sym, ◌∙◌, ap, subst}
+use Rattle.std.proofs.Common.{◌≡◌, ℕ, ◌<◌, ◌≤◌, inl, Bool, true, false, ◌||◌, List, [], ◌∷◌, ◌++◌, length, Option, Some, None, arith, refl, sym, ◌∙◌, ap, subst}
 use Rattle.std.specs.Prelude.{MatchOption, IfSome}
 use Rattle.std.proofs.lemmas.Bool.{false≢true}
 use Rattle.std.proofs.lemmas.List.{append-nil, append_assoc}
@@ -16,7 +16,7 @@ use Rattle.wire_kit.specs.Past.{Past, IsLater}
 use Rattle.adapt_sides.specs.declared.fault.ClientFault.{ClientFault}
 use Rattle.adapt_sides.specs.declared.fault.RelayFault.{RelayFault}
 use Rattle.adapt_sides.specs.Tapes.{chosen}
-use Rattle.adapt_sides.specs.Turns.{Gift}
+use Rattle.adapt_sides.specs.Turns.{Gift, Given, given_then}
 use Rattle.adapt_sides.specs.Turns.Gift.{nothing, message}
 use Rattle.adapt_hold.specs.Spans.{Span, EndsBody}
 use Rattle.adapt_hold.specs.Holding.{Holding, IsTied, IsRoomy, shows, moved}
@@ -55,10 +55,10 @@ heard_line has_heard law None x event adapted text o p = p
 heard_line has_heard law (Some l) x event adapted text o p =
     let w = both_not (is_of_replies event) (is_retry event) o in law x event adapted text l.side w.0 w.1 p
 
-pub others_of : {S V W K : Type 0} (agrees : Seen → S → Type 0) (has_read : Seen → List ℕ → List ℕ → S → Type 0) (has_sent : List ℕ → Seen → List ℕ → List ℕ → V → Type 0) (has_heard : Seen → List ℕ → List ℕ → V → Type 0)
+pub others_of : {S V W K : Type 0} (agrees : Seen → S → Type 0) (has_read : Seen → List ℕ → Given → S → Type 0) (has_sent : List ℕ → Seen → List ℕ → List ℕ → V → Type 0) (has_heard : Seen → List ℕ → List ℕ → V → Type 0)
     (has_given : Seen → List ℕ → List ℕ → List ℕ → K → Type 0) (gift : K → Gift) (aside : List ℕ → K → Type 0) (made : K → Seen → List ℕ → Type 0)
     → ((x : Seen) (event : Event) (s : S) → is_of_source event ≡ false → agrees x s → agrees (after x event) s)
-    → ((x : Seen) (event : Event) (body text : List ℕ) (s : S) → is_of_source event ≡ false → has_read x body text s → has_read (after x event) body text s)
+    → ((x : Seen) (event : Event) (body : List ℕ) (text : Given) (s : S) → is_of_source event ≡ false → has_read x body text s → has_read (after x event) body text s)
     → ((heads : List ℕ) (x : Seen) (event : Event) (came bytes taken : List ℕ) (s : V) → is_of_sending event ≡ false → is_retry event ≡ false
     → length came ≡ x.received → length bytes ≡ in_bytes event → has_sent heads x came taken s → has_sent heads (after x event) (came ++ bytes) taken s)
     → ((x : Seen) (event : Event) (adapted text : List ℕ) (s : V) → is_of_replies event ≡ false → is_retry event ≡ false → has_heard x adapted text s → has_heard (after x event) adapted text s)
@@ -104,26 +104,54 @@ later_then p q r a b c d l m = record {
   faults = let e = l.faults in let f = m.faults in omega arith;
 }
 
-pub of_five : (P : Texts → Type 0) (a b c d e a' b' c' d' e' : List ℕ) → a ≡ a' → b ≡ b' → c ≡ c' → d ≡ d' → e ≡ e'
+pub of_five : (P : Texts → Type 0) (a : Given) (b c d e : List ℕ) (a' : Given) (b' c' d' e' : List ℕ) → a ≡ a' → b ≡ b' → c ≡ c' → d ≡ d' → e ≡ e'
     → P (record { source_read = a; service_read = b; service_taken = c; next_taken = d; back_taken = e })
     → P (record { source_read = a'; service_read = b'; service_taken = c'; next_taken = d'; back_taken = e' })
 of_five P a b c d e a' b' c' d' e' p q r s t k =
-    subst (λ (z : List ℕ). P (record { source_read = z; service_read = b'; service_taken = c'; next_taken = d'; back_taken = e' })) p
+    subst (λ (z : Given). P (record { source_read = z; service_read = b'; service_taken = c'; next_taken = d'; back_taken = e' })) p
     (subst (λ (z : List ℕ). P (record { source_read = a; service_read = z; service_taken = c'; next_taken = d'; back_taken = e' })) q
     (subst (λ (z : List ℕ). P (record { source_read = a; service_read = b; service_taken = z; next_taken = d'; back_taken = e' })) r
     (subst (λ (z : List ℕ). P (record { source_read = a; service_read = b; service_taken = c; next_taken = z; back_taken = e' })) s
     (subst (λ (z : List ℕ). P (record { source_read = a; service_read = b; service_taken = c; next_taken = d; back_taken = z })) t k))))
 
+-- what a wire gave, of bytes and of its end
+
+abbrev pub no_given : Given
+no_given = record { bytes = []; ended = false }
+
+abbrev given_of : List ℕ → Bool → Given
+given_of bytes ended = record { bytes = bytes; ended = ended }
+
+pub given_still : (g : Given) → g ≡ given_then g no_given
+given_still g = ap (λ (bs : List ℕ). given_of bs g.ended) (sym (append-nil g.bytes))
+
+or_assoc : (a b c : Bool) → a || (b || c) ≡ (a || b) || c
+or_assoc true b c = refl
+or_assoc false b c = refl
+
+pub given_assoc : (a b c : Given) → given_then (given_then a b) c ≡ given_then a (given_then b c)
+given_assoc a b c =
+    ap (λ (bs : List ℕ). given_of bs (c.ended || (b.ended || a.ended))) (append_assoc a.bytes b.bytes c.bytes)
+    ∙ ap (λ (e : Bool). given_of (a.bytes ++ (b.bytes ++ c.bytes)) e) (or_assoc c.ended b.ended a.ended)
+
+-- its end was counted in one of two calls
+ends_then : (a b : Bool) (p q r : Past) → p.ends ≤ q.ends → q.ends ≤ r.ends → (a ≡ true → p.ends < q.ends) → (b ≡ true → q.ends < r.ends) → b || a ≡ true → p.ends < r.ends
+ends_then a true p q r l m f g e = let n = g refl in omega (arith, l, n)
+ends_then a false p q r l m f g e = let n = f e in omega (arith, m, n)
+
 pub still : (wire : Past → Type 0) (p : Past) → wire p → (q : Past) × wire q × IsLater p [] [] q
 still wire p w = (p, w, no_later p)
+
+pub still_source : (wire : Past → Type 0) (p : Past) → wire p → (q : Past) × wire q × IsLater p [] [] q × (no_given.ended ≡ true → p.ends < q.ends)
+still_source wire p w = (p, w, no_later p, λ e. cc)
 
 -- what stands stands on, where no wire was touched
 pub goes_still : (old new : List ℕ → Texts → Type 0) (source service next : Past → Type 0) → ((request : List ℕ) (t : Texts) → old request t → new request t) → Goes old new source source service service next next
 goes_still old new source service next on_ = record {
-  delta = record { source_read = []; service_read = []; service_taken = []; next_taken = []; back_taken = [] };
+  delta = no_texts;
   stands = λ request t o. of_five (new request) _ _ _ _ _ _ _ _ _ _
-      (sym (append-nil t.source_read)) (sym (append-nil t.service_read)) (sym (append-nil t.service_taken)) (sym (append-nil t.next_taken)) (sym (append-nil t.back_taken)) (on_ request t o);
-  source = λ p b. still source p b;
+      (given_still t.source_read) (sym (append-nil t.service_read)) (sym (append-nil t.service_taken)) (sym (append-nil t.next_taken)) (sym (append-nil t.back_taken)) (on_ request t o);
+  source = λ p b. still_source source p b;
   service = λ p b. still service p b;
   next = λ p b. still next p b;
 }
@@ -135,13 +163,18 @@ pub goes_then : (s0 s1 s2 : List ℕ → Texts → Type 0) (a0 a1 a2 b0 b1 b2 c0
 goes_then s0 s1 s2 a0 a1 a2 b0 b1 b2 c0 c1 c2 f g = record {
   delta = joined f.delta g.delta;
   stands = λ request t o. of_five (s2 request) _ _ _ _ _ _ _ _ _ _
-      (append_assoc t.source_read f.delta.source_read g.delta.source_read)
+      (given_assoc t.source_read f.delta.source_read g.delta.source_read)
       (append_assoc t.service_read f.delta.service_read g.delta.service_read)
       (append_assoc t.service_taken f.delta.service_taken g.delta.service_taken)
       (append_assoc t.next_taken f.delta.next_taken g.delta.next_taken)
       (append_assoc t.back_taken f.delta.back_taken g.delta.back_taken)
       (g.stands request (joined t f.delta) (f.stands request t o));
-  source = λ p b. let w = f.source p b in let v = g.source w.0 w.1 in (v.0, v.1, later_then p w.0 v.0 f.delta.source_read f.delta.back_taken g.delta.source_read g.delta.back_taken w.2 v.2);
+  source = λ p b. let w = f.source p b in let v = g.source w.0 w.1 in (
+    v.0,
+    v.1,
+    later_then p w.0 v.0 f.delta.source_read.bytes f.delta.back_taken g.delta.source_read.bytes g.delta.back_taken w.2 v.2,
+    ends_then f.delta.source_read.ended g.delta.source_read.ended p w.0 v.0 w.2.ends v.2.ends w.3 v.3,
+  );
   service = λ p b. let w = f.service p b in let v = g.service w.0 w.1 in (v.0, v.1, later_then p w.0 v.0 f.delta.service_read f.delta.service_taken g.delta.service_read g.delta.service_taken w.2 v.2);
   next = λ p b. let w = f.next p b in let v = g.next w.0 w.1 in (v.0, v.1, later_then p w.0 v.0 [] f.delta.next_taken [] g.delta.next_taken w.2 v.2);
 }
@@ -149,7 +182,7 @@ goes_then s0 s1 s2 a0 a1 a2 b0 b1 b2 c0 c1 c2 f g = record {
 -- The passes.
 
 -- the same, with what the writers say now
-pub rehop : (h : Holding) (agrees : Seen → Type 0) (read : Seen → List ℕ → List ℕ → Type 0) (sent : List ℕ → Seen → List ℕ → List ℕ → Type 0) (heard : Seen → List ℕ → List ℕ → Type 0) (hops hops' : Seen → List ℕ → List ℕ → List ℕ → Type 0) (refuses refuses' : Seen → Type 0) (done done' : List ℕ → List ℕ → List ℕ → Type 0) (request : List ℕ) (t : Texts) (n b : List ℕ)
+pub rehop : (h : Holding) (agrees : Seen → Type 0) (read : Seen → List ℕ → Given → Type 0) (sent : List ℕ → Seen → List ℕ → List ℕ → Type 0) (heard : Seen → List ℕ → List ℕ → Type 0) (hops hops' : Seen → List ℕ → List ℕ → List ℕ → Type 0) (refuses refuses' : Seen → Type 0) (done done' : List ℕ → List ℕ → List ℕ → Type 0) (request : List ℕ) (t : Texts) (n b : List ℕ)
     → ((body : List ℕ) → hops (shows h.history) body t.next_taken t.back_taken → hops' (shows h.history) body n b) → (refuses (shows h.history) → refuses' (shows h.history))
     → (IsDone h.history → (body : List ℕ) → done body t.next_taken t.back_taken → done' body n b)
     → Stands h agrees read sent heard hops refuses done request t → Stands h agrees read sent heard hops' refuses' done' request (record t { next_taken = n; back_taken = b })
@@ -168,26 +201,26 @@ rehop h agrees read sent heard hops hops' refuses refuses' done done' request t 
 }
 
 -- the same of an open history, whatever stands where one is done
-pub reopen : (h : Holding) (agrees : Seen → Type 0) (read : Seen → List ℕ → List ℕ → Type 0) (sent : List ℕ → Seen → List ℕ → List ℕ → Type 0) (heard : Seen → List ℕ → List ℕ → Type 0) (hopso hops : Seen → List ℕ → List ℕ → List ℕ → Type 0) (refuses : Seen → Type 0) (done delivered : List ℕ → List ℕ → List ℕ → Type 0) (request : List ℕ) (t : Texts)
+pub reopen : (h : Holding) (agrees : Seen → Type 0) (read : Seen → List ℕ → Given → Type 0) (sent : List ℕ → Seen → List ℕ → List ℕ → Type 0) (heard : Seen → List ℕ → List ℕ → Type 0) (hopso hops : Seen → List ℕ → List ℕ → List ℕ → Type 0) (refuses : Seen → Type 0) (done delivered : List ℕ → List ℕ → List ℕ → Type 0) (request : List ℕ) (t : Texts)
     → (shows h.history).closed ≡ false → ((body next back : List ℕ) → hopso (shows h.history) body next back → hops (shows h.history) body next back)
     → Stands h agrees read sent heard hopso refuses done request t → Stands h agrees read sent heard hops refuses delivered request t
 reopen h agrees read sent heard hopso hops refuses done delivered request t c f s =
     rehop h agrees read sent heard hopso hops refuses refuses done delivered request t t.next_taken t.back_taken (λ body p. f body t.next_taken t.back_taken p) (λ r. r) (λ w body p. absurd (false≢true (sym c ∙ w.0))) s
 
-pub source_goes : (h k : Holding) (ao an : Seen → Type 0) (ro rn : Seen → List ℕ → List ℕ → Type 0) (sent : List ℕ → Seen → List ℕ → List ℕ → Type 0) (heard : Seen → List ℕ → List ℕ → Type 0) (hopso hops : Seen → List ℕ → List ℕ → List ℕ → Type 0) (refuses : Seen → Type 0) (done delivered : List ℕ → List ℕ → List ℕ → Type 0)
-    (f0 f1 : Option RelayFault) (rests framed : Type 0) (before after_ service next : Past → Type 0) (passed : Passed)
-    → ((body next back : List ℕ) → hopso (shows h.history) body next back → hops (shows h.history) body next back) → Others an rn sent heard hops refuses → IsTied h → (shows h.history).closed ≡ false → SourcePart h k ro rn an f0 f1 rests framed before after_ passed
+pub source_goes : (h k : Holding) (ao an : Seen → Type 0) (ro rn : Seen → List ℕ → Given → Type 0) (sent : List ℕ → Seen → List ℕ → List ℕ → Type 0) (heard : Seen → List ℕ → List ℕ → Type 0) (hopso hops : Seen → List ℕ → List ℕ → List ℕ → Type 0) (refuses : Seen → Type 0) (done delivered : List ℕ → List ℕ → List ℕ → Type 0)
+    (f0 f1 : Option RelayFault) (rests framed over : Type 0) (before after_ service next : Past → Type 0) (passed : Passed)
+    → ((body next back : List ℕ) → hopso (shows h.history) body next back → hops (shows h.history) body next back) → Others an rn sent heard hops refuses → IsTied h → (shows h.history).closed ≡ false → SourcePart h k ro rn an f0 f1 rests framed over before after_ passed
     → Goes (Stands h ao ro sent heard hopso refuses done) (Stands k an rn sent heard hops refuses delivered) before after_ service service next next
-source_goes h k ao an ro rn sent heard hopso hops refuses done delivered f0 f1 rests framed before after_ service next passed conv u tied c d = record {
+source_goes h k ao an ro rn sent heard hopso hops refuses done delivered f0 f1 rests framed over before after_ service next passed conv u tied c d = record {
   delta = record { source_read = d.delta; service_read = []; service_taken = []; next_taken = []; back_taken = [] };
   stands = λ request t o. of_five (Stands k an rn sent heard hops refuses delivered request) _ _ _ _ _ _ _ _ _ _ refl (sym (append-nil t.service_read)) (sym (append-nil t.service_taken)) (sym (append-nil t.next_taken)) (sym (append-nil t.back_taken))
-      (source_stands h k ao an ro rn sent heard hops refuses delivered f0 f1 rests framed before after_ passed request t u tied c d (reopen h ao ro sent heard hopso hops refuses done delivered request t c conv o));
-  source = λ p b. let w = d.part.wire p b in (w.0, w.1, w.2);
+      (source_stands h k ao an ro rn sent heard hops refuses delivered f0 f1 rests framed over before after_ passed request t u tied c d (reopen h ao ro sent heard hopso hops refuses done delivered request t c conv o));
+  source = d.wire;
   service = λ p b. still service p b;
   next = λ p b. still next p b;
 }
 
-pub fail_goes : (h k : Holding) (cause : Cause) (agrees : Seen → Type 0) (read : Seen → List ℕ → List ℕ → Type 0) (sent : List ℕ → Seen → List ℕ → List ℕ → Type 0) (heard : Seen → List ℕ → List ℕ → Type 0) (hopso hops : Seen → List ℕ → List ℕ → List ℕ → Type 0) (refuses : Seen → Type 0) (done delivered : List ℕ → List ℕ → List ℕ → Type 0)
+pub fail_goes : (h k : Holding) (cause : Cause) (agrees : Seen → Type 0) (read : Seen → List ℕ → Given → Type 0) (sent : List ℕ → Seen → List ℕ → List ℕ → Type 0) (heard : Seen → List ℕ → List ℕ → Type 0) (hopso hops : Seen → List ℕ → List ℕ → List ℕ → Type 0) (refuses : Seen → Type 0) (done delivered : List ℕ → List ℕ → List ℕ → Type 0)
     (source service next : Past → Type 0)
     → ((body next back : List ℕ) → hopso (shows h.history) body next back → hops (shows h.history) body next back) → Others agrees read sent heard hops refuses → IsTied h → IsRoomy h → (shows h.history).closed ≡ false → k ≡ moved h (Fail cause) []
     → Goes (Stands h agrees read sent heard hopso refuses done) (Stands k agrees read sent heard hops refuses delivered) source source service service next next
@@ -195,7 +228,7 @@ fail_goes h k cause agrees read sent heard hopso hops refuses done delivered sou
     goes_still _ _ source service next (λ request t o. fail_stands h k cause agrees read sent heard hops refuses delivered request t u tied (fail_runs h cause [] roomy c) c is (reopen h agrees read sent heard hopso hops refuses done delivered request t c conv o))
 
 -- a source that doesn't agree never stood
-pub disagree_goes : (h : Holding) (history : History) (agrees : Seen → Type 0) (read : Seen → List ℕ → List ℕ → Type 0) (sent : List ℕ → Seen → List ℕ → List ℕ → Type 0) (heard : Seen → List ℕ → List ℕ → Type 0) (hops : Seen → List ℕ → List ℕ → List ℕ → Type 0) (refuses : Seen → Type 0) (delivered : List ℕ → List ℕ → List ℕ → Type 0)
+pub disagree_goes : (h : Holding) (history : History) (agrees : Seen → Type 0) (read : Seen → List ℕ → Given → Type 0) (sent : List ℕ → Seen → List ℕ → List ℕ → Type 0) (heard : Seen → List ℕ → List ℕ → Type 0) (hops : Seen → List ℕ → List ℕ → List ℕ → Type 0) (refuses : Seen → Type 0) (delivered : List ℕ → List ℕ → List ℕ → Type 0)
     (new : List ℕ → Texts → Type 0) (source service next : Past → Type 0)
     → (shows h.history).closed ≡ false → history ≡ h.history → (agrees (shows history) → ⊥)
     → Goes (Stands h agrees read sent heard hops refuses delivered) new source source service service next next
@@ -213,7 +246,7 @@ heard_on_line said line x adapted text = MatchOption line ((adapted ≡ []) × (
 abbrev pub past_on : {L : Type 0} → (L → Past → Type 0) → Option L → Past → Type 0
 past_on past line p = MatchOption line ⊥ (λ l. past l p)
 
-pub send_goes : {L : Type 0} (line : Option L) (l m : L) (h k : Holding) (agrees : Seen → Type 0) (read : Seen → List ℕ → List ℕ → Type 0) (said : L → List ℕ → Seen → List ℕ → List ℕ → Type 0) (heard : L → Seen → List ℕ → List ℕ → Type 0) (past : L → Past → Type 0)
+pub send_goes : {L : Type 0} (line : Option L) (l m : L) (h k : Holding) (agrees : Seen → Type 0) (read : Seen → List ℕ → Given → Type 0) (said : L → List ℕ → Seen → List ℕ → List ℕ → Type 0) (heard : L → Seen → List ℕ → List ℕ → Type 0) (past : L → Past → Type 0)
     (hopso hops : Seen → List ℕ → List ℕ → List ℕ → Type 0) (refuses : Seen → Type 0) (done delivered : List ℕ → List ℕ → List ℕ → Type 0) (f0 f1 : Option ClientFault) (rests : Type 0) (source next : Past → Type 0) (passed : Passed)
     → line ≡ Some l → ((body next back : List ℕ) → hopso (shows h.history) body next back → hops (shows h.history) body next back) → Others agrees read (said m) (heard m) hops refuses → ((x : Seen) (adapted text : List ℕ) → heard l x adapted text → heard m x adapted text) → IsTied h
     → (shows h.history).closed ≡ false → SendPart h k (said l) (said m) f0 f1 rests (past l) (past m) passed
@@ -222,15 +255,15 @@ pub send_goes : {L : Type 0} (line : Option L) (l m : L) (h k : Holding) (agrees
 send_goes {L} line l m h k agrees read said heard past hopso hops refuses done delivered f0 f1 rests source next passed e conv u same tied c d =
     subst (λ (z : Option L). Goes (Stands h agrees read (on_line said z) (heard_on_line heard z) hopso refuses done) (Stands k agrees read (said m) (heard m) hops refuses delivered) source source (past_on past z) (past m) next next) (sym e)
     (record {
-      delta = record { source_read = []; service_read = []; service_taken = d.delta; next_taken = []; back_taken = [] };
-      stands = λ request t o. of_five (Stands k agrees read (said m) (heard m) hops refuses delivered request) _ _ _ _ _ _ _ _ _ _ (sym (append-nil t.source_read)) (sym (append-nil t.service_read)) refl (sym (append-nil t.next_taken)) (sym (append-nil t.back_taken))
+      delta = record { source_read = no_given; service_read = []; service_taken = d.delta; next_taken = []; back_taken = [] };
+      stands = λ request t o. of_five (Stands k agrees read (said m) (heard m) hops refuses delivered request) _ _ _ _ _ _ _ _ _ _ (given_still t.source_read) (sym (append-nil t.service_read)) refl (sym (append-nil t.next_taken)) (sym (append-nil t.back_taken))
           (send_stands h k agrees read (said l) (said m) (heard l) (heard m) hops refuses delivered f0 f1 rests (past l) (past m) passed request t u same tied c d (reopen h agrees read (said l) (heard l) hopso hops refuses done delivered request t c conv o));
-      source = λ p b. still source p b;
+      source = λ p b. still_source source p b;
       service = λ p b. let w = d.part.wire p b in (w.0, w.1, w.2);
       next = λ p b. still next p b;
     })
 
-pub hear_goes : {L : Type 0} (line : Option L) (l m : L) (h k : Holding) (agrees : Seen → Type 0) (read : Seen → List ℕ → List ℕ → Type 0) (said : L → List ℕ → Seen → List ℕ → List ℕ → Type 0) (heard : L → Seen → List ℕ → List ℕ → Type 0) (past : L → Past → Type 0)
+pub hear_goes : {L : Type 0} (line : Option L) (l m : L) (h k : Holding) (agrees : Seen → Type 0) (read : Seen → List ℕ → Given → Type 0) (said : L → List ℕ → Seen → List ℕ → List ℕ → Type 0) (heard : L → Seen → List ℕ → List ℕ → Type 0) (past : L → Past → Type 0)
     (hopso hops : Seen → List ℕ → List ℕ → List ℕ → Type 0) (refuses : Seen → Type 0) (done delivered : List ℕ → List ℕ → List ℕ → Type 0) (f0 f1 : Option ClientFault) (rests framed : Type 0) (source next : Past → Type 0) (passed : Passed)
     → line ≡ Some l → ((body next back : List ℕ) → hopso (shows h.history) body next back → hops (shows h.history) body next back) → Others agrees read (said m) (heard m) hops refuses → ((heads came text : List ℕ) → said l heads (shows h.history) came text → said m heads (shows h.history) came text) → IsTied h
     → (shows h.history).closed ≡ false → HearPart h k (heard l) (heard m) f0 f1 rests framed (past l) (past m) passed
@@ -239,10 +272,10 @@ pub hear_goes : {L : Type 0} (line : Option L) (l m : L) (h k : Holding) (agrees
 hear_goes {L} line l m h k agrees read said heard past hopso hops refuses done delivered f0 f1 rests framed source next passed e conv u same tied c d =
     subst (λ (z : Option L). Goes (Stands h agrees read (on_line said z) (heard_on_line heard z) hopso refuses done) (Stands k agrees read (said m) (heard m) hops refuses delivered) source source (past_on past z) (past m) next next) (sym e)
     (record {
-      delta = record { source_read = []; service_read = d.delta; service_taken = []; next_taken = []; back_taken = [] };
-      stands = λ request t o. of_five (Stands k agrees read (said m) (heard m) hops refuses delivered request) _ _ _ _ _ _ _ _ _ _ (sym (append-nil t.source_read)) refl (sym (append-nil t.service_taken)) (sym (append-nil t.next_taken)) (sym (append-nil t.back_taken))
+      delta = record { source_read = no_given; service_read = d.delta; service_taken = []; next_taken = []; back_taken = [] };
+      stands = λ request t o. of_five (Stands k agrees read (said m) (heard m) hops refuses delivered request) _ _ _ _ _ _ _ _ _ _ (given_still t.source_read) refl (sym (append-nil t.service_taken)) (sym (append-nil t.next_taken)) (sym (append-nil t.back_taken))
           (hear_stands h k agrees read (said l) (said m) (heard l) (heard m) hops refuses delivered f0 f1 rests framed (past l) (past m) passed request t u same tied c d (reopen h agrees read (said l) (heard l) hopso hops refuses done delivered request t c conv o));
-      source = λ p b. still source p b;
+      source = λ p b. still_source source p b;
       service = λ p b. let w = d.part.wire p b in (w.0, w.1, w.2);
       next = λ p b. still next p b;
     })
@@ -253,7 +286,7 @@ abbrev nil : List ℕ
 nil = []
 
 pub line_again : {V W : Type 0} (has_sent : List ℕ → Seen → List ℕ → List ℕ → V → Type 0) (has_heard : Seen → List ℕ → List ℕ → V → Type 0) (line : Option (Line V W)) (l m : Line V W) (h k : Holding)
-    (agrees : Seen → Type 0) (read : Seen → List ℕ → List ℕ → Type 0) (hopso hops : Seen → List ℕ → List ℕ → List ℕ → Type 0) (refuses : Seen → Type 0) (done delivered : List ℕ → List ℕ → List ℕ → Type 0) (request : List ℕ) (t : Texts)
+    (agrees : Seen → Type 0) (read : Seen → List ℕ → Given → Type 0) (hopso hops : Seen → List ℕ → List ℕ → List ℕ → Type 0) (refuses : Seen → Type 0) (done delivered : List ℕ → List ℕ → List ℕ → Type 0) (request : List ℕ) (t : Texts)
     → line ≡ Some l → ((body next back : List ℕ) → hopso (shows h.history) body next back → hops (shows h.history) body next back) → Others agrees read (λ heads x came taken. has_sent heads x came taken m.side) (λ x adapted text. has_heard x adapted text m.side) hops refuses
     → IsTied h → IsRoomy h → MayFollow h.history.plan h.history.events Retry → k ≡ moved h Retry []
     → ((x : Seen) (heads came taken adapted text : List ℕ) → x.closed ≡ false → Allows x Retry → length came ≡ x.received → has_sent heads x came taken l.side → has_heard x adapted text l.side → has_sent heads (after x Retry) came [] m.side)
@@ -268,7 +301,7 @@ line_again {V} {W} has_sent has_heard line l m h k agrees read hopso hops refuse
     (subst (λ (z : Option (Line V W)). Stands h agrees read (λ heads x came taken. MatchOption z (taken ≡ []) (λ y. has_sent heads x came taken y.side)) (λ x adapted text. MatchOption z ((adapted ≡ []) × (text ≡ [])) (λ y. has_heard x adapted text y.side)) hopso refuses done request t) e s))
 
 pub none_again : {V W : Type 0} (has_sent : List ℕ → Seen → List ℕ → List ℕ → V → Type 0) (has_heard : Seen → List ℕ → List ℕ → V → Type 0) (line : Option (Line V W)) (h k : Holding)
-    (agrees : Seen → Type 0) (read : Seen → List ℕ → List ℕ → Type 0) (hops : Seen → List ℕ → List ℕ → List ℕ → Type 0) (refuses : Seen → Type 0) (done delivered : List ℕ → List ℕ → List ℕ → Type 0) (request : List ℕ) (t : Texts)
+    (agrees : Seen → Type 0) (read : Seen → List ℕ → Given → Type 0) (hops : Seen → List ℕ → List ℕ → List ℕ → Type 0) (refuses : Seen → Type 0) (done delivered : List ℕ → List ℕ → List ℕ → Type 0) (request : List ℕ) (t : Texts)
     → line ≡ None
     → Others agrees read (λ heads x came taken. MatchOption line (taken ≡ []) (λ z. has_sent heads x came taken z.side)) (λ x adapted text. MatchOption line ((adapted ≡ []) × (text ≡ [])) (λ z. has_heard x adapted text z.side)) hops refuses
     → IsTied h → IsRoomy h → MayFollow h.history.plan h.history.events Retry → k ≡ moved h Retry []
@@ -286,7 +319,7 @@ none_again {V} {W} has_sent has_heard line h k agrees read hops refuses done del
 -- the beginning
 
 pub begins : {V W K : Type 0} (has_sent : List ℕ → Seen → List ℕ → List ℕ → V → Type 0) (has_heard : Seen → List ℕ → List ℕ → V → Type 0) (has_given : Seen → List ℕ → List ℕ → List ℕ → K → Type 0) (is_whole : List ℕ → List ℕ → List ℕ → K → Type 0) (gift : K → Gift) (aside : List ℕ → K → Type 0)
-    (h : Holding) (plan : Plan) (agrees : Seen → Type 0) (read : Seen → List ℕ → List ℕ → Type 0) (line : Option (Line V W)) (next back : K) (text request : List ℕ)
+    (h : Holding) (plan : Plan) (agrees : Seen → Type 0) (read : Seen → List ℕ → Given → Type 0) (line : Option (Line V W)) (next back : K) (text : Given) (request : List ℕ)
     → h.history ≡ record { plan = plan; events = [] } → h.original ≡ record { base = 0; bytes = [] } → h.adapted ≡ record { base = 0; bytes = [] }
     → agrees (seen plan []) → read (seen plan []) [] text → IfSome line (λ l. has_sent request (seen plan []) [] [] l.side × has_heard (seen plan []) [] [] l.side)
     → gift next ≡ nothing → aside [] next → gift back ≡ nothing → aside [] back

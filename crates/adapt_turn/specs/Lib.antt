@@ -1,3 +1,4 @@
+pub mod Freeing
 pub mod Made
 pub mod Moved
 pub mod Parts

@@ -1,5 +1,5 @@
 -- The head that a message begins with: made of the heads that were read, as it was chosen.
-use Rattle.std.specs.Prelude.{◌≡◌, ℕ, ◌&&◌, Bool, true, false, List, Option, Some, None, if◌then◌else◌}
+use Rattle.std.specs.Prelude.{◌≡◌, ℕ, MatchOption, ◌&&◌, Bool, true, false, List, Option, Some, None, if◌then◌else◌}
 use Rattle.trace_core.specs.declared.history.Seen.{Seen}
 use Rattle.trace_core.specs.declared.history.Point.{Point}
 use Rattle.trace_core.specs.declared.history.Point.TheVariants.{Reqmod, Respmod}
@@ -10,6 +10,20 @@ use Rattle.trace_core.specs.Legal.{IsLegal}
 use Rattle.trace_core.specs.Turns.{after_all, MayAllFollow}
 use Rattle.adapt_turn.specs.declared.start.Line.{Line}
 use Rattle.adapt_turn.specs.Stands.{IsChosen}
+
+-- the service's wire, as long as its connection is held
+abbrev pub wire_of : {V W : Type 0} → Option (Line V W) → Option W
+wire_of None = None
+wire_of (Some line) = line.wire
+
+-- the same side, and its connection is given up
+abbrev pub without_wire : {V W : Type 0} → Option (Line V W) → Option (Line V W)
+without_wire None = None
+without_wire (Some line) = Some (record { side = line.side; wire = None })
+
+-- what is so where its connection isn't held, and where it is
+abbrev pub on_held : {V W : Type 0} → Option (Line V W) → (unheld : Type 0) → (held : W → Type 0) → Type 0
+on_held line unheld held = MatchOption line unheld (λ l. MatchOption l.wire unheld held)
 
 -- the adapted head that a service's side read, where there is a service
 abbrev pub adapted_of : {V W : Type 0} → (V → Option (List ℕ)) → Option (Line V W) → Option (List ℕ)

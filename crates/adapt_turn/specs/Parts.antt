@@ -15,7 +15,7 @@ use Rattle.adapt_sides.specs.declared.fault.ClientFault.TheVariants as client
 use Rattle.adapt_sides.specs.declared.fault.RelayFault.{RelayFault}
 use Rattle.adapt_sides.specs.declared.fault.RelayFault.TheVariants as relay
 use Rattle.adapt_sides.specs.Tapes.{chosen}
-use Rattle.adapt_sides.specs.Turns.{OfRelayWire, OfClientWire}
+use Rattle.adapt_sides.specs.Turns.{Given, given_then, OfRelayWire, OfClientWire}
 use Rattle.adapt_hold.specs.Spans.{EndsBody}
 use Rattle.adapt_hold.specs.Holding.{Holding, shows, moved}
 use Rattle.adapt_hold.specs.Steps.{MayRun, moved_all}
@@ -109,17 +109,20 @@ pub record Part {F : Type 0} (of_wire : F → Past → Past → Type 0) (own : F
   pub tells : Tells delta reported passed
   pub sound : passed.failed ≡ None → passed.broken ≡ false → new_fault ≡ None
 
--- The source's wire gave these bytes, of the body no more than there was room for; where it waits, all is framed that may be.
-pub record SourcePart (old new : Holding) (read_old read_new : Seen → List ℕ → List ℕ → Type 0) (agrees_new : Seen → Type 0) (old_fault new_fault : Option RelayFault) (rests all_framed : Type 0) (before after : Past → Type 0) (passed : Passed) : Type 0 where
-  pub delta : List ℕ
+-- The source's wire gave this, of the body no more than there was room for; where it waits, all is framed that may be; and an end
+-- that the framing tells isn't withheld.
+pub record SourcePart (old new : Holding) (read_old read_new : Seen → List ℕ → Given → Type 0) (agrees_new : Seen → Type 0) (old_fault new_fault : Option RelayFault) (rests all_framed over : Type 0) (before after : Past → Type 0) (passed : Passed) : Type 0 where
+  pub delta : Given
   pub out : List ℕ
   pub reported : List Event
-  pub part : Part OfRelayWire source_cause old new is_of_source reported out delta [] delta old_fault new_fault rests (λ past. past.read_waits) before after passed
+  pub part : Part OfRelayWire source_cause old new is_of_source reported out delta.bytes [] delta.bytes old_fault new_fault rests (λ past. past.read_waits) before after passed
   pub few : in_sum reported ≤ original_room (shows old.history) old.claim old.limits.window
   pub framed : passed.waiting ≡ true → all_framed
+  pub wire : (p : Past) → before p → (q : Past) × after q × IsLater p delta.bytes [] q × (delta.ended ≡ true → p.ends < q.ends)
+  pub told : passed.failed ≡ None → over → (after_all (shows old.history) reported).ended ≡ true
   pub agrees : agrees_new (after_all (shows old.history) reported)
-  pub goes_on : (body read : List ℕ) → read_old (shows old.history) body read
-      → read_new (after_all (shows old.history) reported) (body ++ take (in_sum reported) out) (read ++ delta)
+  pub goes_on : (body : List ℕ) (read : Given) → read_old (shows old.history) body read
+      → read_new (after_all (shows old.history) reported) (body ++ take (in_sum reported) out) (given_then read delta)
 
 -- the service's wire took these bytes
 pub record SendPart (old new : Holding) (sent_old sent_new : List ℕ → Seen → List ℕ → List ℕ → Type 0) (old_fault new_fault : Option ClientFault) (rests : Type 0) (before after : Past → Type 0) (passed : Passed) : Type 0 where

@@ -1,11 +1,13 @@
 -- The proxy's own refusal: its status, and that it stands where the user has got no byte.
-use Rattle.std.specs.Prelude.{◌≡◌, ℕ, ◌⊎◌, Bool, true, false, Option, is_some}
+use Rattle.std.specs.Prelude.{◌≡◌, ℕ, ◌⊎◌, Bool, true, false, Option, Some}
 use Rattle.trace_core.specs.declared.history.Cause.{Cause}
 use Rattle.trace_core.specs.declared.history.Cause.TheVariants.{Source, Service, NextHop, Memory, Deadline, Stopping}
 use Rattle.trace_core.specs.declared.history.Point.{Point}
 use Rattle.trace_core.specs.declared.history.Point.TheVariants.{Reqmod, Respmod}
-use Rattle.adapt_sides.specs.Turns.{Gift}
-use Rattle.adapt_sides.specs.Turns.Gift.{refusal}
+use Rattle.adapt_sides.specs.declared.fault.RelayFault.{RelayFault}
+use Rattle.adapt_sides.specs.declared.fault.RelayFault.TheVariants as relay
+use Rattle.adapt_sides.specs.Turns.{Gift, wire_fault}
+use Rattle.adapt_sides.specs.Turns.Gift.{message, refusal}
 
 -- the status by what the transaction failed of; at REQMOD the source is the user
 abbrev pub refusal_status : Cause → Point → ℕ
@@ -27,5 +29,14 @@ abbrev pub HasRefusal : (status : ℕ) → (refusing : Bool) → Gift → (untou
 HasRefusal status refusing gift untouched = ((refusing ≡ true) × (gift ≡ refusal status)) ⊎ ((refusing ≡ false) × (untouched ≡ false))
 
 -- the refusal is out, or its wire has failed
-abbrev pub IsOver : {F : Type 0} → Bool → Option F → Type 0
-IsOver out fault = (out ≡ true) ⊎ (is_some fault ≡ true)
+abbrev pub IsOver : (out : Bool) → Option RelayFault → Type 0
+IsOver out fault = (out ≡ true) ⊎ (fault ≡ Some relay.Device)
+
+-- the fault of the user's writer
+abbrev pub user_fault : Point → (next back : Option RelayFault) → Option RelayFault
+user_fault Reqmod next back = back
+user_fault Respmod next back = next
+
+-- where a refusal is due, its writer has no message, and no fault but that its wire has failed
+abbrev pub IsDue : Gift → Option RelayFault → Type 0
+IsDue gift fault = (gift ≡ message → ⊥) × (fault ≡ wire_fault fault)

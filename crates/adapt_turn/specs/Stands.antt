@@ -1,5 +1,6 @@
 -- How a transaction's history, its tapes and its wires belong together.
 use Rattle.std.specs.Prelude.{◌≡◌, ℕ, ◌<◌, ◌≤◌, ◌⊎◌, Bool, true, false, List, [], ◌++◌, Option, Some, None, if◌then◌else◌}
+use Rattle.adapt_sides.specs.declared.fault.RelayFault.{RelayFault}
 use Rattle.trace_core.specs.declared.history.Seen.{Seen}
 use Rattle.trace_core.specs.declared.history.Cause.{Cause}
 use Rattle.trace_core.specs.declared.history.Point.{Point}
@@ -8,13 +9,13 @@ use Rattle.trace_core.specs.Faults.{chooses_original}
 use Rattle.wire_kit.specs.Past.{Past, IsLater}
 use Rattle.adapt_sides.specs.declared.fault.ClientFault.{ClientFault}
 use Rattle.adapt_sides.specs.Tapes.{chosen, IsUndelivered}
-use Rattle.adapt_sides.specs.Turns.{Gift, OfClientWire}
+use Rattle.adapt_sides.specs.Turns.{Gift, Given, given_then, OfClientWire, OfRelayWire}
 use Rattle.adapt_sides.specs.Turns.Gift.{nothing, message, refusal}
 use Rattle.adapt_hold.specs.Spans.{Span, EndsBody}
 use Rattle.adapt_hold.specs.Holding.{Holding, shows}
 use Rattle.trace_core.specs.History.{History}
 use Rattle.adapt_turn.specs.declared.turned.Outcome.TheVariants as outcomes
-use Rattle.adapt_turn.specs.Parts.{outcome_of, service_cause}
+use Rattle.adapt_turn.specs.Parts.{outcome_of, service_cause, hop_cause}
 
 -- the next hop has a message to get
 abbrev pub IsChosen : Seen → Type 0
@@ -25,7 +26,8 @@ chosen_span h = if chooses_original (shows h.history) then h.original else h.ada
 
 -- What the wires gave and took since the transaction's messages began on them.
 pub record Texts : Type 0 where
-  pub source_read : List ℕ
+  -- with whether the source's wire has ended
+  pub source_read : Given
   pub service_read : List ℕ
   pub service_taken : List ℕ
   -- what the next hop's wire took
@@ -36,7 +38,7 @@ pub record Texts : Type 0 where
 -- further bytes on each wire
 abbrev pub joined : Texts → Texts → Texts
 joined t d = record {
-  source_read = t.source_read ++ d.source_read;
+  source_read = given_then t.source_read d.source_read;
   service_read = t.service_read ++ d.service_read;
   service_taken = t.service_taken ++ d.service_taken;
   next_taken = t.next_taken ++ d.next_taken;
@@ -44,7 +46,7 @@ joined t d = record {
 }
 
 abbrev pub no_texts : Texts
-no_texts = record { source_read = []; service_read = []; service_taken = []; next_taken = []; back_taken = [] }
+no_texts = record { source_read = record { bytes = []; ended = false }; service_read = []; service_taken = []; next_taken = []; back_taken = [] }
 
 -- what the user's writer has: at REQMOD the user is the source, at RESPMOD the next hop
 abbrev pub user_gift : Point → Gift → Gift → Gift
@@ -119,7 +121,7 @@ IsDelivered refusing next_gift back_gift next_whole next_aside back_whole back_a
 -- The source's bytes spell the original, the service's the adapted body, and the tapes keep the ends of both; what the service's
 -- wire took is of one request, with these heads and the original, and what the next hop's took of one message with the chosen body:
 -- where Done stands, it took the whole of it.
-pub record Stands (h : Holding) (agrees : Seen → Type 0) (read : Seen → List ℕ → List ℕ → Type 0) (sent : List ℕ → Seen → List ℕ → List ℕ → Type 0) (heard : Seen → List ℕ → List ℕ → Type 0)
+pub record Stands (h : Holding) (agrees : Seen → Type 0) (read : Seen → List ℕ → Given → Type 0) (sent : List ℕ → Seen → List ℕ → List ℕ → Type 0) (heard : Seen → List ℕ → List ℕ → Type 0)
     (hops : Seen → List ℕ → List ℕ → List ℕ → Type 0) (refuses : Seen → Type 0) (delivered : List ℕ → List ℕ → List ℕ → Type 0) (request : List ℕ) (t : Texts) : Type 0 where
   pub original : List ℕ
   pub adapted : List ℕ
@@ -137,7 +139,7 @@ pub record Stands (h : Holding) (agrees : Seen → Type 0) (read : Seen → List
 pub record Goes (old_stands new_stands : List ℕ → Texts → Type 0) (source_old source_new service_old service_new next_old next_new : Past → Type 0) : Type 0 where
   pub delta : Texts
   pub stands : (request : List ℕ) (t : Texts) → old_stands request t → new_stands request (joined t delta)
-  pub source : (p : Past) → source_old p → (q : Past) × source_new q × IsLater p delta.source_read delta.back_taken q
+  pub source : (p : Past) → source_old p → (q : Past) × source_new q × IsLater p delta.source_read.bytes delta.back_taken q × (delta.source_read.ended ≡ true → p.ends < q.ends)
   pub service : (p : Past) → service_old p → (q : Past) × service_new q × IsLater p delta.service_read delta.service_taken q
   pub next : (p : Past) → next_old p → (q : Past) × next_new q × IsLater p [] delta.next_taken q
 
@@ -165,6 +167,13 @@ abbrev pub Blamed : {F : Type 0} → (F → Past → Past → Type 0) → (F →
 Blamed {F} of_wire own cause old_fault new_fault before after =
     (p : Past) → before p → (q : Past) × after q
     × ((fault : F) × (new_fault ≡ Some fault) × (cause ≡ own fault) × (old_fault ≡ None → of_wire fault p q))
+
+-- The cause is that of a fault of the writer: of the one that it had, or of one that it met in this call, which has this reason, and
+-- `OfRelayWire` says what it shows of the wire.
+abbrev pub BlamedWriter : Cause → (reason : RelayFault → Type 0) → (old_fault : Option RelayFault) → (Past → Type 0) → (Past → Type 0) → Type 0
+BlamedWriter cause reason old_fault before after =
+    (p : Past) → before p → (q : Past) × after q
+    × ((fault : RelayFault) × (cause ≡ hop_cause fault) × ((had : RelayFault) → old_fault ≡ Some had → cause ≡ hop_cause had) × (old_fault ≡ None → OfRelayWire fault p q × reason fault))
 
 -- the same of the service
 abbrev pub BlamedService : Cause → Option ClientFault → Option ClientFault → (Past → Type 0) → (Past → Type 0) → Type 0

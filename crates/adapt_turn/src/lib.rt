@@ -10,6 +10,6 @@ mod tx;
 
 pub use forward::Forward;
 pub use parts::Passed;
-pub use start::{Line, Parts, Start};
+pub use start::{FreeLine, Line, Parts, Start};
 pub use turned::{Outcome, Side, Turned};
 pub use tx::{Answering, Going, Refusing, Standing, Tx};

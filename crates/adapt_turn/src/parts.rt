@@ -8,6 +8,7 @@ ghost use Rattle.plan_rules.specs.Room.{original_room, adapted_room};
 ghost use Rattle.adapt_hold.specs.Spans.{span_of};
 ghost use Rattle.adapt_hold.specs.Holding.{shows, moved, IsRoomy, IsTied};
 ghost use Rattle.adapt_sides.specs.declared.fault.ClientFault.TheVariants.{Device};
+ghost use Rattle.adapt_sides.specs.declared.fault.RelayFault.{RelayFault as Fault};
 ghost use Rattle.adapt_sides.specs.Turns.{FailsGiving};
 ghost use Rattle.adapt_turn.specs.Parts.{Breaks, HasCause, SourcePart, SendPart, HearPart, HopPart, source_cause, service_cause, hop_cause, outcome_by};
 ghost use Rattle.adapt_turn.specs.Stands.{IsChosen, chosen_span};
@@ -119,7 +120,7 @@ pub(crate) fn take_source<B: Ledgers, S: Source, A: Wire>(
     requires agrees { S.agrees (shows hold.old.history) source.old }
     requires room { length out.old ≡ original_room (shows hold.old.history) hold.old.claim hold.old.limits.window }
     ensures part { SourcePart hold.old hold.new (λ x body read. S.has_read x body read source.old) (λ x body read. S.has_read x body read source.new)
-        (λ x. S.agrees x source.new) (S.fault source.old) (S.fault source.new) (S.rests (original_room (shows hold.old.history) hold.old.claim hold.old.limits.window) source.new) (S.is_framed (original_room (shows hold.old.history) hold.old.claim hold.old.limits.window) source.new)
+        (λ x. S.agrees x source.new) (S.fault source.old) (S.fault source.new) (S.rests (original_room (shows hold.old.history) hold.old.claim hold.old.limits.window) source.new) (S.is_framed (original_room (shows hold.old.history) hold.old.claim hold.old.limits.window) source.new) (S.is_over source.new)
         (A.past wire.old) (A.past wire.new) result }
     ensures reason { HasCause (S.fault source.old) (S.fault source.new) (λ fault. S.has_reason fault source.new) }
     ensures head { S.head source.new ≡ S.head source.old }
@@ -269,6 +270,7 @@ pub(crate) fn give<B: Ledgers, K: Hop, W: Wire>(
         (λ head body taken. K.is_whole head body taken hop.new) (K.fault hop.old) (K.fault hop.new) (K.rests (shows hold.old.history) hop.new)
         (W.past wire.old) (W.past wire.new) result }
     ensures reason { HasCause (K.fault hop.old) (K.fault hop.new) (FailsGiving (K.breaks_length (shows hold.old.history) (K.body_framing hop.new))) }
+    ensures again { (had : Fault) → K.fault hop.old ≡ Some had → result.failed ≡ Some (hop_cause had) }
     ensures gift { K.gift hop.new ≡ K.gift hop.old }
     ensures framing { K.body_framing hop.new ≡ K.body_framing hop.old }
     ensures whole { result.broken ≡ false }

@@ -5,10 +5,17 @@ use plan_rules::{Limits, Plan};
 use span_bank::{Ledgers, Stake};
 use trace_core::Seen;
 
-/// The service's side with its wire.
+/// The service's side with its wire: none once the connection was given up.
 pub struct Line<V, W> {
     pub side: V,
+    pub wire: Option<W>,
+}
+
+/// A connection that a transaction gave up.
+pub struct FreeLine<W> {
     pub wire: W,
+    /// Whether it may carry another request.
+    pub is_reusable: bool,
 }
 
 /// What a transaction begins with.

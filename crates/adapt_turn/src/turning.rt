@@ -27,7 +27,7 @@ pub(crate) fn read_source<B: Ledgers, S: Source, A: Wire>(
     requires roomy { IsRoomy hold.old }
     requires agrees { S.agrees (shows hold.old.history) source.old }
     ensures part { SourcePart hold.old hold.new (λ x body read. S.has_read x body read source.old) (λ x body read. S.has_read x body read source.new)
-        (λ x. S.agrees x source.new) (S.fault source.old) (S.fault source.new) (S.rests (original_room (shows hold.old.history) hold.old.claim hold.old.limits.window) source.new) (S.is_framed (original_room (shows hold.old.history) hold.old.claim hold.old.limits.window) source.new)
+        (λ x. S.agrees x source.new) (S.fault source.old) (S.fault source.new) (S.rests (original_room (shows hold.old.history) hold.old.claim hold.old.limits.window) source.new) (S.is_framed (original_room (shows hold.old.history) hold.old.claim hold.old.limits.window) source.new) (S.is_over source.new)
         (A.past wire.old) (A.past wire.new) result }
     ensures reason { HasCause (S.fault source.old) (S.fault source.new) (λ fault. S.has_reason fault source.new) }
     ensures head { S.head source.new ≡ S.head source.old }

@@ -8,13 +8,15 @@ ghost use Rattle.trace_core.specs.Legal.{MayFollow};
 ghost use Rattle.plan_rules.specs.Claims.{claim_of};
 ghost use Rattle.adapt_hold.specs.Holding.{shows, IsRoomy, IsTied};
 ghost use Rattle.trace_core.specs.History.{seen};
-ghost use Rattle.adapt_sides.specs.Turns.{Gift};
+ghost use Rattle.adapt_sides.specs.Turns.{Gift, Given};
 ghost use Rattle.adapt_sides.specs.Turns.Gift.{nothing};
 ghost use Rattle.adapt_turn.specs.Parts.{outcome_of, fault_of};
-ghost use Rattle.adapt_turn.specs.Stands.{Texts, no_texts};
+ghost use Rattle.adapt_turn.specs.Refusals.{IsDue, user_fault};
+ghost use Rattle.adapt_turn.specs.Stands.{Texts, no_texts, user_gift};
 
 mod answers;
 mod counts;
+mod freeing;
 mod giving;
 mod passes;
 mod refusals;
@@ -93,6 +95,8 @@ pub struct Tx<
     refusing: bool,
     outcome: Outcome,
     ghost roomy: { IsRoomy hold },
+    // a refusal that is due goes to the user of a closed transaction
+    ghost owed: { refusing ≡ true → ((shows hold.history).closed ≡ true) × IsDue (user_gift hold.history.plan.point (K.gift next) (K.gift back)) (user_fault hold.history.plan.point (K.fault next) (K.fault back)) },
     // how it ended is what its history says
     pub ghost told: { outcome ≡ outcome_of hold.history.events },
 }
@@ -126,17 +130,18 @@ impl<
 
 impl<B: Ledgers, S: Source, V: Service, K: Hop, F: Forward<S, K>, A: Wire, W: Wire, C: Wire> Going
     for Tx<B, S, V, K, F, A, W, C> {
-    ghost use Rattle.std.specs.Prelude.{◌≡◌, MatchOption};
+    ghost use Rattle.std.specs.Prelude.{◌≡◌};
     ghost use Rattle.adapt_turn.specs.Stands.{Goes};
+    ghost use Rattle.adapt_turn.specs.Made.{on_held};
     ghost use Rattle.adapt_turn.specs.Moved.{SumsBytes, MovesOver};
 
     ghost goes = { λ old new. Goes (⟦<Tx<B, S, V, K, F, A, W, C> as Standing>⟧.stands old) (⟦<Tx<B, S, V, K, F, A, W, C> as Standing>⟧.stands new)
         (A.past old.source_wire) (A.past new.source_wire)
-        (λ p. MatchOption old.service ⊥ (λ line. W.past line.wire p)) (λ p. MatchOption new.service ⊥ (λ line. W.past line.wire p))
+        (λ p. on_held old.service ⊥ (λ wire. W.past wire p)) (λ p. on_held new.service ⊥ (λ wire. W.past wire p))
         (C.past old.next_wire) (C.past new.next_wire) };
 
     ghost moves = { λ old new n. SumsBytes (MovesOver (A.past old.source_wire) (A.past new.source_wire))
-        (λ k. MatchOption old.service (k ≡ 0) (λ line. MovesOver (W.past line.wire) (λ p. MatchOption new.service ⊥ (λ later. W.past later.wire p)) k))
+        (λ k. on_held old.service (k ≡ 0) (λ wire. MovesOver (W.past wire) (λ p. on_held new.service ⊥ (λ later. W.past later p)) k))
         (MovesOver (C.past old.next_wire) (C.past new.next_wire)) n };
 }
 
@@ -193,7 +198,7 @@ impl<B: Ledgers, S: Source, V: Service, K: Hop, F: Forward<S, K>, A: Wire, W: Wi
         ensures holds { IfOk result (λ tx. (tx.hold.limits ≡ start.limits) × (tx.hold.claim ≡ start.stake.claim) × (tx.hold.held ≡ 0)) }
         ensures clock { IfOk result (λ tx. (tx.last_moved ≡ start.now) × (tx.deadline ≡ start.deadline)) }
         ensures line { IfOk result (λ tx. (tx.broken ≡ false) × (tx.reused ≡ start.reused)) }
-        ensures stands { IfOk result (λ tx. (read request : List ℕ) → S.has_read (seen start.plan []) [] read start.source
+        ensures stands { IfOk result (λ tx. (read : Given) (request : List ℕ) → S.has_read (seen start.plan []) [] read start.source
             → IfSome start.service (λ line. V.has_sent request (seen start.plan []) [] [] line.side × V.has_heard (seen start.plan []) [] [] line.side)
             → K.gift start.next ≡ nothing → K.aside [] start.next → K.gift start.back ≡ nothing → K.aside [] start.back
             → ⟦<Self as Standing>⟧.stands tx request (record no_texts { source_read = read })) }

@@ -8,6 +8,7 @@ use Rattle.chunk_writer.specs.Cut.{IsPrefixOf}
 use Rattle.chunk_writer.specs.Behind.{WaitsBehind}
 use Rattle.http_side.specs.Refusals.{refusal}
 use Rattle.http_side.specs.declared.body.Framing.{Framing}
+use Rattle.adapt_sides.specs.Turns.{Given}
 use Rattle.adapt_sides.specs.Tapes.{chosen, chosen_delivered, chosen_received, IsUndelivered}
 use Rattle.adapt_hold.specs.Spans.{EndsBody}
 use Rattle.adapt_hold.specs.Holding.{Holding, shows}
@@ -71,7 +72,7 @@ pub record TookMessage (made : List ℕ → Type 0) (framing : Framing) (body ta
 -- there is nothing of it. Of the wires to the next hop and back to the user one took a front of one message with a head that was made
 -- and the chosen body, or of a refusal, and the other one nothing of a message. A refusal is the user's alone. Where Done stands, one
 -- of them took the whole message.
-pub record WiresTook {Line : Type 0} (read heard : Seen → List ℕ → List ℕ → Type 0) (service : Option Line) (next_made back_made : List ℕ → Type 0) (next_framing back_framing : Framing) (h : Holding) (request : List ℕ) (t : Texts) : Type 0 where
+pub record WiresTook {Line : Type 0} (read : Seen → List ℕ → Given → Type 0) (heard : Seen → List ℕ → List ℕ → Type 0) (service : Option Line) (next_made back_made : List ℕ → Type 0) (next_framing back_framing : Framing) (h : Holding) (request : List ℕ) (t : Texts) : Type 0 where
   pub original : List ℕ
   pub adapted : List ℕ
   pub original_is : EndsBody h.original original

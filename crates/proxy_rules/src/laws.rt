@@ -45,8 +45,8 @@ pub fn a_missing_head_is_of_a_side()
         → MakesNone user source x adapted is_response Stopping → ⊥ }
 {}
 
-/// Of a transaction of the proxy's own sides, wherever it stands: its source's wire gave a message with the original body, and its
-/// service's the adapted one. The service's wire took a front of the one request whose heads were offered at the beginning, with
+/// Of a transaction of the proxy's own sides, wherever it stands: its source's wire gave a message with the original body, whole where it has ended: by its
+/// framing, or because that wire has ended; and its service's gave the adapted one. The service's wire took a front of the one request whose heads were offered at the beginning, with
 /// the original. One of the wires to the next hop and to the user took a front of one message with the chosen body, or of a refusal
 /// alone, and the other one nothing of a message. Of the body just the bytes were taken that the history counts. The message's head,
 /// and how its body goes, were made of the heads that were read, at a moment of such a history. A refusal goes to the user alone.
@@ -56,7 +56,7 @@ pub fn the_wires_take_one_message<B: Ledgers, A: Wire, W: Wire, C: Wire>(
 )
     ensures tied { IsTied tx.now.hold }
     ensures took { (request : List ℕ) (t : Texts) → ⟦<Tx<B, SourceSide, ServiceSide, NextHop, HeadMaker, A, W, C> as Standing>⟧.stands tx.now request t
-        → WiresTook (λ x body read. SideRead x body read tx.now.source)
+        → WiresTook (λ x body read. SideRead x body read.bytes read.ended tx.now.source)
         (λ x adapted read. MatchOption tx.now.service ((adapted ≡ []) × (read ≡ [])) (λ line. ServiceHeard x adapted read line.side)) tx.now.service
         (λ head. IsMade (⟦<HeadMaker as Forward<SourceSide, NextHop>>⟧.makes tx.now.forward (⟦<SourceSide as Source>⟧.head tx.now.source))
         (adapted_of ⟦<ServiceSide as Service>⟧.adapted_head tx.now.service) (response_of ⟦<ServiceSide as Service>⟧.is_response tx.now.service) tx.now.next.framing (shows tx.now.hold.history) head)

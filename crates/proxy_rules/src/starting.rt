@@ -57,7 +57,7 @@ pub fn begin<B: Ledgers, A: Wire, W: Wire, C: Wire>(
     ensures begun { IfOk result (λ tx. tx.hold.history ≡ record { plan = beginning.plan; events = [] }) }
     ensures clock { IfOk result (λ tx. (tx.last_moved ≡ beginning.now) × (tx.deadline ≡ beginning.deadline)) }
     ensures stands { IfOk result (λ tx. (read request : List ℕ) → Begins read beginning.source → IfSome beginning.service (λ line. IsUnused request line.side)
-        → ⟦<Tx<B, SourceSide, ServiceSide, NextHop, HeadMaker, A, W, C> as Standing>⟧.stands tx request (record no_texts { source_read = read })) }
+        → ⟦<Tx<B, SourceSide, ServiceSide, NextHop, HeadMaker, A, W, C> as Standing>⟧.stands tx request (record no_texts { source_read = record { bytes = read; ended = false } })) }
     ensures faultless { IfOk result (λ tx. (request : List ℕ) → IfSome beginning.service (λ line. IsUnused request line.side)
         → ⟦<Tx<B, SourceSide, ServiceSide, NextHop, HeadMaker, A, W, C> as Answering>⟧.faultless tx) }
     ensures line { IfOk result (λ tx. (tx.broken ≡ false) × (tx.reused ≡ beginning.reused)) }

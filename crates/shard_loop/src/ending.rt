@@ -77,15 +77,15 @@ impl<'a, B: Ledgers, Q: Ledger, A: Ledger, G: Gate> Desk<'a, B, Q, A, G> {
             let alloc = self.alloc;
             self.book_mut(seen.plan.point).note_tag(alloc, tag);
         }
-        match lease {
-            Some(lease) => {
+        match (lease, wire) {
+            (Some(lease), Some(wire)) => {
                 if side.is_reusable() {
                     self.put_line(rt, at, wire, lease);
                 } else {
                     self.drop_line(rt, Line { wire, lease });
                 }
             }
-            None => {}
+            (lease, _) => self.give_up(rt, lease),
         }
     }
 

@@ -136,6 +136,7 @@ impl<'a, B: Ledgers, Q: Ledger, A: Ledger, G: Gate> Desk<'a, B, Q, A, G> {
         match side {
             Some(side) => {
                 let side = Box::into_inner(side);
+                let wire = Some(wire);
                 (Some(ServiceLine { side, wire }), Some(lease))
             }
             None => {

@@ -287,7 +287,7 @@ fn beginning<B: Ledgers, A: Wire + Drop>(
         source_wire,
         service: Some(Line {
             side: service,
-            wire: service_wire,
+            wire: Some(service_wire),
         }),
         next_wire: next_hop,
         heads,
@@ -347,7 +347,7 @@ pub fn end<B: Ledgers, A: Wire + Drop>(
                 outcome,
                 source: source_wire,
                 service: match service {
-                    Some(Line { side: _, wire }) => Some(wire),
+                    Some(Line { side: _, wire }) => wire,
                     None => None,
                 },
                 next_hop: next_wire,

@@ -17,10 +17,10 @@ ghost use Rattle.adapt_turn.specs.declared.turned.Side.{Side};
 ghost use Rattle.adapt_turn.specs.declared.turned.Side.TheVariants as sides;
 ghost use Rattle.adapt_turn.specs.declared.turned.Turned.{Turned};
 ghost use Rattle.adapt_turn.specs.declared.turned.Outcome.TheVariants as outcomes;
-ghost use Rattle.adapt_turn.specs.Made.{MakesNoneAt, adapted_of, response_of, answers_user};
-ghost use Rattle.adapt_turn.specs.Parts.{Breaks, HasCause, FailsFor, source_cause, hop_cause, fault_of};
+ghost use Rattle.adapt_turn.specs.Made.{MakesNoneAt, wire_of, on_held, adapted_of, response_of, answers_user};
+ghost use Rattle.adapt_turn.specs.Parts.{Breaks, HasCause, FailsFor, source_cause, fault_of};
 ghost use Rattle.adapt_turn.specs.Rows.{may_step, TookBy, Advances};
-ghost use Rattle.adapt_turn.specs.Stands.{IsChosen, IsDone, Waited, WaitedBoth, Blamed, BlamedService};
+ghost use Rattle.adapt_turn.specs.Stands.{IsChosen, IsDone, Waited, WaitedBoth, Blamed, BlamedWriter, BlamedService};
 ghost use Rattle.adapt_turn.specs.ByTurn.{BySide, OfWriter, ByAnswer};
 
 use crate::forward::Forward;
@@ -68,13 +68,13 @@ impl<
         × ((shows old.hold.history).closed ≡ false → BySide side
         ((Waited (S.rests (original_room (shows old.hold.history) old.hold.claim old.hold.limits.window) new.source) (λ past. past.read_waits) (A.past old.source_wire) (A.past new.source_wire)) × S.is_framed (original_room (shows old.hold.history) old.hold.claim old.hold.limits.window) new.source)
         ((WaitedBoth (MatchOption new.service ⊤ (λ line. V.rests_writing (shows old.hold.history) line.side)) (MatchOption new.service ⊤ (λ line. V.rests_reading (shows old.hold.history) (adapted_room (shows old.hold.history) old.hold.limits.window) line.side))
-        (λ p. MatchOption old.service ⊥ (λ line. W.past line.wire p)) (λ p. MatchOption new.service ⊥ (λ line. W.past line.wire p)))
-        × MatchOption new.service ⊤ (λ line. V.is_framed (adapted_room (shows old.hold.history) old.hold.limits.window) line.side))
+        (λ p. on_held old.service ⊥ (λ wire. W.past wire p)) (λ p. on_held new.service ⊥ (λ wire. W.past wire p)))
+        × MatchOption new.service ⊤ (λ line. MatchOption line.wire ⊤ (λ wire. V.is_framed (adapted_room (shows old.hold.history) old.hold.limits.window) line.side)))
         ((IsChosen (shows old.hold.history) → ⊥) ⊎ ((K.gift new.next ≡ nothing → K.gift new.back ≡ nothing → ⊥) × OfWriter (K.gift new.back)
         (Waited (K.rests (shows old.hold.history) new.next) (λ past. past.write_waits) (C.past old.next_wire) (C.past new.next_wire))
         (Waited (K.rests (shows old.hold.history) new.back) (λ past. past.write_waits) (A.past old.source_wire) (A.past new.source_wire))))))
         (λ n. ⟦<Tx<B, S, V, K, F, A, W, C> as Going>⟧.moves old new n
-        × (n ≡ 0 → (p q r : Past) → A.past old.source_wire p → MatchOption old.service ⊤ (λ line. W.past line.wire q) → C.past old.next_wire r
+        × (n ≡ 0 → (p q r : Past) → A.past old.source_wire p → on_held old.service ⊤ (λ wire. W.past wire q) → C.past old.next_wire r
         → ((shows old.hold.history).closed ≡ false) × Advances (may_step side) old.hold new.hold))
         ((side ≡ sides.Service) × ((shows old.hold.history).closed ≡ false) × MayFollow new.hold.history.plan new.hold.history.events Retry
         × ((old.broken ≡ true) ⊎ MatchOption new.service ⊥ (λ line. Breaks new.hold.history old.reused (V.fault line.side))))
@@ -99,15 +99,13 @@ impl<
         ((S.agrees (shows old.hold.history) old.source → Blamed OfRelayWire source_cause cause (S.fault old.source) (S.fault new.source) (A.past old.source_wire) (A.past new.source_wire))
         × ((S.agrees (shows old.hold.history) old.source → ⊥) → cause ≡ causes.Source)
         × HasCause (S.fault old.source) (S.fault new.source) (λ fault. S.has_reason fault new.source))
-        ((old.service ≡ None → ⊥) × BlamedService cause (fault_of (λ line. V.fault line.side) old.service) (fault_of (λ line. V.fault line.side) new.service)
-        (λ p. MatchOption old.service ⊥ (λ line. W.past line.wire p)) (λ p. MatchOption new.service ⊥ (λ line. W.past line.wire p))
+        ((wire_of old.service ≡ None → ⊥) × BlamedService cause (fault_of (λ line. V.fault line.side) old.service) (fault_of (λ line. V.fault line.side) new.service)
+        (λ p. on_held old.service ⊥ (λ wire. W.past wire p)) (λ p. on_held new.service ⊥ (λ wire. W.past wire p))
         × FailsFor (λ line. V.fault line.side) (λ fault x line. V.has_reason fault x line.side) cause old.reused old.service new.service new.hold)
         ((IsChosen (shows old.hold.history) × (K.gift old.next ≡ nothing) × (K.gift old.back ≡ nothing)
         × MakesNoneAt (F.makes_none old.forward (S.head old.source)) (adapted_of V.adapted_head old.service) (response_of V.is_response old.service) (shows old.hold.history) cause)
-        ⊎ ((Blamed OfRelayWire hop_cause cause (K.fault old.next) (K.fault new.next) (C.past old.next_wire) (C.past new.next_wire)
-        ⊎ Blamed OfRelayWire hop_cause cause (K.fault old.back) (K.fault new.back) (A.past old.source_wire) (A.past new.source_wire))
-        × HasCause (K.fault old.next) (K.fault new.next) (FailsGiving (K.breaks_length (shows old.hold.history) (K.body_framing new.next)))
-        × HasCause (K.fault old.back) (K.fault new.back) (FailsGiving (K.breaks_length (shows old.hold.history) (K.body_framing new.back))))) };
+        ⊎ (BlamedWriter cause (FailsGiving (K.breaks_length (shows old.hold.history) (K.body_framing new.next))) (K.fault old.next) (C.past old.next_wire) (C.past new.next_wire)
+        ⊎ BlamedWriter cause (FailsGiving (K.breaks_length (shows old.hold.history) (K.body_framing new.back))) (K.fault old.back) (A.past old.source_wire) (A.past new.source_wire))) };
 
     ghost faultless = { λ tx. (S.fault tx.source ≡ None) × (tx.broken ≡ false → fault_of (λ line. V.fault line.side) tx.service ≡ None) × (K.fault tx.next ≡ None) × (K.fault tx.back ≡ None) };
 }

@@ -1,9 +1,11 @@
 //! The bytes that a transaction's wires gave and took.
 
-ghost use Rattle.std.specs.Prelude.{◌≡◌, ◌+◌, ◌-◌, ◌^◌, min, MatchOption};
+ghost use Rattle.std.specs.Prelude.{◌≡◌, ◌+◌, ◌-◌, ◌^◌, min};
+ghost use Rattle.adapt_turn.specs.Made.{on_held};
 ghost use Rattle.adapt_turn.specs.Moved.{AreCounts, counted};
 
 use crate::forward::Forward;
+use crate::start::Line;
 use crate::tx::Tx;
 use adapt_sides::{Hop, Service, Source};
 use span_bank::Ledgers;
@@ -37,6 +39,19 @@ fn between(before: (u64, u64), after: (u64, u64)) -> u64
     read.saturating_add(taken)
 }
 
+/// The bytes that the service's wire gave, and those that it took; none where its connection isn't held.
+fn line_counts<V, W: Wire>(service: &Option<Line<V, W>>) -> (u64, u64)
+    ensures { on_held service.now ((result.0 ≡ 0) × (result.1 ≡ 0)) (λ wire. AreCounts result (W.past wire)) }
+{
+    match service {
+        Some(line) => match &line.wire {
+            Some(wire) => wire.counts(),
+            None => (0, 0),
+        },
+        None => (0, 0),
+    }
+}
+
 impl<B: Ledgers, S: Source, V: Service, K: Hop, F: Forward<S, K>, A: Wire, W: Wire, C: Wire> Tx<
     B,
     S,
@@ -50,15 +65,12 @@ impl<B: Ledgers, S: Source, V: Service, K: Hop, F: Forward<S, K>, A: Wire, W: Wi
     /// The bytes that the wires gave and took so far.
     pub(crate) fn counts(&self) -> WireCounts
         ensures source { AreCounts result.source (A.past self.now.source_wire) }
-        ensures service { MatchOption self.now.service ((result.service.0 ≡ 0) × (result.service.1 ≡ 0)) (λ line. AreCounts result.service (W.past line.wire)) }
+        ensures service { on_held self.now.service ((result.service.0 ≡ 0) × (result.service.1 ≡ 0)) (λ wire. AreCounts result.service (W.past wire)) }
         ensures next { AreCounts result.next (C.past self.now.next_wire) }
     {
         WireCounts {
             source: self.source_wire.counts(),
-            service: match &self.service {
-                Some(line) => line.wire.counts(),
-                None => (0, 0),
-            },
+            service: line_counts(&self.service),
             next: self.next_wire.counts(),
         }
     }

@@ -3,13 +3,13 @@
 ghost use Rattle.std.specs.Prelude.{◌≡◌, ◌⊎◌, true, false, [], Some, None, IfOk, IfErr};
 ghost use Rattle.trace_core.specs.declared.history.Event.TheVariants.{Fail};
 ghost use Rattle.trace_core.specs.declared.history.Cause.{Cause};
-ghost use Rattle.adapt_sides.specs.Turns.{Gift, OfRelayWire, FailsGiving};
+ghost use Rattle.adapt_sides.specs.Turns.{Gift, FailsGiving};
 ghost use Rattle.adapt_sides.specs.Turns.Gift.{nothing, message};
 ghost use Rattle.adapt_hold.specs.Holding.{shows, moved, IsTied};
 ghost use Rattle.adapt_turn.specs.Made.{MakesAt, MakesNoneAt, adapted_of, response_of, is_reqmod, answers_user};
-ghost use Rattle.adapt_turn.specs.Parts.{HasCause, IsOfSide, hop_cause, outcome_by};
+ghost use Rattle.adapt_turn.specs.Parts.{IsOfSide, outcome_by};
 ghost use Rattle.adapt_turn.specs.Rows.{may_step, TookBy, Advances, BytesOr};
-ghost use Rattle.adapt_turn.specs.Stands.{IsChosen, Waited, Blamed};
+ghost use Rattle.adapt_turn.specs.Stands.{IsChosen, Waited, BlamedWriter};
 ghost use Rattle.adapt_turn.specs.ByTurn.{OfWriter};
 
 use crate::forward::Forward;
@@ -182,10 +182,8 @@ impl<B: Ledgers, S: Source, V: Service, K: Hop, F: Forward<S, K>, A: Wire, W: Wi
         ensures gifts { (K.gift self.new.next ≡ K.gift self.old.next) × (K.gift self.new.back ≡ K.gift self.old.back) }
         ensures active { result.waiting ≡ false → OfWriter (K.gift self.new.back) (BytesOr (Advances (may_step Side.NextHop) self.old.hold self.new.hold) (C.past self.old.next_wire) (C.past self.new.next_wire))
             (BytesOr (Advances (may_step Side.NextHop) self.old.hold self.new.hold) (A.past self.old.source_wire) (A.past self.new.source_wire)) }
-        ensures blames { (cause : Cause) → result.failed ≡ Some cause → (Blamed OfRelayWire hop_cause cause (K.fault self.old.next) (K.fault self.new.next) (C.past self.old.next_wire) (C.past self.new.next_wire)
-            ⊎ Blamed OfRelayWire hop_cause cause (K.fault self.old.back) (K.fault self.new.back) (A.past self.old.source_wire) (A.past self.new.source_wire)) }
-        ensures reasons { HasCause (K.fault self.old.next) (K.fault self.new.next) (FailsGiving (K.breaks_length (shows self.old.hold.history) (K.body_framing self.new.next)))
-            × HasCause (K.fault self.old.back) (K.fault self.new.back) (FailsGiving (K.breaks_length (shows self.old.hold.history) (K.body_framing self.new.back))) }
+        ensures blames { (cause : Cause) → result.failed ≡ Some cause → (BlamedWriter cause (FailsGiving (K.breaks_length (shows self.old.hold.history) (K.body_framing self.new.next))) (K.fault self.old.next) (C.past self.old.next_wire) (C.past self.new.next_wire)
+            ⊎ BlamedWriter cause (FailsGiving (K.breaks_length (shows self.old.hold.history) (K.body_framing self.new.back))) (K.fault self.old.back) (A.past self.old.source_wire) (A.past self.new.source_wire)) }
         ensures sound { result.failed ≡ None → (K.fault self.old.next ≡ None → K.fault self.new.next ≡ None) × (K.fault self.old.back ≡ None → K.fault self.new.back ≡ None) }
         ensures elsewhere { OfWriter (K.gift self.new.back) (self.new.source_wire ≡ self.old.source_wire) (self.new.next_wire ≡ self.old.next_wire) }
         ensures of_side { (cause : Cause) → result.failed ≡ Some cause → IsOfSide cause }
@@ -235,10 +233,8 @@ impl<B: Ledgers, S: Source, V: Service, K: Hop, F: Forward<S, K>, A: Wire, W: Wi
         ensures active { result.waiting ≡ false → OfWriter (K.gift self.new.back) (BytesOr (Advances (may_step Side.NextHop) self.old.hold self.new.hold) (C.past self.old.next_wire) (C.past self.new.next_wire))
             (BytesOr (Advances (may_step Side.NextHop) self.old.hold self.new.hold) (A.past self.old.source_wire) (A.past self.new.source_wire)) }
         ensures blames { (cause : Cause) → result.failed ≡ Some cause → (IsChosen (shows self.old.hold.history) × (K.gift self.old.next ≡ nothing) × (K.gift self.old.back ≡ nothing)
-            × MakesNoneAt (F.makes_none self.old.forward (S.head self.old.source)) (adapted_of V.adapted_head self.old.service) (response_of V.is_response self.old.service) (shows self.old.hold.history) cause) ⊎ (Blamed OfRelayWire hop_cause cause (K.fault self.old.next) (K.fault self.new.next) (C.past self.old.next_wire) (C.past self.new.next_wire)
-            ⊎ Blamed OfRelayWire hop_cause cause (K.fault self.old.back) (K.fault self.new.back) (A.past self.old.source_wire) (A.past self.new.source_wire)) }
-        ensures reasons { HasCause (K.fault self.old.next) (K.fault self.new.next) (FailsGiving (K.breaks_length (shows self.old.hold.history) (K.body_framing self.new.next)))
-            × HasCause (K.fault self.old.back) (K.fault self.new.back) (FailsGiving (K.breaks_length (shows self.old.hold.history) (K.body_framing self.new.back))) }
+            × MakesNoneAt (F.makes_none self.old.forward (S.head self.old.source)) (adapted_of V.adapted_head self.old.service) (response_of V.is_response self.old.service) (shows self.old.hold.history) cause) ⊎ (BlamedWriter cause (FailsGiving (K.breaks_length (shows self.old.hold.history) (K.body_framing self.new.next))) (K.fault self.old.next) (C.past self.old.next_wire) (C.past self.new.next_wire)
+            ⊎ BlamedWriter cause (FailsGiving (K.breaks_length (shows self.old.hold.history) (K.body_framing self.new.back))) (K.fault self.old.back) (A.past self.old.source_wire) (A.past self.new.source_wire)) }
         ensures sound { result.failed ≡ None → (K.fault self.old.next ≡ None → K.fault self.new.next ≡ None) × (K.fault self.old.back ≡ None → K.fault self.new.back ≡ None) }
         ensures elsewhere { OfWriter (K.gift self.new.back) (self.new.source_wire ≡ self.old.source_wire) (self.new.next_wire ≡ self.old.next_wire) }
         ensures of_side { (cause : Cause) → result.failed ≡ Some cause → IsOfSide cause ⊎ MakesNoneAt (F.makes_none self.old.forward (S.head self.old.source)) (adapted_of V.adapted_head self.old.service) (response_of V.is_response self.old.service) (shows self.old.hold.history) cause }

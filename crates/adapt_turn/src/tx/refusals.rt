@@ -5,7 +5,7 @@ ghost use Rattle.trace_core.specs.declared.history.Event.TheVariants.{Fail};
 ghost use Rattle.trace_core.specs.declared.history.Cause.{Cause};
 ghost use Rattle.plan_rules.specs.declared.room.TheConstants.{TURN_BYTES};
 ghost use Rattle.adapt_bytes.specs.OwnStatus.{is_own_status};
-ghost use Rattle.adapt_sides.specs.Turns.{Gift};
+ghost use Rattle.adapt_sides.specs.Turns.{Gift, wire_fault};
 ghost use Rattle.adapt_sides.specs.Turns.Gift.{refusal, message};
 ghost use Rattle.adapt_hold.specs.Holding.{shows, moved};
 ghost use Rattle.adapt_turn.specs.Parts.{outcome_by};
@@ -43,7 +43,10 @@ fn refusal_turn<B: Ledgers, K: Hop, C: Wire>(
     hop: &mut K,
     wire: &mut C,
 ) -> Option<bool>
+    requires message { K.gift hop.old ≡ message → ⊥ }
+    requires fault { K.fault hop.old ≡ wire_fault (K.fault hop.old) }
     ensures gift { K.gift hop.new ≡ K.gift hop.old }
+    ensures fault { K.fault hop.new ≡ wire_fault (K.fault hop.new) }
     ensures waits { result ≡ Some true → Waited (K.rests (shows hold.now.history) hop.new) (λ past. past.write_waits) (C.past wire.old) (C.past wire.new) }
     ensures moves { (shows hold.now.history).closed ≡ true → result ≡ Some false → BytesOr ⊥ (C.past wire.old) (C.past wire.new) }
     ensures over { result ≡ None → IsOver (K.is_out hop.new) (K.fault hop.new) }
@@ -72,7 +75,7 @@ fn refuse_on<K: Hop>(hop: &mut K, status: u16) -> bool
     ensures aside { result ≡ true → K.aside [] hop.new }
     ensures same { result ≡ false → hop.new ≡ hop.old }
     ensures touched { result ≡ false → K.untouched hop.new ≡ false }
-    ensures fault { K.fault hop.new ≡ K.fault hop.old }
+    ensures fault { result ≡ true → K.fault hop.new ≡ wire_fault (K.fault hop.old) }
     ensures framing { K.body_framing hop.new ≡ K.body_framing hop.old }
     ensures message { K.gift hop.new ≡ message → K.gift hop.old ≡ message }
 {
@@ -113,8 +116,7 @@ impl<B: Ledgers, S: Source, V: Service, K: Hop, F: Forward<S, K>, A: Wire, W: Wi
         ensures messages { (K.gift self.new.next ≡ message → K.gift self.old.next ≡ message) × (K.gift self.new.back ≡ message → K.gift self.old.back ≡ message) }
         ensures outcome { self.new.outcome ≡ self.old.outcome }
         ensures refuses { ⟦<Self as Refusing>⟧.refuses self.new cause }
-        ensures kept { (self.new.source ≡ self.old.source) × (self.new.source_wire ≡ self.old.source_wire) × (self.new.service ≡ self.old.service) × (self.new.next_wire ≡ self.old.next_wire)
-            × (K.fault self.new.next ≡ K.fault self.old.next) × (K.fault self.new.back ≡ K.fault self.old.back) }
+        ensures kept { (self.new.source ≡ self.old.source) × (self.new.source_wire ≡ self.old.source_wire) × (self.new.service ≡ self.old.service) × (self.new.next_wire ≡ self.old.next_wire) }
         ensures framings { (K.body_framing self.new.next ≡ K.body_framing self.old.next) × (K.body_framing self.new.back ≡ K.body_framing self.old.back) }
     {
         let status = status_of(cause, Point::Respmod);
@@ -133,8 +135,7 @@ impl<B: Ledgers, S: Source, V: Service, K: Hop, F: Forward<S, K>, A: Wire, W: Wi
         ensures messages { (K.gift self.new.next ≡ message → K.gift self.old.next ≡ message) × (K.gift self.new.back ≡ message → K.gift self.old.back ≡ message) }
         ensures outcome { self.new.outcome ≡ self.old.outcome }
         ensures refuses { ⟦<Self as Refusing>⟧.refuses self.new cause }
-        ensures kept { (self.new.source ≡ self.old.source) × (self.new.source_wire ≡ self.old.source_wire) × (self.new.service ≡ self.old.service) × (self.new.next_wire ≡ self.old.next_wire)
-            × (K.fault self.new.next ≡ K.fault self.old.next) × (K.fault self.new.back ≡ K.fault self.old.back) }
+        ensures kept { (self.new.source ≡ self.old.source) × (self.new.source_wire ≡ self.old.source_wire) × (self.new.service ≡ self.old.service) × (self.new.next_wire ≡ self.old.next_wire) }
         ensures framings { (K.body_framing self.new.next ≡ K.body_framing self.old.next) × (K.body_framing self.new.back ≡ K.body_framing self.old.back) }
     {
         let status = status_of(cause, Point::Reqmod);
@@ -152,8 +153,7 @@ impl<B: Ledgers, S: Source, V: Service, K: Hop, F: Forward<S, K>, A: Wire, W: Wi
         ensures messages { (K.gift self.new.next ≡ message → K.gift self.old.next ≡ message) × (K.gift self.new.back ≡ message → K.gift self.old.back ≡ message) }
         ensures outcome { self.new.outcome ≡ self.old.outcome }
         ensures refuses { ⟦<Self as Refusing>⟧.refuses self.new cause }
-        ensures kept { (self.new.source ≡ self.old.source) × (self.new.source_wire ≡ self.old.source_wire) × (self.new.service ≡ self.old.service) × (self.new.next_wire ≡ self.old.next_wire)
-            × (K.fault self.new.next ≡ K.fault self.old.next) × (K.fault self.new.back ≡ K.fault self.old.back) }
+        ensures kept { (self.new.source ≡ self.old.source) × (self.new.source_wire ≡ self.old.source_wire) × (self.new.service ≡ self.old.service) × (self.new.next_wire ≡ self.old.next_wire) }
         ensures framings { (K.body_framing self.new.next ≡ K.body_framing self.old.next) × (K.body_framing self.new.back ≡ K.body_framing self.old.back) }
     {
         match self.point() {
@@ -173,8 +173,7 @@ impl<B: Ledgers, S: Source, V: Service, K: Hop, F: Forward<S, K>, A: Wire, W: Wi
         ensures messages { (K.gift self.new.next ≡ message → K.gift self.old.next ≡ message) × (K.gift self.new.back ≡ message → K.gift self.old.back ≡ message) }
         ensures outcome { self.new.outcome ≡ self.old.outcome }
         ensures refuses { (cause : Cause) → failed ≡ Some cause → ⟦<Self as Refusing>⟧.refuses self.new cause }
-        ensures kept { (self.new.source ≡ self.old.source) × (self.new.source_wire ≡ self.old.source_wire) × (self.new.service ≡ self.old.service) × (self.new.next_wire ≡ self.old.next_wire)
-            × (K.fault self.new.next ≡ K.fault self.old.next) × (K.fault self.new.back ≡ K.fault self.old.back) }
+        ensures kept { (self.new.source ≡ self.old.source) × (self.new.source_wire ≡ self.old.source_wire) × (self.new.service ≡ self.old.service) × (self.new.next_wire ≡ self.old.next_wire) }
         ensures framings { (K.body_framing self.new.next ≡ K.body_framing self.old.next) × (K.body_framing self.new.back ≡ K.body_framing self.old.back) }
         ensures same { failed ≡ None → (self.new.next ≡ self.old.next) × (self.new.back ≡ self.old.back) }
     {

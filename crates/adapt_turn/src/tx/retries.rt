@@ -1,6 +1,6 @@
 //! One more try of a request whose connection broke.
 
-ghost use Rattle.std.specs.Prelude.{is_some, ◌≡◌, ℕ, List, true, false, [], IfSome};
+ghost use Rattle.std.specs.Prelude.{is_some, ◌≡◌, ℕ, List, true, false, [], Some, IfSome};
 ghost use Rattle.trace_core.specs.declared.history.Event.TheVariants.{Fail, Retry};
 ghost use Rattle.trace_core.specs.declared.history.Cause.TheVariants.{Service};
 ghost use Rattle.trace_core.specs.Legal.{MayFollow};
@@ -29,12 +29,12 @@ impl<B: Ledgers, S: Source, V: Service, K: Hop, F: Forward<S, K>, A: Wire, W: Wi
     C,
 > {
     /// Begins the same request anew on a fresh connection, and gives the broken one's wire back.
-    pub fn retry(&mut self, rt: &impl Wait, bank: &Bank<B>, wire: W) -> W
+    pub fn retry(&mut self, rt: &impl Wait, bank: &Bank<B>, wire: W) -> Option<W>
         requires broken { self.old.broken ≡ true }
         requires may { MayFollow self.old.hold.history.plan self.old.hold.history.events Retry }
         ensures hold { self.new.hold ≡ moved self.old.hold Retry [] }
         ensures anew { (request : List ℕ) (t : Texts) → ⟦<Self as Standing>⟧.stands self.old request t → ⟦<Self as Standing>⟧.stands self.new request (record t { service_read = []; service_taken = [] }) }
-        ensures fresh { IfSome self.new.service (λ line. line.wire ≡ wire) }
+        ensures fresh { IfSome self.new.service (λ line. line.wire ≡ Some wire) }
         ensures back { IfSome self.old.service (λ line. result ≡ line.wire) }
         ensures others { (self.new.source_wire ≡ self.old.source_wire) × (self.new.next_wire ≡ self.old.next_wire) }
         ensures served { is_some self.new.service ≡ is_some self.old.service }
@@ -51,9 +51,9 @@ impl<B: Ledgers, S: Source, V: Service, K: Hop, F: Forward<S, K>, A: Wire, W: Wi
         match &mut self.service {
             Some(line) => {
                 line.side.again();
-                mem::replace(&mut line.wire, wire)
+                mem::replace(&mut line.wire, Some(wire))
             }
-            None => wire,
+            None => Some(wire),
         }
     }
 

@@ -62,7 +62,8 @@ impl<B: Ledgers, S: Source, V: Service, K: Hop, F: Forward<S, K>, A: Wire, W: Wi
 > {
     /// One turn of one side, at a moment in seconds.
     ///
-    /// A turn at the deadline fails in place of moving a byte. A turn that fails answers what its wires moved before; Finished comes
+    /// An end of the body that the source's framing tells is told by the turn that reads it. A turn at the deadline fails in place of
+    /// moving a byte. A turn that fails answers what its wires moved before; Finished comes
     /// with a later one, once a refusal that is due is out or its wire has failed.
     pub fn turn(&mut self, rt: &impl Wait, bank: &Bank<B>, side: Side, now: u64) -> Turned
         ensures goes { ⟦<Self as Going>⟧.goes self.old self.new }
@@ -85,6 +86,8 @@ impl<B: Ledgers, S: Source, V: Service, K: Hop, F: Forward<S, K>, A: Wire, W: Wi
         ensures refuses_on { (shows self.old.hold.history).closed ≡ true → (cause : Cause) → ⟦<Self as Refusing>⟧.refuses self.old cause → ⟦<Self as Refusing>⟧.refuses self.new cause }
         ensures fails { (shows self.old.hold.history).closed ≡ false → (cause : Cause) → self.new.outcome ≡ Outcome.Fail cause → ⟦<Self as Answering>⟧.fails self.old side now self.new cause }
         ensures faultless { (shows self.new.hold.history).closed ≡ false → ⟦<Self as Answering>⟧.faultless self.old → ⟦<Self as Answering>⟧.faultless self.new }
+        ensures told { (shows self.old.hold.history).closed ≡ false → side ≡ Side.Source → (result ≡ Turned.Broken → ⊥) → ((cause : Cause) → self.new.outcome ≡ Outcome.Fail cause → ⊥)
+            → S.is_over self.new.source → (shows self.new.hold.history).ended ≡ true }
         ensures timely { (shows self.old.hold.history).closed ≡ false → self.new.outcome ≡ Outcome.Fail Deadline
             → (self.old.last_moved + self.old.deadline ≤ now) ⊎ ((side ≡ Side.NextHop) × MakesNoneAt (F.makes_none self.old.forward (S.head self.old.source)) (adapted_of V.adapted_head self.old.service) (response_of V.is_response self.old.service) (shows self.old.hold.history) Deadline) }
         ensures unstopped { (shows self.old.hold.history).closed ≡ false → self.new.outcome ≡ Outcome.Fail Stopping → (side ≡ Side.NextHop) × MakesNoneAt (F.makes_none self.old.forward (S.head self.old.source)) (adapted_of V.adapted_head self.old.service) (response_of V.is_response self.old.service) (shows self.old.hold.history) Stopping }
@@ -122,8 +125,7 @@ impl<B: Ledgers, S: Source, V: Service, K: Hop, F: Forward<S, K>, A: Wire, W: Wi
         ensures moment { (self.new.last_moved ≡ self.old.last_moved) ⊎ (self.new.last_moved ≡ now) }
         ensures clock { (moved ≡ 0 → self.new.last_moved ≡ self.old.last_moved) × (0 < moved → self.new.last_moved ≡ now) }
         ensures limit { self.new.deadline ≡ self.old.deadline }
-        ensures kept { (self.new.source ≡ self.old.source) × (self.new.source_wire ≡ self.old.source_wire) × (self.new.service ≡ self.old.service) × (self.new.next_wire ≡ self.old.next_wire)
-            × (K.fault self.new.next ≡ K.fault self.old.next) × (K.fault self.new.back ≡ K.fault self.old.back) }
+        ensures kept { (self.new.source ≡ self.old.source) × (self.new.source_wire ≡ self.old.source_wire) × (self.new.service ≡ self.old.service) × (self.new.next_wire ≡ self.old.next_wire) }
         ensures framings { (K.body_framing self.new.next ≡ K.body_framing self.old.next) × (K.body_framing self.new.back ≡ K.body_framing self.old.back) }
         ensures messages { (K.gift self.new.next ≡ message → K.gift self.old.next ≡ message) × (K.gift self.new.back ≡ message → K.gift self.old.back ≡ message) }
         ensures refuses { (cause : Cause) → passed.failed ≡ Some cause → ⟦<Self as Refusing>⟧.refuses self.new cause }

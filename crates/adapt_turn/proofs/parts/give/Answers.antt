@@ -1,4 +1,6 @@
-use Rattle.std.proofs.Common.{List, [], sym, subst}
+use Rattle.std.proofs.Common.{List, [], Some, ap, ◌∙◌, sym, subst}
+use Rattle.trace_core.specs.declared.history.Cause.{Cause}
+use Rattle.adapt_turn.specs.declared.parts.Passed.{Passed}
 use Rattle.trace_core.specs.declared.history.Event.{Event}
 use Rattle.trace_core.specs.History.{History}
 use Rattle.trace_core.specs.Turns.{MayAllFollow}
@@ -6,8 +8,8 @@ use Rattle.adapt_hold.specs.Holding.{shows}
 use Rattle.adapt_hold.specs.Steps.{MayRun}
 use Rattle.adapt_turn.proofs.Passes as passes
 use Rattle.adapt_sides.specs.Turns.{FailsGiving}
-use Rattle.adapt_turn.specs.Parts.{HasCause}
-use Rattle.adapt_turn.proofs.Reasons.{cause_of}
+use Rattle.adapt_turn.specs.Parts.{HasCause, hop_cause}
+use Rattle.adapt_turn.proofs.Reasons.{cause_of, cause_weaker, giving_weaker, never_err, same_err}
 use Rattle.adapt_turn.proofs.parts.give.Goals as goal
 
 pub write_turn-requires : goal.write_turn-requires
@@ -34,10 +36,16 @@ pub returns-in-Ok-clause-reason : goal.returns-in-Ok-clause-reason
 returns-in-Ok-clause-reason g c =
     let new = c.write_turn.new.self in
     subst (λ (y : History). HasCause (g.K.Hop.fault c.args.hop.now) (g.K.Hop.fault new) (FailsGiving (g.K.Hop.breaks_length (shows y) (g.K.Hop.body_framing new)))) c.state-state.ensures.state
-    (cause_of _ _ _ _ c.in-Ok.ensures.turn.fault c.in-Ok.ensures.reason)
+    (cause_weaker _ _ _ _ (giving_weaker _ _) (cause_of _ _ _ _ c.in-Ok.ensures.turn.fault c.in-Ok.ensures.reason))
 
 pub returns-in-Err-clause-reason : goal.returns-in-Err-clause-reason
 returns-in-Err-clause-reason g c =
     let new = c.write_turn.new.self in
     subst (λ (y : History). HasCause (g.K.Hop.fault c.args.hop.now) (g.K.Hop.fault new) (FailsGiving (g.K.Hop.breaks_length (shows y) (g.K.Hop.body_framing new)))) c.state-state.ensures.state
-    (cause_of _ _ _ _ c.in-Err.ensures.turn.fault c.in-Err.ensures.reason)
+    (cause_weaker _ _ _ _ (giving_weaker _ _) (cause_of _ _ _ _ c.in-Err.ensures.turn.fault c.in-Err.ensures.reason))
+
+pub returns-in-Ok-clause-again : goal.returns-in-Ok-clause-again
+returns-in-Ok-clause-again g c = λ had e. never_err c.in-Ok.turn had _ (c.in-Ok.ensures.turn.fault.again had e)
+
+pub returns-in-Err-clause-again : goal.returns-in-Err-clause-again
+returns-in-Err-clause-again g c = λ had e. ap (λ (z : Passed). z.failed) c.close.ensures.passed ∙ ap (λ (f : Cause). Some f) (c.hop_cause.ensures ∙ ap hop_cause (same_err c.in-Err.fault had (c.in-Err.ensures.turn.fault.again had e)))

@@ -6,7 +6,7 @@ use Rattle.proxy_rules.proofs.starting.begin.Goals as goal
 
 pub returns-in-Ok-clause-stands : goal.returns-in-Ok-clause-stands
 returns-in-Ok-clause-stands g c = λ read request b u.
-    c.in-Ok.ensures.stands read request (b (seen c.args.beginning.plan []) refl refl).0 (nothing_on request c.args.beginning.plan c.args.beginning.service u)
+    c.in-Ok.ensures.stands (record { bytes = read; ended = false }) request (b (seen c.args.beginning.plan []) refl refl).0 (nothing_on request c.args.beginning.plan c.args.beginning.service u)
     (ap (λ (h : Hop). gift_of h.stage) c.new.ensures.shows) c.new.ensures.aside (ap (λ (h : Hop). gift_of h.stage) c.new-2.ensures.shows) c.new-2.ensures.aside
 
 pub returns-in-Ok-clause-faultless : goal.returns-in-Ok-clause-faultless

@@ -4,7 +4,8 @@ use Rattle.adapt_turn.specs.Made.{IsMade, WholeOf, adapted_of, response_of}
 use Rattle.adapt_turn.proofs.Made.{made_by, made_on}
 use Rattle.adapt_turn.proofs.Giving.{next_goes, back_goes, with_heads}
 use Rattle.std.proofs.Common.{inl, inr, refl, sym, ◌∙◌, subst}
-use Rattle.adapt_turn.proofs.Reasons.{part_idle, part_waits, part_blames, cause_none}
+use Rattle.adapt_turn.proofs.Reasons.{part_idle, part_waits, part_blames, writer_blamed}
+use Rattle.adapt_turn.proofs.Refusals.{none_due}
 use Rattle.adapt_turn.proofs.Told.{part_told}
 use Rattle.std.proofs.Common.{arith}
 use Rattle.adapt_turn.specs.declared.turned.Side.TheVariants.{NextHop}
@@ -40,7 +41,7 @@ pub returns-then-is_idle-clause-waits : goal.returns-then-is_idle-clause-waits
 returns-then-is_idle-clause-waits g c = λ e. of_next _ _ _ (c.is_idle.ensures.idle c.if-is_idle.true) (part_waits _ _ _ _ _ _ _ _ _ _ _ _ _ _ _ _ _ c.give-passed.ensures.part.part e)
 
 pub returns-then-is_idle-clause-blames : goal.returns-then-is_idle-clause-blames
-returns-then-is_idle-clause-blames g c = λ cause e. inl (part_blames _ _ _ _ _ _ _ _ _ _ _ _ _ _ _ _ _ c.give-passed.ensures.part.part cause e)
+returns-then-is_idle-clause-blames g c = λ cause e. inl (writer_blamed cause _ _ _ _ _ _ e (part_blames _ _ _ _ _ _ _ _ _ _ _ _ _ _ _ _ _ c.give-passed.ensures.part.part cause e) c.give-passed.ensures.reason c.give-passed.ensures.again)
 
 pub returns-else-is_idle-clause-idle : goal.returns-else-is_idle-clause-idle
 returns-else-is_idle-clause-idle g c = λ e. part_idle _ _ _ _ _ _ _ _ _ _ _ _ _ _ _ _ _ c.give-passed-else-is_idle.ensures.part.part e
@@ -49,13 +50,13 @@ pub returns-else-is_idle-clause-waits : goal.returns-else-is_idle-clause-waits
 returns-else-is_idle-clause-waits g c = λ e. of_back _ _ _ (λ n. c.is_idle.ensures.busy c.if-is_idle.false (sym c.give-passed-else-is_idle.ensures.gift ∙ n)) (part_waits _ _ _ _ _ _ _ _ _ _ _ _ _ _ _ _ _ c.give-passed-else-is_idle.ensures.part.part e)
 
 pub returns-else-is_idle-clause-blames : goal.returns-else-is_idle-clause-blames
-returns-else-is_idle-clause-blames g c = λ cause e. inr (part_blames _ _ _ _ _ _ _ _ _ _ _ _ _ _ _ _ _ c.give-passed-else-is_idle.ensures.part.part cause e)
+returns-else-is_idle-clause-blames g c = λ cause e. inr (writer_blamed cause _ _ _ _ _ _ e (part_blames _ _ _ _ _ _ _ _ _ _ _ _ _ _ _ _ _ c.give-passed-else-is_idle.ensures.part.part cause e) c.give-passed-else-is_idle.ensures.reason c.give-passed-else-is_idle.ensures.again)
 
 pub invariant_of-self : goal.invariant_of-self
-invariant_of-self g c = record { roomy = c.give-passed.ensures.roomy; told = c.outcome_by-self.ensures ∙ part_told _ _ _ _ _ _ _ _ _ _ _ _ _ _ _ _ _ (λ cause. refl) c.state-state.ensures.tied c.requires.running c.give-passed.ensures.part.part }
+invariant_of-self g c = record { roomy = c.give-passed.ensures.roomy; owed = λ e. none_due _ _ _ c.requires.running (c.args.self.now.owed e); told = c.outcome_by-self.ensures ∙ part_told _ _ _ _ _ _ _ _ _ _ _ _ _ _ _ _ _ (λ cause. refl) c.state-state.ensures.tied c.requires.running c.give-passed.ensures.part.part }
 
 pub invariant_of-self-else-is_idle : goal.invariant_of-self-else-is_idle
-invariant_of-self-else-is_idle g c = record { roomy = c.give-passed-else-is_idle.ensures.roomy; told = c.outcome_by-self-else-is_idle.ensures ∙ part_told _ _ _ _ _ _ _ _ _ _ _ _ _ _ _ _ _ (λ cause. refl) c.state-state.ensures.tied c.requires.running c.give-passed-else-is_idle.ensures.part.part }
+invariant_of-self-else-is_idle g c = record { roomy = c.give-passed-else-is_idle.ensures.roomy; owed = λ e. none_due _ _ _ c.requires.running (c.args.self.now.owed e); told = c.outcome_by-self-else-is_idle.ensures ∙ part_told _ _ _ _ _ _ _ _ _ _ _ _ _ _ _ _ _ (λ cause. refl) c.state-state.ensures.tied c.requires.running c.give-passed-else-is_idle.ensures.part.part }
 
 pub returns-then-is_idle-clause-still : goal.returns-then-is_idle-clause-still
 returns-then-is_idle-clause-still g c = λ e. part_still _ _ _ _ _ _ _ _ _ _ _ _ _ _ _ _ _ c.give-passed.ensures.part.part e
@@ -74,12 +75,6 @@ returns-then-is_idle-clause-took g c = part_took NextHop _ _ _ _ _ _ _ _ _ _ _ _
 
 pub returns-else-is_idle-clause-took : goal.returns-else-is_idle-clause-took
 returns-else-is_idle-clause-took g c = part_took NextHop _ _ _ _ _ _ _ _ _ _ _ _ _ _ _ _ _ of_hop c.state-state.ensures.tied c.give-passed-else-is_idle.ensures.part.part
-
-pub returns-then-is_idle-clause-reasons : goal.returns-then-is_idle-clause-reasons
-returns-then-is_idle-clause-reasons g c = (c.give-passed.ensures.reason, cause_none _ _ _ refl)
-
-pub returns-else-is_idle-clause-reasons : goal.returns-else-is_idle-clause-reasons
-returns-else-is_idle-clause-reasons g c = (cause_none _ _ _ refl, c.give-passed-else-is_idle.ensures.reason)
 
 pub returns-then-is_idle-clause-sound : goal.returns-then-is_idle-clause-sound
 returns-then-is_idle-clause-sound g c = λ n. (λ f. c.give-passed.ensures.part.part.sound n c.give-passed.ensures.whole, λ f. f)

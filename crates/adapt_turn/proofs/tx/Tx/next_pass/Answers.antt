@@ -1,7 +1,7 @@
 use Rattle.adapt_turn.proofs.Together.{goes_none, goes_then}
 use Rattle.std.proofs.Common.{inl, inr, [], refl, sym, ◌∙◌, subst}
 use Rattle.adapt_hold.specs.Holding.{shows}
-use Rattle.adapt_turn.proofs.Reasons.{waits_moved, blamed_from, cause_none, cause_from}
+use Rattle.adapt_turn.proofs.Reasons.{waits_moved, writer_from}
 use Rattle.adapt_turn.specs.declared.turned.Side.TheVariants.{NextHop}
 use Rattle.adapt_turn.specs.Rows.{may_step, TookBy}
 use Rattle.adapt_turn.proofs.Rows.{acts_moved, acts_kept, fail_advances, took_fail}
@@ -31,10 +31,13 @@ returns-in-None-clause-waits g c = λ e. inr (
 )
 
 pub returns-in-None-clause-blames : goal.returns-in-None-clause-blames
-returns-in-None-clause-blames g c = λ cause e. inr (elim (c.give_pass.ensures.blames cause e) [
-  | inl w ↦ inl (blamed_from _ _ cause g.C.Wire.past _ (g.K.Hop.fault c.begin.new.self.next) (g.K.Hop.fault c.args.self.now.next) _ c.begin.new.self.next_wire c.args.self.now.next_wire c.begin.ensures.kept.2 c.begin.ensures.kept.1 w)
-  | inr w ↦ inr (blamed_from _ _ cause g.A.Wire.past _ (g.K.Hop.fault c.begin.new.self.back) (g.K.Hop.fault c.args.self.now.back) _ c.begin.new.self.source_wire c.args.self.now.source_wire c.begin.ensures.kept.3 c.begin.ensures.kept.0 w)
-])
+returns-in-None-clause-blames g c = λ cause e.
+    let same = c.begin.ensures.begun c.in-None.is in
+    let new = c.give_pass.new.self in
+    inr (elim (c.give_pass.ensures.blames cause e) [
+      | inl w ↦ inl (writer_from cause c.args.self.now.hold c.begin.new.self.hold (λ h. FailsGiving (g.K.Hop.breaks_length (shows h.history) (g.K.Hop.body_framing new.next))) _ _ g.C.Wire.past _ c.args.self.now.next_wire c.begin.new.self.next_wire same c.begin.ensures.kept.2 c.begin.ensures.kept.1 w)
+      | inr w ↦ inr (writer_from cause c.args.self.now.hold c.begin.new.self.hold (λ h. FailsGiving (g.K.Hop.breaks_length (shows h.history) (g.K.Hop.body_framing new.back))) _ _ g.A.Wire.past _ c.args.self.now.source_wire c.begin.new.self.source_wire same c.begin.ensures.kept.3 c.begin.ensures.kept.0 w)
+    ])
 
 pub returns-in-None-clause-still : goal.returns-in-None-clause-still
 returns-in-None-clause-still g c = λ e. c.give_pass.ensures.still e ∙ c.begin.ensures.begun c.in-None.is
@@ -64,20 +67,6 @@ returns-in-None-clause-took g c = subst (λ h. TookBy (may_step NextHop) h c.giv
 
 pub returns-in-None-clause-way : goal.returns-in-None-clause-way
 returns-in-None-clause-way g c = (λ n m. c.begin.ensures.way.0 n (sym c.give_pass.ensures.gifts.1 ∙ m), λ n m. c.begin.ensures.way.1 n (sym c.give_pass.ensures.gifts.0 ∙ m))
-
-pub returns-then-not-is_chosen-clause-reasons : goal.returns-then-not-is_chosen-clause-reasons
-returns-then-not-is_chosen-clause-reasons g c = (cause_none _ _ _ refl, cause_none _ _ _ refl)
-
-pub returns-in-Some-clause-reasons : goal.returns-in-Some-clause-reasons
-returns-in-Some-clause-reasons g c = (cause_none _ _ _ c.begin.ensures.kept.2, cause_none _ _ _ c.begin.ensures.kept.3)
-
-pub returns-in-None-clause-reasons : goal.returns-in-None-clause-reasons
-returns-in-None-clause-reasons g c =
-    let same = c.begin.ensures.begun c.in-None.is in
-    let new = c.give_pass.new.self in (
-      cause_from _ _ _ c.args.self.now.hold c.begin.new.self.hold (λ h. FailsGiving (g.K.Hop.breaks_length (shows h.history) (g.K.Hop.body_framing new.next))) c.begin.ensures.kept.2 same c.give_pass.ensures.reasons.0,
-      cause_from _ _ _ c.args.self.now.hold c.begin.new.self.hold (λ h. FailsGiving (g.K.Hop.breaks_length (shows h.history) (g.K.Hop.body_framing new.back))) c.begin.ensures.kept.3 same c.give_pass.ensures.reasons.1,
-    )
 
 pub returns-then-not-is_chosen-clause-sound : goal.returns-then-not-is_chosen-clause-sound
 returns-then-not-is_chosen-clause-sound g c = λ n. (λ f. f, λ f. f)

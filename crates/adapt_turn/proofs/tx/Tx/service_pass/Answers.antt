@@ -70,7 +70,7 @@ pub returns-else-sent-2-clause-apart : goal.returns-else-sent-2-clause-apart
 returns-else-sent-2-clause-apart g c = let a = c.hear_pass-heard.ensures.apart in let b = c.send_pass-sent.ensures.apart in (a.0 ∙ b.0, a.1 ∙ b.1, a.2 ∙ b.2, a.3 ∙ b.3, a.4 ∙ b.4)
 
 pub returns-then-sent-2-clause-framed : goal.returns-then-sent-2-clause-framed
-returns-then-sent-2-clause-framed g c = λ e. subst (λ (h : Holding). MatchOption c.hear_pass-heard.new.self.service ⊤ (λ line. g.V.Service.is_framed (adapted_room (shows h.history) h.limits.window) line.side))
+returns-then-sent-2-clause-framed g c = λ e. subst (λ (h : Holding). MatchOption c.hear_pass-heard.new.self.service ⊤ (λ line. MatchOption line.wire ⊤ (λ w. g.V.Service.is_framed (adapted_room (shows h.history) h.limits.window) line.side)))
     (c.send_pass-sent.ensures.still c.if-sent-2.true) (c.hear_pass-heard.ensures.framed e)
 
 pub returns-then-is_closed-clause-framed : goal.returns-then-is_closed-clause-framed

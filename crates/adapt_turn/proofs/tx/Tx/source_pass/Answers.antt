@@ -1,11 +1,17 @@
 use Rattle.adapt_turn.proofs.Made.{made_by, made_on, heads_then, source_heads}
 use Rattle.adapt_turn.proofs.Together.{others_of, source_goes, disagree_goes}
-use Rattle.std.proofs.Common.{◌≡◌, Some, None, refl, sym, ap, ◌∙◌, subst}
+use Rattle.std.proofs.Common.{◌≡◌, Option, Some, None, refl, sym, ap, ◌∙◌, subst}
+use Rattle.trace_core.specs.declared.history.Seen.{Seen}
+use Rattle.trace_core.specs.declared.history.Cause.{Cause}
+use Rattle.trace_core.specs.Turns.{after_all}
+use Rattle.adapt_turn.specs.Parts.{stepped}
+use Rattle.adapt_turn.proofs.Stepped.{part_shows}
 use Rattle.adapt_turn.specs.declared.parts.Passed.{Passed}
 use Rattle.trace_core.specs.History.{History}
 use Rattle.adapt_hold.specs.Holding.{shows}
 use Rattle.adapt_turn.proofs.Reasons.{part_idle, part_waits, part_blames, cause_none}
 use Rattle.adapt_turn.proofs.Told.{part_told}
+use Rattle.adapt_turn.proofs.Refusals.{none_due}
 use Rattle.std.proofs.Common.{arith}
 use Rattle.trace_core.specs.declared.history.Cause.TheVariants as causes
 use Rattle.adapt_turn.specs.declared.turned.Side.TheVariants.{Source}
@@ -18,7 +24,7 @@ use Rattle.adapt_turn.proofs.tx.Tx.source_pass.Goals as goal
 
 pub returns-then-agrees_with-clause-goes : goal.returns-then-agrees_with-clause-goes
 returns-then-agrees_with-clause-goes g c =
-    source_goes c.args.self.now.hold c.read_source-passed.new.hold _ _ _ _ _ _ _ _ _ _ _ _ _ _ _ _ _ _ _ c.read_source-passed.result
+    source_goes c.args.self.now.hold c.read_source-passed.new.hold _ _ _ _ _ _ _ _ _ _ _ _ _ _ _ _ _ _ _ _ c.read_source-passed.result
     (heads_then g.K.Hop.gift g.K.Hop.has_given g.K.Hop.aside (made_by (g.F.Forward.makes c.args.self.now.forward) g.K.Hop.body_framing g.V.Service.adapted_head g.V.Service.is_response (g.S.Source.head c.args.self.now.source) c.args.self.now.service) (made_by (g.F.Forward.makes c.args.self.now.forward) g.K.Hop.body_framing g.V.Service.adapted_head g.V.Service.is_response (g.S.Source.head c.read_source-passed.new.source) c.args.self.now.service) c.args.self.now.next c.args.self.now.back (shows c.args.self.now.hold.history)
     (source_heads (g.F.Forward.makes c.args.self.now.forward) g.K.Hop.body_framing g.V.Service.adapted_head g.V.Service.is_response (g.S.Source.head c.args.self.now.source) (g.S.Source.head c.read_source-passed.new.source) c.args.self.now.service (shows c.args.self.now.hold.history) c.read_source-passed.ensures.head))
     (others_of g.S.Source.agrees g.S.Source.has_read g.V.Service.has_sent g.V.Service.has_heard g.K.Hop.has_given g.K.Hop.gift g.K.Hop.aside (made_by (g.F.Forward.makes c.args.self.now.forward) g.K.Hop.body_framing g.V.Service.adapted_head g.V.Service.is_response (g.S.Source.head c.read_source-passed.new.source) c.args.self.now.service) g.met.S.Source.others_agree g.met.S.Source.others g.met.V.Service.others_sent g.met.V.Service.others_heard g.met.K.Hop.others (λ k. made_on _ _ _ _) c.read_source-passed.new.source c.args.self.now.service c.args.self.now.next c.args.self.now.back c.args.self.now.refusing)
@@ -48,7 +54,7 @@ returns-else-agrees_with-clause-blames g c = λ cause e. (
 )
 
 pub invariant_of-self : goal.invariant_of-self
-invariant_of-self g c = record { roomy = c.read_source-passed.ensures.roomy; told = c.outcome_by-self.ensures ∙ part_told _ _ _ _ _ _ _ _ _ _ _ _ _ _ _ _ _ (λ cause. refl) c.state-state.ensures.tied c.requires.running c.read_source-passed.ensures.part.part }
+invariant_of-self g c = record { roomy = c.read_source-passed.ensures.roomy; owed = λ e. none_due _ _ _ c.requires.running (c.args.self.now.owed e); told = c.outcome_by-self.ensures ∙ part_told _ _ _ _ _ _ _ _ _ _ _ _ _ _ _ _ _ (λ cause. refl) c.state-state.ensures.tied c.requires.running c.read_source-passed.ensures.part.part }
 
 pub returns-then-agrees_with-clause-still : goal.returns-then-agrees_with-clause-still
 returns-then-agrees_with-clause-still g c = λ e. part_still _ _ _ _ _ _ _ _ _ _ _ _ _ _ _ _ _ c.read_source-passed.ensures.part.part e
@@ -85,3 +91,12 @@ returns-then-agrees_with-clause-sound g c = λ n. c.read_source-passed.ensures.p
 
 pub returns-else-agrees_with-clause-sound : goal.returns-else-agrees_with-clause-sound
 returns-else-agrees_with-clause-sound g c = λ n. (let d : Some causes.Source ≡ None = sym (ap (λ (z : Passed). z.failed) c.close-passed.ensures.passed) ∙ n in absurd cc)
+
+pub returns-then-agrees_with-clause-told : goal.returns-then-agrees_with-clause-told
+returns-then-agrees_with-clause-told g c = λ n v.
+    let p = c.read_source-passed.ensures.part in
+    ap (λ (x : Seen). x.ended) (part_shows _ _ _ _ _ _ _ _ _ _ _ _ _ _ _ _ _ c.state-state.ensures.tied p.part)
+    ∙ ap (λ (failed : Option Cause). (after_all (shows c.args.self.now.hold.history) (stepped failed p.reported)).ended) n ∙ p.told n v
+
+pub returns-else-agrees_with-clause-told : goal.returns-else-agrees_with-clause-told
+returns-else-agrees_with-clause-told g c = λ n v. (let d : Some causes.Source ≡ None = sym (ap (λ (z : Passed). z.failed) c.close-passed.ensures.passed) ∙ n in absurd cc)

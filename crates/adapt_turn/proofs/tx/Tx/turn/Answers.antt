@@ -3,7 +3,7 @@ use Rattle.std.proofs.Common.{inl, inr, sym, ◌∙◌, ap}
 use Rattle.trace_core.specs.declared.history.Cause.TheVariants.{Deadline, Stopping}
 use Rattle.plan_rules.specs.Room.{original_room, adapted_room}
 use Rattle.adapt_hold.specs.Holding.{Holding, shows}
-use Rattle.adapt_turn.proofs.Reasons.{waits_kept, both_kept, blamed_kept, line_blamed_kept, fails_kept, breaks_kept, cause_kept, outcome_fails, not_failed}
+use Rattle.adapt_turn.proofs.Reasons.{waits_kept, both_kept, blamed_kept, line_blamed_kept, writer_kept, fails_kept, breaks_kept, cause_kept, outcome_fails, not_failed}
 use Rattle.adapt_turn.proofs.Moved.{moves_of, moves_none}
 use Rattle.adapt_turn.specs.declared.turned.Outcome.TheVariants as outcomes
 use Rattle.adapt_turn.proofs.Told.{done_told}
@@ -70,14 +70,14 @@ pub returns-clause-answers : goal.returns-clause-answers
 returns-clause-answers g c = by_answer c.after_pass.result _ _ _ _
     (λ w. (
       c.after_pass.ensures.hold ∙ c.pass-passed.ensures.still (c.after_pass.ensures.waiting w).0,
-      moves_of g.A.Wire.past (λ l p. g.W.Wire.past l.wire p) g.C.Wire.past c.args.self.now.source_wire c.pass-passed.new.self.source_wire c.after_pass.new.self.source_wire
+      moves_of g.A.Wire.past g.W.Wire.past g.C.Wire.past c.args.self.now.source_wire c.pass-passed.new.self.source_wire c.after_pass.new.self.source_wire
           c.args.self.now.service c.pass-passed.new.self.service c.after_pass.new.self.service c.args.self.now.next_wire c.pass-passed.new.self.next_wire c.after_pass.new.self.next_wire _ _ _ _ _ _ 0
           c.counts-before.ensures.source c.counts.ensures.source c.counts-before.ensures.service c.counts.ensures.service c.counts-before.ensures.next c.counts.ensures.next
           c.pass-passed.ensures.served c.after_pass.ensures.kept.1 c.after_pass.ensures.kept.2 c.after_pass.ensures.kept.3 (sym (c.after_pass.ensures.waiting w).1 ∙ c.since-moved.ensures),
       λ k. absurd (false≢true (sym (sym c.is_closed.ensures ∙ c.if-is_closed.false) ∙ k)),
       λ k. for_side c.args.side _ _ _
           (λ s. (waits_kept (λ z. g.S.Source.rests (original_room (shows c.args.self.now.hold.history) c.args.self.now.hold.claim c.args.self.now.hold.limits.window) z) g.A.Wire.past _ _ c.pass-passed.new.self.source c.after_pass.new.self.source c.pass-passed.new.self.source_wire c.after_pass.new.self.source_wire c.after_pass.ensures.kept.0 c.after_pass.ensures.kept.1 (c.pass-passed.ensures.waits_source s (c.after_pass.ensures.waiting w).0), subst (λ z. g.S.Source.is_framed (original_room (shows c.args.self.now.hold.history) c.args.self.now.hold.claim c.args.self.now.hold.limits.window) z) (sym c.after_pass.ensures.kept.0) (c.pass-passed.ensures.framed_source s (c.after_pass.ensures.waiting w).0)))
-          (λ s. (both_kept (λ l. g.V.Service.rests_writing (shows c.args.self.now.hold.history) l.side) (λ l. g.V.Service.rests_reading (shows c.args.self.now.hold.history) (adapted_room (shows c.args.self.now.hold.history) c.args.self.now.hold.limits.window) l.side) (λ l p. g.W.Wire.past l.wire p) _ c.pass-passed.new.self.service c.after_pass.new.self.service c.after_pass.ensures.kept.2 (c.pass-passed.ensures.waits_service s (c.after_pass.ensures.waiting w).0), subst (λ z. MatchOption z ⊤ (λ l. g.V.Service.is_framed (adapted_room (shows c.args.self.now.hold.history) c.args.self.now.hold.limits.window) l.side)) (sym c.after_pass.ensures.kept.2) (c.pass-passed.ensures.framed_service s (c.after_pass.ensures.waiting w).0)))
+          (λ s. (both_kept (λ l. g.V.Service.rests_writing (shows c.args.self.now.hold.history) l.side) (λ l. g.V.Service.rests_reading (shows c.args.self.now.hold.history) (adapted_room (shows c.args.self.now.hold.history) c.args.self.now.hold.limits.window) l.side) (λ l p. MatchOption l.wire ⊥ (λ w. g.W.Wire.past w p)) _ c.pass-passed.new.self.service c.after_pass.new.self.service c.after_pass.ensures.kept.2 (c.pass-passed.ensures.waits_service s (c.after_pass.ensures.waiting w).0), subst (λ z. MatchOption z ⊤ (λ l. MatchOption l.wire ⊤ (λ w. g.V.Service.is_framed (adapted_room (shows c.args.self.now.hold.history) c.args.self.now.hold.limits.window) l.side))) (sym c.after_pass.ensures.kept.2) (c.pass-passed.ensures.framed_service s (c.after_pass.ensures.waiting w).0)))
           (λ s. elim (c.pass-passed.ensures.waits_next s (c.after_pass.ensures.waiting w).0) [
             | inl u ↦ inl u
             | inr v ↦ inr (
@@ -90,7 +90,7 @@ returns-clause-answers g c = by_answer c.after_pass.result _ _ _ _
           ]),
     ))
     (λ n m. (
-      moves_of g.A.Wire.past (λ l p. g.W.Wire.past l.wire p) g.C.Wire.past c.args.self.now.source_wire c.pass-passed.new.self.source_wire c.after_pass.new.self.source_wire
+      moves_of g.A.Wire.past g.W.Wire.past g.C.Wire.past c.args.self.now.source_wire c.pass-passed.new.self.source_wire c.after_pass.new.self.source_wire
           c.args.self.now.service c.pass-passed.new.self.service c.after_pass.new.self.service c.args.self.now.next_wire c.pass-passed.new.self.next_wire c.after_pass.new.self.next_wire _ _ _ _ _ _ n
           c.counts-before.ensures.source c.counts.ensures.source c.counts-before.ensures.service c.counts.ensures.service c.counts-before.ensures.next c.counts.ensures.next
           c.pass-passed.ensures.served c.after_pass.ensures.kept.1 c.after_pass.ensures.kept.2 c.after_pass.ensures.kept.3 (c.after_pass.ensures.moved n m ∙ c.since-moved.ensures),
@@ -99,14 +99,14 @@ returns-clause-answers g c = by_answer c.after_pass.result _ _ _ _
           let e = m ∙ ap answers.Moved z in (
             o,
             let w = waiting_not c.pass-passed.result.waiting (c.after_pass.ensures.active 0 e).0 in
-                let k = none_over _ _ _ (moves_of g.A.Wire.past (λ l x. g.W.Wire.past l.wire x) g.C.Wire.past c.args.self.now.source_wire c.pass-passed.new.self.source_wire c.pass-passed.new.self.source_wire
+                let k = none_over _ _ _ (moves_of g.A.Wire.past g.W.Wire.past g.C.Wire.past c.args.self.now.source_wire c.pass-passed.new.self.source_wire c.pass-passed.new.self.source_wire
                 c.args.self.now.service c.pass-passed.new.self.service c.pass-passed.new.self.service c.args.self.now.next_wire c.pass-passed.new.self.next_wire c.pass-passed.new.self.next_wire _ _ _ _ _ _ 0
                 c.counts-before.ensures.source c.counts.ensures.source c.counts-before.ensures.service c.counts.ensures.service c.counts-before.ensures.next c.counts.ensures.next
                 c.pass-passed.ensures.served refl refl refl (c.after_pass.ensures.moved 0 e ∙ c.since-moved.ensures)) in
                 subst (λ h. Advances (may_step c.args.side) c.args.self.now.hold h) (sym c.after_pass.ensures.hold)
                 (by_side c.args.side (λ side. Advances (may_step side) c.args.self.now.hold c.pass-passed.new.self.hold)
                 (λ s. let v = c.pass-passed.ensures.active_source s w p a in v.4 (k.0 p v.0 a v.1))
-                (λ s. some_line (λ l x. g.W.Wire.past l.wire x) c.args.self.now.service c.pass-passed.new.self.service _ q b k.1
+                (λ s. some_line g.W.Wire.past c.args.self.now.service c.pass-passed.new.self.service _ q b k.1
                 (λ n. false≢true (sym w ∙ c.pass-passed.ensures.absent s n)) (c.pass-passed.ensures.active_service s w (c.after_pass.ensures.active 0 e).1))
                 (λ s. of_one _ _ _ _ (λ act. let v = act r d in v.4 (k.2 r v.0 d v.1)) (λ act. let v = act p a in v.4 (k.0 p v.0 a v.1)) (c.pass-passed.ensures.active_next s w))),
           ),
@@ -139,7 +139,7 @@ returns-then-is_closed-clause-answers g c = by_answer c.closed_turn.result _ _ _
 
 pub returns-then-now-self-2-clause-answers : goal.returns-then-now-self-2-clause-answers
 returns-then-now-self-2-clause-answers g c = (
-  moves_none g.A.Wire.past (λ l p. g.W.Wire.past l.wire p) g.C.Wire.past c.args.self.now.source_wire c.fail_by.new.self.source_wire
+  moves_none g.A.Wire.past g.W.Wire.past g.C.Wire.past c.args.self.now.source_wire c.fail_by.new.self.source_wire
       c.args.self.now.service c.fail_by.new.self.service c.args.self.now.next_wire c.fail_by.new.self.next_wire _ _ _ 0
       c.counts-before.ensures.source c.counts-before.ensures.service c.counts-before.ensures.next c.fail_by.ensures.kept.0 c.fail_by.ensures.kept.1 c.fail_by.ensures.kept.2 refl,
   λ z p q r a b d. ((sym c.is_closed.ensures ∙ c.if-is_closed.false), fail_advances c.args.side c.args.self.now.hold c.fail_by.new.self.hold Deadline (sym c.is_closed.ensures ∙ c.if-is_closed.false) c.fail_by.ensures.hold),
@@ -156,19 +156,17 @@ returns-clause-fails g c = λ o cause e.
     ))
     (λ s. (
       λ n. (let d : None ≡ Some cause = sym (c.pass-passed.ensures.idle (c.pass-passed.ensures.absent s n)) ∙ f in absurd cc),
-      line_blamed_kept (λ l. g.V.Service.fault l.side) (λ l p. g.W.Wire.past l.wire p) cause _ _ c.pass-passed.new.self.service c.after_pass.new.self.service c.after_pass.ensures.kept.2 (c.pass-passed.ensures.blames_service s cause f),
+      line_blamed_kept (λ l. g.V.Service.fault l.side) (λ l p. MatchOption l.wire ⊥ (λ w. g.W.Wire.past w p)) cause _ _ c.pass-passed.new.self.service c.after_pass.new.self.service c.after_pass.ensures.kept.2 (c.pass-passed.ensures.blames_service s cause f),
       fails_kept (λ l. g.V.Service.fault l.side) (λ fault x l. g.V.Service.has_reason fault x l.side) cause c.args.self.now.reused c.args.self.now.service c.pass-passed.new.self.hold c.after_pass.new.self.hold c.pass-passed.new.self.service c.after_pass.new.self.service c.after_pass.ensures.hold c.after_pass.ensures.kept.2 (c.pass-passed.ensures.unbroken s cause f),
     ))
     (λ s.
     let x = shows c.args.self.now.hold.history in
     let mid = c.pass-passed.new.self in
     let new = c.after_pass.new.self in
-    let next = cause_kept (λ z. FailsGiving (g.K.Hop.breaks_length x z)) _ _ _ (g.K.Hop.body_framing mid.next) (g.K.Hop.body_framing new.next) c.after_pass.ensures.kept.4 c.after_pass.ensures.framings.0 (c.pass-passed.ensures.reasons_next s).0 in
-    let back = cause_kept (λ z. FailsGiving (g.K.Hop.breaks_length x z)) _ _ _ (g.K.Hop.body_framing mid.back) (g.K.Hop.body_framing new.back) c.after_pass.ensures.kept.5 c.after_pass.ensures.framings.1 (c.pass-passed.ensures.reasons_next s).1 in
     elim (c.pass-passed.ensures.blames_next s cause f) [
       | inl u ↦ inl u
-      | inr (inl v) ↦ inr (inl (blamed_kept _ _ cause g.C.Wire.past _ _ (g.K.Hop.fault mid.next) (g.K.Hop.fault new.next) mid.next_wire new.next_wire c.after_pass.ensures.kept.4 c.after_pass.ensures.kept.3 v), next, back)
-      | inr (inr v) ↦ inr (inr (blamed_kept _ _ cause g.A.Wire.past _ _ (g.K.Hop.fault mid.back) (g.K.Hop.fault new.back) mid.source_wire new.source_wire c.after_pass.ensures.kept.5 c.after_pass.ensures.kept.1 v), next, back)
+      | inr (inl v) ↦ inr (inl (writer_kept cause (λ z. FailsGiving (g.K.Hop.breaks_length x z)) _ g.C.Wire.past _ (g.K.Hop.body_framing mid.next) (g.K.Hop.body_framing new.next) mid.next_wire new.next_wire c.after_pass.ensures.framings.0 c.after_pass.ensures.kept.3 v))
+      | inr (inr v) ↦ inr (inr (writer_kept cause (λ z. FailsGiving (g.K.Hop.breaks_length x z)) _ g.A.Wire.past _ (g.K.Hop.body_framing mid.back) (g.K.Hop.body_framing new.back) mid.source_wire new.source_wire c.after_pass.ensures.framings.1 c.after_pass.ensures.kept.1 v))
     ]))
 
 pub returns-then-is_broken-clause-fails : goal.returns-then-is_broken-clause-fails
@@ -177,7 +175,7 @@ returns-then-is_broken-clause-fails g c = λ o cause e. absurd (false≢true (sy
 pub returns-clause-clock : goal.returns-clause-clock
 returns-clause-clock g c = λ o. (
   c.since-moved.result,
-  moves_of g.A.Wire.past (λ l p. g.W.Wire.past l.wire p) g.C.Wire.past c.args.self.now.source_wire c.pass-passed.new.self.source_wire c.after_pass.new.self.source_wire
+  moves_of g.A.Wire.past g.W.Wire.past g.C.Wire.past c.args.self.now.source_wire c.pass-passed.new.self.source_wire c.after_pass.new.self.source_wire
       c.args.self.now.service c.pass-passed.new.self.service c.after_pass.new.self.service c.args.self.now.next_wire c.pass-passed.new.self.next_wire c.after_pass.new.self.next_wire _ _ _ _ _ _ c.since-moved.result
       c.counts-before.ensures.source c.counts.ensures.source c.counts-before.ensures.service c.counts.ensures.service c.counts-before.ensures.next c.counts.ensures.next
       c.pass-passed.ensures.served c.after_pass.ensures.kept.1 c.after_pass.ensures.kept.2 c.after_pass.ensures.kept.3 c.since-moved.ensures,
@@ -189,7 +187,7 @@ returns-clause-clock g c = λ o. (
 pub returns-then-now-self-2-clause-clock : goal.returns-then-now-self-2-clause-clock
 returns-then-now-self-2-clause-clock g c = λ o. (
   0,
-  moves_none g.A.Wire.past (λ l p. g.W.Wire.past l.wire p) g.C.Wire.past c.args.self.now.source_wire c.fail_by.new.self.source_wire
+  moves_none g.A.Wire.past g.W.Wire.past g.C.Wire.past c.args.self.now.source_wire c.fail_by.new.self.source_wire
       c.args.self.now.service c.fail_by.new.self.service c.args.self.now.next_wire c.fail_by.new.self.next_wire _ _ _ 0
       c.counts-before.ensures.source c.counts-before.ensures.service c.counts-before.ensures.next c.fail_by.ensures.kept.0 c.fail_by.ensures.kept.1 c.fail_by.ensures.kept.2 refl,
   λ z. c.fail_by.ensures.timed.0,
@@ -200,7 +198,7 @@ returns-then-now-self-2-clause-clock g c = λ o. (
 pub returns-then-is_broken-clause-clock : goal.returns-then-is_broken-clause-clock
 returns-then-is_broken-clause-clock g c = λ o. (
   0,
-  moves_none g.A.Wire.past (λ l p. g.W.Wire.past l.wire p) g.C.Wire.past c.args.self.now.source_wire c.args.self.now.source_wire c.args.self.now.service c.args.self.now.service c.args.self.now.next_wire c.args.self.now.next_wire _ _ _ 0
+  moves_none g.A.Wire.past g.W.Wire.past g.C.Wire.past c.args.self.now.source_wire c.args.self.now.source_wire c.args.self.now.service c.args.self.now.service c.args.self.now.next_wire c.args.self.now.next_wire _ _ _ 0
       c.counts-before.ensures.source c.counts-before.ensures.service c.counts-before.ensures.next refl refl refl refl,
   λ z. refl,
   λ l. absurd (omega (arith, l)),
@@ -289,11 +287,11 @@ returns-clause-faultless g c = λ o f.
           let before = f.1 (sym p.marked.0 ∙ unmarked_before mid.broken c.after_pass.new.self.broken _ a.marked.0 b) in
           by_side c.args.side (λ side. of_line mid.service ≡ None)
           (λ s. ap of_line (p.apart_source s).0 ∙ before)
-          (λ s. p.sound_service s n (unmarked_now c.pass-passed.result.broken mid.broken c.after_pass.new.self.broken _ a.breaks a.marked.0 b))
+          (λ s. p.sound_service s n (unmarked_now c.pass-passed.result.broken mid.broken c.after_pass.new.self.broken _ a.breaks a.marked.0 b) before)
           (λ s. ap of_line (p.apart_next s).1 ∙ before)),
-      a.kept.4 ∙ by_side c.args.side (λ side. g.K.Hop.fault mid.next ≡ None)
+      ap g.K.Hop.fault (a.same n).0 ∙ by_side c.args.side (λ side. g.K.Hop.fault mid.next ≡ None)
           (λ s. ap g.K.Hop.fault (p.apart_source s).2 ∙ f.2) (λ s. ap g.K.Hop.fault (p.apart_service s).3 ∙ f.2) (λ s. (p.sound_next s n).0 f.2),
-      a.kept.5 ∙ by_side c.args.side (λ side. g.K.Hop.fault mid.back ≡ None)
+      ap g.K.Hop.fault (a.same n).1 ∙ by_side c.args.side (λ side. g.K.Hop.fault mid.back ≡ None)
           (λ s. ap g.K.Hop.fault (p.apart_source s).3 ∙ f.3) (λ s. ap g.K.Hop.fault (p.apart_service s).4 ∙ f.3) (λ s. (p.sound_next s n).1 f.3),
     )
 
@@ -305,3 +303,17 @@ returns-then-is_broken-clause-faultless g c = λ o f. f
 
 pub returns-then-now-self-2-clause-faultless : goal.returns-then-now-self-2-clause-faultless
 returns-then-now-self-2-clause-faultless g c = λ o f. absurd (false≢true (sym o ∙ c.fail_by.ensures.over))
+
+pub returns-clause-told : goal.returns-clause-told
+returns-clause-told g c = λ o s b n v.
+    let m = unfailed c.pass-passed.result.failed c.after_pass.new.self.outcome (c.after_pass.ensures.outcome ∙ c.pass-passed.ensures.outcome) n in
+    ap (λ (h : Holding). (shows h.history).ended) c.after_pass.ensures.hold ∙ c.pass-passed.ensures.told_source s m (subst (λ z. g.S.Source.is_over z) c.after_pass.ensures.kept.0 v)
+
+pub returns-then-is_closed-clause-told : goal.returns-then-is_closed-clause-told
+returns-then-is_closed-clause-told g c = λ o s b n v. absurd (false≢true (sym o ∙ (sym c.is_closed.ensures ∙ c.if-is_closed.true)))
+
+pub returns-then-now-self-2-clause-told : goal.returns-then-now-self-2-clause-told
+returns-then-now-self-2-clause-told g c = λ o s b n v. absurd (n Deadline c.fail_by.ensures.outcome)
+
+pub returns-then-is_broken-clause-told : goal.returns-then-is_broken-clause-told
+returns-then-is_broken-clause-told g c = λ o s b n v. absurd (b refl)
