@@ -48,7 +48,7 @@ impl Play for Anew {
             tx.drive(rt, bank, &ROUND);
             if tx.is_broken() {
                 match self.fresh.take() {
-                    Some(fresh) => self.broken = Some(tx.retry(rt, bank, fresh)),
+                    Some(fresh) => self.broken = tx.retry(rt, bank, fresh),
                     None => {
                         tx.no_retry(rt, bank);
                         self.failed = self.failed.saturating_add(1);

@@ -1,4 +1,4 @@
-use Rattle.std.proofs.Common.{[], refl, ap}
+use Rattle.std.proofs.Common.{[], false, refl, ap}
 use Rattle.trace_core.specs.History.{seen}
 use Rattle.http_relay.specs.Giving.{Hop, gift_of}
 use Rattle.proxy_rules.proofs.BeginLemmas.{nothing_on, faultless_on}
