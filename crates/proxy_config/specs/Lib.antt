@@ -3,3 +3,4 @@ pub mod Values
 pub mod Sizes
 pub mod Config
 pub mod Services
+pub mod Hosts

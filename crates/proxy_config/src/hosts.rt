@@ -1,7 +1,9 @@
 //! The table of host names: no resolver is asked.
 
-ghost use Rattle.std.specs.Prelude.{IfErr};
+ghost use Rattle.std.specs.Prelude.{◌≡◌, IfErr, IfSome, IfNone};
+ghost use Rattle.std.specs.declared.net.socket_addr.SocketAddrV4.{SocketAddrV4 as AnyAddress};
 ghost use Rattle.proxy_config.specs.Fault.{Names};
+ghost use Rattle.proxy_config.specs.Hosts.{found_host, port_or, IsAt};
 
 use crate::fault::{ConfigFault, at_key, needed};
 use crate::values::address_of;
@@ -26,9 +28,21 @@ pub struct Hosts {
 /// The port of `http` where none is written (RFC 9110, section 4.2.1).
 const HTTP_PORT: u16 = 80;
 
+/// The port that is written, else the other.
+fn port_or(other: u16, port: Option<u16>) -> u16
+    ensures { result ≡ port_or other port }
+{
+    match port {
+        Some(port) => port,
+        None => other,
+    }
+}
+
 impl Hosts {
     /// The address of a name, ASCII case ignored.
-    fn find(&self, name: &[u8]) -> Option<SocketAddrV4> {
+    fn find(&self, name: &[u8]) -> Option<SocketAddrV4>
+        ensures { result ≡ found_host self.now name.now }
+    {
         for host in &self.all {
             if same_ascii(host.name.as_bytes(), name) {
                 return Some(host.address);
@@ -41,12 +55,17 @@ impl Hosts {
     ///
     /// An IPv4 literal is itself, its port 80 where none is written. Another name is looked up, ASCII case ignored; the
     /// table's port stands where the target has none. `None` where the name isn't there.
-    pub fn resolve(&self, host: &[u8], port: Option<u16>) -> Option<SocketAddrV4> {
+    pub fn resolve(&self, host: &[u8], port: Option<u16>) -> Option<SocketAddrV4>
+        ensures found { IfSome result (IsAt self.now host.now port) }
+        ensures none { IfNone result ((address : AnyAddress) → IsAt self.now host.now port address → ⊥) }
+    {
         if let Ok(ip) = Ipv4Addr::parse_ascii(host) {
-            return Some(SocketAddrV4::new(ip, port.unwrap_or(HTTP_PORT)));
+            return Some(SocketAddrV4::new(ip, port_or(HTTP_PORT, port)));
         }
-        let found = self.find(host)?;
-        Some(SocketAddrV4::new(*found.ip(), port.unwrap_or(found.port())))
+        match self.find(host) {
+            Some(entry) => Some(SocketAddrV4::new(*entry.ip(), port_or(entry.port(), port))),
+            None => None,
+        }
     }
 
     /// Adds a name, where no such name is there.
