@@ -1,5 +1,6 @@
 pub mod Reasons
 pub mod Origins
+pub mod Routes
 pub mod Plans
 pub mod Users
 pub mod Onward

@@ -52,7 +52,7 @@ impl<'a, B: Ledgers, Q: Ledger, A: Ledger, G: Gate> Desk<'a, B, Q, A, G> {
             return Err(Reason::NoOrigin);
         };
         let config = self.shared.config;
-        let Some(address) = origin_address(&config.hosts, user) else {
+        let Some(address) = origin_address(config, user) else {
             return Err(Reason::UnknownHost);
         };
         let record = self.book(Point::Reqmod).record();

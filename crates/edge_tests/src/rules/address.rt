@@ -10,6 +10,10 @@ use std::test::Fail;
 const CONFIG: &[u8] =
     b"listen = \"127.0.0.1:3128\"\nadmin = \"127.0.0.1:3129\"\n[hosts]\n\"o.test\" = \"127.0.0.1:8080\"\n";
 
+/// An administrator's port on each address of the machine, and users on one of them.
+const OPEN: &[u8] =
+    b"listen = \"10.0.0.1:3128\"\nadmin = \"0.0.0.0:3129\"\n[hosts]\n\"a.test\" = \"127.0.0.9:3129\"\n\"b.test\" = \"10.0.0.2:3129\"\n";
+
 /// A target, its host, its port, and where the request goes.
 type Case<'a> = (&'a [u8], &'a [u8], Option<u16>, Option<&'a [u8]>);
 
@@ -23,8 +27,13 @@ fn request_for(alloc: Global, target: &[u8]) -> Result<HttpRequest, Fail> {
 }
 
 /// That requests for these targets go there.
-fn they_go_there(rt: &impl Abort, alloc: Global, cases: &[Case<'_>]) -> Result<(), Fail> {
-    let config = read_config(alloc, CONFIG)?;
+fn they_go_there(
+    rt: &impl Abort,
+    alloc: Global,
+    config: &[u8],
+    cases: &[Case<'_>],
+) -> Result<(), Fail> {
+    let config = read_config(alloc, config)?;
     for (target, host, port, address) in cases {
         let user = request_for(alloc, target)?;
         let origin = origin_of(&user);
@@ -34,7 +43,7 @@ fn they_go_there(rt: &impl Abort, alloc: Global, cases: &[Case<'_>]) -> Result<(
             Some(address) => SocketAddrV4::parse_ascii(address).ok(),
             None => None,
         };
-        assert_eq!(rt; origin_address(&config.hosts, &user), want);
+        assert_eq!(rt; origin_address(&config, &user), want);
     }
     Ok(())
 }
@@ -63,7 +72,7 @@ fn hosts_of_the_table(rt: HostRuntime) -> Result<(), Fail> {
         ),
         (b"http://other.test/", b"other.test", None, None),
     ];
-    they_go_there(&rt, rt.alloc(), &cases)
+    they_go_there(&rt, rt.alloc(), CONFIG, &cases)
 }
 
 #[test]
@@ -78,7 +87,50 @@ fn hosts_that_are_addresses(rt: HostRuntime) -> Result<(), Fail> {
         ),
         (b"http://[::1]:81/", b"[::1]", Some(81), None),
     ];
-    they_go_there(&rt, rt.alloc(), &cases)
+    they_go_there(&rt, rt.alloc(), CONFIG, &cases)
+}
+
+#[test]
+fn targets_that_are_the_proxy(rt: HostRuntime) -> Result<(), Fail> {
+    let cases: [Case<'_>; 7] = [
+        (b"http://127.0.0.1:3129/", b"127.0.0.1", Some(3129), None),
+        (
+            b"http://127.255.0.3:3128/",
+            b"127.255.0.3",
+            Some(3128),
+            None,
+        ),
+        (b"http://0.0.0.0:3129/", b"0.0.0.0", Some(3129), None),
+        (b"http://o.test:3128/", b"o.test", Some(3128), None),
+        (
+            b"http://o.test:3127/",
+            b"o.test",
+            Some(3127),
+            Some(b"127.0.0.1:3127"),
+        ),
+        (
+            b"http://10.0.0.1:3128/",
+            b"10.0.0.1",
+            Some(3128),
+            Some(b"10.0.0.1:3128"),
+        ),
+        (b"http://127.1:3129/", b"127.1", Some(3129), None),
+    ];
+    they_go_there(&rt, rt.alloc(), CONFIG, &cases)?;
+    let cases: [Case<'_>; 6] = [
+        (b"http://a.test/", b"a.test", None, None),
+        (b"http://b.test/", b"b.test", None, Some(b"10.0.0.2:3129")),
+        (b"http://0.0.0.0:3129/", b"0.0.0.0", Some(3129), None),
+        (b"http://10.0.0.1:3128/", b"10.0.0.1", Some(3128), None),
+        (b"http://0.0.0.0:3128/", b"0.0.0.0", Some(3128), None),
+        (
+            b"http://127.0.0.1:3128/",
+            b"127.0.0.1",
+            Some(3128),
+            Some(b"127.0.0.1:3128"),
+        ),
+    ];
+    they_go_there(&rt, rt.alloc(), OPEN, &cases)
 }
 
 #[test]
