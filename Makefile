@@ -18,8 +18,18 @@ serve: ## starts icapd and adaptproxy with the examples' configurations, until `
 stop: ## stops what `make serve` started
 	@bash -c 'echo stop > /dev/tcp/127.0.0.1/3129'
 
-install: build ## puts the programs, the examples and units for systemd below PREFIX (default /usr/local)
+install: build ## puts the programs, man pages, completions, examples, units and the launcher below PREFIX (default /usr/local)
 	@tools/install_programs "$(PREFIX)"
+
+.PHONY: deb try-deb try-scale
+deb: build ## builds a Debian package of the programs, below out/
+	@tools/make_deb
+
+try-deb: deb ## installs the package into a clean folder, removes and purges it; needs root
+	@tools/try_deb "$$(ls -t out/adaptproxy_*.deb | head -n 1)"
+
+try-scale: build ## three proxies behind HAProxy and two services behind it: each is renewed under load, where haproxy is installed
+	@tools/try_scale
 
 try-serve: build ## tries `adaptproxy serve` over loopback: some thirty cases, with users, origins and services that misbehave
 	@tools/try_serve
