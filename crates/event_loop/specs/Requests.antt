@@ -1,5 +1,7 @@
 -- What the lines of the admin port ask for.
-use Rattle.std.specs.Prelude.{◌≡◌, ◌≢◌, ℕ, ◌≤◌, List, ◌++◌, codes}
+use Rattle.std.specs.Prelude.{◌≡◌, ◌≢◌, ℕ, ◌≤◌, ◌<◌, ◌⊎◌, ◌||◌, ◌==◌, Bool, List, ◌++◌, length, slice_index, take, codes, IsTrue}
+use Rattle.std.specs.Char.{is_ascii_uppercase}
+use Rattle.std.specs.Str.{str_eq_ignore_ascii_case}
 use Rattle.adapt_bytes.specs.declared.limits.TheConstants.{MAX_CAPACITY}
 use Rattle.adapt_bytes.specs.Numeral.{Writes}
 use Rattle.event_loop.specs.declared.admin_lines.Request.{Request}
@@ -19,3 +21,19 @@ Asks line Book = line ≡ codes "book"
 Asks line Stop = line ≡ codes "stop"
 Asks line (Capacity n) = AsksForSize line n
 Asks line Bad = (line ≢ codes "book") × (line ≢ codes "stop") × ((n : ℕ) → AsksForSize line n → ⊥)
+
+-- a byte of a method as all registered ones are written: a capital letter or a hyphen (RFC 9110, section 9.1)
+abbrev pub is_method_byte : ℕ → Bool
+is_method_byte b = is_ascii_uppercase b || b == 45
+
+-- one byte of a method or more stand first, and then a space: a request line (RFC 9112, section 3)
+pub record BeginsWithMethod (line : List ℕ) : Type 0 where
+  pub count : ℕ
+  pub some : 0 < count
+  pub method : (k : ℕ) → k < count → IsTrue (is_method_byte (slice_index line k))
+  pub within : count < length line
+  pub space : slice_index line count ≡ 32
+
+-- the line is one of HTTP: a request line, or the field Host
+abbrev pub IsHttp : List ℕ → Type 0
+IsHttp line = BeginsWithMethod line ⊎ IsTrue (str_eq_ignore_ascii_case (take 5 line) (codes "host:"))

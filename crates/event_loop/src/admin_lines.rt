@@ -1,9 +1,9 @@
 //! The lines of the admin port.
 
-ghost use Rattle.std.specs.Prelude.{ℕ, IfSome, IfNone};
-ghost use Rattle.event_loop.specs.Requests.{Asks, SpellsSize};
+ghost use Rattle.std.specs.Prelude.{◌↔◌, ℕ, IsTrue, IfSome, IfNone};
+ghost use Rattle.event_loop.specs.Requests.{Asks, BeginsWithMethod, IsHttp, SpellsSize};
 
-use adapt_bytes::{MAX_CAPACITY, read_decimal};
+use adapt_bytes::{MAX_CAPACITY, front, read_decimal, same_ascii};
 
 /// The most bytes of a line, its LF aside.
 pub const MAX_ADMIN_LINE: usize = 256;
@@ -49,4 +49,30 @@ pub fn read_request(line: &[u8]) -> Request
         Some(n) => Request::Capacity(n),
         None => Request::Bad,
     }
+}
+
+/// The field that each request of HTTP/1.1 has, and how long it is (RFC 9110, section 7.2).
+const HOST_FIELD: &[u8] = b"host:";
+
+/// Whether a method and a space stand first.
+fn begins_with_method(line: &[u8]) -> bool
+    ensures { IsTrue result ↔ BeginsWithMethod line.now }
+{
+    for (at, byte) in line.iter().enumerate() {
+        if *byte == b' ' {
+            return at > 0;
+        }
+        if !byte.is_ascii_uppercase() && *byte != b'-' {
+            return false;
+        }
+    }
+    false
+}
+
+/// Whether a line is one of HTTP: a browser that was led here says it, and what it says behind that isn't the
+/// administrator's.
+pub fn is_http(line: &[u8]) -> bool
+    ensures { IsTrue result ↔ IsHttp line.now }
+{
+    begins_with_method(line) || same_ascii(front(line, HOST_FIELD.len()), HOST_FIELD)
 }

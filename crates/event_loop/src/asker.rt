@@ -1,6 +1,10 @@
 //! A connection of the administrator.
 
-use crate::admin_lines::{MAX_ADMIN_LINE, Request, read_request};
+ghost use Rattle.std.specs.Prelude.{◌≡◌};
+ghost use Rattle.event_loop.specs.declared.admin_lines.Request.{Request as AnyRequest};
+ghost use Rattle.event_loop.specs.Requests.{Asks, IsHttp};
+
+use crate::admin_lines::{MAX_ADMIN_LINE, Request, is_http, read_request};
 use std::alloc::{AllocError, Global};
 use wire_kit::{Got, Put, Wire};
 
@@ -14,10 +18,24 @@ pub enum Heard {
     Asked(Request),
     /// A line that is too long: it is bad, and ends the connection.
     TooLong,
+    /// A line of HTTP: it is bad, and ends the connection.
+    Http,
     /// No whole line yet.
     Waiting,
     /// The connection has ended or failed.
     Over,
+}
+
+/// What a line says. None is read behind one of HTTP.
+fn said(line: &[u8]) -> Heard
+    ensures http { IsHttp line.now → result ≡ Heard.Http }
+    ensures other { (IsHttp line.now → ⊥) → (request : AnyRequest) × (result ≡ Heard.Asked request) × Asks line.now request }
+{
+    if is_http(line) {
+        Heard::Http
+    } else {
+        Heard::Asked(read_request(line))
+    }
 }
 
 /// A connection of the administrator, which may carry many lines.
@@ -43,9 +61,9 @@ impl<W: Wire + Drop> Asker<W> {
         let text = self.text.as_slice();
         match text.iter().position(|byte| *byte == b'\n') {
             Some(end) if end <= MAX_ADMIN_LINE => {
-                let request = read_request(&text[..end]);
+                let heard = said(&text[..end]);
                 self.text.drain(..end + 1);
-                Some(Heard::Asked(request))
+                Some(heard)
             }
             Some(_) => Some(Heard::TooLong),
             None if text.len() > MAX_ADMIN_LINE => Some(Heard::TooLong),

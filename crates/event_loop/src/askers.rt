@@ -146,15 +146,15 @@ impl Askers {
         }
     }
 
-    /// What a connection asks for next. A connection that is over loses its seat; so does one whose line is too long, which
-    /// is answered as bad.
+    /// What a connection asks for next. A connection that is over loses its seat; so does one whose line is too long or of
+    /// HTTP, which is answered as bad.
     pub(crate) fn hear(&mut self, key: usize) -> Option<Request> {
         let turn = self.next_turn();
         let heard = self.seats.get_mut(key)?.hear(turn);
         match heard {
             Heard::Asked(request) => Some(request),
             Heard::Waiting => None,
-            Heard::TooLong => {
+            Heard::TooLong | Heard::Http => {
                 self.say(key, b"bad\n");
                 self.leave(key);
                 None

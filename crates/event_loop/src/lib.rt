@@ -17,7 +17,7 @@ mod slots;
 mod threads;
 mod work;
 
-pub use admin_lines::{MAX_ADMIN_LINE, Request, read_request};
+pub use admin_lines::{MAX_ADMIN_LINE, Request, is_http, read_request};
 pub use asker::{Asker, Heard};
 pub use closing::{Closing, close_turn};
 pub use ended::{Ended, LoopFault};
