@@ -60,6 +60,29 @@ fn one_connection_carries_many_lines(rt: HostRuntime) -> Result<(), Fail> {
 }
 
 #[test]
+fn a_line_of_http_ends_it(rt: HostRuntime) -> Result<(), Fail> {
+    let alloc = rt.alloc();
+    let cases = [
+        (b"GET / HTTP/1.1\r\n".as_slice(), Heard::Http),
+        (b"X \n".as_slice(), Heard::Http),
+        (b"hOsT: a\n".as_slice(), Heard::Http),
+        (b"hos\n".as_slice(), Heard::Asked(Request::Bad)),
+        (b"GET\n".as_slice(), Heard::Asked(Request::Bad)),
+        (b" X\n".as_slice(), Heard::Asked(Request::Bad)),
+        (
+            b"capacity 1\n".as_slice(),
+            Heard::Asked(Request::Capacity(1)),
+        ),
+    ];
+    for (line, want) in cases {
+        let reads = vec![in alloc; ReadAnswer::Bytes(99)]?;
+        let wire = MemoryWire::new(alloc, line.to_vec(alloc)?, reads, Vec::new(alloc))?;
+        assert_eq!(rt; Asker::new(alloc, wire).hear()?, want);
+    }
+    Ok(())
+}
+
+#[test]
 fn a_long_line_is_bad(rt: HostRuntime) -> Result<(), Fail> {
     let alloc = rt.alloc();
     let mut input = Vec::from_elem(alloc, b'x', 257)?;

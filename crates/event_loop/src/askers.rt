@@ -3,6 +3,7 @@
 use crate::admin_lines::Request;
 use crate::asker::{Asker, Heard};
 use crate::listening::{Accepted, Listening};
+use mio::net::TcpStream;
 use mio::{Registry, Token};
 use slab::Slab;
 use socket_wire::{Readiness, SocketWire};
@@ -99,17 +100,23 @@ impl Askers {
     /// Takes in the connections that wait. Where all seats are taken, each takes that of the most silent one.
     pub(crate) fn accept(&mut self, alloc: Global, listening: &mut Listening, registry: &Registry) {
         for _ in 0..MAX_ASKERS {
-            let Accepted::One(stream) = listening.accept() else {
-                return;
-            };
-            self.make_room();
-            if let Ok(ready) = Arc::new(alloc, Readiness::new())
-                && let Ok(told) = ready.clone()
-            {
-                let _ = self.seat(alloc, SocketWire::new(stream, told), ready, registry);
+            match listening.accept() {
+                Accepted::One(stream) => self.take_in(alloc, stream, registry),
+                Accepted::Gone => {}
+                Accepted::None | Accepted::Rest => return,
             }
         }
-        listening.rest();
+        listening.fall_behind();
+    }
+
+    /// Takes in a connection. One for which no memory is found is closed.
+    fn take_in(&mut self, alloc: Global, stream: TcpStream, registry: &Registry) {
+        self.make_room();
+        if let Ok(ready) = Arc::new(alloc, Readiness::new())
+            && let Ok(told) = ready.clone()
+        {
+            let _ = self.seat(alloc, SocketWire::new(stream, told), ready, registry);
+        }
     }
 
     /// Gives a connection a seat, if one is free. `Err` where no memory was found, or its events can't be had.

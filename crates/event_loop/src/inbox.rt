@@ -1,5 +1,6 @@
-//! What other threads hand to an event loop: users' connections, and the word to stop.
+//! What other threads hand to an event loop: users' connections, that room is wanted, and the word to stop.
 
+use crate::room::Place;
 use mio::Waker;
 use mio::net::TcpStream;
 use std::alloc::{AllocError, Global};
@@ -7,18 +8,21 @@ use std::mem;
 use std::sync::atomic::{AtomicBool, Ordering};
 use std::sync::{Mutex, Wait};
 
-/// A user's connection, with its number in the order of acceptance, from 1.
+/// A user's connection, with its number in the order of acceptance, from 1, and its place among the users.
 #[derive(Drop)]
 pub struct Handed {
     pub stream: TcpStream,
     pub number: u64,
+    pub place: Place,
 }
 
-/// What was handed in and not yet taken, whether the loop is to stop, and what ends the wait of the loop.
+/// What was handed in and not yet taken, what the loop is to do, whether it has begun, and what ends its wait.
 #[derive(Drop)]
 pub struct Inbox {
     users: Mutex<Vec<Handed>>,
     stops: AtomicBool,
+    crowded: AtomicBool,
+    begun: AtomicBool,
     waker: Waker,
 }
 
@@ -28,6 +32,8 @@ impl Inbox {
         Inbox {
             users: Mutex::new(Vec::new(alloc)),
             stops: AtomicBool::new(false),
+            crowded: AtomicBool::new(false),
+            begun: AtomicBool::new(false),
             waker,
         }
     }
@@ -35,7 +41,7 @@ impl Inbox {
     /// Hands a user in, and wakes the loop. `Err` where no memory was found for it: then its connection is closed.
     pub fn hand<R: Wait>(&self, rt: &R, user: Handed) -> Result<(), AllocError> {
         self.users.lock(rt).push(user)?;
-        let _ = self.waker.wake();
+        self.wake();
         Ok(())
     }
 
@@ -45,16 +51,52 @@ impl Inbox {
         mem::replace(&mut *users, Vec::new(alloc))
     }
 
+    /// Ends the wait of the loop.
+    pub fn wake(&self) {
+        let _ = self.waker.wake();
+    }
+
     /// Tells the loop to stop, and wakes it. This takes no lock and no memory, so a loop that failed can do it too.
     pub fn stop(&self) {
         self.stops.store(true, Ordering::SeqCst);
-        let _ = self.waker.wake();
+        self.wake();
     }
 
     /// Whether the loop is to stop.
     pub fn is_stopping(&self) -> bool {
         self.stops.load(Ordering::SeqCst)
     }
+
+    /// Asks the loop to make room for one user, and wakes it.
+    pub fn crowd(&self) {
+        self.crowded.store(true, Ordering::SeqCst);
+        self.wake();
+    }
+
+    /// Whether the loop was asked to make room. It is asked no more.
+    pub fn take_crowded(&self) -> bool {
+        self.crowded.swap(false, Ordering::SeqCst)
+    }
+
+    /// Whether the loop has begun.
+    pub fn has_begun(&self) -> bool {
+        self.begun.load(Ordering::SeqCst)
+    }
+}
+
+/// Says to every loop that the one of this number has begun.
+pub fn begin(number: usize, inboxes: &[Inbox]) {
+    if let Some(own) = inboxes.get(number) {
+        own.begun.store(true, Ordering::SeqCst);
+    }
+    for inbox in inboxes {
+        inbox.wake();
+    }
+}
+
+/// Whether every loop has begun.
+pub fn have_begun(inboxes: &[Inbox]) -> bool {
+    inboxes.iter().all(|inbox| inbox.has_begun())
 }
 
 /// Tells every loop to stop.

@@ -4,11 +4,23 @@ use mio::net::{TcpListener, TcpStream};
 use mio::{Interest, Registry, Token};
 use std::io::{self, ErrorKind};
 
+/// What the system answers where it has no room for a connection, whoever it comes from: no memory, or no descriptor, of the
+/// process or of the machine.
+const ENOMEM: i32 = 12;
+
+const ENFILE: i32 = 23;
+
+const EMFILE: i32 = 24;
+
+const ENOBUFS: i32 = 105;
+
 /// What asking for a connection gave.
 #[derive(Drop)]
 pub enum Accepted {
     /// A connection.
     One(TcpStream),
+    /// One that was gone before it was taken: the next may be there.
+    Gone,
     /// None waits.
     None,
     /// The system refuses for now, as where all descriptors are in use: the connection waits, and has to be asked for
@@ -16,11 +28,30 @@ pub enum Accepted {
     Rest,
 }
 
-/// A listener, and whether it rests.
+/// What a listener waits for, beside an event.
+#[derive(Clone, Copy, PartialEq, Eq)]
+enum Pause {
+    /// Nothing.
+    None,
+    /// Its turn: more connections may wait than were asked for.
+    Turn,
+    /// The system, which refused.
+    System,
+}
+
+/// A listener, and what it waits for.
 #[derive(Drop)]
 pub struct Listening {
     listener: TcpListener,
-    rests: bool,
+    pause: Pause,
+}
+
+/// Whether an error says that the system has no room.
+fn is_want_of_room(error: &io::Error) -> bool {
+    matches!(
+        error.raw_os_error(),
+        Some(ENOMEM | ENFILE | EMFILE | ENOBUFS)
+    )
 }
 
 impl Listening {
@@ -30,32 +61,41 @@ impl Listening {
         registry.register(&mut listener, token, Interest::READABLE)?;
         Ok(Listening {
             listener,
-            rests: false,
+            pause: Pause::None,
         })
     }
 
     /// Whether the system refused, so that connections may wait of which no event tells.
     pub fn rests(&self) -> bool {
-        self.rests
+        self.pause == Pause::System
     }
 
-    /// Has the loop ask again a little later, where more connections may wait than were asked for.
+    /// Whether more connections may wait than were asked for.
+    pub fn is_behind(&self) -> bool {
+        self.pause == Pause::Turn
+    }
+
+    /// Has the loop ask again at its next turn.
+    pub fn fall_behind(&mut self) {
+        self.pause = Pause::Turn;
+    }
+
+    /// Has the loop ask again a little later.
     pub fn rest(&mut self) {
-        self.rests = true;
+        self.pause = Pause::System;
     }
 
     /// Asks for the next connection.
     pub fn accept(&mut self) -> Accepted {
-        self.rests = false;
+        self.pause = Pause::None;
         match self.listener.accept() {
             Ok((stream, _)) => Accepted::One(stream),
-            Err(error) => match error.kind() {
-                ErrorKind::WouldBlock => Accepted::None,
-                _ => {
-                    self.rests = true;
-                    Accepted::Rest
-                }
-            },
+            Err(error) if error.kind() == ErrorKind::WouldBlock => Accepted::None,
+            Err(error) if is_want_of_room(&error) => {
+                self.rest();
+                Accepted::Rest
+            }
+            Err(_) => Accepted::Gone,
         }
     }
 }

@@ -1,19 +1,20 @@
 //! A loop: its poll, what it is told, and whom it drives.
 
-ghost use Rattle.std.specs.Prelude.{◌≡◌, ◌<◌, ◌%◌, length};
+ghost use Rattle.std.specs.Prelude.{◌<◌, length};
 
-use crate::admin_lines::Request;
-use crate::askers::{Askers, LINES, MAX_ASKERS};
+mod farewell;
+mod hearing;
+
+use crate::askers::Askers;
 use crate::ended::LoopFault;
-use crate::inbox::{Handed, Inbox, stop_all};
-use crate::listening::{Accepted, Listening};
+use crate::inbox::{Handed, Inbox, begin, have_begun, stop_all};
+use crate::ports::Ports;
 use crate::ready_list::ReadyList;
 use crate::work::{Driven, Told, Work};
-use mio::net::TcpStream;
 use mio::{Events, Poll, Token};
 use socket_wire::{Dial, place_of};
 use std::alloc::Global;
-use std::io;
+use std::io::{self, ErrorKind};
 use std::sync::Wait;
 use std::time::{Clock, Duration, Instant};
 
@@ -27,23 +28,11 @@ pub(crate) const ADMIN: Token = Token(usize::MAX - 8);
 /// How many events are told at once.
 const EVENTS: usize = 256;
 
-/// How many connections are accepted before others get their turn.
-const ACCEPTS: u32 = 256;
+/// How many seconds the threads of all loops have to begin.
+const BEGIN: u64 = 5;
 
-/// How long a loop waits where the system refused a connection, in milliseconds.
-const REST: u64 = 20;
-
-/// How long a loop waits at most while there are exchanges, in milliseconds: their deadlines are whole seconds.
-const TICK: u64 = 250;
-
-/// The ports of the one loop that serves them.
-#[derive(Drop)]
-pub struct Ports {
-    /// Where users connect.
-    pub users: Listening,
-    /// Where the administrator connects.
-    pub admin: Listening,
-}
+/// The milliseconds of a second.
+const SECOND: u64 = 1000;
 
 /// An event, as it was told.
 #[derive(Clone, Copy)]
@@ -52,7 +41,7 @@ struct Event {
     told: Told,
 }
 
-/// One thread's loop.
+/// One thread's loop. It takes its memory before its first turn, and needs none to go on.
 #[derive(Drop)]
 pub struct EventLoop<K> {
     poll: Poll,
@@ -61,18 +50,22 @@ pub struct EventLoop<K> {
     ports: Option<Ports>,
     askers: Askers,
     ready: ReadyList,
-    accepted: u64,
-    now: u64,
+    start: Instant,
+    /// The time since the start, in milliseconds.
+    elapsed: u64,
+    /// Whether every loop has begun.
+    complete: bool,
     work: K,
 }
 
 impl<K: Work> EventLoop<K> {
-    /// A loop over this poll, with the ports if it is the one that serves them. `Err` with the work where no memory was
-    /// found.
+    /// A loop over this poll, with the ports if it is the one that serves them, whose clock begins at this moment. `Err`
+    /// with the work where no memory was found.
     pub fn new(
         alloc: Global,
         poll: Poll,
         ports: Option<Ports>,
+        start: Instant,
         work: K,
     ) -> Result<EventLoop<K>, K> {
         let Ok(events) = Events::with_capacity(alloc, EVENTS) else {
@@ -81,15 +74,19 @@ impl<K: Work> EventLoop<K> {
         let Ok(seen) = Vec::with_capacity(alloc, EVENTS) else {
             return Err(work);
         };
+        let Ok(ready) = ReadyList::new(alloc, work.bound()) else {
+            return Err(work);
+        };
         Ok(EventLoop {
             poll,
             events,
             seen,
             ports,
             askers: Askers::new(alloc),
-            ready: ReadyList::new(alloc),
-            accepted: 0,
-            now: 0,
+            ready,
+            start,
+            elapsed: 0,
+            complete: false,
             work,
         })
     }
@@ -103,29 +100,44 @@ impl<K: Work> EventLoop<K> {
             ports: _,
             askers: _,
             ready: _,
-            accepted: _,
-            now: _,
+            start: _,
+            elapsed: _,
+            complete: _,
             work,
         } = self;
         work
     }
 
-    /// How long the next wait may be.
+    /// The moment, in seconds.
+    fn now(&self) -> u64 {
+        self.elapsed / SECOND
+    }
+
+    /// Reads the clock.
+    fn read_clock<R: Clock>(&mut self, rt: &R) -> io::Result<()> {
+        let elapsed = self.start.elapsed(rt)?;
+        self.elapsed = elapsed
+            .as_secs()
+            .saturating_mul(SECOND)
+            .saturating_add(u64::from(elapsed.subsec_millis()));
+        Ok(())
+    }
+
+    /// How long the next wait may be: the deadlines of exchanges are whole seconds of the loop's clock.
     fn patience(&self) -> Option<Duration> {
         if !self.ready.is_empty() || self.askers.are_behind() {
             return Some(Duration::from_millis(0));
         }
-        let rests = match &self.ports {
-            Some(ports) => ports.users.rests() || ports.admin.rests(),
-            None => false,
-        };
-        if rests {
-            Some(Duration::from_millis(REST))
-        } else if self.work.is_idle() {
-            None
-        } else {
-            Some(Duration::from_millis(TICK))
+        if let Some(ports) = &self.ports
+            && let Some(patience) = ports.patience()
+        {
+            return Some(patience);
         }
+        if self.work.is_idle() && self.complete {
+            return None;
+        }
+        let part = self.elapsed % SECOND;
+        Some(Duration::from_millis(SECOND - part))
     }
 
     /// Runs until it is told to stop, or fails: then it tells the others to stop, and answers why. Either way its exchanges
@@ -146,11 +158,14 @@ impl<K: Work> EventLoop<K> {
                 Some(LoopFault::of(error))
             }
         };
-        self.work.halt(rt, self.poll.registry(), self.now);
+        let now = self.now();
+        self.work.halt(rt, self.poll.registry(), now);
+        let _ = self.take_leave(rt);
         fault
     }
 
-    /// Runs until it is told to stop. `Err` where the system fails its poll or its clock, or no memory was found.
+    /// Runs until it is told to stop. `Err` where the system fails its poll or its clock, or the threads of all loops don't
+    /// begin.
     fn run<R: Wait + Dial + Clock>(
         &mut self,
         rt: &R,
@@ -160,24 +175,38 @@ impl<K: Work> EventLoop<K> {
     ) -> io::Result<()>
         requires { number < length inboxes.now }
     {
-        let start = Instant::now(rt)?;
+        begin(number, inboxes);
         for _ in rt.forever() {
             let patience = self.patience();
             self.poll.poll(&mut self.events, patience)?;
-            let before = self.now;
-            self.now = start.elapsed(rt)?.as_secs();
+            let before = self.now();
+            self.read_clock(rt)?;
             if inboxes[number].is_stopping() {
                 return Ok(());
             }
+            self.wait_for_all(inboxes)?;
             self.turn(rt, alloc, number, inboxes)?;
-            if before != self.now {
+            if before != self.now() {
                 self.drive_all(rt)?;
             }
         }
         unreachable!()
     }
 
-    /// Serves all that was told.
+    /// Sees that every loop begins. `Err` where one hasn't for too long, as where the system gives no thread for it.
+    fn wait_for_all(&mut self, inboxes: &[Inbox]) -> io::Result<()> {
+        if self.complete || have_begun(inboxes) {
+            self.complete = true;
+            return Ok(());
+        }
+        if self.now() < BEGIN {
+            return Ok(());
+        }
+        Err(io::Error::from(ErrorKind::TimedOut))
+    }
+
+    /// Serves all that was told. Users are taken in last: until then no key is another user's than the one that an event
+    /// tells of.
     fn turn<R: Wait + Dial + Clock>(
         &mut self,
         rt: &R,
@@ -187,38 +216,60 @@ impl<K: Work> EventLoop<K> {
     ) -> io::Result<()>
         requires { number < length inboxes.now }
     {
-        self.drive_ready(rt, alloc)?;
+        self.drive_ready(rt)?;
         self.hear_on(rt, inboxes);
-        self.rest_over(rt, alloc, inboxes);
-        self.look()?;
+        self.look();
+        let woken = self.serve_seen(rt, alloc, inboxes)?;
+        if woken && inboxes[number].take_crowded() && self.work.make_room(rt) {
+            inboxes[0].wake();
+        }
+        self.ask_ports(rt, alloc, inboxes);
+        if woken {
+            self.take_in(rt, inboxes[number].take_all(rt, alloc))?;
+        }
+        Ok(())
+    }
+
+    /// Notes the events down, as plain words.
+    fn look(&mut self) {
+        self.seen.clear();
+        for event in &self.events {
+            if self.seen.len() < self.seen.capacity() {
+                self.seen.push_reserved(Event {
+                    token: event.token().0,
+                    told: Told {
+                        readable: event.is_readable(),
+                        writable: event.is_writable(),
+                        closed: event.is_read_closed() || event.is_error(),
+                        failed: event.is_write_closed() || event.is_error(),
+                    },
+                });
+            }
+        }
+    }
+
+    /// Serves the events that were noted down, and says whether one of them was that the loop was woken.
+    fn serve_seen<R: Wait + Dial + Clock>(
+        &mut self,
+        rt: &R,
+        alloc: Global,
+        inboxes: &[Inbox],
+    ) -> io::Result<bool>
+        requires { 0 < length inboxes.now }
+    {
+        let mut woken = false;
         for at in 0..self.seen.len() {
             let Some(event) = self.seen.get(at) else {
                 break;
             };
             let event = *event;
             if event.token == WAKER.0 {
-                self.take_in(rt, inboxes[number].take_all(rt, alloc))?;
+                woken = true;
             } else {
                 self.serve(rt, alloc, inboxes, event)?;
             }
         }
-        Ok(())
-    }
-
-    /// Notes the events down, as plain words.
-    fn look(&mut self) -> io::Result<()> {
-        self.seen.clear();
-        for event in &self.events {
-            self.seen.push(Event {
-                token: event.token().0,
-                told: Told {
-                    readable: event.is_readable(),
-                    writable: event.is_writable(),
-                    closed: event.is_read_closed() || event.is_error(),
-                },
-            })?;
-        }
-        Ok(())
+        Ok(woken)
     }
 
     /// Serves one event.
@@ -258,38 +309,21 @@ impl<K: Work> EventLoop<K> {
         }
     }
 
-    /// Accepts connections, and hands them out in rotation. One for which no memory is found is closed.
+    /// Accepts users.
     fn accept<R: Wait>(&mut self, rt: &R, inboxes: &[Inbox])
         requires { 0 < length inboxes.now }
     {
-        let Some(ports) = &mut self.ports else {
-            return;
-        };
-        for _ in 0..ACCEPTS {
-            let Accepted::One(stream) = ports.users.accept() else {
-                return;
-            };
-            self.accepted = self.accepted.saturating_add(1);
-            let number = self.accepted;
-            let _ = inboxes[loop_of(number, inboxes.len())].hand(rt, Handed { stream, number });
-        }
-        ports.users.rest();
-    }
-
-    /// Takes in connections of the administrator.
-    fn accept_askers(&mut self, alloc: Global) {
         if let Some(ports) = &mut self.ports {
-            self.askers
-                .accept(alloc, &mut ports.admin, self.poll.registry());
+            ports.accept(rt, inboxes);
         }
     }
 
-    /// Accepts again where the system refused.
-    fn rest_over<R: Wait>(&mut self, rt: &R, alloc: Global, inboxes: &[Inbox])
+    /// Asks the ports for connections of which no event tells.
+    fn ask_ports<R: Wait>(&mut self, rt: &R, alloc: Global, inboxes: &[Inbox])
         requires { 0 < length inboxes.now }
     {
         let (users, admin) = match &self.ports {
-            Some(ports) => (ports.users.rests(), ports.admin.rests()),
+            Some(ports) => (ports.has_users(), ports.has_askers()),
             None => (false, false),
         };
         if admin {
@@ -303,40 +337,36 @@ impl<K: Work> EventLoop<K> {
     /// Takes in the users that were handed to this loop.
     fn take_in<R: Wait + Dial + Clock>(&mut self, rt: &R, users: Vec<Handed>) -> io::Result<()> {
         for user in users {
-            let Handed { stream, number } = user;
-            self.admit(rt, stream, number)?;
+            let now = self.now();
+            if let Some(key) = self.work.admit(rt, self.poll.registry(), user, now) {
+                self.drive(rt, key)?;
+            }
         }
         Ok(())
     }
 
-    fn admit<R: Wait + Dial + Clock>(
-        &mut self,
-        rt: &R,
-        stream: TcpStream,
-        number: u64,
-    ) -> io::Result<()> {
-        match self
-            .work
-            .admit(rt, self.poll.registry(), stream, number, self.now)
-        {
-            Some(key) => self.drive(rt, key),
-            None => Ok(()),
-        }
-    }
-
     /// Drives an exchange, and keeps it in mind where others get their turn first.
     fn drive<R: Wait + Dial + Clock>(&mut self, rt: &R, key: usize) -> io::Result<()> {
-        match self.work.drive(rt, self.poll.registry(), key, self.now) {
-            Driven::CutShort => Ok(self.ready.add(key)?),
-            Driven::Waiting | Driven::Over => Ok(()),
+        self.read_clock(rt)?;
+        let now = self.now();
+        match self.work.drive(rt, self.poll.registry(), key, now) {
+            Driven::CutShort => self.ready.add(key),
+            Driven::Waiting | Driven::Over => {}
         }
+        Ok(())
     }
 
     /// Drives those that were cut short.
-    fn drive_ready<R: Wait + Dial + Clock>(&mut self, rt: &R, alloc: Global) -> io::Result<()> {
-        for key in self.ready.take_all(alloc) {
-            self.drive(rt, key)?;
+    fn drive_ready<R: Wait + Dial + Clock>(&mut self, rt: &R) -> io::Result<()> {
+        if self.ready.is_empty() {
+            return Ok(());
         }
+        for key in 0..self.ready.keys() {
+            if self.ready.take(key) {
+                self.drive(rt, key)?;
+            }
+        }
+        self.ready.look();
         Ok(())
     }
 
@@ -347,38 +377,4 @@ impl<K: Work> EventLoop<K> {
         }
         Ok(())
     }
-
-    /// Answers the lines of a connection of the administrator. One for whose answer no memory is found is closed.
-    fn hear<R: Wait>(&mut self, rt: &R, inboxes: &[Inbox], key: usize) {
-        for _ in 0..LINES {
-            match self.askers.hear(key) {
-                Some(Request::Stop) => stop_all(inboxes),
-                Some(Request::Bad) => self.askers.say(key, b"bad\n"),
-                Some(request) => match self.work.answer(rt, request) {
-                    Ok(answer) => self.askers.say(key, answer.as_slice()),
-                    Err(_) => self.askers.leave(key),
-                },
-                None => return,
-            }
-        }
-        self.askers.fall_behind();
-    }
-
-    /// Hears the administrator's connections on, where one had more lines than are answered in a turn.
-    fn hear_on<R: Wait>(&mut self, rt: &R, inboxes: &[Inbox]) {
-        if self.askers.catch_up() {
-            for key in 0..MAX_ASKERS {
-                self.hear(rt, inboxes, key);
-            }
-        }
-    }
-}
-
-/// The loop that serves the connection of this number, in the order of acceptance: each in its turn.
-fn loop_of(number: u64, loops: usize) -> usize
-    requires { 0 < loops }
-    ensures there { result < loops }
-    ensures turn { result ≡ number % loops }
-{
-    (number % loops as u64) as usize
 }

@@ -1,55 +1,76 @@
 //! Exchanges whose turns were cut short.
 
-ghost use Rattle.std.specs.Prelude.{◌≡◌, ◌++◌, ◌∷◌, [], OnOk, OnErr, Contains};
+ghost use Rattle.std.specs.Prelude.{◌≡◌, ◌<◌, ◌≤◌, IfOk, IsTrue, Contains, Some, true, false, length, slice_get, slice_set};
 
 use std::alloc::{AllocError, Global};
+use std::mem;
 
 /// The exchanges that were cut short so that others get their turn. An edge-triggered poll tells nothing twice, so they
-/// are driven on before the next wait.
+/// are driven on before the next wait. There is a mark for each key from the start, so that no memory is needed later.
 #[derive(Drop)]
 pub struct ReadyList {
-    keys: Vec<usize>,
+    marked: Vec<bool>,
+    /// Whether one may be marked.
+    any: bool,
+    ghost none: { any ≡ false → Contains marked.items true → ⊥ },
 }
 
 impl ReadyList {
-    /// An empty one.
-    pub fn new(alloc: Global) -> ReadyList
-        ensures { result.keys.items ≡ [] }
+    /// Of so many keys, none marked. `Err` where no memory was found.
+    pub fn new(alloc: Global, keys: usize) -> Result<ReadyList, AllocError>
+        ensures { IfOk result (λ list. length list.marked.items ≡ keys) }
     {
-        ReadyList {
-            keys: Vec::new(alloc),
+        let marked = Vec::from_elem(alloc, false, keys)?;
+        let any = marked.contains(&true);
+        Ok(ReadyList { marked, any })
+    }
+
+    /// Whether none waits for a turn. That is said once it was looked for, by `look`.
+    pub fn is_empty(&self) -> bool
+        ensures { IsTrue result → Contains self.now.marked.items true → ⊥ }
+    {
+        !self.any
+    }
+
+    /// Looks whether one is marked.
+    pub fn look(&mut self)
+        ensures any { IsTrue self.new.any → Contains self.old.marked.items true }
+        ensures same { self.new.marked ≡ self.old.marked }
+    {
+        self.any = self.marked.contains(&true);
+    }
+
+    /// How many keys there are.
+    pub fn keys(&self) -> usize
+        ensures { result ≡ length self.now.marked.items }
+    {
+        self.marked.len()
+    }
+
+    /// Marks an exchange, which may be marked already.
+    pub fn add(&mut self, key: usize)
+        ensures there { key < length self.old.marked.items
+            → self.new.marked.items ≡ slice_set self.old.marked.items key true }
+        ensures none { length self.old.marked.items ≤ key → self.new.marked.items ≡ self.old.marked.items }
+    {
+        self.any = true;
+        if let Some(mark) = self.marked.get_mut(key) {
+            *mark = true;
         }
     }
 
-    /// Whether none waits for a turn.
-    pub fn is_empty(&self) -> bool {
-        self.keys.is_empty()
-    }
-
-    /// How many wait for a turn.
-    pub fn len(&self) -> usize {
-        self.keys.len()
-    }
-
-    /// Adds an exchange, behind the others, if it isn't there. `Err` where no memory was found.
-    pub fn add(&mut self, key: usize) -> Result<(), AllocError>
-        ensures there { Contains self.old.keys.items key → self.new.keys.items ≡ self.old.keys.items }
-        ensures ok { (Contains self.old.keys.items key → ⊥)
-            → OnOk result (self.new.keys.items ≡ self.old.keys.items ++ key ∷ []) }
-        ensures err { OnErr result (self.new.keys.items ≡ self.old.keys.items) }
+    /// Takes the mark of an exchange, and says whether there was one.
+    pub fn take(&mut self, key: usize) -> bool
+        ensures there { key < length self.old.marked.items
+            → (self.new.marked.items ≡ slice_set self.old.marked.items key false)
+            × (slice_get self.old.marked.items key ≡ Some result) }
+        ensures none { length self.old.marked.items ≤ key
+            → (self.new.marked.items ≡ self.old.marked.items) × (result ≡ false) }
     {
-        if self.keys.contains(&key) {
-            return Ok(());
+        self.any = true;
+        match self.marked.get_mut(key) {
+            Some(mark) => mem::replace(mark, false),
+            None => false,
         }
-        self.keys.push(key)?;
-        Ok(())
-    }
-
-    /// Takes all that wait, the first one first.
-    pub fn take_all(&mut self, alloc: Global) -> Vec<usize>
-        ensures taken { result.items ≡ self.old.keys.items }
-        ensures empty { self.new.keys.items ≡ [] }
-    {
-        std::mem::replace(&mut self.keys, Vec::new(alloc))
     }
 }

@@ -31,6 +31,14 @@ impl<T> Slots<T> {
         self.all.len()
     }
 
+    /// The value in a slot.
+    pub fn get(&self, number: usize) -> Option<&T> {
+        match self.all.get(number) {
+            Some(Some(value)) => Some(value),
+            _ => None,
+        }
+    }
+
     /// Puts a value into a slot. What was there comes back, and the value itself where there is no such slot.
     pub fn place(&mut self, number: usize, value: T) -> Option<T>
         ensures there { number < length self.old.all.items

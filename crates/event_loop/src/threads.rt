@@ -3,16 +3,19 @@
 use crate::ended::{Ended, LoopFault};
 use crate::inbox::{Inbox, stop_all};
 use crate::listening::Listening;
-use crate::looping::{ADMIN, EventLoop, LISTENER, Ports, WAKER};
+use crate::looping::{ADMIN, EventLoop, LISTENER, WAKER};
+use crate::ports::Ports;
+use crate::room::Room;
 use crate::work::Work;
 use mio::net::TcpListener;
 use mio::{Poll, Waker};
+use os::set_thread_name;
 use socket_wire::Dial;
 use std::alloc::Global;
 use std::io;
 use std::net::Net;
-use std::sync::Wait;
-use std::time::Clock;
+use std::sync::{Arc, Wait};
+use std::time::{Clock, Instant};
 
 /// What a loop is made on: its poll, and its ports if it has any.
 #[derive(Drop)]
@@ -21,23 +24,46 @@ pub struct Base {
     ports: Option<Ports>,
 }
 
-/// Makes a poll, and its inbox behind the others; with the listeners it serves the users' and the administrator's port.
+/// Where users and the administrator connect, and how many users there is room for.
+#[derive(Drop)]
+pub struct Doors {
+    pub users: TcpListener,
+    pub admin: TcpListener,
+    pub room: Room,
+}
+
+/// Makes a poll, and its inbox behind the others; with the doors it serves the users' and the administrator's port.
 pub fn add_loop<R: Net>(
     rt: &R,
     alloc: Global,
-    listeners: Option<(TcpListener, TcpListener)>,
+    doors: Option<Doors>,
     inboxes: &mut Vec<Inbox>,
 ) -> io::Result<Base> {
     let poll = Poll::new(rt)?;
-    let ports = match listeners {
-        Some((users, admin)) => Some(Ports {
-            users: Listening::new(users, poll.registry(), LISTENER)?,
-            admin: Listening::new(admin, poll.registry(), ADMIN)?,
-        }),
+    let ports = match doors {
+        Some(Doors { users, admin, room }) => Some(Ports::new(
+            Listening::new(users, poll.registry(), LISTENER)?,
+            Listening::new(admin, poll.registry(), ADMIN)?,
+            Arc::new(alloc, room)?,
+        )),
         None => None,
     };
     inboxes.push(Inbox::new(alloc, Waker::new(poll.registry(), WAKER)?))?;
     Ok(Base { poll, ports })
+}
+
+/// Names the thread of a loop, as `top -H` and `perf` show it.
+fn name_thread(number: usize) {
+    let mut name = *b"shard-00";
+    let low = b'0' + (number % 10) as u8;
+    if number < 10 {
+        name[6] = low;
+        name[7] = 0;
+    } else {
+        name[6] = b'0' + (number / 10 % 10) as u8;
+        name[7] = low;
+    }
+    let _ = set_thread_name(&name);
 }
 
 /// Runs a loop on this base over this work, in its caller's thread, until it is told to stop or fails. One that fails, or
@@ -50,8 +76,16 @@ pub fn run_loop<K: Work, R: Wait + Dial + Clock>(
     work: K,
     inboxes: &[Inbox],
 ) -> Ended<K> {
+    name_thread(number);
+    let Ok(start) = Instant::now(rt) else {
+        stop_all(inboxes);
+        return Ended {
+            work,
+            fault: Some(LoopFault::System),
+        };
+    };
     let Base { poll, ports } = base;
-    match EventLoop::new(alloc, poll, ports, work) {
+    match EventLoop::new(alloc, poll, ports, start, work) {
         Ok(one) if number < inboxes.len() => {
             let mut one = one;
             let fault = one.run_out(rt, alloc, number, inboxes);

@@ -1,19 +1,24 @@
 //! What an event loop drives.
 
 use crate::admin_lines::Request;
+use crate::inbox::Handed;
 use mio::Registry;
-use mio::net::TcpStream;
 use socket_wire::{Dial, Side};
 use std::alloc::AllocError;
 use std::sync::Wait;
 use std::time::Clock;
 
-/// What an event says of a connection: it may be read, it may be written, it has ended or failed.
+/// What an event says of a connection.
 #[derive(Clone, Copy, Debug, PartialEq, Eq)]
 pub struct Told {
+    /// There may be bytes to read.
     pub readable: bool,
+    /// There may be room to write.
     pub writable: bool,
+    /// The other side has ended its bytes, or the connection has failed.
     pub closed: bool,
+    /// The connection is gone both ways, as where the other side has reset it.
+    pub failed: bool,
 }
 
 /// How far an exchange was driven.
@@ -29,16 +34,18 @@ pub enum Driven {
 
 /// What one thread drives: exchanges, each found by its key. Moments are seconds of the machine's clock.
 pub trait Work {
-    /// Takes a user's connection in, with its number in the order of acceptance, and answers the key to be driven.
-    /// `None` where there is no room for it, and it was closed.
+    /// Takes a user's connection in, with its number in the order of acceptance and its place, which it has until it is
+    /// over, and answers the key to be driven. `None` where there is no seat for it, and it was closed.
     fn admit<R: Wait + Dial + Clock>(
         &mut self,
         rt: &R,
         registry: &Registry,
-        stream: TcpStream,
-        number: u64,
+        user: Handed,
         now: u64,
     ) -> Option<usize>;
+
+    /// Closes the connection of the user that can best be spared, so that another one has room. False where there is none.
+    fn make_room<R: Wait>(&mut self, rt: &R) -> bool;
 
     /// Takes note of an event of a connection. False where it tells nothing new, so that the exchange needn't be driven.
     fn note(&mut self, key: usize, side: Side, told: Told) -> bool;
@@ -61,6 +68,6 @@ pub trait Work {
     /// The answer to a line of the admin port. `Err` where no memory was found for it.
     fn answer<R: Wait>(&mut self, rt: &R, request: Request) -> Result<Vec<u8>, AllocError>;
 
-    /// Ends all exchanges: each refusal that is due is tried once.
+    /// Ends all exchanges. Those whose users are still to be told so are driven on for a while.
     fn halt<R: Wait + Dial + Clock>(&mut self, rt: &R, registry: &Registry, now: u64);
 }

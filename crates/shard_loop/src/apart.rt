@@ -1,6 +1,6 @@
 //! Taking the loops apart.
 
-use crate::halting::stake_of;
+use crate::halting::{Remains, end_of};
 use crate::left::Left;
 use crate::phase::{Line, Phase};
 use crate::pools::Pools;
@@ -28,7 +28,8 @@ impl<B: Ledgers, Q: Ledger, A: Ledger> Left<B, Q, A> {
                 self.keep_lease(rt, pools, lease);
             }
             Phase::Moving { tx, lease } => {
-                let stake = stake_of(rt, bank, Box::into_inner(tx));
+                let Remains { stake, user } = end_of(rt, bank, Box::into_inner(tx));
+                drop(user);
                 self.keep_stake(rt, bank, stake);
                 if let Some(lease) = lease {
                     self.keep_lease(rt, pools, lease);

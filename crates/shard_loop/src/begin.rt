@@ -6,8 +6,8 @@ use crate::seats::At;
 use icap_client::ServiceSide;
 use plan_rules::{Plan, claim};
 use proxy_rules::{
-    Reason, awaits_continue, offer_request, offer_response, open_reason, origin_address,
-    request_plan, response_plan,
+    Reason, awaits_continue, offer_request, offer_response, open_reason, request_plan,
+    response_plan,
 };
 use socket_wire::Dial;
 use span_bank::Ledgers;
@@ -51,8 +51,7 @@ impl<'a, B: Ledgers, Q: Ledger, A: Ledger, G: Gate> Desk<'a, B, Q, A, G> {
         let Some(user) = ends.request.request_head() else {
             return Err(Reason::NoOrigin);
         };
-        let config = self.shared.config;
-        let Some(address) = origin_address(config, user) else {
+        let Some(address) = self.origin_of(ends) else {
             return Err(Reason::UnknownHost);
         };
         let record = self.book(Point::Reqmod).record();

@@ -7,9 +7,9 @@ use crate::desk::Shared;
 use crate::left::Left;
 use crate::pools::{Pools, Spare};
 use crate::shard::Shard;
-use event_loop::{Base, Ended, Inbox, LoopFault, add_loop, run_loop, stop_all};
+use event_loop::{Base, Doors, Ended, Inbox, LoopFault, Room, add_loop, run_loop, stop_all};
 use mio::net::TcpListener;
-use proxy_config::{Config, MAX_SHARDS};
+use proxy_config::{Config, MAX_SHARDS, ServicePoint};
 use service_pool::Pool;
 use socket_wire::Dial;
 use span_bank::{Bank, Ledgers};
@@ -21,24 +21,48 @@ use std::thread::{self, Threads};
 use std::time::Clock;
 use wire_kit::Gate;
 
-/// Makes a base for each thread. The first one has the ports.
+/// The connections to a service that may lie idle.
+fn idle_connections(service: &Option<ServicePoint>) -> u64 {
+    match service {
+        Some(service) => service.connections,
+        None => 0,
+    }
+}
+
+/// The doors of the proxy, with room for as many users as its descriptors serve.
+fn doors_of(config: &Config, ports: (TcpListener, TcpListener)) -> Doors {
+    let (users, admin) = ports;
+    let idle = idle_connections(&config.reqmod).saturating_add(idle_connections(&config.respmod));
+    Doors {
+        users,
+        admin,
+        room: Room::of_system(config.shards, idle),
+    }
+}
+
+/// Makes a base for each thread. The first one has the doors.
 fn make_bases<R: Net>(
     rt: &R,
     alloc: Global,
     count: u64,
-    ports: (TcpListener, TcpListener),
+    doors: Doors,
     inboxes: &mut Vec<Inbox>,
 ) -> Result<Vec<Option<Base>>, ServeFault> {
     let mut bases = Vec::new(alloc);
-    let mut ports = Some(ports);
+    let mut doors = Some(doors);
     for _ in 0..count {
-        let base = match add_loop(rt, alloc, ports.take(), inboxes) {
+        let base = match add_loop(rt, alloc, doors.take(), inboxes) {
             Ok(base) => base,
             Err(error) => return Err(start_fault(LoopFault::of(error))),
         };
         if bases.push(Some(base)).is_err() {
             return Err(ServeFault::NoMemory);
         }
+    }
+
+    // The last place is that of the thread that waits for the others, and keeps the program's name.
+    if bases.push(None).is_err() {
+        return Err(ServeFault::NoMemory);
     }
     Ok(bases)
 }
@@ -110,7 +134,7 @@ where
     thread::for_each_mut(
         rt,
         places,
-        MAX_SHARDS as usize,
+        MAX_SHARDS as usize + 1,
         &|number, place| {
             run_one(
                 rt, alloc, config, bank, request, response, gate, inboxes, left, number, place,
@@ -145,7 +169,8 @@ where
     B::Pages: Send + Sync,
 {
     let mut inboxes = Vec::new(alloc);
-    let mut bases = make_bases(rt, alloc, config.shards, ports, &mut inboxes)?;
+    let doors = doors_of(config, ports);
+    let mut bases = make_bases(rt, alloc, config.shards, doors, &mut inboxes)?;
     run_on(
         rt,
         alloc,

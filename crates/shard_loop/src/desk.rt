@@ -44,6 +44,8 @@ pub struct Desk<'a, B: Ledgers, Q: Ledger, A: Ledger, G: Gate> {
     pub request_book: PointBook,
     pub response_book: PointBook,
     pub scratch: Vec<u8>,
+    /// Whether the proxy stops: no exchange goes on to its next message.
+    pub stopping: bool,
 }
 
 impl<'a, B: Ledgers, Q: Ledger, A: Ledger, G: Gate> Desk<'a, B, Q, A, G> {
@@ -59,10 +61,11 @@ impl<'a, B: Ledgers, Q: Ledger, A: Ledger, G: Gate> Desk<'a, B, Q, A, G> {
             alloc,
             shared,
             limits,
-            seats: Seats::new(alloc, rows),
+            seats: Seats::new(alloc, rows)?,
             request_book: PointBook::new(),
             response_book: PointBook::new(),
             scratch,
+            stopping: false,
         })
     }
 

@@ -1,15 +1,17 @@
 //! The end of a transaction: what it used goes back, and its user's connection goes on.
 
 use crate::desk::Desk;
-use crate::phase::{Ends, Line, Moving, Origin, Phase, Step};
+use crate::halting::{parts_of, wire_of};
+use crate::phase::{Ends, Moving, Origin, Phase, Step};
 use crate::pools::Leased;
-use crate::seats::At;
+use crate::seats::{At, Stay};
 use adapt_turn::{Line as ServiceLine, Outcome, Parts};
 use http_relay::{NextHop, SourceSide};
 use icap_client::ServiceSide;
-use proxy_rules::{HeadMaker, is_head, keeps_user};
+use proxy_rules::{HeadMaker, Reason, is_head, keeps_user};
 use socket_wire::SocketWire;
 use span_bank::{Ledgers, Pages};
+use std::alloc::AllocFailed;
 use std::boxed::Box;
 use std::sync::Wait;
 use std::sync::ledger::Ledger;
@@ -25,13 +27,6 @@ impl<'a, B: Ledgers, Q: Ledger, A: Ledger, G: Gate> Desk<'a, B, Q, A, G> {
         tx: Box<Moving<B>>,
         lease: Option<Leased<Q, A>>,
     ) -> Step<B, Q, A> {
-        let parts = match Box::into_inner(tx).into_parts() {
-            Ok(parts) => parts,
-            Err(tx) => {
-                self.end_moving(rt, tx, lease);
-                return Step::Over;
-            }
-        };
         let Parts {
             stake,
             source,
@@ -43,18 +38,16 @@ impl<'a, B: Ledgers, Q: Ledger, A: Ledger, G: Gate> Desk<'a, B, Q, A, G> {
             outcome,
             forward,
             seen,
-        } = parts;
+        } = parts_of(rt, self.shared.bank, Box::into_inner(tx));
         self.shared.bank.close(rt, stake, Pages::none());
         self.give_back(rt, at, lease, service, &seen);
-        self.seats.touch(at);
         match seen.plan.point {
             Point::Reqmod if outcome == Outcome::Done && back.is_idle() => {
-                self.await_answer(source, source_wire, next_wire)
+                self.await_answer(at, source, source_wire, next_wire)
             }
-            Point::Reqmod if keeps_user(outcome, forward.closes(), &source) => {
-                self.next_request(at, source, source_wire)
+            Point::Reqmod => {
+                self.answer_over(at, source_wire, source, forward.closes(), outcome)
             }
-            Point::Reqmod => self.close(at, source_wire),
             Point::Respmod => self.response_over(at, next_wire, forward, outcome),
         }
     }
@@ -68,34 +61,41 @@ impl<'a, B: Ledgers, Q: Ledger, A: Ledger, G: Gate> Desk<'a, B, Q, A, G> {
         service: Option<ServiceLine<ServiceSide, SocketWire>>,
         seen: &Seen,
     ) {
-        let Some(line) = service else {
-            self.give_up(rt, lease);
-            return;
+        let reusable = match &service {
+            Some(line) => {
+                self.note_tag(seen.plan.point, &line.side);
+                line.side.is_reusable()
+            }
+            None => false,
         };
-        let ServiceLine { side, wire } = line;
+        match (wire_of(service), lease) {
+            (Some(wire), Some(lease)) if reusable => self.put_line(rt, at, wire, lease),
+            (wire, lease) => {
+                drop(wire);
+                self.give_up(rt, lease);
+            }
+        }
+    }
+
+    /// Takes note of the tag of a service's answer.
+    fn note_tag(&mut self, point: Point, side: &ServiceSide) {
         if let Some(tag) = side.tag() {
             let alloc = self.alloc;
-            self.book_mut(seen.plan.point).note_tag(alloc, tag);
-        }
-        match (lease, wire) {
-            (Some(lease), Some(wire)) => {
-                if side.is_reusable() {
-                    self.put_line(rt, at, wire, lease);
-                } else {
-                    self.drop_line(rt, Line { wire, lease });
-                }
-            }
-            (lease, _) => self.give_up(rt, lease),
+            self.book_mut(point).note_tag(alloc, tag);
         }
     }
 
     /// The request is with the origin: its response comes next.
     fn await_answer(
         &mut self,
+        at: At<'_>,
         request: SourceSide,
         user: SocketWire,
         wire: SocketWire,
     ) -> Step<B, Q, A> {
+        if self.stopping {
+            return self.refuse(at, user, Reason::Stopping);
+        }
         let to_head = match request.request_head() {
             Some(head) => is_head(head),
             None => false,
@@ -109,21 +109,42 @@ impl<'a, B: Ledgers, Q: Ledger, A: Ledger, G: Gate> Desk<'a, B, Q, A, G> {
         };
         match Box::new(self.alloc, ends) {
             Ok(ends) => Step::On(Phase::Answer(ends)),
-            Err(_) => Step::Over,
+            Err(AllocFailed { value }) => self.refuse(at, value.into_user(), Reason::NoMemory),
         }
     }
 
     /// The user's next request comes on the same connection.
     fn next_request(&mut self, at: At<'_>, request: SourceSide, user: SocketWire) -> Step<B, Q, A> {
-        if !request.ended() {
+        if self.stopping || !request.ended() {
             return self.close(at, user);
         }
         let mut request = request;
         request.next();
+        self.seats.begin_stay(at.key, Stay::Idle);
         match Box::new(self.alloc, Ends::of_user(user, request)) {
             Ok(ends) => Step::On(Phase::Head(ends)),
-            Err(_) => Step::Over,
+            Err(AllocFailed { value }) => self.close(at, value.into_user()),
         }
+    }
+
+    /// An answer went to the user, or failed, and its connection goes on or ends. A user of HTTP/1.0 may take the end of the
+    /// connection for the end of the answer (RFC 9112, section 8), so where the answer isn't whole the connection is reset.
+    fn answer_over(
+        &mut self,
+        at: At<'_>,
+        user: SocketWire,
+        request: SourceSide,
+        closes: bool,
+        outcome: Outcome,
+    ) -> Step<B, Q, A> {
+        if keeps_user(outcome, closes, &request) {
+            return self.next_request(at, request, user);
+        }
+        if outcome != Outcome::Done && self.seats.has_answered(at.key) && is_old(&request) {
+            user.cut();
+            return Step::Over;
+        }
+        self.close(at, user)
     }
 
     /// The response went to the user, or failed.
@@ -136,10 +157,16 @@ impl<'a, B: Ledgers, Q: Ledger, A: Ledger, G: Gate> Desk<'a, B, Q, A, G> {
     ) -> Step<B, Q, A> {
         let closes = heads.closes();
         match heads.into_user() {
-            Some(request) if keeps_user(outcome, closes, &request) => {
-                self.next_request(at, request, user)
-            }
-            _ => self.close(at, user),
+            Some(request) => self.answer_over(at, user, request, closes, outcome),
+            None => self.close(at, user),
         }
+    }
+}
+
+/// Whether a request is of HTTP/1.0.
+fn is_old(request: &SourceSide) -> bool {
+    match request.request_head() {
+        Some(head) => head.minor() == 0,
+        None => false,
     }
 }

@@ -3,49 +3,108 @@
 ghost use Rattle.std.specs.Prelude.{◌≡◌};
 
 use crate::desk::Desk;
-use crate::phase::{Moving, Phase};
+use crate::phase::{Moving, Phase, Step};
 use crate::pools::Leased;
-use adapt_turn::{Line as ServiceLine, Parts};
-use icap_client::ServiceSide;
+use crate::seats::At;
+use adapt_sides::{Hop, Service, Source};
+use adapt_turn::{Forward, Line as ServiceLine, Parts, Start, Tx};
+use proxy_rules::Reason;
 use socket_wire::SocketWire;
 use span_bank::{Bank, Ledgers, Pages, Stake};
 use std::boxed::Box;
 use std::sync::Wait;
 use std::sync::ledger::Ledger;
-use wire_kit::Gate;
+use trace_core::Point;
+use wire_kit::{Gate, Wire};
 
-/// The reservation of a transaction, which fails where it isn't closed yet.
-pub fn stake_of<B: Ledgers, R: Wait>(rt: &R, bank: &Bank<B>, tx: Moving<B>) -> Stake<B>
-    ensures { (result.held ≡ 0) × (result.pages ≡ 0) }
+/// What is left of a transaction that is ended: its reservation, and its user's connection.
+pub struct Remains<B: Ledgers, X> {
+    pub stake: Stake<B>,
+    pub user: X,
+}
+
+/// What is left of a transaction, which fails where it isn't closed yet.
+pub fn parts_of<B: Ledgers, S: Source, V: Service, K: Hop, F: Forward<S, K>, X: Wire, R: Wait>(
+    rt: &R,
+    bank: &Bank<B>,
+    tx: Tx<B, S, V, K, F, X, X, X>,
+) -> Parts<B, S, V, K, F, X, X, X>
+    ensures { (result.stake.held ≡ 0) × (result.stake.pages ≡ 0) }
 {
     let mut tx = tx;
     tx.halt(rt, bank);
     match tx.into_parts() {
-        Ok(parts) => {
-            let Parts {
-                stake,
-                source: _,
-                source_wire: _,
-                service,
-                next: _,
-                next_wire: _,
-                back: _,
-                forward: _,
-                outcome: _,
-                seen: _,
-            } = parts;
-            end_service(service);
-            stake
-        }
+        Ok(parts) => parts,
         Err(_) => unreachable!(),
     }
 }
 
-/// Closes a service's connection.
-pub fn end_service(service: Option<ServiceLine<ServiceSide, SocketWire>>) {
-    if let Some(line) = service {
-        let ServiceLine { side: _, wire: _ } = line;
+/// Ends a transaction, which fails where it isn't closed yet.
+pub fn end_of<
+    B: Ledgers,
+    S: Source + Drop,
+    V: Service + Drop,
+    K: Hop + Drop,
+    F: Forward<S, K> + Drop,
+    X: Wire + Drop,
+    R: Wait,
+>(rt: &R, bank: &Bank<B>, tx: Tx<B, S, V, K, F, X, X, X>) -> Remains<B, X>
+    ensures { (result.stake.held ≡ 0) × (result.stake.pages ≡ 0) }
+{
+    let Parts {
+        stake,
+        source: _,
+        source_wire,
+        service,
+        next: _,
+        next_wire,
+        back: _,
+        forward: _,
+        outcome: _,
+        seen,
+    } = parts_of(rt, bank, tx);
+    drop(wire_of(service));
+    let user = match seen.plan.point {
+        Point::Reqmod => source_wire,
+        Point::Respmod => next_wire,
+    };
+    Remains { stake, user }
+}
+
+/// The connection of a service's side that has ended. None where it was given up before.
+pub fn wire_of<V: Drop, W>(service: Option<ServiceLine<V, W>>) -> Option<W> {
+    match service {
+        Some(line) => {
+            let ServiceLine { side: _, wire } = line;
+            wire
+        }
+        None => None,
     }
+}
+
+/// The reservation of a transaction that didn't begin. All its connections are closed.
+pub fn unused<B: Ledgers, S: Drop, V: Drop, K: Drop, F: Drop, X: Drop>(
+    start: Start<B, S, V, K, F, X, X, X>,
+) -> Stake<B>
+    ensures { result ≡ start.stake }
+{
+    let Start {
+        plan: _,
+        limits: _,
+        stake,
+        source: _,
+        source_wire: _,
+        service,
+        next: _,
+        next_wire: _,
+        back: _,
+        forward: _,
+        deadline: _,
+        now: _,
+        reused: _,
+    } = start;
+    drop(wire_of(service));
+    stake
 }
 
 impl<'a, B: Ledgers, Q: Ledger, A: Ledger, G: Gate> Desk<'a, B, Q, A, G> {
@@ -66,11 +125,45 @@ impl<'a, B: Ledgers, Q: Ledger, A: Ledger, G: Gate> Desk<'a, B, Q, A, G> {
         }
     }
 
-    /// Ends a transaction: its reservation is closed, and its lease given up.
-    pub fn end_moving<R: Wait>(&mut self, rt: &R, tx: Moving<B>, lease: Option<Leased<Q, A>>) {
-        let stake = stake_of(rt, self.shared.bank, tx);
+    /// Ends an exchange because the proxy stops. Its user is refused where no byte of an answer is out.
+    pub fn halt<R: Wait>(&mut self, rt: &R, at: At<'_>, phase: Phase<B, Q, A>) -> Step<B, Q, A> {
+        match phase {
+            Phase::Moving { tx, lease } => {
+                let mut tx = tx;
+                tx.halt(rt, self.shared.bank);
+                Step::On(Phase::Moving { tx, lease })
+            }
+            Phase::Asking {
+                ends,
+                line,
+                side: _,
+            } => {
+                self.drop_line(rt, line);
+                self.refuse_user(at, ends, Reason::Stopping)
+            }
+            Phase::Answer(ends) => self.refuse_user(at, ends, Reason::Stopping),
+            Phase::Refusing { user, rest } => Step::On(Phase::Refusing { user, rest }),
+            Phase::Head(_) | Phase::Closing(_) => Step::Over,
+            Phase::Telling { ends: _, rest: _ } => Step::Over,
+        }
+    }
+
+    /// Ends a transaction: its reservation is closed, and its lease given up. Its user's connection is left.
+    pub fn end_tx<R: Wait>(
+        &mut self,
+        rt: &R,
+        tx: Moving<B>,
+        lease: Option<Leased<Q, A>>,
+    ) -> SocketWire {
+        let Remains { stake, user } = end_of(rt, self.shared.bank, tx);
         self.shared.bank.close(rt, stake, Pages::none());
         self.give_up(rt, lease);
+        user
+    }
+
+    /// Ends a transaction with all its connections.
+    pub fn end_moving<R: Wait>(&mut self, rt: &R, tx: Moving<B>, lease: Option<Leased<Q, A>>) {
+        drop(self.end_tx(rt, tx, lease));
     }
 
     /// Gives a lease up, if there is one.

@@ -12,10 +12,11 @@ use proxy_config::ServicePoint;
 use proxy_rules::{
     Reason, ask_options, is_reusable_after_options, options_reason, pool_maximum, record_reason,
 };
-use socket_wire::{Dial, Side, SocketWire};
+use socket_wire::{Dial, Side, SocketWire, Unread};
 use span_bank::Ledgers;
 use std::alloc::{AllocError, Global};
 use std::boxed::Box;
+use std::io;
 use std::net::{SocketAddr, SocketAddrV4};
 use std::sync::Wait;
 use std::sync::ledger::Ledger;
@@ -32,17 +33,47 @@ fn asker(alloc: Global, service: &ServicePoint) -> Result<Box<OptionsSide>, Allo
     }
 }
 
+/// What the system answers where it has no room for a further connection: no port, no memory, or no descriptor, of the
+/// process or of the machine.
+const EAGAIN: i32 = 11;
+
+const ENOMEM: i32 = 12;
+
+const ENFILE: i32 = 23;
+
+const EMFILE: i32 = 24;
+
+const EADDRNOTAVAIL: i32 = 99;
+
+const ENOBUFS: i32 = 105;
+
+/// Whether an error says that the system has no room.
+fn is_want_of_room(error: &io::Error) -> bool {
+    matches!(
+        error.raw_os_error(),
+        Some(EAGAIN | ENOMEM | ENFILE | EMFILE | EADDRNOTAVAIL | ENOBUFS)
+    )
+}
+
 impl<'a, B: Ledgers, Q: Ledger, A: Ledger, G: Gate> Desk<'a, B, Q, A, G> {
-    /// A connection that is opened now.
+    /// A connection that is opened now. Want of memory, of a descriptor or of a port is told apart from an other side that
+    /// can't be reached.
     pub fn dial<R: Dial>(
         &mut self,
         rt: &R,
         at: At<'_>,
         side: Side,
         address: SocketAddrV4,
-    ) -> Option<SocketWire> {
-        let stream = rt.dial(SocketAddr::V4(address)).ok()?;
-        self.seats.wire(at, side, stream)
+        unreached: Reason,
+    ) -> Result<SocketWire, Reason> {
+        match rt.dial(SocketAddr::V4(address)) {
+            Ok(stream) => match self.seats.wire(at, side, stream) {
+                Ok(wire) => Ok(wire),
+                Err(_) => Err(Reason::NoMemory),
+            },
+            Err(error) if is_want_of_room(&error) => Err(Reason::NoMemory),
+            Err(_) => Err(unreached),
+        }
     }
 
     /// A connection to a point's service that is opened now.
@@ -51,9 +82,11 @@ impl<'a, B: Ledgers, Q: Ledger, A: Ledger, G: Gate> Desk<'a, B, Q, A, G> {
         rt: &R,
         at: At<'_>,
         point: Point,
-    ) -> Option<SocketWire> {
-        let service = self.service(point)?;
-        self.dial(rt, at, Side::Service, service.address)
+    ) -> Result<SocketWire, Reason> {
+        match self.service(point) {
+            Some(service) => self.dial(rt, at, Side::Service, service.address, Reason::Service),
+            None => Err(Reason::Service),
+        }
     }
 
     /// Leases a connection to a point's service, an idle one first.
@@ -64,12 +97,18 @@ impl<'a, B: Ledgers, Q: Ledger, A: Ledger, G: Gate> Desk<'a, B, Q, A, G> {
         point: Point,
         address: SocketAddrV4,
     ) -> Result<Line<Q, A>, Reason> {
-        let (wire, lease) = match self.shared.pools.take(rt, point) {
+        let (wire, lease) = match self.shared.pools.take_live(rt, point) {
             Took::Idle(spare, lease) => {
                 let Spare { wire, ready } = spare;
-                (self.seats.enlist(at, Side::Service, wire, ready), lease)
+                match self.seats.enlist(at, Side::Service, wire, ready) {
+                    Ok(wire) => (Ok(wire), lease),
+                    Err(_) => (Err(Reason::NoMemory), lease),
+                }
             }
-            Took::Fresh(lease) => (self.dial(rt, at, Side::Service, address), lease),
+            Took::Fresh(lease) => {
+                let wire = self.dial(rt, at, Side::Service, address, Reason::Service);
+                (wire, lease)
+            }
             Took::Busy => return Err(Reason::Busy),
         };
         self.line_of(rt, wire, lease)
@@ -79,14 +118,14 @@ impl<'a, B: Ledgers, Q: Ledger, A: Ledger, G: Gate> Desk<'a, B, Q, A, G> {
     fn line_of<R: Wait>(
         &mut self,
         rt: &R,
-        wire: Option<SocketWire>,
+        wire: Result<SocketWire, Reason>,
         lease: Leased<Q, A>,
     ) -> Result<Line<Q, A>, Reason> {
         match wire {
-            Some(wire) => Ok(Line { wire, lease }),
-            None => {
+            Ok(wire) => Ok(Line { wire, lease }),
+            Err(reason) => {
                 self.shared.pools.give_up(rt, lease);
-                Err(Reason::Service)
+                Err(reason)
             }
         }
     }
@@ -105,19 +144,20 @@ impl<'a, B: Ledgers, Q: Ledger, A: Ledger, G: Gate> Desk<'a, B, Q, A, G> {
         self.line_of(rt, wire, lease)
     }
 
-    /// Closes a connection, and gives up its lease behind that: others may open one in its place.
+    /// Closes a connection, and gives up its lease after that: others may open one in its place.
     pub fn drop_line<R: Wait>(&mut self, rt: &R, line: Line<Q, A>) {
         let Line { wire, lease } = line;
         drop(wire);
         self.shared.pools.give_up(rt, lease);
     }
 
-    /// Puts a connection back that may serve again.
+    /// Puts a connection back that may serve again. One that its service has ended, or on which it says what nobody asked
+    /// for, is closed.
     pub fn put_line<R: Wait>(&mut self, rt: &R, at: At<'_>, wire: SocketWire, lease: Leased<Q, A>) {
         let mut wire = wire;
-        let known = wire.deregister(at.registry).is_ok();
+        let lives = wire.deregister(at.registry).is_ok() && wire.unread() == Unread::Nothing;
         match self.seats.dismiss(at.key) {
-            Some(ready) if known => self.shared.pools.put(rt, Spare { wire, ready }, lease),
+            Some(ready) if lives => self.shared.pools.put(rt, Spare { wire, ready }, lease),
             _ => self.drop_line(rt, Line { wire, lease }),
         }
     }
@@ -190,7 +230,7 @@ impl<'a, B: Ledgers, Q: Ledger, A: Ledger, G: Gate> Desk<'a, B, Q, A, G> {
         }
     }
 
-    /// A connection that was idle before may have been closed meanwhile: then a fresh one is asked, once.
+    /// A connection that was idle before may be closed just now: then a fresh one is asked, once, where a retry is allowed.
     fn options_failed<R: Wait + Dial>(
         &mut self,
         rt: &R,
@@ -200,7 +240,8 @@ impl<'a, B: Ledgers, Q: Ledger, A: Ledger, G: Gate> Desk<'a, B, Q, A, G> {
         fault: ClientFault,
     ) -> Step<B, Q, A> {
         let point = ends.point();
-        let stale = line.lease.reused()
+        let stale = self.shared.config.retry
+            && line.lease.reused()
             && matches!(fault, ClientFault::Closed | ClientFault::Device);
         match self.service(point) {
             Some(service) if stale => match self.renew(rt, at, line) {

@@ -3,6 +3,7 @@
 use crate::pools::Leased;
 use adapt_turn::{Start, Tx};
 use http_relay::{NextHop, RelayFault, SourceSide};
+use http_side::own_refusal;
 use icap_client::{OptionsSide, ServiceSide};
 use proxy_rules::HeadMaker;
 use socket_wire::SocketWire;
@@ -138,6 +139,16 @@ pub enum Phase<B: Ledgers, Q: Ledger, A: Ledger> {
     },
     /// All is said, and what the user still sends is dropped.
     Closing(SocketWire),
+}
+
+impl<B: Ledgers, Q: Ledger, A: Ledger> Phase<B, Q, A> {
+    /// The refusal of a user for whom there is no room.
+    pub fn busy(user: SocketWire) -> Phase<B, Q, A> {
+        Phase::Refusing {
+            user,
+            rest: own_refusal(503),
+        }
+    }
 }
 
 /// How far a step came.

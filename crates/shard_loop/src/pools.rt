@@ -1,10 +1,10 @@
 //! The pools of both points.
 
 ghost use Rattle.std.specs.Prelude.{◌≤◌};
-ghost use Rattle.adapt_bytes.specs.declared.limits.TheConstants.{MAX_CONNECTIONS};
 
+use adapt_bytes::MAX_CONNECTIONS;
 use service_pool::{Lease, Pool, Taken};
-use socket_wire::{Readiness, SocketWire};
+use socket_wire::{Readiness, SocketWire, Unread};
 use std::alloc::{AllocError, Global};
 use std::sync::ledger::Ledger;
 use std::sync::{Arc, Wait};
@@ -81,6 +81,21 @@ impl<'a, Q: Ledger, A: Ledger> Pools<'a, Q, A> {
                 Taken::Busy => Took::Busy,
             },
         }
+    }
+
+    /// The same, but never a connection that its service has ended meanwhile, or on which it has said what nobody asked for:
+    /// those are closed, and their leases given up.
+    pub fn take_live<R: Wait>(&self, rt: &R, point: Point) -> Took<Q, A> {
+        for _ in 0..MAX_CONNECTIONS {
+            match self.take(rt, point) {
+                Took::Idle(spare, lease) if spare.wire.unread() != Unread::Nothing => {
+                    drop(spare);
+                    self.give_up(rt, lease);
+                }
+                took => return took,
+            }
+        }
+        Took::Busy
     }
 
     /// Puts a connection back. One that is too many is closed.

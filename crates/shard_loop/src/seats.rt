@@ -1,10 +1,11 @@
-//! Users' connections by their keys: what a poll told of them, and when they last moved.
+//! Users' connections by their keys: what a poll told of them, when they last moved, and which can best be spared.
 
+use event_loop::{Place, Told};
 use mio::net::TcpStream;
 use mio::{Registry, Token};
 use slab::Slab;
 use socket_wire::{MAX_KEY, Readiness, Side, SocketWire, token_of};
-use std::alloc::Global;
+use std::alloc::{AllocError, Global};
 use std::sync::Arc;
 
 /// A place in a thread's loop: the poll, the key of an exchange, and the moment in seconds.
@@ -27,15 +28,48 @@ pub enum Purpose {
     Refusal,
 }
 
+/// What a user's connection is in the midst of, as far as it may be spared for another one.
+#[derive(Clone, Copy, Debug, PartialEq, Eq)]
+pub enum Stay {
+    /// An exchange: it isn't spared.
+    Exchange,
+    /// Between two requests, with no byte of the next one's head.
+    Idle,
+    /// A head that isn't whole.
+    Head,
+    /// Its end: the last answer is being written, or is out.
+    End,
+}
+
+/// Those that are spared, first come the first of this order (RFC 9112, section 9.5, lets an idle connection be closed at any
+/// moment).
+const SPARED: [Stay; 3] = [Stay::Idle, Stay::Head, Stay::End];
+
 /// What is known of the connections of an exchange.
 #[derive(Drop)]
 struct Seat {
     purpose: Purpose,
     number: u64,
+    place: Place,
     moved: u64,
+    stay: Stay,
+    /// When the stay began, in the order of all stays.
+    since: u64,
+    /// How many bytes the user had taken when the transaction began.
+    taken: u64,
+    /// Whether a byte of the transaction's answer has gone out, and no refusal's.
+    answered: bool,
     user: Option<Arc<Readiness>>,
     origin: Option<Arc<Readiness>>,
     service: Option<Arc<Readiness>>,
+}
+
+/// How many bytes were written on a connection.
+fn taken_by(ready: &Option<Arc<Readiness>>) -> u64 {
+    match ready {
+        Some(ready) => ready.taken(),
+        None => 0,
+    }
 }
 
 /// The seats of a thread, each under its key.
@@ -45,17 +79,23 @@ pub struct Seats {
     all: Slab<Seat>,
     most: usize,
     refused: usize,
+    /// How many stays have begun.
+    stays: u64,
 }
 
 impl Seats {
-    /// No seat is taken, and at most so many users may be served at once.
-    pub fn new(alloc: Global, most: usize) -> Seats {
-        Seats {
+    /// No seat is taken, and at most so many users may be served at once. `Err` where no memory was found for their seats.
+    pub fn new(alloc: Global, most: usize) -> Result<Seats, AllocError> {
+        let mut seats = Seats {
             alloc,
             all: Slab::new(alloc),
             most,
             refused: 0,
-        }
+            stays: 0,
+        };
+        let bound = seats.bound();
+        seats.all.reserve(bound)?;
+        Ok(seats)
     }
 
     /// How many there may be: those of the users that are served, and those of some that are refused.
@@ -63,9 +103,14 @@ impl Seats {
         self.most.saturating_add(SPARE)
     }
 
+    /// Whether a further user can be served.
+    pub fn has_room(&self) -> bool {
+        self.all.len().saturating_sub(self.refused) < self.most
+    }
+
     /// What the next seat is for. None where there is none.
     fn next_purpose(&self) -> Option<Purpose> {
-        if self.all.len().saturating_sub(self.refused) < self.most {
+        if self.has_room() {
             Some(Purpose::Requests)
         } else if self.refused < SPARE {
             Some(Purpose::Refusal)
@@ -80,15 +125,24 @@ impl Seats {
     }
 
     /// Takes a seat for a user's connection of this number, and says what it is for. None where there is none.
-    pub fn take(&mut self, number: u64, now: u64) -> Option<(usize, Purpose)> {
+    pub fn take(&mut self, number: u64, place: Place, now: u64) -> Option<(usize, Purpose)> {
         let purpose = self.next_purpose()?;
         if self.all.reserve(1).is_err() || self.all.vacant_key() >= self.bound() {
             return None;
         }
+        let since = self.next_stay();
         let key = self.all.insert_reserved(Seat {
             purpose,
             number,
+            place,
             moved: now,
+            stay: match purpose {
+                Purpose::Requests => Stay::Head,
+                Purpose::Refusal => Stay::Exchange,
+            },
+            since,
+            taken: 0,
+            answered: false,
             user: None,
             origin: None,
             service: None,
@@ -117,6 +171,96 @@ impl Seats {
         }
     }
 
+    /// The number of the next stay.
+    fn next_stay(&mut self) -> u64 {
+        self.stays = self.stays.saturating_add(1);
+        self.stays
+    }
+
+    /// Takes note of what a user's connection is in the midst of from now on.
+    pub fn begin_stay(&mut self, key: usize, stay: Stay) {
+        let since = self.next_stay();
+        if let Some(seat) = self.all.get_mut(key)
+            && seat.purpose == Purpose::Requests
+            && seat.stay != stay
+        {
+            seat.stay = stay;
+            seat.since = since;
+        }
+    }
+
+    /// What a user's connection is in the midst of.
+    pub fn stay(&self, key: usize) -> Stay {
+        match self.all.get(key) {
+            Some(seat) => seat.stay,
+            None => Stay::Exchange,
+        }
+    }
+
+    /// The connection that is longest in the midst of this.
+    fn longest(&self, stay: Stay) -> Option<usize> {
+        let mut found = None;
+        let mut since = u64::MAX;
+        for key in 0..self.bound() {
+            if let Some(seat) = self.all.get(key)
+                && seat.stay == stay
+                && seat.since < since
+            {
+                found = Some(key);
+                since = seat.since;
+            }
+        }
+        found
+    }
+
+    /// The connection that can best be spared.
+    pub fn spared(&self) -> Option<usize> {
+        for stay in SPARED {
+            if let Some(key) = self.longest(stay) {
+                return Some(key);
+            }
+        }
+        None
+    }
+
+    /// Whether the user's connection is gone both ways.
+    pub fn is_gone(&self, key: usize) -> bool {
+        match self.all.get(key) {
+            Some(
+                Seat {
+                    user: Some(user),
+                    ..
+                },
+            ) => user.has_failed(),
+            _ => false,
+        }
+    }
+
+    /// A transaction begins: nothing of its answer is out.
+    pub fn begin_answer(&mut self, key: usize) {
+        if let Some(seat) = self.all.get_mut(key) {
+            seat.taken = taken_by(&seat.user);
+            seat.answered = false;
+        }
+    }
+
+    /// The transaction goes on: what the user has taken since its beginning is its answer's.
+    pub fn note_answer(&mut self, key: usize) {
+        if let Some(seat) = self.all.get_mut(key)
+            && taken_by(&seat.user) > seat.taken
+        {
+            seat.answered = true;
+        }
+    }
+
+    /// Whether a byte of the transaction's answer has gone out.
+    pub fn has_answered(&self, key: usize) -> bool {
+        match self.all.get(key) {
+            Some(seat) => seat.answered,
+            None => false,
+        }
+    }
+
     /// A byte moved, or a phase began.
     pub fn touch(&mut self, at: At<'_>) {
         if let Some(seat) = self.all.get_mut(at.key) {
@@ -124,23 +268,17 @@ impl Seats {
         }
     }
 
-    /// Whether so many seconds have passed without a moved byte.
+    /// Whether more than so many seconds have passed without a moved byte. Moments are whole seconds, so that is a second
+    /// late at most, and never early.
     pub fn is_late(&self, at: At<'_>, deadline: u64) -> bool {
         match self.all.get(at.key) {
-            Some(seat) => at.now.saturating_sub(seat.moved) >= deadline,
+            Some(seat) => at.now.saturating_sub(seat.moved) > deadline,
             None => true,
         }
     }
 
     /// Takes note of an event. False where it tells nothing new.
-    pub fn note(
-        &self,
-        key: usize,
-        side: Side,
-        readable: bool,
-        writable: bool,
-        closed: bool,
-    ) -> bool {
+    pub fn note(&self, key: usize, side: Side, told: Told) -> bool {
         let Some(seat) = self.all.get(key) else {
             return false;
         };
@@ -150,7 +288,10 @@ impl Seats {
             Side::Service => &seat.service,
         };
         match ready {
-            Some(ready) => ready.note(readable, writable, closed),
+            Some(ready) => {
+                let gone = told.failed && ready.fail();
+                ready.note(told.readable, told.writable, told.closed) || gone
+            }
             None => false,
         }
     }
@@ -170,31 +311,48 @@ impl Seats {
         }
     }
 
-    /// A wire over a stream, which the poll tells of. None where the system refuses, or no memory was found.
-    pub fn wire(&mut self, at: At<'_>, side: Side, stream: TcpStream) -> Option<SocketWire> {
-        let ready = Arc::new(self.alloc, Readiness::new()).ok()?;
-        let told = Arc::clone(&ready).ok()?;
+    /// A wire over a stream, which the poll tells of. The stream comes back where the system refuses, or no memory was
+    /// found.
+    pub fn wire(
+        &mut self,
+        at: At<'_>,
+        side: Side,
+        stream: TcpStream,
+    ) -> Result<SocketWire, TcpStream> {
+        let Ok(ready) = Arc::new(self.alloc, Readiness::new()) else {
+            return Err(stream);
+        };
+        let Ok(told) = Arc::clone(&ready) else {
+            return Err(stream);
+        };
         let wire = SocketWire::new(stream, ready);
-        wire.hurry().ok()?;
-        self.enlist(at, side, wire, told)
+        if wire.hurry().is_err() {
+            return Err(wire.into_stream());
+        }
+        match self.enlist(at, side, wire, told) {
+            Ok(wire) => Ok(wire),
+            Err(wire) => Err(wire.into_stream()),
+        }
     }
 
-    /// Has the poll tell of a wire.
+    /// Has the poll tell of a wire. It comes back where the system refuses.
     pub fn enlist(
         &mut self,
         at: At<'_>,
         side: Side,
         wire: SocketWire,
         ready: Arc<Readiness>,
-    ) -> Option<SocketWire> {
-        if at.key > MAX_KEY {
-            return None;
-        }
+    ) -> Result<SocketWire, SocketWire> {
         let mut wire = wire;
-        wire.register(at.registry, Token(token_of(at.key, side)))
-            .ok()?;
+        if at.key > MAX_KEY
+            || wire
+                .register(at.registry, Token(token_of(at.key, side)))
+                .is_err()
+        {
+            return Err(wire);
+        }
         let _ = self.keep(at.key, side, Some(ready));
-        Some(wire)
+        Ok(wire)
     }
 
     /// What tells of a service's connection that leaves the exchange.

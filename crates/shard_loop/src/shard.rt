@@ -3,27 +3,28 @@
 ghost use Rattle.shard_loop.specs.Slots.{ChangesOnly};
 
 use crate::desk::{Desk, Shared};
-use crate::phase::{Ends, Moving, Phase, Step};
-use crate::pools::Leased;
-use crate::seats::{At, Purpose};
-use adapt_turn::{Side as Turning, Turned};
-use event_loop::{Driven, Request, Slots, Told, Work};
+use crate::phase::{Ends, Phase, Step};
+use crate::seats::{At, Purpose, Stay};
+use event_loop::{Driven, Handed, Request, Slots, Told, Work};
 use http_relay::SourceSide;
 use http_side::own_refusal;
 use mio::Registry;
 use mio::net::TcpStream;
-use socket_wire::{Dial, Side, SocketWire};
+use socket_wire::{Dial, Side, SocketWire, Unread};
 use span_bank::Ledgers;
-use std::alloc::{AllocError, Global};
+use std::alloc::{AllocError, AllocFailed, Global};
 use std::boxed::Box;
 use std::io::Write;
 use std::sync::Wait;
 use std::sync::ledger::Ledger;
 use std::time::Clock;
-use wire_kit::{Gate, Wire};
+use wire_kit::Gate;
 
-/// The most steps of an exchange before others get their turn.
+/// The most steps of an exchange before others get their turn. Each is one round of a transaction's turns at most.
 const STEPS: u32 = 8;
+
+/// The most connections that are looked at for one that can be spared.
+const LOOKS: u32 = 16;
 
 /// The exchanges of one thread, each in the slot of its key. What is in a slot may have a reservation or a lease, so it has
 /// no `Drop`, and none is lost.
@@ -50,19 +51,17 @@ impl<'a, B: Ledgers, Q: Ledger, A: Ledger, G: Gate> Shard<'a, B, Q, A, G> {
         slots.into_all()
     }
 
-    /// What a user's connection begins with: its first request, or the refusal where there is no room for it. None where no
-    /// memory was found.
-    fn first_phase(&self, user: SocketWire, purpose: Purpose) -> Option<Phase<B, Q, A>> {
+    /// What a user's connection begins with: its first request, or the refusal where there is no room for it, or no memory.
+    fn first_phase(&self, user: SocketWire, purpose: Purpose) -> Phase<B, Q, A> {
         match purpose {
             Purpose::Requests => {
                 let ends = Ends::of_user(user, SourceSide::request(self.desk.alloc));
-                let ends = Box::new(self.desk.alloc, ends).ok()?;
-                Some(Phase::Head(ends))
+                match Box::new(self.desk.alloc, ends) {
+                    Ok(ends) => Phase::Head(ends),
+                    Err(AllocFailed { value }) => Phase::busy(value.into_user()),
+                }
             }
-            Purpose::Refusal => Some(Phase::Refusing {
-                user,
-                rest: own_refusal(503),
-            }),
+            Purpose::Refusal => Phase::busy(user),
         }
     }
 
@@ -98,54 +97,34 @@ impl<'a, B: Ledgers, Q: Ledger, A: Ledger, G: Gate> Shard<'a, B, Q, A, G> {
         }
     }
 
-    /// Ends the exchange under this key, because the proxy stops. A refusal that is due is tried once; where it isn't taken,
-    /// the transaction stays with its reservation and its lease.
+    /// Ends the exchange under this key, and all of its connections.
+    fn end_slot<R: Wait>(&mut self, rt: &R, key: usize) {
+        if let Some(phase) = self.slots.take(key) {
+            self.desk.end(rt, phase);
+        }
+        self.desk.seats.leave(key);
+    }
+
+    /// Ends the exchange under this key, because the proxy stops: where a refusal is due, it is driven on.
     fn halt_slot<R: Wait>(&mut self, rt: &R, at: At<'_>) {
         let Some(phase) = self.slots.take(at.key) else {
             return;
         };
-        match phase {
-            Phase::Moving { tx, lease } => self.halt_one(rt, at, tx, lease),
-            Phase::Asking {
-                ends,
-                line,
-                side: _,
-            } => {
-                self.desk.drop_line(rt, line);
-                try_refusal(Box::into_inner(ends).into_user(), own_refusal(503));
-            }
-            Phase::Answer(ends) => {
-                try_refusal(Box::into_inner(ends).into_user(), own_refusal(503));
-            }
-            Phase::Refusing { user, rest } => try_refusal(user, rest),
-            Phase::Head(_) | Phase::Closing(_) => {}
-            Phase::Telling { ends: _, rest: _ } => {}
+        match self.desk.halt(rt, at, phase) {
+            Step::On(phase) | Step::Waits(phase) => self.keep(rt, at.key, phase),
+            Step::Over => self.desk.seats.leave(at.key),
         }
     }
 
-    fn halt_one<R: Wait>(
-        &mut self,
-        rt: &R,
-        at: At<'_>,
-        tx: Box<Moving<B>>,
-        lease: Option<Leased<Q, A>>,
-    ) {
-        let mut tx = tx;
-        let bank = self.desk.shared.bank;
-        tx.halt(rt, bank);
-        let _ = tx.turn(rt, bank, Turning::NextHop, at.now);
-        match tx.turn(rt, bank, Turning::NextHop, at.now) {
-            Turned::Finished(_) => self.desk.end(rt, Phase::Moving { tx, lease }),
-            _ => self.keep(rt, at.key, Phase::Moving { tx, lease }),
+    /// Whether the connection under this key lies idle, but bytes of a request have come that nobody has told of yet.
+    fn is_wanted(&self, key: usize) -> bool {
+        if self.desk.seats.stay(key) != Stay::Idle {
+            return false;
         }
-    }
-}
-
-/// Tries once to write a refusal.
-fn try_refusal(user: SocketWire, text: &[u8]) {
-    let mut user = user;
-    if !text.is_empty() {
-        let _ = user.try_write(text);
+        match self.slots.get(key) {
+            Some(Phase::Head(ends)) => ends.user.unread() == Unread::Bytes,
+            _ => false,
+        }
     }
 }
 
@@ -160,31 +139,54 @@ impl<'a, B: Ledgers, Q: Ledger, A: Ledger, G: Gate> Work for Shard<'a, B, Q, A, 
         &mut self,
         rt: &R,
         registry: &Registry,
-        stream: TcpStream,
-        number: u64,
+        user: Handed,
         now: u64,
     ) -> Option<usize> {
-        let Some((key, purpose)) = self.desk.seats.take(number, now) else {
+        let Handed {
+            stream,
+            number,
+            place,
+        } = user;
+        if !self.desk.seats.has_room() {
+            let _ = self.make_room(rt);
+        }
+        let Some((key, purpose)) = self.desk.seats.take(number, place, now) else {
             turn_away(stream);
             return None;
         };
         let at = At { registry, key, now };
-        let Some(user) = self.desk.seats.wire(at, Side::User, stream) else {
-            self.desk.seats.leave(key);
-            return None;
-        };
-        let Some(phase) = self.first_phase(user, purpose) else {
-            self.desk.seats.leave(key);
-            return None;
-        };
-        self.keep(rt, key, phase);
-        Some(key)
+        match self.desk.seats.wire(at, Side::User, stream) {
+            Ok(user) => {
+                let phase = self.first_phase(user, purpose);
+                self.keep(rt, key, phase);
+                Some(key)
+            }
+            Err(stream) => {
+                self.desk.seats.leave(key);
+                turn_away(stream);
+                None
+            }
+        }
+    }
+
+    /// An idle connection on which a request has just come is spared no more: its head has begun.
+    fn make_room<R: Wait>(&mut self, rt: &R) -> bool {
+        for _ in 0..LOOKS {
+            let Some(key) = self.desk.seats.spared() else {
+                return false;
+            };
+            if self.is_wanted(key) {
+                self.desk.seats.begin_stay(key, Stay::Head);
+            } else {
+                self.end_slot(rt, key);
+                return true;
+            }
+        }
+        false
     }
 
     fn note(&mut self, key: usize, side: Side, told: Told) -> bool {
-        self.desk
-            .seats
-            .note(key, side, told.readable, told.writable, told.closed)
+        self.desk.seats.note(key, side, told)
     }
 
     fn drive<R: Wait + Dial + Clock>(
@@ -196,6 +198,10 @@ impl<'a, B: Ledgers, Q: Ledger, A: Ledger, G: Gate> Work for Shard<'a, B, Q, A, 
     ) -> Driven {
         let at = At { registry, key, now };
         for _ in 0..STEPS {
+            if self.desk.seats.is_gone(key) {
+                self.end_slot(rt, key);
+                return Driven::Over;
+            }
             match self.step(rt, at) {
                 Driven::CutShort => {}
                 driven => return driven,
@@ -217,6 +223,7 @@ impl<'a, B: Ledgers, Q: Ledger, A: Ledger, G: Gate> Work for Shard<'a, B, Q, A, 
     }
 
     fn halt<R: Wait + Dial + Clock>(&mut self, rt: &R, registry: &Registry, now: u64) {
+        self.desk.stopping = true;
         for key in 0..self.slots.count() {
             self.halt_slot(rt, At { registry, key, now });
         }

@@ -6,12 +6,12 @@ ghost use Rattle.plan_rules.specs.Claims.{claim_of};
 
 use crate::begin::Message;
 use crate::desk::Desk;
-use crate::halting::end_service;
+use crate::halting::unused;
 use crate::phase::{Ends, Line, Moving, Origin, Phase, Starting, Step};
 use crate::pools::Leased;
 use crate::seats::At;
 use crate::telling::go_ahead;
-use adapt_turn::{Line as ServiceLine, Start};
+use adapt_turn::Line as ServiceLine;
 use http_relay::SourceSide;
 use icap_client::ServiceSide;
 use plan_rules::Limits;
@@ -20,6 +20,7 @@ use socket_wire::{Dial, Side, SocketWire};
 use span_bank::{Ledgers, Pages, Stake};
 use std::alloc::AllocFailed;
 use std::boxed::Box;
+use std::net::SocketAddrV4;
 use std::sync::Wait;
 use std::sync::ledger::Ledger;
 use std::time::Clock;
@@ -34,60 +35,54 @@ struct Sides {
     heads: HeadMaker,
 }
 
-/// Why a transaction can't begin.
-#[derive(Drop)]
-enum Unable {
-    /// The user gets the proxy's own refusal.
-    Refuse(SocketWire, Reason),
-    /// The user has to be told to send its body, and doesn't take the whole text now: this is left of it.
-    Tell(Ends, &'static [u8]),
-    /// The user's connection is cut.
-    Cut,
-}
-
-impl<'a, B: Ledgers, Q: Ledger, A: Ledger, G: Gate> Desk<'a, B, Q, A, G> {
-    /// What the transaction of a message stands over: a request's origin is connected now.
-    fn sides<R: Dial>(
-        &mut self,
-        rt: &R,
-        at: At<'_>,
-        ends: Box<Ends>,
-        message: &Message,
-    ) -> Result<Sides, Unable> {
-        let Ends {
-            user,
-            request,
-            origin,
-            told: _,
-        } = Box::into_inner(ends);
-        if let Some(Origin { wire, side }) = origin {
-            return Ok(Sides {
-                source: side,
-                source_wire: wire,
-                next_wire: user,
-                heads: HeadMaker::for_response(request),
-            });
-        }
-        let Some(address) = message.address else {
-            return Err(Unable::Cut);
-        };
-        let Some(next_wire) = self.dial(rt, at, Side::Origin, address) else {
-            return Err(Unable::Refuse(user, Reason::NoOrigin));
-        };
-        let mut user = user;
-        if message.waits {
-            match go_ahead(&mut user, interim_continue()) {
-                Some([]) => {}
-                Some(rest) => return Err(Unable::Tell(Ends::of_user(user, request), rest)),
-                None => return Err(Unable::Cut),
-            }
-        }
-        Ok(Sides {
+/// What the transaction of a message stands over: that of a request over the origin's connection, which was opened now.
+fn sides_of(ends: Ends, opened: Option<SocketWire>) -> Option<Sides> {
+    let Ends {
+        user,
+        request,
+        origin,
+        told: _,
+    } = ends;
+    match (origin, opened) {
+        (Some(Origin { wire, side }), _) => Some(Sides {
+            source: side,
+            source_wire: wire,
+            next_wire: user,
+            heads: HeadMaker::for_response(request),
+        }),
+        (None, Some(next_wire)) => Some(Sides {
             source: request,
             source_wire: user,
             next_wire,
             heads: HeadMaker::for_request(),
-        })
+        }),
+        (None, None) => None,
+    }
+}
+
+impl<'a, B: Ledgers, Q: Ledger, A: Ledger, G: Gate> Desk<'a, B, Q, A, G> {
+    /// Opens the connection that a request goes to.
+    fn open<R: Dial>(
+        &mut self,
+        rt: &R,
+        at: At<'_>,
+        address: Option<SocketAddrV4>,
+    ) -> Result<Option<SocketWire>, Reason> {
+        match address {
+            Some(address) => match self.dial(rt, at, Side::Origin, address, Reason::NoOrigin) {
+                Ok(wire) => Ok(Some(wire)),
+                Err(reason) => Err(reason),
+            },
+            None => Ok(None),
+        }
+    }
+
+    /// Gives back what no transaction begins with.
+    fn forgo<R: Wait>(&mut self, rt: &R, at: At<'_>, line: Option<Line<Q, A>>, stake: Stake<B>)
+        requires { (stake.held ≡ 0) × (stake.pages ≡ 0) }
+    {
+        self.shared.bank.close(rt, stake, Pages::none());
+        self.spare(rt, at, line);
     }
 
     /// Brings both ends together, and starts.
@@ -105,16 +100,53 @@ impl<'a, B: Ledgers, Q: Ledger, A: Ledger, G: Gate> Desk<'a, B, Q, A, G> {
         requires small { stake.claim ≤ MAX_CAPACITY }
     {
         let limits = self.limits;
-        match self.sides(rt, at, ends, &message) {
-            Ok(sides) => self.launch(rt, at, sides, message, limits, line, stake),
-            Err(unable) => {
-                self.shared.bank.close(rt, stake, Pages::none());
-                self.spare(rt, at, line);
-                match unable {
-                    Unable::Refuse(user, reason) => self.refuse(at, user, reason),
-                    Unable::Tell(ends, rest) => self.tell(at, ends, rest),
-                    Unable::Cut => Step::Over,
+        match self.open(rt, at, message.address) {
+            Ok(opened) => self.join(rt, at, ends, opened, message, limits, line, stake),
+            Err(reason) => {
+                self.forgo(rt, at, line, stake);
+                self.refuse_user(at, ends, reason)
+            }
+        }
+    }
+
+    /// Starts, once a user that waits for it is told to send the body.
+    fn join<R: Wait + Clock>(
+        &mut self,
+        rt: &R,
+        at: At<'_>,
+        ends: Box<Ends>,
+        opened: Option<SocketWire>,
+        message: Message,
+        limits: Limits,
+        line: Option<Line<Q, A>>,
+        stake: Stake<B>,
+    ) -> Step<B, Q, A>
+        requires empty { (stake.held ≡ 0) × (stake.pages ≡ 0) }
+        requires claim { stake.claim ≡ claim_of message.plan limits.window }
+        requires small { stake.claim ≤ MAX_CAPACITY }
+    {
+        let text = if message.waits {
+            interim_continue()
+        } else {
+            &[]
+        };
+        let mut ends = ends;
+        match go_ahead(&mut ends.user, text) {
+            Some([]) => match sides_of(Box::into_inner(ends), opened) {
+                Some(sides) => self.launch(rt, at, sides, message, limits, line, stake),
+                None => {
+                    self.forgo(rt, at, line, stake);
+                    Step::Over
                 }
+            },
+            Some(rest) => {
+                self.forgo(rt, at, line, stake);
+                self.seats.touch(at);
+                Step::On(Phase::Telling { ends, rest })
+            }
+            None => {
+                self.forgo(rt, at, line, stake);
+                Step::Over
             }
         }
     }
@@ -168,6 +200,7 @@ impl<'a, B: Ledgers, Q: Ledger, A: Ledger, G: Gate> Desk<'a, B, Q, A, G> {
             None => false,
         };
         self.seats.touch(at);
+        self.seats.begin_answer(at.key);
         let Sides {
             source,
             source_wire,
@@ -183,7 +216,7 @@ impl<'a, B: Ledgers, Q: Ledger, A: Ledger, G: Gate> Desk<'a, B, Q, A, G> {
             service,
             next_wire,
             heads,
-            deadline: self.shared.config.deadline,
+            deadline: self.shared.config.deadline.saturating_add(1),
             now: at.now,
             reused,
         };
@@ -206,8 +239,8 @@ impl<'a, B: Ledgers, Q: Ledger, A: Ledger, G: Gate> Desk<'a, B, Q, A, G> {
             Ok(tx) => match Box::new(self.alloc, tx) {
                 Ok(tx) => Step::On(self.pass_gate(rt, at, tx, lease)),
                 Err(AllocFailed { value }) => {
-                    self.end_moving(rt, value, lease);
-                    Step::Over
+                    let user = self.end_tx(rt, value, lease);
+                    self.refuse(at, user, Reason::NoMemory)
                 }
             },
             Err(start) => {
@@ -221,23 +254,7 @@ impl<'a, B: Ledgers, Q: Ledger, A: Ledger, G: Gate> Desk<'a, B, Q, A, G> {
     fn undo<R: Wait>(&mut self, rt: &R, start: Starting<B>, lease: Option<Leased<Q, A>>)
         requires { (start.stake.held ≡ 0) × (start.stake.pages ≡ 0) }
     {
-        let Start {
-            plan: _,
-            limits: _,
-            stake,
-            source: _,
-            source_wire: _,
-            service,
-            next: _,
-            next_wire: _,
-            back: _,
-            forward: _,
-            deadline: _,
-            now: _,
-            reused: _,
-        } = start;
-        end_service(service);
-        self.shared.bank.close(rt, stake, Pages::none());
+        self.shared.bank.close(rt, unused(start), Pages::none());
         self.give_up(rt, lease);
     }
 

@@ -2,14 +2,15 @@
 
 use crate::desk::Desk;
 use crate::phase::{Ends, Phase, Step};
-use crate::seats::At;
+use crate::seats::{At, Stay};
 use adapt_bytes::behind;
 use event_loop::{Closing, close_turn};
 use http_side::own_refusal;
-use proxy_rules::{Reason, origin_head_reason, user_head_reason};
+use proxy_rules::{Reason, origin_address, origin_head_reason, user_head_reason};
 use socket_wire::{Dial, SocketWire};
 use span_bank::Ledgers;
 use std::boxed::Box;
+use std::net::SocketAddrV4;
 use std::sync::Wait;
 use std::sync::ledger::Ledger;
 use std::time::Clock;
@@ -52,8 +53,14 @@ impl<'a, B: Ledgers, Q: Ledger, A: Ledger, G: Gate> Desk<'a, B, Q, A, G> {
         if moved {
             self.seats.touch(at);
         }
+        if ends.request.has_begun() {
+            self.seats.begin_stay(at.key, Stay::Head);
+        }
         match read {
-            Ok(true) => self.offer(rt, at, ends, Point::Reqmod),
+            Ok(true) => {
+                self.seats.begin_stay(at.key, Stay::Exchange);
+                self.offer(rt, at, ends, Point::Reqmod)
+            }
             Ok(false) if moved => Step::On(Phase::Head(ends)),
             Ok(false) if self.is_late(at) => Step::Over,
             Ok(false) => Step::Waits(Phase::Head(ends)),
@@ -89,8 +96,14 @@ impl<'a, B: Ledgers, Q: Ledger, A: Ledger, G: Gate> Desk<'a, B, Q, A, G> {
         }
     }
 
+    /// Where a request goes. None where nobody knows its host.
+    pub fn origin_of(&self, ends: &Ends) -> Option<SocketAddrV4> {
+        let user = ends.request.request_head()?;
+        origin_address(self.shared.config, user)
+    }
+
     /// Offers a message whose head was read to its service: the service is asked for its options first, where what it said
-    /// of them serves no more.
+    /// of them serves no more, and nobody is asked where the request's host isn't known.
     pub fn offer<R: Wait + Dial + Clock>(
         &mut self,
         rt: &R,
@@ -100,15 +113,19 @@ impl<'a, B: Ledgers, Q: Ledger, A: Ledger, G: Gate> Desk<'a, B, Q, A, G> {
     ) -> Step<B, Q, A> {
         match self.service(point) {
             Some(service) if !self.book(point).is_fresh(at.now) => {
+                if ends.point() == Point::Reqmod && self.origin_of(&ends).is_none() {
+                    return self.refuse_user(at, ends, Reason::UnknownHost);
+                }
                 self.ask(rt, at, ends, point, service)
             }
             _ => self.begin(rt, at, ends, point, None),
         }
     }
 
-    /// Has the proxy's own refusal written.
+    /// Has the proxy's own refusal written. It is written, and the connection closed after it, within one deadline.
     pub fn refuse(&mut self, at: At<'_>, user: SocketWire, reason: Reason) -> Step<B, Q, A> {
         self.seats.touch(at);
+        self.seats.begin_stay(at.key, Stay::End);
         Step::On(Phase::Refusing {
             user,
             rest: own_refusal(reason.status()),
@@ -120,10 +137,10 @@ impl<'a, B: Ledgers, Q: Ledger, A: Ledger, G: Gate> Desk<'a, B, Q, A, G> {
         self.refuse(at, Box::into_inner(ends).into_user(), reason)
     }
 
-    /// Has a connection closed behind all that was said.
+    /// Has a connection closed after all that was said.
     pub fn close(&mut self, at: At<'_>, user: SocketWire) -> Step<B, Q, A> {
         let _ = user.finish();
-        self.seats.touch(at);
+        self.seats.begin_stay(at.key, Stay::End);
         Step::On(Phase::Closing(user))
     }
 

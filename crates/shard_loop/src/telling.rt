@@ -26,15 +26,6 @@ pub fn go_ahead(user: &mut SocketWire, text: &'static [u8]) -> Option<&'static [
 }
 
 impl<'a, B: Ledgers, Q: Ledger, A: Ledger, G: Gate> Desk<'a, B, Q, A, G> {
-    /// Has the rest of the text said to a user.
-    pub fn tell(&mut self, at: At<'_>, ends: Ends, rest: &'static [u8]) -> Step<B, Q, A> {
-        self.seats.touch(at);
-        match Box::new(self.alloc, ends) {
-            Ok(ends) => Step::On(Phase::Telling { ends, rest }),
-            Err(_) => Step::Over,
-        }
-    }
-
     /// Says the rest of the text, and offers the request anew once it is out.
     pub fn telling_step<R: Wait + Dial + Clock>(
         &mut self,

@@ -5,6 +5,7 @@ use crate::phase::{Moving, Phase, Step};
 use crate::pools::Leased;
 use crate::seats::At;
 use adapt_turn::{Side as Turning, Turned};
+use proxy_rules::Reason;
 use socket_wire::{Dial, SocketWire};
 use span_bank::{Bank, Ledgers};
 use std::boxed::Box;
@@ -12,9 +13,6 @@ use std::sync::Wait;
 use std::sync::ledger::Ledger;
 use std::time::Clock;
 use wire_kit::Gate;
-
-/// The most rounds of turns before others get theirs.
-const ROUNDS: u32 = 8;
 
 /// What a round of turns did, one of each side.
 #[derive(Clone, Copy, PartialEq, Eq)]
@@ -50,23 +48,24 @@ fn turn_each<B: Ledgers, R: Wait>(rt: &R, bank: &Bank<B>, tx: &mut Moving<B>, no
 }
 
 impl<'a, B: Ledgers, Q: Ledger, A: Ledger, G: Gate> Desk<'a, B, Q, A, G> {
-    /// Turns until each wire waits, or as often as one may before others get their turn.
-    fn rounds<R: Wait + Dial>(
+    /// A round of turns.
+    fn round<R: Wait + Dial>(
         &mut self,
         rt: &R,
         at: At<'_>,
         tx: &mut Moving<B>,
         lease: &mut Option<Leased<Q, A>>,
     ) -> Round {
-        let bank = self.shared.bank;
-        for _ in 0..ROUNDS {
-            match turn_each(rt, bank, tx, at.now) {
-                Round::Moved => self.seats.touch(at),
-                Round::Broken => self.again(rt, at, tx, lease),
-                over => return over,
-            }
+        let round = turn_each(rt, self.shared.bank, tx, at.now);
+        match round {
+            Round::Moved => self.seats.touch(at),
+            Round::Broken => self.again(rt, at, tx, lease),
+            Round::Waiting | Round::Finished => {}
         }
-        Round::Moved
+        if tx.outcome().is_none() {
+            self.seats.note_answer(at.key);
+        }
+        round
     }
 
     /// A fresh connection in place of a leased one that broke, where the pool allows one.
@@ -75,16 +74,16 @@ impl<'a, B: Ledgers, Q: Ledger, A: Ledger, G: Gate> Desk<'a, B, Q, A, G> {
         rt: &R,
         at: At<'_>,
         lease: &mut Leased<Q, A>,
-    ) -> Option<SocketWire> {
+    ) -> Result<SocketWire, Reason> {
         if self.shared.pools.replace(rt, lease) {
             self.dial_service(rt, at, lease.point())
         } else {
-            None
+            Err(Reason::Service)
         }
     }
 
     /// Begins a request anew on a fresh connection, or fails it where there is none. What is left of the broken connection,
-    /// which its service has ended or which failed, is closed at once behind that.
+    /// which its service has ended or which failed, is closed at once after that.
     fn again<R: Wait + Dial>(
         &mut self,
         rt: &R,
@@ -98,15 +97,15 @@ impl<'a, B: Ledgers, Q: Ledger, A: Ledger, G: Gate> Desk<'a, B, Q, A, G> {
         let bank = self.shared.bank;
         let fresh = match lease {
             Some(lease) => self.fresh(rt, at, lease),
-            None => None,
+            None => Err(Reason::Service),
         };
         match fresh {
-            Some(wire) => drop(tx.retry(rt, bank, wire)),
-            None => tx.no_retry(rt, bank),
+            Ok(wire) => drop(tx.retry(rt, bank, wire)),
+            Err(_) => tx.no_retry(rt, bank),
         }
     }
 
-    /// Turns of a transaction. One whose refusal a user doesn't take is over at the deadline.
+    /// A round of a transaction. One whose refusal a user doesn't take is over at the deadline.
     pub fn moving_step<R: Wait + Dial + Clock>(
         &mut self,
         rt: &R,
@@ -116,7 +115,7 @@ impl<'a, B: Ledgers, Q: Ledger, A: Ledger, G: Gate> Desk<'a, B, Q, A, G> {
     ) -> Step<B, Q, A> {
         let mut tx = tx;
         let mut lease = lease;
-        match self.rounds(rt, at, &mut tx, &mut lease) {
+        match self.round(rt, at, &mut tx, &mut lease) {
             Round::Moved | Round::Broken => Step::On(Phase::Moving { tx, lease }),
             Round::Finished => self.settle(rt, at, tx, lease),
             Round::Waiting if tx.outcome().is_some() && self.is_late(at) => {

@@ -8,5 +8,5 @@ mod token;
 
 pub use dial::Dial;
 pub use ready::Readiness;
-pub use socket::SocketWire;
+pub use socket::{SocketWire, Unread};
 pub use token::{MAX_KEY, Side, names_its_place, place_of, token_of};

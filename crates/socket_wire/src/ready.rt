@@ -1,6 +1,6 @@
 //! What a poll has told of a connection.
 
-use std::sync::atomic::{AtomicBool, Ordering};
+use std::sync::atomic::{AtomicBool, AtomicU64, Ordering};
 
 /// What a poll has told of a connection, shared by the loop that polls and by the wire that reads and writes.
 ///
@@ -10,6 +10,8 @@ pub struct Readiness {
     can_read: AtomicBool,
     can_write: AtomicBool,
     closed: AtomicBool,
+    failed: AtomicBool,
+    taken: AtomicU64,
 }
 
 impl Readiness {
@@ -19,6 +21,8 @@ impl Readiness {
             can_read: AtomicBool::new(true),
             can_write: AtomicBool::new(true),
             closed: AtomicBool::new(false),
+            failed: AtomicBool::new(false),
+            taken: AtomicU64::new(0),
         }
     }
 
@@ -30,6 +34,26 @@ impl Readiness {
         let writes = (writable || closed) && raise(&self.can_write);
         let ends = closed && raise(&self.closed);
         reads || writes || ends
+    }
+
+    /// Takes note that the connection is gone both ways, as where the other side has reset it. True where that is news.
+    pub fn fail(&self) -> bool {
+        raise(&self.failed)
+    }
+
+    /// Whether the connection is gone both ways. One whose other side has only ended its bytes isn't.
+    pub fn has_failed(&self) -> bool {
+        self.failed.load(Ordering::Relaxed)
+    }
+
+    /// Takes note of bytes that were written.
+    pub fn took(&self, count: u64) {
+        let _ = self.taken.fetch_add(count, Ordering::Relaxed);
+    }
+
+    /// How many bytes were written.
+    pub fn taken(&self) -> u64 {
+        self.taken.load(Ordering::Relaxed)
     }
 
     /// Whether a read may find something.

@@ -6,10 +6,12 @@ ghost use Rattle.wire_kit.specs.Past.{Past, nothing_yet, after_read, after_write
 ghost use Rattle.socket_wire.specs.Socket.{IsPast};
 
 use crate::ready::Readiness;
+use libc::net::{_SS_SIZE, connect};
 use mio::net::TcpStream;
 use mio::{Interest, Registry, Token};
 use std::io::{self, ErrorKind, Read, Write};
 use std::net::Shutdown;
+use std::os::fd::AsRawFd;
 use std::sync::Arc;
 use wire_kit::{Got, Put, Wire};
 
@@ -40,6 +42,20 @@ fn write_once(stream: &mut TcpStream, bytes: &[u8]) -> io::Result<usize>
         }
     }
     stream.write(bytes)
+}
+
+/// How many bytes of an address the system reads.
+const ADDRESS: u32 = 16;
+
+/// What lies unread on a connection.
+#[derive(Clone, Copy, Debug, PartialEq, Eq)]
+pub enum Unread {
+    /// No byte, and the other side may still send.
+    Nothing,
+    /// Bytes.
+    Bytes,
+    /// The other side has ended its bytes, or the connection has failed.
+    End,
 }
 
 /// A connection that never blocks, with its counts. A call that can give nothing before the next event answers Wait
@@ -100,6 +116,26 @@ impl SocketWire {
     /// Tells the other side that nothing more comes.
     pub fn finish(&self) -> io::Result<()> {
         self.stream.shutdown(Shutdown::Write)
+    }
+
+    /// What lies unread. Nothing is read.
+    pub fn unread(&self) -> Unread {
+        let mut byte = [0u8; 1];
+        match self.stream.peek(&mut byte) {
+            Ok(0) => Unread::End,
+            Ok(_) => Unread::Bytes,
+            Err(error) => match error.kind() {
+                ErrorKind::WouldBlock | ErrorKind::Interrupted => Unread::Nothing,
+                _ => Unread::End,
+            },
+        }
+    }
+
+    /// Resets the connection, so that the other side can't take the end of its bytes for the end of a message. What wasn't
+    /// sent yet is dropped (connect(2): an address of no family dissolves a connection).
+    pub fn cut(&self) {
+        let nowhere = [0u8; _SS_SIZE];
+        let _ = unsafe { connect(self.stream.as_raw_fd(), &nowhere, ADDRESS) };
     }
 
     /// The connection itself.
@@ -179,6 +215,7 @@ impl Wire for SocketWire {
             Ok(0) => self.wait_to_write(),
             Ok(n) => {
                 self.taken += n as u64;
+                self.ready.took(n as u64);
                 self.writes = self.writes.saturating_add(1);
                 if n < bytes.len() {
                     self.ready.filled();

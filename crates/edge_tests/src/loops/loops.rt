@@ -1,7 +1,9 @@
 //! Loops in threads, over loopback: they echo.
 
-use event_loop::{Base, Driven, Ended, Inbox, Request, Told, Work, add_loop, run_loop};
-use mio::net::{TcpListener, TcpStream};
+use event_loop::{
+    Base, Doors, Driven, Ended, Handed, Inbox, Place, Request, Room, Told, Work, add_loop, run_loop,
+};
+use mio::net::TcpListener;
 use mio::{Registry, Token};
 use slab::Slab;
 use socket_wire::{Dial, MAX_KEY, Readiness, Side, SocketWire, token_of};
@@ -19,6 +21,7 @@ use wire_kit::{Got, Wire};
 struct Conn {
     ready: Arc<Readiness>,
     wire: SocketWire,
+    place: Place,
 }
 
 /// Connections that echo.
@@ -28,7 +31,12 @@ struct Echo {
     all: Slab<Conn>,
 }
 
-fn take_in(echo: &mut Echo, registry: &Registry, stream: TcpStream) -> Result<usize, AllocError> {
+fn take_in(echo: &mut Echo, registry: &Registry, user: Handed) -> Result<usize, AllocError> {
+    let Handed {
+        stream,
+        number: _,
+        place,
+    } = user;
     let ready = Arc::new(echo.alloc, Readiness::new())?;
     let mut wire = SocketWire::new(stream, ready.clone()?);
     echo.all.reserve(1)?;
@@ -40,7 +48,7 @@ fn take_in(echo: &mut Echo, registry: &Registry, stream: TcpStream) -> Result<us
     {
         return Err(AllocError);
     }
-    let _ = echo.all.insert_reserved(Conn { ready, wire });
+    let _ = echo.all.insert_reserved(Conn { ready, wire, place });
     Ok(key)
 }
 
@@ -58,11 +66,19 @@ impl Work for Echo {
         &mut self,
         _rt: &R,
         registry: &Registry,
-        stream: TcpStream,
-        _number: u64,
+        user: Handed,
         _now: u64,
     ) -> Option<usize> {
-        take_in(self, registry, stream).ok()
+        take_in(self, registry, user).ok()
+    }
+
+    fn make_room<R: Wait>(&mut self, _rt: &R) -> bool {
+        for key in 0..self.bound() {
+            if self.all.try_remove(key).is_some() {
+                return true;
+            }
+        }
+        false
     }
 
     fn note(&mut self, key: usize, _side: Side, told: Told) -> bool {
@@ -168,12 +184,16 @@ fn run_echo<R: Wait + Dial + Clock>(
     }
 }
 
+/// Two loops, with room for one user at a time.
 fn make(
     rt: &HostRuntime,
     listeners: (TcpListener, TcpListener),
     inboxes: &mut Vec<Inbox>,
 ) -> io::Result<[Option<Base>; 2]> {
-    let first = add_loop(rt, rt.alloc(), Some(listeners), inboxes)?;
+    let (users, admin) = listeners;
+    let room = Room::new(1);
+    let doors = Doors { users, admin, room };
+    let first = add_loop(rt, rt.alloc(), Some(doors), inboxes)?;
     let second = add_loop(rt, rt.alloc(), None, inboxes)?;
     Ok([Some(first), Some(second)])
 }

@@ -1,0 +1,53 @@
+//! The end of a loop: users are told of the stop.
+
+use crate::looping::EventLoop;
+use crate::work::Work;
+use socket_wire::{Dial, place_of};
+use std::io;
+use std::sync::Wait;
+use std::time::{Clock, Duration};
+
+/// How long users are told of a stop at most, in milliseconds.
+const FAREWELL: u64 = 1000;
+
+impl<K: Work> EventLoop<K> {
+    /// Drives on the exchanges whose users are told of the stop, until all are over, for a while at most.
+    pub(super) fn take_leave<R: Wait + Dial + Clock>(&mut self, rt: &R) -> io::Result<()> {
+        self.read_clock(rt)?;
+        let end = self.elapsed.saturating_add(FAREWELL);
+        self.drive_all(rt)?;
+        for _ in rt.forever() {
+            if self.work.is_idle() || self.elapsed >= end {
+                return Ok(());
+            }
+            let left = if self.ready.is_empty() {
+                end - self.elapsed
+            } else {
+                0
+            };
+            self.poll
+                .poll(&mut self.events, Some(Duration::from_millis(left)))?;
+            self.read_clock(rt)?;
+            self.drive_ready(rt)?;
+            self.look();
+            self.drive_seen(rt)?;
+        }
+        unreachable!()
+    }
+
+    /// Drives the exchanges that the events tell of.
+    fn drive_seen<R: Wait + Dial + Clock>(&mut self, rt: &R) -> io::Result<()> {
+        for at in 0..self.seen.len() {
+            let Some(event) = self.seen.get(at) else {
+                break;
+            };
+            let event = *event;
+            if let Some((key, side)) = place_of(event.token)
+                && self.work.note(key, side, event.told)
+            {
+                self.drive(rt, key)?;
+            }
+        }
+        Ok(())
+    }
+}
