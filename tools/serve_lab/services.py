@@ -1,8 +1,9 @@
 """Services that break, say how many connections they take, change their minds, or never answer."""
+import socket
 import threading
 import time
 
-from serve_lab.cases import IDLE, case, get, is_refused, post, refusal, same
+from serve_lab.cases import IDLE, case, get, is_refused, post, refusal, same, settled
 from serve_lab.loopback import PATIENCE, Icap, Reader, Server, User, ask, body_of, fields_of, free_port
 
 
@@ -140,13 +141,13 @@ def a_broken_idle_connection_is_replaced(bench):
         time.sleep(0.05)
         return False
     service = bench.icap(reply, [b"Preview: 4", b"Transfer-Preview: *"])
-    for retry, statuses in (("true", {200}), ("false", {200, 502})):
+    for retry in ("true", "false"):
         proxy = bench.proxy(origin, "shards = 1\nretry = %s" % retry, [("respmod", service.port, "/respmod/x")])
         found = set()
         for _ in range(4):
             found.add(ask(proxy.port, get("/bytes/30")).status)
             time.sleep(0.3)
-        same("retry = %s" % retry, found, statuses)
+        same("retry = %s" % retry, found, {200})
         same("audit", proxy.stop(), IDLE)
 
 
@@ -230,3 +231,58 @@ def adapted_messages_are_checked(bench):
         same("request", ask(proxy.port, post("/echo", b"abc")).body, b"abc!")
         same("path", origin.heads[-1].split(b" ")[1], b"/echo" + extra)
         same("audit", proxy.stop(), IDLE)
+
+
+def others_are_served(proxy, what):
+    """A hundred further requests, one after the other, are answered while some go on that the service is done with."""
+    begin = time.time()
+    found = [ask(proxy.port, get("/bytes/1000")).status for _ in range(100)]
+    print("      %s: %d of 100 further requests answered 200 in %.1f s" % (what, found.count(200), time.time() - begin))
+    same("further requests", found, [200] * 100)
+    same("those before them", proxy.say("book").split()[:2], ["rows", "4"])
+
+
+@case
+def a_service_is_free_while_users_read_slowly(bench):
+    origin = bench.origin()
+    proxy = bench.proxy(origin, "shards = 2", [("respmod", bench.icapd("max = 4"), "/respmod/pass")])
+    ends = threading.Event()
+
+    def slowly(user):
+        while not ends.wait(1):
+            user.reader.exactly(1024)
+    users = [User(proxy.port, narrow=True) for _ in range(4)]
+    for user in users:
+        user.send(get("/bytes/20000000"))
+        user.reader.head()
+        threading.Thread(target=slowly, args=(user,), daemon=True).start()
+    others_are_served(proxy, "four users at 1 KB/s")
+    ends.set()
+    for user in users:
+        user.reset()
+    same("book", settled(proxy)[:24], "rows 0 held 0 claimed 0 ")
+    same("audit", proxy.stop(), IDLE)
+
+
+@case
+def a_service_is_free_while_an_origin_cant_be_reached(bench):
+    deaf = bench.keep(socket.socket())
+    deaf.bind(("127.0.0.1", 0))
+    deaf.listen(0)
+    for _ in range(3):
+        full = bench.keep(socket.socket())
+        full.setblocking(False)
+        full.connect_ex(deaf.getsockname())
+    services = [("reqmod", bench.icapd("max = 4"), "/reqmod/pass")]
+    proxy = bench.proxy(bench.origin(), "shards = 2", services, '"deaf.test" = "127.0.0.1:%d"' % deaf.getsockname()[1])
+    users = [User(proxy.port) for _ in range(4)]
+    for number, user in enumerate(users):
+        user.send(get("/bytes/3").replace(b"o.test", b"deaf.test"))
+        while proxy.say("book").split()[1] != str(number + 1):
+            time.sleep(0.01)
+    time.sleep(0.2)
+    others_are_served(proxy, "an origin that four requests can't reach")
+    for user in users:
+        user.reset()
+    same("book", settled(proxy)[:24], "rows 0 held 0 claimed 0 ")
+    same("audit", proxy.stop(), IDLE)

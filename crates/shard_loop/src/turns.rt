@@ -1,10 +1,10 @@
 //! The turns of a transaction.
 
 use crate::desk::Desk;
-use crate::phase::{Moving, Phase, Step};
+use crate::phase::{Line, Moving, Phase, Step};
 use crate::pools::Leased;
 use crate::seats::At;
-use adapt_turn::{Side as Turning, Turned};
+use adapt_turn::{FreeLine, Side as Turning, Turned};
 use proxy_rules::Reason;
 use socket_wire::{Dial, SocketWire};
 use span_bank::{Bank, Ledgers};
@@ -62,6 +62,7 @@ impl<'a, B: Ledgers, Q: Ledger, A: Ledger, G: Gate> Desk<'a, B, Q, A, G> {
             Round::Broken => self.again(rt, at, tx, lease),
             Round::Waiting | Round::Finished => {}
         }
+        self.free(rt, at, tx, lease);
         if tx.outcome().is_none() {
             self.seats.note_answer(at.key);
         }
@@ -102,6 +103,24 @@ impl<'a, B: Ledgers, Q: Ledger, A: Ledger, G: Gate> Desk<'a, B, Q, A, G> {
         match fresh {
             Ok(wire) => drop(tx.retry(rt, bank, wire)),
             Err(_) => tx.no_retry(rt, bank),
+        }
+    }
+
+    /// Gives the service's connection back as soon as the service has said all: others may have it while the message goes on.
+    fn free<R: Wait>(
+        &mut self,
+        rt: &R,
+        at: At<'_>,
+        tx: &mut Moving<B>,
+        lease: &mut Option<Leased<Q, A>>,
+    ) {
+        let Some(FreeLine { wire, is_reusable }) = tx.free_line() else {
+            return;
+        };
+        match lease.take() {
+            Some(lease) if is_reusable => self.put_line(rt, at, wire, lease),
+            Some(lease) => self.drop_line(rt, Line { wire, lease }),
+            None => drop(wire),
         }
     }
 
