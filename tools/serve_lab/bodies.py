@@ -2,7 +2,7 @@
 import random
 import time
 
-from serve_lab.cases import IDLE, SIZES, at_once, case, get, post, post_chunked, same
+from serve_lab.cases import IDLE, SIZES, at_once, case, get, post, post_chunked, same, settled
 from serve_lab.loopback import User, ask, body_of, fields_of
 
 
@@ -101,7 +101,7 @@ def sixty_four_users_on_a_small_bank(bench):
     at_once(64, one)
     same("wrong answers", wrong, [])
     same("some are served", found.get(200, 0) > 0, True)
-    same("book", proxy.say("book"), "rows 0 held 0 claimed 0 capacity 20000")
+    same("book", settled(proxy), "rows 0 held 0 claimed 0 capacity 20000")
     same("audit", proxy.stop(), IDLE)
 
 

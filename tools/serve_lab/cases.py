@@ -1,6 +1,7 @@
 """What the cases of tools/try_serve share: their list, the programs, requests, and what a refusal is."""
 import os
 import threading
+import time
 
 from serve_lab.loopback import TOP, Icap, Origin, Program, Proxy, User, free_port
 
@@ -97,6 +98,16 @@ def at_once(count, one):
     for user in users:
         user.join()
     same("users that failed", wrong, [])
+
+
+def settled(proxy, patience=5.0):
+    """What `book` says once no transaction is open: a thread may be on its way from the last byte to the end."""
+    end = time.time() + patience
+    while True:
+        book = proxy.say("book")
+        if book.startswith("rows 0 held 0 claimed 0 ") or time.time() > end:
+            return book
+        time.sleep(0.02)
 
 
 IDLE = "audit rows 0 held 0 leased 0"

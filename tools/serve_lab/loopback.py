@@ -114,14 +114,18 @@ class Answer:
 
 
 class User:
-    """A connection to the proxy; a narrow one takes a few kilobytes before they are read."""
+    """A connection to the proxy, from an address of the loopback where one is named; a narrow one takes a few kilobytes
+    before they are read."""
 
-    def __init__(self, port, narrow=False):
+    def __init__(self, port, narrow=False, source=None):
         self.sock = socket.socket()
         self.sock.settimeout(PATIENCE)
         if narrow:
             self.sock.setsockopt(socket.IPPROTO_TCP, socket.TCP_MAXSEG, 536)
             self.sock.setsockopt(socket.SOL_SOCKET, socket.SO_RCVBUF, 4096)
+        if source:
+            self.sock.setsockopt(socket.IPPROTO_IP, 24, 1)  # IP_BIND_ADDRESS_NO_PORT
+            self.sock.bind((source, 0))
         self.sock.connect(("127.0.0.1", port))
         self.sock.setsockopt(socket.IPPROTO_TCP, socket.TCP_NODELAY, 1)
         self.reader = Reader(self.sock)
@@ -342,10 +346,10 @@ class Icap(Server):
 
 
 class Program:
-    """A program that serves until it is ended, its configuration on standard input."""
+    """A program that serves until it is ended, its configuration on standard input; `before` is the command that runs it."""
 
-    def __init__(self, path, text, descriptors=None):
-        limit = [] if descriptors is None else ["prlimit", "--nofile=%d" % descriptors]
+    def __init__(self, path, text, descriptors=None, before=()):
+        limit = list(before) + ([] if descriptors is None else ["prlimit", "--nofile=%d" % descriptors])
         self.process = subprocess.Popen(limit + [path, "serve"], stdin=subprocess.PIPE, stdout=subprocess.PIPE,
                                         stderr=subprocess.PIPE)
         self.process.stdin.write(text.encode())

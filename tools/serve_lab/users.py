@@ -3,7 +3,7 @@ import socket
 import threading
 import time
 
-from serve_lab.cases import ADAPTPROXY, IDLE, at_once, case, get, is_refused, post, refusal, same
+from serve_lab.cases import ADAPTPROXY, IDLE, at_once, case, get, is_refused, post, refusal, same, settled
 from serve_lab.loopback import Program, Reader, Server, User, ask, body_of, fields_of, free_port
 
 
@@ -185,8 +185,7 @@ def users_that_misbehave(bench):
     early.send(get("/early", "Content-Length: 3000000\r\n", "POST"))
     same("audit line comes", ask(proxy.port, get("/bytes/3")).body, b"THE")
     early.close()
-    time.sleep(0.5)
-    same("book", proxy.say("book").split(" claimed")[0], "rows 0 held 0")
+    same("book", settled(proxy).split(" claimed")[0], "rows 0 held 0")
     same("audit", proxy.stop(), IDLE)
 
 

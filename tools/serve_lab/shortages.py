@@ -1,0 +1,409 @@
+"""What any user, any origin and any shortage can do to the proxy: seats, resets, descriptors, threads, ends."""
+import os
+import re
+import shutil
+import socket
+import subprocess
+import sys
+import threading
+import time
+
+from serve_lab.cases import ADAPTPROXY, IDLE, at_once, case, get, is_refused, post, refusal, same, settled
+from serve_lab.loopback import PATIENCE, TOP, Icap, Program, Reader, Server, User, ask, body_of, free_port
+
+
+def never(_conn, reader, head, _count):
+    """A service that hears its request and doesn't answer."""
+    Icap.rest(reader, head)
+    time.sleep(30)
+
+
+def comes(what, true, patience=5.0):
+    """It becomes true in time."""
+    end = time.time() + patience
+    while not true():
+        if time.time() > end:
+            raise AssertionError("%s doesn't come" % what)
+        time.sleep(0.01)
+
+
+def is_open(user):
+    """Whether the proxy hasn't ended this connection, on which nothing is to come."""
+    user.sock.settimeout(0.2)
+    try:
+        return user.sock.recv(1) != b""
+    except socket.timeout:
+        return True
+    except OSError:
+        return False
+    finally:
+        user.sock.settimeout(20)
+
+
+@case
+def seats_are_taken_from_idle_users_first(bench):
+    origin = bench.origin()
+    proxy = bench.proxy(origin, "shards = 1\nrows = 4\ndeadline = 600")
+    idle = [User(proxy.port) for _ in range(4)]
+    for user in idle:
+        same("kept", user.ask(get("/bytes/3")).body, b"the")
+    again = idle[0].ask(get("/bytes/4"))
+    same("used again", again.body, b"the ")
+    fifth = User(proxy.port)
+    same("the fifth", fifth.ask(get("/bytes/5")).body, body_of(5))
+    same("closed is the one that waited longest", [is_open(user) for user in idle], [True, False, True, True])
+    for user in idle + [fifth]:
+        user.close()
+
+
+@case
+def seats_are_taken_from_unfinished_heads_next(bench):
+    origin = bench.origin()
+    proxy = bench.proxy(origin, "shards = 1\nrows = 4\ndeadline = 600")
+    slow = []
+    for number in range(4):
+        user = User(proxy.port)
+        user.send(get("/bytes/3")[:10 + number])
+        slow.append(user)
+        time.sleep(0.05)
+    for number in range(3):
+        same("served", ask(proxy.port, get("/bytes/5")).body, body_of(5))
+    comes("a free seat", lambda: not is_open(slow[0]))
+    same("cut is the oldest alone", [is_open(user) for user in slow], [False, True, True, True])
+    slow[3].send(get("/bytes/3")[13:])
+    same("a head goes on", slow[3].answer().body, b"the")
+    busy = [User(proxy.port) for _ in range(4)]
+    for user in busy:
+        user.send(get("/mute"))
+    comes("four exchanges", lambda: sum(b"/mute" in head for head in origin.heads) == 4)
+    is_refused("no seat", proxy.port, get("/bytes/3"), 503)
+    origin.release.set()
+    for user in busy:
+        user.reader.to_end()
+    same("audit", proxy.stop(), IDLE)
+
+
+@case
+def a_user_that_resets_ends_its_exchange(bench):
+    origin = bench.origin()
+    service = bench.icap(never)
+    for services, request in (([], get("/mute")), ([("respmod", service.port, "/respmod/x")], get("/bytes/3000")),
+                              ([("reqmod", service.port, "/reqmod/x")], post("/echo", body_of(3000))),
+                              ([], post("/echo", body_of(3000))[:2000])):
+        proxy = bench.proxy(origin, "deadline = 600", services)
+        heads = len(origin.heads) + len(service.requests)
+        user = User(proxy.port)
+        user.send(request)
+        if b"Content-Length: 3000\r\n" in request and not services:
+            time.sleep(0.3)
+        else:
+            comes("the exchange", lambda: len(origin.heads) + len(service.requests) > heads)
+        before = time.time()
+        user.reset()
+        comes("its end", lambda: settled(proxy, 0).startswith("rows 0 ") and proxy.descriptors() <= 12, 3)
+        print("      ended %.0f ms after the reset" % (1000 * (time.time() - before)))
+        same("audit", proxy.stop(), IDLE)
+    proxy = bench.proxy(origin, "deadline = 600", [("respmod", service.port, "/respmod/x")])
+    half = User(proxy.port)
+    heads = len(service.requests)
+    half.send(get("/bytes/3000"))
+    comes("the exchange", lambda: len(service.requests) > heads)
+    half.sock.shutdown(socket.SHUT_WR)
+    time.sleep(0.5)
+    same("half-closed", proxy.say("book").split(" claimed")[0], "rows 1 held 3000")
+
+
+@case
+def threads_that_the_system_refuses_end_the_proxy(bench):
+    setpriv = shutil.which("setpriv")
+    if os.geteuid() != 0 or setpriv is None:
+        print("      needs root and setpriv: left out")
+        return
+    text = 'listen = "127.0.0.1:%d"\nadmin = "127.0.0.1:%d"\nshards = 4\n' % (free_port(), free_port())
+    limited = bench.keep(Program(ADAPTPROXY, text, before=[setpriv, "--reuid=64001", "--regid=64001", "--clear-groups",
+                                                           "prlimit", "--nproc=2"]))
+    before = time.time()
+    out, errors, status = limited.ended(15)
+    print("      ended after %.1f s" % (time.time() - before))
+    same("ended", (limited.first, out, errors, status),
+         (b"listening\n", IDLE.encode() + b"\n", b"adaptproxy: cannot listen\n", 1))
+
+
+@case
+def threads_have_names(bench):
+    proxy = bench.proxy(bench.origin(), "shards = 12")
+    same("served", ask(proxy.port, get("/bytes/3")).body, b"the")
+    task = "/proc/%d/task" % proxy.process.pid
+    own = open("/proc/%d/comm" % proxy.process.pid).read().strip()
+    names = sorted(open("%s/%s/comm" % (task, thread)).read().strip() for thread in os.listdir(task))
+    same("names", names, sorted(["shard-%d" % number for number in range(12)] + [own]))
+    same("the program's", own.startswith("shard"), False)
+    same("audit", proxy.stop(), IDLE)
+
+
+@case
+def bulk_doesnt_hold_up_others(bench):
+    """Between two waits of its thread an exchange moves at most 8 rounds of turns: so many reads of its origin's answer."""
+    if shutil.which("strace") is None:
+        print("      needs strace: left out")
+        return
+    asked, told = threading.Event(), threading.Event()
+
+    def exchange(conn, _number):
+        Reader(conn).head()
+        asked.set()
+        told.wait(PATIENCE)
+        conn.sendall(b"HTTP/1.1 200 OK\r\nContent-Length: 3000000\r\n\r\n" + body_of(3_000_000))
+    proxy = bench.proxy(bench.keep(Server(exchange)), "shards = 1\nwindow = 65536")
+    user = User(proxy.port)
+    user.sock.settimeout(90)
+    user.send(get("/bytes/3000000"))
+    same("asked", asked.wait(PATIENCE), True)
+    trace = subprocess.Popen(["strace", "-f", "-qq", "-e", "trace=read,recvfrom,epoll_wait,epoll_pwait", "-o", "|cat", "-p",
+                              str(proxy.process.pid)], stdout=subprocess.PIPE, stderr=subprocess.DEVNULL)
+    time.sleep(1)
+    told.set()
+    same("the answer", user.answer().body == body_of(3_000_000), True)
+    time.sleep(0.3)
+    trace.terminate()
+    most = reads = 0
+    for line in trace.stdout.read().decode("latin-1").split("\n"):
+        if "epoll_" in line:
+            reads = 0
+        elif re.search(r"(read|recvfrom)\(.* = [1-9]\d\d+$", line):
+            reads += 1
+            most = max(most, reads)
+    print("      at most %d reads of an answer between two waits" % most)
+    same("reads", (most > 0, most <= 8), (True, True))
+    same("audit", proxy.stop(), IDLE)
+
+
+@case
+def answers_that_are_cut_are_seen_to_be(bench):
+    def exchange(conn, _number):
+        head = Reader(conn).head()
+        conn.sendall(b"HTTP/1.1 200 OK\r\nTransfer-Encoding: chunked\r\n\r\n5\r\nabcde\r\n")
+        if not services:
+            seen.wait(PATIENCE)
+        if b"/whole" in head or services:
+            conn.sendall(b"0\r\n\r\n")
+        elif b"/mid" in head:
+            conn.sendall(b"9\r\nabc")
+
+    def cut_by_the_service(conn, reader, head, _count):
+        Icap.rest(reader, head)
+        conn.sendall(b"ICAP/1.0 200 OK\r\nISTag: \"t-1\"\r\nEncapsulated: res-hdr=0, res-body=19\r\n\r\n"
+                     b"HTTP/1.1 200 OK\r\n\r\n5\r\nabcde\r\n")
+        seen.wait(PATIENCE)
+        return False
+
+    def read(user):
+        text = b""
+        try:
+            while True:
+                piece = user.sock.recv(65536)
+                if not piece:
+                    return text, "end"
+                text += piece
+                if b"abcde" in text:
+                    seen.set()
+        except ConnectionResetError:
+            return text, "reset"
+    seen = threading.Event()
+    origin = bench.keep(Server(exchange))
+    service = bench.icap(cut_by_the_service)
+    for services in ([], [("respmod", service.port, "/respmod/x")], [("reqmod", service.port, "/reqmod/x")]):
+        proxy = bench.proxy(origin, "", services)
+        for path in ("/whole", "/between", "/mid"):
+            seen.clear()
+            user = User(proxy.port)
+            user.send(get(path, version="1.0"))
+            text, end = read(user)
+            cut = bool(services) or path != "/whole"
+            same("%s through %d" % (path, len(services)), (b"abcde" in text, end), (True, "reset" if cut else "end"))
+        seen.clear()
+        user = User(proxy.port)
+        user.send(get("/between"))
+        text, end = read(user)
+        same("chunked", (b"abcde" in text, text.endswith(b"0\r\n\r\n"), end), (True, False, "end"))
+        same("audit", proxy.stop(), IDLE)
+
+
+@case
+def descriptors_are_shared_by_those_who_are_let_in(bench):
+    origin = bench.origin()
+    proxy = bench.proxy(origin, "deadline = 20", descriptors=40)
+    statuses = []
+
+    def one(_number):
+        statuses.append(ask(proxy.port, get("/bytes/3")).status)
+    at_once(150, one)
+    same("each is served", (len(statuses), set(statuses)), (150, {200}))
+    idle = [User(proxy.port) for _ in range(30)]
+    for user in idle:
+        user.send(b"GET")
+    same("beside unfinished heads", ask(proxy.port, get("/bytes/3")).body, b"the")
+    for user in idle:
+        user.close()
+    same("audit", proxy.stop(), IDLE)
+
+
+@case
+def deadlines_come_never_early(bench):
+    def exchange(conn, _number):
+        head = Reader(conn).head()
+        time.sleep(int(head.split(b" ")[1].strip(b"/")) / 1000)
+        conn.sendall(b"HTTP/1.1 200 OK\r\nContent-Length: 3\r\n\r\nabc")
+    origin = bench.keep(Server(exchange))
+    proxy = bench.proxy(origin, "deadline = 1\nshards = 1")
+    late = []
+
+    def one(number):
+        time.sleep(number * 0.07)
+        for pause in (300, 900):
+            same("within %d ms" % pause, ask(proxy.port, get("/%d" % pause)).status, 200)
+        before = time.time()
+        is_refused("too late", proxy.port, get("/5000"), 504)
+        late.append(time.time() - before)
+        before = time.time()
+        user = User(proxy.port)
+        user.send(b"GET http://o.test/")
+        same("a head", user.reader.to_end(), b"")
+        late.append(time.time() - before)
+    at_once(15, one)
+    print("      deadlines of 1 s came after %.2f to %.2f s" % (min(late), max(late)))
+    same("never early, and a second late at most", (min(late) >= 1, max(late) < 2.3), (True, True))
+    same("audit", proxy.stop(), IDLE)
+
+
+@case
+def unknown_hosts_are_refused_before_a_service_is_asked(bench):
+    origin = bench.origin()
+    service = bench.icap(options=[b"Preview: 4"])
+    proxy = bench.proxy(origin, "", [("reqmod", service.port, "/reqmod/x")])
+    is_refused("unknown", proxy.port, b"GET http://no.test/ HTTP/1.1\r\nHost: no.test\r\n\r\n", 502)
+    same("asked", (service.asked, service.count), (0, 0))
+    same("audit", proxy.stop(), IDLE)
+
+
+@case
+def a_stop_reaches_users_that_are_sending(bench):
+    origin = bench.origin()
+    service = bench.icap(never)
+    proxy = bench.proxy(origin, "", [("reqmod", service.port, "/reqmod/x")])
+    users = [User(proxy.port) for _ in range(8)]
+    found = []
+
+    def one(user):
+        user.send(post("/echo", body_of(3_000_000))[:200_000])
+        time.sleep(1)
+        try:
+            for _ in range(30):
+                user.send(b"x" * 10000)
+                time.sleep(0.01)
+        except OSError:
+            pass
+        found.append(user.reader.to_end())
+    threads = [threading.Thread(target=one, args=(user,)) for user in users]
+    for thread in threads:
+        thread.start()
+    time.sleep(1.05)
+    same("audit", proxy.stop(), IDLE)
+    for thread in threads:
+        thread.join()
+    same("refused", found, [refusal(503)] * 8)
+
+
+@case
+def many_accepts_in_a_row_are_no_pause(bench):
+    origin = bench.origin()
+    proxy = bench.proxy(origin, "shards = 1\nrows = 4096")
+    os.kill(proxy.process.pid, 19)
+    users = [User(proxy.port) for _ in range(600)]
+    users[-1].send(get("/bytes/3"))
+    before = time.time()
+    os.kill(proxy.process.pid, 18)
+    same("the last", users[-1].answer().body, b"the")
+    print("      the 600th of 600 is answered after %.0f ms" % (1000 * (time.time() - before)))
+    for user in users:
+        user.close()
+    same("audit", proxy.stop(), IDLE)
+
+
+@case
+def a_page_cant_speak_to_the_administrator(bench):
+    origin = bench.origin()
+    proxy = bench.proxy(origin)
+    for text in (b"POST / HTTP/1.1\r\nHost: x\r\nContent-Length: 5\r\n\r\nstop\n", b"Host: x\nstop\n", b"hOST:\nstop\n",
+                 b"GET /\nstop\n", b"PROPFIND x\nstop\n", b"book\nPUT / HTTP/1.0\nstop\n"):
+        with socket.create_connection(("127.0.0.1", proxy.admin), PATIENCE) as sock:
+            sock.sendall(text)
+            answer = Reader(sock).to_end()
+            same(text, answer.split(b"\n")[-2:], [b"bad", b""])
+    same("no line of HTTP", proxy.say("stop it", "Stop", "capacity", "book now"), ["bad"] * 4)
+    same("it goes on", ask(proxy.port, get("/bytes/3")).body, b"the")
+    same("audit", proxy.stop(), IDLE)
+
+
+@case
+def want_of_ports_is_want_of_room(bench):
+    if os.environ.get("SCENE") != "ports":
+        if os.geteuid() != 0 or shutil.which("unshare") is None:
+            print("      needs root and unshare: left out")
+            return
+        scene = ("ip link set lo up && sysctl -qw net.ipv4.ip_local_port_range='40000 40029' && SCENE=ports exec %s %s %s"
+                 % (sys.executable, os.path.join(TOP, "tools", "try_serve"), "want_of_ports_is_want_of_room"))
+        run = subprocess.run(["unshare", "-n", "sh", "-c", scene], stdout=subprocess.PIPE, check=False)
+        same("the scene", (run.stdout.decode()[:300], run.returncode)[1:], (0,))
+        return
+    origin = bench.origin()
+    proxy = bench.proxy(origin)
+    users = []
+    for number in range(60):
+        user = User(proxy.port, source="127.0.1.%d" % (number + 1))
+        user.send(get("/mute"))
+        users.append(user)
+    comes("an origin without a port", lambda: len(origin.heads) >= 20)
+    found = []
+    for user in users:
+        user.sock.settimeout(0.3)
+        try:
+            found.append(user.sock.recv(12))
+        except socket.timeout:
+            pass
+    same("refused", (len(found) > 10, set(found)), (True, {b"HTTP/1.1 503"}))
+    origin.release.set()
+    for user in users:
+        user.close()
+    same("audit", proxy.stop()[:11], "audit rows ")
+
+
+@case
+def connections_that_a_service_has_closed_are_not_used(bench):
+    origin = bench.origin()
+    opened = []
+
+    def reply(conn, reader, head, count):
+        opened.append(conn)
+        return Icap.no_modification(service, conn, reader, head, count)
+    service = bench.icap(reply, [b"Max-Connections: 8", b"Options-TTL: 3600"])
+    proxy = bench.proxy(origin, "shards = 2", [("respmod", service.port, "/respmod/x")])
+    for turn in range(3):
+        def one(_number):
+            user = User(proxy.port)
+            for path in ("/chunked/20000", "/bytes/300000"):
+                found.append(user.ask(get(path)).status)
+            user.close()
+        found = []
+        at_once(6, one)
+        same("all are served, %d" % turn, found, [200] * 12)
+        comes("idle connections", lambda: settled(proxy, 0).startswith("rows 0 "))
+        for conn in set(opened):
+            try:
+                conn.shutdown(socket.SHUT_RDWR)
+            except OSError:
+                pass
+        del opened[:]
+        time.sleep(0.2)
+    same("at most", service.most <= 8, True)
+    same("audit", proxy.stop(), IDLE)
