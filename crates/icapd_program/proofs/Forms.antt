@@ -1,21 +1,12 @@
--- Arguments, and what stands at a key.
-use Rattle.std.proofs.Common.{◌≡◌, ℕ, List, [], ◌∷◌, length, get_or, map, codes, bytes_eq, true, Option, Some, None, option_map, is_some, refl, sym, ap, ◌∙◌, subst, arith}
+-- What stands at a key.
+use Rattle.std.proofs.Common.{◌≡◌, ℕ, List, codes, Option, Some, None, option_map, is_some, refl, sym, ap, ◌∙◌, subst}
 use Rattle.std.proofs.lemmas.Option.{same_Some}
-use Rattle.std.proofs.lemmas.Slice.Eq.{bytes_eq-Decides}
 use Rattle.std.proofs.NetLemmas.Theorems.{IsSocketV4Text_unique}
 use Rattle.std.specs.Net.Grammar.{IsSocketV4Text}
 use Rattle.std.specs.Net.Socket.{v4_port}
 use Rattle.std.specs.declared.net.socket_addr.SocketAddrV4.{SocketAddrV4}
 use Rattle.toml.specs.Data.{Members}
 use Rattle.icapd_program.specs.Config.{text_at, ListenIs}
-
-pub text_is : (text word : List ℕ) → bytes_eq text word ≡ true → text ≡ word
-text_is text word e = (bytes_eq-Decides text word).0 e
-
-pub one_word : {X : Type 0} (f : X → List ℕ) (xs : List X) (a : X) → length xs ≡ 1 → a ≡ get_or xs 0 a → map f xs ≡ f a ∷ []
-one_word f [] a e h = absurd (omega arith)
-one_word f (x ∷ []) a e h = ap (λ y. f y ∷ []) (sym h)
-one_word f (x ∷ y ∷ ys) a e h = absurd (omega arith)
 
 pub some_kept : {A B : Type 0} (f : A → B) (r : Option A) → is_some r ≡ is_some (option_map f r)
 some_kept f None = refl

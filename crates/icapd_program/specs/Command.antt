@@ -1,9 +1,16 @@
 -- The command line.
 use Rattle.std.specs.Prelude.{◌≡◌, ℕ, List, [], ◌∷◌, codes}
 use Rattle.icapd_program.specs.declared.command.Command.{Command}
-use Rattle.icapd_program.specs.declared.command.Command.TheVariants.{Once, Serve}
+use Rattle.icapd_program.specs.declared.command.Command.TheVariants.{Once, Serve, Check, Help, Version}
 
--- the words say this command
+-- the word of a command
+abbrev pub word_of : Command → List ℕ
+word_of Once = codes "once"
+word_of Serve = codes "serve"
+word_of Check = codes "check"
+word_of Help = codes "--help"
+word_of Version = codes "--version"
+
+-- the arguments are the command's word alone
 abbrev pub IsCommand : List (List ℕ) → Command → Type 0
-IsCommand words Once = words ≡ codes "once" ∷ []
-IsCommand words Serve = words ≡ codes "serve" ∷ []
+IsCommand words command = words ≡ word_of command ∷ []

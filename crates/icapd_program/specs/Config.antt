@@ -9,11 +9,11 @@ use Rattle.icap_services.specs.declared.settings.TheConstants.{MAX_TTL}
 use Rattle.icap_services.specs.Ranges.{IsTag}
 use Rattle.icap_services.specs.Texts.{Shown}
 use Rattle.adapt_bytes.specs.declared.limits.TheConstants.{MAX_CONNECTIONS, MAX_INPUT, MAX_PREVIEW}
-use Rattle.icapd_program.specs.declared.config.TheConstants.{DEFAULT_MAX, DEFAULT_PREVIEW, DEFAULT_TTL}
+use Rattle.icapd_program.specs.declared.config.TheConstants.{DEFAULT_DEADLINE, DEFAULT_MAX, DEFAULT_PREVIEW, DEFAULT_TTL, MAX_DEADLINE}
 use Rattle.icapd_program.specs.declared.error.Error.{Error}
 use Rattle.icapd_program.specs.declared.error.Error.TheVariants.{InputTooLong, Config as NoTable, NoMemory, Key as OfKey}
 use Rattle.icapd_program.specs.declared.error.Key.{Key}
-use Rattle.icapd_program.specs.declared.error.Key.TheVariants.{Listen, Istag, Max, Ttl, Preview, Unknown}
+use Rattle.icapd_program.specs.declared.error.Key.TheVariants.{Listen, Istag, Max, Ttl, Preview, Deadline, Unknown}
 
 -- whether the key is there, and the string and the integer that it holds
 abbrev pub is_at : List ℕ → Members → Bool
@@ -55,17 +55,22 @@ TtlIs table n = NumberIs (codes "ttl") 0 MAX_TTL DEFAULT_TTL table n
 abbrev pub PreviewIs : Members → ℕ → Type 0
 PreviewIs table n = NumberIs (codes "preview") 0 MAX_PREVIEW DEFAULT_PREVIEW table n
 
+abbrev pub DeadlineIs : Members → ℕ → Type 0
+DeadlineIs table n = NumberIs (codes "deadline") 1 MAX_DEADLINE DEFAULT_DEADLINE table n
+
 -- a key that a configuration may have
 abbrev pub IsKnown : List ℕ → Type 0
 IsKnown key = (key ≡ codes "listen") ⊎ (key ≡ codes "istag") ⊎ (key ≡ codes "max") ⊎ (key ≡ codes "ttl") ⊎ (key ≡ codes "preview")
+    ⊎ (key ≡ codes "deadline")
 
--- the five keys hold these values
-pub record HasValues (table : Members) (address : SocketAddrV4) (s : Shown) : Type 0 where
+-- the six keys hold these values
+pub record HasValues (table : Members) (address : SocketAddrV4) (s : Shown) (seconds : ℕ) : Type 0 where
   pub listen : ListenIs table address
   pub istag : TagIs table s.istag
   pub max : MaxIs table s.max
   pub ttl : TtlIs table s.ttl
   pub preview : PreviewIs table s.preview
+  pub deadline : DeadlineIs table seconds
 
 -- each key up to this one holds what it may
 abbrev pub HasListen : Members → Type 0
@@ -83,6 +88,9 @@ HasTtl table = HasMax table × ((n : ℕ) × TtlIs table n)
 abbrev pub HasPreview : Members → Type 0
 HasPreview table = HasTtl table × ((n : ℕ) × PreviewIs table n)
 
+abbrev pub HasDeadline : Members → Type 0
+HasDeadline table = HasPreview table × ((n : ℕ) × DeadlineIs table n)
+
 -- the first key that holds something else, or an unknown key behind all of them
 abbrev pub IsBad : Key → Members → Type 0
 IsBad Listen table = (address : SocketAddrV4) → ListenIs table address → ⊥
@@ -90,7 +98,8 @@ IsBad Istag table = HasListen table × ((tag : List ℕ) → TagIs table tag →
 IsBad Max table = HasTag table × ((n : ℕ) → MaxIs table n → ⊥)
 IsBad Ttl table = HasMax table × ((n : ℕ) → TtlIs table n → ⊥)
 IsBad Preview table = HasTtl table × ((n : ℕ) → PreviewIs table n → ⊥)
-IsBad (Unknown key) table = HasPreview table × (IsKnown (string_bytes key) → ⊥)
+IsBad Deadline table = HasPreview table × ((n : ℕ) → DeadlineIs table n → ⊥)
+IsBad (Unknown key) table = HasDeadline table × (IsKnown (string_bytes key) → ⊥)
 
 -- why a table is refused
 abbrev pub IsTableBad : Members → Error → Type 0
@@ -99,11 +108,11 @@ IsTableBad table NoMemory = Unit {0}
 IsTableBad table other = ⊥
 
 -- the text is a table with these values
-pub record IsConfig (input : List ℕ) (address : SocketAddrV4) (s : Shown) : Type 0 where
+pub record IsConfig (input : List ℕ) (address : SocketAddrV4) (s : Shown) (seconds : ℕ) : Type 0 where
   pub short : length input ≤ MAX_INPUT
   pub table : Members
   pub is_table : parse_document input ≡ Some table
-  pub values : HasValues table address s
+  pub values : HasValues table address s seconds
 
 -- why a text is refused, the first that stands
 abbrev pub IsRefused : List ℕ → Error → Type 0

@@ -3,7 +3,7 @@ use Rattle.std.specs.Prelude.{ℕ, ◌++◌, List, [], codes, string_bytes}
 use Rattle.icapd_program.specs.declared.error.Error.{Error}
 use Rattle.icapd_program.specs.declared.error.Error.TheVariants.{Usage, ReadFailed, WriteFailed, InputTooLong, Config, CannotListen, NoMemory, Key as OfKey}
 use Rattle.icapd_program.specs.declared.error.Key.{Key}
-use Rattle.icapd_program.specs.declared.error.Key.TheVariants.{Listen, Istag, Max, Ttl, Preview, Unknown}
+use Rattle.icapd_program.specs.declared.error.Key.TheVariants.{Listen, Istag, Max, Ttl, Preview, Deadline, Unknown}
 
 -- a key of the configuration
 abbrev pub key_text : Key → List ℕ
@@ -12,6 +12,7 @@ key_text Istag = codes "istag"
 key_text Max = codes "max"
 key_text Ttl = codes "ttl"
 key_text Preview = codes "preview"
+key_text Deadline = codes "deadline"
 key_text (Unknown key) = string_bytes key
 
 -- the reason, without the key

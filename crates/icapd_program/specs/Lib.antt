@@ -2,3 +2,4 @@ pub mod Command
 pub mod Config
 pub mod Errors
 pub mod Once
+pub mod Seats

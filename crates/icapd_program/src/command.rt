@@ -1,7 +1,7 @@
 //! The command that the arguments name.
 ghost use Rattle.std.specs.Prelude.{◌≡◌, map, string_bytes, IfSome, IfNone};
 ghost use Rattle.icapd_program.specs.declared.command.Command.{Command as AnyCommand};
-ghost use Rattle.icapd_program.specs.Command.{IsCommand};
+ghost use Rattle.icapd_program.specs.Command.{word_of, IsCommand};
 
 /// What the program is asked to do.
 #[derive(Clone, Copy, Debug, PartialEq, Eq)]
@@ -10,6 +10,12 @@ pub enum Command {
     Once,
     /// `serve`: serves connections over sockets.
     Serve,
+    /// `check`: reads a configuration as `serve` does, and says whether it is one.
+    Check,
+    /// `--help`: says the commands.
+    Help,
+    /// `--version`: says the version, and the kit.
+    Version,
 }
 
 /// The command that the arguments behind the program's name say. `None` where they say none: an unknown word, or an
@@ -19,15 +25,27 @@ pub fn read_command(args: &[String]) -> Option<Command>
     ensures none { IfNone result ((command : AnyCommand) → IsCommand (map string_bytes args.now) command → ⊥) }
 {
     match args {
-        [word] => {
-            if word.as_str() == "once" {
-                Some(Command::Once)
-            } else if word.as_str() == "serve" {
-                Some(Command::Serve)
-            } else {
-                None
-            }
-        }
+        [word] => command_of(word.as_str()),
         _ => None,
+    }
+}
+
+/// The command of a word.
+fn command_of(word: &str) -> Option<Command>
+    ensures found { IfSome result (λ command. word.now ≡ word_of command) }
+    ensures none { IfNone result ((command : AnyCommand) → word.now ≡ word_of command → ⊥) }
+{
+    if word == "once" {
+        Some(Command::Once)
+    } else if word == "serve" {
+        Some(Command::Serve)
+    } else if word == "check" {
+        Some(Command::Check)
+    } else if word == "--help" {
+        Some(Command::Help)
+    } else if word == "--version" {
+        Some(Command::Version)
+    } else {
+        None
     }
 }

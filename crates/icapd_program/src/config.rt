@@ -24,20 +24,28 @@ pub(crate) const DEFAULT_TTL: u64 = 3600;
 /// How many bytes of a body a preview may have, where nothing else is said.
 pub(crate) const DEFAULT_PREVIEW: u64 = 1024;
 
-/// Where `icapd serve` listens, and what its answers say of it.
+/// After how many seconds a connection that says nothing is closed, where nothing else is said.
+pub(crate) const DEFAULT_DEADLINE: u64 = 60;
+
+/// The most seconds.
+pub(crate) const MAX_DEADLINE: u64 = 3600;
+
+/// Where `icapd serve` listens, what its answers say of it, and after how many seconds it closes a connection that says
+/// nothing.
 #[derive(Debug, Drop)]
 pub struct Config {
     pub listen: SocketAddrV4,
     pub settings: Settings,
+    pub deadline: u64,
 }
 
-/// Reads a configuration. The keys are judged in the order `listen`, `istag`, `max`, `ttl`, `preview`, and then unknown
-/// ones in byte order.
+/// Reads a configuration. The keys are judged in the order `listen`, `istag`, `max`, `ttl`, `preview`,
+/// `deadline`, and then unknown ones in byte order.
 ///
 /// `InputTooLong` for more than [`MAX_INPUT`] bytes; `Config` for a text that is no UTF-8 or no TOML; `Key` with the first
 /// key that is missing and has no default, out of its range, or unknown; `NoMemory` where memory ran out.
 pub fn read_config(alloc: Global, input: &[u8]) -> Result<Config, Error>
-    ensures ok { IfOk result (λ config. IsConfig input.now config.listen (shown config.settings)) }
+    ensures ok { IfOk result (λ config. IsConfig input.now config.listen (shown config.settings) config.deadline) }
     ensures refused { IfErr result (IsRefused input.now) }
 {
     if input.len() > MAX_INPUT {
@@ -57,7 +65,7 @@ pub fn read_config(alloc: Global, input: &[u8]) -> Result<Config, Error>
 
 /// Reads the table of a configuration.
 fn read_table(alloc: Global, table: &Table) -> Result<Config, Error>
-    ensures ok { IfOk result (λ config. HasValues (table_view table.now) config.listen (shown config.settings)) }
+    ensures ok { IfOk result (λ config. HasValues (table_view table.now) config.listen (shown config.settings) config.deadline) }
     ensures refused { IfErr result (IsTableBad (table_view table.now)) }
 {
     let Some(listen) = listen_of(table) else {
@@ -74,6 +82,9 @@ fn read_table(alloc: Global, table: &Table) -> Result<Config, Error>
     };
     let Some(preview) = number_of(table, "preview", 0, MAX_PREVIEW, DEFAULT_PREVIEW) else {
         return Err(Error::Key(Key::Preview));
+    };
+    let Some(deadline) = number_of(table, "deadline", 1, MAX_DEADLINE, DEFAULT_DEADLINE) else {
+        return Err(Error::Key(Key::Deadline));
     };
     if let Some(key) = unknown_of(table) {
         return match String::from_str(alloc, key) {
@@ -92,6 +103,7 @@ fn read_table(alloc: Global, table: &Table) -> Result<Config, Error>
             ttl,
             preview,
         },
+        deadline,
     })
 }
 
@@ -193,5 +205,10 @@ fn unknown_of(table: &Table) -> Option<&str>
 fn is_known(key: &str) -> bool
     ensures { IsTrue result ↔ IsKnown key.now }
 {
-    key == "listen" || key == "istag" || key == "max" || key == "ttl" || key == "preview"
+    key == "listen"
+        || key == "istag"
+        || key == "max"
+        || key == "ttl"
+        || key == "preview"
+        || key == "deadline"
 }

@@ -34,6 +34,7 @@ pub enum Key {
     Max,
     Ttl,
     Preview,
+    Deadline,
     /// A key that is none of these.
     Unknown(String),
 }
@@ -49,6 +50,7 @@ impl Key {
             Key::Max => b"max",
             Key::Ttl => b"ttl",
             Key::Preview => b"preview",
+            Key::Deadline => b"deadline",
             Key::Unknown(key) => key.as_bytes(),
         }
     }

@@ -4,15 +4,19 @@
 mod command;
 mod config;
 mod error;
+mod places;
+mod seats;
 mod sockets;
 mod standard_input;
 #[cfg(test)]
 mod tests;
+mod texts;
 
 use command::{Command, read_command};
 use config::{Config, read_config};
 use error::{Error, put_error};
-use sockets::{Shared, serve_sockets};
+use places::Shared;
+use sockets::serve_sockets;
 use standard_input::{once, read_input};
 use std::alloc::Global;
 use std::env;
@@ -20,6 +24,7 @@ use std::io::{ErrorKind, Write};
 use std::net::{SocketAddr, TcpListener};
 use std::process::ExitCode;
 use std::sync::Arc;
+use texts::{HELP, VERSION};
 
 /// The arguments behind the program's name.
 fn arguments(rt: &HostRuntime) -> Result<Vec<String>, Error> {
@@ -37,27 +42,58 @@ fn arguments(rt: &HostRuntime) -> Result<Vec<String>, Error> {
     Ok(args)
 }
 
+/// Reads the configuration.
+fn configuration(rt: &HostRuntime) -> Result<Config, Error> {
+    let input = read_input(rt.alloc(), rt.stdin())?;
+    read_config(rt.alloc(), input.as_slice())
+}
+
+/// Writes all of a text.
+fn say(rt: &HostRuntime, text: &[u8]) -> Result<(), Error> {
+    let mut output = rt.stdout();
+    if output.write_all(text).is_err() || output.flush().is_err() {
+        return Err(Error::WriteFailed);
+    }
+    Ok(())
+}
+
+/// Reads the configuration, and says that it is one.
+fn check(rt: &HostRuntime) -> Result<(), Error> {
+    configuration(rt)?;
+    say(rt, b"ok\n")
+}
+
 /// Reads the configuration, listens, and says so.
 fn listen(rt: &HostRuntime) -> Result<(TcpListener, Arc<Shared, Global>), Error> {
-    let input = read_input(rt.alloc(), rt.stdin())?;
-    let Config { listen, settings } = read_config(rt.alloc(), input.as_slice())?;
+    let Config {
+        listen,
+        settings,
+        deadline,
+    } = configuration(rt)?;
     let Ok(listener) = TcpListener::bind(rt, SocketAddr::V4(listen)) else {
         return Err(Error::CannotListen);
     };
-    let Ok(shared) = Shared::new(rt.alloc(), settings) else {
+    let Ok(shared) = Shared::new(rt.alloc(), settings, deadline) else {
         return Err(Error::NoMemory);
     };
-    let mut output = rt.stdout();
-    if output.write_all(b"listening\n").is_err() || output.flush().is_err() {
-        return Err(Error::WriteFailed);
-    }
+    say(rt, b"listening\n")?;
     Ok((listener, shared))
+}
+
+/// What a command asks for, but for `serve`.
+fn perform(rt: &HostRuntime, command: Command) -> Result<(), Error> {
+    match command {
+        Command::Once => once(rt.alloc(), rt.stdin(), &mut rt.stdout()),
+        Command::Check => check(rt),
+        Command::Help => say(rt, HELP),
+        Command::Version => say(rt, VERSION),
+        Command::Serve => Ok(()),
+    }
 }
 
 fn main(rt: HostRuntime) -> ExitCode {
     let ended = match arguments(&rt) {
         Ok(args) => match read_command(args.as_slice()) {
-            Some(Command::Once) => once(rt.alloc(), rt.stdin(), &mut rt.stdout()),
             Some(Command::Serve) => match listen(&rt) {
                 Ok((listener, shared)) => {
                     serve_sockets(rt, rt.alloc(), &listener, &shared);
@@ -65,6 +101,7 @@ fn main(rt: HostRuntime) -> ExitCode {
                 }
                 Err(error) => Err(error),
             },
+            Some(command) => perform(&rt, command),
             None => Err(Error::Usage),
         },
         Err(error) => Err(error),

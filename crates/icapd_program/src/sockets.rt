@@ -1,15 +1,20 @@
-//! `icapd serve`: connections over sockets, each in a thread of its own, and no more at once than are configured.
-use icap_server::{NoMemory, Settings, serve};
+//! `icapd serve`: connections over sockets, each in a thread that serves one after another, and no more at once than are
+//! configured.
+use crate::places::{Seated, Shared};
+use icap_server::ServerSide;
 use std::alloc::Global;
-use std::io::Read;
+use std::io::{Read, Write};
 use std::net::{Shutdown, TcpListener, TcpStream};
-use std::sync::{Arc, Condvar, Mutex, Wait};
+use std::sync::{Arc, Wait};
 use std::thread;
 use std::thread::Threads;
 use std::time::{Clock, Duration};
 
 /// How long a new connection isn't asked for where none could be accepted, in milliseconds.
 const PAUSE: u64 = 20;
+
+/// The bytes that are asked for at once.
+const PIECE: usize = 16_384;
 
 /// For how long a connection that is closed waits for each further read, in seconds.
 const LINGER: u64 = 1;
@@ -19,45 +24,6 @@ const LAST_READS: u32 = 256;
 
 /// How many bytes each of these reads drops at most.
 const LAST_READ_BYTES: usize = 4096;
-
-/// What the threads of all connections share.
-#[derive(Drop)]
-pub struct Shared {
-    settings: Settings,
-    /// How many more connections may be served.
-    free: Mutex<u64>,
-    /// A connection has ended.
-    ended: Condvar,
-}
-
-impl Shared {
-    /// A server with these settings, and no connection. `NoMemory` where there is none for it.
-    pub fn new(alloc: Global, settings: Settings) -> Result<Arc<Shared, Global>, NoMemory> {
-        let free = settings.max;
-        let shared = Shared {
-            settings,
-            free: Mutex::new(free),
-            ended: Condvar::new(),
-        };
-        Ok(Arc::new(alloc, shared)?)
-    }
-
-    /// Waits until fewer connections are served than may be, and counts one more.
-    fn take_place<R: Wait>(&self, rt: &R) {
-        let mut free = self
-            .ended
-            .wait_while(rt, self.free.lock(rt), |free| *free == 0);
-        *free -= 1;
-    }
-
-    /// Counts one connection less.
-    fn give_back<R: Wait>(&self, rt: &R) {
-        let mut free = self.free.lock(rt);
-        *free = free.saturating_add(1);
-        drop(free);
-        self.ended.notify_one();
-    }
-}
 
 /// Accepts connections for ever.
 pub fn serve_sockets<R: Threads + Wait + Clock + Copy + Send + 'static>(
@@ -71,55 +37,103 @@ pub fn serve_sockets<R: Threads + Wait + Clock + Copy + Send + 'static>(
     }
 }
 
-/// Accepts a connection, once one more may be served, and begins to serve it in a thread of its own.
+/// Accepts a connection, and has it served once one more may be: by a thread that has served one, or by a new one.
 pub fn accept_one<R: Threads + Wait + Clock + Copy + Send + 'static>(
     rt: R,
     alloc: Global,
     listener: &TcpListener,
     shared: &Arc<Shared, Global>,
 ) {
-    shared.take_place(&rt);
     match listener.accept() {
         Ok((stream, _)) => start(rt, alloc, shared, stream),
-        Err(_) => {
-            // The system is short of descriptors, as a rule, until a connection ends.
-            shared.give_back(&rt);
-            thread::sleep(&rt, Duration::from_millis(PAUSE));
-        }
+        // The system is short of descriptors, as a rule, until a connection ends.
+        Err(_) => thread::sleep(&rt, Duration::from_millis(PAUSE)),
     }
 }
 
-/// Starts the thread of a connection. Where there is none, or no memory for it, the connection is closed.
-fn start<R: Threads + Wait + Copy + Send + 'static>(
+/// Has a connection served. Where there is no thread, or no memory for it, it is closed.
+fn start<R: Threads + Wait + Clock + Copy + Send + 'static>(
     rt: R,
     alloc: Global,
     shared: &Arc<Shared, Global>,
     stream: TcpStream,
 ) {
-    let Ok(theirs) = Arc::try_clone(shared) else {
-        shared.give_back(&rt);
+    let Ok(stream) = Arc::new(alloc, stream) else {
         return;
     };
-    let run = move || {
-        serve_stream(alloc, &theirs.settings, &stream);
-        drop(stream);
-        theirs.give_back(&rt);
+    let (Ok(theirs), Ok(own)) = (Arc::try_clone(&stream), Arc::try_clone(shared)) else {
+        return;
     };
-    if thread::spawn(&rt, run).is_err() {
-        shared.give_back(&rt);
+    let key = shared.seat(&rt, stream);
+    let Some(seated) = shared.give(
+        &rt,
+        Seated {
+            key,
+            stream: theirs,
+        },
+    ) else {
+        return;
+    };
+    if thread::spawn(&rt, move || serve_all(&rt, alloc, &own, seated)).is_err() {
+        shared.leave(&rt, key);
+    }
+}
+
+/// A thread: serves a connection, and those that it is given behind it.
+fn serve_all<R: Wait>(rt: &R, alloc: Global, shared: &Shared, first: Seated) {
+    let mut seated = first;
+    for _ in rt.forever() {
+        let Seated { key, stream } = seated;
+        serve_stream(rt, alloc, shared, key, &stream);
+        drop(stream);
+        shared.leave(rt, key);
+        seated = shared.next(rt);
     }
 }
 
 /// Serves a connection, whatever its end: it ends alone.
-fn serve_stream(alloc: Global, settings: &Settings, stream: &TcpStream) {
+fn serve_stream<R: Wait>(rt: &R, alloc: Global, shared: &Shared, key: usize, stream: &TcpStream) {
     // Small answers aren't held back for more of them.
     let _ = stream.set_nodelay(true);
-    let Ok(own) = settings.try_clone(alloc) else {
+    let deadline = Some(Duration::from_secs(shared.deadline));
+    if stream.set_read_timeout(deadline).is_err() || stream.set_write_timeout(deadline).is_err() {
+        return;
+    }
+    let Ok(settings) = shared.settings.try_clone(alloc) else {
         return;
     };
-    let mut writer = stream;
-    let _ = serve(alloc, own, stream, &mut writer);
+    let mut side = ServerSide::new(alloc, settings);
+    let mut buffer = [0u8; PIECE];
+    let mut reader = stream;
+    for turn in 0..u64::MAX {
+        let waits = side.is_between();
+        if waits && turn > 0 {
+            shared.wait(rt, key);
+        }
+        let count = match reader.read(&mut buffer) {
+            Ok(0) | Err(_) => break,
+            Ok(count) => count,
+        };
+        if waits {
+            shared.ask(rt, key);
+        }
+        if !answer(alloc, &mut side, &buffer[..count], stream) {
+            break;
+        }
+    }
     linger(stream);
+}
+
+/// Takes a piece of a connection's input, and writes what is due. False where nothing more is read.
+fn answer(alloc: Global, side: &mut ServerSide, piece: &[u8], stream: &TcpStream) -> bool {
+    let Ok(text) = side.feed(alloc, piece) else {
+        return false;
+    };
+    let mut writer = stream;
+    if !text.is_empty() && writer.write_all(&text).is_err() {
+        return false;
+    }
+    !side.is_closed()
 }
 
 /// Says that nothing more is written, and drops what the client still sends, for a while: a connection that is closed with

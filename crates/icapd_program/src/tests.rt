@@ -3,7 +3,8 @@
 use crate::command::{Command, read_command};
 use crate::config::read_config;
 use crate::error::{Error, put_error};
-use crate::sockets::{Shared, accept_one};
+use crate::places::Shared;
+use crate::sockets::accept_one;
 use crate::standard_input::{once, read_input};
 use icap_services::Settings;
 use std::alloc::{AllocError, Global};
@@ -27,9 +28,14 @@ Encapsulated: null-body=0\r\n\r\n";
 
 #[test]
 fn commands(rt: HostRuntime) {
-    let cases: [(&[&str], Option<Command>); 7] = [
+    let cases: [(&[&str], Option<Command>); 12] = [
         (&["once"], Some(Command::Once)),
         (&["serve"], Some(Command::Serve)),
+        (&["check"], Some(Command::Check)),
+        (&["--help"], Some(Command::Help)),
+        (&["--version"], Some(Command::Version)),
+        (&["-h"], None),
+        (&["check", "icapd.toml"], None),
         (&[], None),
         (&[""], None),
         (&["Once"], None),
@@ -82,17 +88,19 @@ fn configurations_that_are_taken(rt: HostRuntime) {
     assert_eq!(rt; config.settings.max, 16);
     assert_eq!(rt; config.settings.ttl, 3600);
     assert_eq!(rt; config.settings.preview, 1024);
+    assert_eq!(rt; config.deadline, 60);
     let whole =
-        "preview = 65536\nttl = 2147483648\nmax = 1024\nistag = \"v 2\"\nlisten = \"10.0.0.1:65535\"";
+        "deadline = 3600\npreview = 65536\nttl = 2147483648\nmax = 1024\nistag = \"v 2\"\nlisten = \"10.0.0.1:65535\"";
     let config = read_config(rt.alloc(), whole.as_bytes()).expect(&rt, "a configuration");
     assert_eq!(rt; config.listen.port(), 65_535);
     assert_eq!(rt; config.settings.istag.as_slice(), b"v 2".as_slice());
     assert_eq!(rt; config.settings.max, 1024);
     assert_eq!(rt; config.settings.ttl, 2_147_483_648);
     assert_eq!(rt; config.settings.preview, 65_536);
+    assert_eq!(rt; config.deadline, 3600);
 }
 
-const REFUSED: [(&str, &str); 26] = [
+const REFUSED: [(&str, &str); 30] = [
     ("", "icapd: config listen\n"),
     ("listen", "icapd: config\n"),
     ("listen = 1344", "icapd: config listen\n"),
@@ -146,6 +154,22 @@ const REFUSED: [(&str, &str); 26] = [
     (
         "listen = \"127.0.0.1:1\"\npreview = true",
         "icapd: config preview\n",
+    ),
+    (
+        "listen = \"127.0.0.1:1\"\ndeadline = 0",
+        "icapd: config deadline\n",
+    ),
+    (
+        "listen = \"127.0.0.1:1\"\ndeadline = 3601",
+        "icapd: config deadline\n",
+    ),
+    (
+        "listen = \"127.0.0.1:1\"\ndeadline = -1\npreview = -1",
+        "icapd: config preview\n",
+    ),
+    (
+        "listen = \"127.0.0.1:1\"\na = 1\ndeadline = \"60\"",
+        "icapd: config deadline\n",
     ),
     (
         "z = 1\nlisten = \"127.0.0.1:1\"\nb = 1",
@@ -248,11 +272,11 @@ fn one_connection_over_standard_input(rt: HostRuntime) {
     }
 }
 
-/// What a server shares that takes one connection at a time.
-fn one_at_a_time(alloc: Global) -> Result<Arc<Shared, Global>, AllocError> {
+/// What a server shares that takes one connection at a time, with this deadline.
+fn one_at_a_time(alloc: Global, deadline: u64) -> Result<Arc<Shared, Global>, AllocError> {
     let tag = b"adapt-1".to_vec(alloc)?;
     match Settings::new(tag, 1, 3600, 1024) {
-        Some(settings) => Shared::new(alloc, settings),
+        Some(settings) => Shared::new(alloc, settings, deadline),
         None => Err(AllocError),
     }
 }
@@ -298,7 +322,7 @@ where
 {
     let listener = TcpListener::bind(&rt, "127.0.0.1:0")?;
     let address = listener.local_addr()?;
-    let shared = one_at_a_time(alloc)?;
+    let shared = one_at_a_time(alloc, 60)?;
     let kept = connect(&rt, address, REQUEST)?;
     accept_one(rt, alloc, &listener, &shared);
     let first = receives(alloc, &kept, BLOCKED, false)?;
@@ -323,7 +347,8 @@ fn connections_end_alone(rt: HostRuntime) {
     assert!(rt; serve_each(rt, rt.alloc()).expect(&rt, "sockets"));
 }
 
-/// A second connection waits until the first has ended.
+/// A second connection waits while the first is within a request. Once that is answered, and waits for a further one, it
+/// is closed, and the second served.
 fn serve_one_at_a_time<R>(rt: R, alloc: Global) -> io::Result<bool>
 where
     R: Net<Listener = TcpListener, Stream = TcpStream>
@@ -337,12 +362,12 @@ where
 {
     let listener = TcpListener::bind(&rt, "127.0.0.1:0")?;
     let address = listener.local_addr()?;
-    let shared = one_at_a_time(alloc)?;
-    let first = connect(&rt, address, REQUEST)?;
+    let shared = one_at_a_time(alloc, 60)?;
+    let (front, rest) = REQUEST.split_at(20);
+    let first = connect(&rt, address, front)?;
     let second = connect(&rt, address, REQUEST)?;
-    second.set_read_timeout(Some(Duration::from_millis(200)))?;
+    second.set_read_timeout(Some(Duration::from_millis(600)))?;
     accept_one(rt, alloc, &listener, &shared);
-    let served = receives(alloc, &first, BLOCKED, false)?;
     let lent = &listener;
     let given = &shared;
     thread::scope(thread::scope_env(), &rt, |scope| {
@@ -353,14 +378,46 @@ where
             return Ok(false);
         }
         let waits = receives(alloc, &second, BLOCKED, false).is_err();
-        drop(first);
         second.set_read_timeout(None)?;
+        let mut writer = &first;
+        writer.write_all(rest)?;
+        let served = receives(alloc, &first, BLOCKED, true)?;
         let later = receives(alloc, &second, BLOCKED, false)?;
-        Ok(served && waits && later)
+        Ok(waits && served && later)
     })
 }
 
 #[test]
 fn further_connection_waits_for_an_end(rt: HostRuntime) {
     assert!(rt; serve_one_at_a_time(rt, rt.alloc()).expect(&rt, "sockets"));
+}
+
+/// A connection that has said nothing is closed for a further one, and one that says nothing for the deadline in any case.
+fn close_silent<R>(rt: R, alloc: Global) -> io::Result<bool>
+where
+    R: Net<Listener = TcpListener, Stream = TcpStream>
+        + Threads
+        + Wait
+        + Clock
+        + Copy
+        + Send
+        + Sync
+        + 'static,
+{
+    let listener = TcpListener::bind(&rt, "127.0.0.1:0")?;
+    let address = listener.local_addr()?;
+    let shared = one_at_a_time(alloc, 1)?;
+    let silent = connect(&rt, address, b"")?;
+    accept_one(rt, alloc, &listener, &shared);
+    let second = connect(&rt, address, REQUEST)?;
+    accept_one(rt, alloc, &listener, &shared);
+    let closed = receives(alloc, &silent, b"", true)?;
+    let served = receives(alloc, &second, BLOCKED, false)?;
+    let late = receives(alloc, &second, b"", true)?;
+    Ok(closed && served && late)
+}
+
+#[test]
+fn silent_connection_is_closed(rt: HostRuntime) {
+    assert!(rt; close_silent(rt, rt.alloc()).expect(&rt, "sockets"));
 }
