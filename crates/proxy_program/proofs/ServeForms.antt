@@ -1,7 +1,6 @@
 -- What `serve` reads and says.
-use Rattle.std.proofs.Common.{◌≡◌, ℕ, ◌+◌, ◌≤◌, Bool, IsTrue, ◌↔◌, List, [], ◌∷◌, ◌++◌, length, get_or, map, take, Option, Some, None, IfSome, Result, Ok, Err, IfOk, IfErr, bytes_eq, refl, sym, ap, ◌∙◌, subst}
+use Rattle.std.proofs.Common.{◌≡◌, ℕ, ◌+◌, ◌≤◌, List, ◌++◌, length, take, Option, Some, None, IfSome, Result, Ok, Err, IfOk, IfErr, sym, ap, ◌∙◌, subst}
 use Rattle.std.proofs.lemmas.List.{append_assoc}
-use Rattle.std.proofs.lemmas.Slice.Eq.{bytes_eq-Decides}
 use Rattle.std.specs.Io.KnownBytes.{Appends}
 use Rattle.proxy_config.specs.Config.{Refuses}
 use Rattle.proxy_config.specs.declared.config.Config.{Config as Configuration}
@@ -11,18 +10,7 @@ use Rattle.proxy_program.specs.declared.error.Error.TheVariants.{Usage, ReadFail
 use Rattle.proxy_program.specs.declared.serve_error.ServeError.{ServeError}
 use Rattle.proxy_program.specs.declared.serve_error.ServeError.TheVariants.{Ended, Config, Key, CannotListen, AuditMissing}
 use Rattle.proxy_program.specs.Serve.{IsConfigured, IsUnconfigured}
-use Rattle.proxy_program.proofs.ArgumentForms.{one_word}
 use Rattle.proxy_program.proofs.Runs.{whole, more}
-
--- one argument, compared with a word
-pub said_alone : {X : Type 0} (f : X → List ℕ) (xs : List X) (a : X) (word : List ℕ) (r : Bool) → length xs ≡ 1 → a ≡ get_or xs 0 a
-    → r ≡ bytes_eq (f a) word → IsTrue r ↔ (map f xs ≡ word ∷ [])
-said_alone f xs a word r e h d =
-    let one = one_word f xs a e h in
-    let decides = bytes_eq-Decides (f a) word in (
-      λ t. one ∙ ap (λ y. y ∷ []) (decides.0 (sym d ∙ t)),
-      λ m. let alone : f a ≡ word = cc in d ∙ decides.1 alone,
-    )
 
 -- three writes behind one another
 pub chain : (a b c d : Option (List ℕ)) (x y z text : List ℕ) → text ≡ (x ++ y) ++ z → Appends a b x → Appends b c y → Appends c d z → Appends a d text

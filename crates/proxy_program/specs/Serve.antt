@@ -13,10 +13,6 @@ use Rattle.proxy_program.specs.declared.error.Error.TheVariants.{InputTooLong, N
 use Rattle.proxy_program.specs.declared.serve_error.ServeError.{ServeError}
 use Rattle.proxy_program.specs.declared.serve_error.ServeError.TheVariants.{Ended, Config, Key, CannotListen, AuditMissing}
 
--- the word `serve` alone
-abbrev pub AsksToServe : List (List ℕ) → Type 0
-AsksToServe words = words ≡ codes "serve" ∷ []
-
 -- the error that a refused configuration ends the program with
 abbrev pub IsRefusedAs : ConfigFault → ServeError → Type 0
 IsRefusedAs NoDocument error = error ≡ Config

@@ -1,7 +1,7 @@
 //! `adaptproxy serve`: what it reads from standard input, and what it prints.
 
-ghost use Rattle.std.specs.Prelude.{◌≡◌, ◌↔◌, IsTrue, IfOk, IfErr, IfSome, map, string_bytes};
-ghost use Rattle.proxy_program.specs.Serve.{AsksToServe, IsRefusedAs, IsConfigured, IsUnconfigured, audit_text};
+ghost use Rattle.std.specs.Prelude.{◌≡◌, IfOk, IfErr, IfSome};
+ghost use Rattle.proxy_program.specs.Serve.{IsRefusedAs, IsConfigured, IsUnconfigured, audit_text};
 
 use crate::answers::write_number;
 use crate::error::Error;
@@ -12,16 +12,6 @@ use proxy_config::{Config, ConfigFault, read_config};
 use shard_loop::StopAudit;
 use std::alloc::{AllocError as NoMemory, Global};
 use std::io::Read;
-
-/// Whether the arguments behind the program's name are `serve` alone.
-pub fn asks_to_serve(args: &[String]) -> bool
-    ensures { IsTrue result ↔ AsksToServe (map string_bytes args.now) }
-{
-    match args {
-        [word] => word.as_str() == "serve",
-        _ => false,
-    }
-}
 
 /// The error of a configuration that is refused.
 fn refused_as(fault: ConfigFault) -> ServeError

@@ -1,27 +1,106 @@
 //! What `serve` says of configurations, and at its end.
 
 use super::{Broken, arguments, filled};
+use crate::checking::check_with;
+use crate::descriptors::limit_in;
 use crate::error::Error;
-use crate::serve::{asks_to_serve, audit_line, read_configuration};
+use crate::serve::{audit_line, read_configuration};
 use crate::serve_error::{ServeError, put_error};
+use crate::task::{Task, read_task};
 use adapt_bytes::MAX_INPUT;
 use shard_loop::StopAudit;
 use std::alloc::{AllocError, Global};
 use std::io::Read;
 use std::test::Fail;
 
-/// Arguments that don't ask to serve.
-const OTHERS: &[&[&str]] = &[&[], &["trace"], &["Serve"], &["serve", "proxy.toml"]];
+/// Arguments, and the task that they name.
+const TASKS: &[(&[&str], Option<Task>)] = &[
+    (&["serve"], Some(Task::Serve)),
+    (&["check"], Some(Task::Check)),
+    (&["--help"], Some(Task::Help)),
+    (&["--version"], Some(Task::Version)),
+    (&[], None),
+    (&["trace"], None),
+    (&["Serve"], None),
+    (&["help"], None),
+    (&["-h"], None),
+    (&["serve", "proxy.toml"], None),
+    (&["check", "proxy.toml"], None),
+];
 
 #[test]
-fn serve_stands_alone(rt: HostRuntime) -> Result<(), Fail> {
-    for words in OTHERS {
+fn tasks_stand_alone(rt: HostRuntime) -> Result<(), Fail> {
+    for (words, want) in TASKS {
         let args = arguments(rt.alloc(), words)?;
-        assert!(rt; !asks_to_serve(args.as_slice()));
+        assert_eq!(rt; read_task(args.as_slice()), *want);
     }
-    let args = arguments(rt.alloc(), &["serve"])?;
-    assert!(rt; asks_to_serve(args.as_slice()));
     Ok(())
+}
+
+/// What `check` says of a configuration, on standard output and behind it on standard error, where the system has these
+/// limits.
+fn checked(alloc: Global, text: &str, limits: &str) -> Result<Vec<u8>, AllocError> {
+    let mut output = Vec::new(alloc);
+    let mut errors = Vec::new(alloc);
+    let ended = check_with(
+        alloc,
+        text.as_bytes(),
+        &mut output,
+        &mut errors,
+        limits.as_bytes(),
+    );
+    if let Err(error) = ended {
+        output.extend_from_slice(&told(alloc, &error)?.0)?;
+    }
+    output.extend_from_slice(&errors)?;
+    Ok(output)
+}
+
+/// Limits as the system says them, in part.
+const LIMITS: &str =
+    "Limit                     Soft Limit           Hard Limit           Units     \n\
+Max processes             94958                94958                processes \n\
+Max open files            1080                 1048576              files     \n";
+
+#[test]
+fn configurations_are_checked(rt: HostRuntime) -> Result<(), Fail> {
+    let more = format!(in rt.alloc();
+        "{LEAST}rows = 256\n[respmod]\nhost = \"127.0.0.1\"\npath = \"/x\"\n"
+    )?;
+    let cases = [
+        (LEAST, "", "ok\n"),
+        (
+            LEAST,
+            "Max open files            unlimited            unlimited            files     \n",
+            "ok\n",
+        ),
+        ("listen = 1", LIMITS, "adaptproxy: config listen\n"),
+        (
+            LEAST,
+            LIMITS,
+            "ok\nadaptproxy: 1084 descriptors may be needed, and the limit is 1080\n",
+        ),
+        (
+            more.as_str(),
+            LIMITS,
+            "ok\nadaptproxy: 1092 descriptors may be needed, and the limit is 1080\n",
+        ),
+    ];
+    for (text, limits, want) in cases {
+        assert_eq!(rt;
+            checked(rt.alloc(), text, limits)?.as_slice(),
+            want.as_bytes()
+        );
+    }
+    Ok(())
+}
+
+#[test]
+fn limits_are_read(rt: HostRuntime) {
+    assert_eq!(rt; limit_in(LIMITS.as_bytes()), Some(1080));
+    assert_eq!(rt; limit_in(b"Max open files            unlimited"), None);
+    assert_eq!(rt; limit_in(b"Max open files "), None);
+    assert_eq!(rt; limit_in(b""), None);
 }
 
 /// What the program says of an error, and its status.
@@ -54,6 +133,9 @@ const REFUSED: &[(&str, &str, &str)] = &[
     ("listen = \"127.0.0.1:1\"", "", "config admin\n"),
     (LEAST, "zebra = 1\nant = 1", "config ant\n"),
     (LEAST, "rows = 4097\nshards = 65", "config shards\n"),
+    (LEAST, "wait = -1", "config wait\n"),
+    (LEAST, "log = \"\"\nwait = 3601", "config wait\n"),
+    (LEAST, "hosts = 1\nlog = \"a\\u0000b\"", "config log\n"),
     (LEAST, "[hosts]\n\"o.test\" = 1", "config hosts.o.test\n"),
     (SERVICE, "", "config respmod.path\n"),
     (SERVICE, "path = \"/x\"\nport = 0", "config respmod.port\n"),
@@ -68,6 +150,7 @@ const REFUSED: &[(&str, &str, &str)] = &[
 const TAKEN: &[&str] = &[
     "",
     "retry = false\nwindow = 65536",
+    "wait = 3600\nlog = \"a.log\"",
     "[hosts]\n\"a\" = \"127.0.0.1:80\"",
 ];
 
