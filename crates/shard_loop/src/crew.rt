@@ -101,10 +101,22 @@ impl Place for Option<Base> {
     }
 }
 
+/// The inboxes of all threads.
+trait Inboxes {
+    /// Them, in the order of the threads.
+    fn all(&self) -> &[Inbox];
+}
+
+impl Inboxes for Vec<Inbox> {
+    fn all(&self) -> &[Inbox] {
+        self.as_slice()
+    }
+}
+
 /// Runs a loop on each base, in a thread of its own, until one is told to stop or fails: then all end. What is left comes
 /// together.
 ///
-/// What the threads share comes piece by piece, and what a base is made of isn't seen here: with either of them the
+/// What the threads share comes piece by piece, and what a base and an inbox are made of isn't seen here: otherwise the
 /// toolchain's search doesn't find that threads may share the pieces.
 fn run_on<
     B: Ledgers + Send + Sync,
@@ -112,6 +124,7 @@ fn run_on<
     A: Ledger + Send + Sync,
     G: Gate + Sync,
     K: Place + Send,
+    N: Inboxes + Sync,
     R: Threads + Wait + Dial + Clock + Sync,
 >(
     rt: &R,
@@ -121,7 +134,7 @@ fn run_on<
     request: &Pool<Spare, Q>,
     response: &Pool<Spare, A>,
     gate: &G,
-    inboxes: &[Inbox],
+    inboxes: &N,
     left: &Mutex<Left<B, Q, A>>,
     places: &mut [K],
 )
@@ -179,7 +192,7 @@ where
         request,
         response,
         gate,
-        inboxes.as_slice(),
+        &inboxes,
         left,
         bases.as_mut_slice(),
     );
@@ -187,7 +200,7 @@ where
 }
 
 /// Runs a loop on the base in this place, if there is one.
-fn run_one<B: Ledgers, Q: Ledger, A: Ledger, G: Gate, K: Place, R: Wait + Dial + Clock>(
+fn run_one<B: Ledgers, Q: Ledger, A: Ledger, G: Gate, K: Place, N: Inboxes, R: Wait + Dial + Clock>(
     rt: &R,
     alloc: Global,
     config: &Config,
@@ -195,7 +208,7 @@ fn run_one<B: Ledgers, Q: Ledger, A: Ledger, G: Gate, K: Place, R: Wait + Dial +
     request: &Pool<Spare, Q>,
     response: &Pool<Spare, A>,
     gate: &G,
-    inboxes: &[Inbox],
+    inboxes: &N,
     left: &Mutex<Left<B, Q, A>>,
     number: usize,
     place: &mut K,
@@ -208,7 +221,7 @@ fn run_one<B: Ledgers, Q: Ledger, A: Ledger, G: Gate, K: Place, R: Wait + Dial +
         gate,
     };
     if let Some(base) = place.take_base() {
-        run_base(rt, alloc, shared, number, base, inboxes, left);
+        run_base(rt, alloc, shared, number, base, inboxes.all(), left);
     }
 }
 

@@ -127,10 +127,10 @@ impl Seats {
     /// Takes a seat for a user's connection of this number, and says what it is for. None where there is none.
     pub fn take(&mut self, number: u64, place: Place, now: u64) -> Option<(usize, Purpose)> {
         let purpose = self.next_purpose()?;
+        let since = self.next_stay();
         if self.all.reserve(1).is_err() || self.all.vacant_key() >= self.bound() {
             return None;
         }
-        let since = self.next_stay();
         let key = self.all.insert_reserved(Seat {
             purpose,
             number,
