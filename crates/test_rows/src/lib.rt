@@ -12,13 +12,15 @@
 #![tactic(auto)]
 
 mod answer;
+mod memory;
 mod report;
 mod row;
 mod table;
 mod text;
 
 pub use answer::{put_all, put_decimal, put_escaped, put_fault, put_line, put_number, put_shown};
+pub use memory::allocate;
 pub use report::Report;
-pub use row::{Row, number, says};
+pub use row::{Row, call_of, number, says};
 pub use std::alloc::AllocError as NoMemory;
 pub use table::{Table, read_table};

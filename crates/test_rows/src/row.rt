@@ -85,3 +85,11 @@ impl<'a> Row<'a> {
         true
     }
 }
+
+/// What is called for a row: what it says itself, or else the head.
+pub fn call_of<'a>(head: &Row<'a>, row: &Row<'a>) -> &'a [u8] {
+    match row.find(b"call") {
+        Some(call) => call,
+        None => head.get(b"call"),
+    }
+}
