@@ -38,6 +38,16 @@ fn is_read_in_pieces(alloc: Global, text: &[u8], whole: &Reading) -> Result<bool
     Ok(true)
 }
 
+/// Whether a text is read so that is cut into pieces of these sizes.
+fn is_read_so(
+    alloc: Global,
+    text: &[u8],
+    whole: &Reading,
+    sizes: &[usize],
+) -> Result<bool, NoMemory> {
+    Ok(is_same(&read_cut(alloc, text, sizes)?, whole))
+}
+
 /// Whether a text is read so that is cut at a byte, and there and at each later one.
 fn is_read_cut_at(
     alloc: Global,
@@ -46,10 +56,10 @@ fn is_read_cut_at(
     first: usize,
 ) -> Result<bool, NoMemory> {
     if text.len() > SHORT {
-        return Ok(is_same(&read_cut(alloc, text, &[first])?, whole));
+        return is_read_so(alloc, text, whole, &[first]);
     }
     for second in 0..=text.len().saturating_sub(first) {
-        if !is_same(&read_cut(alloc, text, &[first, second])?, whole) {
+        if !is_read_so(alloc, text, whole, &[first, second])? {
             return Ok(false);
         }
     }
@@ -62,8 +72,7 @@ fn is_read_cut(alloc: Global, text: &[u8], whole: &Reading) -> Result<bool, NoMe
             return Ok(false);
         }
     }
-    let sizes = [0, 1, 0, 2, 3, usize::MAX, 1];
-    Ok(is_same(&read_cut(alloc, text, &sizes)?, whole))
+    is_read_so(alloc, text, whole, &[0, 1, 0, 2, 3, usize::MAX, 1])
 }
 
 fn put_body(out: &mut Vec<u8>, body: &[u8]) -> Result<(), NoMemory> {
@@ -73,14 +82,25 @@ fn put_body(out: &mut Vec<u8>, body: &[u8]) -> Result<(), NoMemory> {
     put_all(out, &[b"body ", body, b"\n"])
 }
 
-fn put_reading(alloc: Global, out: &mut Vec<u8>, text: &[u8]) -> Result<(), NoMemory> {
-    let whole = read_cut(alloc, text, &[])?;
+/// Adds what a text is read as whole, and whether it is read so however it is cut.
+fn put_whole(
+    alloc: Global,
+    out: &mut Vec<u8>,
+    text: &[u8],
+    whole: &Reading,
+) -> Result<(), NoMemory> {
     put_outcome(out, whole.outcome)?;
     put_body(out, &whole.body)?;
-    if is_read_in_pieces(alloc, text, &whole)? && is_read_cut(alloc, text, &whole)? {
-        return Ok(());
+    if is_read_in_pieces(alloc, text, whole)? && is_read_cut(alloc, text, whole)? {
+        Ok(())
+    } else {
+        put_line(out, b"another answer in pieces")
     }
-    put_line(out, b"another answer in pieces")
+}
+
+fn put_reading(alloc: Global, out: &mut Vec<u8>, text: &[u8]) -> Result<(), NoMemory> {
+    let whole = read_cut(alloc, text, &[])?;
+    put_whole(alloc, out, text, &whole)
 }
 
 fn put_head(out: &mut Vec<u8>, size: u64) -> Result<(), NoMemory> {

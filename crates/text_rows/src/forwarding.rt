@@ -18,6 +18,10 @@ fn part_of(row: &Row<'_>) -> Part {
     }
 }
 
+fn put_text(out: &mut Vec<u8>, text: Vec<u8>) -> Result<(), NoMemory> {
+    out.extend_from_slice(&text)
+}
+
 fn put_forward(
     alloc: Global,
     out: &mut Vec<u8>,
@@ -27,7 +31,7 @@ fn put_forward(
     if forward.closes() {
         put_line(out, b"the user's connection ends")?;
     }
-    out.extend_from_slice(&forward_head(alloc, forward)?)
+    put_text(out, forward_head(alloc, forward)?)
 }
 
 /// The user's own request as an origin gets it.
@@ -38,13 +42,16 @@ fn put_to_origin(alloc: Global, out: &mut Vec<u8>, user: &HttpRequest) -> Result
         part: Part::Own,
         body_read: true,
     };
-    out.extend_from_slice(&forward_head(alloc, &forward)?)
+    put_text(out, forward_head(alloc, &forward)?)
 }
 
 /// The user's own request as a service gets it.
 fn put_to_service(alloc: Global, out: &mut Vec<u8>, user: &HttpRequest) -> Result<(), NoMemory> {
     let message = Message::Request(user);
-    out.extend_from_slice(&encapsulated_head(alloc, &Encapsulated { user, message })?)
+    put_text(
+        out,
+        encapsulated_head(alloc, &Encapsulated { user, message })?,
+    )
 }
 
 /// How the request that goes on is read again.
@@ -94,6 +101,29 @@ fn put_to_user(
     }
 }
 
+/// The head that a call asks for, of the user's request.
+fn put_head(
+    alloc: Global,
+    call: &[u8],
+    row: &Row<'_>,
+    out: &mut Vec<u8>,
+    user: &HttpRequest,
+) -> Result<(), NoMemory> {
+    if says(call, b"head to origin") {
+        put_to_origin(alloc, out, user)
+    } else if says(call, b"head to service") {
+        put_to_service(alloc, out, user)
+    } else if says(call, b"read head to origin") {
+        put_read_again(alloc, out, user)
+    } else if says(call, b"adapted head to origin") {
+        put_adapted(alloc, out, user, row)
+    } else if says(call, b"head to user") {
+        put_to_user(alloc, out, user, row)
+    } else {
+        Ok(())
+    }
+}
+
 pub fn put_answer(
     alloc: Global,
     call: &[u8],
@@ -103,20 +133,8 @@ pub fn put_answer(
     if !row.has(b"user") {
         return Ok(());
     }
-    let Ok(user) = read_request(alloc, row.get(b"user"), false) else {
-        return put_line(out, b"the user's text is no request");
-    };
-    if says(call, b"head to origin") {
-        put_to_origin(alloc, out, &user.value)
-    } else if says(call, b"head to service") {
-        put_to_service(alloc, out, &user.value)
-    } else if says(call, b"read head to origin") {
-        put_read_again(alloc, out, &user.value)
-    } else if says(call, b"adapted head to origin") {
-        put_adapted(alloc, out, &user.value, row)
-    } else if says(call, b"head to user") {
-        put_to_user(alloc, out, &user.value, row)
-    } else {
-        Ok(())
+    match read_request(alloc, row.get(b"user"), false) {
+        Ok(user) => put_head(alloc, call, row, out, &user.value),
+        Err(_) => put_line(out, b"the user's text is no request"),
     }
 }

@@ -1,8 +1,8 @@
 //! Heads of HTTP messages (RFC 9112, sections 2 to 6), cut at each byte.
 use crate::cuts::{Grammar, put_cuts};
-use http_side::{HttpFault, HttpResponse, own_refusal, read_request, read_response};
+use http_side::{Head, HttpFault, HttpResponse, own_refusal, read_request, read_response};
 use std::alloc::Global;
-use test_rows::{NoMemory, Row, put_decimal, put_fault, put_line, put_number, put_shown, says};
+use test_rows::{NoMemory, Row, put_all, put_decimal, put_fault, put_number, put_shown, says};
 
 fn put_http_fault(out: &mut Vec<u8>, fault: HttpFault) -> Result<(), NoMemory> {
     put_fault(out, fault.number(), &fault)
@@ -20,12 +20,12 @@ pub fn put_request(
     }
 }
 
-fn put_parts(out: &mut Vec<u8>, response: &HttpResponse) -> Result<(), NoMemory> {
+fn put_parts(out: &mut Vec<u8>, head: &Head<HttpResponse>) -> Result<(), NoMemory> {
+    put_number(out, b"read", head.length as u64)?;
     out.extend_from_slice(b"status ")?;
-    put_decimal(out, u64::from(response.status()))?;
-    out.extend_from_slice(b" ")?;
-    put_line(out, response.phrase())?;
-    put_shown(out, b"body", &response.framing())
+    put_decimal(out, u64::from(head.value.status()))?;
+    put_all(out, &[b" ", head.value.phrase(), b"\n"])?;
+    put_shown(out, b"body", &head.value.framing())
 }
 
 fn put_response(
@@ -35,10 +35,7 @@ fn put_response(
     to_head: bool,
 ) -> Result<(), NoMemory> {
     match read_response(alloc, text, to_head) {
-        Ok(head) => {
-            put_number(out, b"read", head.length as u64)?;
-            put_parts(out, &head.value)
-        }
+        Ok(head) => put_parts(out, &head),
         Err(fault) => put_http_fault(out, fault),
     }
 }

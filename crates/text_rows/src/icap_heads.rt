@@ -1,11 +1,11 @@
 //! Heads of ICAP messages (RFC 3507, section 4.3), cut at each byte.
 use crate::cuts::{Grammar, put_cuts};
 use icap_head::{
-    Fields, HeadFault, IcapRequest, IcapResponse, RequestMethod, judge_request_line, read_request,
-    read_response,
+    Fields, Head, HeadFault, IcapRequest, IcapResponse, RequestMethod, Values, judge_request_line,
+    read_request, read_response,
 };
 use std::alloc::Global;
-use test_rows::{NoMemory, Row, put_decimal, put_fault, put_line, put_number, says};
+use test_rows::{NoMemory, Row, put_all, put_decimal, put_fault, put_line, put_number, says};
 
 fn put_head_fault(out: &mut Vec<u8>, fault: HeadFault) -> Result<(), NoMemory> {
     put_fault(out, fault.number(), &fault)
@@ -13,9 +13,14 @@ fn put_head_fault(out: &mut Vec<u8>, fault: HeadFault) -> Result<(), NoMemory> {
 
 fn put_fields(out: &mut Vec<u8>, fields: &Fields) -> Result<(), NoMemory> {
     for at in 0..fields.len() {
-        out.extend_from_slice(fields.name(at))?;
-        out.extend_from_slice(b": ")?;
-        put_line(out, fields.value(at))?;
+        put_all(out, &[fields.name(at), b": ", fields.value(at), b"\n"])?;
+    }
+    Ok(())
+}
+
+fn put_values(out: &mut Vec<u8>, values: Values<'_>) -> Result<(), NoMemory> {
+    for value in values {
+        put_all(out, &[b"value ", value, b"\n"])?;
     }
     Ok(())
 }
@@ -26,56 +31,51 @@ fn put_asked(out: &mut Vec<u8>, fields: &Fields, row: &Row<'_>) -> Result<(), No
         return Ok(());
     }
     match fields.first(row.get(b"field")) {
-        Some(value) => {
-            out.extend_from_slice(b"first ")?;
-            put_line(out, value)?;
-        }
+        Some(value) => put_all(out, &[b"first ", value, b"\n"])?,
         None => put_line(out, b"no such field")?,
     }
-    for value in fields.values(row.get(b"field")) {
-        out.extend_from_slice(b"value ")?;
-        put_line(out, value)?;
-    }
-    Ok(())
+    put_values(out, fields.values(row.get(b"field")))
 }
 
-fn put_request(out: &mut Vec<u8>, request: &IcapRequest) -> Result<(), NoMemory> {
+fn put_request(out: &mut Vec<u8>, head: &Head<IcapRequest>, row: &Row<'_>) -> Result<(), NoMemory> {
+    let request = &head.value;
+    put_number(out, b"read", head.length as u64)?;
     let mark: &[u8] = match &request.method {
         RequestMethod::Known(_) => b"method ",
         RequestMethod::Other(_) => b"other method ",
     };
-    out.extend_from_slice(mark)?;
-    put_line(out, request.method.name())?;
-    put_line(out, &request.uri)?;
-    put_fields(out, &request.fields)
+    put_all(
+        out,
+        &[mark, request.method.name(), b"\n", &request.uri, b"\n"],
+    )?;
+    put_fields(out, &request.fields)?;
+    put_asked(out, &request.fields, row)
 }
 
-fn put_response(out: &mut Vec<u8>, response: &IcapResponse) -> Result<(), NoMemory> {
+fn put_response(
+    out: &mut Vec<u8>,
+    head: &Head<IcapResponse>,
+    row: &Row<'_>,
+) -> Result<(), NoMemory> {
+    let response = &head.value;
+    put_number(out, b"read", head.length as u64)?;
     out.extend_from_slice(b"status ")?;
     put_decimal(out, u64::from(response.status))?;
-    out.extend_from_slice(b" ")?;
-    put_line(out, &response.phrase)?;
-    put_fields(out, &response.fields)
+    put_all(out, &[b" ", &response.phrase, b"\n"])?;
+    put_fields(out, &response.fields)?;
+    put_asked(out, &response.fields, row)
 }
 
 fn put_read_request(alloc: Global, out: &mut Vec<u8>, row: &Row<'_>) -> Result<(), NoMemory> {
     match read_request(alloc, row.get(b"text")) {
-        Ok(head) => {
-            put_number(out, b"read", head.length as u64)?;
-            put_request(out, &head.value)?;
-            put_asked(out, &head.value.fields, row)
-        }
+        Ok(head) => put_request(out, &head, row),
         Err(fault) => put_head_fault(out, fault),
     }
 }
 
 fn put_read_response(alloc: Global, out: &mut Vec<u8>, row: &Row<'_>) -> Result<(), NoMemory> {
     match read_response(alloc, row.get(b"text")) {
-        Ok(head) => {
-            put_number(out, b"read", head.length as u64)?;
-            put_response(out, &head.value)?;
-            put_asked(out, &head.value.fields, row)
-        }
+        Ok(head) => put_response(out, &head, row),
         Err(fault) => put_head_fault(out, fault),
     }
 }

@@ -20,12 +20,19 @@ fn put_text(out: &mut Vec<u8>, text: Result<Vec<u8>, NoMemory>) -> Result<(), No
     }
 }
 
+fn request_of(alloc: Global, row: &Row<'_>) -> Result<IcapRequest, NoMemory> {
+    let fields = field_of(alloc, row)?;
+    let uri = row.get(b"uri").to_vec(alloc)?;
+    let method = RequestMethod::of_name(alloc, row.get(b"method"))?;
+    Ok(IcapRequest {
+        method,
+        uri,
+        fields,
+    })
+}
+
 fn put_built_request(alloc: Global, out: &mut Vec<u8>, row: &Row<'_>) -> Result<(), NoMemory> {
-    let request = IcapRequest {
-        method: RequestMethod::of_name(alloc, row.get(b"method"))?,
-        uri: row.get(b"uri").to_vec(alloc)?,
-        fields: field_of(alloc, row)?,
-    };
+    let request = request_of(alloc, row)?;
     if request.is_writable(alloc)? {
         put_text(out, write_request(alloc, &request))
     } else {

@@ -56,21 +56,39 @@ fn put_read(out: &mut Vec<u8>, found: Result<Layout, EncFault>) -> Result<(), No
     }
 }
 
+/// A kind of message, where it takes a list; what else than its order it is refused for.
+fn put_taker(
+    out: &mut Vec<u8>,
+    method: Method,
+    direction: Direction,
+    list: &[u8],
+) -> Result<(), NoMemory> {
+    match read(method, direction, list) {
+        Ok(_) => {
+            out.extend_from_slice(method.name())?;
+            put_shown(out, b"", &direction)
+        }
+        Err(EncFault::Order) => Ok(()),
+        Err(fault) => put_fault(out, fault.number(), &fault),
+    }
+}
+
 /// The kinds of message that take a list; what another is refused for, where that isn't its order.
 fn put_takers(out: &mut Vec<u8>, list: &[u8]) -> Result<(), NoMemory> {
     for method in METHODS {
         for direction in DIRECTIONS {
-            match read(method, direction, list) {
-                Ok(_) => {
-                    out.extend_from_slice(method.name())?;
-                    put_shown(out, b"", &direction)?;
-                }
-                Err(EncFault::Order) => {}
-                Err(fault) => put_fault(out, fault.number(), &fault)?,
-            }
+            put_taker(out, method, direction, list)?;
         }
     }
     put_line(out, b"no other")
+}
+
+fn put_list(alloc: Global, out: &mut Vec<u8>, layout: &Layout) -> Result<(), NoMemory> {
+    if layout.is_writable() {
+        put_line(out, &write(alloc, layout)?)
+    } else {
+        put_line(out, b"not writable")
+    }
 }
 
 fn put_written(alloc: Global, out: &mut Vec<u8>, row: &Row<'_>) -> Result<(), NoMemory> {
@@ -83,24 +101,24 @@ fn put_written(alloc: Global, out: &mut Vec<u8>, row: &Row<'_>) -> Result<(), No
         body,
         offset: row.number(b"offset").unwrap_or(0),
     };
-    if !layout.is_writable() {
-        return put_line(out, b"not writable");
-    }
-    put_line(out, &write(alloc, &layout)?)
+    put_list(alloc, out, &layout)
 }
 
-/// A list that is read, as it is written again.
+/// What a programmer is told of a fault.
+fn put_text(alloc: Global, out: &mut Vec<u8>, fault: EncFault) -> Result<(), NoMemory> {
+    let text = format!(in alloc; "{fault}")?;
+    put_line(out, text.as_bytes())
+}
+
+/// A list that is read, as it is written again, or what is said of its fault.
 fn put_again(
     alloc: Global,
     out: &mut Vec<u8>,
     found: Result<Layout, EncFault>,
 ) -> Result<(), NoMemory> {
     match found {
-        Ok(layout) => put_line(out, &write(alloc, &layout)?),
-        Err(fault) => {
-            let text = format!(in alloc; "{fault}")?;
-            put_line(out, text.as_bytes())
-        }
+        Ok(layout) => put_list(alloc, out, &layout),
+        Err(fault) => put_text(alloc, out, fault),
     }
 }
 

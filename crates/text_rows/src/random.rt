@@ -33,30 +33,29 @@ fn hex_letter(digit: u64) -> u8 {
 /// The most bytes of a chunk.
 const MOST: u64 = 40;
 
-/// Adds a chunk of a size in two digits, some with an extension, and its bytes to the body.
-fn put_chunk(
-    text: &mut Vec<u8>,
-    body: &mut Vec<u8>,
-    random: &mut Random,
-    size: u64,
-) -> Result<(), NoMemory> {
-    text.extend_from_slice(&[hex_letter(size / 16), hex_letter(size)])?;
-    if random.below(4) == 0 {
-        text.extend_from_slice(b"; a=\"b;ieof\"")?;
-    }
-    text.extend_from_slice(b"\r\n")?;
-    let from = text.len();
-    for _ in 0..size {
-        text.extend_from_slice(&[random.byte()])?;
-    }
-    body.extend_from_slice(&text[from.min(text.len())..])?;
-    text.extend_from_slice(b"\r\n")
+/// Adds a chunk with its size in two digits, some with an extension.
+fn put_chunk(text: &mut Vec<u8>, random: &mut Random, part: &[u8]) -> Result<(), NoMemory> {
+    let size = part.len() as u64;
+    let digits = [hex_letter(size / 16), hex_letter(size)];
+    let extension: &[u8] = if random.below(4) == 0 {
+        b"; a=\"b;ieof\"\r\n"
+    } else {
+        b"\r\n"
+    };
+    put_all(text, &[&digits, extension, part, b"\r\n"])
 }
 
-fn put_chunks(text: &mut Vec<u8>, body: &mut Vec<u8>, random: &mut Random) -> Result<(), NoMemory> {
-    for _ in 0..random.below(6) {
-        let size = random.below(MOST).saturating_add(1);
-        put_chunk(text, body, random, size)?;
+/// Adds a body in chunks.
+fn put_chunks(text: &mut Vec<u8>, random: &mut Random, body: &[u8]) -> Result<(), NoMemory> {
+    let mut rest = body;
+    for _ in 0..body.len() {
+        let size = (random.below(MOST) as usize)
+            .saturating_add(1)
+            .min(rest.len());
+        if size != 0 {
+            put_chunk(text, random, &rest[..size])?;
+        }
+        rest = &rest[size..];
     }
     Ok(())
 }
@@ -77,26 +76,39 @@ fn put_end(text: &mut Vec<u8>, random: &mut Random) -> Result<Outcome, NoMemory>
     Ok(Outcome::Ended { ieof, used })
 }
 
-/// Whether a random body is read back in random pieces.
-fn is_read_back(alloc: Global, random: &mut Random) -> Result<bool, NoMemory> {
-    let mut text = Vec::new(alloc);
-    let mut body = Vec::new(alloc);
-    put_chunks(&mut text, &mut body, random)?;
-    let outcome = put_end(&mut text, random)?;
+/// Whether a text is read in random pieces as this body.
+fn is_read(
+    alloc: Global,
+    random: &mut Random,
+    text: &[u8],
+    body: &[u8],
+    outcome: Outcome,
+) -> Result<bool, NoMemory> {
     let mut sizes = [0; 8];
     for size in &mut sizes {
         *size = random.below(MOST) as usize;
     }
-    let reading = read_cut(alloc, &text, &sizes)?;
-    Ok(reading.body == body && reading.outcome == outcome)
+    let reading = read_cut(alloc, text, &sizes)?;
+    Ok(reading.body.as_slice() == body && reading.outcome == outcome)
 }
 
-/// Adds how many of so many random bodies are read back.
+/// Whether a body is read back that is cut into random chunks and pieces.
+fn is_read_back(alloc: Global, random: &mut Random, body: &[u8]) -> Result<bool, NoMemory> {
+    let mut text = Vec::new(alloc);
+    put_chunks(&mut text, random, body)?;
+    let outcome = put_end(&mut text, random)?;
+    is_read(alloc, random, &text, body, outcome)
+}
+
+/// Adds how often, of so many times, the front of a text is read back as a body.
 pub fn put_random_bodies(alloc: Global, out: &mut Vec<u8>, row: &Row<'_>) -> Result<(), NoMemory> {
     let mut random = Random(row.number(b"seed").unwrap_or(0));
+    let all = row.get(b"text");
     let mut read: u64 = 0;
     for _ in 0..row.number(b"count").unwrap_or(0) {
-        if is_read_back(alloc, &mut random)? {
+        let size = random.below(200) as usize;
+        let body = &all[..size.min(all.len())];
+        if is_read_back(alloc, &mut random, body)? {
             read = read.saturating_add(1);
         }
     }
