@@ -31,18 +31,9 @@ struct Open {
 }
 
 impl Open {
-    /// Has the connection end that has waited longest for a request behind others, or for its first one where that is asked
-    /// for too, unless one is ending already. It is read to its end: what it has sent is answered.
+    /// Has a connection end for another, if one may. It is read to its end: what it has sent is answered.
     fn end_one(&mut self, first_too: bool) {
-        if self.seats.is_one_ending() {
-            return;
-        }
-        let chosen = match self.seats.longest(false) {
-            Some(key) => Some(key),
-            None if first_too => self.seats.longest(true),
-            None => None,
-        };
-        if let Some(key) = chosen {
+        if let Some(key) = self.seats.to_end(first_too) {
             self.seats.end(key);
             if let Some(Some(stream)) = self.streams.get(key) {
                 let _ = stream.shutdown(Shutdown::Read);

@@ -1,7 +1,7 @@
 //! The connections that are served at once, each on a seat: which seat is free, and whose connection has waited longest for
 //! a request.
-ghost use Rattle.std.specs.Prelude.{◌≡◌, ◌↔◌, ℕ, length, slice_set, IsTrue, IfOk, IfSome, IfNone};
-ghost use Rattle.icapd_program.specs.Seats.{IsAt, IsLonger, IsLongest, WaitsAt};
+ghost use Rattle.std.specs.Prelude.{◌≡◌, ◌↔◌, ◌≤◌, ℕ, replicate, slice_set, IsTrue, IfOk, IfSome, IfNone};
+ghost use Rattle.icapd_program.specs.Seats.{IsAt, IsLonger, IsLongest, IsToEnd, NoneIsToEnd, WaitsAt};
 
 use std::alloc::{AllocError, Global};
 
@@ -62,7 +62,7 @@ fn longer(found: Option<Waiter>, next: Waiter) -> Waiter
 impl Seats {
     /// So many free seats. `Err` where no memory was found for them.
     pub fn new(alloc: Global, count: usize) -> Result<Seats, AllocError>
-        ensures { IfOk result (λ seats. length seats.all.items ≡ count) }
+        ensures { IfOk result (λ seats. seats.all.items ≡ replicate count Doing.Nothing) }
     {
         let all = Vec::from_elem(alloc, Doing::Nothing, count)?;
         Ok(Seats { all, turn: 0 })
@@ -112,15 +112,34 @@ impl Seats {
 
     /// Notes what the connection on a seat does now.
     fn note(&mut self, key: usize, doing: Doing)
-        ensures { self.new.all.items ≡ slice_set self.old.all.items key doing }
+        ensures seat { self.new.all.items ≡ slice_set self.old.all.items key doing }
+        ensures turn { self.new.turn ≡ self.old.turn }
     {
         if let Some(seat) = self.all.get_mut(key) {
             *seat = doing;
         }
     }
 
+    /// The seat whose connection is to end for another: that which has waited longest for a request behind others, or else,
+    /// where that is asked for too, for its first one. None where one is ending already, or none waits.
+    pub fn to_end(&self, first_too: bool) -> Option<usize>
+        ensures found { IfSome result (IsToEnd self.now.all.items first_too) }
+        ensures none { IfNone result (NoneIsToEnd self.now.all.items first_too) }
+    {
+        if self.is_one_ending() {
+            return None;
+        }
+        match self.longest(false) {
+            Some(key) => Some(key),
+            None => { if first_too { self.longest(true) } else { None } }
+        }
+    }
+
     /// The connection on a seat begins to wait for a request.
-    pub fn wait(&mut self, key: usize, first: bool) {
+    pub fn wait(&mut self, key: usize, first: bool)
+        ensures waits { self.new.all.items ≡ slice_set self.old.all.items key (Doing.Waiting self.new.turn first) }
+        ensures turn { self.old.turn ≤ self.new.turn }
+    {
         self.turn = self.turn.saturating_add(1);
         self.note(
             key,
