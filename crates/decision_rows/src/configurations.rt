@@ -2,7 +2,7 @@
 use crate::events::{asked, cut};
 use proxy_config::{Config, ConfigFault, Hosts, ServicePoint, read_config};
 use std::alloc::Global;
-use test_rows::{NoMemory, Row, number, put_line, put_number, put_shown, says};
+use test_rows::{NoMemory, Row, number, put_all, put_line, put_number, put_shown, says};
 
 /// The keys that have no default.
 const ADDRESSES: &[u8] = b"listen = \"127.0.0.1:3128\"\nadmin = \"127.0.0.1:3129\"\n";
@@ -71,6 +71,14 @@ fn put_hosts(out: &mut Vec<u8>, hosts: &Hosts, lines: &[u8]) -> Result<(), NoMem
     Ok(())
 }
 
+/// The text of a row, behind the two addresses where it isn't whole.
+fn text_of(alloc: Global, row: &Row<'_>) -> Result<Vec<u8>, NoMemory> {
+    let mut text = Vec::new(alloc);
+    let addresses = if row.has(b"whole") { b"" } else { ADDRESSES };
+    put_all(&mut text, &[addresses, row.get(b"text")])?;
+    Ok(text)
+}
+
 fn put_good(
     out: &mut Vec<u8>,
     call: &[u8],
@@ -92,11 +100,7 @@ fn put_config(
     out: &mut Vec<u8>,
     row: &Row<'_>,
 ) -> Result<(), NoMemory> {
-    let mut text = Vec::new(alloc);
-    if !row.has(b"whole") {
-        text.extend_from_slice(ADDRESSES)?;
-    }
-    text.extend_from_slice(row.get(b"text"))?;
+    let text = text_of(alloc, row)?;
     match read_config(alloc, &text) {
         Ok(config) => put_good(out, call, &config, row),
         Err(fault) => put_config_fault(out, &fault),

@@ -54,17 +54,22 @@ fn events_of(alloc: Global, lines: &[u8]) -> Result<Vec<Event>, NoMemory> {
     Ok(events)
 }
 
+/// Whether these are the answers to these events, one by one.
+fn are_answered_so(plan: Plan, events: &[Event], answers: &[Answer]) -> bool {
+    let mut state = State::begin(plan);
+    for (event, answer) in events.iter().zip(answers) {
+        if answered(&mut state, *event) != *answer {
+            return false;
+        }
+    }
+    answers.len() == events.len()
+}
+
 /// Whether all events in one go are answered as one by one.
 fn is_run_so(alloc: Global, plan: Plan, lines: &[u8]) -> Result<bool, NoMemory> {
     let events = events_of(alloc, lines)?;
     let answers = run(alloc, plan, &events)?;
-    let mut state = State::begin(plan);
-    for (event, answer) in events.iter().zip(answers.iter()) {
-        if answered(&mut state, *event) != *answer {
-            return Ok(false);
-        }
-    }
-    Ok(answers.len() == events.len())
+    Ok(are_answered_so(plan, &events, &answers))
 }
 
 /// Takes events with a comma between each two, if each is one that may come next.
@@ -79,6 +84,16 @@ fn are_taken(state: &mut State, events: &[u8]) -> bool {
     true
 }
 
+/// Adds what is said of each wanted line.
+fn put_lines(out: &mut Vec<u8>, state: &mut State, row: &Row<'_>) -> Result<(), NoMemory> {
+    for line in row.get(b"want").split(|byte| *byte == b'\n') {
+        if !line.is_empty() {
+            put_said(out, state, asked(line), row)?;
+        }
+    }
+    Ok(())
+}
+
 fn put_history(alloc: Global, out: &mut Vec<u8>, row: &Row<'_>) -> Result<(), NoMemory> {
     let Some(plan) = read_plan(row.get(b"plan")) else {
         return put_line(out, b"no plan");
@@ -86,17 +101,14 @@ fn put_history(alloc: Global, out: &mut Vec<u8>, row: &Row<'_>) -> Result<(), No
     let lines = row.get(b"want");
     let mut state = State::begin(plan);
     if !are_taken(&mut state, row.get(b"after")) {
-        put_line(out, b"an event is refused")?;
+        return put_line(out, b"an event is refused");
     }
-    for line in lines.split(|byte| *byte == b'\n') {
-        if !line.is_empty() {
-            put_said(out, &mut state, asked(line), row)?;
-        }
+    put_lines(out, &mut state, row)?;
+    if row.has(b"after") || is_run_so(alloc, plan, lines)? {
+        Ok(())
+    } else {
+        put_line(out, b"another answer in one go")
     }
-    if !row.has(b"after") && !is_run_so(alloc, plan, lines)? {
-        put_line(out, b"another answer in one go")?;
-    }
-    Ok(())
 }
 
 fn put_plan(out: &mut Vec<u8>, row: &Row<'_>) -> Result<(), NoMemory> {

@@ -1,4 +1,5 @@
-//! Judges the state machines and rules by rows of plain text: each file that an argument names is a table.
+//! Judges the state machines and rules by rows of plain text: each file that an argument names is a table. An argument that is a
+//! number stands for so many allocations, each of which is given back.
 //!
 //! It ends with status 0 once all rows are judged, whatever their answers: its output says which failed.
 #![tactic(auto)]
@@ -16,8 +17,9 @@ mod worlds;
 
 use std::alloc::Global;
 use std::io::Write;
+use std::rt::Files;
 use std::{env, fs, io};
-use test_rows::{NoMemory, Report, Row, read_table};
+use test_rows::{NoMemory, Report, Row, Table, allocate, call_of, number, read_table};
 
 /// Adds the answer to a row of this call; nothing where there is no such call.
 fn put_answer(
@@ -34,32 +36,42 @@ fn put_answer(
     random::put_answer(call, row, out)
 }
 
-/// The report on a file's rows.
-fn judged(alloc: Global, text: &[u8]) -> Result<Report, NoMemory> {
-    let table = read_table(alloc, text)?;
-    let mut report = Report::new(alloc);
+/// Judges the row at a place of a table.
+fn judge_row(alloc: Global, table: &Table, at: usize, report: &mut Report) -> Result<(), NoMemory> {
     let head = table.head();
+    let row = table.row(at);
+    let mut answer = Vec::new(alloc);
+    put_answer(alloc, call_of(&head, &row), &row, &mut answer)?;
+    report.judge(&head, &row, &answer)
+}
+
+fn judge_rows(alloc: Global, table: &Table, report: &mut Report) -> Result<(), NoMemory> {
     for at in 1..table.len() {
-        let row = table.row(at);
-        let call = if row.has(b"call") {
-            row.get(b"call")
-        } else {
-            head.get(b"call")
-        };
-        let mut answer = Vec::new(alloc);
-        put_answer(alloc, call, &row, &mut answer)?;
-        report.judge(&head, &row, &answer)?;
+        judge_row(alloc, table, at, report)?;
     }
-    report.finish(&head)?;
-    Ok(report)
+    report.finish(&table.head())
+}
+
+/// Judges the rows of a file.
+fn judge_file(
+    rt: &(impl Files + AllocGlobal),
+    path: &str,
+    output: &mut impl Write,
+) -> io::Result<()> {
+    let text = fs::read(rt, path)?;
+    let table = read_table(rt.alloc(), &text)?;
+    let mut report = Report::new(rt.alloc());
+    judge_rows(rt.alloc(), &table, &mut report)?;
+    output.write_all(report.lines())
 }
 
 fn main(rt: HostRuntime) -> io::Result<()> {
     let mut output = rt.stdout();
     for path in env::args(&rt)?.skip(1) {
-        let text = fs::read(&rt, path.as_str())?;
-        let report = judged(rt.alloc(), &text)?;
-        output.write_all(report.lines())?;
+        match number(path.as_bytes()) {
+            Some(count) => allocate(rt.alloc(), count)?,
+            None => judge_file(&rt, path.as_str(), &mut output)?,
+        }
     }
     Ok(())
 }

@@ -105,20 +105,39 @@ fn held_at_end(
     Ok(world.book())
 }
 
+/// Adds what is said of each wanted line.
+fn put_lines(out: &mut Vec<u8>, world: &mut World, lines: &[u8]) -> Result<(), NoMemory> {
+    for line in lines.split(|byte| *byte == b'\n') {
+        if !line.is_empty() {
+            put_said(out, world, asked(line))?;
+        }
+    }
+    Ok(())
+}
+
+/// How many bytes are held once each event came by itself.
+fn held_one_by_one(
+    alloc: Global,
+    out: &mut Vec<u8>,
+    capacity: u64,
+    maxima: &[u64],
+    lines: &[u8],
+) -> Result<u64, NoMemory> {
+    let mut world = World::new(alloc, capacity, maxima)?;
+    put_lines(out, &mut world, lines)?;
+    Ok(world.book())
+}
+
 fn put_world(alloc: Global, out: &mut Vec<u8>, row: &Row<'_>) -> Result<(), NoMemory> {
     let capacity = row.number(b"capacity").unwrap_or(0);
     let maxima = maxima_of(alloc, row.get(b"maxima"))?;
     let lines = row.get(b"want");
-    let mut world = World::new(alloc, capacity, &maxima)?;
-    for line in lines.split(|byte| *byte == b'\n') {
-        if !line.is_empty() {
-            put_said(out, &mut world, asked(line))?;
-        }
+    let held = held_one_by_one(alloc, out, capacity, &maxima, lines)?;
+    if held_at_end(alloc, capacity, &maxima, lines)? == held {
+        Ok(())
+    } else {
+        put_line(out, b"other bytes are held in one go")
     }
-    if held_at_end(alloc, capacity, &maxima, lines)? != world.book() {
-        put_line(out, b"other bytes are held in one go")?;
-    }
-    Ok(())
 }
 
 pub fn put_answer(
