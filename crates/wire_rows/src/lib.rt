@@ -1,0 +1,26 @@
+//! Rows with wires: what each wire gives and takes, by letters that go through many values, and what the runs of a row tell.
+//!
+//! The letters `n`, `m` and `s` stand for numbers and `e` for an answer of a wire. A row lists their values (`n: 0-129`,
+//! `e: ended fault`), and is run once for each choice of them. `n` is a place: runs at places in a row that tell the same are
+//! told once. All choices of the other letters have to tell the same.
+//!
+//! What a row doesn't say its table's head may say. A text that is `@NAME` is that of another key.
+#![tactic(auto)]
+
+mod plans;
+mod random;
+mod runs;
+mod scene;
+mod shown;
+mod values;
+mod wires;
+mod words;
+
+pub use plans::{event_of, history, plan_of, point_of};
+pub use runs::{Player, put_runs};
+pub use scene::Scene;
+pub use shown::{put_flag, put_text, put_word};
+pub use test_rows::NoMemory;
+pub use values::{Values, number};
+pub use wires::{answers, wire};
+pub use words::{count_after, has_word, is, parts, place_of};
