@@ -1,0 +1,78 @@
+//! Judges the engines by rows of plain text, over wires in memory: each file that an argument names is a table.
+//!
+//! It ends with status 0 once all rows are judged, whatever their answers: its output says which failed.
+#![tactic(auto)]
+
+mod exchanges;
+mod gives;
+mod kept;
+mod options;
+mod pages;
+mod relays;
+mod replies;
+mod servers;
+mod services;
+mod wires;
+
+use std::alloc::Global;
+use std::io::Write;
+use std::sync::Wait;
+use std::time::Clock;
+use std::{env, fs, io};
+use test_rows::{NoMemory, Report, read_table};
+use wire_rows::{Player, Scene, Values, place_of, put_runs};
+
+/// The calls of rows that need no pages, in the order of `put_run`.
+const CALLS: &[u8] = b"reply options serve feed lines service settings wire shared gate";
+
+/// What plays a row.
+#[derive(Clone, Copy)]
+struct Engines<'a, R> {
+    rt: &'a R,
+    alloc: Global,
+}
+
+impl<'a, R: Wait + Clock> Player for Engines<'a, R> {
+    fn put_run(&self, scene: Scene<'_>, values: Values, out: &mut Vec<u8>) -> Result<(), NoMemory> {
+        let call = scene.get(b"call");
+        match place_of(CALLS, call) {
+            Some(0) => replies::put_reply(self.alloc, scene, values, out),
+            Some(1) => options::put_options(self.alloc, scene, values, out),
+            Some(2) => servers::put_served(self.alloc, scene, values, out),
+            Some(3) => servers::put_fed(self.alloc, scene, values, out),
+            Some(4) => servers::put_lines(scene, out),
+            Some(5) => services::put_service(self.alloc, scene, out),
+            Some(6) => services::put_settings(self.alloc, scene, out),
+            Some(7) => wires::put_wire(self.alloc, scene, values, out),
+            Some(8) => wires::put_shared(self.alloc, scene, values, out),
+            Some(9) => wires::put_gate(self.rt, scene, out),
+            _ => pages::put_on_pages(self.rt, self.alloc, scene, values, out),
+        }
+    }
+}
+
+/// The report on a file's rows.
+fn judged<R: Wait + Clock>(rt: &R, alloc: Global, text: &[u8]) -> Result<Report, NoMemory> {
+    let table = read_table(alloc, text)?;
+    let head = table.head();
+    let player = Engines { rt, alloc };
+    let mut report = Report::new(alloc);
+    for at in 1..table.len() {
+        let row = table.row(at);
+        let mut answer = Vec::new(alloc);
+        put_runs(alloc, &player, Scene { head, row }, &mut answer)?;
+        report.judge(&head, &row, &answer)?;
+    }
+    report.finish(&head)?;
+    Ok(report)
+}
+
+fn main(rt: HostRuntime) -> io::Result<()> {
+    let mut output = rt.stdout();
+    for path in env::args(&rt)?.skip(1) {
+        let text = fs::read(&rt, path.as_str())?;
+        let report = judged(&rt, rt.alloc(), &text)?;
+        output.write_all(report.lines())?;
+    }
+    Ok(())
+}

@@ -1,0 +1,250 @@
+//! Messages on their way from one wire to another.
+ghost use Rattle.std.specs.Prelude.{◌≡◌, true};
+ghost use Rattle.trace_core.specs.History.{seen};
+ghost use Rattle.adapt_sides.specs.Tapes.{KeepsUndelivered};
+
+use crate::kept::Kept;
+use crate::replies::MAX_IDLE;
+use http_relay::{NextHop, RelayFault, SourceSide, Turn};
+use http_side::{
+    Forward, Framing, HttpFault, HttpRequest, Message, Part, forward_head, read_request,
+};
+use span_tape::SpanTape;
+use std::alloc::Global;
+use test_rows::{NoMemory, put_line, put_shown};
+use trace_core::{Kind, Plan, Point, State};
+use wire_kit::{MemoryWire, Wire};
+use wire_rows::{Scene, Values, put_text, wire};
+
+/// How a message ended.
+#[derive(Clone, Copy, Debug, PartialEq, Eq)]
+pub enum End {
+    /// The next hop took all of it.
+    Done,
+    /// Its source failed.
+    Source(RelayFault),
+    /// The next hop's side failed.
+    NextHop(RelayFault),
+    /// No wire gives or takes any more.
+    Waiting,
+}
+
+/// A message between two wires.
+#[derive(Drop)]
+struct Exchange {
+    user: Option<HttpRequest>,
+    source: SourceSide,
+    from: MemoryWire,
+    hop: NextHop,
+    to: MemoryWire,
+    state: State,
+}
+
+/// Whether the tape has what may still go out of the chosen message, and nothing before it.
+pub fn is_in_step(state: &State, tape: &SpanTape) -> bool
+    ensures { result ≡ true → KeepsUndelivered (seen state.now.plan state.now.events) tape.now }
+{
+    let seen = state.seen();
+    let (came, out) = if seen.plan.kind == Kind::Plain || seen.no_mod {
+        (seen.received, seen.original_delivered)
+    } else {
+        (seen.adapted_received, seen.adapted_delivered)
+    };
+    tape.end() == came && tape.base() == out
+}
+
+/// Takes the events of a turn into the history, and says how many body bytes came.
+pub fn step(state: &mut State, turn: &Turn) -> usize {
+    let before = state.seen().received;
+    for event in turn.events.as_slice() {
+        let _ = state.step(*event);
+    }
+    state.seen().received.saturating_sub(before) as usize
+}
+
+/// The head that goes on, and how the body goes.
+fn forwarded(
+    alloc: Global,
+    source: &SourceSide,
+    user: Option<&HttpRequest>,
+) -> Result<Option<(Vec<u8>, Framing)>, NoMemory> {
+    let forward = match (source.request_head(), source.response_head(), user) {
+        (Some(request), _, _) => Forward {
+            user: request,
+            message: Message::Request(request),
+            part: Part::Own,
+            body_read: true,
+        },
+        (None, Some(response), Some(user)) => Forward {
+            user,
+            message: Message::Response(response),
+            part: Part::Own,
+            body_read: true,
+        },
+        _ => return Ok(None),
+    };
+    let head = forward_head(alloc, &forward)?;
+    Ok(Some((head, forward.framing())))
+}
+
+impl Exchange {
+    /// Begins the message, once its head was read.
+    fn begin(&mut self, alloc: Global) -> Result<(), NoMemory> {
+        let found = forwarded(alloc, &self.source, self.user.as_ref())?;
+        if let Some((head, framing)) = found
+            && self.hop.is_idle()
+        {
+            self.hop.begin(head, framing);
+        }
+        Ok(())
+    }
+
+    /// A turn of the source, whose fault it answers.
+    fn read(&mut self, alloc: Global, kept: &mut Kept) -> Result<Option<RelayFault>, NoMemory> {
+        if self.hop.is_idle() {
+            return match self.source.head_turn(&mut self.from) {
+                Ok(true) => {
+                    self.begin(alloc)?;
+                    Ok(None)
+                }
+                Ok(false) => Ok(None),
+                Err(RelayFault::NoMemory) => Err(NoMemory),
+                Err(fault) => Ok(Some(fault)),
+            };
+        }
+        let mut out = [0; 64];
+        match self.source.read_turn(&mut self.from, &mut out) {
+            Ok(turn) => {
+                let count = step(&mut self.state, &turn);
+                kept.append(&out[..count.min(64)]);
+                Ok(None)
+            }
+            Err(RelayFault::NoMemory) => Err(NoMemory),
+            Err(fault) => Ok(Some(fault)),
+        }
+    }
+
+    /// A turn of the next hop's side, whose fault it answers.
+    fn write(&mut self, kept: &mut Kept) -> Option<RelayFault> {
+        if !is_in_step(&self.state, kept.tape()) {
+            return None;
+        }
+        match self.hop.write_turn(&self.state, kept.tape(), &mut self.to) {
+            Ok(turn) => {
+                let _ = step(&mut self.state, &turn);
+                kept.drop_to(self.state.seen().original_delivered);
+                None
+            }
+            Err(fault) => Some(fault),
+        }
+    }
+
+    /// So many turns of both at most, until one message is out or failed, or nothing moves any more.
+    fn pass(&mut self, alloc: Global, kept: &mut Kept, turns: usize) -> Result<End, NoMemory> {
+        let mut idle: usize = 0;
+        for _ in 0..turns {
+            let before = (self.from.counts(), self.to.counts());
+            if let Some(fault) = self.read(alloc, kept)? {
+                return Ok(End::Source(fault));
+            }
+            if let Some(fault) = self.write(kept) {
+                return Ok(End::NextHop(fault));
+            }
+            if self.state.seen().closed {
+                return Ok(End::Done);
+            }
+            let same = (self.from.counts(), self.to.counts()) == before;
+            idle = if same { idle.saturating_add(1) } else { 0 };
+            if idle > MAX_IDLE {
+                break;
+            }
+        }
+        Ok(End::Waiting)
+    }
+
+    /// Goes on to the next message on the same wires, where this one was read to its end.
+    fn go_on(&mut self, alloc: Global, state: State, kept: &mut Kept) {
+        if self.source.ended() {
+            self.source.next();
+        }
+        self.hop = NextHop::new(alloc);
+        self.state = state;
+        kept.clear();
+    }
+
+    /// Passes so many messages on, one after the other, and adds what the next hop took and how the last one ended.
+    fn put_passed(
+        &mut self,
+        alloc: Global,
+        scene: Scene<'_>,
+        values: Values,
+        kept: &mut Kept,
+        out: &mut Vec<u8>,
+    ) -> Result<(), NoMemory> {
+        let turns = scene.number_or(b"turns", values, 250);
+        let mut end = self.pass(alloc, kept, turns)?;
+        for _ in 1..scene.number_or(b"messages", values, 1) {
+            if let Some(state) = plain() {
+                self.go_on(alloc, state, kept);
+                end = self.pass(alloc, kept, turns)?;
+            }
+        }
+        put_text(out, scene, b"taken", self.to.taken(), values)?;
+        if let Some(why) = self.source.head_fault() {
+            put_shown(out, b"why", &why)?;
+        }
+        put_shown(out, b"end", &end)
+    }
+}
+
+/// A history of a message that no service sees, before its first event.
+fn plain() -> Option<State> {
+    let plan = Plan::new(Kind::Plain, false, false, None, Point::Respmod)?;
+    Some(State::begin(plan))
+}
+
+/// The user's request, where it isn't the message itself.
+fn user_of(alloc: Global, scene: Scene<'_>) -> Result<Option<HttpRequest>, NoMemory> {
+    if !scene.has(b"user") {
+        return Ok(None);
+    }
+    match read_request(alloc, scene.get(b"user"), false) {
+        Ok(head) => Ok(Some(head.value)),
+        Err(HttpFault::NoMemory) => Err(NoMemory),
+        Err(_) => Ok(None),
+    }
+}
+
+/// The side of the row's messages.
+fn source_of(alloc: Global, user: Option<&HttpRequest>) -> SourceSide {
+    match user {
+        Some(user) => SourceSide::response(alloc, user.method() == b"HEAD".as_slice()),
+        None => SourceSide::request(alloc),
+    }
+}
+
+/// Adds what the next hop takes of the row's messages: of requests of a user, or of answers to the request that `user` has.
+pub fn put_relayed(
+    alloc: Global,
+    scene: Scene<'_>,
+    values: Values,
+    kept: &mut Kept,
+    out: &mut Vec<u8>,
+) -> Result<(), NoMemory> {
+    let Some(state) = plain() else {
+        return put_line(out, b"no plan");
+    };
+    let from = wire(alloc, scene, b"source", b"reads", b"", values)?;
+    let to = wire(alloc, scene, b"", b"", b"writes", values)?;
+    let user = user_of(alloc, scene)?;
+    let source = source_of(alloc, user.as_ref());
+    let mut exchange = Exchange {
+        user,
+        source,
+        from,
+        hop: NextHop::new(alloc),
+        to,
+        state,
+    };
+    exchange.put_passed(alloc, scene, values, kept, out)
+}

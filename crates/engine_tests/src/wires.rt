@@ -1,5 +1,0 @@
-//! Wires in memory, and the gates.
-
-mod gate;
-mod memory;
-mod shared;
