@@ -133,9 +133,6 @@ const REFUSED: &[(&str, &str, &str)] = &[
     ("listen = \"127.0.0.1:1\"", "", "config admin\n"),
     (LEAST, "zebra = 1\nant = 1", "config ant\n"),
     (LEAST, "rows = 4097\nshards = 65", "config shards\n"),
-    (LEAST, "wait = -1", "config wait\n"),
-    (LEAST, "log = \"\"\nwait = 3601", "config wait\n"),
-    (LEAST, "hosts = 1\nlog = \"a\\u0000b\"", "config log\n"),
     (LEAST, "[hosts]\n\"o.test\" = 1", "config hosts.o.test\n"),
     (SERVICE, "", "config respmod.path\n"),
     (SERVICE, "path = \"/x\"\nport = 0", "config respmod.port\n"),
@@ -150,7 +147,6 @@ const REFUSED: &[(&str, &str, &str)] = &[
 const TAKEN: &[&str] = &[
     "",
     "retry = false\nwindow = 65536",
-    "wait = 3600\nlog = \"a.log\"",
     "[hosts]\n\"a\" = \"127.0.0.1:80\"",
 ];
 
