@@ -1,8 +1,8 @@
 # Completion of `adaptproxy` and `icapd` for bash.
 _adaptproxy() {
   [ "$COMP_CWORD" -eq 1 ] || return 0
-  local words="serve trace chunks"
-  [ "${1##*/}" != icapd ] || words="serve once"
+  local words="serve check trace chunks --help --version"
+  [ "${1##*/}" != icapd ] || words="serve check once --help --version"
   # shellcheck disable=SC2207
   COMPREPLY=($(compgen -W "$words" -- "$2"))
 }

@@ -1,4 +1,5 @@
 # Completion of `adaptproxy` for fish.
 complete -c adaptproxy -n __fish_use_subcommand -f -a serve -d 'is the proxy: reads its configuration from standard input'
+complete -c adaptproxy -n __fish_use_subcommand -f -a check -d 'reads a configuration as serve does, and says ok or its fault'
 complete -c adaptproxy -n __fish_use_subcommand -f -a trace -d 'answers a script of one transaction'
 complete -c adaptproxy -n __fish_use_subcommand -f -a chunks -d 'reads a chunked body in pieces of N bytes'
