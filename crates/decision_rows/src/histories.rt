@@ -4,14 +4,20 @@ use crate::events::{answered, asked, read_event, read_part, read_plan};
 use crate::marks::put_mark;
 use crate::scripts::put_script;
 use std::alloc::Global;
-use test_rows::{NoMemory, Row, put_decimal, put_fault, put_line, says};
-use trace_core::{Answer, Event, Plan, State, run};
+use test_rows::{NoMemory, Row, put_decimal, put_line, says};
+use trace_core::{Answer, Event, Plan, State, StepFault, run};
 
 fn put_range(out: &mut Vec<u8>, word: &[u8], range: (u64, u64)) -> Result<(), NoMemory> {
     out.extend_from_slice(word)?;
     put_decimal(out, range.0)?;
     out.extend_from_slice(b"..")?;
     put_decimal(out, range.1)
+}
+
+/// Adds a fault's number and its text.
+fn put_step_fault(out: &mut Vec<u8>, fault: StepFault) -> Result<(), NoMemory> {
+    let text = format!(in *out.allocator(); "fault {} {fault}\n", fault.number())?;
+    out.extend_from_slice(text.as_bytes())
 }
 
 fn put_held(out: &mut Vec<u8>, answer: Answer) -> Result<(), NoMemory> {
@@ -23,7 +29,7 @@ fn put_held(out: &mut Vec<u8>, answer: Answer) -> Result<(), NoMemory> {
             }
             out.extend_from_slice(b"\n")
         }
-        Answer::Fault(fault) => put_fault(out, fault.number(), &fault),
+        Answer::Fault(fault) => put_step_fault(out, fault),
     }
 }
 
