@@ -8,8 +8,6 @@ ghost use Rattle.std.specs.Prelude.{◌<◌, ◌≡◌, IfOk};
 
 mod counted;
 mod measured;
-#[cfg(test)]
-mod tests;
 mod worked;
 
 use adapt_bytes::read_decimal;

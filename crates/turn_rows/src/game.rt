@@ -1,0 +1,148 @@
+//! A transaction in play, whatever its sides are.
+
+ghost use Rattle.std.specs.Prelude.{◌≡◌};
+
+use crate::sides::Counted;
+use adapt_sides::{Hop, Service, Source};
+use adapt_turn::{Forward, Line, Outcome, Parts, Side, Start, Turned, Tx};
+use span_bank::{Bank, Ledgers, Pages};
+use std::sync::Wait;
+use wire_kit::Wire;
+
+/// The connections of a service beside the one in use.
+#[derive(Drop)]
+pub struct Lines {
+    /// One that comes in the place of a broken one.
+    pub fresh: Option<Counted>,
+    /// The broken one.
+    pub broken: Option<Counted>,
+    /// How often a broken one failed the transaction.
+    pub failed: usize,
+}
+
+/// A transaction in play.
+pub trait Game<B: Ledgers> {
+    /// A turn of a side at a moment.
+    fn take_turn<R: Wait>(&mut self, rt: &R, bank: &Bank<B>, side: Side, now: u64) -> Turned;
+
+    /// Turns of sides at the moment of the last moved byte.
+    fn take_turns<R: Wait>(&mut self, rt: &R, bank: &Bank<B>, order: &[Side]);
+
+    /// The proxy stops.
+    fn stop<R: Wait>(&mut self, rt: &R, bank: &Bank<B>);
+
+    /// How it ended, once it has.
+    fn ending(&self) -> Option<Outcome>;
+
+    /// Begins anew on a fresh connection where the service's broke before a byte of a reply; where there is none it fails.
+    fn mend<R: Wait>(&mut self, rt: &R, bank: &Bank<B>, lines: &mut Lines);
+}
+
+impl<B: Ledgers, S: Source, V: Service, K: Hop, F: Forward<S, K>, A: Wire, C: Wire> Game<B>
+    for Tx<B, S, V, K, F, A, Counted, C> {
+    fn take_turn<R: Wait>(&mut self, rt: &R, bank: &Bank<B>, side: Side, now: u64) -> Turned {
+        self.turn(rt, bank, side, now)
+    }
+
+    fn take_turns<R: Wait>(&mut self, rt: &R, bank: &Bank<B>, order: &[Side]) {
+        self.drive(rt, bank, order)
+    }
+
+    fn stop<R: Wait>(&mut self, rt: &R, bank: &Bank<B>) {
+        self.halt(rt, bank)
+    }
+
+    fn ending(&self) -> Option<Outcome> {
+        self.outcome()
+    }
+
+    fn mend<R: Wait>(&mut self, rt: &R, bank: &Bank<B>, lines: &mut Lines) {
+        if self.is_broken() {
+            match lines.fresh.take() {
+                Some(fresh) => lines.broken = self.retry(rt, bank, fresh),
+                None => {
+                    self.no_retry(rt, bank);
+                    lines.failed = lines.failed.saturating_add(1);
+                }
+            }
+        }
+    }
+}
+
+/// How a transaction ended, and its wires.
+#[derive(Drop)]
+pub struct Ended<A, C> {
+    pub outcome: Outcome,
+    pub source: A,
+    pub service: Option<Counted>,
+    pub next_hop: C,
+}
+
+/// Ends a transaction: one that isn't over fails. Its reservation is closed.
+pub fn end<
+    B: Ledgers,
+    S: Source + Drop,
+    V: Service + Drop,
+    K: Hop + Drop,
+    F: Forward<S, K> + Drop,
+    A: Wire,
+    C: Wire,
+    R: Wait,
+>(rt: &R, bank: &Bank<B>, tx: Tx<B, S, V, K, F, A, Counted, C>) -> Ended<A, C> {
+    let mut tx = tx;
+    tx.halt(rt, bank);
+    match tx.into_parts() {
+        Ok(parts) => {
+            let Parts {
+                stake,
+                source: _,
+                source_wire,
+                service,
+                next: _,
+                next_wire,
+                back: _,
+                forward: _,
+                outcome,
+                seen: _,
+            } = parts;
+            bank.close(rt, stake, Pages::none());
+            Ended {
+                outcome,
+                source: source_wire,
+                service: match service {
+                    Some(Line { side: _, wire }) => wire,
+                    None => None,
+                },
+                next_hop: next_wire,
+            }
+        }
+        Err(_) => unreachable!(),
+    }
+}
+
+/// Takes apart what no transaction began with.
+pub fn undo<B: Ledgers, S: Drop, V: Drop, K: Drop, F: Drop, A: Drop, W: Drop, C: Drop, R: Wait>(
+    rt: &R,
+    bank: &Bank<B>,
+    start: Start<B, S, V, K, F, A, W, C>,
+)
+    requires { (start.stake.held ≡ 0) × (start.stake.pages ≡ 0) }
+{
+    let Start {
+        plan: _,
+        limits: _,
+        stake,
+        source: _,
+        source_wire: _,
+        service,
+        next: _,
+        next_wire: _,
+        back: _,
+        forward: _,
+        deadline: _,
+        now: _,
+        reused: _,
+    } = start;
+    if let Some(Line { side: _, wire: _ }) = service {}
+    bank.close(rt, stake, Pages::none());
+}

@@ -1,0 +1,88 @@
+//! Judges transactions by rows of plain text: the proxy's own sides over wires in memory, turned by a script. Each file that an
+//! argument names is a table.
+//!
+//! It ends with status 0 once all rows are judged, whatever their answers: its output says which failed.
+#![tactic(auto)]
+
+mod banks;
+mod beside;
+mod game;
+mod held;
+mod scenes;
+mod sides;
+mod steps;
+mod threads;
+mod told;
+
+use std::alloc::Global;
+use std::io::Write;
+use std::sync::Wait;
+use std::thread::Threads;
+use std::time::Clock;
+use std::{env, fs, io};
+use test_rows::{NoMemory, Report, read_table};
+use wire_kit::Answer;
+use wire_rows::{Player, Scene, Values, put_runs};
+
+/// What plays a row.
+#[derive(Clone, Copy)]
+struct Turns<'a, R> {
+    rt: &'a R,
+    alloc: Global,
+}
+
+impl<'a, R: Wait> Player for Turns<'a, R> {
+    fn put_run(&self, scene: Scene<'_>, values: Values, out: &mut Vec<u8>) -> Result<(), NoMemory> {
+        banks::put_turns(self.rt, self.alloc, scene, values, out)
+    }
+}
+
+/// The letters of a row that has none.
+const NO_LETTERS: Values = Values {
+    n: 0,
+    m: 0,
+    s: 0,
+    e: Answer::Wait,
+};
+
+/// Adds the answer to a row.
+fn put_answer<R: Threads + Wait + Clock + Sync>(
+    rt: &R,
+    alloc: Global,
+    scene: Scene<'_>,
+    out: &mut Vec<u8>,
+) -> Result<(), NoMemory> {
+    if scene.is(b"call", b"threads") {
+        return threads::put_threads(rt, alloc, scene, NO_LETTERS, out);
+    }
+    put_runs(alloc, &Turns { rt, alloc }, scene, out)
+}
+
+/// The report on a file's rows.
+fn judged<R: Threads + Wait + Clock + Sync>(
+    rt: &R,
+    alloc: Global,
+    text: &[u8],
+) -> Result<Report, NoMemory> {
+    let table = read_table(alloc, text)?;
+    let head = table.head();
+    let mut report = Report::new(alloc);
+    for at in 1..table.len() {
+        let row = table.row(at);
+        let mut answer = Vec::new(alloc);
+        put_answer(rt, alloc, Scene { head, row }, &mut answer)?;
+        report.judge(&head, &row, &answer)?;
+    }
+    report.finish(&head)?;
+    Ok(report)
+}
+
+fn main(rt: HostRuntime) -> io::Result<()> {
+    let mut output = rt.stdout();
+    for path in env::args(&rt)?.skip(1) {
+        let text = fs::read(&rt, path.as_str())?;
+        let report = judged(&rt, rt.alloc(), &text)?;
+        output.write_all(report.lines())?;
+    }
+    Ok(())
+}

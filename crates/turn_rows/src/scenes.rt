@@ -1,0 +1,105 @@
+//! Begins a transaction.
+
+ghost use Rattle.std.specs.Prelude.{◌≡◌, ◌≤◌, IfSome};
+ghost use Rattle.adapt_bytes.specs.declared.limits.TheConstants.{MAX_CAPACITY};
+ghost use Rattle.plan_rules.specs.Claims.{claim_of};
+
+use crate::game::undo;
+use crate::sides::{Counted, Sides, Wires};
+use adapt_turn::{Line, Tx};
+use http_relay::{NextHop, SourceSide};
+use icap_client::ServiceSide;
+use plan_rules::{Limits, claim};
+use proxy_rules::{Beginning, HeadMaker};
+use span_bank::{Bank, Ledgers, Stake};
+use std::alloc::Global;
+use std::sync::Wait;
+use trace_core::Plan;
+use wire_kit::Wire;
+
+/// The seconds that may pass without a moved byte.
+const DEADLINE: u64 = 60;
+
+/// The moment at which a transaction begins, in seconds.
+pub const BEGIN: u64 = 100;
+
+/// A transaction of the proxy's own sides over wires in memory, the source's being one of these.
+pub type Moving<B, A> = Tx<B, SourceSide, ServiceSide, NextHop, HeadMaker, A, Counted, Counted>;
+
+/// What is configured: the service's connection was used before where the plan may begin anew.
+fn limits_of(plan: &Plan) -> Limits {
+    Limits {
+        preview_limit: 1024,
+        allow_limit: 0,
+        window: 8192,
+        retry: plan.retry,
+    }
+}
+
+/// The service's side with its wire, where the message is offered.
+fn line_of(plan: &Plan, side: ServiceSide, wire: Counted) -> Option<Line<ServiceSide, Counted>> {
+    if plan.kind.is_plain() {
+        return None;
+    }
+    Some(Line {
+        side,
+        wire: Some(wire),
+    })
+}
+
+/// Begins a transaction of this plan on a reservation of its own. `None` where it can't begin.
+pub fn begin<B: Ledgers, A: Wire + Drop>(
+    rt: &impl Wait,
+    alloc: Global,
+    bank: &Bank<B>,
+    plan: Plan,
+    sides: Sides,
+    wires: Wires<A>,
+) -> Option<Moving<B, A>> {
+    let limits = limits_of(&plan);
+    let bytes = claim(&plan, &limits);
+    if bytes == 0 {
+        return None;
+    }
+    match bank.open(rt, bytes) {
+        Ok(stake) => start(rt, alloc, bank, plan, limits, stake, sides, wires),
+        Err(_) => None,
+    }
+}
+
+/// The same on this reservation.
+fn start<B: Ledgers, A: Wire + Drop>(
+    rt: &impl Wait,
+    alloc: Global,
+    bank: &Bank<B>,
+    plan: Plan,
+    limits: Limits,
+    stake: Stake<B>,
+    sides: Sides,
+    wires: Wires<A>,
+) -> Option<Moving<B, A>>
+    requires empty { (stake.held ≡ 0) × (stake.pages ≡ 0) }
+    requires claim { stake.claim ≡ claim_of plan limits.window }
+    requires small { stake.claim ≤ MAX_CAPACITY }
+{
+    let beginning = Beginning {
+        plan,
+        limits,
+        stake,
+        source: sides.source,
+        source_wire: wires.source,
+        service: line_of(&plan, sides.service, wires.service),
+        next_wire: wires.next_hop,
+        heads: sides.heads,
+        deadline: DEADLINE,
+        now: BEGIN,
+        reused: limits.retry,
+    };
+    match proxy_rules::begin(alloc, beginning) {
+        Ok(tx) => Some(tx),
+        Err(start) => {
+            undo(rt, bank, start);
+            None
+        }
+    }
+}

@@ -1,0 +1,214 @@
+//! The steps of a row, in words.
+
+use crate::game::{Game, Lines};
+use adapt_turn::{Side, Turned};
+use span_bank::{Bank, Ledgers};
+use std::alloc::Global;
+use std::sync::Wait;
+use test_rows::{NoMemory, put_line, put_number, put_shown};
+use wire_rows::{Scene, Values, number, parts, place_of};
+
+/// Turns of each side.
+pub const ROUND: [Side; 3] = [Side::Source, Side::Service, Side::NextHop];
+
+/// A turn whose kind is counted: so many moved just one byte, so many answered that it is finished, and so many otherwise.
+#[derive(Clone, Copy)]
+struct Counted {
+    moved: usize,
+    finished: usize,
+    other: usize,
+}
+
+/// The sides that a key lists: `source`, `service` and `hop`.
+fn order_of(alloc: Global, words: &[u8]) -> Result<Vec<Side>, NoMemory> {
+    let mut order = Vec::new(alloc);
+    for word in words.split(|byte| *byte == b' ') {
+        if let Some(place) = place_of(b"source service hop", word)
+            && let Some(side) = ROUND.get(place)
+        {
+            order.push(*side)?;
+        }
+    }
+    Ok(order)
+}
+
+/// Whether the transaction is over, and nothing of a refusal is due any more.
+fn is_finished<B: Ledgers, G: Game<B>, R: Wait>(rt: &R, bank: &Bank<B>, game: &mut G) -> bool {
+    game.ending().is_some()
+        && matches!(
+            game.take_turn(rt, bank, Side::Source, 0),
+            Turned::Finished(_)
+        )
+}
+
+/// So many rounds of turns at the moment of the last moved byte, or as many as it takes.
+fn play_rounds<B: Ledgers, G: Game<B>, R: Wait>(
+    rt: &R,
+    bank: &Bank<B>,
+    game: &mut G,
+    lines: &mut Lines,
+    order: &[Side],
+    count: usize,
+) {
+    for _ in 0..count {
+        game.take_turns(rt, bank, order);
+        game.mend(rt, bank, lines);
+        if is_finished(rt, bank, game) {
+            return;
+        }
+    }
+}
+
+/// So many rounds of turns at a moment.
+fn play_rounds_at<B: Ledgers, G: Game<B>, R: Wait>(
+    rt: &R,
+    bank: &Bank<B>,
+    game: &mut G,
+    order: &[Side],
+    now: usize,
+    count: usize,
+) {
+    for _ in 0..count {
+        for side in order {
+            game.take_turn(rt, bank, *side, now as u64);
+        }
+    }
+}
+
+/// A turn of each side in order, as long as the transaction isn't over.
+fn play_until_over<B: Ledgers, G: Game<B>, R: Wait>(
+    rt: &R,
+    bank: &Bank<B>,
+    game: &mut G,
+    order: &[Side],
+) {
+    for side in order {
+        if game.ending().is_none() {
+            game.take_turns(rt, bank, &[*side]);
+        }
+    }
+}
+
+/// So many times a turn of each side in order, counted.
+fn count_turns<B: Ledgers, G: Game<B>, R: Wait>(
+    rt: &R,
+    bank: &Bank<B>,
+    game: &mut G,
+    order: &[Side],
+    count: usize,
+) -> Counted {
+    let mut counted = Counted {
+        moved: 0,
+        finished: 0,
+        other: 0,
+    };
+    for _ in 0..count {
+        for side in order {
+            let kind = match game.take_turn(rt, bank, *side, 0) {
+                Turned::Moved(1) => &mut counted.moved,
+                Turned::Finished(_) => &mut counted.finished,
+                _ => &mut counted.other,
+            };
+            *kind = kind.saturating_add(1);
+        }
+    }
+    counted
+}
+
+/// Adds what was counted.
+fn put_tally(tally: Counted, values: Values, out: &mut Vec<u8>) -> Result<(), NoMemory> {
+    if tally.moved == values.n {
+        put_line(out, b"moved a byte n times")?;
+    } else {
+        put_number(out, b"moved a byte", tally.moved as u64)?;
+    }
+    if tally.finished > 0 {
+        put_line(out, b"then finished")?;
+    }
+    put_number(out, b"otherwise", tally.other as u64)
+}
+
+/// Turns of these sides at a moment, each of which is told.
+fn put_turns<B: Ledgers, G: Game<B>, R: Wait>(
+    rt: &R,
+    bank: &Bank<B>,
+    game: &mut G,
+    order: &[Side],
+    now: usize,
+    out: &mut Vec<u8>,
+) -> Result<(), NoMemory> {
+    for side in order {
+        let turned = game.take_turn(rt, bank, *side, now as u64);
+        put_shown(out, b"turn", &turned)?;
+    }
+    Ok(())
+}
+
+/// What a row's steps go by.
+#[derive(Clone, Copy)]
+struct Pace<'a> {
+    order: &'a [Side],
+    tally: &'a [Side],
+    at: Option<usize>,
+}
+
+/// Plays a step: `rounds=500`, `tally=80`, `until-over`, `halt`, or turns that are told, as `source@190` and `each@189`.
+fn put_step<B: Ledgers, G: Game<B>, R: Wait>(
+    rt: &R,
+    bank: &Bank<B>,
+    game: &mut G,
+    lines: &mut Lines,
+    pace: Pace<'_>,
+    values: Values,
+    word: &[u8],
+    out: &mut Vec<u8>,
+) -> Result<(), NoMemory> {
+    if let Some((sides, moment)) = parts(word, b'@') {
+        let now = number(moment, values).unwrap_or(0);
+        return match place_of(b"source service hop", sides) {
+            Some(0) => put_turns(rt, bank, game, &[Side::Source], now, out),
+            Some(1) => put_turns(rt, bank, game, &[Side::Service], now, out),
+            Some(2) => put_turns(rt, bank, game, &[Side::NextHop], now, out),
+            _ => put_turns(rt, bank, game, &ROUND, now, out),
+        };
+    }
+    let (name, count) = parts(word, b'=').unwrap_or((word, b"0"));
+    let count = number(count, values).unwrap_or(0);
+    match place_of(b"rounds until-over halt", name) {
+        Some(0) => match pace.at {
+            Some(now) => play_rounds_at(rt, bank, game, pace.order, now, count),
+            None => play_rounds(rt, bank, game, lines, pace.order, count),
+        },
+        Some(1) => play_until_over(rt, bank, game, pace.order),
+        Some(2) => game.stop(rt, bank),
+        _ => {
+            let tally = count_turns(rt, bank, game, pace.tally, count);
+            return put_tally(tally, values, out);
+        }
+    }
+    Ok(())
+}
+
+/// Plays the row's steps, and adds what they tell.
+pub fn put_steps<B: Ledgers, G: Game<B>, R: Wait>(
+    rt: &R,
+    alloc: Global,
+    bank: &Bank<B>,
+    game: &mut G,
+    lines: &mut Lines,
+    scene: Scene<'_>,
+    values: Values,
+    out: &mut Vec<u8>,
+) -> Result<(), NoMemory> {
+    let order = order_of(alloc, scene.get(b"order"))?;
+    let tally = order_of(alloc, scene.get(b"tally"))?;
+    let pace = Pace {
+        order: &order,
+        tally: &tally,
+        at: number(scene.get(b"at"), values),
+    };
+    for word in scene.get(b"steps").split(|byte| *byte == b' ') {
+        put_step(rt, bank, game, lines, pace, values, word, out)?;
+    }
+    Ok(())
+}
