@@ -128,15 +128,18 @@ const STALE_OPTIONS: &[Step] = &[
     On(0, &[Gets(FORWARDED)]),
 ];
 
-/// A user is refused while another one is there, and holds no room: the next one is served.
+/// A user is refused while another one is served, and holds no room: once that one has left, the next is served.
 const CROWDED: &[Step] = &[
-    New(User, &[Says(ALMOST_A_REQUEST)]),
+    New(User, &[Says(POST)]),
+    New(Origin, &[Gets(POST_TO_ORIGIN)]),
     New(User, ASKS),
-    On(1, IS_REFUSED),
-    On(0, &[Ends, HearsEnd]),
+    On(2, IS_REFUSED),
+    On(0, &[Says(b"abc")]),
+    On(1, &[Gets(b"abc"), Says(RESPONSE)]),
+    On(0, &[Gets(FORWARDED), Ends, HearsEnd]),
     New(User, ASKS),
     New(Origin, ANSWERS),
-    On(2, &[Gets(FORWARDED)]),
+    On(3, &[Gets(FORWARDED)]),
 ];
 
 /// A user that waits to be told to send its body gets the refusal and nothing else where the budget has no room for it. Where
