@@ -31,7 +31,7 @@ try-deb: deb ## installs the package into a clean folder, removes and purges it;
 try-scale: build ## three proxies behind HAProxy and two services behind it: each is renewed under load, where haproxy is installed
 	@tools/try_scale
 
-try-serve: build ## tries `adaptproxy serve` over loopback: some thirty cases, with users, origins and services that misbehave
+try-serve: build ## tries `adaptproxy serve` over loopback: with users, origins and services that misbehave
 	@tools/try_serve
 
 bench-serve: build ## requests/s and CPU of `adaptproxy serve` beside Squid's, where squid, wrk, nginx and c-icap are installed
