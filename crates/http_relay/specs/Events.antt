@@ -1,9 +1,9 @@
--- The events that tell what was read of a body.
+-- The events that report what was read of a body.
 use Rattle.std.specs.Prelude.{ℕ, zero, suc, Bool, true, false, List, [], ◌∷◌, ◌++◌}
 use Rattle.trace_core.specs.declared.history.Event.{Event}
 use Rattle.trace_core.specs.declared.history.Event.TheVariants.{In, End}
 
--- so many bytes of the body, if any
+-- this many bytes of the body, if any
 abbrev pub in_events : ℕ → List Event
 in_events zero = []
 in_events (suc n) = In (suc n) ∷ []

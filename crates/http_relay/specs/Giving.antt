@@ -28,13 +28,13 @@ pub record Hop : Type 0 where
   pub touched : Bool
   pub fault : Option RelayFault
 
--- what is fixed of the body's text, these bytes of the body being in it; with its end or not
+-- what is fixed of the body's text, with these bytes of the body in it; with its end or not
 pub data Front (framing : Framing) (whole : Bool) (body text : List ℕ) (left : ℕ) : Type 0 where
   plain : is_chunks framing ≡ false → left ≡ 0 → text ≡ body → Front framing whole body text left
   run : is_chunks framing ≡ true → whole ≡ false → Run body text left → Front framing whole body text left
   over : is_chunks framing ≡ true → whole ≡ true → left ≡ 0 → (chunks : List ℕ) → IsCut body chunks → text ≡ chunks ++ last_chunk false → Front framing whole body text left
 
--- what waits of a text that is fixed once a byte of the body is out: nothing behind a plain body; in chunks framing text behind these bytes
+-- what waits of a text that is fixed once a byte of the body is out: nothing after a plain body; in chunks, framing text after these bytes
 abbrev pub Waits : Bool → (body fixed waits : List ℕ) → Type 0
 Waits false body fixed waits = waits ≡ []
 Waits true body fixed waits = WaitsBehind (Run body) fixed waits
@@ -46,11 +46,11 @@ pub record GivesMessage (x : Seen) (framing : Framing) (whole : Bool) (head body
   pub front : Front framing whole (take (chosen_delivered x) body) behind w.left
   pub there : chosen_delivered x + w.left ≤ chosen_received x
   pub within : IfSome (length_of framing) (λ n. chosen_delivered x ≤ n)
-  -- once a byte of the body is out, all that were counted are, and what waits is framing text behind them
+  -- once a byte of the body is out, all that were counted are, and what waits is framing text after them
   pub waits : 0 < chosen_delivered x → Waits (is_chunks framing) (take (chosen_delivered x) body) behind (waiting w)
   pub all_out : whole ≡ true → (chosen_over x ≡ true) × (chosen_delivered x ≡ chosen_received x) × IfSome (length_of framing) (λ n. chosen_delivered x ≡ n)
 
--- the bytes that the next hop took of a message: none yet, or a front of one; a refusal is no message
+-- the bytes that the next hop took of a message: none yet, or a prefix of one; a refusal is no message
 abbrev pub GivenAt : Stage → Seen → Framing → List ℕ → List ℕ → List ℕ → Writer → Type 0
 GivenAt at.Empty x framing head body taken w = (taken ++ waiting w ≡ []) × IsUndelivered x
 GivenAt at.Message x framing head body taken w = GivesMessage x framing false head body taken w
@@ -63,7 +63,7 @@ pub record HasGiven (x : Seen) (head body taken : List ℕ) (h : Hop) : Type 0 w
   pub untouched : h.touched ≡ false → (taken ≡ []) × IsUndelivered x
   pub touched : h.touched ≡ true → 0 < length taken
 
--- the bytes that were taken where no message is written: none, or a front of the refusal alone
+-- the bytes that were taken while no message is written: none, or a prefix of the refusal alone
 abbrev pub AsideAt : Stage → List ℕ → Writer → Type 0
 AsideAt at.Empty taken w = taken ++ waiting w ≡ []
 AsideAt at.Message taken w = ⊥
@@ -91,8 +91,8 @@ is_empty _ = false
 abbrev pub body_end : Framing → List ℕ
 body_end framing = if is_chunks framing then last_chunk false else []
 
--- What comes next: of the chosen message's bytes that may go all that fit into a turn and into the chunk that was begun, and the
--- body's end behind them where it stands there. Before a message is begun, and behind its end, nothing. So there is one such next.
+-- What comes next: of the chosen message's bytes that may go all that fit into a turn and into the chunk that was begun, and then
+-- the body's end, if it comes after them. Before a message is begun, and after its end, nothing. So there is one such next.
 pub record Decides (x : Seen) (w : Writer) (framing : Framing) (stage : Stage) (next : Next) : Type 0 where
   pub chunked : next.chunked ≡ is_chunks framing
   pub from : next.from ≡ chosen_delivered x
@@ -123,7 +123,7 @@ abbrev pub stage_then : Stage → Bool → Stage
 stage_then stage true = at.Whole
 stage_then stage false = stage
 
--- nothing waits, and no event of giving may follow; one message at most is chosen
+-- nothing waits, and neither Usr nor Done may follow; one message at most is chosen
 pub record NothingDue (x : Seen) (h : Hop) : Type 0 where
   pub one : chooses_original x ≡ true → x.modified ≡ false
   pub flushed : waiting h.writer ≡ []

@@ -26,7 +26,7 @@ abbrev pub IsSwitching : Asks → List ℕ → Type 0
 IsSwitching asks.Request bytes = ⊥
 IsSwitching (asks.Response to_head) bytes = (r : ResponseParts) × (len : ℕ) × IsResponseRead to_head bytes r len × (r.status ≡ 101)
 
--- before the head: of the raw bytes, those that were judged are a head's beginning, and nothing was refused
+-- before the head: the raw bytes that were judged are a prefix of a head, and nothing was refused
 pub record IsLooking (s : SourceSide) : Type 0 where
   pub within : s.judged ≤ length s.raw.items
   pub beginning : (s.judged ≡ 0) ⊎ RefusesBytes s.asks (take s.judged s.raw.items) why.More
@@ -38,7 +38,7 @@ pub record HasNoHead (s : SourceSide) : Type 0 where
   pub no_line : has_line (drop s.judged s.raw.items) ≡ false
   pub few : length s.raw.items < MAX_HEAD
 
--- the raw bytes are refused, and this is the fault behind it; 101 has none
+-- the raw bytes are refused, for this fault; 101 has none
 abbrev pub RefusesHead : SourceSide → Option HttpFault → Type 0
 RefusesHead s (Some why.More) = ⊥
 RefusesHead s (Some why.NoMemory) = ⊥
@@ -68,8 +68,8 @@ Scans (Ok true) s = s.head ≡ heads.Unread → ⊥
 Scans (Ok false) s = HasNoHead s
 Scans (Err fault) s = IsRefused fault s
 
--- What a turn at the head says of the raw bytes: where no head is there, each line's end in them was judged; the wire's own
--- faults are answered there alone.
+-- What a turn at the head says of the raw bytes: if they have no head, each line's end in them was judged; only then does the
+-- turn answer the wire's own faults.
 abbrev pub Looks : Result Bool RelayFault → SourceSide → Type 0
 Looks (Ok true) s = s.head ≡ heads.Unread → ⊥
 Looks (Ok false) s = HasNoHead s

@@ -78,7 +78,7 @@ begun x other head body taken g old w touched fault s e t h = record {
 pub refused : (status : ℕ) (w : Writer) (framing : Framing) (touched : Bool) (fault : Option RelayFault) → touched ≡ false → w ≡ fresh (refusal status) → IsAside [] (record { writer = w; framing = framing; stage = at.Refusal status; touched = touched; fault = fault })
 refused status w framing touched fault n e = record { text = ap waiting e ∙ append-nil (refusal status); untouched = λ u. refl; touched = λ t. let odd : true ≡ false = sym t ∙ n in cc }
 
--- what the message's front depends on is the same
+-- nothing changed that the message's prefix depends on
 record Keeps (x y : Seen) : Type 0 where
   out : chosen_delivered y ≡ chosen_delivered x
   came : chosen_received x ≤ chosen_received y
@@ -145,7 +145,7 @@ kept_at at.Message x y f head body more taken w k l g = message_kept x y f false
 kept_at at.Whole x y f head body more taken w k l g = message_kept x y f true head body more taken w k l g
 kept_at (at.Refusal status) x y f head body more taken w k l g = absurd g
 
--- the other sides' events leave what was given; what comes of the chosen message stands behind what came
+-- the other sides' events leave what was given; what comes of the chosen message stands after what came before
 pub others : (x : Seen) (event : Event) (head body more taken : List ℕ) (h : Hop) → Sound x → Allows x event → is_of_hop event ≡ false → length body ≡ chosen_received x
     → HasGiven x head body taken h → HasGiven (after x event) head (body ++ more) taken h
 others x event head body more taken h s a z l g =

@@ -13,7 +13,7 @@ pub record IsInChunks (body text : List ℕ) : Type 0 where
   pub is_cut : IsCut body chunks
   pub whole : text ≡ chunks ++ last_chunk false
 
--- what stands behind the head
+-- what follows the head
 abbrev pub BodyTextOf : Framing → List ℕ → List ℕ → Type 0
 BodyTextOf by.None body text = (body ≡ []) × (text ≡ [])
 BodyTextOf (by.Length n) body text = (length body ≡ n) × (text ≡ body)
@@ -26,7 +26,7 @@ pub record IsMessage (framing : Framing) (head body text : List ℕ) : Type 0 wh
   pub has_body : BodyTextOf framing body behind
   pub whole : text ≡ head ++ behind
 
--- these bytes are a front of a message whose body begins with these
+-- these bytes are a prefix of a message whose body begins with these
 pub record IsFrontOfMessage (framing : Framing) (head begins taken : List ℕ) : Type 0 where
   pub more : List ℕ
   pub text : List ℕ

@@ -62,14 +62,14 @@ abbrev pub response_of : SourceHead → Option ResponseParts
 response_of (heads.Response r) = Some r
 response_of _ = Nothing
 
--- how the body behind the head is framed
+-- how the body after the head is framed
 abbrev pub framing_of : SourceHead → Framing
 framing_of heads.Unread = None
 framing_of (heads.Request r) = request_framing r
 framing_of (heads.Response r) = response_framing r
 
 -- these bytes of the body came; the bytes read since the message began are interim responses, its head, what was framed of
--- its body, and the raw ones; and the wire has ended since, or hasn't
+-- its body, and the raw ones; `closed` says whether the wire has ended since
 pub record SideRead (x : Seen) (body read : List ℕ) (closed : Bool) (s : SourceSide) : Type 0 where
   pub before : List ℕ
   pub head_text : List ℕ
@@ -87,17 +87,17 @@ pub record AtHead (read : List ℕ) (s : SourceSide) : Type 0 where
   pub interims : IsBefore s.asks before
   pub unread : s.head ≡ heads.Unread
 
--- these events tell what further bytes of the wire do, with these of the body, and the wire's end, where it has ended now
+-- these events report what further bytes of the wire do, with these of the body, and the wire's end, if it has ended now
 pub record SideReads (old new : SourceSide) (events : List Event) (delta part : List ℕ) (ended : Bool) : Type 0 where
   pub only : AllAre is_of_source events
   pub legal : (x : Seen) → Agrees x old.body → x.closed ≡ false → MayAllFollow x events × Agrees (after_all x events) new.body
   pub reads : (x : Seen) (body read : List ℕ) (closed : Bool) → SideRead x body read closed old → SideRead (after_all x events) (body ++ part) (read ++ delta) (ended || closed) new
 
--- nothing is to be read: the end was told, or there is no room
+-- nothing is to be read: the end was reported, or there is no room
 abbrev pub Rests : ℕ → SourceSide → Type 0
 Rests room s = (s.body.ended ≡ true) ⊎ (room ≡ 0)
 
--- with so much room, none of the bytes that are kept can be framed
+-- with this much room, none of the bytes that are kept can be framed
 abbrev pub HasFramed : ℕ → SourceSide → Type 0
 HasFramed room s = MustWait s.body s.raw.items room
 
@@ -107,7 +107,7 @@ HasFramed room s = MustWait s.body s.raw.items room
 abbrev pub IsCause : RelayFault → SourceSide → Type 0
 IsCause fault s = ((fault ≡ Closed) × IsCutShort s.body) ⊎ ((fault ≡ Device) ⊎ ((fault ≡ NoMemory) ⊎ Refuses fault s.body s.raw.items))
 
--- the framing tells the body's end, and it was read
+-- the framing gives the body's end, and it was read
 abbrev pub IsOver : SourceSide → Type 0
 IsOver s = is_over s.body.reader ≡ true
 
@@ -118,13 +118,13 @@ pub record IsReadDue (room : ℕ) (s : SourceSide) : Type 0 where
   pub some_room : 0 < room
   pub none_kept : s.raw.items ≡ []
 
--- the wire is read only where that is due once the bytes that are kept were framed, and no event came of them
+-- the wire is read only if that is due once the bytes that are kept were framed, and no event came of them
 abbrev pub ReadsWhereDue : ℕ → SourceSide → Option Got → Type 0
 ReadsWhereDue room old Nothing = Unit {0}
 ReadsWhereDue room old (Some answer) = (framed : SourceSide) × SideReads old framed [] [] [] false × IsReadDue room framed
 
--- What a turn makes of its wire's answer. It waits where the wire says so, or, where it didn't read, where nothing is to be
--- read; Closed is answered only where the wire ended, and Device just where it failed.
+-- What a turn makes of its wire's answer. It waits if the wire says so, or, if it didn't read, if nothing is to be read. It
+-- answers Closed only if the wire ended, and Device just if it failed.
 abbrev pub FitsGot : ℕ → SourceSide → Option Got → Result Turn RelayFault → Type 0
 FitsGot room new Nothing (Ok turn) = turn.waiting ≡ true → Rests room new
 FitsGot room new Nothing (Err fault) = (fault ≢ Closed) × (fault ≢ Device)
@@ -141,8 +141,8 @@ abbrev pub says_ended : Option Got → Bool
 says_ended (Some got.Ended) = true
 says_ended _ = false
 
--- A turn of a side without a fault makes one read at most. The body's end is told where the framing tells it, or the wire has
--- ended in this turn; one that the framing tells isn't withheld.
+-- A turn of a side without a fault makes one read at most. It reports the body's end only if the framing gives it, or the wire
+-- has ended in this turn; an end that the framing gives isn't withheld.
 pub record ReadTurn (room : ℕ) (old new : SourceSide) (before after : Past → Type 0) (out : List ℕ) (result : Result Turn RelayFault) : Type 0 where
   pub delta : List ℕ
   pub answer : Option Got
@@ -175,13 +175,13 @@ ScannedTo (Ok true) read s = Begins read s
 ScannedTo (Ok false) read s = AtHead read s
 ScannedTo (Err fault) read s = AtHead read s
 
--- the wire is read only where no head is among the bytes that are kept
+-- the wire is read only if no head is among the bytes that are kept
 abbrev pub ReadsForHead : SourceSide → Option Got → Type 0
 ReadsForHead old Nothing = Unit {0}
 ReadsForHead old (Some answer) = (judged : SourceSide) × ((read : List ℕ) → AtHead read old → AtHead read judged) × (IsLooking old → HasNoHead judged)
 
--- What a turn at the head makes of its wire's answer. That more is to come it says where the wire gave bytes or none now;
--- Closed and Device are answered just where the wire ended or failed.
+-- What a turn at the head makes of its wire's answer. It says that more is to come after bytes, or if none are there now; it
+-- answers Closed and Device just if the wire ended or failed.
 abbrev pub FitsHead : Option Got → Result Bool RelayFault → Type 0
 FitsHead Nothing (Ok found) = found ≡ true
 FitsHead Nothing (Err fault) = (fault ≢ Closed) × (fault ≢ Device)

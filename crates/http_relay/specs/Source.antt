@@ -13,7 +13,7 @@ use Rattle.http_relay.specs.declared.source_body.SourceBody.{SourceBody}
 use Rattle.adapt_sides.specs.declared.fault.RelayFault.{RelayFault}
 use Rattle.adapt_sides.specs.declared.fault.RelayFault.TheVariants as faults
 
--- so many more bytes of the body may be told, and then its end
+-- this many more bytes of the body may be reported, and then its end
 pub record MayTell (s : SourceBody) (count : ℕ) (ended : Bool) : Type 0 where
   pub sum : s.received + count < COUNT_LIMIT
   pub len : IfSome (length_of s.framing) (λ len. s.received + count ≤ len)
@@ -25,29 +25,29 @@ pub record Agrees (x : Seen) (s : SourceBody) : Type 0 where
   pub ended : x.ended ≡ s.ended
   pub len : IfSome x.plan.len (λ len. length_of s.framing ≡ Some len)
 
--- the text is a whole body: by its framing alone, or because the wire has ended behind it
+-- the text is a whole body: by its framing alone, or because the wire has ended after it
 abbrev pub IsWholeBody : Framing → (closed : Bool) → List ℕ → List ℕ → Type 0
 IsWholeBody framing closed text body = IsBody framing text body ⊎ ((closed ≡ true) × IsClosedBody framing text body)
 
--- of the text this was read, and these bytes of the body came; its end was told only where the text is a whole body
+-- of the text this was read, and these bytes of the body came; its end was reported only if the text is a whole body
 pub record BodyRead (x : Seen) (body text : List ℕ) (closed : Bool) (s : SourceBody) : Type 0 where
   pub count : x.received ≡ length body
   pub ended : x.ended ≡ s.ended
   pub reads : HasRead s.framing text body s.reader
   pub whole : s.ended ≡ true → IsWholeBody s.framing closed text body
 
--- these events tell what these further bytes do, with these of the body, and the wire's end, where it has ended now
+-- these events report what these further bytes do, with these of the body, and the wire's end, if it has ended now
 pub record BodyReads (old new : SourceBody) (events : List Event) (bytes part : List ℕ) (ended : Bool) : Type 0 where
   pub only : AllAre is_of_source events
   pub legal : (x : Seen) → Agrees x old → x.closed ≡ false → MayAllFollow x events × Agrees (after_all x events) new
   pub reads : (x : Seen) (body text : List ℕ) (closed : Bool) → BodyRead x body text closed old → BodyRead (after_all x events) (body ++ part) (text ++ bytes) (ended || closed) new
 
--- the end is told where the framing tells it, and only there; one that was told stays
+-- the end is reported just when the framing gives it; one that was reported stays
 pub record TellsEnd (old new : SourceBody) : Type 0 where
   pub just : old.ended ≡ false → new.ended ≡ is_over new.reader
   pub stays : old.ended ≡ true → new.ended ≡ true
 
--- none of these bytes can be framed, with so much room: the end was told, no byte is there, or the next is one of the body
+-- none of these bytes can be framed, with this much room: the end was reported, no byte is there, or the next is one of the body
 -- and there is no room
 abbrev pub MustWait : SourceBody → List ℕ → ℕ → Type 0
 MustWait s raw room = (s.ended ≡ true) ⊎ ((raw ≡ []) ⊎ ((room ≡ 0) × IsBodyNext s.reader raw))
@@ -56,7 +56,7 @@ MustWait s raw room = (s.ended ≡ true) ⊎ ((raw ≡ []) ⊎ ((room ≡ 0) × 
 abbrev pub IsCutShort : SourceBody → Type 0
 IsCutShort s = (way : Framing) (text body : List ℕ) → HasRead way text body s.reader → IsClosedBody way text body → ⊥
 
--- Why bytes of a body are refused. For its length only where there may be too many to count, which no Content-Length allows.
+-- Why bytes of a body are refused. For its length only if there may be too many to count, which no Content-Length allows.
 abbrev pub Refuses : RelayFault → SourceBody → List ℕ → Type 0
 Refuses faults.Chunk s raw = (fault : ChunkFault) × IsBroken s.reader raw fault
 Refuses faults.Length s raw = (x : Seen) (body text : List ℕ) (closed : Bool) → Agrees x s → BodyRead x body text closed s

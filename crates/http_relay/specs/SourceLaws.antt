@@ -1,4 +1,4 @@
--- What other sides' events leave, and where a source rests.
+-- What other sides' events leave, and when a source rests.
 use Rattle.std.specs.Prelude.{◌≡◌, ℕ, ◌⊎◌, true, false, List}
 use Rattle.std.proofs.Common.{refl, ◌∙◌, sym, inl, inr, arith}
 use Rattle.http_side.proofs.Ends.{over_is}

@@ -15,7 +15,7 @@ use chunk_writer::{ChunkWriter, Ending, Next};
 use http_side::Framing;
 use trace_core::{Event, Kind, Seen, State};
 
-/// What may come next of the message, or `None` where its body breaks its length.
+/// What may come next of the message, or `None` if its body breaks its length.
 #[tactic(auto, using(crate::proofs::Chosen::fewer))]
 pub(crate) fn decide(
     state: &State,
@@ -57,7 +57,7 @@ fn deliverable(state: &State) -> u64
     state.sendable().usr
 }
 
-/// The body's end, if it stands behind so many more bytes.
+/// The body's end, if it comes after this many more bytes.
 fn ending(seen: &Seen, framing: Framing, count: u64) -> Ending
     ensures ends { is_ending result ≡ true → (seen.now.closed ≡ false) × (chosen_over seen.now ≡ true) × (chosen_delivered seen.now + count ≡ chosen_received seen.now) }
     ensures text { is_ending result ≡ true → end_text result ≡ body_end framing }

@@ -34,7 +34,7 @@ pub enum Stage {
     Refusal(u16),
 }
 
-/// The fault that outlasts a refusal in the message's place: that the wire has failed.
+/// The fault that outlasts a refusal in the message's place: the wire has failed.
 fn wire_fault(fault: Option<RelayFault>) -> Option<RelayFault>
     ensures { result ≡ wire_fault fault }
 {
@@ -44,7 +44,17 @@ fn wire_fault(fault: Option<RelayFault>) -> Option<RelayFault>
     }
 }
 
-/// The next hop's end of one transaction.
+/// The next hop's end of one transaction: it writes one message, or the proxy's own refusal.
+///
+/// ```
+/// let mut hop = NextHop::new(alloc);
+/// assert!(rt; hop.is_idle());
+/// hop.begin(b"HTTP/1.1 200 OK\r\n\r\n".to_vec(alloc)?, Framing::Length(2));
+/// assert!(rt; !hop.is_idle() && hop.untouched());
+/// // No byte has gone out, so a refusal may still take the message's place.
+/// hop.refuse(502);
+/// assert!(rt; !hop.is_out());
+/// ```
 #[derive(Drop)]
 pub struct NextHop {
     writer: ChunkWriter,
@@ -152,10 +162,10 @@ impl NextHop {
     }
 
     /// Writes what is due of the message or of the refusal, with one write at most. The caller steps the events, in their
-    /// order; Done stands only where the message's text is out whole.
+    /// order; Done stands only once the message's whole text is out.
     ///
-    /// `Err(Device)` where the wire failed in this call; `Err(Length)` where the body that came has another length than the
-    /// head tells. A fault stays.
+    /// `Err(Device)` if the wire failed in this call; `Err(Length)` if the body that came has another length than the
+    /// head gives. A fault stays.
     pub fn write_turn<W: Wire>(
         &mut self,
         state: &State,

@@ -23,14 +23,14 @@ ghost use Rattle.adapt_sides.specs.Tapes.{chosen_delivered, chosen_received};
 ghost use Rattle.http_relay.specs.Giving.{Hop, HasGiven, IsAside};
 ghost use Rattle.adapt_sides.specs.Tapes.{IsUndelivered};
 
-/// Where a turn at the head answers that it was read, a message of each plan begins there: nothing of its body was told yet.
+/// Once a turn at the head answers that it was read, a message of each plan begins there: nothing of its body was reported yet.
 pub fn a_message_begins()
     ensures { (plan : Plan) (read : List ℕ) (s : SourceSide) → Begins read s → SideRead (seen plan []) [] read false s }
 {}
 
-/// What the next hop took is a front of one message with the head that was begun, whose body begins with what came of it;
-/// where the framing gives a length, as long as no more came, and else with what went out. Once the message's end is fixed
-/// the body is the whole one, and where nothing waits what was taken is that message.
+/// What the next hop took is a prefix of one message with the head that was begun. The body of that message begins with the
+/// bytes that came, unless they pass the length that the framing gives; in any case it begins with those that went out. Once
+/// the message's end is fixed, it begins with all that came; once nothing waits either, the next hop took that message whole.
 pub fn given_is_a_front()
     ensures front { (x : Seen) (head body taken : List ℕ) (h : Hop) → h.stage ≡ at.Message → length body ≡ chosen_received x
         → IfSome (length_of h.framing) (λ n. chosen_received x ≤ n)
@@ -45,7 +45,7 @@ pub fn given_is_a_front()
         → HasGiven x head body taken h → taken ≡ [] }
 {}
 
-/// Where a refusal is written, what was taken is a front of it alone, and all of it once nothing waits; no message was given.
+/// While a refusal is written, what was taken is a prefix of it alone, and all of it once nothing waits; no message was given.
 pub fn refusal_goes_alone()
     ensures front { (status : ℕ) (taken : List ℕ) (h : Hop) → h.stage ≡ at.Refusal status
         → IsAside taken h → IsPrefixOf taken (refusal status) }
@@ -55,8 +55,8 @@ pub fn refusal_goes_alone()
         → HasGiven x head body taken h → ⊥ }
 {}
 
-/// Before a message is begun nothing was taken of one, and that is all that is known: it may still be any message. Where no
-/// byte went out, none of a body did.
+/// Before a message is begun nothing was taken of one, and that is all that is known: it may still be any message. While no
+/// byte went out, no byte of a body did.
 pub fn nothing_before_the_message()
     ensures given { (x : Seen) (head body taken : List ℕ) (h : Hop) → h.stage ≡ at.Empty
         → IsAside taken h → IsUndelivered x → HasGiven x head body taken h }
@@ -67,15 +67,15 @@ pub fn nothing_before_the_message()
     ensures untouched_aside { (taken : List ℕ) (h : Hop) → h.touched ≡ false → IsAside taken h → taken ≡ [] }
 {}
 
-/// The other sides' events leave what was given as it is, the choice of the message among them. Body bytes that come of the
-/// chosen message stand behind those that came.
+/// The other sides' events leave what was given as it is, the choice of the message among them. Further body bytes of the
+/// chosen message come after those that came before.
 pub fn other_events_keep_what_was_given()
     ensures { (plan : Plan) (events : List Event) (event : Event) (head body more taken : List ℕ) (h : Hop) → IsLegal plan (event ∷ events)
         → is_of_hop event ≡ false → length body ≡ chosen_received (seen plan events)
         → HasGiven (seen plan events) head body taken h → HasGiven (seen plan (event ∷ events)) head (body ++ more) taken h }
 {}
 
-/// Where a turn at the head answers that more is to come, no head stands in the raw bytes yet.
+/// After a turn at the head that answers that more is to come, the raw bytes have no head yet.
 pub fn no_head_is_missed()
     ensures requests { (s : SourceSide) (r : RequestParts) (len : ℕ) → s.asks ≡ asks.Request → HasNoHead s
         → IsRead false s.raw.items r len → ⊥ }

@@ -30,7 +30,7 @@ pub enum Asks {
     Response(bool),
 }
 
-/// The head of the message, once it was read.
+/// A message's head, once it was read.
 #[derive(Drop)]
 pub enum SourceHead {
     Unread,
@@ -38,7 +38,20 @@ pub enum SourceHead {
     Response(HttpResponse),
 }
 
-/// A message's source.
+/// A message's source: it reads the head, then the body, over a wire, by turns of one read at most.
+///
+/// ```
+/// let mut source = SourceSide::request(alloc);
+/// let text = b"POST http://h/ HTTP/1.1\r\nHost: h\r\nContent-Length: 2\r\n\r\nhi";
+/// let reads = vec![in alloc; ReadAnswer::Bytes(64)]?;
+/// let mut wire = MemoryWire::new(alloc, text.to_vec(alloc)?, reads, Vec::new(alloc))?;
+/// assert_eq!(rt; source.head_turn(&mut wire), Ok(true));
+/// assert_eq!(rt; source.framing(), Framing::Length(2));
+/// let mut out = [0; 8];
+/// let turn = source.read_turn(&mut wire, &mut out)?;
+/// assert_eq!(rt; turn.events.as_slice(), [Event::In(2), Event::End].as_slice());
+/// assert!(rt; source.ended());
+/// ```
 #[derive(Drop)]
 pub struct SourceSide {
     alloc: Global,
@@ -52,7 +65,7 @@ pub struct SourceSide {
 }
 
 impl SourceSide {
-    /// Frames what may be framed of the raw bytes of the body.
+    /// Frames what can be framed of the raw bytes of the body.
     fn frame_raw(&mut self, out: &mut [u8]) -> Result<ArrayVec<Event, 4>, RelayFault>
         ensures room { IfOk result (λ events. in_sum events.items ≤ length out.old) }
         ensures reads { IfOk result (λ events. SideReads self.old self.new events.items [] (take (in_sum events.items) out.new) false) }
@@ -134,7 +147,7 @@ impl SourceSide {
         self.read_wire(wire, out)
     }
 
-    /// The same, and keeps no empty room.
+    /// Runs [`SourceSide::frame_or_read`], and then keeps no empty room.
     fn try_turn<W: Wire>(&mut self, wire: &mut W, out: &mut [u8]) -> Result<Turn, RelayFault>
         ensures turn { ReadTurn (length out.old) self.old self.new (W.past wire.old) (W.past wire.new) out.new result }
         ensures kept { length self.old.raw.items < length self.new.raw.items → length self.new.raw.items ≤ MAX_READ }
@@ -147,9 +160,9 @@ impl SourceSide {
         result
     }
 
-    /// Reads the message's body. The raw bytes come first; the wire is read once at most, where none of them can be framed and
-    /// there is room. The bytes of the body go to the front of `out`, as many as the events say, and the caller steps the events.
-    /// The body's end is told where its framing tells it, with no room too, or where the connection was closed in this turn.
+    /// Reads the message's body. The raw bytes come first; the wire is read once at most, if none of them can be framed and
+    /// there is room. The bytes of the body go to the beginning of `out`; the events give their number, and the caller steps them.
+    /// The turn reports the body's end once its framing gives it, even without room, or once the connection was closed in this turn.
     ///
     /// A fault stays: every later turn answers it again.
     pub fn read_turn<W: Wire>(&mut self, wire: &mut W, out: &mut [u8]) -> Result<Turn, RelayFault>
@@ -158,7 +171,7 @@ impl SourceSide {
         ensures turn { self.old.fault ≡ None → ReadTurn (length out.old) self.old self.new (W.past wire.old) (W.past wire.new) out.new result }
         ensures head { self.new.head ≡ self.old.head }
 
-        // Raw bytes that are kept behind a turn are those of before, or of one read; no empty room is kept.
+        // Raw bytes that are kept after a turn are those of before, or of one read; no empty room is kept.
         ensures kept { length self.old.raw.items < length self.new.raw.items → length self.new.raw.items ≤ MAX_READ }
         ensures empty { self.old.fault ≡ None → self.new.raw.items ≡ [] → self.new.raw.spare ≡ 0 }
     {
@@ -220,7 +233,7 @@ impl SourceSide {
         !self.is_unread() && self.body.has_ended()
     }
 
-    /// The side of the next message on the same connection: the raw bytes left over are its first.
+    /// Goes on to the next message on this connection: the raw bytes left over are its first.
     pub fn next(&mut self)
         requires over { self.old.body.ended ≡ true }
         requires read { self.old.head ≡ SourceHead.Unread → ⊥ }
@@ -278,7 +291,7 @@ impl SourceSide {
         !self.is_unread() || !self.raw.is_empty()
     }
 
-    /// Whether a transaction with this plan may begin: the head was read, nothing of the body was told, and a length that the
+    /// Whether a transaction with this plan may begin: the head was read, nothing of the body was reported, and a length that the
     /// plan knows is the framing's.
     pub fn begins(&self, plan: &Plan) -> bool
         ensures read { result ≡ true → self.now.head ≡ SourceHead.Unread → ⊥ }
@@ -289,22 +302,22 @@ impl SourceSide {
         !self.is_unread() && self.fault.is_none() && self.body.begins(plan.len)
     }
 
-    /// Whether its numbers are those of this history: the bytes of the body that were told, its end, and a known length.
+    /// Whether its numbers are those of this history: the bytes of the body that were reported, its end, and a known length.
     pub fn agrees_with(&self, state: &State) -> bool
         ensures { IsTrue result ↔ Agrees (seen state.now.plan state.now.events) self.now.body }
     {
         self.body.agrees_with(&state.seen())
     }
 
-    /// Why the head is refused, where a turn at the head answered Head, or NoMemory for want of memory for the head. None behind
-    /// Head is 101: another protocol isn't forwarded.
+    /// Why the head is refused, after a turn at the head that answered Head, or NoMemory for want of memory for the head. `None`
+    /// after Head means 101: another protocol isn't forwarded.
     pub fn head_fault(&self) -> Option<HttpFault>
         ensures { result ≡ self.now.head_fault }
     {
         self.head_fault
     }
 
-    /// Gives back the room for raw bytes, where none is there.
+    /// Gives back the room for raw bytes, if there is no such byte.
     fn give_back(&mut self)
         ensures { GivesBack self.old self.new }
     {

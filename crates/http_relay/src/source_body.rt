@@ -1,4 +1,4 @@
-//! A source's body: bytes in, In and End out, and nothing of wires.
+//! A source's body: it takes bytes, answers In and End, and knows no wire.
 
 ghost use Rattle.std.specs.Prelude.{◌≡◌, ℕ, ◌+◌, ◌<◌, ◌≤◌, ◌↔◌, ◌⊎◌, List, [], length, take, drop, IfOk, IfErr, OnOk, OnErr, IfSome, Some, true, false, IsTrue};
 ghost use Rattle.http_side.specs.Body.{HasRead};
@@ -14,14 +14,14 @@ use arrayvec::ArrayVec;
 use http_side::{BodyReader, Framing};
 use trace_core::{Event, Seen};
 
-/// What was framed of the bytes that were offered: so many from the front, and what they tell.
+/// What was framed of the offered bytes: how many of the first ones, and their events.
 #[derive(Drop)]
 pub(crate) struct Framed {
     pub(crate) used: usize,
     pub(crate) events: ArrayVec<Event, 4>,
 }
 
-/// A source's body, as far as it was read and told.
+/// A source's body, as far as it was read and reported.
 #[derive(Clone, Copy, Debug, PartialEq, Eq)]
 pub(crate) struct SourceBody {
     framing: Framing,
@@ -57,7 +57,7 @@ impl SourceBody {
         }
     }
 
-    /// Whether the body's end was told.
+    /// Whether the body's end was reported.
     pub(crate) fn has_ended(&self) -> bool
         ensures { result ≡ self.now.ended }
     {
@@ -71,7 +71,7 @@ impl SourceBody {
         self.framing
     }
 
-    /// Whether nothing of it was told yet, and this length, if there is one, is the framing's.
+    /// Whether nothing of it was reported yet, and this length, if there is one, is the framing's.
     pub(crate) fn begins(&self, len: Option<u64>) -> bool
         ensures { IsTrue result ↔ ((self.now.received ≡ 0) × (self.now.ended ≡ false) × IfSome len (λ n. length_of self.now.framing ≡ Some n)) }
     {
@@ -97,7 +97,7 @@ impl SourceBody {
         }
     }
 
-    /// Whether so many more bytes may be told, and then the end.
+    /// Whether this many more bytes may be reported, and then the end.
     fn may_tell(&self, count: u64, ended: bool) -> bool
         ensures { IsTrue result ↔ MayTell self.now count ended }
     {
@@ -112,7 +112,7 @@ impl SourceBody {
         }
     }
 
-    /// Frames what may be framed of the bytes. Those of the body go to the front of `out`, as many as the events say.
+    /// Frames what can be framed of the bytes. Those of the body go to the beginning of `out`; the events give their number.
     pub(crate) fn frame(&mut self, raw: &[u8], out: &mut [u8]) -> Result<Framed, RelayFault>
         ensures within { IfOk result (λ framed. (framed.used ≤ length raw.now) × (in_sum framed.events.items ≤ length out.old)) }
         ensures reads { IfOk result (λ framed. BodyReads self.old self.new framed.events.items (take framed.used raw.now) (take (in_sum framed.events.items) out.new) false) }
@@ -168,7 +168,7 @@ impl SourceBody {
     }
 }
 
-/// The events of so many bytes of the body, and of its end.
+/// The events for this many bytes of the body, and for its end.
 fn source_events(count: usize, ended: bool) -> ArrayVec<Event, 4>
     ensures { result.items ≡ source_events count ended }
 {

@@ -1,4 +1,4 @@
-//! Both sides as a transaction asks for them.
+//! Both sides as a transaction calls them.
 
 use crate::hop::NextHop;
 use crate::side::{SourceHead, SourceSide};

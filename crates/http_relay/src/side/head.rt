@@ -122,7 +122,7 @@ impl SourceSide {
         }
     }
 
-    /// Where the raw bytes are refused for this: there are too few yet, or the fault is kept.
+    /// Decides on raw bytes that are refused for this: either there are too few yet, or the fault is kept.
     fn refuse(&mut self, fault: HttpFault) -> Result<HeadProgress, RelayFault>
         requires unread { self.old.head ≡ SourceHead.Unread }
         requires cause { RefusesBytes self.old.asks self.old.raw.items fault }
@@ -170,7 +170,7 @@ impl SourceSide {
         }
     }
 
-    /// Judges the raw bytes, and reads the wire once where no head is there.
+    /// Judges the raw bytes, and reads the wire once if they have no head yet.
     fn scan_or_read<W: Wire>(&mut self, wire: &mut W) -> Result<bool, RelayFault>
         requires { self.old.head ≡ SourceHead.Unread }
         ensures turn { HeadTurn self.old self.new (W.past wire.old) (W.past wire.new) result }
@@ -189,7 +189,7 @@ impl SourceSide {
         }
     }
 
-    /// The same, and keeps no empty room.
+    /// Runs [`SourceSide::scan_or_read`], and then keeps no empty room.
     fn try_head<W: Wire>(&mut self, wire: &mut W) -> Result<bool, RelayFault>
         requires { self.old.head ≡ SourceHead.Unread }
         ensures turn { HeadTurn self.old self.new (W.past wire.old) (W.past wire.new) result }
@@ -200,8 +200,8 @@ impl SourceSide {
         result
     }
 
-    /// Reads the message's head: true once it was read. The raw bytes come first, then the wire is read once at most.
-    /// Interim responses are dropped, and 101 is refused. A fault stays.
+    /// Reads the message's head: `true` once it was read. The raw bytes come first, then the wire is read once at most.
+    /// It drops interim responses, and refuses 101. A fault stays.
     pub fn head_turn<W: Wire>(&mut self, wire: &mut W) -> Result<bool, RelayFault>
         ensures turn { self.old.fault ≡ None → self.old.head ≡ SourceHead.Unread → HeadTurn self.old self.new (W.past wire.old) (W.past wire.new) result }
         ensures empty { self.old.fault ≡ None → self.old.head ≡ SourceHead.Unread → self.new.raw.items ≡ [] → self.new.raw.spare ≡ 0 }
