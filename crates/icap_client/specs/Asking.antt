@@ -47,7 +47,7 @@ HasOptionsBody [] body = body ≡ false
 HasOptionsBody (list ∷ []) body = (layout : Layout) × IsLayout methods.Options directions.Response list layout × (body ≡ has_body layout.body)
 HasOptionsBody (list ∷ other ∷ more) body = ⊥
 
--- the text is a whole answer with this head: the head, and behind it a chunked body that its list names, or nothing
+-- the text is a whole answer with this head: the head, and after it a chunked body that its list names, or nothing
 pub record IsOptionsAnswer (value : Response) (text : List ℕ) : Type 0 where
   pub head : List ℕ
   pub rest : List ℕ
@@ -78,14 +78,14 @@ HasBadOptionsList value = (body : Bool) → ¬ (HasOptionsBody (lists_of value) 
 abbrev pub HasAnyHead : List ℕ → Type 0
 HasAnyHead raw = WithHead raw (λ value. Unit {0})
 
--- of bytes with an ICAP head first; memory is wanted where the head is there
+-- of bytes with an ICAP head first; memory is wanted once the head is there
 abbrev pub RefusesOptionsHead : ClientFault → List ℕ → Type 0
 RefusesOptionsHead faults.Head raw = (fault : HeadFault) × (fault ≢ heads.More) × RefusesIcapHead StatusForm fault raw
 RefusesOptionsHead faults.Layout raw = WithHead raw HasBadOptionsList
 RefusesOptionsHead faults.NoMemory raw = HasAnyHead raw
 RefusesOptionsHead _ raw = ⊥
 
--- of bytes of its body: one breaks it, behind this part of the body
+-- of bytes of its body: one breaks it, after this part of the body
 abbrev pub RefusesOptionsBody : ClientFault → ChunkReader → List ℕ → Type 0
 RefusesOptionsBody faults.Chunk chunks raw = (fault : ChunkFault) × (part : List ℕ) × ((text body : List ℕ) → HasRead text body chunks → Breaks (text ++ raw) (body ++ part) fault)
 RefusesOptionsBody _ chunks raw = ⊥
@@ -98,8 +98,8 @@ RefusesOptions fault Over raw = ⊥
 
 -- ---- a side
 
--- a side: the request's text that waits, how far the answer is read, its head where a body comes, the bytes that aren't
--- framed yet, the fault that stays, and the room behind those bytes
+-- a side: the request's text that waits, how far the answer is read, its head while a body comes, the bytes that aren't
+-- framed yet, the fault that stays, and the room after those bytes
 pub record Asker : Type 0 where
   pub waiting : List ℕ
   pub stage : OptionsStage
@@ -108,7 +108,7 @@ pub record Asker : Type 0 where
   pub fault : Option ClientFault
   pub room : ℕ
 
--- of a text of this length so many bytes are out, and its memory has such room: none once all of it is out
+-- this many bytes of a text of this length are out, and its memory has this room: 0 once all of it is out
 abbrev pub HoldsText : ℕ → ℕ → ℕ → Type 0
 HoldsText out long room = (out ≤ long) × (long ≤ out → room ≡ 0)
 
@@ -118,7 +118,7 @@ HoldsHead Head response = Unit {0}
 HoldsHead (Body chunks) response = (is_some response ≡ true) × (end_of chunks ≡ None) × (fault_of chunks ≡ None)
 HoldsHead Over response = Unit {0}
 
--- the same, and without room where there are no bytes
+-- no more than room was given back, and all of it if there are no bytes
 pub record LetsRoomGo (old new : Asker) : Type 0 where
   pub waiting : new.waiting ≡ old.waiting
   pub stage : new.stage ≡ old.stage
@@ -145,13 +145,13 @@ pub record HasAnswered (read : List ℕ) (s : Asker) : Type 0 where
   pub text_is : read ≡ framed ++ s.raw
   pub answered : AnsweredTo s.stage s.response framed
 
--- the head is told with the answer's last byte, and never again
+-- the head is answered with the answer's last byte, and never again
 pub record Tells (old new : OptionsStage) (found : Option Response) : Type 0 where
   pub told : new ≡ Over → (old ≡ Over) ⊎ (is_some found ≡ true)
   pub whole : is_some found ≡ true → new ≡ Over
   pub once : old ≡ Over → (new ≡ Over) × (found ≡ None)
 
--- more of the raw bytes is framed, up to the end of an answer or not
+-- more of the raw bytes are framed, up to the end of an answer or not
 pub record Frames (old new : Asker) (found : Option Response) : Type 0 where
   pub used : List ℕ
   pub raw_is : old.raw ≡ used ++ new.raw
@@ -160,7 +160,7 @@ pub record Frames (old new : Asker) (found : Option Response) : Type 0 where
   pub answer : (framed : List ℕ) → AnsweredTo old.stage old.response framed → IfSome found (λ value. IsOptionsAnswer value (framed ++ used))
   pub tells : Tells old.stage new.stage found
 
--- behind some of the raw bytes, which are framed and end no answer, the rest is refused
+-- after some of the raw bytes, which are framed and end no answer, the rest is refused
 pub record RefusesRaw (fault : ClientFault) (old : Asker) : Type 0 where
   pub at : Asker
   pub frames : Frames old at None
@@ -172,7 +172,7 @@ pub record AnswersOptions (old new : Asker) (given : List ℕ) (found : Option R
   pub answer : (read : List ℕ) → HasAnswered read old → IfSome found (λ value. (text : List ℕ) × IsOptionsAnswer value text × (read ++ given ≡ text ++ new.raw))
   pub tells : Tells old.stage new.stage found
 
--- with these bytes behind those that were read, what isn't framed of them is refused
+-- with these bytes after those that were read, what isn't framed of them is refused
 pub record RefusesGiven (fault : ClientFault) (old : Asker) (given : List ℕ) : Type 0 where
   pub at : Asker
   pub answers : AnswersOptions old at given None
@@ -192,12 +192,12 @@ IsCall (offered answer) before after old given taken = (0 < length old.waiting) 
 IsCall (filled answer) before after old given taken = (old.waiting ≡ []) × ¬ (old.stage ≡ Over) × IsFilled before after [] given answer × (taken ≡ [])
 IsCall rested before after old given taken = (old.waiting ≡ []) × ((p : Past) → before p → after p) × (given ≡ []) × (taken ≡ [])
 
--- what bytes make of a turn: the head of an answer, or why there is none; nothing only where more are wanted
+-- what bytes make of a turn: the head of an answer, or why there is none; nothing only if more are wanted
 abbrev pub FitsBytes : Asker → Asker → List ℕ → Result (Option IcapResponse) ClientFault → Type 0
 FitsBytes old new given (Ok found) = IfNone found (HasToAsk new.stage new.raw)
 FitsBytes old new given (Err fault) = RefusesGiven fault old given
 
--- and what those make of it that were kept; nothing only behind the answer's end
+-- and what the bytes that were kept make of it; nothing only after the answer's end
 abbrev pub FitsKept : Asker → Result (Option IcapResponse) ClientFault → Type 0
 FitsKept old (Ok found) = IfNone found (old.stage ≡ Over)
 FitsKept old (Err fault) = RefusesGiven fault old []
@@ -214,8 +214,8 @@ FitsCall (filled fills.Failed) old new given result = result ≡ Err faults.Devi
 FitsCall (filled fills.NoMemory) old new given result = result ≡ Err faults.NoMemory
 FitsCall rested old new given result = FitsKept old result
 
--- A turn of a side without a fault: it offers the text that waits, once; or, where none waits, it reads once. Behind the
--- answer's end, and where the bytes that were kept say what is answered, it leaves the wire alone.
+-- A turn of a side without a fault: it offers the text that waits, once; or, if none waits, it reads once. After the
+-- answer's end, and if the bytes that were kept decide what it answers, it leaves the wire alone.
 pub record Asks (old new : Asker) (before after : Past → Type 0) (result : Result (Option IcapResponse) ClientFault) : Type 0 where
   pub call : Call
   pub given : List ℕ

@@ -21,7 +21,7 @@ abbrev pub listed : Option Event → List Event
 listed None = []
 listed (Some event) = event ∷ []
 
--- so many bytes of the adapted body, if any
+-- this many bytes of the adapted body, if any
 abbrev pub ad_events : ℕ → List Event
 ad_events zero = []
 ad_events (suc n) = Ad (suc n) ∷ []

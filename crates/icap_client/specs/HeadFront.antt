@@ -1,4 +1,4 @@
--- The front of a reply's head, which is judged where a line has ended.
+-- A prefix of a reply's head, which is judged once a line has ended.
 use Rattle.std.specs.Prelude.{◌≡◌, ℕ, ◌<◌, ◌⊎◌, false, List, length, take, drop}
 use Rattle.adapt_bytes.specs.declared.limits.TheConstants.{MAX_HEAD}
 use Rattle.adapt_bytes.specs.Text.{has_line}
@@ -9,24 +9,24 @@ use Rattle.icap_client.specs.Hearing.{MustWait}
 use Rattle.icap_client.specs.declared.stage.Stage.{Stage}
 use Rattle.icap_client.specs.declared.stage.Stage.TheVariants.{Replies, Head, Body, Over}
 
--- bytes that aren't framed yet, how many of them were judged, and the room behind them
+-- bytes that aren't framed yet, how many of them were judged, and the room after them
 pub record Store : Type 0 where
   pub bytes : List ℕ
   pub judged : ℕ
   pub room : ℕ
 
--- so many were judged to be the front of an ICAP head, or none was
+-- this many were judged to be a prefix of an ICAP head, or no byte was judged
 abbrev pub IsJudged : ℕ → List ℕ → Type 0
 IsJudged judged bytes = (judged ≡ 0) ⊎ RefusesIcapHead StatusForm More (take judged bytes)
 
--- the front of a head: no line has ended behind what was judged so, and there is room for more
+-- a prefix of a head: no line has ended after what was judged to be one, and there is room for more
 pub record IsHeadFront (bytes : List ℕ) : Type 0 where
   pub judged : ℕ
   pub more : IsJudged judged bytes
   pub no_line : has_line (drop judged bytes) ≡ false
   pub short : length bytes < MAX_HEAD
 
--- a side has to wait for more bytes, with room for so many adapted ones
+-- a side has to wait for more bytes, with room for this many adapted ones
 abbrev pub HasToWait : Stage → List ℕ → ℕ → Type 0
 HasToWait Replies raw room = IsHeadFront raw
 HasToWait (Head layout) raw room = MustWait (Head layout) raw room

@@ -14,14 +14,14 @@ use Rattle.icap_client.specs.Heard.{Reader, HasHeard}
 use Rattle.icap_client.specs.declared.stage.Stage.{Stage}
 use Rattle.icap_client.specs.declared.stage.Stage.TheVariants.{Replies, Head, Body, Over}
 
--- the events may come, behind a first byte that was read before, and say what these further bytes do, of which these are adapted ones
+-- the events may come, after a first byte that was read before, and say what these further bytes do, of which these are adapted ones
 pub record ReaderHears (x : Seen) (old new : Reader) (events : List Event) (bytes part : List ℕ) : Type 0 where
   pub legal : MayAllFollow x events
   pub only : AllAre is_of_replies events
   pub behind : (events ≡ []) ⊎ (x.heard ≡ true)
   pub heard : (adapted read : List ℕ) → HasHeard x adapted read old → HasHeard (after_all x events) (adapted ++ part) (read ++ bytes) new
 
--- no event came of the front of these bytes: they are the front of an ICAP head, and none was used; or that of a 200 was
+-- no event came of these bytes: they are a prefix of an ICAP head, and none was used; or the ICAP head of a 200 was used
 pub data PassesWithoutEvent (old new : Reader) (used : ℕ) (raw : List ℕ) : Type 0 where
   waits : used ≡ 0 → new.stage ≡ old.stage → new.point ≡ old.point → RefusesIcapHead StatusForm More raw → PassesWithoutEvent old new used raw
   goes_on : (layout : Layout) → new.stage ≡ Head layout → new.point ≡ old.point → IsModHead old.point layout (take used raw) → PassesWithoutEvent old new used raw
@@ -30,7 +30,7 @@ pub data PassesWithoutEvent (old new : Reader) (used : ℕ) (raw : List ℕ) : T
 abbrev pub HasNoEmptyLine : List ℕ → Type 0
 HasNoEmptyLine text = (k : ℕ) → k ≤ length text → ends_in_empty_line (take k text) ≡ false
 
--- so many of these bytes are read, and these are the bytes of the body in them
+-- this many of these bytes are read, and these are the bytes of the body in them
 abbrev pub ReadsOn : ChunkReader → List ℕ → ℕ → List ℕ → ChunkReader → Type 0
 ReadsOn old raw used part new = (text body : List ℕ) → HasRead text body old → HasRead (text ++ take used raw) (body ++ part) new
 
@@ -41,8 +41,8 @@ pub record IsBodyNext (chunks : ChunkReader) (raw : List ℕ) : Type 0 where
   pub some : 0 < length part
   pub reads : ReadsOn chunks raw 1 part new
 
--- none of these bytes can be framed yet, with room for so many adapted ones: a head isn't whole, or the next byte is one of
--- the body and there is no room; behind a whole final response none is framed any more
+-- none of these bytes can be framed yet, with room for this many adapted ones: a head isn't whole, or the next byte is one of
+-- the body and there is no room; after a whole final response no byte is framed any more
 abbrev pub MustWait : Stage → List ℕ → ℕ → Type 0
 MustWait Replies raw room = RefusesIcapHead StatusForm More raw
 MustWait (Head layout) raw room = (length raw < layout.offset) × HasNoEmptyLine raw

@@ -1,4 +1,4 @@
--- The side's marks beside the other sides' events, and behind a turn's.
+-- The side's marks beside the other sides' events, and after a turn's.
 use Rattle.std.proofs.Common.{◌≡◌, ℕ, Bool, false, not, ◌||◌, ◌&&◌, List, ◌++◌, length, refl, ap, sym, ◌∙◌}
 use Rattle.trace_core.specs.declared.history.Event.{Event}
 use Rattle.trace_core.specs.declared.history.Event.TheVariants.{In, End, Svc, Stop, Heard, Continue, NoMod, Mod, Ad, AdEnd, Usr, Done, Fail, Retry}
@@ -26,7 +26,7 @@ last_stop_kept x Done o n = refl
 last_stop_kept x (Fail cause) o n = refl
 last_stop_kept x Retry o n = cc
 
--- a request that may begin anew behind an event might before it
+-- a request that may begin anew after an event might before it
 pub might_retry : (x : Seen) (event : Event) → is_retry event ≡ false → MayCome (after x event) Retry → MayCome x Retry
 might_retry x (In k) n m = m
 might_retry x End n m = m

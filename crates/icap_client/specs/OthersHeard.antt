@@ -190,7 +190,7 @@ closed_by x all_sent true false e f n = (e, f)
 closed_by x all_sent false c e f n = absurd (n (inl e))
 closed_by x all_sent true true e f n = absurd (n (inr (inl f)))
 
--- where nothing is to be read the answer is whole, there is no room, or a preview waits
+-- if nothing is to be read, the answer is whole, there is no room, or a preview waits
 pub rests_where : (x : Seen) (adapted read : List ℕ) (all_sent : Bool) (room : ℕ) (s : Side) → SideHeard x adapted read s → NothingToRead x all_sent room s.reader.stage
     → ((x.no_mod ≡ true) ⊎ (x.adapted_over ≡ true)) ⊎ ((room ≡ 0) ⊎ ((is_preview x.plan.kind ≡ true) × (x.continued ≡ false)))
 rests_where x adapted read all_sent room s h (inl e) = inl (over_is x adapted read s e h)

@@ -38,7 +38,7 @@ it_begins plan head = record {
   waits = λ some. absurd (omega (arith, some));
 }
 
--- what a request's front and its bound depend on is the same
+-- nothing changed that a request's prefix and its bound depend on
 record Same (x y : Seen) : Type 0 where
   plan : y.plan ≡ x.plan
   stopped : y.stopped ≡ x.stopped
@@ -62,7 +62,7 @@ preview_moved x y n m h =
     (subst (λ (b : Bool). IfSome (if b then None else preview_size y.plan.kind) (λ p. x.sent + n ≤ p)) (sym m.stopped)
     (subst (λ (p : Plan). IfSome (if x.stopped then None else preview_size p.kind) (λ p. x.sent + n ≤ p)) (sym m.plan) h))
 
--- the bytes that were sent are the same
+-- the bytes that were sent stay
 same_sent : (x y : Seen) (came more : List ℕ) → Same x y → length came ≡ x.received → x.sent ≤ x.received → take y.sent (came ++ more) ≡ take x.sent came
 same_sent x y came more m l t = ap (λ (n : ℕ). take n (came ++ more)) m.sent ∙ take-append-le x.sent came more (omega (arith, t))
 
@@ -116,7 +116,7 @@ begins_again x came w head e = subst (λ (v : Writer). HasSent head (after x Ret
   waits = λ some. absurd (omega (arith, some));
 })
 
--- where nothing is due, no event of sending may follow
+-- if nothing is due, no event of sending may follow
 pub none_may_send : (x : Seen) (w : Writer) → NothingDue x w → x.closed ≡ false → (event : Event) → is_of_sending event ≡ true → Allows x event → ⊥
 none_may_send x w n c (In k) o a = cc
 none_may_send x w n c End o a = cc

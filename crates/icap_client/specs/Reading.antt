@@ -17,14 +17,14 @@ use Rattle.adapt_sides.specs.declared.turn.Turn.{Turn}
 use Rattle.icap_client.specs.declared.stage.Stage.{Stage}
 use Rattle.icap_client.specs.declared.stage.Stage.TheVariants.{Over}
 
--- the reading half: the reader, the bytes that came and aren't framed yet, the fault that stays, and the room behind those bytes
+-- the reading half: the reader, the bytes that came and aren't framed yet, the fault that stays, and the room after those bytes
 pub record Side : Type 0 where
   pub reader : Reader
   pub raw : List ℕ
   pub fault : Option ClientFault
   pub room : ℕ
 
--- the same, and without room where there are no bytes
+-- no more than room was given back, and all of it if there are no bytes
 pub record GivesBack (old new : Side) : Type 0 where
   pub reader : new.reader ≡ old.reader
   pub raw : new.raw ≡ old.raw
@@ -44,7 +44,7 @@ pub record NotBegun (x : Seen) (adapted read : List ℕ) : Type 0 where
   pub continued : x.continued ≡ false
   pub count : x.adapted_received ≡ 0
 
--- of the bytes read those without the raw ones say what was heard; Heard stands where a first one was read
+-- the bytes read, but for the raw ones, say what was heard; Heard stands once a first one was read
 pub record SideHeard (x : Seen) (adapted read : List ℕ) (s : Side) : Type 0 where
   pub framed : List ℕ
   pub text_is : read ≡ framed ++ s.raw
@@ -57,7 +57,7 @@ pub record SideHears (x : Seen) (old new : Side) (events : List Event) (given pa
   pub only : AllAre is_of_replies events
   pub heard : (adapted read : List ℕ) → SideHeard x adapted read old → SideHeard (after_all x events) (adapted ++ part) (read ++ given) new
 
--- the service may answer now: in a preview once its last chunk is out, and behind a 100; elsewhere at any moment
+-- the service may answer now: in a preview once its last chunk is out, and after a 100; elsewhere at any moment
 abbrev pub MayRead : Seen → Bool → Type 0
 MayRead x all_sent = (is_preview x.plan.kind ≡ false) ⊎ ((x.continued ≡ true) ⊎ ((x.stopped ≡ true) × (all_sent ≡ true)))
 
@@ -75,13 +75,13 @@ pub record IsReadDue (x : Seen) (all_sent : Bool) (room : ℕ) (s : Side) : Type
   pub may : MayRead x all_sent
   pub waits : HasToWait s.reader.stage s.raw room
 
--- the wire is read only where that is due once the bytes that are kept were framed, and no event came of them
+-- the wire is read only if that is due once the bytes that are kept were framed, and no event came of them
 abbrev pub ReadsWhereDue : Seen → Bool → ℕ → Side → Option Got → Type 0
 ReadsWhereDue x all_sent room old None = Unit {0}
 ReadsWhereDue x all_sent room old (Some answer) = (framed : Side) × SideHears x old framed [] [] [] × IsReadDue x all_sent room framed
 
--- What a turn makes of its wire's answer. It waits where the wire says so, or, where it didn't read, where nothing is to be
--- read; Closed and Device are answered just where the wire ended or failed.
+-- What a turn makes of its wire's answer. It waits if the wire says so, or, if it didn't read, if nothing is to be read. It
+-- answers Closed and Device just if the wire ended or failed.
 abbrev pub FitsGot : Seen → Bool → ℕ → Stage → Option Got → Result Turn ClientFault → Type 0
 FitsGot x all_sent room stage None (Ok turn) = turn.waiting ≡ true → NothingToRead x all_sent room stage
 FitsGot x all_sent room stage None (Err fault) = (fault ≢ Closed) × (fault ≢ Device)
@@ -102,7 +102,7 @@ abbrev pub IsCause : ClientFault → Seen → Bool → Reader → List ℕ → T
 IsCause fault x all_sent reader raw =
     (fault ≡ Closed) ⊎ ((fault ≡ Device) ⊎ ((fault ≡ NoMemory) ⊎ (IsUnheard fault x all_sent ⊎ Refuses fault x reader.point reader.stage raw)))
 
--- what came of a turn in which the wire gave these bytes, with so much room
+-- what came of a turn in which the wire gave these bytes, with this much room
 abbrev pub CameOf : Seen → Bool → Side → Side → ℕ → List ℕ → List ℕ → Result Turn ClientFault → Type 0
 CameOf x all_sent old new room out given (Ok turn) =
     SideHears x old new turn.events.items given (take (ad_sum turn.events.items) out)

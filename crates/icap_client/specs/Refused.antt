@@ -1,4 +1,4 @@
--- Why the bytes behind those that were framed are refused.
+-- Why the bytes after those that were framed are refused.
 use Rattle.std.specs.Prelude.{◌≡◌, ◌≢◌, ℕ, ◌<◌, ◌≤◌, ◌⊎◌, Bool, Some, List, [], ◌++◌, length, take}
 use Rattle.adapt_bytes.specs.declared.limits.TheConstants.{MAX_HEAD}
 use Rattle.icap_head.specs.Heads.{Response, HasResponse, RefusesIcapHead}
@@ -82,7 +82,7 @@ RefusesBody faults.Chunk x chunks raw = (fault : ChunkFault) × ((text body : Li
 RefusesBody faults.NotLegal x chunks raw = IsUntimelyBody x chunks raw
 RefusesBody _ x chunks raw = ⊥
 
--- behind the ICAP head of a 200 its other head is refused
+-- after the ICAP head of a 200 its other head is refused
 pub record RefusesBehind (fault : ClientFault) (x : Seen) (point : Point) (raw : List ℕ) : Type 0 where
   pub icap : List ℕ
   pub rest : List ℕ
@@ -106,7 +106,7 @@ SpellsReply point value replies.Continue = (value.status ≡ 100) × HasNothing 
 SpellsReply point value replies.NoMod = (value.status ≡ 204) × HasNothing point (lists_of value)
 SpellsReply point value (replies.Mod layout) = (value.status ≡ 200) × HasLayout point (lists_of value) layout × HasAdaptedHead layout
 
--- the response may come now; of a 200 that is asked where its other head is read
+-- the response may come now; for a 200 that is asked once its other head is read
 abbrev pub MayReply : Seen → Reply → Type 0
 MayReply x replies.Continue = MayCome x Continue
 MayReply x replies.NoMod = MayCome x NoMod

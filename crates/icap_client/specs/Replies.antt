@@ -79,7 +79,7 @@ pub record IsEncapsulatedHead (text : List ℕ) : Type 0 where
   pub ended : ends_in_empty_line text ≡ true
   pub first : (k : ℕ) → k < length text → ends_in_empty_line (take k text) ≡ false
 
--- the heads of a 200: its ICAP head, and behind it the adapted message's, just as long as the layout says
+-- the heads of a 200: its ICAP head, and then the adapted message's, just as long as the layout says
 pub record IsModHeads (point : Point) (layout : Layout) (head text : List ℕ) : Type 0 where
   pub icap : List ℕ
   pub text_is : text ≡ icap ++ head
@@ -96,12 +96,12 @@ has_body ResBody = true
 has_body OptBody = true
 has_body NullBody = false
 
--- what a 200 has behind its heads
+-- what a 200 has after its heads
 abbrev pub payload_if : Bool → Payload
 payload_if true = payloads.Body
 payload_if false = payloads.NullBody
 
--- what stands behind the heads: a chunked body, of which `ieof` says nothing, or none
+-- what follows the heads: a chunked body, of which `ieof` says nothing, or no body
 abbrev pub IsBody : Bool → List ℕ → List ℕ → Type 0
 IsBody true text body = (ieof : Bool) × IsChunked text body ieof
 IsBody false text body = (text ≡ []) × (body ≡ [])

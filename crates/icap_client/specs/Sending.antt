@@ -17,7 +17,7 @@ use Rattle.icap_client.specs.RequestText.{is_null}
 use Rattle.icap_client.specs.Events.{MayCome}
 use Rattle.icap_client.specs.Front.{Front, HasBody}
 
--- the text of the next zero chunk: nothing where there is no body
+-- the text of the next zero chunk: nothing if there is no body
 abbrev pub stop_text : Seen → List ℕ
 stop_text x = if is_null x.plan.len then [] else last_chunk (ieof_now x)
 
@@ -30,7 +30,7 @@ pub record HasSent (head : List ℕ) (x : Seen) (came taken : List ℕ) (w : Wri
   pub there : x.sent + w.left ≤ x.received
   pub in_preview : IfSome (open_preview x) (λ p. x.sent + w.left ≤ p)
   pub framing : IsFraming w.framing
-  -- once a byte of the body is out, all that were counted are, and what waits is framing text behind them
+  -- once a byte of the body is out, all that were counted are, and what waits is framing text after them
   pub waits : 0 < x.sent → WaitsBehind (HasBody (take x.sent came)) chunks (waiting w)
 
 -- The text of a request's heads, as it is let go once it is out: what waits stays.
@@ -43,7 +43,7 @@ pub record LetsGo (old new : Writer) : Type 0 where
 abbrev pub KeepsOrDrops : Writer → Writer → Type 0
 KeepsOrDrops old new = (new.head ≡ old.head) ⊎ (new.head ≡ [])
 
--- so many came, and the tape's bytes are the end of them
+-- this many came, and the tape's bytes are the last of them
 pub record Came (x : Seen) (tape : Tape) (came : List ℕ) : Type 0 where
   pub count : length came ≡ x.received
   pub bytes : drop tape.base came ≡ tape.bytes
@@ -56,22 +56,22 @@ pub record NothingDue (x : Seen) (w : Writer) : Type 0 where
 
 -- What a turn decides before it writes.
 
--- a zero chunk is due once the body has gone so far: to its end, or to the end of the preview
+-- a zero chunk is due once the body has gone this far: to its end, or to the end of the preview
 abbrev pub StopsAt : Seen → ℕ → Type 0
 StopsAt x place = ((x.ended ≡ true) × (place ≡ x.received)) ⊎ IsSomeAnd (open_preview x) (λ p. place ≡ p)
 
--- behind so many more bytes, where any may go
+-- after this many more bytes, if any may go
 abbrev pub StopsBehind : Seen → ℕ → Type 0
 StopsBehind x n = (x.closed ≡ false) × MaySend x × StopsAt x (x.sent + n)
 
--- and its text: nothing where there is no body; with ieof where the preview is the whole body
+-- and its text: nothing if there is no body; with ieof if the preview is the whole body
 abbrev pub stop_text_at : Seen → ℕ → List ℕ
 stop_text_at x place =
     if is_null x.plan.len then []
     else last_chunk (is_preview x.plan.kind && not x.stopped && x.ended && (place == x.received))
 
--- What comes next: of the body bytes that may be sent all that fit into a turn and into the chunk that was begun, and the zero
--- chunk behind them where it is due. So there is one such next.
+-- What comes next: of the body bytes that may be sent all that fit into a turn and into the chunk that was begun, and after them
+-- the zero chunk, if it is due. So there is one such next.
 pub record Decides (x : Seen) (w : Writer) (next : Next) : Type 0 where
   pub chunked : next.chunked ≡ true
   pub from : next.from ≡ x.sent
@@ -82,7 +82,7 @@ pub record Decides (x : Seen) (w : Writer) (next : Next) : Type 0 where
   pub no_stop : is_ending next.end ≡ false → StopsBehind x next.count → ⊥
   pub text : is_ending next.end ≡ true → end_text next.end ≡ stop_text_at x (x.sent + next.count)
 
--- the events of a turn that sent so many bytes of the body, and fixed a zero chunk or not
+-- the events of a turn that sent this many bytes of the body, and fixed a zero chunk or not
 abbrev pub svc_events : ℕ → List Event
 svc_events n = if n == 0 then [] else Svc n ∷ []
 

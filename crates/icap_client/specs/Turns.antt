@@ -42,7 +42,7 @@ pub record Service : Type 0 where
 abbrev pub is_answered : Seen → Bool
 is_answered x = is_preview x.plan.kind && (not x.continued && (x.no_mod || x.modified))
 
--- a Stop behind so many bytes of the body is the one after which nothing goes to the service
+-- a Stop after this many bytes of the body is the one after which nothing goes to the service
 abbrev pub is_last_at : Seen → ℕ → Bool
 is_last_at x place = is_whole x.plan.kind || (is_preview x.plan.kind && not x.stopped && x.ended && (place == x.received)) || (is_preview x.plan.kind && x.continued)
 
@@ -50,8 +50,8 @@ is_last_at x place = is_whole x.plan.kind || (is_preview x.plan.kind && not x.st
 abbrev pub is_flushed : Writer → Bool
 is_flushed w = length (waiting w) == 0
 
--- A turn that answers events, by what its wire answered. It waits only where the wire said so in this call, or where
--- nothing was due; else the wire took bytes, or an event stands.
+-- A turn that answers events, by what its wire answered. It waits only if the wire said so in this call, or if nothing was
+-- due; else the wire took bytes, or an event stands.
 pub record FitsAnswer (x : Seen) (w : Writer) (answer : Option Put) (turn : Turn) : Type 0 where
   pub no_fault : answer ≡ Some put.Fault → ⊥
   pub wait : answer ≡ Some put.Wait → turn.events.items ≡ []
@@ -60,13 +60,13 @@ pub record FitsAnswer (x : Seen) (w : Writer) (answer : Option Put) (turn : Turn
   pub moved : turn.waiting ≡ false → turn.events.items ≡ [] → answer ≡ None → ⊥
   pub woke : turn.waiting ≡ false → answer ≡ Some put.Wait → ⊥
 
--- A first fault is Device, and comes exactly where the wire failed in this call.
+-- A first fault is Device, and comes exactly if the wire failed in this call.
 abbrev pub FitsOffer : Seen → Writer → Option Put → Result Turn ClientFault → Type 0
 FitsOffer x w answer (Ok turn) = FitsAnswer x w answer turn
 FitsOffer x w answer (Err fault) = (fault ≡ Device) × (answer ≡ Some put.Fault)
 
--- A turn of a side without a fault: its wire took a front of all that is due, which is what waits and, unless a long head goes
--- out alone, what comes next behind it; the wire is asked only where there is such a text.
+-- A turn of a side without a fault: its wire took a prefix of all that is due, which is what waits and, unless a long head goes
+-- out alone, what comes next after it; the wire is asked only if there is such a text.
 pub record WriteTurn (x : Seen) (tape : Tape) (old new : Writer) (before after : Past → Type 0) (result : Result Turn ClientFault) : Type 0 where
   pub next : Next
   pub answer : Option Put
@@ -82,7 +82,7 @@ pub record WriteTurn (x : Seen) (tape : Tape) (old new : Writer) (before after :
 abbrev pub RestsReading : Seen → ℕ → Service → Type 0
 RestsReading x room s = NothingToRead x (is_flushed s.writer) room s.replies.reader.stage
 
--- with so much room, none of the bytes that are kept can be framed
+-- with this much room, none of the bytes that are kept can be framed
 abbrev pub HasFramed : ℕ → Service → Type 0
 HasFramed room s = HasToWait s.replies.reader.stage s.replies.raw room
 
@@ -122,7 +122,7 @@ is_over (Body chunks) = false
 is_over Over = true
 
 -- another request may follow on the service's connection: the request is whole, the final response was read to its end and
--- nothing behind it, it doesn't say that the connection closes, and no fault stands
+-- nothing after it, it doesn't say that the connection closes, and no fault stands
 abbrev pub is_reusable : Service → Bool
 is_reusable s = is_whole_request s && (is_over s.replies.reader.stage && ((length s.replies.raw == 0) && (not s.replies.reader.closes && is_none s.replies.fault)))
 

@@ -17,7 +17,7 @@ pub(crate) fn is_answered(seen: &Seen, events: &[Event]) -> bool
     answered_by(seen, continued, replied)
 }
 
-/// Whether a preview is answered, where a 100 and a final response have come in a turn or not.
+/// Whether a preview is answered, by whether a 100 and a final response have come in a turn.
 fn answered_by(seen: &Seen, continued: bool, replied: bool) -> bool
     ensures { result ≡ (is_preview seen.now.plan.kind && (not (seen.now.continued || continued) && ((seen.now.no_mod || seen.now.modified) || replied))) }
 {

@@ -10,21 +10,21 @@ use arrayvec::ArrayVec;
 use icap_head::HeadFault;
 use trace_core::{Event, Payload, State};
 
-/// What was framed of the bytes that were offered: so many from the front, and what they say.
+/// What was framed of the offered bytes: how many of the first ones, and the event that they are.
 #[derive(Clone, Copy, Debug, PartialEq, Eq)]
 pub(crate) struct Framed {
     pub(crate) used: usize,
     pub(crate) event: Option<Event>,
 }
 
-/// What was heard in the bytes that were offered: so many from the front were framed, and these events are what they say.
+/// What was heard in the offered bytes: how many of the first ones were framed, and the events that they are.
 #[derive(Drop)]
 pub struct Heard {
     pub used: usize,
     pub events: ArrayVec<Event, 4>,
 }
 
-/// The fault of a text that has no ICAP head at its front; none where it may still become one.
+/// The fault of a text that doesn't begin with an ICAP head; `None` if it may still become one.
 pub(crate) fn refusal(fault: HeadFault) -> Option<ClientFault>
     ensures some { IfSome result (λ found. ((fault ≡ HeadFault.NoMemory) × (found ≡ ClientFault.NoMemory))
         ⊎ ((found ≡ ClientFault.Head) × (fault ≢ HeadFault.NoMemory) × (fault ≢ HeadFault.More))) }
@@ -52,7 +52,7 @@ pub(crate) fn event_list(event: Option<Event>) -> ArrayVec<Event, 4>
     events
 }
 
-/// The events of so many bytes of the adapted body, and of its end.
+/// The events for this many bytes of the adapted body, and for its end.
 pub(crate) fn adapted_events(count: usize, ended: bool) -> ArrayVec<Event, 4>
     ensures { result.items ≡ adapted_events count ended }
 {
@@ -81,14 +81,14 @@ pub(crate) fn may_all(state: &State, count: usize, ended: bool) -> bool
     true
 }
 
-/// Whether the event may come now, behind a first byte that was read before.
+/// Whether the event may come now, after a first byte that was read before.
 fn may_hear(state: &State, event: Event) -> bool
     ensures { IsTrue result ↔ MayHear (seen state.now.plan state.now.events) event }
 {
     state.seen().heard && state.may(event)
 }
 
-/// What a 200 has behind its heads.
+/// What a 200 has after its heads.
 pub(crate) fn payload_of(body: bool) -> Payload
     ensures { result ≡ payload_if body }
 {

@@ -17,7 +17,7 @@ use std::alloc::Global;
 use std::marker::Model;
 use wire_kit::Wire;
 
-/// Bytes that came and aren't framed yet, and how many of them were judged to be the front of an ICAP head.
+/// Bytes that came and aren't framed yet, and how many of them were judged to be a prefix of an ICAP head.
 #[derive(Drop)]
 pub(crate) struct Kept {
     bytes: BytesMut,
@@ -59,7 +59,7 @@ impl Kept {
         }
     }
 
-    /// How many there are.
+    /// The number of bytes.
     pub(crate) fn len(&self) -> usize
         ensures len { result ≡ length self.now.bytes }
         ensures limit { result ≤ MAX_HEAD }
@@ -74,7 +74,7 @@ impl Kept {
         self.bytes.as_slice()
     }
 
-    /// Lets go of the first so many, which were framed. The rest was judged to be the front of a head, or wasn't.
+    /// Lets go of the first `used` bytes, which were framed. `judged` says that the rest was judged to be a prefix of a head.
     pub(crate) fn pass(&mut self, used: usize, judged: bool)
         requires within { used ≤ length self.old.bytes }
         requires front { judged ≡ true → RefusesIcapHead StatusForm More (drop used self.old.bytes) }
@@ -87,14 +87,14 @@ impl Kept {
         }
     }
 
-    /// Whether they needn't be judged again: no line has ended behind those that were, and there is room for more.
+    /// Whether they needn't be judged again: no line has ended after those that were, and there is room for more.
     pub(crate) fn is_front(&self) -> bool
         ensures { result ≡ true → IsHeadFront self.now.bytes }
     {
         self.bytes.len() < MAX_HEAD && !has_line(behind(self.bytes.as_slice(), self.judged))
     }
 
-    /// Gives back the room, where no byte is there.
+    /// Gives back the room, if there is no byte.
     pub(crate) fn give_back(&mut self, alloc: Global)
         ensures bytes { self.new.bytes ≡ self.old.bytes }
         ensures none { self.new.bytes ≡ [] → self.new.room ≡ 0 }
@@ -105,7 +105,7 @@ impl Kept {
         }
     }
 
-    /// Reads once behind them.
+    /// Reads once, and appends what came.
     pub(crate) fn fill<W: Wire>(&mut self, wire: &mut W) -> Filled
         requires { length self.old.bytes < MAX_HEAD }
         ensures filled { IsFilled (W.past wire.old) (W.past wire.new) self.old.bytes self.new.bytes result }

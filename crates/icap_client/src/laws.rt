@@ -35,33 +35,33 @@ pub fn others_keep_what_was_heard()
         → HasHeard x adapted read r → HasHeard (after x event) adapted read r }
 {}
 
-/// Where the reader is over, the bytes are a whole answer: a 100 or none, and then a 204, or a 200 with its heads and its body.
+/// Once the reader is over, the bytes are a whole answer: a 100 or none, and then a 204, or a 200 with its heads and its body.
 pub fn an_answer_is_whole()
     ensures { (x : Seen) (adapted read : List ℕ) (r : Reader) → r.stage ≡ stages.Over → HasHeard x adapted read r → IsWhole x adapted read r }
 {}
 
-/// How a service's bytes are cut by the reads doesn't matter: two sides that were given the same bytes, and have room and framed what
-/// may be framed of them, stand for the same.
+/// How the reads cut a service's bytes doesn't matter: two sides that were given the same bytes, have room and framed what
+/// can be framed of them, are equally far, with equal histories and equal bytes left over.
 pub fn cuts_do_not_matter()
     ensures { (x y : Seen) (xs ys read : List ℕ) (a b : Side) (room more : ℕ) → b.reader.point ≡ a.reader.point → 0 < room → 0 < more
         → SideHeard x xs read a → HasToWait a.reader.stage a.raw room → SideHeard y ys read b → HasToWait b.reader.stage b.raw more
         → AreSame x y xs ys a b }
 {}
 
-/// Bytes are refused with one fault: what refuses them with one fault doesn't refuse them with another. Want of memory, which any
-/// call may meet, is aside.
+/// Bytes are refused with one fault: what refuses them with one fault doesn't refuse them with another. Want of memory, which
+/// any call may meet, is excepted.
 pub fn refusals_have_one_fault()
     ensures { (fault other : ClientFault) (x : Seen) (adapted read raw : List ℕ) (r : Reader) → fault ≢ ClientFault.NoMemory → other ≢ ClientFault.NoMemory
         → HasHeard x adapted read r → Refuses fault x r.point r.stage raw → Refuses other x r.point r.stage raw → fault ≡ other }
 {}
 
-/// A service's bytes have one reading as a whole answer: the same 100 or none, and the same final response with the same body.
+/// A service's bytes have one reading as a whole answer: one 100 or none, and one final response with one body.
 pub fn answers_have_one_reading()
     ensures { (point : Point) (continued again : Bool) (final other : Final) (text : List ℕ)
         → IsAnswer point continued final text → IsAnswer point again other text → (continued ≡ again) × (final ≡ other) }
 {}
 
-/// What the service's wire took is a front of a whole request for what came of the body.
+/// What the service's wire took is a prefix of a whole request for what came of the body.
 pub fn sent_is_a_front()
     ensures { (plan : Plan) (events : List Event) (head came taken : List ℕ) (w : Writer) → IsLegal plan events
         → is_plain plan.kind ≡ false → length came ≡ (seen plan events).received
@@ -74,7 +74,7 @@ pub fn begins()
         (fresh head) }
 {}
 
-/// The other sides' events leave what was sent as it is. Body bytes that come stand behind those that came.
+/// The other sides' events leave what was sent as it is. Further body bytes come after those that came before.
 pub fn others_keep()
     ensures { (head : List ℕ) (x : Seen) (event : Event) (came bytes taken : List ℕ) (w : Writer) → is_of_sending event ≡ false → is_retry event ≡ false
         → length came ≡ x.received → length bytes ≡ in_bytes event
@@ -97,27 +97,27 @@ pub fn heard_says_a_byte()
     ensures { (x : Seen) (adapted read : List ℕ) (s : Side) → SideHeard x adapted read s → ((x.heard ≡ true) ↔ (0 < length read)) }
 {}
 
-/// Where the reader is over, its tag and its word on closing are those of the final response's ICAP head.
+/// Once the reader is over, its tag and its word on closing are those of the final response's ICAP head.
 pub fn the_final_head_says()
     ensures { (x : Seen) (adapted read : List ℕ) (r : Reader) → r.stage ≡ stages.Over → HasHeard x adapted read r → WasSaid x read r }
 {}
 
-/// Where the last zero chunk was fixed and nothing waits, the service's wire took just a whole request.
+/// Once the last zero chunk was fixed and nothing waits, the service's wire took just a whole request.
 pub fn a_request_is_whole()
     ensures { (plan : Plan) (events : List Event) (head came taken : List ℕ) (w : Writer) → IsLegal plan events
         → (seen plan events).last_stop ≡ true → waiting w ≡ [] → length came ≡ (seen plan events).received
         → HasSent head (seen plan events) came taken w → IsRequestText (seen plan events) head came taken }
 {}
 
-/// Where the service's connection may carry another request, all that was due of the request was taken, and just a whole
+/// If the service's connection may carry another request, all that was due of the request was taken, and just a whole
 /// answer was read.
 pub fn a_reusable_connection_is_clean()
     ensures { (x : Seen) (head came taken adapted read : List ℕ) (s : Service) → is_reusable s ≡ true
         → ServiceSent head x came taken s → ServiceHeard x adapted read s → IsClean x adapted read s }
 {}
 
-/// The list of a request's heads and body is read back by a server as the layout with each head behind the one before it, and
-/// the body behind them all (RFC 3507, section 4.4.1).
+/// A server reads the list of a request's heads and body back as the layout with each head after the one before it, and the
+/// body after them all (RFC 3507, section 4.4.1).
 pub fn a_server_reads_the_list()
     ensures { (point : Point) (null : Bool) (req res : ℕ) → req + res < COUNT_LIMIT → IsReadBack point null req res }
 {}

@@ -1,4 +1,4 @@
-//! Asking a service what it offers: one OPTIONS request and its answer, over a Wire (RFC 3507, section 4.10).
+//! Asking a service what it offers: one OPTIONS request and its answer, over a wire (RFC 3507, section 4.10).
 
 ghost use Rattle.std.specs.Prelude.{◌≡◌, ℕ, ◌+◌, ◌<◌, ◌≤◌, ◌⊎◌, Bool, List, [], ◌∷◌, ◌++◌, length, drop, take, OnOk, IfOk, IfErr, IfSome, IfNone, Some, None, Err, is_some, codes, true, false, option_map};
 ghost use Rattle.adapt_bytes.specs.declared.limits.TheConstants.{MAX_HEAD};
@@ -37,7 +37,7 @@ pub enum OptionsStage {
     Over,
 }
 
-/// One OPTIONS request and its answer.
+/// One OPTIONS request and its answer, by turns of one read or one write at most.
 #[derive(Drop)]
 pub struct OptionsSide {
     alloc: Global,
@@ -67,7 +67,7 @@ impl OptionsSide {
     ghost use Rattle.icap_head.specs.StartLines.{StatusForm};
     ghost use Rattle.icap_client.specs.Asking.{options_request, LetsRoomGo, Frames, HasAnyHead, RefusesOptionsHead, RefusesRaw, HasToAsk, Asks};
 
-    /// A request to the service at this host, port and path. NoMemory where its text can't be had.
+    /// A request to the service at this host, port and path. `NoMemory` if its text finds no memory.
     #[tactic(auto, using(crate::proofs::Skipping::some_text))]
     pub fn new(
         alloc: Global,
@@ -96,7 +96,7 @@ impl OptionsSide {
         self.raw.len()
     }
 
-    /// The memory that the request's text holds, in bytes: none once it is out.
+    /// The memory that the request's text holds, in bytes: 0 once it is out.
     #[tactic(auto, using(crate::proofs::Skipping::all_out))]
     pub fn request_room(&self) -> usize
         ensures { self.now.waiting ≡ [] → result ≡ 0 }
@@ -183,7 +183,7 @@ impl OptionsSide {
         }
     }
 
-    /// Refuses the head for this fault, or marks that its front was judged.
+    /// Refuses the head for this fault, or marks that the raw bytes were judged to be a prefix of one.
     #[tactic(auto, using(crate::proofs::Skipping::frames_kept))]
     fn refuse_head(&mut self, fault: HeadFault) -> Result<Option<IcapResponse>, ClientFault>
         requires stage { self.old.stage ≡ OptionsStage.Head }
@@ -203,7 +203,7 @@ impl OptionsSide {
         }
     }
 
-    /// Frames the raw bytes, of which the head comes first. It is judged where a line has ended, or where there is no more room.
+    /// Frames the raw bytes, of which the head comes first. It is judged once a line has ended, or if there is no more room.
     #[tactic(auto, using(crate::proofs::Skipping::frames_same, crate::proofs::Skipping::holds_start))]
     fn frame_head(&mut self) -> Result<Option<IcapResponse>, ClientFault>
         requires { self.old.stage ≡ OptionsStage.Head }
@@ -250,7 +250,7 @@ impl OptionsSide {
         }
     }
 
-    /// Reads once, where more bytes are wanted, and frames what came.
+    /// Reads once, if more bytes are wanted, and frames what came.
     fn read_on<W: Wire>(&mut self, wire: &mut W) -> Result<Option<IcapResponse>, ClientFault>
         requires asks { HasToAsk self.old.stage self.old.raw }
         requires out { self.old.waiting ≡ [] }
@@ -285,14 +285,14 @@ impl OptionsSide {
         }
     }
 
-    /// Gives back the room for raw bytes, where none is there.
+    /// Gives back the room for raw bytes, if there is no such byte.
     fn give_back(&mut self)
         ensures { LetsRoomGo self.old self.new }
     {
         self.raw.give_back(self.alloc);
     }
 
-    /// The same, and keeps no empty room.
+    /// Runs [`OptionsSide::try_turn`], and then keeps no empty room.
     fn turn_once<W: Wire>(&mut self, wire: &mut W) -> Result<Option<IcapResponse>, ClientFault>
         ensures asks { Asks self.old self.new (W.past wire.old) (W.past wire.new) result }
         ensures fault { self.new.fault ≡ self.old.fault }
@@ -303,8 +303,8 @@ impl OptionsSide {
         result
     }
 
-    /// Offers the text that waits, once; or, where none waits, reads once, and answers the head once its body, if any,
-    /// was read and dropped. Behind that it answers `None`, and leaves the wire alone.
+    /// Offers the text that waits, once; or, if none waits, reads once, and answers the head once its body, if any,
+    /// was read and dropped. After that it answers `None`, and leaves the wire alone.
     ///
     /// A fault stays: every later turn answers it again.
     pub fn turn<W: Wire>(&mut self, wire: &mut W) -> Result<Option<IcapResponse>, ClientFault>
@@ -342,7 +342,7 @@ struct Skipped {
     ended: bool,
 }
 
-/// Reads on up to the end of the body, or of the bytes.
+/// Reads on to the end of the body, or of the bytes.
 fn skip_body(chunks: &mut ChunkReader, raw: &[u8]) -> Result<Skipped, ChunkFault>
     requires going_on { end_of chunks.old ≡ None }
     requires sound { fault_of chunks.old ≡ None }
@@ -370,7 +370,7 @@ fn skip_body(chunks: &mut ChunkReader, raw: &[u8]) -> Result<Skipped, ChunkFault
     Ok(Skipped { used, ended: false })
 }
 
-/// Whether the answer has a body; none where its Encapsulated fields aren't those of an OPTIONS answer.
+/// Whether the answer has a body; `None` if its Encapsulated fields aren't those of an OPTIONS answer.
 fn body_of(fields: &Fields) -> Option<bool>
     ensures some { IfSome result (λ body. HasOptionsBody (values_of (codes "Encapsulated") (field_list fields.now)) body) }
     ensures none { IfNone result ((body : Bool) → HasOptionsBody (values_of (codes "Encapsulated") (field_list fields.now)) body → ⊥) }
@@ -383,7 +383,7 @@ fn body_of(fields: &Fields) -> Option<bool>
     }
 }
 
-/// Whether this list names a body; none where it isn't one of an OPTIONS answer.
+/// Whether this list names a body; `None` if it isn't one of an OPTIONS answer.
 fn body_in(list: &[u8]) -> Option<bool>
     ensures some { IfSome result (λ body. HasOptionsBody (list.now ∷ []) body) }
     ensures none { IfNone result ((body : Bool) → HasOptionsBody (list.now ∷ []) body → ⊥) }

@@ -1,4 +1,4 @@
-//! Reading a service's responses: bytes in, events out, and nothing of wires (RFC 3507, sections 4.4 to 4.6).
+//! Reading a service's responses: it takes bytes, answers events, and knows no wire (RFC 3507, sections 4.4 to 4.6).
 
 ghost use Rattle.std.specs.Prelude.{◌≡◌, ℕ, ◌<◌, ◌≤◌, ◌⊎◌, List, [], length, take, drop, OnOk, OnErr, option_copied, IfOk, IfErr, IfSome, IfNone, None, true, false, ◌≢◌, IsTrue, Some, ◌↔◌, MatchOption};
 ghost use Rattle.icap_head.specs.Heads.{Response, HasResponse, response_parts, RefusesIcapHead};
@@ -102,7 +102,7 @@ impl ReplyReader {
         Ok(())
     }
 
-    /// Goes on behind the head of this response, which is the first bytes of the raw ones, so many.
+    /// Goes on after the head of this response, which is the first `size` of the raw bytes.
     fn accept(
         &mut self,
         state: &State,
@@ -282,8 +282,8 @@ impl ReplyReader {
         }
     }
 
-    /// Frames what may be framed of the raw bytes, which stand behind those that were framed before. The bytes of the adapted
-    /// body go to the front of `out`, as many as the events say.
+    /// Frames what can be framed of the raw bytes, which come after those that were framed before. The bytes of the adapted
+    /// body go to the beginning of `out`; the events give their number.
     pub fn frame(&mut self, state: &State, raw: &[u8], out: &mut [u8]) -> Result<Heard, ClientFault>
         ensures within { IfOk result (λ heard. (heard.used ≤ length raw.now) × (ad_sum heard.events.items ≤ length out.old)) }
         ensures hears { IfOk result (λ heard. ReaderHears (seen state.now.plan state.now.events) self.old self.new heard.events.items (take heard.used raw.now) (take (ad_sum heard.events.items) out.new)) }

@@ -12,7 +12,7 @@ use arrayvec::ArrayVec;
 use std::alloc::{AllocError, Global};
 use trace_core::{Kind, Plan, Point};
 
-/// The ICAP head that offers a message of this plan to the service there, with the encapsulated heads behind it: at REQMOD
+/// The ICAP head that offers a message of this plan to the service there, followed by the encapsulated heads: at REQMOD
 /// the request's head alone.
 pub(crate) fn request_head(
     alloc: Global,

@@ -29,7 +29,7 @@ use std::marker::Model;
 use trace_core::{Event, Plan, Point, State};
 use wire_kit::{Put, Wire};
 
-/// Writes what is due, with one write at most, and keeps in mind whether the last Stop is fixed.
+/// Writes what is due, with one write at most, and notes whether the last Stop is fixed.
 fn write_once<W: Wire>(
     writer: &mut ChunkWriter,
     last_stop: &mut bool,
@@ -55,14 +55,27 @@ fn write_once<W: Wire>(
     }
 }
 
-/// The service's end of one transaction.
+/// The service's end of one transaction: it writes the request and reads the response, by turns of one write or read at most.
+///
+/// ```
+/// let plan = Plan::new(Kind::Whole, true, false, Some(0), Point::Reqmod)?;
+/// let state = State::begin(plan);
+/// let head = b"GET / HTTP/1.1\r\nHost: h\r\n\r\n";
+/// let mut side = ServiceSide::new(alloc, &plan, b"s", 1344, b"/scan", head, &[])?;
+/// let writes = vec![in alloc; WriteAnswer::Took(6)]?;
+/// let mut wire = MemoryWire::new(alloc, Vec::new(alloc), Vec::new(alloc), writes)?;
+/// let turn = side.write_turn(&state, &SpanTape::new(), &mut wire)?;
+/// assert!(rt; turn.events.as_slice().is_empty());
+/// assert_eq!(rt; wire.taken(), b"REQMOD".as_slice());
+/// assert!(rt; !side.is_flushed() && !side.is_reusable());
+/// ```
 #[derive(Drop)]
 pub struct ServiceSide {
     writer: ChunkWriter,
     replies: ReplySide,
-    /// The Stop is fixed after which nothing goes to the service.
+    /// Whether the Stop is fixed after which nothing goes to the service.
     last_stop: bool,
-    /// A preview was answered, with no 100 before it.
+    /// Whether a preview was answered, with no 100 before the answer.
     answered: bool,
 }
 
@@ -75,7 +88,7 @@ impl Model for ServiceSide {
 }
 
 impl ServiceSide {
-    /// A request whose ICAP head, with the encapsulated heads behind it, is this text.
+    /// A request whose ICAP head, followed by the encapsulated heads, is this text.
     pub fn of_head(alloc: Global, point: Point, head: Vec<u8>) -> ServiceSide
         ensures writer { result.writer ≡ fresh head.items }
         ensures reader { result.replies.reader ≡ first_reader point }
@@ -131,15 +144,15 @@ impl ServiceSide {
         self.answered = false;
     }
 
-    /// Whether the request is whole: all of it is out, or all of the preview, and that was answered without a 100.
+    /// Whether the request is whole: all of it is out; or all of the preview is, and it was answered without a 100.
     pub fn request_whole(&self) -> bool
         ensures { result ≡ is_whole_request self.now }
     {
         flushed(&self.writer) && (self.last_stop || self.answered)
     }
 
-    /// Whether the service's connection may carry another request behind this one: the request is whole, the final response
-    /// was read to its end and no byte behind it, its head doesn't say that the connection closes, and no fault stands.
+    /// Whether the service's connection may carry another request after this one: the request is whole, the final response
+    /// was read to its end and no byte after it, its head doesn't say that the connection closes, and no fault stands.
     pub fn is_reusable(&self) -> bool
         ensures { result ≡ is_reusable self.now }
     {
@@ -189,7 +202,7 @@ impl ServiceSide {
         flushed(&self.writer)
     }
 
-    /// The memory that the text of the request's heads holds, in bytes: none once it was let go.
+    /// The memory that the text of the request's heads holds, in bytes: 0 once it was let go.
     pub fn request_room(&self) -> usize
         ensures { self.now.writer.head ≡ [] → result ≡ 0 }
     {
@@ -230,12 +243,12 @@ impl ServiceSide {
             (λ head x came taken. ServiceSent head x came taken self.old) (λ head x came taken. ServiceSent head x came taken self.new)
             self.old.replies.fault self.new.replies.fault (NothingDue (seen state.now.plan state.now.events) self.new.writer) (W.past wire.old) (W.past wire.new) result }
 
-        // A turn that goes well leaves no fault. One that fails keeps its fault, and behind that the wire isn't touched.
+        // A turn that goes well leaves no fault. One that fails keeps its fault, and the wire isn't touched again.
         ensures sound { OnOk result (self.new.replies.fault ≡ None) }
         ensures stays { IfErr result (λ fault. self.new.replies.fault ≡ Some fault) }
         ensures untouched { IfSome self.old.replies.fault (λ fault. (p : Past) → W.past wire.old p → W.past wire.new p) }
 
-        // The heads' text is kept as long as the request may begin anew; where it may not, what is out is let go. No other text
+        // The heads' text is kept as long as the request may begin anew; once it may not, what is out is let go. No other text
         // comes in its place.
         ensures heads { KeepsOrDrops self.old.writer self.new.writer }
         ensures kept { MayCome (seen state.now.plan state.now.events) Event.Retry → self.new.writer.head ≡ self.old.writer.head }
@@ -256,8 +269,8 @@ impl ServiceSide {
         }
     }
 
-    /// Reads what the service answers, with one read at most. The bytes of the adapted body go to the front of `out`, as many
-    /// as the events say, and the caller steps the events.
+    /// Reads what the service answers, with one read at most. The bytes of the adapted body go to the beginning of `out`; the
+    /// events give their number, and the caller steps them.
     pub fn read_turn<W: Wire>(
         &mut self,
         state: &State,
@@ -275,7 +288,7 @@ impl ServiceSide {
             (λ x adapted read. ServiceHeard x adapted read self.old) (λ x adapted read. ServiceHeard x adapted read self.new)
             self.old.replies.fault self.new.replies.fault (RestsReading (seen state.now.plan state.now.events) (length out.old) self.new) (HasFramed (length out.old) self.new) (W.past wire.old) (W.past wire.new) out.new result }
 
-        // A turn that goes well leaves no fault. One that fails keeps its fault, and behind that the wire isn't touched.
+        // A turn that goes well leaves no fault. One that fails keeps its fault, and the wire isn't touched again.
         ensures sound { OnOk result (self.new.replies.fault ≡ None) }
         ensures stays { IfErr result (λ fault. self.new.replies.fault ≡ Some fault) }
         ensures untouched { IfSome self.old.replies.fault (λ fault. (p : Past) → W.past wire.old p → W.past wire.new p) }
@@ -283,7 +296,7 @@ impl ServiceSide {
         // No empty room is kept.
         ensures empty { self.old.replies.fault ≡ None → self.new.replies.raw ≡ [] → self.new.replies.room ≡ 0 }
 
-        // The heads' text is kept as long as the request may begin anew, which it may not behind a byte of a reply; then what is
+        // The heads' text is kept as long as the request may begin anew, which it may not after a byte of a reply; then what is
         // out is let go. No other text comes in its place.
         ensures heads { KeepsOrDrops self.old.writer self.new.writer }
         ensures kept { MayCome (seen state.now.plan state.now.events) Event.Retry → self.new.writer.head ≡ self.old.writer.head }

@@ -36,7 +36,7 @@ fn may_read(state: &State, all_sent: bool) -> bool
     }
 }
 
-/// Whether all bytes were judged to be the front of a response's head.
+/// Whether all bytes were judged to be a prefix of a response's head.
 fn awaits_more(reader: &ReplyReader, heard: &Heard) -> bool
     ensures none { result ≡ true → heard.now.events.items ≡ [] }
     ensures stage { result ≡ true → reader.now.stage ≡ Stage.Replies }
@@ -139,7 +139,7 @@ impl ReplySide {
         self.reader.is_over()
     }
 
-    /// Whether the final response was read to its end and no byte behind it, doesn't say that the connection closes, and no
+    /// Whether the final response was read to its end and no byte after it, doesn't say that the connection closes, and no
     /// fault stands.
     pub(crate) fn is_done(&self) -> bool
         ensures { result ≡ (is_over self.now.reader.stage && ((length self.now.raw == 0) && (not self.now.reader.closes && is_none self.now.fault))) }
@@ -150,7 +150,7 @@ impl ReplySide {
             && self.fault.is_none()
     }
 
-    /// Whether the raw bytes are the front of a response's head, of which no line has ended since it was judged.
+    /// Whether the raw bytes are a prefix of a response's head, of which no line has ended since it was judged.
     fn is_at_front(&self) -> bool
         ensures stage { result ≡ true → self.now.reader.stage ≡ Stage.Replies }
         ensures front { result ≡ true → IsHeadFront self.now.raw }
@@ -158,7 +158,7 @@ impl ReplySide {
         self.reader.awaits_reply() && self.raw.is_front()
     }
 
-    /// Frames what may be framed of the raw bytes. A head is judged where a line has ended, or where there is no more room.
+    /// Frames what can be framed of the raw bytes. A head is judged once a line has ended, or if there is no more room.
     fn frame_raw(
         &mut self,
         state: &State,
@@ -268,7 +268,7 @@ impl ReplySide {
         }
     }
 
-    /// Frames the raw bytes, and reads the wire once where nothing of them can be framed.
+    /// Frames the raw bytes, and reads the wire once if nothing of them can be framed.
     fn try_turn<W: Wire>(
         &mut self,
         state: &State,
@@ -305,14 +305,14 @@ impl ReplySide {
         self.read_first(state, wire, out)
     }
 
-    /// Gives back the room for raw bytes, where none is there.
+    /// Gives back the room for raw bytes, if there is no such byte.
     fn give_back(&mut self)
         ensures { GivesBack self.old self.new }
     {
         self.raw.give_back(self.reader.allocator());
     }
 
-    /// The same, and keeps no empty room.
+    /// Runs [`ReplySide::try_turn`], and then keeps no empty room.
     fn turn_once<W: Wire>(
         &mut self,
         state: &State,
@@ -330,9 +330,9 @@ impl ReplySide {
         result
     }
 
-    /// Reads what the service answers. The raw bytes come first; the wire is read once at most, where none of them can be
+    /// Reads what the service answers. The raw bytes come first; the wire is read once at most, if none of them can be
     /// framed. `all_sent` says that all text that was fixed for the service is out. The bytes of the adapted body go to the
-    /// front of `out`, as many as the events say, and the caller steps the events.
+    /// beginning of `out`; the events give their number, and the caller steps them.
     ///
     /// A fault stays: every later turn answers it again.
     pub fn read_turn<W: Wire>(
