@@ -11,7 +11,7 @@ abbrev pub AreAll : Option (List ℕ) → List ℕ → Type 0
 AreAll None bytes = ⊤
 AreAll (Some all) bytes = all ≡ bytes
 
--- the answers to all of the reader's bytes were added to what the writer holds; or where memory ran out, those to a prefix of
+-- the answers to all of the reader's bytes were added to what the writer holds; or, if memory ran out, those to a prefix of
 -- them and a 500
 pub record AnswersAll (s : Shown) (reader old new : Option (List ℕ)) : Type 0 where
   pub bytes : List ℕ
