@@ -58,7 +58,7 @@ BringsNone (In n) = ⊥
 BringsNone (Ad n) = ⊥
 BringsNone _ = ⊤
 
--- an event with just the bytes that it counts, which may be none
+-- an event with just the bytes that it counts, if any
 abbrev pub Carries : Event → List ℕ → Type 0
 Carries event bytes = (length (original_in event bytes) ≡ in_bytes event) × (length (adapted_in event bytes) ≡ ad_bytes event)
 

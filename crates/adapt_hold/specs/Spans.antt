@@ -14,7 +14,7 @@ pub record Span : Type 0 where
 abbrev pub span_of : Tape → Span
 span_of t = record { base = t.base; bytes = t.bytes }
 
--- the place behind the last byte
+-- the place after the last byte
 abbrev pub span_end : Span → ℕ
 span_end s = s.base + length s.bytes
 

@@ -22,7 +22,7 @@ HasRoomFor x claim window [] = ⊤
 HasRoomFor x claim window (event ∷ events) =
     IsWithinRoom x claim window event × HasRoomFor (after x event) (claim_then (after x event) event claim window) window events
 
--- a holding after several events, whose bytes stand one behind the other
+-- a holding after several events; the bytes are those of all of them, one after the other
 abbrev pub moved_all : Holding → List Event → List ℕ → Holding
 moved_all h [] bytes = h
 moved_all h (event ∷ events) bytes = moved_all (moved h event (take (brought event) bytes)) events (drop (brought event) bytes)
@@ -31,7 +31,7 @@ abbrev pub history_all : History → List Event → History
 history_all history [] = history
 history_all history (event ∷ events) = history_all (history_then history event) events
 
--- events that may follow, with their bytes in front, and within their room
+-- events that may follow, whose bytes come first of these, and within their room
 pub record MayRun (h : Holding) (events : List Event) (bytes : List ℕ) : Type 0 where
   pub may : MayAllFollow (shows h.history) events
   pub carried : brought_all events ≤ length bytes

@@ -21,6 +21,18 @@ use trace_core::{Event, Plan, State, StepFault};
 
 /// The core of a transaction: its history, its tapes, which are the held intervals, and its reservation, which is charged with
 /// just their bytes and has just their pages.
+///
+/// ```
+/// let plan = Plan::new(Kind::Whole, true, false, None, Point::Reqmod)?;
+/// let limits = Limits::new(0, 0, 4096, false)?;
+/// let stake = bank.open(rt, claim(&plan, &limits))?;
+/// let mut hold = Hold::new(plan, limits, stake);
+/// step_one(rt, &bank, &mut hold, Event::In(5), b"hello");
+/// // The service may still answer 204, so the bytes are held.
+/// assert_eq!(rt; (hold.original().base(), hold.original().end()), (0, 5));
+/// fail(rt, &bank, &mut hold, Cause::Stopping);
+/// bank.close(rt, hold.into_stake(), Pages::none());
+/// ```
 #[must_use]
 pub struct Hold<B: Ledgers> {
     state: State,

@@ -33,7 +33,7 @@ pub fn tapes_follow_their_bodies()
         → EndsBody h.adapted body → EndsBody (moved h event bytes).adapted (body ++ adapted_in event bytes) }
 {}
 
-/// What may be sent is on its tape.
+/// All bytes that may be sent are on their tape.
 pub fn what_may_be_sent_is_on_its_tape()
     ensures service { (h : Holding) (n : ℕ) → IsTied h → MayFollow h.history.plan h.history.events (Svc n)
         → (h.original.base ≤ (shows h.history).sent) × ((shows h.history).sent + n ≤ span_end h.original) }

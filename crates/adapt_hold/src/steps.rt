@@ -1,4 +1,4 @@
-//! Events that a side reported, stepped one behind the other.
+//! Steps the events that a side reported, one after the other.
 
 ghost use Rattle.std.specs.Prelude.{◌≡◌, ℕ, ◌+◌, ◌≤◌, true, false, length, []};
 ghost use Rattle.trace_core.specs.declared.history.Event.TheVariants.{Fail};
@@ -63,7 +63,7 @@ fn bring<B: Ledgers>(rt: &impl Wait, bank: &Bank<B>, hold: &mut Hold<B>, event: 
     }
 }
 
-/// Takes one event with its bytes, which may be none.
+/// Takes one event with its bytes, if any.
 pub fn step_one<B: Ledgers>(
     rt: &impl Wait,
     bank: &Bank<B>,
@@ -84,7 +84,7 @@ pub fn step_one<B: Ledgers>(
     }
 }
 
-/// Takes events in their order, whose bytes stand one behind the other.
+/// Takes events in their order; `bytes` are those of all of them, one after the other.
 pub fn step_all<B: Ledgers>(
     rt: &impl Wait,
     bank: &Bank<B>,

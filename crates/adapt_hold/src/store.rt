@@ -74,7 +74,7 @@ fn shrink<B: Ledgers>(
     }
 }
 
-/// Lets go the bytes of a tape below a place, and gives their number and the pages without a kept byte.
+/// Lets go of the bytes of a tape before a place; returns their number, and the pages without a kept byte.
 fn release(tape: &mut SpanTape, place: u64) -> (u64, Pages)
     requires low { tape.old.base ≤ place }
     requires high { place ≤ end_of tape.old }
@@ -95,7 +95,7 @@ fn release(tape: &mut SpanTape, place: u64) -> (u64, Pages)
 }
 
 impl<B: Ledgers> Store<B> {
-    /// Nothing, on a reservation that is free.
+    /// An empty store, on a reservation that is free.
     pub(crate) fn new(stake: Stake<B>) -> Store<B>
         requires empty { (stake.held ≡ 0) × (stake.pages ≡ 0) }
         requires small { stake.claim ≤ MAX_CAPACITY }
@@ -159,7 +159,7 @@ impl<B: Ledgers> Store<B> {
         self.original.drop_to(place);
     }
 
-    /// Lets go what stands before a place of the original and before one of the adapted body.
+    /// Lets go of what stands before a place of the original and before one of the adapted body.
     pub(crate) fn let_go(&mut self, rt: &impl Wait, bank: &Bank<B>, original: u64, adapted: u64)
         requires original_low { self.old.original.base ≤ original }
         requires original_high { original ≤ span_end self.old.original }
