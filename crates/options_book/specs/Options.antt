@@ -127,7 +127,8 @@ RefusesOptions Faults.Encapsulated point response =
     × ¬ (IsEncapsulated response.fields)
 RefusesOptions Faults.NoMemory point response = ⊥
 
--- the record serves at this moment: fewer seconds than its time to live have passed, and no later answer had another tag
+-- the record serves at this moment: fewer seconds than its time to live have passed, and the last tag, if there is one, is its
+-- own; tags before the last one don't count
 pub record IsFresh (options : Options) (moment : ℕ) (last : Option (List ℕ)) : Type 0 where
   pub in_time : IfSome options.ttl (λ ttl. moment - options.read_at < ttl)
   pub same_tag : IfSome last (λ tag. unquoted tag ≡ options.tag)
