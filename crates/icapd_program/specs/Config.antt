@@ -30,17 +30,17 @@ abbrev pub ListenIs : Members → SocketAddrV4 → Type 0
 ListenIs table address =
     (text : List ℕ) × (text_at (codes "listen") table ≡ Some text) × IsSocketV4Text text address × (v4_port address ≢ 0)
 
--- the ISTag where none is configured
+-- the default ISTag
 abbrev pub default_tag : List ℕ
 default_tag = codes "adapt-1"
 
--- `istag` is this text, which can be an ISTag; its default where it is missing
+-- `istag` is this text, which can be an ISTag; its default if it is missing
 abbrev pub TagIs : Members → List ℕ → Type 0
 TagIs table tag =
     ((is_at (codes "istag") table ≡ false) × (tag ≡ default_tag))
     ⊎ ((is_at (codes "istag") table ≡ true) × (text_at (codes "istag") table ≡ Some tag) × IsTag tag)
 
--- the key holds this number, which is within its range; its default where it is missing
+-- the key holds this number, which is within its range; its default if it is missing
 abbrev pub NumberIs : List ℕ → ℕ → ℕ → ℕ → Members → ℕ → Type 0
 NumberIs key least most default table n =
     ((is_at key table ≡ false) × (n ≡ default))
@@ -91,7 +91,7 @@ HasPreview table = HasTtl table × ((n : ℕ) × PreviewIs table n)
 abbrev pub HasDeadline : Members → Type 0
 HasDeadline table = HasPreview table × ((n : ℕ) × DeadlineIs table n)
 
--- the first key that holds something else, or an unknown key behind all of them
+-- the first key that holds something else, or an unknown key after all of them
 abbrev pub IsBad : Key → Members → Type 0
 IsBad Listen table = (address : SocketAddrV4) → ListenIs table address → ⊥
 IsBad Istag table = HasListen table × ((tag : List ℕ) → TagIs table tag → ⊥)

@@ -8,11 +8,11 @@ use Rattle.icapd_program.specs.declared.seats.Doing.TheVariants.{Waiting, Ending
 abbrev pub IsAt : List Doing → ℕ → Doing → Type 0
 IsAt seats key doing = slice_get seats key ≡ Some doing
 
--- it waits for a request since this turn: its first one, or one behind others
+-- it waits for a request since this turn: for its first one, or for one after others
 abbrev pub WaitsAt : List Doing → Bool → ℕ → ℕ → Type 0
 WaitsAt seats first key since = IsAt seats key (Waiting since first)
 
--- it waits, and none waits for longer
+-- it waits, and no other waits for longer
 pub record IsLongest (seats : List Doing) (first : Bool) (key : ℕ) : Type 0 where
   pub since : ℕ
   pub waits : WaitsAt seats first key since
@@ -24,16 +24,16 @@ IsLonger None next which = which ≡ next
 IsLonger (Some other) next which =
     ((which ≡ next) × (next.since < other.since)) ⊎ ((which ≡ other) × (other.since ≤ next.since))
 
--- a connection was told to end, and neither has ended nor begun a request
+-- a connection was asked to end, and neither has ended nor begun a request
 abbrev pub IsOneEnding : List Doing → Type 0
 IsOneEnding seats = (key : ℕ) × IsAt seats key Ending
 
--- none waits for a request: its first one, or one behind others
+-- no connection waits for a request: for its first one, or for one after others
 abbrev pub NoneWaits : List Doing → Bool → Type 0
 NoneWaits seats first = (key since : ℕ) → WaitsAt seats first key since → ⊥
 
--- The connection is to end for another: none is ending, and it has waited longest for a request behind others, or where none waits for
--- such a one and that is asked for too, longest for its first one. So it isn't within a request.
+-- The connection is to end for another: no connection is ending, and it has waited longest for a request after others; or, if no
+-- connection waits for such a one and that is asked for too, longest for its first one. So it isn't within a request.
 pub record IsToEnd (seats : List Doing) (first_too : Bool) (key : ℕ) : Type 0 where
   pub alone : IsOneEnding seats → ⊥
   pub longest : IsLongest seats false key ⊎ (NoneWaits seats false × (first_too ≡ true) × IsLongest seats true key)

@@ -12,14 +12,14 @@ pub enum Command {
     Serve,
     /// `check`: reads a configuration as `serve` does, and says whether it is one.
     Check,
-    /// `--help`: says the commands.
+    /// `--help`: prints the commands.
     Help,
-    /// `--version`: says the version, and the kit.
+    /// `--version`: prints the version, and the kit.
     Version,
 }
 
-/// The command that the arguments behind the program's name say. `None` where they say none: an unknown word, or an
-/// argument too many or too few.
+/// The command that the arguments after the program's name give. `None` for an unknown word, or an argument too many or
+/// too few.
 pub fn read_command(args: &[String]) -> Option<Command>
     ensures found { IfSome result (IsCommand (map string_bytes args.now)) }
     ensures none { IfNone result ((command : AnyCommand) → IsCommand (map string_bytes args.now) command → ⊥) }

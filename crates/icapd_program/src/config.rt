@@ -12,22 +12,22 @@ use std::alloc::Global;
 use std::net::SocketAddrV4;
 use toml::Table;
 
-/// The ISTag, without its quotes, where nothing else is said.
+/// The default ISTag, without its quotes.
 pub(crate) const DEFAULT_TAG: &[u8] = b"adapt-1";
 
-/// How many connections are served at once, where nothing else is said.
+/// The default of the connections that are served at once.
 pub(crate) const DEFAULT_MAX: u64 = 16;
 
-/// For how many seconds an OPTIONS answer may be kept, where nothing else is said.
+/// The default of the seconds for which an OPTIONS answer may be kept.
 pub(crate) const DEFAULT_TTL: u64 = 3600;
 
-/// How many bytes of a body a preview may have, where nothing else is said.
+/// The default size of a preview, in bytes.
 pub(crate) const DEFAULT_PREVIEW: u64 = 1024;
 
-/// After how many seconds a connection that says nothing is closed, where nothing else is said.
+/// The default of the seconds after which a connection that says nothing is closed.
 pub(crate) const DEFAULT_DEADLINE: u64 = 60;
 
-/// The most seconds.
+/// The largest deadline, in seconds.
 pub(crate) const MAX_DEADLINE: u64 = 3600;
 
 /// Where `icapd serve` listens, what its answers say of it, and after how many seconds it closes a connection that says
@@ -167,7 +167,7 @@ fn tag_of(table: &Table) -> Option<&[u8]>
     if is_tag(tag) { Some(tag) } else { None }
 }
 
-/// The number at a key, where it is within the range, or its default.
+/// The number at a key, if it is within the range, or its default.
 fn number_of(table: &Table, key: &str, least: u64, most: u64, default: u64) -> Option<u64>
     ensures some { IfSome result (NumberIs key.now least most default (table_view table.now)) }
     ensures none { IfNone result ((n : ℕ) → NumberIs key.now least most default (table_view table.now) n → ⊥) }
@@ -188,7 +188,7 @@ fn number_of(table: &Table, key: &str, least: u64, most: u64, default: u64) -> O
     }
 }
 
-/// The first key that is none of the known ones, in byte order.
+/// The first unknown key, in byte order.
 fn unknown_of(table: &Table) -> Option<&str>
     ensures { IfSome result (λ key. IsKnown key.now → ⊥) }
 {

@@ -35,7 +35,7 @@ pub enum Key {
     Ttl,
     Preview,
     Deadline,
-    /// A key that is none of these.
+    /// Any other key.
     Unknown(String),
 }
 

@@ -26,7 +26,7 @@ use std::process::ExitCode;
 use std::sync::Arc;
 use texts::{HELP, VERSION};
 
-/// The arguments behind the program's name.
+/// The arguments after the program's name.
 fn arguments(rt: &HostRuntime) -> Result<Vec<String>, Error> {
     let mut args = Vec::new(rt.alloc());
     let all = match env::args(rt) {
@@ -109,7 +109,7 @@ fn main(rt: HostRuntime) -> ExitCode {
     match ended {
         Ok(()) => ExitCode::from(0),
         Err(error) => {
-            // Nothing is left to tell it to where standard error can't be written.
+            // If standard error can't be written, nothing is left to report it to.
             let _ = put_error(&error, &mut rt.stderr());
             ExitCode::from(error.status())
         }

@@ -6,7 +6,7 @@ use std::net::{Shutdown, TcpStream};
 use std::sync::{Arc, Condvar, CondvarTimeouts, Mutex, MutexGuard, Wait};
 use std::time::{Clock, Duration};
 
-/// How long a connection that has said nothing yet is left alone where another waits for a seat, in milliseconds.
+/// How long a connection that has said nothing yet is left alone while another waits for a seat, in milliseconds.
 const PATIENCE: u64 = 200;
 
 /// A connection, and its seat.
@@ -24,7 +24,7 @@ struct Open {
     streams: Vec<Option<Arc<TcpStream, Global>>>,
     /// Connections that a waiting thread is to serve.
     given: Vec<Seated>,
-    /// The threads that wait for a connection, and to whom none was given.
+    /// The threads that wait for a connection, and were given none yet.
     spare: u64,
     /// Whether a further connection waits for a seat.
     is_full: bool,
@@ -56,7 +56,7 @@ pub struct Shared {
 }
 
 impl Shared {
-    /// A server with these settings, and no connection. `NoMemory` where there is none for it.
+    /// A server with these settings, and no connection. `NoMemory` if it finds no memory.
     pub fn new(
         alloc: Global,
         settings: Settings,
@@ -84,8 +84,8 @@ impl Shared {
         Ok(Arc::new(alloc, shared)?)
     }
 
-    /// Waits for a free seat, and gives it to a connection that waits for its first request. Where all seats are taken, the
-    /// connection that has waited longest for a further request loses its own; where none does so, that which has waited
+    /// Waits for a free seat, and gives it to a connection that waits for its first request. If all seats are taken, the
+    /// connection that has waited longest for a further request loses its own; if no connection waits so, that which has waited
     /// longest for its first one, unless something changes within a while.
     pub fn seat<R: Wait + Clock>(&self, rt: &R, stream: Arc<TcpStream, Global>) -> usize {
         let mut open = self.open.lock(rt);
@@ -109,7 +109,7 @@ impl Shared {
         unreachable!()
     }
 
-    /// Gives a connection to a thread that waits for one. It comes back where none does.
+    /// Gives a connection to a thread that waits for one. It comes back if no thread waits.
     pub fn give<R: Wait>(&self, rt: &R, seated: Seated) -> Option<Seated> {
         let mut open = self.open.lock(rt);
         if open.spare == 0 || open.given.len() >= open.given.capacity() {
@@ -135,7 +135,7 @@ impl Shared {
         unreachable!()
     }
 
-    /// Lets go of the lock, and tells the connection that waits for a seat.
+    /// Lets go of the lock, and wakes whoever waits for a seat.
     fn tell(&self, open: MutexGuard<'_, Open>) {
         let is_full = open.is_full;
         drop(open);

@@ -8,13 +8,13 @@ use std::alloc::{AllocError, Global};
 /// What the connection on a seat does.
 #[derive(Clone, Copy, Debug, PartialEq, Eq)]
 pub enum Doing {
-    /// There is none: the seat is free.
+    /// There is no connection: the seat is free.
     Nothing,
-    /// It waits for a request, since this turn: its first one, or one behind others that it has had.
+    /// It waits for a request, since this turn: for its first one, or for one after others that it has had.
     Waiting { since: u64, first: bool },
     /// It is within a request.
     Asking,
-    /// It was told to end, to make room for another.
+    /// It was asked to end, to make room for another.
     Ending,
 }
 
@@ -32,7 +32,7 @@ struct Waiter {
     since: u64,
 }
 
-/// Since when a connection waits, where it does: for its first request, or for one behind others.
+/// Since when a connection waits, if it does: for its first request, or for one after others.
 fn waits_since(doing: Doing, first: bool) -> Option<u64>
     ensures found { IfSome result (λ since. doing ≡ Doing.Waiting since first) }
     ensures none { IfNone result ((since : ℕ) → doing ≡ Doing.Waiting since first → ⊥) }
@@ -60,7 +60,7 @@ fn longer(found: Option<Waiter>, next: Waiter) -> Waiter
 }
 
 impl Seats {
-    /// So many free seats. `Err` where no memory was found for them.
+    /// `count` free seats. `Err` if no memory was found for them.
     pub fn new(alloc: Global, count: usize) -> Result<Seats, AllocError>
         ensures { IfOk result (λ seats. seats.all.items ≡ replicate count Doing.Nothing) }
     {
@@ -81,7 +81,7 @@ impl Seats {
         None
     }
 
-    /// Whether a connection was told to end, and neither has ended nor begun a request.
+    /// Whether a connection was asked to end, and neither has ended nor begun a request.
     pub fn is_one_ending(&self) -> bool
         ensures { IsTrue result ↔ ((key : ℕ) × IsAt self.now.all.items key Doing.Ending) }
     {
@@ -93,7 +93,7 @@ impl Seats {
         false
     }
 
-    /// The seat of the connection that has waited longest for a request: its first one, or one behind others.
+    /// The seat of the connection that has waited longest for a request: for its first one, or for one after others.
     pub fn longest(&self, first: bool) -> Option<usize>
         ensures found { IfSome result (IsLongest self.now.all.items first) }
         ensures none { IfNone result ((key since : ℕ) → WaitsAt self.now.all.items first key since → ⊥) }
@@ -120,8 +120,8 @@ impl Seats {
         }
     }
 
-    /// The seat whose connection is to end for another: that which has waited longest for a request behind others, or else,
-    /// where that is asked for too, for its first one. None where one is ending already, or none waits.
+    /// The seat whose connection is to end for another: that which has waited longest for a request after others, or else,
+    /// if that is asked for too, for its first one. `None` if a connection is ending already, or no connection waits.
     pub fn to_end(&self, first_too: bool) -> Option<usize>
         ensures found { IfSome result (IsToEnd self.now.all.items first_too) }
         ensures none { IfNone result (NoneIsToEnd self.now.all.items first_too) }
@@ -157,7 +157,7 @@ impl Seats {
         self.note(key, Doing::Asking);
     }
 
-    /// It is told to end.
+    /// It is asked to end.
     pub fn end(&mut self, key: usize)
         ensures { self.new.all.items ≡ slice_set self.old.all.items key Doing.Ending }
     {

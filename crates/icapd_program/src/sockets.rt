@@ -10,16 +10,16 @@ use std::thread;
 use std::thread::Threads;
 use std::time::{Clock, Duration};
 
-/// How long a new connection isn't asked for where none could be accepted, in milliseconds.
+/// How long the server waits after a connection that couldn't be accepted, in milliseconds.
 const PAUSE: u64 = 20;
 
 /// The bytes that are asked for at once.
 const PIECE: usize = 16_384;
 
-/// For how long a connection that is closed waits for each further read, in seconds.
+/// How long a connection that is closed waits for each further read, in seconds.
 const LINGER: u64 = 1;
 
-/// How often a connection that is closed is read, so that what the client still sends doesn't take the last answer from it.
+/// How often a connection that is closed is read, so that what the client still sends doesn't destroy the last answer.
 const LAST_READS: u32 = 256;
 
 /// How many bytes each of these reads drops at most.
@@ -51,7 +51,7 @@ pub fn accept_one<R: Threads + Wait + Clock + Copy + Send + 'static>(
     }
 }
 
-/// Has a connection served. Where there is no thread, or no memory for it, it is closed.
+/// Has a connection served. If there is no thread, or no memory for it, it is closed.
 fn start<R: Threads + Wait + Clock + Copy + Send + 'static>(
     rt: R,
     alloc: Global,
@@ -79,7 +79,7 @@ fn start<R: Threads + Wait + Clock + Copy + Send + 'static>(
     }
 }
 
-/// A thread: serves a connection, and those that it is given behind it.
+/// A thread: serves a connection, and those that it is given after it.
 fn serve_all<R: Wait>(rt: &R, alloc: Global, shared: &Shared, first: Seated) {
     let mut seated = first;
     for _ in rt.forever() {
@@ -124,7 +124,7 @@ fn serve_stream<R: Wait>(rt: &R, alloc: Global, shared: &Shared, key: usize, str
     linger(stream);
 }
 
-/// Takes a piece of a connection's input, and writes what is due. False where nothing more is read.
+/// Takes a piece of a connection's input, and writes what is due. False if nothing more is to be read.
 fn answer(alloc: Global, side: &mut ServerSide, piece: &[u8], stream: &TcpStream) -> bool {
     let Ok(text) = side.feed(alloc, piece) else {
         return false;

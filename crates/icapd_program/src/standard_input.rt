@@ -35,7 +35,7 @@ pub fn read_input<R: Read + Drop>(alloc: Global, reader: R) -> Result<Vec<u8>, E
     }
 }
 
-/// What answers say of the server where nothing is configured.
+/// What answers say of the server if nothing is configured.
 fn default_settings(alloc: Global) -> Result<Settings, NoMemory>
     ensures { IfOk result (λ settings. shown settings ≡ default_shown) }
 {

@@ -1,4 +1,4 @@
--- What `serve` says where nobody stopped it, or where its audit is missing, and its exit status.
+-- What `serve` says if it ends though nobody stopped it, or if its audit is missing, and its exit status.
 use Rattle.std.specs.Prelude.{ℕ, List, ◌++◌, codes, string_bytes}
 use Rattle.proxy_program.specs.declared.serve_error.ServeError.{ServeError}
 use Rattle.proxy_program.specs.declared.serve_error.ServeError.TheVariants.{Ended, Config, Key, CannotListen, AuditMissing}

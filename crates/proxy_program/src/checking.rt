@@ -9,10 +9,10 @@ use std::fs;
 use std::io::{Read, Write};
 use std::rt::Files;
 
-/// Where the system says the limits of this process.
+/// The file in which the system gives the limits of this process.
 const LIMITS: &str = "/proc/self/limits";
 
-/// Reads the configuration, and says that it is one. Warns where it may need more descriptors than the system gives, as far
+/// Reads the configuration, and says that it is one. Warns if it may need more descriptors than the system gives, as far
 /// as `limits` say it.
 pub fn check_with<I: Read + Drop, O: Write, E: Write>(
     alloc: Global,
@@ -35,7 +35,7 @@ pub fn check_with<I: Read + Drop, O: Write, E: Write>(
     say(output, b"ok\n")
 }
 
-/// The same, with the limits of this process.
+/// Checks a configuration against the limits of this process.
 pub fn check_from<I: Read + Drop, O: Write, E: Write, R: Files + AllocGlobal>(
     rt: &R,
     reader: I,

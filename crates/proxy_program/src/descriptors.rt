@@ -13,7 +13,7 @@ const OF_A_THREAD: u64 = 18;
 /// The standard streams, the ports, the administrator's connections, and what the system's library may open.
 const OF_THE_PROGRAM: u64 = 24;
 
-/// What the system says of a process's limits has this line.
+/// How the line on descriptors begins in what the system says of a process's limits.
 const OPEN_FILES: &[u8] = b"Max open files ";
 
 /// The most connections to the service of a point.
@@ -36,7 +36,7 @@ pub fn descriptors(config: &Config) -> u64
     users * 2 + services + config.shards * OF_A_THREAD + OF_THE_PROGRAM
 }
 
-/// How many descriptors a process may have, as `/proc/self/limits` says it; none where it says no number.
+/// The number of descriptors that a process may have, by `/proc/self/limits`; `None` if that gives no number.
 pub fn limit_in(text: &[u8]) -> Option<u64> {
     for line in text.split(|byte| *byte == b'\n') {
         if let Some(rest) = line.strip_prefix(OPEN_FILES) {

@@ -1,4 +1,4 @@
-//! Why `serve` ends where nobody stopped it.
+//! Why `serve` ends though nobody stopped it.
 
 ghost use Rattle.std.specs.Prelude.{◌≡◌, OnOk};
 ghost use Rattle.std.specs.Io.KnownBytes.{Appends};
@@ -8,7 +8,7 @@ use crate::error::Error;
 use shard_loop::ServeFault;
 use std::io::{self, Write};
 
-/// Why `serve` ends where nobody stopped it, or without its audit: its line on standard error, and its exit status.
+/// Why `serve` ends though nobody stopped it, or without its audit: its line on standard error, and its exit status.
 #[derive(Debug, Drop)]
 pub enum ServeError {
     /// What any command may end with.

@@ -11,13 +11,13 @@ pub enum Task {
     Serve,
     /// `check`: reads a configuration as `serve` does, and says whether it is one.
     Check,
-    /// `--help`: says the commands.
+    /// `--help`: prints the commands.
     Help,
-    /// `--version`: says the version, and the kit.
+    /// `--version`: prints the version, and the kit.
     Version,
 }
 
-/// The task that the arguments behind the program's name say. `None` where they say none of these.
+/// The task that the arguments after the program's name give. `None` if they give no task.
 pub fn read_task(args: &[String]) -> Option<Task>
     ensures found { IfSome result (IsTask (map string_bytes args.now)) }
     ensures none { IfNone result ((task : AnyTask) → IsTask (map string_bytes args.now) task → ⊥) }

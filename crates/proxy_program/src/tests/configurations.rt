@@ -37,8 +37,7 @@ fn tasks_stand_alone(rt: HostRuntime) -> Result<(), Fail> {
     Ok(())
 }
 
-/// What `check` says of a configuration, on standard output and behind it on standard error, where the system has these
-/// limits.
+/// What `check` says of a configuration under these limits of the system: standard output, and then standard error.
 fn checked(alloc: Global, text: &str, limits: &str) -> Result<Vec<u8>, AllocError> {
     let mut output = Vec::new(alloc);
     let mut errors = Vec::new(alloc);
@@ -143,14 +142,14 @@ const REFUSED: &[(&str, &str, &str)] = &[
     ),
 ];
 
-/// What may stand behind the least configuration.
+/// What may follow the least configuration.
 const TAKEN: &[&str] = &[
     "",
     "retry = false\nwindow = 65536",
     "[hosts]\n\"a\" = \"127.0.0.1:80\"",
 ];
 
-/// What is said of the first refused configuration of which something else is said than should be.
+/// The wanted line of the first refused configuration that gets another one.
 fn first_misjudged(alloc: Global) -> Result<Option<&'static str>, AllocError> {
     for (front, rest, want) in REFUSED {
         let text = format!(in alloc; "{front}{rest}")?;
@@ -163,7 +162,7 @@ fn first_misjudged(alloc: Global) -> Result<Option<&'static str>, AllocError> {
     Ok(None)
 }
 
-/// The first text behind the least configuration that isn't taken.
+/// The first text after the least configuration that isn't taken.
 fn first_not_taken(alloc: Global) -> Result<Option<&'static str>, AllocError> {
     for rest in TAKEN {
         let text = format!(in alloc; "{LEAST}{rest}")?;

@@ -48,7 +48,7 @@ const WORKED: &[Step] = &[
     On(0, &[Gets(ADAPTED)]),
 ];
 
-/// The service of responses gets the user's own request with the response, and judges by its extension, also where the origin
+/// The service of responses gets the user's own request with the response, and judges by its extension, even if the origin
 /// got another one.
 const CHANGED_REQUEST: &[Step] = &[
     New(User, ASKS),
@@ -113,7 +113,7 @@ const RETRY: &[Step] = &[
     On(0, &[Gets(FORWARDED)]),
 ];
 
-/// The service closes its idle connection, and would be asked on it for its options, since it has said another tag.
+/// The service closes its idle connection, on which the proxy would ask it for its options, since it has given another tag.
 const STALE_OPTIONS: &[Step] = &[
     New(User, ASKS),
     New(Origin, ANSWERS),
@@ -142,8 +142,8 @@ const CROWDED: &[Step] = &[
     On(3, &[Gets(FORWARDED)]),
 ];
 
-/// A user that waits to be told to send its body gets the refusal and nothing else where the budget has no room for it. Where
-/// there is room it is told.
+/// A user that waits for `100 Continue` gets the refusal and nothing else if the budget has no room for it. If there is
+/// room, it gets the 100.
 const WAITS_FOR_ROOM: &[Step] = &[
     Admin("capacity 4096\n", "ok\n"),
     New(User, WAITS),
@@ -158,7 +158,7 @@ const WAITS_FOR_ROOM: &[Step] = &[
     On(1, &[Gets(FORWARDED)]),
 ];
 
-/// The same where another shard's user has the only row.
+/// A user that waits for `100 Continue` gets the refusal and nothing else if another shard's user has the only row.
 const WAITS_FOR_A_ROW: &[Step] = &[
     New(User, &[Says(POST)]),
     New(Origin, &[Gets(POST_TO_ORIGIN)]),
@@ -169,7 +169,8 @@ const WAITS_FOR_A_ROW: &[Step] = &[
     On(0, &[Gets(FORWARDED)]),
 ];
 
-/// The same where the only connection of the service has another user's request.
+/// A user that waits for `100 Continue` gets the refusal and nothing else if the only connection of the service has another
+/// user's request.
 const WAITS_FOR_THE_SERVICE: &[Step] = &[
     New(User, &[Says(POST)]),
     New(Service, SAYS_ONE_REQUEST),

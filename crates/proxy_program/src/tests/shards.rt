@@ -36,7 +36,7 @@ fn asked(rt: &HostRuntime, alloc: Global, ports: Ports, others: &Others) -> io::
     Ok(user)
 }
 
-/// Whether a user gets the adapted response: none where it is refused. Its shard may ask for the options first.
+/// Whether a user gets the adapted response; `None` if it is refused. Its shard may ask for the options first.
 fn is_served(
     alloc: Global,
     others: &Others,
@@ -122,7 +122,7 @@ fn all_ask(rt: &HostRuntime, alloc: Global, ports: Ports) -> io::Result<Vec<TcpS
     Ok(users)
 }
 
-/// Whether a user gets the whole message; none where it gets something that is no refusal either.
+/// Whether a user gets the whole message or a refusal; `None` if it gets something else.
 fn gets_all(alloc: Global, user: &TcpStream) -> io::Result<Option<bool>> {
     let answer = until(alloc, user, b"abcdef")?;
     if answer.as_slice() == FORWARDED {

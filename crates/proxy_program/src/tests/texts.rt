@@ -57,7 +57,7 @@ Max-Connections: 0\r\nEncapsulated: null-body=0\r\n\r\n";
 /// The preview of the worked response's body.
 pub const OFFERED: &[u8] = b"4\r\nabcd\r\n0\r\n\r\n";
 
-/// What is behind the preview.
+/// What follows the preview.
 pub const BEHIND: &[u8] = b"2\r\nef\r\n0\r\n\r\n";
 
 pub const CONTINUE: &[u8] = b"ICAP/1.0 100 Continue\r\n\r\n";
@@ -65,7 +65,7 @@ pub const CONTINUE: &[u8] = b"ICAP/1.0 100 Continue\r\n\r\n";
 pub const UNMODIFIED: &[u8] =
     b"ICAP/1.0 204 No Modifications\r\nISTag: \"adapt-1\"\r\nEncapsulated: null-body=0\r\n\r\n";
 
-/// The same, with another tag: what the service said of its options serves no more.
+/// A 204 with another tag: the record of the service's options is no longer fresh.
 pub const RETAGGED: &[u8] =
     b"ICAP/1.0 204 No Modifications\r\nISTag: \"adapt-2\"\r\nEncapsulated: null-body=0\r\n\r\n";
 
@@ -80,11 +80,11 @@ pub const ALMOST_A_REQUEST: &[u8] = b"GET http://o.test/a.txt HTTP/1.1\r\nHost: 
 pub const POST: &[u8] =
     b"POST http://o.test/a.txt HTTP/1.1\r\nHost: o.test\r\nContent-Length: 3\r\n\r\n";
 
-/// The same, of a user that waits to be told to send the body.
+/// That request from a user that waits for `100 Continue`.
 pub const WAITING_POST: &[u8] = b"POST http://o.test/a.txt HTTP/1.1\r\nHost: o.test\r\n\
 Expect: 100-continue\r\nContent-Length: 3\r\n\r\n";
 
-/// What such a user is told.
+/// What makes such a user send its body.
 pub const GO_AHEAD: &[u8] = b"HTTP/1.1 100 Continue\r\n\r\n";
 
 pub const POST_TO_ORIGIN: &[u8] = b"POST /a.txt HTTP/1.1\r\nHost: o.test\r\nContent-Length: 3\r\n\
