@@ -21,7 +21,7 @@ pub enum Request {
     Bad,
 }
 
-/// The size that the text behind `capacity ` says.
+/// The size that the text after `capacity ` gives.
 fn read_size(digits: &[u8]) -> Option<u64>
     ensures found { IfSome result (SpellsSize digits.now) }
     ensures none { IfNone result ((n : ℕ) → SpellsSize digits.now n → ⊥) }
@@ -69,7 +69,7 @@ fn begins_with_method(line: &[u8]) -> bool
     false
 }
 
-/// Whether a line is one of HTTP: a browser that was led here says it, and what it says behind that isn't the
+/// Whether a line is one of HTTP: a browser that was led here says it, and what it says after that isn't the
 /// administrator's.
 pub fn is_http(line: &[u8]) -> bool
     ensures { IsTrue result ↔ IsHttp line.now }

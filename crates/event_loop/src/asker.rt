@@ -8,7 +8,7 @@ use crate::admin_lines::{MAX_ADMIN_LINE, Request, is_http, read_request};
 use std::alloc::{AllocError, Global};
 use wire_kit::{Got, Put, Wire};
 
-/// The most bytes of answers that wait for a connection: while more do, none of its lines is read.
+/// The most bytes of answers that wait for a connection: while more wait, no line of it is read.
 const MAX_UNREAD: usize = 65_536;
 
 /// What the administrator's connection said.
@@ -26,7 +26,7 @@ pub enum Heard {
     Over,
 }
 
-/// What a line says. None is read behind one of HTTP.
+/// What a line says. No line is read after one of HTTP.
 fn said(line: &[u8]) -> Heard
     ensures http { IsHttp line.now → result ≡ Heard.Http }
     ensures other { (IsHttp line.now → ⊥) → (request : AnyRequest) × (result ≡ Heard.Asked request) × Asks line.now request }
@@ -71,7 +71,7 @@ impl<W: Wire + Drop> Asker<W> {
         }
     }
 
-    /// Reads up to the next line, but none while the answers of earlier ones aren't taken. `Err` where no memory was found
+    /// Reads up to the next line, but no line while the answers of earlier ones aren't taken. `Err` if no memory was found
     /// for it.
     pub fn hear(&mut self) -> Result<Heard, AllocError> {
         if self.out.len() > MAX_UNREAD {
@@ -91,13 +91,13 @@ impl<W: Wire + Drop> Asker<W> {
         Ok(Heard::TooLong)
     }
 
-    /// Says an answer, behind those that wait. False where the connection has failed. `Err` where no memory was found.
+    /// Says an answer, after those that wait. False if the connection has failed. `Err` if no memory was found.
     pub fn say(&mut self, answer: &[u8]) -> Result<bool, AllocError> {
         self.out.extend_from_slice(answer)?;
         Ok(self.flush())
     }
 
-    /// Writes what waits. False where the connection has failed.
+    /// Writes what waits. False if the connection has failed.
     pub fn flush(&mut self) -> bool {
         if self.out.is_empty() {
             return true;

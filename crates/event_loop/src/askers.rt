@@ -11,13 +11,13 @@ use std::alloc::{AllocError, Global};
 use std::mem;
 use std::sync::Arc;
 
-/// The most of them at once. Each key is below it.
+/// The largest number of them at once. Each key is below it.
 pub(crate) const MAX_ASKERS: usize = 16;
 
 /// Lines heard of one connection before others get their turn.
 pub(crate) const LINES: u32 = 64;
 
-/// A connection, what its poll has told of it, and when it was heard last.
+/// A connection, its readiness, and when it was heard last.
 #[derive(Drop)]
 struct Seat {
     ready: Arc<Readiness>,
@@ -53,7 +53,7 @@ pub(crate) struct Askers {
     behind: bool,
 }
 
-/// The token of a key: none of an exchange's connections has it.
+/// The token of a key: no connection of an exchange has it.
 fn token_of(key: usize) -> Token {
     Token(key.wrapping_mul(4).wrapping_add(3))
 }
@@ -173,7 +173,7 @@ impl Askers {
         }
     }
 
-    /// Takes note that a connection may have said more than was heard: no event tells of that.
+    /// Takes note that a connection may have said more than was heard: no event reports that.
     pub(crate) fn fall_behind(&mut self) {
         self.behind = true;
     }
@@ -183,7 +183,7 @@ impl Askers {
         self.behind
     }
 
-    /// The same, before they are heard on.
+    /// Whether a connection may have said more than was heard; that is forgotten, since they are heard next.
     pub(crate) fn catch_up(&mut self) -> bool {
         mem::replace(&mut self.behind, false)
     }

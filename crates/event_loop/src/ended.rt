@@ -5,7 +5,7 @@ ghost use Rattle.std.specs.IoError.{error_kind};
 
 use std::io::{self, ErrorKind};
 
-/// Why a loop ends before it is told to.
+/// Why a loop ends before it has to stop.
 #[derive(Clone, Copy, Debug, PartialEq, Eq)]
 pub enum LoopFault {
     /// The system fails it, as its poll or its clock.
@@ -15,7 +15,7 @@ pub enum LoopFault {
 }
 
 impl LoopFault {
-    /// The fault that an error of the system's tells.
+    /// The fault that an error of the system means.
     pub fn of(error: io::Error) -> LoopFault
         ensures { (result ≡ LoopFault.NoMemory) ↔ (error_kind error ≡ ErrorKind.OutOfMemory) }
     {
@@ -30,6 +30,6 @@ impl LoopFault {
 pub struct Ended<K> {
     /// What it drove.
     pub work: K,
-    /// Why it ended, where nobody told it to.
+    /// Why it ended, if nobody stopped it.
     pub fault: Option<LoopFault>,
 }

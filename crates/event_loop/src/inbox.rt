@@ -56,7 +56,7 @@ impl Inbox {
         let _ = self.waker.wake();
     }
 
-    /// Tells the loop to stop, and wakes it. This takes no lock and no memory, so a loop that failed can do it too.
+    /// Has the loop stop, and wakes it. This takes no lock and no memory, so a loop that failed can do it too.
     pub fn stop(&self) {
         self.stops.store(true, Ordering::SeqCst);
         self.wake();
@@ -99,7 +99,7 @@ pub fn have_begun(inboxes: &[Inbox]) -> bool {
     inboxes.iter().all(|inbox| inbox.has_begun())
 }
 
-/// Tells every loop to stop.
+/// Has every loop stop.
 pub fn stop_all(inboxes: &[Inbox]) {
     for inbox in inboxes {
         inbox.stop();

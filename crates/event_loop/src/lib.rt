@@ -1,7 +1,7 @@
-//! An event loop a thread: readiness by `mio`, connections handed from thread to thread, and the admin port.
+//! One event loop per thread: readiness by `mio`, connections handed from thread to thread, and the admin port.
 //!
-//! A loop polls its sockets, drives what an event tells something new of, and waits again. What it drives is [`Work`], of
-//! which it knows no more than that: exchanges found by a key.
+//! A loop polls its sockets, drives the exchanges of which an event says something new, and waits again. What it drives is
+//! [`Work`], of which it knows no more than that: exchanges found by a key.
 #![tactic(auto)]
 
 mod admin_lines;

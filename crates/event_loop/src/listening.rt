@@ -4,7 +4,7 @@ use mio::net::{TcpListener, TcpStream};
 use mio::{Interest, Registry, Token};
 use std::io::{self, ErrorKind};
 
-/// What the system answers where it has no room for a connection, whoever it comes from: no memory, or no descriptor, of the
+/// What the system answers if it has no room for a connection, whoever it comes from: no memory, or no descriptor, of the
 /// process or of the machine.
 const ENOMEM: i32 = 12;
 
@@ -21,10 +21,10 @@ pub enum Accepted {
     One(TcpStream),
     /// One that was gone before it was taken: the next may be there.
     Gone,
-    /// None waits.
+    /// No connection waits.
     None,
-    /// The system refuses for now, as where all descriptors are in use: the connection waits, and has to be asked for
-    /// again a little later, since no event tells of it twice.
+    /// The system refuses for now, as when all descriptors are in use: the connection waits, and has to be asked for
+    /// again a little later, since no event reports it twice.
     Rest,
 }
 
@@ -55,7 +55,7 @@ fn is_want_of_room(error: &io::Error) -> bool {
 }
 
 impl Listening {
-    /// A listener that a poll tells of under this token.
+    /// A listener that a poll reports under this token.
     pub fn new(listener: TcpListener, registry: &Registry, token: Token) -> io::Result<Listening> {
         let mut listener = listener;
         registry.register(&mut listener, token, Interest::READABLE)?;
@@ -65,7 +65,7 @@ impl Listening {
         })
     }
 
-    /// Whether the system refused, so that connections may wait of which no event tells.
+    /// Whether the system refused, so that connections may wait that no event reports.
     pub fn rests(&self) -> bool {
         self.pause == Pause::System
     }

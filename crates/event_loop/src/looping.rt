@@ -1,4 +1,4 @@
-//! A loop: its poll, what it is told, and whom it drives.
+//! A loop: its poll, its events, and whom it drives.
 
 ghost use Rattle.std.specs.Prelude.{◌<◌, length};
 
@@ -25,7 +25,7 @@ pub(crate) const WAKER: Token = Token(usize::MAX - 4);
 
 pub(crate) const ADMIN: Token = Token(usize::MAX - 8);
 
-/// How many events are told at once.
+/// The largest number of events that a poll reports at once.
 const EVENTS: usize = 256;
 
 /// How many seconds the threads of all loops have to begin.
@@ -34,14 +34,14 @@ const BEGIN: u64 = 5;
 /// The milliseconds of a second.
 const SECOND: u64 = 1000;
 
-/// An event, as it was told.
+/// An event, as the poll reported it.
 #[derive(Clone, Copy)]
 struct Event {
     token: usize,
     told: Told,
 }
 
-/// One thread's loop. It takes its memory before its first turn, and needs none to go on.
+/// One thread's loop. It takes its memory before its first turn, and needs no more to go on.
 #[derive(Drop)]
 pub struct EventLoop<K> {
     poll: Poll,
@@ -140,7 +140,7 @@ impl<K: Work> EventLoop<K> {
         Some(Duration::from_millis(SECOND - part))
     }
 
-    /// Runs until it is told to stop, or fails: then it tells the others to stop, and answers why. Either way its exchanges
+    /// Runs until it has to stop, or fails: then it has the others stop, and answers why. Either way its exchanges
     /// end.
     pub(crate) fn run_out<R: Wait + Dial + Clock>(
         &mut self,
@@ -164,7 +164,7 @@ impl<K: Work> EventLoop<K> {
         fault
     }
 
-    /// Runs until it is told to stop. `Err` where the system fails its poll or its clock, or the threads of all loops don't
+    /// Runs until it has to stop. `Err` if the system fails its poll or its clock, or the threads of all loops don't
     /// begin.
     fn run<R: Wait + Dial + Clock>(
         &mut self,
@@ -205,8 +205,8 @@ impl<K: Work> EventLoop<K> {
         Err(io::Error::from(ErrorKind::TimedOut))
     }
 
-    /// Serves all that was told. Users are taken in last: until then no key is another user's than the one that an event
-    /// tells of.
+    /// Serves all events. Users are taken in last: until then no key is another user's than the one that an event
+    /// is about.
     fn turn<R: Wait + Dial + Clock>(
         &mut self,
         rt: &R,
@@ -318,7 +318,7 @@ impl<K: Work> EventLoop<K> {
         }
     }
 
-    /// Asks the ports for connections of which no event tells.
+    /// Asks the ports for connections that no event reports.
     fn ask_ports<R: Wait>(&mut self, rt: &R, alloc: Global, inboxes: &[Inbox])
         requires { 0 < length inboxes.now }
     {
@@ -345,7 +345,7 @@ impl<K: Work> EventLoop<K> {
         Ok(())
     }
 
-    /// Drives an exchange, and keeps it in mind where others get their turn first.
+    /// Drives an exchange, and marks it if others get their turn first.
     fn drive<R: Wait + Dial + Clock>(&mut self, rt: &R, key: usize) -> io::Result<()> {
         self.read_clock(rt)?;
         let now = self.now();

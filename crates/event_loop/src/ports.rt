@@ -12,7 +12,7 @@ use std::time::Duration;
 /// How many connections are accepted before others get their turn.
 const ACCEPTS: u32 = 256;
 
-/// How long a loop waits where the system refused a connection, in milliseconds.
+/// How long a loop waits after the system refused a connection, in milliseconds.
 const REST: u64 = 20;
 
 /// How long a loop waits for room for a user, in milliseconds, before it asks again.
@@ -56,7 +56,7 @@ impl Ports {
         }
     }
 
-    /// How long a loop may wait at most before it asks for connections of which no event tells.
+    /// How long a loop may wait at most before it asks for connections that no event reports.
     pub fn patience(&self) -> Option<Duration> {
         if self.users.is_behind() || self.admin.is_behind() {
             Some(Duration::from_millis(0))
@@ -69,12 +69,12 @@ impl Ports {
         }
     }
 
-    /// Whether users may wait of whom no event tells.
+    /// Whether users may wait whom no event reports.
     pub fn has_users(&self) -> bool {
         self.waiting.is_some() || self.users.is_behind() || self.users.rests()
     }
 
-    /// Whether administrators may wait of whom no event tells.
+    /// Whether administrators may wait whom no event reports.
     pub fn has_askers(&self) -> bool {
         self.admin.is_behind() || self.admin.rests()
     }
@@ -105,7 +105,7 @@ impl Ports {
         self.users.fall_behind();
     }
 
-    /// Hands a user to the loop whose turn it is. False where there is no room for it: then it waits, and a loop is asked to
+    /// Hands a user to the loop whose turn it is. False if there is no room for it: then it waits, and a loop is asked to
     /// make some.
     fn hand<R: Wait>(&mut self, rt: &R, inboxes: &[Inbox], stream: TcpStream) -> bool
         requires { 0 < length inboxes.now }

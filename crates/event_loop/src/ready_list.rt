@@ -5,7 +5,7 @@ ghost use Rattle.std.specs.Prelude.{◌≡◌, ◌<◌, ◌≤◌, IfOk, IsTrue,
 use std::alloc::{AllocError, Global};
 use std::mem;
 
-/// The exchanges that were cut short so that others get their turn. An edge-triggered poll tells nothing twice, so they
+/// The exchanges that were cut short so that others get their turn. An edge-triggered poll reports nothing twice, so they
 /// are driven on before the next wait. There is a mark for each key from the start, so that no memory is needed later.
 #[derive(Drop)]
 pub struct ReadyList {
@@ -16,7 +16,7 @@ pub struct ReadyList {
 }
 
 impl ReadyList {
-    /// Of so many keys, none marked. `Err` where no memory was found.
+    /// A mark for each key, all unset. `Err` if no memory was found.
     pub fn new(alloc: Global, keys: usize) -> Result<ReadyList, AllocError>
         ensures { IfOk result (λ list. length list.marked.items ≡ keys) }
     {
@@ -25,7 +25,7 @@ impl ReadyList {
         Ok(ReadyList { marked, any })
     }
 
-    /// Whether none waits for a turn. That is said once it was looked for, by `look`.
+    /// Whether no exchange waits for a turn. It answers what `look` found last.
     pub fn is_empty(&self) -> bool
         ensures { IsTrue result → Contains self.now.marked.items true → ⊥ }
     {

@@ -5,7 +5,7 @@ use libc::{RLIMIT_NOFILE, getrlimit};
 use std::sync::Arc;
 use std::sync::atomic::{AtomicU64, Ordering};
 
-/// Descriptors that are none of a user's: the standard ones, the two ports, a user that waits for room, and some
+/// Descriptors that belong to no user: the standard ones, the two ports, a user that waits for room, and some
 /// administrators.
 const OWN: u64 = 10;
 
@@ -35,7 +35,7 @@ impl Drop for Place {
 }
 
 impl Room {
-    /// For so many users.
+    /// Room for `most` users.
     pub fn new(most: u64) -> Room {
         Room {
             most,
@@ -43,7 +43,7 @@ impl Room {
         }
     }
 
-    /// For as many users as the limit on open descriptors allows, beside so many loops and idle connections; for one at
+    /// Room for as many users as the limit on open descriptors allows, beside these loops and idle connections; for one at
     /// least.
     pub fn of_system(loops: u64, idle: u64) -> Room {
         let mut limit = rlimit {

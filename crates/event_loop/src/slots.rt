@@ -5,15 +5,15 @@ ghost use Rattle.std.specs.Prelude.{◌≡◌, ◌<◌, ◌≤◌, length, slice
 use std::alloc::{AllocError, Global};
 use std::mem;
 
-/// A fixed number of slots, each with a value or none, found by their number.
+/// A fixed number of slots, each empty or with a value, found by their number.
 ///
-/// The values may lack a `Drop`, so none can be lost here: what was in a slot comes out of it, and at the end all come.
+/// The values may lack a `Drop`, so no value can be lost here: what was in a slot comes out of it, and at the end all come.
 pub struct Slots<T> {
     all: Vec<Option<T>>,
 }
 
 impl<T> Slots<T> {
-    /// So many slots, all empty. `Err` where no memory was found for them.
+    /// `count` slots, all empty. `Err` if no memory was found for them.
     pub fn new(alloc: Global, count: usize) -> Result<Slots<T>, AllocError> {
         let mut all = Vec::with_capacity(alloc, count)?;
         for _ in 0..count {
@@ -39,7 +39,7 @@ impl<T> Slots<T> {
         }
     }
 
-    /// Puts a value into a slot. What was there comes back, and the value itself where there is no such slot.
+    /// Puts a value into a slot. What was there comes back; or the value itself, if there is no such slot.
     pub fn place(&mut self, number: usize, value: T) -> Option<T>
         ensures there { number < length self.old.all.items
             → (self.new.all.items ≡ slice_set self.old.all.items number (Some value))

@@ -32,7 +32,7 @@ pub struct Doors {
     pub room: Room,
 }
 
-/// Makes a poll, and its inbox behind the others; with the doors it serves the users' and the administrator's port.
+/// Makes a poll, and its inbox as the last one; with the doors it serves the users' and the administrator's port.
 pub fn add_loop<R: Net>(
     rt: &R,
     alloc: Global,
@@ -66,8 +66,8 @@ fn name_thread(number: usize) {
     let _ = set_thread_name(&name);
 }
 
-/// Runs a loop on this base over this work, in its caller's thread, until it is told to stop or fails. One that fails, or
-/// for which no memory is found, tells all others to stop, and its own exchanges end as at a stop. The work comes back.
+/// Runs a loop on this base over this work, in its caller's thread, until it has to stop or fails. A loop that fails, or
+/// for which no memory is found, has all others stop, and its own exchanges end as at a stop. The work comes back.
 pub fn run_loop<K: Work, R: Wait + Dial + Clock>(
     rt: &R,
     alloc: Global,

@@ -35,7 +35,7 @@ pub enum Driven {
 /// What one thread drives: exchanges, each found by its key. Moments are seconds of the machine's clock.
 pub trait Work {
     /// Takes a user's connection in, with its number in the order of acceptance and its place, which it has until it is
-    /// over, and answers the key to be driven. `None` where there is no seat for it, and it was closed.
+    /// over, and answers the key to be driven. `None` if there is no seat for it, and it was closed.
     fn admit<R: Wait + Dial + Clock>(
         &mut self,
         rt: &R,
@@ -44,10 +44,10 @@ pub trait Work {
         now: u64,
     ) -> Option<usize>;
 
-    /// Closes the connection of the user that can best be spared, so that another one has room. False where there is none.
+    /// Closes the connection of the user that can best be spared, so that another one has room. False if there is no such user.
     fn make_room<R: Wait>(&mut self, rt: &R) -> bool;
 
-    /// Takes note of an event of a connection. False where it tells nothing new, so that the exchange needn't be driven.
+    /// Takes note of an event of a connection. False if it says nothing new, so that the exchange needn't be driven.
     fn note(&mut self, key: usize, side: Side, told: Told) -> bool;
 
     /// Drives an exchange until each of its connections waits, or others should get their turn.
@@ -65,9 +65,9 @@ pub trait Work {
     /// Whether there is no exchange.
     fn is_idle(&self) -> bool;
 
-    /// The answer to a line of the admin port. `Err` where no memory was found for it.
+    /// The answer to a line of the admin port. `Err` if no memory was found for it.
     fn answer<R: Wait>(&mut self, rt: &R, request: Request) -> Result<Vec<u8>, AllocError>;
 
-    /// Ends all exchanges. Those whose users are still to be told so are driven on for a while.
+    /// Ends all exchanges. Those whose users still have to get their refusal are driven on for a while.
     fn halt<R: Wait + Dial + Clock>(&mut self, rt: &R, registry: &Registry, now: u64);
 }

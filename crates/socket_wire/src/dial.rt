@@ -6,7 +6,7 @@ use std::net::SocketAddr;
 
 /// Opens connections. The system's runtime does; a test may count or refuse them.
 pub trait Dial {
-    /// A connection to the address, which may still be on its way: where it is refused, its first read or write fails.
+    /// A connection to the address, which may still be on its way: if it is refused, its first read or write fails.
     fn dial(&self, address: SocketAddr) -> io::Result<TcpStream>;
 }
 

@@ -1,4 +1,4 @@
-//! Sockets that never block as wires, what a poll tells of them, and the tokens by which it does.
+//! Sockets that never block as wires, their readiness, and the tokens under which a poll reports them.
 #![tactic(auto)]
 
 mod dial;

@@ -1,10 +1,10 @@
-//! What a poll has told of a connection.
+//! The readiness of a connection: what its poll reported.
 
 use std::sync::atomic::{AtomicBool, AtomicU64, Ordering};
 
-/// What a poll has told of a connection, shared by the loop that polls and by the wire that reads and writes.
+/// The readiness of a connection, shared by the loop that polls and by the wire that reads and writes.
 ///
-/// A poll tells of a change once. So what it told stands here until a read or a write finds nothing more to do.
+/// A poll reports a change once. So what it reported stands here until a read or a write finds nothing more to do.
 #[derive(Drop)]
 pub struct Readiness {
     can_read: AtomicBool,
@@ -27,7 +27,7 @@ impl Readiness {
     }
 
     /// Takes note of an event: there may be bytes to read, there may be room to write, the other side has ended its
-    /// bytes or the connection has failed. True where that is news: a read or a write that found nothing to do may find
+    /// bytes or the connection has failed. True if that is news: a read or a write that found nothing to do may find
     /// something now.
     pub fn note(&self, readable: bool, writable: bool, closed: bool) -> bool {
         let reads = (readable || closed) && raise(&self.can_read);
@@ -36,7 +36,7 @@ impl Readiness {
         reads || writes || ends
     }
 
-    /// Takes note that the connection is gone both ways, as where the other side has reset it. True where that is news.
+    /// Takes note that the connection is gone both ways, as after a reset by the other side. True if that is news.
     pub fn fail(&self) -> bool {
         raise(&self.failed)
     }

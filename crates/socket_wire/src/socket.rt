@@ -1,4 +1,4 @@
-//! A socket as a wire: counts, and what its poll has told of it.
+//! A socket as a wire: its counts, and its readiness.
 
 ghost use Rattle.std.specs.Prelude.{◌≡◌, []};
 ghost use Rattle.std.specs.Io.{ReadsAtMost, WritesAtMost};
@@ -15,10 +15,10 @@ use std::os::fd::AsRawFd;
 use std::sync::Arc;
 use wire_kit::{Got, Put, Wire};
 
-/// How often a call is made anew that a signal broke off.
+/// How often a call that a signal broke off is made anew.
 const CALLS: u32 = 16;
 
-/// Reads once, however often a signal breaks the call off: bytes that lie there would be told of by no further event.
+/// Reads once, however often a signal breaks the call off: no further event would report bytes that lie there.
 fn read_once(stream: &mut TcpStream, buf: &mut [u8]) -> io::Result<usize>
     ensures { ReadsAtMost result buf.new }
 {
@@ -93,7 +93,7 @@ impl SocketWire {
         }
     }
 
-    /// Has a poll tell of it under a token. What is there already is told too.
+    /// Has a poll report it under a token. The poll also reports what is there already.
     pub fn register(&mut self, registry: &Registry, token: Token) -> io::Result<()>
         ensures { (p : Past) → IsPast self.old p → IsPast self.new p }
     {
@@ -101,7 +101,7 @@ impl SocketWire {
         registry.register(&mut self.stream, token, interest)
     }
 
-    /// Has the poll tell of it no more.
+    /// Has the poll report it no more.
     pub fn deregister(&mut self, registry: &Registry) -> io::Result<()>
         ensures { (p : Past) → IsPast self.old p → IsPast self.new p }
     {
@@ -188,7 +188,7 @@ impl Wire for SocketWire {
                 self.read += n as u64;
                 self.reads = self.reads.saturating_add(1);
 
-                // A short read is the last one, unless an end stands behind it.
+                // A short read is the last one, unless an end follows it.
                 if n < buf.len() && !self.ready.is_closed() {
                     self.ready.read_out();
                 }

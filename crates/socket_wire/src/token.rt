@@ -33,7 +33,7 @@ pub fn token_of(key: usize, side: Side) -> usize
     4 * key + side_number(side)
 }
 
-/// The exchange and the connection that a token names; none for a token that names none.
+/// The exchange and the connection that a token names; `None` for any other token.
 pub fn place_of(token: usize) -> Option<(usize, Side)>
     ensures { (key : ℕ) → (side : AnySide) → token ≡ 4 * key + number_of_side side → result ≡ Some (key, side) }
 {

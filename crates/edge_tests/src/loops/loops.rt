@@ -16,7 +16,7 @@ use std::thread;
 use std::time::Clock;
 use wire_kit::{Got, Wire};
 
-/// A connection that echoes, and what its poll has told of it.
+/// A connection that echoes, and its readiness.
 #[derive(Drop)]
 struct Conn {
     ready: Arc<Readiness>,
@@ -143,7 +143,7 @@ fn gets(client: &mut Client, want: &[u8]) -> io::Result<bool> {
     Ok(true)
 }
 
-/// Whether a client of a port that says this is answered so, and so many times.
+/// Whether a client of a port that says this gets `want` as its answer, `times` times.
 fn answers(
     rt: &HostRuntime,
     port: SocketAddr,
@@ -161,7 +161,7 @@ fn answers(
     Ok(true)
 }
 
-/// Echoes in this thread until it is told to stop.
+/// Echoes in this thread until it has to stop.
 fn run_echo<R: Wait + Dial + Clock>(
     rt: &R,
     alloc: Global,
@@ -207,7 +207,7 @@ fn silent(rt: &HostRuntime, admin: SocketAddr) -> io::Result<Vec<Client>> {
     Ok(all)
 }
 
-/// Users, one after another, and administrators, behind others that have taken all seats.
+/// Users, one after another, and administrators, after others that have taken all seats.
 fn users(rt: &HostRuntime, port: SocketAddr, admin: SocketAddr) -> io::Result<bool> {
     let long =
         b"0123456789012345678901234567890123456789012345678901234567890123456789\n".as_slice();

@@ -1,4 +1,4 @@
-//! The heads with which messages go on, and whether the user's connection ends behind them.
+//! The heads with which messages go on, and whether the user's connection ends after them.
 use adapt_turn::Outcome;
 use http_relay::SourceSide;
 use http_side::Framing;
@@ -17,7 +17,7 @@ fn wire_of(alloc: Global, text: &[u8]) -> Result<MemoryWire, AllocError> {
     MemoryWire::new(alloc, text.to_vec(alloc)?, reads, Vec::new(alloc))
 }
 
-/// The side of a user with this request, of which the head was read, and the body where it has none.
+/// The side of a user with this request, of which the head was read, and its end if it has no body.
 fn user_side(alloc: Global, text: &[u8]) -> Result<SourceSide, Fail> {
     let mut side = SourceSide::request(alloc);
     let mut wire = wire_of(alloc, text)?;
@@ -40,7 +40,7 @@ fn offered(rt: &impl Abort, point: Point) -> State {
     State::begin(plan)
 }
 
-/// The same, answered by 200 with a body or without.
+/// A response that was offered whole and answered by 200, with a body or without.
 fn adapted(rt: &impl Abort, point: Point, payload: Payload) -> State {
     let mut state = offered(rt, point);
     state.step(Event::Heard).expect(rt, "heard");
@@ -91,7 +91,7 @@ fn answers_of_a_service_to_a_user(rt: HostRuntime) -> Result<(), Fail> {
     let source = user_side(alloc, GET)?;
     let mut state = adapted(&rt, Point::Reqmod, Payload::Body);
 
-    // The request wasn't read to its end: the connection ends behind the answer.
+    // The request wasn't read to its end: the connection ends after the answer.
     let made = HeadMaker::for_request().make(alloc, &state, &source, Some(text), true)?;
     let want: &[u8] =
         b"HTTP/1.1 403 Forbidden\r\nContent-Length: 8\r\nConnection: close\r\nVia: 1.1 adaptproxy\r\n\r\n";

@@ -1,4 +1,4 @@
-//! The end of a loop: users are told of the stop.
+//! The end of a loop: users get their refusals.
 
 use crate::looping::EventLoop;
 use crate::work::Work;
@@ -7,11 +7,11 @@ use std::io;
 use std::sync::Wait;
 use std::time::{Clock, Duration};
 
-/// How long users are told of a stop at most, in milliseconds.
+/// How long users have at most to take their refusals, in milliseconds.
 const FAREWELL: u64 = 1000;
 
 impl<K: Work> EventLoop<K> {
-    /// Drives on the exchanges whose users are told of the stop, until all are over, for a while at most.
+    /// Drives on the exchanges whose users get a refusal, until all are over, for a while at most.
     pub(super) fn take_leave<R: Wait + Dial + Clock>(&mut self, rt: &R) -> io::Result<()> {
         self.read_clock(rt)?;
         let end = self.elapsed.saturating_add(FAREWELL);
@@ -35,7 +35,7 @@ impl<K: Work> EventLoop<K> {
         unreachable!()
     }
 
-    /// Drives the exchanges that the events tell of.
+    /// Drives the exchanges that the events are about.
     fn drive_seen<R: Wait + Dial + Clock>(&mut self, rt: &R) -> io::Result<()> {
         for at in 0..self.seen.len() {
             let Some(event) = self.seen.get(at) else {
