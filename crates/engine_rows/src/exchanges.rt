@@ -76,7 +76,7 @@ impl Exchange {
         let _ = self.state.step(Event::In(bytes.len() as u64));
     }
 
-    /// So many turns of both halves, or as many as move something.
+    /// Up to this many turns of both halves, until nothing moves.
     fn turns(&mut self, kept: &Kept, count: usize) {
         let mut idle: usize = 0;
         for _ in 0..count {
@@ -127,7 +127,7 @@ impl Exchange {
         Ok(())
     }
 
-    /// Adds what the wire took, what the service's bytes told, and what is left of the request.
+    /// Adds what the wire took, what the service's bytes said, and what is left of the request.
     fn put(&self, scene: Scene<'_>, values: Values, out: &mut Vec<u8>) -> Result<(), NoMemory> {
         put_text(out, scene, b"taken", self.wire.taken(), values)?;
         self.told.put(scene, values, out)?;
@@ -137,7 +137,7 @@ impl Exchange {
     }
 }
 
-/// Adds what an exchange tells.
+/// Adds what an exchange reports.
 pub fn put_exchange(
     alloc: Global,
     scene: Scene<'_>,

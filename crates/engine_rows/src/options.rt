@@ -9,7 +9,7 @@ use test_rows::{NoMemory, put_line, put_number};
 use wire_kit::{MemoryWire, Wire};
 use wire_rows::{Scene, Values, put_text, put_word, wire};
 
-/// So many turns of the side, or as many as move something: the answer's head, and the last fault.
+/// Up to this many turns of the side, until nothing moves: the answer's head, and the last fault.
 fn ask(
     side: &mut OptionsSide,
     wire: &mut MemoryWire,

@@ -13,7 +13,7 @@ use std::sync::ledger::Ledger;
 use test_rows::{NoMemory, put_line};
 use wire_rows::{Scene, Values, place_of};
 
-/// Adds what a run tells.
+/// Adds what a run reports.
 fn put_run(
     alloc: Global,
     scene: Scene<'_>,
@@ -29,7 +29,7 @@ fn put_run(
     }
 }
 
-/// The same on two pages of a new bank.
+/// Adds what a run reports, with two pages of a new bank.
 fn put_on_bank<H: Ledger, F: Ledger, S: Ledger, P: Ledger, R: Wait>(
     rt: &R,
     alloc: Global,
@@ -56,7 +56,7 @@ fn put_on_bank<H: Ledger, F: Ledger, S: Ledger, P: Ledger, R: Wait>(
     found
 }
 
-/// The same.
+/// Plays a row on two pages of a new bank, whose ledgers are picked here.
 pub fn put_on_pages<R: Wait>(
     rt: &R,
     alloc: Global,

@@ -139,7 +139,7 @@ impl Exchange {
         }
     }
 
-    /// So many turns of both at most, until one message is out or failed, or nothing moves any more.
+    /// Up to this many turns of both, until one message is out or failed, or nothing moves any more.
     fn pass(&mut self, alloc: Global, kept: &mut Kept, turns: usize) -> Result<End, NoMemory> {
         let mut idle: usize = 0;
         for _ in 0..turns {
@@ -162,7 +162,7 @@ impl Exchange {
         Ok(End::Waiting)
     }
 
-    /// Goes on to the next message on the same wires, where this one was read to its end.
+    /// Goes on to the next message on these wires, if this one was read to its end.
     fn go_on(&mut self, alloc: Global, state: State, kept: &mut Kept) {
         if self.source.ended() {
             self.source.next();
@@ -172,7 +172,7 @@ impl Exchange {
         kept.clear();
     }
 
-    /// Passes so many messages on, one after the other, and adds what the next hop took and how the last one ended.
+    /// Passes this many messages on, one after the other, and adds what the next hop took and how the last one ended.
     fn put_passed(
         &mut self,
         alloc: Global,

@@ -1,4 +1,4 @@
-//! Replies of a service, and what its side tells of them.
+//! Replies of a service, and what its side reports of them.
 
 use adapt_sides::{ClientFault, Turn};
 use icap_client::ReplySide;
@@ -11,13 +11,13 @@ use wire_rows::{Scene, Values, history, put_text, put_word, wire};
 /// The most bytes of the adapted body that a turn may give.
 pub const ROOM: usize = 64;
 
-/// What a service's bytes told: the events but those of body bytes, a line each; the body; and the fault.
+/// What a service's bytes said: the events but those of body bytes, a line each; the body; and the fault.
 #[derive(Drop)]
 pub struct Told {
     pub events: Vec<u8>,
     pub body: Vec<u8>,
     pub fault: Option<ClientFault>,
-    /// No memory was found for what was told.
+    /// No memory was found for what was reported.
     pub lost: bool,
 }
 
@@ -51,7 +51,7 @@ impl Told {
         }
     }
 
-    /// Steps what a turn of the writing half told.
+    /// Steps what a turn of the writing half reported.
     pub fn step(&mut self, state: &mut State, turn: Result<Turn, ClientFault>) {
         match turn {
             Ok(turn) => {
@@ -63,7 +63,7 @@ impl Told {
         }
     }
 
-    /// Keeps what a turn of the reading half told, and steps it.
+    /// Keeps what a turn of the reading half reported, and steps it.
     pub fn take(&mut self, state: &mut State, turn: Result<Turn, ClientFault>, out: &[u8]) {
         match turn {
             Ok(turn) => {
@@ -76,7 +76,7 @@ impl Told {
         }
     }
 
-    /// Adds what was told.
+    /// Adds what was reported.
     pub fn put(&self, scene: Scene<'_>, values: Values, out: &mut Vec<u8>) -> Result<(), NoMemory> {
         if self.lost || self.fault == Some(ClientFault::NoMemory) {
             return Err(NoMemory);
@@ -105,10 +105,10 @@ fn is_idle(turn: &Result<Turn, ClientFault>) -> bool {
     }
 }
 
-/// So many turns in a row may do nothing before a run ends.
+/// How many turns in a row may do nothing before a run ends.
 pub const MAX_IDLE: usize = 4;
 
-/// Turns of the side: so many before all of the preview is out, and then others, until nothing moves any more.
+/// Turns of the side: `early` ones before all of the preview is out, and then others, until nothing moves any more.
 fn read(
     side: &mut ReplySide,
     state: &mut State,
@@ -165,7 +165,7 @@ fn put_side(
     put_number(out, b"left", side.raw_left() as u64)
 }
 
-/// Adds what a reply tells.
+/// Adds what a reply reports.
 pub fn put_reply(
     alloc: Global,
     scene: Scene<'_>,
@@ -187,7 +187,7 @@ pub fn put_reply(
     put_all(&told, &side, scene, values, out)
 }
 
-/// Adds what was told, and what the side says.
+/// Adds what was reported, and what the side says.
 fn put_all(
     told: &Told,
     side: &ReplySide,

@@ -45,7 +45,7 @@ fn put_first_lines(out: &mut Vec<u8>, text: &[u8]) -> Result<(), NoMemory> {
     Ok(())
 }
 
-/// Adds what a piece is answered behind the text.
+/// Adds what a piece after the text is answered.
 fn put_further(
     alloc: Global,
     side: &mut ServerSide,
@@ -169,7 +169,7 @@ fn put_end(
     put_shown(out, b"end", &ended)
 }
 
-/// Adds what is written to a connection whose reader gives so many bytes and then ends or fails, and whose writer takes so many.
+/// Adds what is written to a connection whose reader gives `given` bytes and then ends or fails, and whose writer takes some.
 pub fn put_served(
     alloc: Global,
     scene: Scene<'_>,

@@ -67,7 +67,7 @@ pub fn begun_on<B: Ledgers, A: Wire + Drop>(
     })
 }
 
-/// The same over the row's wires.
+/// Begins the row's transaction by this plan, over the row's wires.
 pub fn begun<B: Ledgers>(
     rt: &impl Wait,
     alloc: Global,
@@ -86,7 +86,7 @@ pub fn begun<B: Ledgers>(
     )
 }
 
-/// Adds what the row's transaction tells on this budget.
+/// Adds what the row's transaction reports on this budget.
 fn put_transaction<B: Ledgers, R: Wait>(
     rt: &R,
     alloc: Global,
@@ -107,7 +107,7 @@ fn put_transaction<B: Ledgers, R: Wait>(
     put_ended(&ended, &lines, scene, values, out)
 }
 
-/// The same, or what two transactions tell, or how large one is.
+/// Adds what the row's transaction reports on this budget, or what two transactions report, or how large one is.
 fn put_scene<B: Ledgers, R: Wait>(
     rt: &R,
     alloc: Global,
@@ -147,7 +147,7 @@ pub fn is_empty<B: Ledgers>(alloc: Global, bank: Bank<B>) -> bool {
     }
 }
 
-/// The same on a new budget, which has to be empty after it.
+/// Plays the row on a new budget, which has to be empty after it.
 fn put_on_bank<H: Ledger, F: Ledger, S: Ledger, P: Ledger, R: Wait>(
     rt: &R,
     alloc: Global,
@@ -172,7 +172,7 @@ fn put_on_bank<H: Ledger, F: Ledger, S: Ledger, P: Ledger, R: Wait>(
     }
 }
 
-/// Adds what a run of the row tells.
+/// Adds what a run of the row reports.
 pub fn put_turns<R: Wait>(
     rt: &R,
     alloc: Global,

@@ -52,7 +52,7 @@ fn no_lines() -> Lines {
     }
 }
 
-/// Adds what two transactions over wires of the same kind tell: one of this plan, and then that of the plan `beside`.
+/// Adds what two transactions over wires of one kind report: one of this plan, and then that of the plan `beside`.
 pub fn put_beside<B: Ledgers, R: Wait>(
     rt: &R,
     alloc: Global,

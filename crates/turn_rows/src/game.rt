@@ -34,7 +34,7 @@ pub trait Game<B: Ledgers> {
     /// How it ended, once it has.
     fn ending(&self) -> Option<Outcome>;
 
-    /// Begins anew on a fresh connection where the service's broke before a byte of a reply; where there is none it fails.
+    /// Begins anew on a fresh connection if the service's broke before a byte of a reply; without a fresh one it fails.
     fn mend<R: Wait>(&mut self, rt: &R, bank: &Bank<B>, lines: &mut Lines);
 }
 

@@ -6,8 +6,7 @@ use wire_kit::{Gate, Got, HoldGate, Put, SharedWire, Wire};
 /// A wire that gives its first read at once, and the next one only once the gate is open: till then that read doesn't
 /// answer. A gate that stays shut makes it fail.
 ///
-/// The two wires share their answers, of which the one behind the first is a failure: the other takes that where the
-/// gate is open.
+/// The two wires share their answers, of which the second is a failure: the other wire takes that if the gate is open.
 #[derive(Drop)]
 pub struct HeldWire<'a, R: Clock> {
     pub rt: &'a R,

@@ -37,7 +37,7 @@ impl<'a, R: Wait> Player for Turns<'a, R> {
     }
 }
 
-/// The letters of a row that has none.
+/// The letters of a row that names no letters.
 const NO_LETTERS: Values = Values {
     n: 0,
     m: 0,

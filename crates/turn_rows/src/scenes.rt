@@ -26,7 +26,7 @@ pub const BEGIN: u64 = 100;
 /// A transaction of the proxy's own sides over wires in memory, the source's being one of these.
 pub type Moving<B, A> = Tx<B, SourceSide, ServiceSide, NextHop, HeadMaker, A, Counted, Counted>;
 
-/// What is configured: the service's connection was used before where the plan may begin anew.
+/// What is configured: the service's connection was used before if the plan allows a retry.
 fn limits_of(plan: &Plan) -> Limits {
     Limits {
         preview_limit: 1024,
@@ -36,7 +36,7 @@ fn limits_of(plan: &Plan) -> Limits {
     }
 }
 
-/// The service's side with its wire, where the message is offered.
+/// The service's side with its wire, if the message is offered.
 fn line_of(plan: &Plan, side: ServiceSide, wire: Counted) -> Option<Line<ServiceSide, Counted>> {
     if plan.kind.is_plain() {
         return None;
@@ -67,7 +67,7 @@ pub fn begin<B: Ledgers, A: Wire + Drop>(
     }
 }
 
-/// The same on this reservation.
+/// Begins a transaction of this plan on this reservation.
 fn start<B: Ledgers, A: Wire + Drop>(
     rt: &impl Wait,
     alloc: Global,

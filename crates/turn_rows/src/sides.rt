@@ -84,7 +84,7 @@ pub fn hop_wire(alloc: Global, scene: Scene<'_>, values: Values) -> Result<Count
     Ok(CountedWire::new(wire))
 }
 
-/// Reads a head. False where there is none.
+/// Reads a head. False if there is no head.
 fn read_head(side: &mut SourceSide, wire: &mut impl Wire) -> Result<bool, NoMemory> {
     for _ in 0..HEAD_TURNS {
         match side.head_turn(wire) {

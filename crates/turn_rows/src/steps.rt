@@ -11,7 +11,7 @@ use wire_rows::{Scene, Values, number, parts, place_of};
 /// Turns of each side.
 pub const ROUND: [Side; 3] = [Side::Source, Side::Service, Side::NextHop];
 
-/// A turn whose kind is counted: so many moved just one byte, so many answered that it is finished, and so many otherwise.
+/// How many turns moved just one byte, how many answered that it is finished, and how many did something else.
 #[derive(Clone, Copy)]
 struct Counted {
     moved: usize,
@@ -41,7 +41,7 @@ fn is_finished<B: Ledgers, G: Game<B>, R: Wait>(rt: &R, bank: &Bank<B>, game: &m
         )
 }
 
-/// So many rounds of turns at the moment of the last moved byte, or as many as it takes.
+/// Up to `count` rounds of turns at the moment of the last moved byte, until the transaction is over.
 fn play_rounds<B: Ledgers, G: Game<B>, R: Wait>(
     rt: &R,
     bank: &Bank<B>,
@@ -59,7 +59,7 @@ fn play_rounds<B: Ledgers, G: Game<B>, R: Wait>(
     }
 }
 
-/// So many rounds of turns at a moment.
+/// `count` rounds of turns at a moment.
 fn play_rounds_at<B: Ledgers, G: Game<B>, R: Wait>(
     rt: &R,
     bank: &Bank<B>,
@@ -89,7 +89,7 @@ fn play_until_over<B: Ledgers, G: Game<B>, R: Wait>(
     }
 }
 
-/// So many times a turn of each side in order, counted.
+/// Counts the turns of each side in order, `count` times.
 fn count_turns<B: Ledgers, G: Game<B>, R: Wait>(
     rt: &R,
     bank: &Bank<B>,
@@ -128,7 +128,7 @@ fn put_tally(tally: Counted, values: Values, out: &mut Vec<u8>) -> Result<(), No
     put_number(out, b"otherwise", tally.other as u64)
 }
 
-/// Turns of these sides at a moment, each of which is told.
+/// Turns of these sides at a moment; adds what each answers.
 fn put_turns<B: Ledgers, G: Game<B>, R: Wait>(
     rt: &R,
     bank: &Bank<B>,
@@ -152,7 +152,7 @@ struct Pace<'a> {
     at: Option<usize>,
 }
 
-/// Plays a step: `rounds=500`, `tally=80`, `until-over`, `halt`, or turns that are told, as `source@190` and `each@189`.
+/// Plays a step: `rounds=500`, `tally=80`, `until-over`, `halt`, or turns whose answers are added, as `source@190` and `each@189`.
 fn put_step<B: Ledgers, G: Game<B>, R: Wait>(
     rt: &R,
     bank: &Bank<B>,
@@ -189,7 +189,7 @@ fn put_step<B: Ledgers, G: Game<B>, R: Wait>(
     Ok(())
 }
 
-/// Plays the row's steps, and adds what they tell.
+/// Plays the row's steps, and adds what they answer.
 pub fn put_steps<B: Ledgers, G: Game<B>, R: Wait>(
     rt: &R,
     alloc: Global,

@@ -50,7 +50,7 @@ fn drive_to_end<B: Ledgers, G: Game<B>, R: Wait>(rt: &R, bank: &Bank<B>, game: &
     )
 }
 
-/// What is told of a transaction that ended.
+/// What a row's answer says of a transaction that ended.
 fn told_of<A>(
     alloc: Global,
     ended: &Ended<A, Counted>,
@@ -100,7 +100,7 @@ fn held_wires<A: Drop>(
     })
 }
 
-/// What the first transaction tells, whose origin answers by this list.
+/// What the first transaction reports, whose origin answers by this list.
 fn first_by<B: Ledgers, R: Wait + Clock>(
     rt: &R,
     alloc: Global,
@@ -120,7 +120,7 @@ fn first_by<B: Ledgers, R: Wait + Clock>(
     told_of(alloc, &end(rt, bank, tx), scene, values)
 }
 
-/// The same with its answers.
+/// What the first transaction reports, with its own answers.
 fn first<B: Ledgers, R: Wait + Clock>(
     rt: &R,
     alloc: Global,
@@ -134,7 +134,7 @@ fn first<B: Ledgers, R: Wait + Clock>(
     first_by(rt, alloc, bank, gate, &answers, plan, scene, values)
 }
 
-/// What the other one tells, which opens the gate once it is finished.
+/// What the other one reports, which opens the gate once it is finished.
 fn second<B: Ledgers, R: Wait>(
     rt: &R,
     alloc: Global,
@@ -153,7 +153,7 @@ fn second<B: Ledgers, R: Wait>(
     told_of(alloc, &end(rt, bank, tx), scene, values)
 }
 
-/// What each tells.
+/// What each reports.
 type Both = (Result<Vec<u8>, NoMemory>, Result<Vec<u8>, NoMemory>);
 
 /// Both, each in a thread of its own.
@@ -203,7 +203,7 @@ where
     put_flag(out, b"budget empty", is_empty)
 }
 
-/// The same on a new budget.
+/// Adds what both report, on a new budget.
 fn put_on_bank<
     H: Ledger + Send + Sync,
     F: Ledger + Send + Sync,
@@ -228,7 +228,7 @@ fn put_on_bank<
     put_both(rt, alloc, bank, plan, scene, values, out)
 }
 
-/// Adds what the row's transaction tells twice, in two threads.
+/// Adds what the row's transaction reports twice, in two threads.
 pub fn put_threads<R: Threads + Wait + Clock + Sync>(
     rt: &R,
     alloc: Global,

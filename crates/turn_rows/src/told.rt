@@ -1,4 +1,4 @@
-//! What is told of a transaction that ended.
+//! What a row's answer says of a transaction that ended.
 
 use crate::game::{Ended, Lines};
 use crate::sides::Counted;
