@@ -10,7 +10,7 @@ use Rattle.chunk_writer.specs.declared.next.Next.{Next}
 use Rattle.chunk_writer.specs.declared.next.Ending.{Ending}
 use Rattle.chunk_writer.specs.declared.next.Ending.TheVariants.{NotYet, Silent, LastChunk}
 
--- A text, one framing text behind it, how much of both is out, and how many body bytes the chunk that was begun waits for.
+-- A text, one framing text after it, how much of both is out, and how many body bytes the chunk that was begun waits for.
 pub record Writer : Type 0 where
   pub head : List ℕ
   pub head_out : ℕ
@@ -52,7 +52,7 @@ begun w n = record { head = w.head; head_out = w.head_out; framing = chunk_head 
 abbrev pub fixed : Writer → List ℕ → Writer
 fixed w text = record { head = w.head; head_out = w.head_out; framing = text; framing_out = 0; left = w.left }
 
--- after k bytes of the chunk went out; the chunk's end is fixed where they were its last
+-- after k bytes of the chunk went out; the chunk's end is fixed if they were its last
 abbrev pub sent_on : Writer → ℕ → Writer
 sent_on w k = record {
   head = w.head;
@@ -62,7 +62,7 @@ sent_on w k = record {
   left = w.left - k;
 }
 
--- the same of a body that isn't in chunks
+-- after k bytes of the body went out, in chunks or not
 abbrev pub after_data : Bool → Writer → ℕ → Writer
 after_data true w k = sent_on w k
 after_data false w k = w
@@ -91,20 +91,20 @@ is_ending NotYet = false
 is_ending Silent = true
 is_ending (LastChunk ieof) = true
 
--- what stands behind these bytes: in a chunk that they complete its end, and the body's end
+-- what follows these bytes: the end of the chunk, if they complete one, and the body's end
 abbrev pub behind_data : Bool → ℕ → Next → List ℕ
 behind_data false left next = end_text next.end
 behind_data true left next = if next.count == left then crlf ++ end_text next.end else []
 
--- the bytes and what stands behind them
+-- the bytes and what follows them
 abbrev pub data_text : ℕ → Tape → Next → List ℕ
 data_text left tape next = bytes_of tape next ++ behind_data next.chunked left next
 
--- what comes next where no chunk is begun
+-- what comes next if no chunk is begun
 abbrev pub chunk_text : Tape → Next → List ℕ
 chunk_text tape next = chunk_head next.count ++ data_text next.count tape next
 
--- what comes next, behind what waits
+-- what comes next, after what waits
 abbrev pub next_text : ℕ → Tape → Next → List ℕ
 next_text left tape next =
     if next.count == 0 then end_text next.end
@@ -117,7 +117,7 @@ offered w tape next =
     if nat_lt LONG_HEAD (length w.head - w.head_out) then drop w.head_out w.head
     else waiting w ++ next_text w.left tape next
 
--- so many body bytes fit into one turn, and into the chunk that was begun
+-- this many body bytes fit into one turn, and into the chunk that was begun
 abbrev pub FitsTurn : Writer → Bool → ℕ → Type 0
 FitsTurn w chunked n = (n ≤ MAX_CHUNK) × (chunked ≡ true → 0 < w.left → n ≤ w.left)
 

@@ -19,15 +19,25 @@ use wire_kit::Put;
 /// What a turn wrote.
 #[derive(Clone, Copy, Debug, PartialEq, Eq)]
 pub struct Wrote {
-    /// What the wire answered, or `None` where nothing was to be offered.
+    /// What the wire answered, or `None` if nothing was to be offered.
     pub answer: Option<Put>,
-    /// So many body bytes were taken.
+    /// The number of body bytes that were taken.
     pub sent: u64,
-    /// The body's end is fixed.
+    /// Whether the body's end is fixed.
     pub ended: bool,
 }
 
 /// The text of one message. It keeps no body byte: these stay on their tape until the wire took them.
+///
+/// ```
+/// let mut writer = ChunkWriter::new(b"HTTP/1.1 200 OK\r\n\r\n".to_vec(alloc)?);
+/// let next = Next { chunked: true, from: 0, count: 0, end: Ending::LastChunk(false) };
+/// let writes = vec![in alloc; WriteAnswer::Took(64)]?;
+/// let mut wire = MemoryWire::new(alloc, Vec::new(alloc), Vec::new(alloc), writes)?;
+/// let wrote = writer.write(&next, &SpanTape::new(), &mut wire);
+/// assert!(rt; wrote.ended && writer.is_out());
+/// assert_eq!(rt; wire.taken(), b"HTTP/1.1 200 OK\r\n\r\n0\r\n\r\n".as_slice());
+/// ```
 #[derive(Drop)]
 pub struct ChunkWriter {
     head: HeadText,
@@ -91,14 +101,14 @@ impl ChunkWriter {
         }
     }
 
-    /// The memory that the text before the body holds, in bytes: none once it was given back.
+    /// The memory that the text before the body holds, in bytes: 0 once it was given back.
     pub fn head_room(&self) -> usize
         ensures { self.now.head ≡ [] → result ≡ 0 }
     {
         self.head.room()
     }
 
-    /// Begins the same text anew. It takes no memory.
+    /// Begins the text anew. It takes no memory.
     pub fn again(&mut self)
         ensures { self.new ≡ fresh self.old.head }
     {
@@ -108,14 +118,14 @@ impl ChunkWriter {
         self.left = 0;
     }
 
-    /// The bytes that the chunk that was begun waits for; 0 where none is begun.
+    /// The number of bytes that the chunk that was begun waits for; 0 if no chunk is begun.
     pub fn left(&self) -> u64
         ensures { result ≡ self.now.left }
     {
         self.left
     }
 
-    /// How many body bytes may go next, of at most so many: all that fit into a turn, and into the chunk that was begun.
+    /// How many body bytes may go next, `most` at most: all that fit into a turn, and into the chunk that was begun.
     pub fn fit(&self, chunked: bool, most: u64) -> u64
         ensures few { result ≤ MAX_CHUNK }
         ensures most { result ≤ most }
@@ -182,7 +192,7 @@ impl ChunkWriter {
         self.framing_out = 0;
     }
 
-    /// Counts bytes of the chunk that went out, and fixes the chunk's end behind its last one.
+    /// Counts bytes of the chunk that went out, and fixes the chunk's end after its last one.
     fn count_out(&mut self, n: u64)
         requires { n ≤ self.old.left }
         ensures { self.new ≡ sent_on self.old n }
@@ -214,7 +224,7 @@ impl ChunkWriter {
         chunked && self.left > 0
     }
 
-    /// The body's end, of which so many bytes went out.
+    /// Counts the body's end, of which `count` bytes went out.
     fn finish(&mut self, count: usize, next: &Next) -> bool
         requires { waiting self.old ≡ [] }
         ensures moves { (tape : Tape) (old : Writer) (d : List ℕ) → Moves tape next.now old next.now.count false d self.old
@@ -230,7 +240,7 @@ impl ChunkWriter {
         true
     }
 
-    /// The body bytes and what stands behind them, of which so many bytes went out.
+    /// Counts the body bytes and what follows them, of which `count` bytes went out.
     fn took_data(&mut self, count: usize, next: &Next) -> (u64, bool)
         requires out { waiting self.old ≡ [] }
         requires some { 0 < count }
@@ -255,7 +265,7 @@ impl ChunkWriter {
         (sent, self.finish(rest, next))
     }
 
-    /// A chunk with what stands behind it, of which so many bytes went out.
+    /// Counts a chunk with what follows it, of which `count` bytes went out.
     fn took_chunk(&mut self, count: usize, next: &Next) -> (u64, bool)
         requires out { waiting self.old ≡ [] }
         requires none { self.old.left ≡ 0 }
@@ -277,7 +287,7 @@ impl ChunkWriter {
         self.took_data(rest, next)
     }
 
-    /// What comes next, of which so many bytes went out.
+    /// Counts what comes next, of which `count` bytes went out.
     fn took_next(&mut self, count: usize, next: &Next) -> (u64, bool)
         requires out { waiting self.old ≡ [] }
         requires few { next.now.count ≤ MAX_CHUNK }
@@ -300,7 +310,7 @@ impl ChunkWriter {
         }
     }
 
-    /// What waits and what comes next, of which so many bytes went out.
+    /// Counts what waits and what comes next, of which `count` bytes went out.
     fn took(&mut self, count: usize, next: &Next) -> (u64, bool)
         requires few { next.now.count ≤ MAX_CHUNK }
         requires within { next.now.chunked ≡ true → 0 < self.old.left → next.now.count ≤ self.old.left }

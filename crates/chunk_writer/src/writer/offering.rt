@@ -38,7 +38,7 @@ impl ChunkWriter {
         draft.put(&self.framing.as_slice()[self.framing_out..]);
     }
 
-    /// Composes the body bytes and what stands behind them.
+    /// Composes the body bytes and what follows them.
     fn put_data<const N: usize>(
         &self,
         left: u64,
@@ -172,7 +172,7 @@ impl ChunkWriter {
         self.is_out() && next.count == 0 && !next.end.has_text()
     }
 
-    /// Writes what is due, with one write at most: what waits, then the bytes that may come next, and behind them the
+    /// Writes what is due, with one write at most: what waits, then the bytes that may come next, and after them the
     /// body's end. Counts what the wire took of it.
     #[tactic(auto, using(crate::proofs::Moving::still_none))]
     pub fn write<W: Wire>(&mut self, next: &Next, tape: &SpanTape, wire: &mut W) -> Wrote
@@ -181,12 +181,12 @@ impl ChunkWriter {
         ensures moves { Moves tape.now next.now self.old result.sent result.ended
             (delta_of (offered self.old tape.now next.now) result.answer) self.new }
 
-        // Nothing is offered only where nothing waits and nothing comes next; then an end without a text is fixed.
+        // Nothing is offered only if nothing waits and nothing comes next; then an end without a text is fixed.
         ensures idle { result.answer ≡ None → IsIdle self.old next.now result.sent result.ended }
         ensures out { result.answer ≡ None → waiting self.new ≡ [] }
         ensures still { IsStill result.answer result.sent result.ended }
 
-        // The wire is asked exactly where there is a text to offer.
+        // The wire is asked exactly if there is a text to offer.
         ensures silent { result.answer ≡ None → offered self.old tape.now next.now ≡ [] }
         ensures asks { offered self.old tape.now next.now ≡ [] → result.answer ≡ None }
     {
