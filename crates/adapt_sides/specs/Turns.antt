@@ -22,7 +22,7 @@ abbrev pub waits_of : {F : Type 0} → Result Turn F → Bool
 waits_of (Ok turn) = turn.waiting
 waits_of (Err fault) = false
 
--- Of the two faults that a wire's answer is, the one comes only where the wire failed in this call, and the other only where it
+-- Of the two faults that come of a wire's answer, the one comes only if the wire failed in this call, and the other only if it
 -- ended in this call: on a wire with the past p before and q after.
 abbrev pub OfWire : {F : Type 0} → (device closed fault : F) → Past → Past → Type 0
 OfWire device closed fault p q = (fault ≡ device → p.faults < q.faults) × (fault ≡ closed → p.ends < q.ends)
@@ -64,8 +64,8 @@ abbrev pub given_then : Given → Given → Given
 given_then a b = record { bytes = a.bytes ++ b.bytes; ended = b.ended || a.ended }
 
 -- A read of the source's wire, which gave this: In and End. `all_framed` says that none of the bytes that are kept can be framed, and
--- `over` that the framing tells the body's end. End comes only where the body is over so, or the wire has ended in this call; and an
--- end that the framing tells isn't withheld.
+-- `over` that the framing gives the body's end. End comes only if the body is over so, or the wire has ended in this call; and an
+-- end that the framing gives isn't withheld.
 pub record ReadsBody (old new : Seen → List ℕ → Given → Type 0) (agrees_old agrees_new : Seen → Type 0) (old_fault new_fault : Option RelayFault) (rests all_framed over : Type 0) (before after : Past → Type 0) (out : List ℕ) (result : Result Turn RelayFault) : Type 0 where
   pub delta : Given
   pub wire : (p : Past) → before p → (q : Past) × after q × IsLater p delta.bytes [] q × HasReason OfRelayWire p q old_fault rests (λ past. past.read_waits) result × (delta.ended ≡ true → p.ends < q.ends)
@@ -113,12 +113,12 @@ pub data Gift : Type 0 where
 abbrev pub FailsGiving : (breaks : Type 0) → RelayFault → Type 0
 FailsGiving breaks fault = (fault ≡ relay.Device) ⊎ ((fault ≡ relay.Length) × breaks)
 
--- the fault that outlasts a refusal in the message's place: that the wire has failed
+-- the fault that outlasts a refusal in the message's place: the wire has failed
 abbrev pub wire_fault : Option RelayFault → Option RelayFault
 wire_fault (Some relay.Device) = Some relay.Device
 wire_fault _ = None
 
--- A write to the next hop's wire, which took these bytes: Usr and Done. Done stands only where the message is out whole.
+-- A write to the next hop's wire, which took these bytes: Usr and Done. Done stands only once the whole message is out.
 -- Of a message with this head; or aside, of a refusal.
 pub record Gives (x : Seen) (tape : Tape) (old new : Seen → List ℕ → List ℕ → List ℕ → Type 0) (old_aside new_aside : List ℕ → Type 0) (whole : List ℕ → List ℕ → List ℕ → Type 0) (old_fault new_fault : Option RelayFault) (rests : Type 0) (before after : Past → Type 0) (result : Result Turn RelayFault) : Type 0 where
   pub delta : List ℕ

@@ -7,14 +7,14 @@ ghost use Rattle.std.specs.Prelude.{◌≡◌};
 pub struct Copied {
     /// How many bytes were read.
     pub used: usize,
-    /// How many of the body stand at the front of the buffer.
+    /// How many bytes of the body stand at the beginning of the buffer.
     pub count: usize,
     /// Whether the body has ended.
     pub ended: bool,
 }
 
 impl Copied {
-    /// So many bytes were read, so many of the body stand in the buffer, and it has ended or not.
+    /// Of what was read: the bytes that were used, those of the body that stand in the buffer, and whether it has ended.
     pub fn new(used: usize, count: usize, ended: bool) -> Copied
         ensures { result ≡ record { used = used; count = count; ended = ended } }
     {

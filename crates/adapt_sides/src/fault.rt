@@ -9,7 +9,7 @@ use std::fmt::{self, Display};
 /// Why the service's side can't go on. After a fault each turn answers it again.
 #[derive(Clone, Copy, Debug, PartialEq, Eq)]
 pub enum ClientFault {
-    /// The head of a reply is none (RFC 3507, section 4.3).
+    /// The head of a reply isn't an ICAP head (RFC 3507, section 4.3).
     Head = 1,
     /// The list of encapsulated parts, or a part that it names, is broken (RFC 3507, section 4.4.1).
     Layout = 2,
@@ -63,7 +63,7 @@ impl Error for ClientFault {}
 /// Why a side that speaks HTTP can't go on. After a fault each turn answers it again.
 #[derive(Clone, Copy, Debug, PartialEq, Eq)]
 pub enum RelayFault {
-    /// The head is none, or one that isn't forwarded (RFC 9112, sections 2 to 6).
+    /// The head isn't one of HTTP, or isn't forwarded (RFC 9112, sections 2 to 6).
     Head = 1,
     /// A chunked body is broken (RFC 9112, section 7.1).
     Chunk = 2,

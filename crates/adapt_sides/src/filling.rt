@@ -1,4 +1,4 @@
-//! One read of a wire, behind the bytes that are kept.
+//! One read of a wire, after the bytes that are kept.
 
 ghost use Rattle.std.specs.Prelude.{◌+◌, ◌<◌, ◌≤◌, length};
 ghost use Rattle.adapt_bytes.specs.declared.limits.TheConstants.{MAX_HEAD};
@@ -27,7 +27,7 @@ pub enum Filled {
     NoMemory,
 }
 
-/// Reads once behind the raw bytes, which are never more than a head may have.
+/// Reads once, and appends to the raw bytes, which are never more than a head may have.
 pub fn fill<W: Wire>(raw: &mut BytesMut, wire: &mut W) -> Filled
     requires { length raw.old.items < MAX_HEAD }
     ensures filled { IsFilled (W.past wire.old) (W.past wire.new) raw.old.items raw.new.items result }

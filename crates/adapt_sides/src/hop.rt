@@ -39,7 +39,7 @@ pub trait Hop {
     // of the message with this head, and with a body of which these bytes came, these bytes were taken
     ghost has_given: { Seen → List ℕ → List ℕ → List ℕ → Self → Type 0 };
 
-    // no message is written here: these bytes are of a refusal, or none
+    // no message is written here: these bytes are of a refusal, or there are none
     ghost aside: { List ℕ → Self → Type 0 };
 
     // these bytes are the whole message with this head and this body
@@ -107,7 +107,7 @@ pub trait Hop {
             (W.past wire.old) (W.past wire.new) result }
         ensures reason { IsExplained (fault self.old) (FailsGiving ((gift self.new ≡ message) × breaks_length (seen state.now.plan state.now.events) (body_framing self.new))) result };
 
-    // the other sides' events leave it; what comes of the chosen message stands behind what came
+    // the other sides' events leave it; what comes of the chosen message stands after what came before
     ghost others: { (plan : Plan) (before : List Event) (event : Event) (head original adapted bytes more taken : List ℕ) (s : Self)
         → IsLegal plan (event ∷ before) → is_of_hop event ≡ false
         → length original ≡ (seen plan before).received → length adapted ≡ (seen plan before).adapted_received
@@ -115,7 +115,7 @@ pub trait Hop {
         → has_given (seen plan before) head (chosen (seen plan before) original adapted) taken s
         → has_given (seen plan (event ∷ before)) head (chosen (seen plan (event ∷ before)) (original ++ bytes) (adapted ++ more)) taken s };
 
-    // where nothing is written yet, nothing was taken, and every message may still come
+    // if nothing is written yet, nothing was taken, and every message may still come
     ghost idle_given: { (x : Seen) (head body taken : List ℕ) (s : Self) → gift s ≡ nothing → aside taken s
         → x.original_delivered ≡ 0 → x.adapted_delivered ≡ 0 → has_given x head body taken s };
 
@@ -137,7 +137,7 @@ pub trait Hop {
 
     ghost touched_aside: { (taken : List ℕ) (s : Self) → untouched s ≡ false → aside taken s → 0 < length taken };
 
-    // where nothing is due, no event of giving may follow
+    // if nothing is due, neither Usr nor Done may follow
     ghost rests_where: { (x : Seen) (head body taken : List ℕ) (s : Self) → has_given x head body taken s → gift s ≡ message → rests x s → x.closed ≡ false
         → (event : Event) → is_of_hop event ≡ true → Allows x event → ⊥ };
 }

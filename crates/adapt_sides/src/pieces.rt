@@ -1,4 +1,4 @@
-//! A range of a piece, and the front of a buffer.
+//! A range of a piece, and the beginning of a buffer.
 
 ghost use Rattle.std.specs.Prelude.{◌≡◌, ◌≤◌, ◌-◌, length, take, slice_range};
 
@@ -12,7 +12,7 @@ pub fn part_of(piece: &[u8], part: (usize, usize)) -> &[u8]
     &piece[part.0..part.1]
 }
 
-/// Copies the bytes to the front of the buffer.
+/// Copies the bytes to the beginning of the buffer.
 pub fn put_front(part: &[u8], out: &mut [u8])
     requires { length part.now ≤ length out.old }
     ensures { take (length part.now) out.new ≡ part.now }

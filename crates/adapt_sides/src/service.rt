@@ -39,16 +39,16 @@ pub trait Service {
     // nothing is due to be written
     ghost rests_writing: { Seen → Self → Type 0 };
 
-    // with so much room nothing is to be read
+    // with this much room nothing is to be read
     ghost rests_reading: { Seen → ℕ → Self → Type 0 };
 
     // why a read answers this fault first: by what is seen, by what was read, and by what is kept
     ghost has_reason: { Fault → Seen → Self → Type 0 };
 
-    // with so much room, none of the bytes that it keeps can be framed
+    // with this much room, none of the bytes that it keeps can be framed
     ghost is_framed: { ℕ → Self → Type 0 };
 
-    // its connection may carry another request behind this one
+    // its connection may carry another request after this one
     ghost reusable: { Self → Bool };
 
     /// The adapted message's head, once it was read.
@@ -59,7 +59,7 @@ pub trait Service {
     fn is_response(&self) -> bool
         ensures { result ≡ is_response self.now };
 
-    /// Whether its connection may carry another request behind this one.
+    /// Whether its connection may carry another request after this one.
     fn is_reusable(&self) -> bool
         ensures { result ≡ reusable self.now };
 
@@ -80,7 +80,7 @@ pub trait Service {
             (W.past wire.old) (W.past wire.new) result }
         ensures reason { IsExplained (fault self.old) (λ fault. fault ≡ Device) result };
 
-    /// Reads what the wire gives, adapted body bytes into the front of the buffer, as many as the sum of Ad.
+    /// Reads what the wire gives. Adapted body bytes go to the beginning of the buffer; the sum of Ad is their number.
     fn read_turn<W: Wire>(
         &mut self,
         state: &State,
@@ -99,7 +99,7 @@ pub trait Service {
             (W.past wire.old) (W.past wire.new) out.new result }
         ensures reason { IsExplained (fault self.old) (λ fault. has_reason fault (seen state.now.plan state.now.events) self.new) result };
 
-    /// Begins the same request anew, for a fresh connection, where a Retry may follow: all of its text is still kept.
+    /// Begins the request anew, for a fresh connection, if a Retry may follow: all of its text is still kept.
     fn again(&mut self)
         ensures sent { (x : Seen) (heads came taken adapted read : List ℕ) → x.closed ≡ false → Allows x Retry → length came ≡ x.received
             → has_sent heads x came taken self.old → has_heard x adapted read self.old → has_sent heads (after x Retry) came [] self.new }
@@ -107,7 +107,7 @@ pub trait Service {
             → has_sent heads x came taken self.old → has_heard x adapted read self.old → has_heard (after x Retry) [] [] self.new }
         ensures fault { fault self.new ≡ None };
 
-    // the other sides' events leave both; what comes from the source stands behind what came
+    // the other sides' events leave both; what comes from the source stands after what came before
     ghost others_sent: { (heads : List ℕ) (x : Seen) (event : Event) (came bytes taken : List ℕ) (s : Self) → is_of_sending event ≡ false → is_retry event ≡ false
         → length came ≡ x.received → length bytes ≡ in_bytes event
         → has_sent heads x came taken s → has_sent heads (after x event) (came ++ bytes) taken s };
@@ -119,11 +119,11 @@ pub trait Service {
     ghost unheard: { (x : Seen) (adapted read : List ℕ) (s : Self) → has_heard x adapted read s → x.heard ≡ false
         → (adapted ≡ []) × (read ≡ []) };
 
-    // where nothing is due to be written, no event of sending may follow
+    // if nothing is due to be written, no event of sending may follow
     ghost rests_writing_where: { (x : Seen) (s : Self) → rests_writing x s → x.closed ≡ false
         → (event : Event) → is_of_sending event ≡ true → Allows x event → ⊥ };
 
-    // nothing is to be read once the answer is whole, where there is no room, and in a preview before the 100
+    // nothing is to be read once the answer is whole, if there is no room, and in a preview before the 100
     ghost rests_reading_where: { (x : Seen) (adapted read : List ℕ) (room : ℕ) (s : Self) → has_heard x adapted read s → rests_reading x room s
         → ((x.no_mod ≡ true) ⊎ (x.adapted_over ≡ true)) ⊎ ((room ≡ 0) ⊎ ((is_preview x.plan.kind ≡ true) × (x.continued ≡ false))) };
 }

@@ -29,7 +29,7 @@ pub trait Source {
     // these body bytes came, and this the wire gave since the message began on it
     ghost has_read: { Seen → List ℕ → Given → Self → Type 0 };
 
-    // the framing tells the body's end, and it was read
+    // the framing gives the body's end, and it was read
     ghost is_over: { Self → Type 0 };
 
     // its numbers are those of what is seen: the bytes that came, the end, and a known length
@@ -38,16 +38,16 @@ pub trait Source {
     // a message of this plan may begin here
     ghost may_begin: { Planned → Self → Type 0 };
 
-    // with so much room there is nothing to read
+    // with this much room there is nothing to read
     ghost rests: { ℕ → Self → Type 0 };
 
     // why this fault is answered first: by what was read, and by what is kept
     ghost has_reason: { Fault → Self → Type 0 };
 
-    // with so much room, none of the bytes that it keeps can be framed
+    // with this much room, none of the bytes that it keeps can be framed
     ghost is_framed: { ℕ → Self → Type 0 };
 
-    /// Whether a message of this plan may begin here: its head was read, nothing behind it was framed yet, and a length that the
+    /// Whether a message of this plan may begin here: its head was read, nothing after it was framed yet, and a length that the
     /// plan knows is its own.
     fn begins(&self, plan: &Plan) -> bool
         ensures may { result ≡ true ↔ may_begin plan.now self.now }
@@ -58,8 +58,8 @@ pub trait Source {
         ensures yes { result ≡ true → agrees (seen state.now.plan state.now.events) self.now }
         ensures no { result ≡ false → agrees (seen state.now.plan state.now.events) self.now → ⊥ };
 
-    /// Reads what the wire gives into the front of the buffer, as many body bytes as the sum of In. With an empty buffer it
-    /// asks no wire, and still answers an End that is due. A body whose framing tells no end has ended where the wire has.
+    /// Reads what the wire gives. The body bytes go to the beginning of the buffer; the sum of In is their number. With an empty
+    /// buffer it asks no wire, and still answers an End that is due. A body whose framing gives no end has ended once the wire has.
     fn read_turn<W: Wire>(&mut self, wire: &mut W, out: &mut [u8]) -> Result<Turn, RelayFault>
         ensures keeps { length out.new ≡ length out.old }
         ensures head { head self.new ≡ head self.old }
@@ -74,7 +74,7 @@ pub trait Source {
 
     ghost others_agree: { (x : Seen) (event : Event) (s : Self) → is_of_source event ≡ false → agrees x s → agrees (after x event) s };
 
-    // it rests where the body has ended, or where there is no room
+    // it rests once the body has ended, or if there is no room
     ghost rests_where: { (x : Seen) (body : List ℕ) (read : Given) (room : ℕ) (s : Self) → has_read x body read s → rests room s
         → (x.ended ≡ true) ⊎ (room ≡ 0) };
 
