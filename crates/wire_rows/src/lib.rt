@@ -1,8 +1,8 @@
-//! Rows with wires: what each wire gives and takes, by letters that go through many values, and what the runs of a row tell.
+//! Rows with wires: what each wire gives and takes, by letters that go through many values, and what the runs of a row report.
 //!
 //! The letters `n`, `m` and `s` stand for numbers and `e` for an answer of a wire. A row lists their values (`n: 0-129`,
-//! `e: ended fault`), and is run once for each choice of them. `n` is a place: runs at places in a row that tell the same are
-//! told once. All choices of the other letters have to tell the same.
+//! `e: ended fault`), and is run once for each choice of them. `n` is a place: runs at places in a row with equal reports are
+//! reported once. All choices of the other letters have to give equal reports.
 //!
 //! What a row doesn't say its table's head may say. A text that is `@NAME` is that of another key.
 #![tactic(auto)]

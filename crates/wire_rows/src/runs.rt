@@ -6,22 +6,22 @@ use test_rows::{NoMemory, put_decimal};
 
 /// What plays a row.
 pub trait Player {
-    /// Adds what a run of a row tells.
+    /// Adds what a run of a row reports.
     fn put_run(&self, scene: Scene<'_>, values: Values, out: &mut Vec<u8>) -> Result<(), NoMemory>;
 }
 
-/// What was told up to a place.
+/// What was reported up to a place.
 #[derive(Drop)]
 struct Told {
     all: Vec<u8>,
-    /// What the places from `first` to `last` tell.
+    /// What the places from `first` to `last` report.
     lines: Vec<u8>,
     first: usize,
     last: usize,
 }
 
 impl Told {
-    /// Adds the places that tell the same.
+    /// Adds the places with equal reports.
     fn close(&mut self) -> Result<(), NoMemory> {
         if self.lines.is_empty() {
             return Ok(());
@@ -36,7 +36,7 @@ impl Told {
         self.all.extend_from_slice(&self.lines)
     }
 
-    /// Takes what the next place tells.
+    /// Takes what the next place reports.
     fn take(&mut self, place: usize, lines: &[u8]) -> Result<(), NoMemory> {
         if self.lines.as_slice() != lines {
             self.close()?;
@@ -49,7 +49,7 @@ impl Told {
     }
 }
 
-/// What all places tell for a choice of the other letters.
+/// What all places report for a choice of the other letters.
 fn tell<P: Player>(
     alloc: Global,
     player: &P,
@@ -77,7 +77,7 @@ fn tell<P: Player>(
     Ok(told.all)
 }
 
-/// Adds what the runs of a row tell: once, where all choices tell the same.
+/// Adds what the runs of a row report: once, if all choices give equal reports.
 pub fn put_runs<P: Player>(
     alloc: Global,
     player: &P,

@@ -1,4 +1,4 @@
-//! Lines of what a run tells.
+//! Lines of what a run reports.
 use crate::scene::Scene;
 use crate::values::Values;
 use test_rows::{NoMemory, put_decimal, put_escaped};
@@ -16,14 +16,14 @@ pub fn put_flag(out: &mut Vec<u8>, name: &[u8], flag: bool) -> Result<(), NoMemo
     put_word(out, name, if flag { b"yes".as_slice() } else { b"no" })
 }
 
-/// How bytes are told by a text of the row.
+/// How bytes are named by a text of the row.
 #[derive(Clone, Copy)]
 enum Part<'a> {
     /// All of the text of this name.
     All(&'a [u8]),
     /// Its first n bytes.
     UpToN(&'a [u8]),
-    /// So many of its first bytes.
+    /// This many of its first bytes.
     First(&'a [u8], usize),
     /// All of it, and then these bytes.
     And(&'a [u8], &'a [u8]),
@@ -31,7 +31,7 @@ enum Part<'a> {
     Bytes(&'a [u8]),
 }
 
-/// How bytes are told by the texts that the row names: by the first that begins with them, or else by the first that they begin
+/// How bytes are named by the texts that the row lists: by the first that begins with them, or else by the first that they begin
 /// with.
 fn part_of<'a>(scene: Scene<'a>, bytes: &'a [u8], place: Option<usize>) -> Part<'a> {
     let names = scene.get(b"texts");
@@ -59,7 +59,7 @@ fn part_of<'a>(scene: Scene<'a>, bytes: &'a [u8], place: Option<usize>) -> Part<
     Part::Bytes(bytes)
 }
 
-/// Adds how bytes are told.
+/// Adds how bytes are named.
 fn put_part(out: &mut Vec<u8>, part: Part<'_>) -> Result<(), NoMemory> {
     match part {
         Part::All(name) => out.extend_from_slice(name),
@@ -82,8 +82,8 @@ fn put_part(out: &mut Vec<u8>, part: Part<'_>) -> Result<(), NoMemory> {
     }
 }
 
-/// Adds a line of a name and of bytes. Where the row names texts (`texts: a b`), they are told by these; where it says `cut:` and
-/// the name, a prefix of n bytes is told as such. No bytes are told as `nothing`, or as `first n` where n is 0.
+/// Adds a line of a name and of bytes. If the row lists texts (`texts: a b`), the bytes are named by these; if it says `cut:` and
+/// the name, a prefix of n bytes is named as such. No bytes are named `nothing`, or `first n` if n is 0.
 pub fn put_text<'a>(
     out: &mut Vec<u8>,
     scene: Scene<'a>,

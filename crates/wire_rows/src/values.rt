@@ -62,7 +62,7 @@ fn width(word: &[u8]) -> usize {
     last.saturating_sub(first).saturating_add(1)
 }
 
-/// How many values the words list; one where there is none.
+/// How many values the words list; one if there are no words.
 fn count(words: &[u8]) -> usize {
     let mut count: usize = 0;
     for word in words.split(|byte| *byte == b' ') {

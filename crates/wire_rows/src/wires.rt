@@ -10,11 +10,11 @@ use wire_kit::{Answer, MemoryWire, ReadAnswer, WriteAnswer};
 /// What a word lists.
 #[derive(Clone, Copy)]
 enum Listed {
-    /// An answer so many times.
+    /// An answer, this many times.
     Times(Answer, usize),
-    /// So many bytes in pieces of this size.
+    /// This many bytes in pieces of this size.
     Pieces(usize, usize),
-    /// So many answers by a seed.
+    /// This many answers by a seed.
     Random(u64, usize),
 }
 
@@ -29,8 +29,8 @@ fn one(word: &[u8], values: Values) -> Answer {
     }
 }
 
-/// What a word lists: one answer, one so many times (`wait*3`), so many bytes in pieces of a size (`129/7`), or so many answers by
-/// the seed n (`random*60`).
+/// What a word lists: one answer, one several times (`wait*3`), bytes in pieces of a size (`129/7`), or answers by the seed n
+/// (`random*60`).
 fn read_listed(word: &[u8], values: Values) -> Listed {
     if let Some((what, times)) = parts(word, b'*') {
         let times = number(times, values).unwrap_or(0);
@@ -47,7 +47,7 @@ fn read_listed(word: &[u8], values: Values) -> Listed {
     Listed::Times(one(word, values), 1)
 }
 
-/// Adds an answer so many times.
+/// Adds an answer, `times` times.
 fn put_times(list: &mut Vec<Answer>, answer: Answer, times: usize) -> Result<(), NoMemory> {
     for _ in 0..times {
         list.push(answer)?;
