@@ -250,6 +250,13 @@ impl SourceSide {
         self.fault = None;
     }
 
+    /// Whether requests come, and no responses.
+    pub fn reads_requests(&self) -> bool
+        ensures { IsTrue result ↔ self.now.asks ≡ Asks.Request }
+    {
+        matches!(self.asks, Asks::Request)
+    }
+
     /// The request's head, once it was read.
     pub fn request_head(&self) -> Option<&HttpRequest>
         ensures { option_copied result ≡ request_of self.now.head }

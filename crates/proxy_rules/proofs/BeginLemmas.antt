@@ -4,6 +4,7 @@ use Rattle.trace_core.specs.declared.history.Plan.{Plan}
 use Rattle.trace_core.specs.declared.history.Point.{Point}
 use Rattle.trace_core.specs.History.{seen, is_preview}
 use Rattle.chunk_writer.specs.Writer.{Writer, fresh}
+use Rattle.icap_client.specs.Heard.{Reader}
 use Rattle.icap_client.specs.Laws.{first_reader}
 use Rattle.icap_client.specs.Sending.{HasSent}
 use Rattle.icap_client.specs.Turns.{Service, ServiceSent, ServiceHeard}
@@ -13,15 +14,9 @@ use Rattle.adapt_turn.specs.declared.start.Line.{Line}
 use Rattle.adapt_turn.specs.Parts.{fault_of}
 use Rattle.proxy_rules.specs.Offers.{IsUnused}
 
-pub unused : (s : Service) (text : List ℕ) (point : Point) → s.writer ≡ fresh text → s.replies.reader ≡ first_reader point → s.replies.raw ≡ []
-    → (s.last_stop ≡ false) × (s.answered ≡ false) → s.replies.fault ≡ None → IsUnused text s
-unused s text point w r raw m f = record {
-  writer = w;
-  reader = r ∙ ap first_reader (sym (ap (λ q. q.point) r));
-  raw = raw;
-  marks = m;
-  fault = f;
-}
+-- a reader that was just made is one of its own point
+pub fresh_reader : (point : Point) (r : Reader) → r ≡ first_reader point → r ≡ first_reader r.point
+fresh_reader point r e = e ∙ ap first_reader (sym (ap (λ (q : Reader). q.point) e))
 
 and_false : (b : Bool) → (b && false) ≡ false
 and_false true = refl

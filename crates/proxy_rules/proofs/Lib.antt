@@ -4,3 +4,5 @@ pub mod HeadLemmas
 pub mod CloseLemmas
 pub mod BeginLemmas
 pub mod WireLemmas
+pub mod ArrivalLemmas
+pub mod OfferLemmas

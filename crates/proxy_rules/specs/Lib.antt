@@ -5,6 +5,8 @@ pub mod Plans
 pub mod Users
 pub mod Onward
 pub mod Offers
+pub mod Arrivals
+pub mod Beginnings
 pub mod Connections
 pub mod Pools
 pub mod Heads

@@ -1,7 +1,8 @@
 -- What a service is asked: the text of a request to it (RFC 3507, sections 4.4, 4.8 and 4.9).
-use Rattle.std.specs.Prelude.{◌≡◌, ℕ, true, false, List, [], None, string_bytes}
+use Rattle.std.specs.Prelude.{◌≡◌, ℕ, Bool, true, false, ◌&&◌, List, [], Option, Some, None, MatchOption, ⊤, string_bytes}
 use Rattle.std.specs.Net.Socket.{v4_port}
 use Rattle.trace_core.specs.declared.history.Plan.{Plan}
+use Rattle.trace_core.specs.History.{is_plain, is_preview, is_null}
 use Rattle.http_side.specs.Heads.{RequestParts, ResponseParts}
 use Rattle.http_side.specs.Targets.{authority_of}
 use Rattle.http_side.specs.Forward.{request_text, response_text, no_extra}
@@ -9,6 +10,7 @@ use Rattle.chunk_writer.specs.Writer.{fresh}
 use Rattle.icap_client.specs.Laws.{first_reader}
 use Rattle.icap_client.specs.RequestHead.{request_head}
 use Rattle.icap_client.specs.Turns.{Service}
+use Rattle.options_book.specs.Options.{Options}
 use Rattle.proxy_config.specs.declared.point.ServicePoint.{ServicePoint}
 
 -- the heads as a service gets them: the user's own request in absolute form, and the response
@@ -29,3 +31,44 @@ pub record IsUnused (request : List ℕ) (s : Service) : Type 0 where
   pub raw : s.replies.raw ≡ []
   pub marks : (s.last_stop ≡ false) × (s.answered ≡ false)
   pub fault : s.replies.fault ≡ None
+
+-- a preview of a body that is known to be empty
+abbrev pub previews_nothing : Plan → Bool
+previews_nothing plan = is_preview plan.kind && is_null plan.len
+
+-- the side offers a message of just this plan: its request has the text of that, for a service at some host, port and path, and with
+-- some encapsulated heads
+pub record IsOfPlan (plan : Plan) (s : Service) : Type 0 where
+  pub host : List ℕ
+  pub port : ℕ
+  pub path : List ℕ
+  pub req : List ℕ
+  pub res : List ℕ
+  pub unused : IsUnused (request_head plan host port path req res) s
+  pub point : s.replies.reader.point ≡ plan.point
+  pub offered : is_plain plan.kind ≡ false
+  pub some : previews_nothing plan ≡ false
+
+-- without a side the plan is Plain; else the side is of the plan
+abbrev pub Binds : Plan → Option Service → Type 0
+Binds plan side = MatchOption side (is_plain plan.kind ≡ true) (IsOfPlan plan)
+
+-- a plan, and the side that offers the message
+pub record Offered : Type 0 where
+  pub plan : Plan
+  pub side : Option Service
+
+-- the text of its request up to its chunks; nothing where it isn't offered
+abbrev pub text_of : Option Service → List ℕ
+text_of None = []
+text_of (Some side) = side.writer.head
+
+-- what a service's record says, where there is a service
+abbrev pub options_for : Option ServicePoint → Option Options → Option Options
+options_for None options = None
+options_for (Some service) options = options
+
+-- where it is offered, the service gets the text of the plan with these heads
+abbrev pub AsksFor : Option ServicePoint → (req res : List ℕ) → Offered → Type 0
+AsksFor None req res offer = offer.side ≡ None
+AsksFor (Some service) req res offer = MatchOption offer.side ⊤ (IsUnused (offered_text service offer.plan req res))

@@ -1,35 +1,35 @@
 //! The beginning of a transaction of the proxy's own sides.
 
-ghost use Rattle.std.specs.Prelude.{◌≡◌, ◌≤◌, ◌↔◌, List, ℕ, [], false, IsOk, IfOk, IfErr, IfSome};
+ghost use Rattle.std.specs.Prelude.{◌≡◌, ◌≤◌, ◌↔◌, List, ℕ, [], true, false, is_some, IsOk, IfOk, IfErr};
 ghost use Rattle.adapt_bytes.specs.declared.limits.TheConstants.{MAX_CAPACITY};
 ghost use Rattle.plan_rules.specs.Claims.{claim_of};
-ghost use Rattle.http_relay.specs.Reading.{Begins};
 ghost use Rattle.adapt_turn.specs.Stands.{no_texts};
-ghost use Rattle.proxy_rules.specs.Offers.{IsUnused};
+ghost use Rattle.proxy_rules.specs.Offers.{text_of};
+ghost use Rattle.proxy_rules.specs.Beginnings.{MayBegin, line_with};
 
 use crate::head_maker::HeadMaker;
-use adapt_sides::Source;
+use crate::incoming::Incoming;
+use crate::offer::Offer;
 use adapt_turn::{Answering, Line, Standing, Start, Tx};
 use http_relay::{NextHop, SourceSide};
 use icap_client::ServiceSide;
-use plan_rules::{Limits, Plan};
+use plan_rules::Limits;
 use span_bank::{Ledgers, Stake};
 use std::alloc::Global;
 use wire_kit::Wire;
 
 /// What a transaction of the proxy's own sides begins with.
 pub struct Beginning<B: Ledgers, A, W, C> {
-    pub plan: Plan,
+    pub offer: Offer,
     pub limits: Limits,
     /// A reservation of just the plan's claim, of which nothing is held.
     pub stake: Stake<B>,
-    /// The message's source, whose head was read.
-    pub source: SourceSide,
+    /// The message, whose head was read.
+    pub message: Incoming,
     pub source_wire: A,
-    /// None where the message isn't offered.
-    pub service: Option<Line<ServiceSide, W>>,
+    /// The service's connection, where the message is offered.
+    pub service_wire: Option<W>,
     pub next_wire: C,
-    pub heads: HeadMaker,
     /// How many seconds may pass without a moved byte.
     pub deadline: u64,
     /// The moment, in seconds.
@@ -38,54 +38,78 @@ pub struct Beginning<B: Ledgers, A, W, C> {
     pub reused: bool,
 }
 
-/// Begins a transaction. Where its source's head was read in a turn, and its service's side was made by an offer, what stands
-/// between a transaction and its wires stands from the beginning, with the offer's request: of the source's wire the bytes were
-/// read that the head was found in, and nothing else went over a wire.
+/// Whether a transaction may begin: the offer is of a message of this kind, which may begin at its source by that plan, and a
+/// connection to the service is there exactly where the message is offered.
+fn may_begin(message: &Incoming, offer: &Offer, is_connected: bool) -> bool
+    ensures { result ≡ true ↔ MayBegin message.now offer.now is_connected }
+{
+    message.point() == offer.plan().point
+        && offer.is_offered() == is_connected
+        && message.begins(offer.plan())
+}
+
+/// The service's side over its connection, where there is one.
+fn line_of<W>(side: Option<ServiceSide>, wire: Option<W>) -> Option<Line<ServiceSide, W>>
+    requires { is_some side ≡ is_some wire }
+    ensures { result ≡ line_with side wire }
+{
+    match (side, wire) {
+        (Some(side), Some(wire)) => Some(Line {
+            side,
+            wire: Some(wire),
+        }),
+        (None, None) => None,
+        _ => unreachable!(),
+    }
+}
+
+/// Begins a transaction. What stands between a transaction and its wires stands from the beginning, with the offer's request: of the
+/// source's wire the bytes were read that the head was found in, and nothing else went over a wire. No side has a fault.
 ///
-/// Everything comes back where the source isn't at the beginning of a body of this plan.
+/// Everything comes back where the offer is of another kind of message, or of one of another length than the source's head says;
+/// where no head was read; and where a connection to the service is missing, or there is one though the message isn't offered.
 pub fn begin<B: Ledgers, A: Wire, W: Wire, C: Wire>(
     alloc: Global,
     beginning: Beginning<B, A, W, C>,
-) -> Result<
-    Tx<B, SourceSide, ServiceSide, NextHop, HeadMaker, A, W, C>,
-    Start<B, SourceSide, ServiceSide, NextHop, HeadMaker, A, W, C>,
->
+) -> Result<Tx<B, SourceSide, ServiceSide, NextHop, HeadMaker, A, W, C>, Beginning<B, A, W, C>>
     requires empty { (beginning.stake.held ≡ 0) × (beginning.stake.pages ≡ 0) }
-    requires claim { beginning.stake.claim ≡ claim_of beginning.plan beginning.limits.window }
+    requires claim { beginning.stake.claim ≡ claim_of beginning.offer.plan beginning.limits.window }
     requires small { beginning.stake.claim ≤ MAX_CAPACITY }
-    ensures accepts { IsOk result ↔ ⟦<SourceSide as Source>⟧.may_begin beginning.plan beginning.source }
-    ensures begun { IfOk result (λ tx. tx.hold.history ≡ record { plan = beginning.plan; events = [] }) }
+    ensures accepts { IsOk result ↔ MayBegin beginning.message beginning.offer (is_some beginning.service_wire) }
+    ensures begun { IfOk result (λ tx. tx.hold.history ≡ record { plan = beginning.offer.plan; events = [] }) }
     ensures clock { IfOk result (λ tx. (tx.last_moved ≡ beginning.now) × (tx.deadline ≡ beginning.deadline)) }
-    ensures stands { IfOk result (λ tx. (read request : List ℕ) → Begins read beginning.source → IfSome beginning.service (λ line. IsUnused request line.side)
-        → ⟦<Tx<B, SourceSide, ServiceSide, NextHop, HeadMaker, A, W, C> as Standing>⟧.stands tx request (record no_texts { source_read = record { bytes = read; ended = false } })) }
-    ensures faultless { IfOk result (λ tx. (request : List ℕ) → IfSome beginning.service (λ line. IsUnused request line.side)
-        → ⟦<Tx<B, SourceSide, ServiceSide, NextHop, HeadMaker, A, W, C> as Answering>⟧.faultless tx) }
+    ensures stands { IfOk result (λ tx. (read : List ℕ) × ⟦<Tx<B, SourceSide, ServiceSide, NextHop, HeadMaker, A, W, C> as Standing>⟧.stands tx (text_of beginning.offer.side) (record no_texts { source_read = record { bytes = read; ended = false } })) }
+    ensures faultless { IfOk result (λ tx. ⟦<Tx<B, SourceSide, ServiceSide, NextHop, HeadMaker, A, W, C> as Answering>⟧.faultless tx) }
     ensures line { IfOk result (λ tx. (tx.broken ≡ false) × (tx.reused ≡ beginning.reused)) }
-    ensures fields { IfOk result (λ tx. (tx.source ≡ beginning.source) × (tx.source_wire ≡ beginning.source_wire) × (tx.service ≡ beginning.service) × (tx.next_wire ≡ beginning.next_wire)
-        × (tx.forward ≡ beginning.heads)) }
-    ensures back { IfErr result (λ back. (back.stake ≡ beginning.stake) × (back.source ≡ beginning.source) × (back.source_wire ≡ beginning.source_wire) × (back.service ≡ beginning.service)
-        × (back.next_wire ≡ beginning.next_wire) × (back.forward ≡ beginning.heads)) }
+    ensures sides { IfOk result (λ tx. (tx.source ≡ beginning.message.side) × (tx.forward.user ≡ beginning.message.user) × (tx.service ≡ line_with beginning.offer.side beginning.service_wire)) }
+    ensures wires { IfOk result (λ tx. (tx.source_wire ≡ beginning.source_wire) × (tx.next_wire ≡ beginning.next_wire)) }
+    ensures back { IfErr result (λ back. back ≡ beginning) }
 {
+    let is_connected = beginning.service_wire.is_some();
+    if !may_begin(&beginning.message, &beginning.offer, is_connected) {
+        return Err(beginning);
+    }
     let Beginning {
-        plan,
+        offer,
         limits,
         stake,
-        source,
+        message,
         source_wire,
-        service,
+        service_wire,
         next_wire,
-        heads,
         deadline,
         now,
         reused,
     } = beginning;
+    let (plan, side) = offer.into_plan();
+    let (source, heads) = message.into_sides();
     let start = Start {
         plan,
         limits,
         stake,
         source,
         source_wire,
-        service,
+        service: line_of(side, service_wire),
         next: NextHop::new(alloc),
         next_wire,
         back: NextHop::new(alloc),
@@ -96,6 +120,6 @@ pub fn begin<B: Ledgers, A: Wire, W: Wire, C: Wire>(
     };
     match Tx::new(alloc, start) {
         Ok(tx) => Ok(tx),
-        Err(start) => Err(start),
+        Err(_) => unreachable!(),
     }
 }

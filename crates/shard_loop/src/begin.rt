@@ -3,12 +3,8 @@
 use crate::desk::Desk;
 use crate::phase::{Ends, Line, Step};
 use crate::seats::At;
-use icap_client::ServiceSide;
-use plan_rules::{Plan, claim};
-use proxy_rules::{
-    Reason, awaits_continue, offer_request, offer_response, open_reason, request_plan,
-    response_plan,
-};
+use plan_rules::claim;
+use proxy_rules::{Offer, Reason, awaits_continue, open_reason};
 use socket_wire::Dial;
 use span_bank::Ledgers;
 use std::alloc::{AllocError, Global};
@@ -22,79 +18,57 @@ use wire_kit::Gate;
 
 /// A message on its way into a transaction.
 #[derive(Drop)]
-pub struct Message {
-    pub plan: Plan,
-    pub side: Option<Box<ServiceSide>>,
+pub struct Planned {
+    pub offer: Box<Offer>,
     /// Where a request goes.
     pub address: Option<SocketAddrV4>,
     /// Whether the user waits to be told to send its body.
     pub waits: bool,
 }
 
-/// A side that was made, on the heap.
-fn placed(
-    alloc: Global,
-    side: Result<ServiceSide, AllocError>,
-) -> Result<Box<ServiceSide>, Reason> {
-    let Ok(side) = side else {
+/// An offer that was made, on the heap.
+fn placed(alloc: Global, offer: Result<Offer, AllocError>) -> Result<Box<Offer>, Reason> {
+    let Ok(offer) = offer else {
         return Err(Reason::NoMemory);
     };
-    match Box::new(alloc, side) {
-        Ok(side) => Ok(side),
+    match Box::new(alloc, offer) {
+        Ok(offer) => Ok(offer),
         Err(_) => Err(Reason::NoMemory),
     }
 }
 
 impl<'a, B: Ledgers, Q: Ledger, A: Ledger, G: Gate> Desk<'a, B, Q, A, G> {
-    /// The plan of a request, what its service is sent, and where it goes.
-    fn plan_request(&self, ends: &Ends) -> Result<Message, Reason> {
-        let Some(user) = ends.request.request_head() else {
+    /// What the service of a request is offered, and where the request goes.
+    fn plan_request(&self, ends: &Ends) -> Result<Planned, Reason> {
+        let Some(user) = ends.message.user_head() else {
             return Err(Reason::NoOrigin);
         };
         let Some(address) = self.origin_of(ends) else {
             return Err(Reason::UnknownHost);
         };
+        let service = self.service(Point::Reqmod);
         let record = self.book(Point::Reqmod).record();
-        let plan = request_plan(record, &self.limits, user);
-        let side = match self.service(Point::Reqmod) {
-            Some(service) if !plan.kind.is_plain() => {
-                Some(placed(self.alloc, offer_request(self.alloc, service, &plan, user))?)
-            }
-            _ => None,
-        };
-        Ok(Message {
-            plan,
-            side,
+        let offer = Offer::of_request(self.alloc, service, record, &self.limits, user);
+        Ok(Planned {
+            offer: placed(self.alloc, offer)?,
             address: Some(address),
             waits: !ends.told && awaits_continue(user),
         })
     }
 
-    /// The plan of a response, and what its service is sent.
-    fn plan_response(&self, ends: &Ends) -> Result<Message, Reason> {
-        let Some(user) = ends.request.request_head() else {
+    /// What the service of a response is offered.
+    fn plan_response(&self, ends: &Ends) -> Result<Planned, Reason> {
+        let Some(user) = ends.message.user_head() else {
             return Err(Reason::NoOrigin);
         };
-        let Some(origin) = &ends.origin else {
+        let Some(response) = ends.message.response_head() else {
             return Err(Reason::NoOrigin);
         };
-        let Some(response) = origin.side.response_head() else {
-            return Err(Reason::NoOrigin);
-        };
+        let service = self.service(Point::Respmod);
         let record = self.book(Point::Respmod).record();
-        let plan = response_plan(record, &self.limits, user, response);
-        let side = match self.service(Point::Respmod) {
-            Some(service) if !plan.kind.is_plain() => {
-                Some(placed(
-                    self.alloc,
-                    offer_response(self.alloc, service, &plan, user, response),
-                )?)
-            }
-            _ => None,
-        };
-        Ok(Message {
-            plan,
-            side,
+        let offer = Offer::of_response(self.alloc, service, record, &self.limits, user, response);
+        Ok(Planned {
+            offer: placed(self.alloc, offer)?,
             address: None,
             waits: false,
         })
@@ -123,7 +97,7 @@ impl<'a, B: Ledgers, Q: Ledger, A: Ledger, G: Gate> Desk<'a, B, Q, A, G> {
             Point::Respmod => self.plan_response(&ends),
         };
         match planned {
-            Ok(message) => self.lease_for(rt, at, ends, message, line),
+            Ok(planned) => self.lease_for(rt, at, ends, planned, line),
             Err(reason) => {
                 self.spare(rt, at, line);
                 self.refuse_user(at, ends, reason)
@@ -137,15 +111,15 @@ impl<'a, B: Ledgers, Q: Ledger, A: Ledger, G: Gate> Desk<'a, B, Q, A, G> {
         rt: &R,
         at: At<'_>,
         ends: Box<Ends>,
-        message: Message,
+        planned: Planned,
         line: Option<Line<Q, A>>,
     ) -> Step<B, Q, A> {
-        let point = message.plan.point;
+        let point = planned.offer.plan().point;
         let service = match self.service(point) {
-            Some(service) if message.side.is_some() => service,
+            Some(service) if planned.offer.is_offered() => service,
             _ => {
                 self.spare(rt, at, line);
-                return self.reserve(rt, at, ends, message, None);
+                return self.reserve(rt, at, ends, planned, None);
             }
         };
         let found = match line {
@@ -153,7 +127,7 @@ impl<'a, B: Ledgers, Q: Ledger, A: Ledger, G: Gate> Desk<'a, B, Q, A, G> {
             None => self.lend(rt, at, point, service.address),
         };
         match found {
-            Ok(line) => self.reserve(rt, at, ends, message, Some(line)),
+            Ok(line) => self.reserve(rt, at, ends, planned, Some(line)),
             Err(reason) => self.refuse_user(at, ends, reason),
         }
     }
@@ -164,16 +138,16 @@ impl<'a, B: Ledgers, Q: Ledger, A: Ledger, G: Gate> Desk<'a, B, Q, A, G> {
         rt: &R,
         at: At<'_>,
         ends: Box<Ends>,
-        message: Message,
+        planned: Planned,
         line: Option<Line<Q, A>>,
     ) -> Step<B, Q, A> {
-        let bytes = claim(&message.plan, &self.limits);
+        let bytes = claim(planned.offer.plan(), &self.limits);
         if bytes == 0 {
             self.spare(rt, at, line);
             return Step::Over;
         }
         match self.shared.bank.open(rt, bytes) {
-            Ok(stake) => self.start(rt, at, ends, message, line, stake),
+            Ok(stake) => self.start(rt, at, ends, planned, line, stake),
             Err(fault) => {
                 self.spare(rt, at, line);
                 self.refuse_user(at, ends, open_reason(fault))

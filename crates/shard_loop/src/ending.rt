@@ -2,13 +2,13 @@
 
 use crate::desk::Desk;
 use crate::halting::{parts_of, wire_of};
-use crate::phase::{Ends, Moving, Origin, Phase, Step};
+use crate::phase::{Ends, Moving, Phase, Step};
 use crate::pools::Leased;
 use crate::seats::{At, Stay};
 use adapt_turn::{Line as ServiceLine, Outcome, Parts};
 use http_relay::{NextHop, SourceSide};
 use icap_client::ServiceSide;
-use proxy_rules::{HeadMaker, Reason, is_head, keeps_user};
+use proxy_rules::{HeadMaker, Incoming, Reason, keeps_user};
 use socket_wire::SocketWire;
 use span_bank::{Ledgers, Pages};
 use std::alloc::AllocFailed;
@@ -96,15 +96,10 @@ impl<'a, B: Ledgers, Q: Ledger, A: Ledger, G: Gate> Desk<'a, B, Q, A, G> {
         if self.stopping {
             return self.refuse(at, user, Reason::Stopping);
         }
-        let to_head = match request.request_head() {
-            Some(head) => is_head(head),
-            None => false,
-        };
-        let side = SourceSide::response(self.alloc, to_head);
         let ends = Ends {
             user,
-            request,
-            origin: Some(Origin { wire, side }),
+            message: Incoming::response(self.alloc, request),
+            origin: Some(wire),
             told: false,
         };
         match Box::new(self.alloc, ends) {
@@ -115,13 +110,12 @@ impl<'a, B: Ledgers, Q: Ledger, A: Ledger, G: Gate> Desk<'a, B, Q, A, G> {
 
     /// The user's next request comes on the same connection.
     fn next_request(&mut self, at: At<'_>, request: SourceSide, user: SocketWire) -> Step<B, Q, A> {
-        if self.stopping || !request.ended() {
-            return self.close(at, user);
-        }
-        let mut request = request;
-        request.next();
+        let message = match Incoming::next(request) {
+            Some(message) if !self.stopping => message,
+            _ => return self.close(at, user),
+        };
         self.seats.begin_stay(at.key, Stay::Idle);
-        match Box::new(self.alloc, Ends::of_user(user, request)) {
+        match Box::new(self.alloc, Ends::of_user(user, message)) {
             Ok(ends) => Step::On(Phase::Head(ends)),
             Err(AllocFailed { value }) => self.close(at, value.into_user()),
         }

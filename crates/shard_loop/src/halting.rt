@@ -7,8 +7,8 @@ use crate::phase::{Moving, Phase, Step};
 use crate::pools::Leased;
 use crate::seats::At;
 use adapt_sides::{Hop, Service, Source};
-use adapt_turn::{Forward, Line as ServiceLine, Parts, Start, Tx};
-use proxy_rules::Reason;
+use adapt_turn::{Forward, Line as ServiceLine, Parts, Tx};
+use proxy_rules::{Beginning, Reason};
 use socket_wire::SocketWire;
 use span_bank::{Bank, Ledgers, Pages, Stake};
 use std::boxed::Box;
@@ -83,27 +83,21 @@ pub fn wire_of<V: Drop, W>(service: Option<ServiceLine<V, W>>) -> Option<W> {
 }
 
 /// The reservation of a transaction that didn't begin. All its connections are closed.
-pub fn unused<B: Ledgers, S: Drop, V: Drop, K: Drop, F: Drop, X: Drop>(
-    start: Start<B, S, V, K, F, X, X, X>,
-) -> Stake<B>
-    ensures { result ≡ start.stake }
+pub fn unused<B: Ledgers, X: Drop>(beginning: Beginning<B, X, X, X>) -> Stake<B>
+    ensures { result ≡ beginning.stake }
 {
-    let Start {
-        plan: _,
+    let Beginning {
+        offer: _,
         limits: _,
         stake,
-        source: _,
+        message: _,
         source_wire: _,
-        service,
-        next: _,
+        service_wire: _,
         next_wire: _,
-        back: _,
-        forward: _,
         deadline: _,
         now: _,
         reused: _,
-    } = start;
-    drop(wire_of(service));
+    } = beginning;
     stake
 }
 

@@ -1,11 +1,11 @@
 //! What a user's connection is in the midst of.
 
 use crate::pools::Leased;
-use adapt_turn::{Start, Tx};
+use adapt_turn::Tx;
 use http_relay::{NextHop, RelayFault, SourceSide};
 use http_side::own_refusal;
 use icap_client::{OptionsSide, ServiceSide};
-use proxy_rules::HeadMaker;
+use proxy_rules::{Beginning, HeadMaker, Incoming};
 use socket_wire::SocketWire;
 use span_bank::Ledgers;
 use std::boxed::Box;
@@ -26,16 +26,7 @@ pub type Moving<B> = Tx<
 >;
 
 /// What a transaction over sockets begins with.
-pub type Starting<B> = Start<
-    B,
-    SourceSide,
-    ServiceSide,
-    NextHop,
-    HeadMaker,
-    SocketWire,
-    SocketWire,
-    SocketWire,
->;
+pub type Starting<B> = Beginning<B, SocketWire, SocketWire, SocketWire>;
 
 /// A leased connection to a service.
 pub struct Line<Q: Ledger, A: Ledger> {
@@ -43,69 +34,53 @@ pub struct Line<Q: Ledger, A: Ledger> {
     pub lease: Leased<Q, A>,
 }
 
-/// The origin's end of an exchange.
-#[derive(Drop)]
-pub struct Origin {
-    pub wire: SocketWire,
-    pub side: SourceSide,
-}
-
-/// The user's end, and the origin's once the request is with it.
+/// The user's connection, the message that waits to be adapted, and the origin's connection once the request is with it.
 #[derive(Drop)]
 pub struct Ends {
     pub user: SocketWire,
-    pub request: SourceSide,
-    pub origin: Option<Origin>,
+    pub message: Incoming,
+    pub origin: Option<SocketWire>,
     /// Whether the user was told to send the body of its request.
     pub told: bool,
 }
 
 impl Ends {
     /// A user's end, with its request's head or before it.
-    pub fn of_user(user: SocketWire, request: SourceSide) -> Ends {
+    pub fn of_user(user: SocketWire, message: Incoming) -> Ends {
         Ends {
             user,
-            request,
+            message,
             origin: None,
             told: false,
         }
     }
 
-    /// The user's end alone. All else goes.
+    /// The user's connection alone. All else goes.
     pub fn into_user(self) -> SocketWire {
         let Ends {
             user,
-            request: _,
+            message: _,
             origin: _,
             told: _,
         } = self;
         user
     }
 
-    /// A turn at the head of the user's request, and whether a byte of it came.
-    pub fn read_request(&mut self) -> (Result<bool, RelayFault>, bool) {
-        let (before, _) = self.user.counts();
-        let read = self.request.head_turn(&mut self.user);
-        let (after, _) = self.user.counts();
+    /// A turn at the head of the message, and whether a byte of it came.
+    pub fn read_head(&mut self) -> (Result<bool, RelayFault>, bool) {
+        let wire = match &mut self.origin {
+            Some(origin) => origin,
+            None => &mut self.user,
+        };
+        let (before, _) = wire.counts();
+        let read = self.message.head_turn(wire);
+        let (after, _) = wire.counts();
         (read, after != before)
     }
 
     /// Which message waits to be adapted.
     pub fn point(&self) -> Point {
-        match self.origin {
-            Some(_) => Point::Respmod,
-            None => Point::Reqmod,
-        }
-    }
-}
-
-impl Origin {
-    /// A turn at the head of the origin's response, and whether a byte of it came.
-    pub fn read_response(&mut self) -> (Result<bool, RelayFault>, bool) {
-        let (before, _) = self.wire.counts();
-        let read = self.side.head_turn(&mut self.wire);
-        let (after, _) = self.wire.counts();
-        (read, after != before)
+        self.message.point()
     }
 }
 

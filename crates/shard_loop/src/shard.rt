@@ -6,10 +6,10 @@ use crate::desk::{Desk, Shared};
 use crate::phase::{Ends, Phase, Step};
 use crate::seats::{At, Purpose, Stay};
 use event_loop::{Driven, Handed, Request, Slots, Told, Work};
-use http_relay::SourceSide;
 use http_side::own_refusal;
 use mio::Registry;
 use mio::net::TcpStream;
+use proxy_rules::Incoming;
 use socket_wire::{Dial, Side, SocketWire, Unread};
 use span_bank::Ledgers;
 use std::alloc::{AllocError, AllocFailed, Global};
@@ -55,7 +55,7 @@ impl<'a, B: Ledgers, Q: Ledger, A: Ledger, G: Gate> Shard<'a, B, Q, A, G> {
     fn first_phase(&self, user: SocketWire, purpose: Purpose) -> Phase<B, Q, A> {
         match purpose {
             Purpose::Requests => {
-                let ends = Ends::of_user(user, SourceSide::request(self.desk.alloc));
+                let ends = Ends::of_user(user, Incoming::request(self.desk.alloc));
                 match Box::new(self.desk.alloc, ends) {
                     Ok(ends) => Phase::Head(ends),
                     Err(AllocFailed { value }) => Phase::busy(value.into_user()),

@@ -4,18 +4,15 @@ ghost use Rattle.std.specs.Prelude.{◌≡◌, ◌≤◌};
 ghost use Rattle.adapt_bytes.specs.declared.limits.TheConstants.{MAX_CAPACITY};
 ghost use Rattle.plan_rules.specs.Claims.{claim_of};
 
-use crate::begin::Message;
+use crate::begin::Planned;
 use crate::desk::Desk;
 use crate::halting::unused;
-use crate::phase::{Ends, Line, Moving, Origin, Phase, Starting, Step};
+use crate::phase::{Ends, Line, Moving, Phase, Starting, Step};
 use crate::pools::Leased;
 use crate::seats::At;
 use crate::telling::go_ahead;
-use adapt_turn::Line as ServiceLine;
-use http_relay::SourceSide;
-use icap_client::ServiceSide;
 use plan_rules::Limits;
-use proxy_rules::{Beginning, HeadMaker, Reason, begin, interim_continue};
+use proxy_rules::{Beginning, Incoming, Reason, begin, interim_continue};
 use socket_wire::{Dial, Side, SocketWire};
 use span_bank::{Ledgers, Pages, Stake};
 use std::alloc::AllocFailed;
@@ -26,35 +23,32 @@ use std::sync::ledger::Ledger;
 use std::time::Clock;
 use wire_kit::Gate;
 
-/// What a transaction stands over.
+/// What a transaction stands over: its message, and the connections of its source and its next hop.
 #[derive(Drop)]
 struct Sides {
-    source: SourceSide,
+    message: Incoming,
     source_wire: SocketWire,
     next_wire: SocketWire,
-    heads: HeadMaker,
 }
 
 /// What the transaction of a message stands over: that of a request over the origin's connection, which was opened now.
 fn sides_of(ends: Ends, opened: Option<SocketWire>) -> Option<Sides> {
     let Ends {
         user,
-        request,
+        message,
         origin,
         told: _,
     } = ends;
     match (origin, opened) {
-        (Some(Origin { wire, side }), _) => Some(Sides {
-            source: side,
-            source_wire: wire,
+        (Some(source_wire), _) => Some(Sides {
+            message,
+            source_wire,
             next_wire: user,
-            heads: HeadMaker::for_response(request),
         }),
         (None, Some(next_wire)) => Some(Sides {
-            source: request,
+            message,
             source_wire: user,
             next_wire,
-            heads: HeadMaker::for_request(),
         }),
         (None, None) => None,
     }
@@ -91,17 +85,17 @@ impl<'a, B: Ledgers, Q: Ledger, A: Ledger, G: Gate> Desk<'a, B, Q, A, G> {
         rt: &R,
         at: At<'_>,
         ends: Box<Ends>,
-        message: Message,
+        planned: Planned,
         line: Option<Line<Q, A>>,
         stake: Stake<B>,
     ) -> Step<B, Q, A>
         requires empty { (stake.held ≡ 0) × (stake.pages ≡ 0) }
-        requires claim { stake.claim ≡ claim_of message.plan self.old.limits.window }
+        requires claim { stake.claim ≡ claim_of planned.offer.value.plan self.old.limits.window }
         requires small { stake.claim ≤ MAX_CAPACITY }
     {
         let limits = self.limits;
-        match self.open(rt, at, message.address) {
-            Ok(opened) => self.join(rt, at, ends, opened, message, limits, line, stake),
+        match self.open(rt, at, planned.address) {
+            Ok(opened) => self.join(rt, at, ends, opened, planned, limits, line, stake),
             Err(reason) => {
                 self.forgo(rt, at, line, stake);
                 self.refuse_user(at, ends, reason)
@@ -116,16 +110,16 @@ impl<'a, B: Ledgers, Q: Ledger, A: Ledger, G: Gate> Desk<'a, B, Q, A, G> {
         at: At<'_>,
         ends: Box<Ends>,
         opened: Option<SocketWire>,
-        message: Message,
+        planned: Planned,
         limits: Limits,
         line: Option<Line<Q, A>>,
         stake: Stake<B>,
     ) -> Step<B, Q, A>
         requires empty { (stake.held ≡ 0) × (stake.pages ≡ 0) }
-        requires claim { stake.claim ≡ claim_of message.plan limits.window }
+        requires claim { stake.claim ≡ claim_of planned.offer.value.plan limits.window }
         requires small { stake.claim ≤ MAX_CAPACITY }
     {
-        let text = if message.waits {
+        let text = if planned.waits {
             interim_continue()
         } else {
             &[]
@@ -133,7 +127,7 @@ impl<'a, B: Ledgers, Q: Ledger, A: Ledger, G: Gate> Desk<'a, B, Q, A, G> {
         let mut ends = ends;
         match go_ahead(&mut ends.user, text) {
             Some([]) => match sides_of(Box::into_inner(ends), opened) {
-                Some(sides) => self.launch(rt, at, sides, message, limits, line, stake),
+                Some(sides) => self.launch(rt, at, sides, planned, limits, line, stake),
                 None => {
                     self.forgo(rt, at, line, stake);
                     Step::Over
@@ -151,28 +145,18 @@ impl<'a, B: Ledgers, Q: Ledger, A: Ledger, G: Gate> Desk<'a, B, Q, A, G> {
         }
     }
 
-    /// The service's side over its connection, and the lease. A connection without a side goes back.
+    /// The service's connection and its lease, where the message is offered. Else they go back.
     fn engage<R: Wait>(
         &mut self,
         rt: &R,
         at: At<'_>,
-        side: Option<Box<ServiceSide>>,
+        is_offered: bool,
         line: Option<Line<Q, A>>,
-    ) -> (
-        Option<ServiceLine<ServiceSide, SocketWire>>,
-        Option<Leased<Q, A>>,
-    ) {
-        let Some(Line { wire, lease }) = line else {
-            return (None, None);
-        };
-        match side {
-            Some(side) => {
-                let side = Box::into_inner(side);
-                let wire = Some(wire);
-                (Some(ServiceLine { side, wire }), Some(lease))
-            }
-            None => {
-                self.put_line(rt, at, wire, lease);
+    ) -> (Option<SocketWire>, Option<Leased<Q, A>>) {
+        match line {
+            Some(Line { wire, lease }) if is_offered => (Some(wire), Some(lease)),
+            line => {
+                self.spare(rt, at, line);
                 (None, None)
             }
         }
@@ -184,17 +168,18 @@ impl<'a, B: Ledgers, Q: Ledger, A: Ledger, G: Gate> Desk<'a, B, Q, A, G> {
         rt: &R,
         at: At<'_>,
         sides: Sides,
-        message: Message,
+        planned: Planned,
         limits: Limits,
         line: Option<Line<Q, A>>,
         stake: Stake<B>,
     ) -> Step<B, Q, A>
         requires empty { (stake.held ≡ 0) × (stake.pages ≡ 0) }
-        requires claim { stake.claim ≡ claim_of message.plan limits.window }
+        requires claim { stake.claim ≡ claim_of planned.offer.value.plan limits.window }
         requires small { stake.claim ≤ MAX_CAPACITY }
     {
-        let Message { plan, side, .. } = message;
-        let (service, lease) = self.engage(rt, at, side, line);
+        let Planned { offer, .. } = planned;
+        let offer = Box::into_inner(offer);
+        let (service_wire, lease) = self.engage(rt, at, offer.is_offered(), line);
         let reused = match &lease {
             Some(lease) => lease.reused(),
             None => false,
@@ -202,20 +187,18 @@ impl<'a, B: Ledgers, Q: Ledger, A: Ledger, G: Gate> Desk<'a, B, Q, A, G> {
         self.seats.touch(at);
         self.seats.begin_answer(at.key);
         let Sides {
-            source,
+            message,
             source_wire,
             next_wire,
-            heads,
         } = sides;
         let beginning = Beginning {
-            plan,
+            offer,
             limits,
             stake,
-            source,
+            message,
             source_wire,
-            service,
+            service_wire,
             next_wire,
-            heads,
             deadline: self.shared.config.deadline.saturating_add(1),
             now: at.now,
             reused,
@@ -228,11 +211,11 @@ impl<'a, B: Ledgers, Q: Ledger, A: Ledger, G: Gate> Desk<'a, B, Q, A, G> {
         &mut self,
         rt: &R,
         at: At<'_>,
-        beginning: Beginning<B, SocketWire, SocketWire, SocketWire>,
+        beginning: Starting<B>,
         lease: Option<Leased<Q, A>>,
     ) -> Step<B, Q, A>
         requires empty { (beginning.stake.held ≡ 0) × (beginning.stake.pages ≡ 0) }
-        requires claim { beginning.stake.claim ≡ claim_of beginning.plan beginning.limits.window }
+        requires claim { beginning.stake.claim ≡ claim_of beginning.offer.plan beginning.limits.window }
         requires small { beginning.stake.claim ≤ MAX_CAPACITY }
     {
         match begin(self.alloc, beginning) {
@@ -243,18 +226,18 @@ impl<'a, B: Ledgers, Q: Ledger, A: Ledger, G: Gate> Desk<'a, B, Q, A, G> {
                     self.refuse(at, user, Reason::NoMemory)
                 }
             },
-            Err(start) => {
-                self.undo(rt, start, lease);
+            Err(beginning) => {
+                self.undo(rt, beginning, lease);
                 Step::Over
             }
         }
     }
 
     /// Takes apart what no transaction began with.
-    fn undo<R: Wait>(&mut self, rt: &R, start: Starting<B>, lease: Option<Leased<Q, A>>)
-        requires { (start.stake.held ≡ 0) × (start.stake.pages ≡ 0) }
+    fn undo<R: Wait>(&mut self, rt: &R, beginning: Starting<B>, lease: Option<Leased<Q, A>>)
+        requires { (beginning.stake.held ≡ 0) × (beginning.stake.pages ≡ 0) }
     {
-        self.shared.bank.close(rt, unused(start), Pages::none());
+        self.shared.bank.close(rt, unused(beginning), Pages::none());
         self.give_up(rt, lease);
     }
 

@@ -49,11 +49,11 @@ impl<'a, B: Ledgers, Q: Ledger, A: Ledger, G: Gate> Desk<'a, B, Q, A, G> {
         ends: Box<Ends>,
     ) -> Step<B, Q, A> {
         let mut ends = ends;
-        let (read, moved) = ends.read_request();
+        let (read, moved) = ends.read_head();
         if moved {
             self.seats.touch(at);
         }
-        if ends.request.has_begun() {
+        if ends.message.has_begun() {
             self.seats.begin_stay(at.key, Stay::Head);
         }
         match read {
@@ -64,7 +64,7 @@ impl<'a, B: Ledgers, Q: Ledger, A: Ledger, G: Gate> Desk<'a, B, Q, A, G> {
             Ok(false) if moved => Step::On(Phase::Head(ends)),
             Ok(false) if self.is_late(at) => Step::Over,
             Ok(false) => Step::Waits(Phase::Head(ends)),
-            Err(fault) => match user_head_reason(fault, ends.request.head_fault()) {
+            Err(fault) => match user_head_reason(fault, ends.message.head_fault()) {
                 Some(reason) => self.refuse_user(at, ends, reason),
                 None => Step::Over,
             },
@@ -79,11 +79,7 @@ impl<'a, B: Ledgers, Q: Ledger, A: Ledger, G: Gate> Desk<'a, B, Q, A, G> {
         ends: Box<Ends>,
     ) -> Step<B, Q, A> {
         let mut ends = ends;
-        let Some(origin) = &mut ends.origin else {
-            return Step::Over;
-        };
-        let (read, moved) = origin.read_response();
-        let fault = origin.side.head_fault();
+        let (read, moved) = ends.read_head();
         if moved {
             self.seats.touch(at);
         }
@@ -92,13 +88,16 @@ impl<'a, B: Ledgers, Q: Ledger, A: Ledger, G: Gate> Desk<'a, B, Q, A, G> {
             Ok(false) if moved => Step::On(Phase::Answer(ends)),
             Ok(false) if self.is_late(at) => self.refuse_user(at, ends, Reason::Deadline),
             Ok(false) => Step::Waits(Phase::Answer(ends)),
-            Err(relay) => self.refuse_user(at, ends, origin_head_reason(relay, fault)),
+            Err(relay) => {
+                let reason = origin_head_reason(relay, ends.message.head_fault());
+                self.refuse_user(at, ends, reason)
+            }
         }
     }
 
     /// Where a request goes. None where nobody knows its host.
     pub fn origin_of(&self, ends: &Ends) -> Option<SocketAddrV4> {
-        let user = ends.request.request_head()?;
+        let user = ends.message.user_head()?;
         origin_address(self.shared.config, user)
     }
 

@@ -5,11 +5,11 @@ ghost use Rattle.adapt_bytes.specs.declared.limits.TheConstants.{MAX_CAPACITY};
 ghost use Rattle.plan_rules.specs.Claims.{claim_of};
 
 use crate::counted::CountedWire;
-use adapt_turn::{Line, Outcome, Parts, Start, Tx};
+use adapt_turn::{Outcome, Parts, Tx};
 use http_relay::{NextHop, RelayFault, SourceSide};
 use icap_client::ServiceSide;
 use plan_rules::{Limits, claim};
-use proxy_rules::{Beginning, HeadMaker};
+use proxy_rules::{Beginning, HeadMaker, Incoming, Offer};
 use span_bank::{Bank, Ledgers, Pages, Stake};
 use std::alloc::{AllocError, Global};
 use std::sync::Wait;
@@ -68,18 +68,6 @@ pub type MovingOn<B, A> = Tx<
 /// A transaction whose wires are all of one kind.
 pub type Moving<B> = MovingOn<B, CountedWire>;
 
-/// What a transaction begins with.
-type Starting<B, A> = Start<
-    B,
-    SourceSide,
-    ServiceSide,
-    NextHop,
-    HeadMaker,
-    A,
-    CountedWire,
-    CountedWire,
->;
-
 /// The wires of a transaction.
 #[derive(Drop)]
 pub struct Wires<A: Drop> {
@@ -91,9 +79,8 @@ pub struct Wires<A: Drop> {
 /// What stands of a transaction before its reservation.
 #[derive(Drop)]
 pub struct Sides {
-    pub source: SourceSide,
-    pub service: ServiceSide,
-    pub heads: HeadMaker,
+    pub message: Incoming,
+    pub offer: Offer,
 }
 
 /// How a transaction ended, and its wires.
@@ -143,13 +130,13 @@ fn is_front(user: &[u8]) -> bool {
 }
 
 /// Reads a head, which the wire gives in these many answers at most. An error where no memory is found for it.
-pub fn read_head(
-    side: &mut SourceSide,
+fn read_head(
+    message: &mut Incoming,
     wire: &mut impl Wire,
     answers: usize,
 ) -> Result<(), AllocError> {
     for _ in 0..answers {
-        match side.head_turn(wire) {
+        match message.head_turn(wire) {
             Ok(true) => return Ok(()),
             Err(RelayFault::NoMemory) => return Err(AllocError),
             _ => {}
@@ -163,7 +150,9 @@ fn user_side(alloc: Global) -> Result<SourceSide, AllocError> {
     let reads = vec![in alloc; ReadAnswer::Bytes(64)]?;
     let mut wire = MemoryWire::new(alloc, REQUEST.to_vec(alloc)?, reads, Vec::new(alloc))?;
     let mut side = SourceSide::request(alloc);
-    read_head(&mut side, &mut wire, 1)?;
+    if side.head_turn(&mut wire) == Err(RelayFault::NoMemory) {
+        return Err(AllocError);
+    }
     let _ = side.read_turn(&mut wire, &mut []);
     Ok(side)
 }
@@ -189,16 +178,19 @@ fn limits_of(retry: bool) -> Limits {
     }
 }
 
-/// All sides of the exchange.
-pub fn make_sides(alloc: Global, origin: &mut impl Wire, plan: &Plan) -> Result<Sides, AllocError> {
+/// All sides of the exchange. `None` where there is no offer by this plan.
+pub fn make_sides(
+    alloc: Global,
+    origin: &mut impl Wire,
+    plan: &Plan,
+) -> Result<Option<Sides>, AllocError> {
     let user = user_side(alloc)?;
-    let mut source = SourceSide::response(alloc, false);
-    read_head(&mut source, origin, RESPONSE.len())?;
-    let service = ServiceSide::new(alloc, plan, HOST, PORT, PATH, REQUEST, RESPONSE)?;
-    Ok(Sides {
-        source,
-        service,
-        heads: HeadMaker::for_response(user),
+    let mut message = Incoming::response(alloc, user);
+    read_head(&mut message, origin, RESPONSE.len())?;
+    let offer = Offer::new(alloc, *plan, HOST, PORT, PATH, REQUEST, RESPONSE)?;
+    Ok(match offer {
+        Some(offer) => Some(Sides { message, offer }),
+        None => None,
     })
 }
 
@@ -210,27 +202,28 @@ pub fn begin<B: Ledgers, A: Wire + Drop>(
     wires: Wires<A>,
 ) -> Result<Option<MovingOn<B, A>>, AllocError> {
     let mut wires = wires;
-    let plan = plan_of(false);
-    let sides = make_sides(alloc, &mut wires.source, &plan)?;
-    Ok(reserve(rt, alloc, bank, wires, sides, plan))
+    let sides = make_sides(alloc, &mut wires.source, &plan_of(false))?;
+    Ok(match sides {
+        Some(sides) => reserve(rt, alloc, bank, wires, sides),
+        None => None,
+    })
 }
 
-/// Begins a transaction of this plan. `None` where it can't begin.
+/// Begins a transaction. `None` where it can't begin.
 pub fn reserve<B: Ledgers, A: Wire + Drop>(
     rt: &impl Wait,
     alloc: Global,
     bank: &Bank<B>,
     wires: Wires<A>,
     sides: Sides,
-    plan: Plan,
 ) -> Option<MovingOn<B, A>> {
-    let limits = limits_of(plan.retry);
-    let bytes = claim(&plan, &limits);
+    let limits = limits_of(sides.offer.plan().retry);
+    let bytes = claim(sides.offer.plan(), &limits);
     if bytes == 0 {
         return None;
     }
     match bank.open(rt, bytes) {
-        Ok(stake) => start(rt, alloc, bank, wires, sides, plan, limits, stake),
+        Ok(stake) => start(rt, alloc, bank, wires, sides, limits, stake),
         Err(_) => None,
     }
 }
@@ -242,18 +235,17 @@ fn start<B: Ledgers, A: Wire + Drop>(
     bank: &Bank<B>,
     wires: Wires<A>,
     sides: Sides,
-    plan: Plan,
     limits: Limits,
     stake: Stake<B>,
 ) -> Option<MovingOn<B, A>>
     requires empty { (stake.held ≡ 0) × (stake.pages ≡ 0) }
-    requires claim { stake.claim ≡ claim_of plan limits.window }
+    requires claim { stake.claim ≡ claim_of sides.offer.plan limits.window }
     requires small { stake.claim ≤ MAX_CAPACITY }
 {
-    match proxy_rules::begin(alloc, beginning(wires, sides, plan, limits, stake)) {
+    match proxy_rules::begin(alloc, beginning(wires, sides, limits, stake)) {
         Ok(tx) => Some(tx),
-        Err(start) => {
-            undo(rt, bank, start);
+        Err(beginning) => {
+            undo(rt, bank, beginning);
             None
         }
     }
@@ -263,34 +255,25 @@ fn start<B: Ledgers, A: Wire + Drop>(
 fn beginning<B: Ledgers, A: Wire + Drop>(
     wires: Wires<A>,
     sides: Sides,
-    plan: Plan,
     limits: Limits,
     stake: Stake<B>,
 ) -> Beginning<B, A, CountedWire, CountedWire>
-    ensures { (result.plan ≡ plan) × (result.limits ≡ limits) × (result.stake ≡ stake) }
+    ensures { (result.offer ≡ sides.offer) × (result.limits ≡ limits) × (result.stake ≡ stake) }
 {
-    let Sides {
-        source,
-        service,
-        heads,
-    } = sides;
+    let Sides { message, offer } = sides;
     let Wires {
         source: source_wire,
         service: service_wire,
         next_hop,
     } = wires;
     Beginning {
-        plan,
+        offer,
         limits,
         stake,
-        source,
+        message,
         source_wire,
-        service: Some(Line {
-            side: service,
-            wire: Some(service_wire),
-        }),
+        service_wire: Some(service_wire),
         next_wire: next_hop,
-        heads,
         deadline: DEADLINE,
         now: BEGIN,
         reused: limits.retry,
@@ -298,25 +281,25 @@ fn beginning<B: Ledgers, A: Wire + Drop>(
 }
 
 /// Takes apart what no transaction began with.
-pub fn undo<B: Ledgers, A: Wire + Drop>(rt: &impl Wait, bank: &Bank<B>, start: Starting<B, A>)
-    requires { (start.stake.held ≡ 0) × (start.stake.pages ≡ 0) }
+pub fn undo<B: Ledgers, A: Wire + Drop>(
+    rt: &impl Wait,
+    bank: &Bank<B>,
+    beginning: Beginning<B, A, CountedWire, CountedWire>,
+)
+    requires { (beginning.stake.held ≡ 0) × (beginning.stake.pages ≡ 0) }
 {
-    let Start {
-        plan: _,
+    let Beginning {
+        offer: _,
         limits: _,
         stake,
-        source: _,
+        message: _,
         source_wire: _,
-        service,
-        next: _,
+        service_wire: _,
         next_wire: _,
-        back: _,
-        forward: _,
         deadline: _,
         now: _,
         reused: _,
-    } = start;
-    if let Some(Line { side: _, wire: _ }) = service {}
+    } = beginning;
     bank.close(rt, stake, Pages::none());
 }
 

@@ -62,7 +62,7 @@ pub fn begun_on<B: Ledgers, A: Wire + Drop>(
     let mut wires = wires;
     let sides = make_sides(alloc, scene, &plan, &mut wires.source)?;
     Ok(match sides {
-        Some(sides) => begin(rt, alloc, bank, plan, sides, wires),
+        Some(sides) => begin(rt, alloc, bank, sides, wires),
         None => None,
     })
 }

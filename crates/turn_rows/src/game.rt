@@ -4,7 +4,8 @@ ghost use Rattle.std.specs.Prelude.{◌≡◌};
 
 use crate::sides::Counted;
 use adapt_sides::{Hop, Service, Source};
-use adapt_turn::{Forward, Line, Outcome, Parts, Side, Start, Turned, Tx};
+use adapt_turn::{Forward, Line, Outcome, Parts, Side, Turned, Tx};
+use proxy_rules::Beginning;
 use span_bank::{Bank, Ledgers, Pages};
 use std::sync::Wait;
 use wire_kit::Wire;
@@ -121,28 +122,24 @@ pub fn end<
 }
 
 /// Takes apart what no transaction began with.
-pub fn undo<B: Ledgers, S: Drop, V: Drop, K: Drop, F: Drop, A: Drop, W: Drop, C: Drop, R: Wait>(
+pub fn undo<B: Ledgers, A: Drop, W: Drop, C: Drop, R: Wait>(
     rt: &R,
     bank: &Bank<B>,
-    start: Start<B, S, V, K, F, A, W, C>,
+    beginning: Beginning<B, A, W, C>,
 )
-    requires { (start.stake.held ≡ 0) × (start.stake.pages ≡ 0) }
+    requires { (beginning.stake.held ≡ 0) × (beginning.stake.pages ≡ 0) }
 {
-    let Start {
-        plan: _,
+    let Beginning {
+        offer: _,
         limits: _,
         stake,
-        source: _,
+        message: _,
         source_wire: _,
-        service,
-        next: _,
+        service_wire: _,
         next_wire: _,
-        back: _,
-        forward: _,
         deadline: _,
         now: _,
         reused: _,
-    } = start;
-    if let Some(Line { side: _, wire: _ }) = service {}
+    } = beginning;
     bank.close(rt, stake, Pages::none());
 }

@@ -6,7 +6,7 @@ ghost use Rattle.plan_rules.specs.Claims.{claim_of};
 
 use crate::game::undo;
 use crate::sides::{Counted, Sides, Wires};
-use adapt_turn::{Line, Tx};
+use adapt_turn::Tx;
 use http_relay::{NextHop, SourceSide};
 use icap_client::ServiceSide;
 use plan_rules::{Limits, claim};
@@ -36,33 +36,21 @@ fn limits_of(plan: &Plan) -> Limits {
     }
 }
 
-/// The service's side with its wire, if the message is offered.
-fn line_of(plan: &Plan, side: ServiceSide, wire: Counted) -> Option<Line<ServiceSide, Counted>> {
-    if plan.kind.is_plain() {
-        return None;
-    }
-    Some(Line {
-        side,
-        wire: Some(wire),
-    })
-}
-
-/// Begins a transaction of this plan on a reservation of its own. `None` where it can't begin.
+/// Begins a transaction on a reservation of its own. `None` where it can't begin.
 pub fn begin<B: Ledgers, A: Wire + Drop>(
     rt: &impl Wait,
     alloc: Global,
     bank: &Bank<B>,
-    plan: Plan,
     sides: Sides,
     wires: Wires<A>,
 ) -> Option<Moving<B, A>> {
-    let limits = limits_of(&plan);
-    let bytes = claim(&plan, &limits);
+    let limits = limits_of(sides.offer.plan());
+    let bytes = claim(sides.offer.plan(), &limits);
     if bytes == 0 {
         return None;
     }
     match bank.open(rt, bytes) {
-        Ok(stake) => start(rt, alloc, bank, plan, limits, stake, sides, wires),
+        Ok(stake) => start(rt, alloc, bank, limits, stake, sides, wires),
         Err(_) => None,
     }
 }
@@ -72,33 +60,37 @@ fn start<B: Ledgers, A: Wire + Drop>(
     rt: &impl Wait,
     alloc: Global,
     bank: &Bank<B>,
-    plan: Plan,
     limits: Limits,
     stake: Stake<B>,
     sides: Sides,
     wires: Wires<A>,
 ) -> Option<Moving<B, A>>
     requires empty { (stake.held ≡ 0) × (stake.pages ≡ 0) }
-    requires claim { stake.claim ≡ claim_of plan limits.window }
+    requires claim { stake.claim ≡ claim_of sides.offer.plan limits.window }
     requires small { stake.claim ≤ MAX_CAPACITY }
 {
+    let Sides { message, offer } = sides;
+    let service_wire = if offer.is_offered() {
+        Some(wires.service)
+    } else {
+        None
+    };
     let beginning = Beginning {
-        plan,
+        offer,
         limits,
         stake,
-        source: sides.source,
+        message,
         source_wire: wires.source,
-        service: line_of(&plan, sides.service, wires.service),
+        service_wire,
         next_wire: wires.next_hop,
-        heads: sides.heads,
         deadline: DEADLINE,
         now: BEGIN,
         reused: limits.retry,
     };
     match proxy_rules::begin(alloc, beginning) {
         Ok(tx) => Some(tx),
-        Err(start) => {
-            undo(rt, bank, start);
+        Err(beginning) => {
+            undo(rt, bank, beginning);
             None
         }
     }

@@ -1,8 +1,7 @@
 //! The sides of a row's transaction, and its wires.
 
 use http_relay::{RelayFault, SourceSide};
-use icap_client::ServiceSide;
-use proxy_rules::HeadMaker;
+use proxy_rules::{Incoming, Offer};
 use std::alloc::Global;
 use test_rows::NoMemory;
 use trace_core::{Plan, Point};
@@ -31,9 +30,8 @@ pub struct Wires<A> {
 /// What stands of a transaction before its reservation.
 #[derive(Drop)]
 pub struct Sides {
-    pub source: SourceSide,
-    pub service: ServiceSide,
-    pub heads: HeadMaker,
+    pub message: Incoming,
+    pub offer: Offer,
 }
 
 /// The service's wire, or the one that comes in its place.
@@ -85,9 +83,9 @@ pub fn hop_wire(alloc: Global, scene: Scene<'_>, values: Values) -> Result<Count
 }
 
 /// Reads a head. False if there is no head.
-fn read_head(side: &mut SourceSide, wire: &mut impl Wire) -> Result<bool, NoMemory> {
+fn read_head(message: &mut Incoming, wire: &mut impl Wire) -> Result<bool, NoMemory> {
     for _ in 0..HEAD_TURNS {
-        match side.head_turn(wire) {
+        match message.head_turn(wire) {
             Ok(true) => return Ok(true),
             Err(RelayFault::NoMemory) => return Err(NoMemory),
             _ => {}
@@ -102,47 +100,41 @@ fn user_side(alloc: Global, scene: Scene<'_>) -> Result<SourceSide, NoMemory> {
     let request = scene.get(b"request").to_vec(alloc)?;
     let mut wire = MemoryWire::new(alloc, request, reads, Vec::new(alloc))?;
     let mut side = SourceSide::request(alloc);
-    read_head(&mut side, &mut wire)?;
+    if side.head_turn(&mut wire) == Err(RelayFault::NoMemory) {
+        return Err(NoMemory);
+    }
     let _ = side.read_turn(&mut wire, &mut []);
     Ok(side)
 }
 
-/// The maker of heads.
-fn heads_of(alloc: Global, scene: Scene<'_>, point: Point) -> Result<HeadMaker, NoMemory> {
+/// The message before its first byte.
+fn message_of(alloc: Global, scene: Scene<'_>, point: Point) -> Result<Incoming, NoMemory> {
     match point {
-        Point::Respmod => Ok(HeadMaker::for_response(user_side(alloc, scene)?)),
-        Point::Reqmod => Ok(HeadMaker::for_request()),
+        Point::Respmod => Ok(Incoming::response(alloc, user_side(alloc, scene)?)),
+        Point::Reqmod => Ok(Incoming::request(alloc)),
     }
 }
 
-/// The service's side: of an answer it offers the user's request and the answer's head, and of a request that one's head.
-fn service_side(alloc: Global, scene: Scene<'_>, plan: &Plan) -> Result<ServiceSide, NoMemory> {
+/// The message's offer: of an answer goes the user's request and the answer's head, and of a request that one's head. `None` where
+/// there is none by this plan.
+fn offer_of(alloc: Global, scene: Scene<'_>, plan: &Plan) -> Result<Option<Offer>, NoMemory> {
     let (request, head) = (scene.get(b"request"), scene.get(b"head"));
-    if request.len() > 65_536 || head.len() > 65_536 {
-        return Err(NoMemory);
-    }
-    ServiceSide::new(alloc, plan, HOST, PORT, scene.get(b"path"), request, head)
+    Offer::new(alloc, *plan, HOST, PORT, scene.get(b"path"), request, head)
 }
 
-/// All sides of a transaction. `None` where its source has no head.
+/// All sides of a transaction. `None` where its source has no head, or where there is no offer by this plan.
 pub fn make_sides(
     alloc: Global,
     scene: Scene<'_>,
     plan: &Plan,
     wire: &mut impl Wire,
 ) -> Result<Option<Sides>, NoMemory> {
-    let service = service_side(alloc, scene, plan)?;
-    let heads = heads_of(alloc, scene, plan.point)?;
-    let mut source = match plan.point {
-        Point::Respmod => SourceSide::response(alloc, false),
-        Point::Reqmod => SourceSide::request(alloc),
+    let Some(offer) = offer_of(alloc, scene, plan)? else {
+        return Ok(None);
     };
-    if !read_head(&mut source, wire)? {
+    let mut message = message_of(alloc, scene, plan.point)?;
+    if !read_head(&mut message, wire)? {
         return Ok(None);
     }
-    Ok(Some(Sides {
-        source,
-        service,
-        heads,
-    }))
+    Ok(Some(Sides { message, offer }))
 }

@@ -1,12 +1,11 @@
 //! Plans, and what is written to a service.
 use http_side::{read_request, read_response};
-use icap_client::ServiceSide;
 use icap_head::{IcapResponse, read_response as read_answer};
 use options_book::{Record, read_record};
 use proxy_config::{ServicePoint, read_config};
 use proxy_rules::{
-    ask_options, is_reusable_after_options, limits_of, offer_request, offer_response, pool_maximum,
-    request_plan, response_plan,
+    Offer, ask_options, is_reusable_after_options, limits_of, pool_maximum, request_plan,
+    response_plan,
 };
 use span_tape::SpanTape;
 use std::alloc::{AllocError, Global};
@@ -133,23 +132,37 @@ fn connections_behind_options(rt: HostRuntime) -> Result<(), Fail> {
     Ok(())
 }
 
-/// The side that offers the worked response to the service.
-fn response_side(alloc: Global, plan: &Plan) -> Result<ServiceSide, Fail> {
+/// The offer of the worked response to the service.
+fn offered_response(alloc: Global) -> Result<Offer, Fail> {
+    let limits = limits_of(&read_config(alloc, CONFIG)?);
     let user = read_request(alloc, WORKED, false)?.value;
     let text: &[u8] = b"HTTP/1.1 200 OK\r\nContent-Length: 6\r\n\r\n";
     let response = read_response(alloc, text, false)?.value;
-    Ok(offer_response(alloc, &service(alloc)?, plan, &user, &response)?)
+    let (service, record) = (service(alloc)?, no_images(alloc)?);
+    Ok(Offer::of_response(
+        alloc,
+        Some(&service),
+        Some(&record),
+        &limits,
+        &user,
+        &response,
+    )?)
 }
 
-/// The side that offers the worked request.
-fn request_side(alloc: Global, plan: &Plan) -> Result<ServiceSide, Fail> {
+/// The offer of the worked request, whose body is empty.
+fn offered_request(alloc: Global) -> Result<Offer, Fail> {
+    let limits = limits_of(&read_config(alloc, CONFIG)?);
     let user = read_request(alloc, WORKED, false)?.value;
-    Ok(offer_request(alloc, &service(alloc)?, plan, &user)?)
+    let (service, record) = (service(alloc)?, no_images(alloc)?);
+    Ok(Offer::of_request(alloc, Some(&service), Some(&record), &limits, &user)?)
 }
 
-/// What the side writes before any byte of a body came.
-fn written(alloc: Global, side: ServiceSide, plan: Plan) -> Result<MemoryWire, Fail> {
-    let mut side = side;
+/// What is written before any byte of a body came.
+fn written(alloc: Global, offer: Offer) -> Result<MemoryWire, Fail> {
+    let (plan, side) = offer.into_plan();
+    let Some(mut side) = side else {
+        return Err(Fail::new("not offered"));
+    };
     let mut wire = taking(alloc)?;
     side.write_turn(&State::begin(plan), &SpanTape::new(), &mut wire)?;
     Ok(wire)
@@ -158,10 +171,7 @@ fn written(alloc: Global, side: ServiceSide, plan: Plan) -> Result<MemoryWire, F
 #[test]
 fn offered_responses(rt: HostRuntime) -> Result<(), Fail> {
     let alloc = rt.alloc();
-    let Some(plan) = Plan::new(Kind::Preview(4), false, false, Some(6), Point::Respmod) else {
-        return Err(Fail::new("no plan"));
-    };
-    let wire = written(alloc, response_side(alloc, &plan)?, plan)?;
+    let wire = written(alloc, offered_response(alloc)?)?;
     let want: &[u8] =
         b"RESPMOD icap://127.0.0.1:1344/respmod/upper ICAP/1.0\r\nHost: 127.0.0.1:1344\r\nPreview: 4\r\nEncapsulated: req-hdr=0, res-hdr=50, res-body=88\r\n\r\nGET http://o.test/a.txt HTTP/1.1\r\nHost: o.test\r\n\r\nHTTP/1.1 200 OK\r\nContent-Length: 6\r\n\r\n";
     assert_eq!(rt; wire.taken(), want);
@@ -171,13 +181,29 @@ fn offered_responses(rt: HostRuntime) -> Result<(), Fail> {
 #[test]
 fn offered_requests(rt: HostRuntime) -> Result<(), Fail> {
     let alloc = rt.alloc();
-    let Some(plan) = Plan::new(Kind::Whole, true, false, Some(0), Point::Reqmod) else {
-        return Err(Fail::new("no plan"));
-    };
-    let wire = written(alloc, request_side(alloc, &plan)?, plan)?;
+    let wire = written(alloc, offered_request(alloc)?)?;
     let want: &[u8] =
         b"REQMOD icap://127.0.0.1:1344/respmod/upper ICAP/1.0\r\nHost: 127.0.0.1:1344\r\nAllow: 204\r\nEncapsulated: req-hdr=0, null-body=50\r\n\r\nGET http://o.test/a.txt HTTP/1.1\r\nHost: o.test\r\n\r\n";
     assert_eq!(rt; wire.taken(), want);
+    Ok(())
+}
+
+#[test]
+fn nothing_is_offered_without_a_service(rt: HostRuntime) -> Result<(), Fail> {
+    let alloc = rt.alloc();
+    let limits = limits_of(&read_config(alloc, CONFIG)?);
+    let user = read_request(alloc, WORKED, false)?.value;
+    let record = no_images(alloc)?;
+    let offer = Offer::of_request(alloc, None, Some(&record), &limits, &user)?;
+    assert_eq!(rt;
+        (offer.plan().kind, offer.is_offered()),
+        (Kind::Plain, false)
+    );
+    let Some(plan) = Plan::new(Kind::Preview(4), false, false, Some(0), Point::Reqmod) else {
+        return Err(Fail::new("no plan"));
+    };
+    let made = Offer::new(alloc, plan, b"127.0.0.1", 1344, b"/", WORKED, &[])?;
+    assert!(rt; made.is_none());
     Ok(())
 }
 

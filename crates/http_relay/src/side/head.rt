@@ -58,6 +58,7 @@ impl SourceSide {
         ensures shrinks { IfOk result (λ judged. judged ≡ HeadProgress.Interim → length self.new.raw.items < length self.old.raw.items) }
         ensures unread { IfOk result (λ judged. (judged ≡ HeadProgress.Taken → ⊥) → self.new.head ≡ SourceHead.Unread) }
         ensures fault { self.new.fault ≡ self.old.fault }
+        ensures asks { self.new.asks ≡ self.old.asks }
         ensures refused { IfErr result (λ fault. (fault ≡ RelayFault.Head) ⊎ (fault ≡ RelayFault.NoMemory)) }
     {
         if !self.is_due() {
@@ -78,6 +79,7 @@ impl SourceSide {
         ensures unread { IfOk result (λ judged. (judged ≡ HeadProgress.Taken → ⊥) → self.new.head ≡ SourceHead.Unread) }
         ensures never { IfOk result (λ judged. judged ≡ HeadProgress.Interim → ⊥) }
         ensures fault { self.new.fault ≡ self.old.fault }
+        ensures asks { self.new.asks ≡ self.old.asks }
         ensures refused { IfErr result (λ fault. (fault ≡ RelayFault.Head) ⊎ (fault ≡ RelayFault.NoMemory)) }
     {
         match read_request(self.alloc, self.raw.as_slice(), false) {
@@ -101,6 +103,7 @@ impl SourceSide {
         ensures shrinks { IfOk result (λ judged. judged ≡ HeadProgress.Interim → length self.new.raw.items < length self.old.raw.items) }
         ensures unread { IfOk result (λ judged. (judged ≡ HeadProgress.Taken → ⊥) → self.new.head ≡ SourceHead.Unread) }
         ensures fault { self.new.fault ≡ self.old.fault }
+        ensures asks { self.new.asks ≡ self.old.asks }
         ensures refused { IfErr result (λ fault. (fault ≡ RelayFault.Head) ⊎ (fault ≡ RelayFault.NoMemory)) }
     {
         match read_response(self.alloc, self.raw.as_slice(), to_head) {
@@ -158,6 +161,7 @@ impl SourceSide {
         ensures short { IfOk result (λ found. found ≡ false → length self.new.raw.items < MAX_HEAD) }
         ensures unread { IfOk result (λ found. found ≡ false → self.new.head ≡ SourceHead.Unread) }
         ensures fault { self.new.fault ≡ self.old.fault }
+        ensures asks { self.new.asks ≡ self.old.asks }
         ensures refused { IfErr result (λ fault. (fault ≡ RelayFault.Head) ⊎ (fault ≡ RelayFault.NoMemory)) }
     {
         loop {
@@ -174,6 +178,7 @@ impl SourceSide {
     fn scan_or_read<W: Wire>(&mut self, wire: &mut W) -> Result<bool, RelayFault>
         requires { self.old.head ≡ SourceHead.Unread }
         ensures turn { HeadTurn self.old self.new (W.past wire.old) (W.past wire.new) result }
+        ensures asks { self.new.asks ≡ self.old.asks }
     {
         match self.scan() {
             Ok(true) => return Ok(true),
@@ -193,6 +198,7 @@ impl SourceSide {
     fn try_head<W: Wire>(&mut self, wire: &mut W) -> Result<bool, RelayFault>
         requires { self.old.head ≡ SourceHead.Unread }
         ensures turn { HeadTurn self.old self.new (W.past wire.old) (W.past wire.new) result }
+        ensures asks { self.new.asks ≡ self.old.asks }
         ensures empty { self.new.raw.items ≡ [] → self.new.raw.spare ≡ 0 }
     {
         let result = self.scan_or_read(wire);
@@ -208,6 +214,7 @@ impl SourceSide {
         ensures read { self.old.fault ≡ None → (self.old.head ≡ SourceHead.Unread → ⊥) → (result ≡ Ok true) × (self.new ≡ self.old) }
         ensures stays { IfErr result (λ fault. self.new.fault ≡ Some fault) }
         ensures faulted { IfSome self.old.fault (λ fault. (result ≡ Err fault) × (self.new ≡ self.old)) }
+        ensures asks { self.new.asks ≡ self.old.asks }
     {
         if let Some(fault) = self.fault {
             return Err(fault);

@@ -1,4 +1,4 @@
-use Rattle.std.proofs.Common.{◌≡◌, ℕ, Bool, true, ◌⊎◌, List, IfErr, Result, Ok, Err, refl, subst}
+use Rattle.std.proofs.Common.{◌≡◌, ℕ, Bool, true, ◌⊎◌, List, IfErr, Result, Ok, Err, refl, subst, ◌∙◌}
 use Rattle.http_relay.specs.Judging.{IsLooking, HasNoHead, Scans}
 use Rattle.http_relay.specs.Reading.{AtHead, ScannedTo}
 use Rattle.adapt_sides.specs.declared.fault.RelayFault.{RelayFault}
@@ -13,12 +13,14 @@ returns-in-Ok-true g c = record {
       head_scanned c.args.self.now c.scan.new.self (g.W.Wire.past c.args.wire.now) (Ok true) (λ e. cc) (λ f e. cc)
       (subst (λ (b : Bool). (read : List ℕ) → AtHead read c.args.self.now → ScannedTo (Ok b) read c.scan.new.self) c.in-Ok-true.field-0-test c.in-Ok-true.ensures.heads)
       (subst (λ (b : Bool). IsLooking c.args.self.now → Scans (Ok b) c.scan.new.self) c.in-Ok-true.field-0-test c.in-Ok-true.ensures.judged);
+  asks = c.in-Ok-true.ensures.asks;
 }
 
 pub returns-in-Err : goal.returns-in-Err
 returns-in-Err g c = record {
   turn =
       head_scanned c.args.self.now c.scan.new.self (g.W.Wire.past c.args.wire.now) (Err c.in-Err.fault) (λ e. cc) (λ f e. let is : c.in-Err.fault ≡ f = cc in subst (λ (h : RelayFault). (h ≡ Head) ⊎ (h ≡ NoMemory)) is c.in-Err.ensures.refused) c.in-Err.ensures.heads c.in-Err.ensures.judged;
+  asks = c.in-Err.ensures.asks;
 }
 
 pub returns-in-Bytes : goal.returns-in-Bytes
@@ -32,6 +34,7 @@ returns-in-Bytes g c =
       turn = head_bytes c.args.self.now c.scan.new.self more c.scan-in-Bytes.new.self (g.W.Wire.past c.args.wire.now) (g.W.Wire.past c.fill.new.wire) c.scan-in-Bytes.result at (record { asks = refl; head = refl; body = refl }) c.in-Bytes.ensures.filled
           (λ f e. subst (λ (r : Result Bool RelayFault). IfErr r (λ h. (h ≡ Head) ⊎ (h ≡ NoMemory))) e c.scan-in-Bytes.ensures.refused) c.scan-in-Bytes.ensures.heads
           (record { judged = refl; head_fault = refl }) judged c.scan-in-Bytes.ensures.judged;
+      asks = c.scan-in-Bytes.ensures.asks ∙ c.in-Ok-false.ensures.asks;
     }
 
 pub returns-in-Wait : goal.returns-in-Wait
@@ -41,7 +44,7 @@ returns-in-Wait g c =
     let judged : IsLooking c.args.self.now → HasNoHead c.scan.new.self =
     subst (λ (b : Bool). IsLooking c.args.self.now → Scans (Ok b) c.scan.new.self) c.in-Ok-false.field-0-test c.in-Ok-false.ensures.judged in
     let new : SourceSide = record { alloc = c.scan.new.self.alloc; asks = c.scan.new.self.asks; head = c.scan.new.self.head; head_fault = c.scan.new.self.head_fault; body = c.scan.new.self.body; raw = c.fill.new.raw; judged = c.scan.new.self.judged; fault = c.scan.new.self.fault } in
-    record { turn = head_waited c.args.self.now c.scan.new.self new (g.W.Wire.past c.args.wire.now) (g.W.Wire.past c.fill.new.wire) at (record { asks = refl; head = refl; body = refl }) c.in-Wait.ensures.filled (record { judged = refl; head_fault = refl }) judged }
+    record { turn = head_waited c.args.self.now c.scan.new.self new (g.W.Wire.past c.args.wire.now) (g.W.Wire.past c.fill.new.wire) at (record { asks = refl; head = refl; body = refl }) c.in-Wait.ensures.filled (record { judged = refl; head_fault = refl }) judged; asks = c.in-Ok-false.ensures.asks }
 
 pub returns-in-Ended : goal.returns-in-Ended
 returns-in-Ended g c =
@@ -50,7 +53,7 @@ returns-in-Ended g c =
     let judged : IsLooking c.args.self.now → HasNoHead c.scan.new.self =
     subst (λ (b : Bool). IsLooking c.args.self.now → Scans (Ok b) c.scan.new.self) c.in-Ok-false.field-0-test c.in-Ok-false.ensures.judged in
     let new : SourceSide = record { alloc = c.scan.new.self.alloc; asks = c.scan.new.self.asks; head = c.scan.new.self.head; head_fault = c.scan.new.self.head_fault; body = c.scan.new.self.body; raw = c.fill.new.raw; judged = c.scan.new.self.judged; fault = c.scan.new.self.fault } in
-    record { turn = head_ended c.args.self.now c.scan.new.self new (g.W.Wire.past c.args.wire.now) (g.W.Wire.past c.fill.new.wire) at (record { asks = refl; head = refl; body = refl }) c.in-Ended.ensures.filled (record { judged = refl; head_fault = refl }) judged }
+    record { turn = head_ended c.args.self.now c.scan.new.self new (g.W.Wire.past c.args.wire.now) (g.W.Wire.past c.fill.new.wire) at (record { asks = refl; head = refl; body = refl }) c.in-Ended.ensures.filled (record { judged = refl; head_fault = refl }) judged; asks = c.in-Ok-false.ensures.asks }
 
 pub returns-in-Failed : goal.returns-in-Failed
 returns-in-Failed g c =
@@ -59,7 +62,7 @@ returns-in-Failed g c =
     let judged : IsLooking c.args.self.now → HasNoHead c.scan.new.self =
     subst (λ (b : Bool). IsLooking c.args.self.now → Scans (Ok b) c.scan.new.self) c.in-Ok-false.field-0-test c.in-Ok-false.ensures.judged in
     let new : SourceSide = record { alloc = c.scan.new.self.alloc; asks = c.scan.new.self.asks; head = c.scan.new.self.head; head_fault = c.scan.new.self.head_fault; body = c.scan.new.self.body; raw = c.fill.new.raw; judged = c.scan.new.self.judged; fault = c.scan.new.self.fault } in
-    record { turn = head_failed c.args.self.now c.scan.new.self new (g.W.Wire.past c.args.wire.now) (g.W.Wire.past c.fill.new.wire) at (record { asks = refl; head = refl; body = refl }) c.in-Failed.ensures.filled (record { judged = refl; head_fault = refl }) judged }
+    record { turn = head_failed c.args.self.now c.scan.new.self new (g.W.Wire.past c.args.wire.now) (g.W.Wire.past c.fill.new.wire) at (record { asks = refl; head = refl; body = refl }) c.in-Failed.ensures.filled (record { judged = refl; head_fault = refl }) judged; asks = c.in-Ok-false.ensures.asks }
 
 pub returns-in-NoMemory : goal.returns-in-NoMemory
 returns-in-NoMemory g c =
@@ -68,4 +71,4 @@ returns-in-NoMemory g c =
     let judged : IsLooking c.args.self.now → HasNoHead c.scan.new.self =
     subst (λ (b : Bool). IsLooking c.args.self.now → Scans (Ok b) c.scan.new.self) c.in-Ok-false.field-0-test c.in-Ok-false.ensures.judged in
     let new : SourceSide = record { alloc = c.scan.new.self.alloc; asks = c.scan.new.self.asks; head = c.scan.new.self.head; head_fault = c.scan.new.self.head_fault; body = c.scan.new.self.body; raw = c.fill.new.raw; judged = c.scan.new.self.judged; fault = c.scan.new.self.fault } in
-    record { turn = head_full c.args.self.now c.scan.new.self new (g.W.Wire.past c.args.wire.now) (g.W.Wire.past c.fill.new.wire) at (record { asks = refl; head = refl; body = refl }) c.in-NoMemory.ensures.filled (record { judged = refl; head_fault = refl }) judged }
+    record { turn = head_full c.args.self.now c.scan.new.self new (g.W.Wire.past c.args.wire.now) (g.W.Wire.past c.fill.new.wire) at (record { asks = refl; head = refl; body = refl }) c.in-NoMemory.ensures.filled (record { judged = refl; head_fault = refl }) judged; asks = c.in-Ok-false.ensures.asks }

@@ -1,0 +1,159 @@
+//! A message whose head is read before its transaction: a user's request, or an origin's response to one.
+
+ghost use Rattle.std.specs.Prelude.{◌≡◌, ◌↔◌, List, ℕ, [], true, false, None, Some, IfSome, IsSome, option_copied};
+ghost use Rattle.trace_core.specs.History.{seen};
+ghost use Rattle.http_relay.specs.Source.{Agrees};
+ghost use Rattle.http_relay.specs.Reading.{HeadTurn, request_of, response_of};
+ghost use Rattle.proxy_rules.specs.Heads.{user_head};
+ghost use Rattle.proxy_rules.specs.Arrivals.{Arrives, point_of, is_head_in};
+
+use crate::expect::is_head;
+use crate::head_maker::HeadMaker;
+use adapt_sides::{RelayFault, Source};
+use http_relay::{Asks, SourceHead, SourceSide};
+use http_side::{HttpFault, HttpRequest, HttpResponse};
+use std::alloc::Global;
+use std::marker::Model;
+use trace_core::{Plan, Point};
+use wire_kit::Wire;
+
+/// A message whose head comes, or has come: its source's side, and for a response the side of the user whose request it answers.
+///
+/// What was read of it was read in turns at its head. An origin is asked for an answer to the user's own request: to HEAD or to another.
+#[derive(Drop)]
+pub struct Incoming {
+    side: SourceSide,
+    user: Option<SourceSide>,
+}
+
+impl Model for Incoming {
+    ghost use Rattle.proxy_rules.specs.Arrivals.{Arrival, Arrives};
+
+    ghost Value = { Arrival };
+
+    ghost view = { λ m. record { side = m.side; user = m.user } };
+
+    ghost invariant = { λ m. Arrives m.side m.user };
+}
+
+/// Whether the method of the request that was read is HEAD.
+fn asks_head(user: &SourceSide) -> bool
+    ensures { result ≡ is_head_in (request_of user.now.head) }
+{
+    match user.request_head() {
+        Some(head) => is_head(head),
+        None => false,
+    }
+}
+
+impl Incoming {
+    /// A user's first request, before its first byte.
+    pub fn request(alloc: Global) -> Incoming
+        ensures user { result.user ≡ None }
+    {
+        Incoming {
+            side: SourceSide::request(alloc),
+            user: None,
+        }
+    }
+
+    /// The answer to this user's request, before its first byte.
+    pub fn response(alloc: Global, user: SourceSide) -> Incoming
+        ensures user { result.user ≡ Some user }
+    {
+        let to_head = asks_head(&user);
+        Incoming {
+            side: SourceSide::response(alloc, to_head),
+            user: Some(user),
+        }
+    }
+
+    /// The next request on the connection of one that was read to its end: the bytes left over are its first. `None` where it wasn't.
+    pub fn next(request: SourceSide) -> Option<Incoming>
+        ensures user { IfSome result (λ next. next.user ≡ None) }
+        ensures raw { IfSome result (λ next. next.side.raw.items ≡ request.raw.items) }
+        ensures some { IsSome result ↔ (request.body.ended ≡ true) × (request.head ≡ SourceHead.Unread → ⊥) × (request.asks ≡ Asks.Request) }
+    {
+        if !request.ended() {
+            return None;
+        }
+        if !request.reads_requests() {
+            return None;
+        }
+        let mut side = request;
+        side.next();
+        let next = Incoming { side, user: None };
+        Some(next)
+    }
+
+    /// Which message it is.
+    pub fn point(&self) -> Point
+        ensures { result ≡ point_of self.now.user }
+    {
+        match &self.user {
+            Some(_) => Point::Respmod,
+            None => Point::Reqmod,
+        }
+    }
+
+    /// Reads the message's head: true once it was read. One read of the wire at most. A fault stays.
+    pub fn head_turn<W: Wire>(&mut self, wire: &mut W) -> Result<bool, RelayFault>
+        ensures turn { self.old.side.fault ≡ None → self.old.side.head ≡ SourceHead.Unread → HeadTurn self.old.side self.new.side (W.past wire.old) (W.past wire.new) result }
+        ensures user { self.new.user ≡ self.old.user }
+    {
+        self.side.head_turn(wire)
+    }
+
+    /// The head of the user's own request, once it was read.
+    pub fn user_head(&self) -> Option<&HttpRequest>
+        ensures { option_copied result ≡ request_of (user_head self.now.user self.now.side.head) }
+    {
+        match &self.user {
+            Some(user) => user.request_head(),
+            None => self.side.request_head(),
+        }
+    }
+
+    /// The head of a response, once it was read.
+    pub fn response_head(&self) -> Option<&HttpResponse>
+        ensures { option_copied result ≡ response_of self.now.side.head }
+    {
+        self.side.response_head()
+    }
+
+    /// Whether a byte of the message was read: of its head, or of an interim response before it that isn't whole.
+    pub fn has_begun(&self) -> bool
+        ensures { result ≡ false ↔ ((self.now.side.head ≡ SourceHead.Unread) × (self.now.side.raw.items ≡ [])) }
+    {
+        self.side.has_begun()
+    }
+
+    /// Why the head is refused, where a turn at it answered Head.
+    pub fn head_fault(&self) -> Option<HttpFault>
+        ensures { result ≡ self.now.side.head_fault }
+    {
+        self.side.head_fault()
+    }
+
+    /// Whether a transaction of this plan may begin: the head was read, nothing of the body was told, and a length that the plan
+    /// knows is the framing's.
+    pub(crate) fn begins(&self, plan: &Plan) -> bool
+        ensures { result ≡ true ↔ (self.now.side.head ≡ SourceHead.Unread → ⊥) × (self.now.side.fault ≡ None) × Agrees (seen plan.now []) self.now.side.body }
+    {
+        Source::begins(&self.side, plan)
+    }
+
+    /// The source's side, and what makes the heads of the message that goes on.
+    pub(crate) fn into_sides(self) -> (SourceSide, HeadMaker)
+        ensures side { result.0 ≡ self.side }
+        ensures user { result.1.user ≡ self.user }
+        ensures arrives { Arrives result.0 self.user }
+    {
+        let Incoming { side, user } = self;
+        let heads = match user {
+            Some(user) => HeadMaker::for_response(user),
+            None => HeadMaker::for_request(),
+        };
+        (side, heads)
+    }
+}
