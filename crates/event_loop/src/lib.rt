@@ -28,5 +28,5 @@ pub use listening::{Accepted, Listening};
 pub use ready_list::ReadyList;
 pub use room::{Place, Room};
 pub use slots::Slots;
-pub use threads::{Base, Doors, add_loop, run_loop};
+pub use threads::{Base, Entrance, add_loop, name_thread, run_loop};
 pub use work::{Driven, Told, Work};

@@ -3,6 +3,7 @@
 use mio::net::{TcpListener, TcpStream};
 use mio::{Interest, Registry, Token};
 use std::io::{self, ErrorKind};
+use std::time::Duration;
 
 /// What the system answers if it has no room for a connection, whoever it comes from: no memory, or no descriptor, of the
 /// process or of the machine.
@@ -13,6 +14,9 @@ const ENFILE: i32 = 23;
 const EMFILE: i32 = 24;
 
 const ENOBUFS: i32 = 105;
+
+/// How long a loop waits after the system refused a connection, in milliseconds.
+const REST: u64 = 20;
 
 /// What asking for a connection gave.
 #[derive(Drop)]
@@ -73,6 +77,20 @@ impl Listening {
     /// Whether more connections may wait than were asked for.
     pub fn is_behind(&self) -> bool {
         self.pause == Pause::Turn
+    }
+
+    /// Whether connections may wait that no event reports.
+    pub fn may_have_more(&self) -> bool {
+        self.pause != Pause::None
+    }
+
+    /// How long a loop may wait at most before it asks for connections that no event reports.
+    pub fn patience(&self) -> Option<Duration> {
+        match self.pause {
+            Pause::None => None,
+            Pause::Turn => Some(Duration::from_millis(0)),
+            Pause::System => Some(Duration::from_millis(REST)),
+        }
     }
 
     /// Has the loop ask again at its next turn.

@@ -8,6 +8,7 @@ mod hearing;
 use crate::askers::Askers;
 use crate::ended::LoopFault;
 use crate::inbox::{Handed, Inbox, begin, have_begun, stop_all};
+use crate::listening::Listening;
 use crate::ports::Ports;
 use crate::ready_list::ReadyList;
 use crate::work::{Driven, Told, Work};
@@ -48,6 +49,7 @@ pub struct EventLoop<K> {
     events: Events,
     seen: Vec<Event>,
     ports: Option<Ports>,
+    admin: Option<Listening>,
     askers: Askers,
     ready: ReadyList,
     start: Instant,
@@ -59,12 +61,13 @@ pub struct EventLoop<K> {
 }
 
 impl<K: Work> EventLoop<K> {
-    /// A loop over this poll, with the ports if it is the one that serves them, whose clock begins at this moment. `Err`
-    /// with the work where no memory was found.
+    /// A loop over this poll, with the ports that it serves, whose clock begins at this moment. `Err` with the work if no
+    /// memory was found.
     pub fn new(
         alloc: Global,
         poll: Poll,
         ports: Option<Ports>,
+        admin: Option<Listening>,
         start: Instant,
         work: K,
     ) -> Result<EventLoop<K>, K> {
@@ -82,6 +85,7 @@ impl<K: Work> EventLoop<K> {
             events,
             seen,
             ports,
+            admin,
             askers: Askers::new(alloc),
             ready,
             start,
@@ -98,6 +102,7 @@ impl<K: Work> EventLoop<K> {
             events: _,
             seen: _,
             ports: _,
+            admin: _,
             askers: _,
             ready: _,
             start: _,
@@ -123,14 +128,25 @@ impl<K: Work> EventLoop<K> {
         Ok(())
     }
 
+    /// How long the next wait may be for the ports' sake.
+    fn patience_of_ports(&self) -> Option<Duration> {
+        if let Some(ports) = &self.ports
+            && let Some(patience) = ports.patience()
+        {
+            return Some(patience);
+        }
+        match &self.admin {
+            Some(admin) => admin.patience(),
+            None => None,
+        }
+    }
+
     /// How long the next wait may be: the deadlines of exchanges are whole seconds of the loop's clock.
     fn patience(&self) -> Option<Duration> {
         if !self.ready.is_empty() || self.askers.are_behind() {
             return Some(Duration::from_millis(0));
         }
-        if let Some(ports) = &self.ports
-            && let Some(patience) = ports.patience()
-        {
+        if let Some(patience) = self.patience_of_ports() {
             return Some(patience);
         }
         if self.work.is_idle() && self.complete {
@@ -254,9 +270,7 @@ impl<K: Work> EventLoop<K> {
         rt: &R,
         alloc: Global,
         inboxes: &[Inbox],
-    ) -> io::Result<bool>
-        requires { 0 < length inboxes.now }
-    {
+    ) -> io::Result<bool> {
         let mut woken = false;
         for at in 0..self.seen.len() {
             let Some(event) = self.seen.get(at) else {
@@ -279,9 +293,7 @@ impl<K: Work> EventLoop<K> {
         alloc: Global,
         inboxes: &[Inbox],
         event: Event,
-    ) -> io::Result<()>
-        requires { 0 < length inboxes.now }
-    {
+    ) -> io::Result<()> {
         if event.token == LISTENER.0 {
             self.accept(rt, inboxes);
             return Ok(());
@@ -310,26 +322,22 @@ impl<K: Work> EventLoop<K> {
     }
 
     /// Accepts users.
-    fn accept<R: Wait>(&mut self, rt: &R, inboxes: &[Inbox])
-        requires { 0 < length inboxes.now }
-    {
+    fn accept<R: Wait>(&mut self, rt: &R, inboxes: &[Inbox]) {
         if let Some(ports) = &mut self.ports {
             ports.accept(rt, inboxes);
         }
     }
 
     /// Asks the ports for connections that no event reports.
-    fn ask_ports<R: Wait>(&mut self, rt: &R, alloc: Global, inboxes: &[Inbox])
-        requires { 0 < length inboxes.now }
-    {
-        let (users, admin) = match &self.ports {
-            Some(ports) => (ports.has_users(), ports.has_askers()),
-            None => (false, false),
-        };
-        if admin {
+    fn ask_ports<R: Wait>(&mut self, rt: &R, alloc: Global, inboxes: &[Inbox]) {
+        if let Some(admin) = &self.admin
+            && admin.may_have_more()
+        {
             self.accept_askers(alloc);
         }
-        if users {
+        if let Some(ports) = &self.ports
+            && ports.has_users()
+        {
             self.accept(rt, inboxes);
         }
     }

@@ -1,6 +1,6 @@
-//! The ports of the one loop that serves them: users that connect are handed out in rotation.
+//! The users' port, of the one loop that serves it: users that connect are handed out in rotation.
 
-ghost use Rattle.std.specs.Prelude.{◌≡◌, ◌<◌, ◌%◌, length};
+ghost use Rattle.std.specs.Prelude.{◌≡◌, ◌<◌, ◌%◌};
 
 use crate::inbox::{Handed, Inbox};
 use crate::listening::{Accepted, Listening};
@@ -12,20 +12,16 @@ use std::time::Duration;
 /// How many connections are accepted before others get their turn.
 const ACCEPTS: u32 = 256;
 
-/// How long a loop waits after the system refused a connection, in milliseconds.
-const REST: u64 = 20;
-
 /// How long a loop waits for room for a user, in milliseconds, before it asks again.
 const CROWDED: u64 = 5;
 
-/// The ports.
+/// The users' port.
 #[derive(Drop)]
 pub struct Ports {
-    /// Where users connect.
     users: Listening,
-    /// Where the administrator connects.
-    pub admin: Listening,
     room: Arc<Room>,
+    /// How many loops take users: the first ones.
+    loops: usize,
     /// A user for whom there is no room yet.
     waiting: Option<TcpStream>,
     /// How many users were handed out.
@@ -43,13 +39,21 @@ fn loop_of(number: u64, loops: usize) -> usize
     (number % loops as u64) as usize
 }
 
+/// The inbox of the loop whose turn it is, of the first ones of this number.
+fn inbox_of(number: u64, loops: usize, inboxes: &[Inbox]) -> Option<&Inbox> {
+    if loops == 0 {
+        return None;
+    }
+    inboxes.get(loop_of(number, loops))
+}
+
 impl Ports {
-    /// Both ports, before the first user, with room for users.
-    pub fn new(users: Listening, admin: Listening, room: Arc<Room>) -> Ports {
+    /// The port before the first user, with room for users, whom so many loops take.
+    pub fn new(users: Listening, room: Arc<Room>, loops: usize) -> Ports {
         Ports {
             users,
-            admin,
             room,
+            loops,
             waiting: None,
             accepted: 0,
             asked: 0,
@@ -58,25 +62,16 @@ impl Ports {
 
     /// How long a loop may wait at most before it asks for connections that no event reports.
     pub fn patience(&self) -> Option<Duration> {
-        if self.users.is_behind() || self.admin.is_behind() {
-            Some(Duration::from_millis(0))
-        } else if self.waiting.is_some() {
+        if self.waiting.is_some() && !self.users.is_behind() {
             Some(Duration::from_millis(CROWDED))
-        } else if self.users.rests() || self.admin.rests() {
-            Some(Duration::from_millis(REST))
         } else {
-            None
+            self.users.patience()
         }
     }
 
     /// Whether users may wait whom no event reports.
     pub fn has_users(&self) -> bool {
         self.waiting.is_some() || self.users.is_behind() || self.users.rests()
-    }
-
-    /// Whether administrators may wait whom no event reports.
-    pub fn has_askers(&self) -> bool {
-        self.admin.is_behind() || self.admin.rests()
     }
 
     /// The user who waits for room, or the next one.
@@ -88,9 +83,7 @@ impl Ports {
     }
 
     /// Accepts users while there is room for them, and hands them out in rotation. One for whom no memory is found is closed.
-    pub fn accept<R: Wait>(&mut self, rt: &R, inboxes: &[Inbox])
-        requires { 0 < length inboxes.now }
-    {
+    pub fn accept<R: Wait>(&mut self, rt: &R, inboxes: &[Inbox]) {
         for _ in 0..ACCEPTS {
             match self.next() {
                 Accepted::One(stream) => {
@@ -107,13 +100,13 @@ impl Ports {
 
     /// Hands a user to the loop whose turn it is. False if there is no room for it: then it waits, and a loop is asked to
     /// make some.
-    fn hand<R: Wait>(&mut self, rt: &R, inboxes: &[Inbox], stream: TcpStream) -> bool
-        requires { 0 < length inboxes.now }
-    {
+    fn hand<R: Wait>(&mut self, rt: &R, inboxes: &[Inbox], stream: TcpStream) -> bool {
         let Some(place) = Room::enter(&self.room) else {
             self.waiting = Some(stream);
             self.asked = self.asked.wrapping_add(1);
-            inboxes[loop_of(self.asked, inboxes.len())].crowd();
+            if let Some(inbox) = inbox_of(self.asked, self.loops, inboxes) {
+                inbox.crowd();
+            }
             return false;
         };
         self.accepted = self.accepted.saturating_add(1);
@@ -123,7 +116,9 @@ impl Ports {
             number,
             place,
         };
-        let _ = inboxes[loop_of(number, inboxes.len())].hand(rt, user);
+        if let Some(inbox) = inbox_of(number, self.loops, inboxes) {
+            let _ = inbox.hand(rt, user);
+        }
         true
     }
 }

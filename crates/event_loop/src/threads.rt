@@ -17,43 +17,53 @@ use std::net::Net;
 use std::sync::{Arc, Wait};
 use std::time::{Clock, Instant};
 
-/// What a loop is made on: its poll, and its ports if it has any.
+/// What a loop is made on: its poll, and the ports that it serves.
 #[derive(Drop)]
 pub struct Base {
     poll: Poll,
     ports: Option<Ports>,
+    admin: Option<Listening>,
 }
 
-/// Where users and the administrator connect, and how many users there is room for.
+/// Where users connect, for how many there is room, and how many loops take them: the first ones.
 #[derive(Drop)]
-pub struct Doors {
-    pub users: TcpListener,
-    pub admin: TcpListener,
+pub struct Entrance {
+    pub listener: TcpListener,
     pub room: Room,
+    pub loops: usize,
 }
 
-/// Makes a poll, and its inbox as the last one; with the doors it serves the users' and the administrator's port.
+/// Makes a poll, and its inbox as the last one. Its loop serves the users' port, the administrator's, both or neither.
 pub fn add_loop<R: Net>(
     rt: &R,
     alloc: Global,
-    doors: Option<Doors>,
+    users: Option<Entrance>,
+    admin: Option<TcpListener>,
     inboxes: &mut Vec<Inbox>,
 ) -> io::Result<Base> {
     let poll = Poll::new(rt)?;
-    let ports = match doors {
-        Some(Doors { users, admin, room }) => Some(Ports::new(
-            Listening::new(users, poll.registry(), LISTENER)?,
-            Listening::new(admin, poll.registry(), ADMIN)?,
+    let ports = match users {
+        Some(Entrance {
+            listener,
+            room,
+            loops,
+        }) => Some(Ports::new(
+            Listening::new(listener, poll.registry(), LISTENER)?,
             Arc::new(alloc, room)?,
+            loops,
         )),
         None => None,
     };
+    let admin = match admin {
+        Some(listener) => Some(Listening::new(listener, poll.registry(), ADMIN)?),
+        None => None,
+    };
     inboxes.push(Inbox::new(alloc, Waker::new(poll.registry(), WAKER)?))?;
-    Ok(Base { poll, ports })
+    Ok(Base { poll, ports, admin })
 }
 
-/// Names the thread of a loop, as `top -H` and `perf` show it.
-fn name_thread(number: usize) {
+/// Names the thread of a loop that takes users, as `top -H` and `perf` show it.
+pub fn name_thread(number: usize) {
     let mut name = *b"shard-00";
     let low = b'0' + (number % 10) as u8;
     if number < 10 {
@@ -76,7 +86,6 @@ pub fn run_loop<K: Work, R: Wait + Dial + Clock>(
     work: K,
     inboxes: &[Inbox],
 ) -> Ended<K> {
-    name_thread(number);
     let Ok(start) = Instant::now(rt) else {
         stop_all(inboxes);
         return Ended {
@@ -84,8 +93,8 @@ pub fn run_loop<K: Work, R: Wait + Dial + Clock>(
             fault: Some(LoopFault::System),
         };
     };
-    let Base { poll, ports } = base;
-    match EventLoop::new(alloc, poll, ports, start, work) {
+    let Base { poll, ports, admin } = base;
+    match EventLoop::new(alloc, poll, ports, admin, start, work) {
         Ok(one) if number < inboxes.len() => {
             let mut one = one;
             let fault = one.run_out(rt, alloc, number, inboxes);

@@ -10,7 +10,8 @@ use proxy_config::{Config, ServicePoint};
 /// Beside its users and theirs each thread has a poll and a waker, and users that it refuses.
 const OF_A_THREAD: u64 = 18;
 
-/// The standard streams, the ports, the administrator's connections, and what the system's library may open.
+/// The standard streams, the ports, the administrator's connections, the poll and the waker of their loop, and what the
+/// system's library may open.
 const OF_THE_PROGRAM: u64 = 24;
 
 /// How the line on descriptors begins in what the system says of a process's limits.

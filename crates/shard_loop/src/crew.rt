@@ -5,9 +5,12 @@ ghost use Rattle.std.specs.Prelude.{◌≡◌};
 use crate::audit::ServeFault;
 use crate::desk::Shared;
 use crate::left::Left;
+use crate::office::Office;
 use crate::pools::{Pools, Spare};
 use crate::shard::Shard;
-use event_loop::{Base, Doors, Ended, Inbox, LoopFault, Room, add_loop, run_loop, stop_all};
+use event_loop::{
+    Base, Ended, Entrance, Inbox, LoopFault, Room, add_loop, name_thread, run_loop, stop_all,
+};
 use mio::net::TcpListener;
 use proxy_config::{Config, MAX_SHARDS, ServicePoint};
 use service_pool::Pool;
@@ -29,41 +32,51 @@ fn idle_connections(service: &Option<ServicePoint>) -> u64 {
     }
 }
 
-/// The doors of the proxy, with room for as many users as its descriptors serve.
-fn doors_of(config: &Config, ports: (TcpListener, TcpListener)) -> Doors {
-    let (users, admin) = ports;
+/// Where users connect, with room for as many of them as the proxy's descriptors serve.
+fn entrance_of(config: &Config, listener: TcpListener) -> Entrance {
     let idle = idle_connections(&config.reqmod).saturating_add(idle_connections(&config.respmod));
-    Doors {
-        users,
-        admin,
-        room: Room::of_system(config.shards, idle),
+    Entrance {
+        listener,
+        room: Room::of_system(config.shards.saturating_add(1), idle),
+        loops: config.shards as usize,
     }
 }
 
-/// Makes a base for each thread. The first one has the doors.
+/// Makes a base for one more loop, behind the others.
+fn add_base<R: Net>(
+    rt: &R,
+    alloc: Global,
+    users: Option<Entrance>,
+    admin: Option<TcpListener>,
+    inboxes: &mut Vec<Inbox>,
+    bases: &mut Vec<Option<Base>>,
+) -> Result<(), ServeFault> {
+    let base = match add_loop(rt, alloc, users, admin, inboxes) {
+        Ok(base) => base,
+        Err(error) => return Err(start_fault(LoopFault::of(error))),
+    };
+    if bases.push(Some(base)).is_err() {
+        return Err(ServeFault::NoMemory);
+    }
+    Ok(())
+}
+
+/// Makes a base for each loop that takes users, and one for the administrator's. The first one has the users' port, the last
+/// one the administrator's: it runs in the thread that waits for the others, and keeps the program's name.
 fn make_bases<R: Net>(
     rt: &R,
     alloc: Global,
     count: u64,
-    doors: Doors,
+    users: Entrance,
+    admin: TcpListener,
     inboxes: &mut Vec<Inbox>,
 ) -> Result<Vec<Option<Base>>, ServeFault> {
     let mut bases = Vec::new(alloc);
-    let mut doors = Some(doors);
+    let mut users = Some(users);
     for _ in 0..count {
-        let base = match add_loop(rt, alloc, doors.take(), inboxes) {
-            Ok(base) => base,
-            Err(error) => return Err(start_fault(LoopFault::of(error))),
-        };
-        if bases.push(Some(base)).is_err() {
-            return Err(ServeFault::NoMemory);
-        }
+        add_base(rt, alloc, users.take(), None, inboxes, &mut bases)?;
     }
-
-    // The last place is that of the thread that waits for the others, and keeps the program's name.
-    if bases.push(None).is_err() {
-        return Err(ServeFault::NoMemory);
-    }
+    add_base(rt, alloc, None, Some(admin), inboxes, &mut bases)?;
     Ok(bases)
 }
 
@@ -156,8 +169,8 @@ where
     );
 }
 
-/// Runs as many loops as are configured, each in a thread of its own, until one is told to stop or fails: then all end.
-/// What is left comes together.
+/// Runs as many loops as are configured, each in a thread of its own, and the administrator's in this one, until one is told
+/// to stop or fails: then all end. What is left comes together.
 pub fn run_crew<
     B: Ledgers + Send + Sync,
     Q: Ledger + Send + Sync,
@@ -182,8 +195,9 @@ where
     B::Pages: Send + Sync,
 {
     let mut inboxes = Vec::new(alloc);
-    let doors = doors_of(config, ports);
-    let mut bases = make_bases(rt, alloc, config.shards, doors, &mut inboxes)?;
+    let (users, admin) = ports;
+    let users = entrance_of(config, users);
+    let mut bases = make_bases(rt, alloc, config.shards, users, admin, &mut inboxes)?;
     run_on(
         rt,
         alloc,
@@ -213,6 +227,12 @@ fn run_one<B: Ledgers, Q: Ledger, A: Ledger, G: Gate, K: Place, N: Inboxes, R: W
     number: usize,
     place: &mut K,
 ) {
+    let Some(base) = place.take_base() else {
+        return;
+    };
+    if number as u64 >= config.shards {
+        return run_office(rt, alloc, bank, number, base, inboxes.all(), left);
+    }
     let pools = Pools { request, response };
     let shared = Shared {
         config,
@@ -220,8 +240,23 @@ fn run_one<B: Ledgers, Q: Ledger, A: Ledger, G: Gate, K: Place, N: Inboxes, R: W
         pools,
         gate,
     };
-    if let Some(base) = place.take_base() {
-        run_base(rt, alloc, shared, number, base, inboxes.all(), left);
+    run_base(rt, alloc, shared, number, base, inboxes.all(), left);
+}
+
+/// Runs the administrator's loop. Where it fails, all others are told to stop.
+fn run_office<B: Ledgers, Q: Ledger, A: Ledger, R: Wait + Dial + Clock>(
+    rt: &R,
+    alloc: Global,
+    bank: &Bank<B>,
+    number: usize,
+    base: Base,
+    inboxes: &[Inbox],
+    left: &Mutex<Left<B, Q, A>>,
+) {
+    let office = Office { alloc, bank };
+    let Ended { work: _, fault } = run_loop(rt, alloc, number, base, office, inboxes);
+    if let Some(fault) = fault {
+        left.lock(rt).fail(loop_fault(fault));
     }
 }
 
@@ -235,6 +270,7 @@ fn run_base<'a, B: Ledgers, Q: Ledger, A: Ledger, G: Gate, R: Wait + Dial + Cloc
     inboxes: &[Inbox],
     left: &Mutex<Left<B, Q, A>>,
 ) {
+    name_thread(number);
     let bank = shared.bank;
     let pools = shared.pools.again();
     let Ok(shard) = Shard::new(alloc, shared) else {

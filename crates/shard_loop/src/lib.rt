@@ -5,7 +5,6 @@
 //! response goes to the user as another one. The loops of `event_loop` drive them.
 #![tactic(auto)]
 
-mod admin;
 mod apart;
 mod audit;
 mod begin;
@@ -15,6 +14,7 @@ mod desk;
 mod ending;
 mod halting;
 mod left;
+mod office;
 mod options;
 mod phase;
 mod pools;

@@ -1,7 +1,7 @@
 //! Loops in threads, over loopback: they echo.
 
 use event_loop::{
-    Base, Doors, Driven, Ended, Handed, Inbox, Place, Request, Room, Told, Work, add_loop, run_loop,
+    Base, Driven, Ended, Entrance, Handed, Inbox, Place, Request, Room, Told, Work, add_loop, run_loop,
 };
 use mio::net::TcpListener;
 use mio::{Registry, Token};
@@ -190,11 +190,15 @@ fn make(
     listeners: (TcpListener, TcpListener),
     inboxes: &mut Vec<Inbox>,
 ) -> io::Result<[Option<Base>; 2]> {
-    let (users, admin) = listeners;
+    let (listener, admin) = listeners;
     let room = Room::new(1);
-    let doors = Doors { users, admin, room };
-    let first = add_loop(rt, rt.alloc(), Some(doors), inboxes)?;
-    let second = add_loop(rt, rt.alloc(), None, inboxes)?;
+    let users = Entrance {
+        listener,
+        room,
+        loops: 2,
+    };
+    let first = add_loop(rt, rt.alloc(), Some(users), None, inboxes)?;
+    let second = add_loop(rt, rt.alloc(), None, Some(admin), inboxes)?;
     Ok([Some(first), Some(second)])
 }
 

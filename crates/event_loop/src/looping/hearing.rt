@@ -11,9 +11,8 @@ use std::sync::Wait;
 impl<K: Work> EventLoop<K> {
     /// Takes in connections of the administrator.
     pub(super) fn accept_askers(&mut self, alloc: Global) {
-        if let Some(ports) = &mut self.ports {
-            self.askers
-                .accept(alloc, &mut ports.admin, self.poll.registry());
+        if let Some(admin) = &mut self.admin {
+            self.askers.accept(alloc, admin, self.poll.registry());
         }
     }
 
