@@ -6,6 +6,7 @@ use wire_kit::{MemoryWire, ReadAnswer, WriteAnswer};
 fn lines_ask(rt: HostRuntime) {
     let cases = [
         (b"book".as_slice(), Request::Book),
+        (b"drain".as_slice(), Request::Drain),
         (b"stop".as_slice(), Request::Stop),
         (b"capacity 1".as_slice(), Request::Capacity(1)),
         (b"capacity 0004096".as_slice(), Request::Capacity(4096)),

@@ -5,7 +5,7 @@ use Rattle.std.specs.Str.{str_eq_ignore_ascii_case}
 use Rattle.adapt_bytes.specs.declared.limits.TheConstants.{MAX_CAPACITY}
 use Rattle.adapt_bytes.specs.Numeral.{Writes}
 use Rattle.event_loop.specs.declared.admin_lines.Request.{Request}
-use Rattle.event_loop.specs.declared.admin_lines.Request.TheVariants.{Book, Capacity, Stop, Bad}
+use Rattle.event_loop.specs.declared.admin_lines.Request.TheVariants.{Book, Capacity, Drain, Stop, Bad}
 
 -- the digits spell a size of the buffer budget
 abbrev pub SpellsSize : List ℕ → ℕ → Type 0
@@ -18,9 +18,10 @@ AsksForSize line n = (digits : List ℕ) × (line ≡ codes "capacity " ++ digit
 -- the line asks for this, or for nothing that there is
 abbrev pub Asks : List ℕ → Request → Type 0
 Asks line Book = line ≡ codes "book"
+Asks line Drain = line ≡ codes "drain"
 Asks line Stop = line ≡ codes "stop"
 Asks line (Capacity n) = AsksForSize line n
-Asks line Bad = (line ≢ codes "book") × (line ≢ codes "stop") × ((n : ℕ) → AsksForSize line n → ⊥)
+Asks line Bad = (line ≢ codes "book") × (line ≢ codes "drain") × (line ≢ codes "stop") × ((n : ℕ) → AsksForSize line n → ⊥)
 
 -- a byte of a method as all registered ones are written: a capital letter or a hyphen (RFC 9110, section 9.1)
 abbrev pub is_method_byte : ℕ → Bool

@@ -15,6 +15,9 @@ pub enum Request {
     Book,
     /// `capacity N`: another size of the buffer budget, 1 to [`MAX_CAPACITY`] bytes.
     Capacity(u64),
+    /// `drain`: no new user is taken, exchanges are the last ones on their connections, and the program ends once all users
+    /// have gone.
+    Drain,
     /// `stop`: every transaction fails, and the program ends.
     Stop,
     /// Any other line.
@@ -38,6 +41,9 @@ pub fn read_request(line: &[u8]) -> Request
 {
     if line == b"book".as_slice() {
         return Request::Book;
+    }
+    if line == b"drain".as_slice() {
+        return Request::Drain;
     }
     if line == b"stop".as_slice() {
         return Request::Stop;

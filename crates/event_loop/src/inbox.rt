@@ -1,4 +1,4 @@
-//! What other threads hand to an event loop: users' connections, that room is wanted, and the word to stop.
+//! What other threads hand to an event loop: users' connections, that room is wanted, and the words to drain and to stop.
 
 use crate::room::Place;
 use mio::Waker;
@@ -20,6 +20,7 @@ pub struct Handed {
 #[derive(Drop)]
 pub struct Inbox {
     users: Mutex<Vec<Handed>>,
+    drains: AtomicBool,
     stops: AtomicBool,
     crowded: AtomicBool,
     begun: AtomicBool,
@@ -31,6 +32,7 @@ impl Inbox {
     pub fn new(alloc: Global, waker: Waker) -> Inbox {
         Inbox {
             users: Mutex::new(Vec::new(alloc)),
+            drains: AtomicBool::new(false),
             stops: AtomicBool::new(false),
             crowded: AtomicBool::new(false),
             begun: AtomicBool::new(false),
@@ -54,6 +56,17 @@ impl Inbox {
     /// Ends the wait of the loop.
     pub fn wake(&self) {
         let _ = self.waker.wake();
+    }
+
+    /// Has the loop let its users go, and wakes it.
+    pub fn drain(&self) {
+        self.drains.store(true, Ordering::SeqCst);
+        self.wake();
+    }
+
+    /// Whether the loop is to let its users go.
+    pub fn is_draining(&self) -> bool {
+        self.drains.load(Ordering::SeqCst)
     }
 
     /// Has the loop stop, and wakes it. This takes no lock and no memory, so a loop that failed can do it too.
@@ -97,6 +110,13 @@ pub fn begin(number: usize, inboxes: &[Inbox]) {
 /// Whether every loop has begun.
 pub fn have_begun(inboxes: &[Inbox]) -> bool {
     inboxes.iter().all(|inbox| inbox.has_begun())
+}
+
+/// Has every loop let its users go.
+pub fn drain_all(inboxes: &[Inbox]) {
+    for inbox in inboxes {
+        inbox.drain();
+    }
 }
 
 /// Has every loop stop.

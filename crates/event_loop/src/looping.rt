@@ -2,6 +2,7 @@
 
 ghost use Rattle.std.specs.Prelude.{◌<◌, length};
 
+mod draining;
 mod farewell;
 mod hearing;
 
@@ -57,6 +58,8 @@ pub struct EventLoop<K> {
     elapsed: u64,
     /// Whether every loop has begun.
     complete: bool,
+    /// Whether users are let go.
+    draining: bool,
     work: K,
 }
 
@@ -91,6 +94,7 @@ impl<K: Work> EventLoop<K> {
             start,
             elapsed: 0,
             complete: false,
+            draining: false,
             work,
         })
     }
@@ -108,6 +112,7 @@ impl<K: Work> EventLoop<K> {
             start: _,
             elapsed: _,
             complete: _,
+            draining: _,
             work,
         } = self;
         work
@@ -201,6 +206,9 @@ impl<K: Work> EventLoop<K> {
                 return Ok(());
             }
             self.wait_for_all(inboxes)?;
+            if inboxes[number].is_draining() {
+                self.drain(rt, inboxes)?;
+            }
             self.turn(rt, alloc, number, inboxes)?;
             if before != self.now() {
                 self.drive_all(rt)?;

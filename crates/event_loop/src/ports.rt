@@ -15,10 +15,14 @@ const ACCEPTS: u32 = 256;
 /// How long a loop waits for room for a user, in milliseconds, before it asks again.
 const CROWDED: u64 = 5;
 
+/// How long a loop waits for the last user to go, in milliseconds, before it looks again.
+const DRAINING: u64 = 50;
+
 /// The users' port.
 #[derive(Drop)]
 pub struct Ports {
-    users: Listening,
+    /// Where users connect; none once no further one is taken.
+    users: Option<Listening>,
     room: Arc<Room>,
     /// How many loops take users: the first ones.
     loops: usize,
@@ -51,7 +55,7 @@ impl Ports {
     /// The port before the first user, with room for users, whom so many loops take.
     pub fn new(users: Listening, room: Arc<Room>, loops: usize) -> Ports {
         Ports {
-            users,
+            users: Some(users),
             room,
             loops,
             waiting: None,
@@ -62,23 +66,40 @@ impl Ports {
 
     /// How long a loop may wait at most before it asks for connections that no event reports.
     pub fn patience(&self) -> Option<Duration> {
-        if self.waiting.is_some() && !self.users.is_behind() {
-            Some(Duration::from_millis(CROWDED))
-        } else {
-            self.users.patience()
+        match &self.users {
+            Some(users) if self.waiting.is_none() || users.is_behind() => users.patience(),
+            None if self.waiting.is_none() => Some(Duration::from_millis(DRAINING)),
+            _ => Some(Duration::from_millis(CROWDED)),
         }
     }
 
     /// Whether users may wait whom no event reports.
     pub fn has_users(&self) -> bool {
-        self.waiting.is_some() || self.users.is_behind() || self.users.rests()
+        match &self.users {
+            Some(users) => self.waiting.is_some() || users.may_have_more(),
+            None => self.waiting.is_some(),
+        }
+    }
+
+    /// Takes in those that have connected, and closes the port: a further user is refused by the system.
+    pub fn close<R: Wait>(&mut self, rt: &R, inboxes: &[Inbox]) {
+        self.accept(rt, inboxes);
+        self.users = None;
+    }
+
+    /// Whether the port is closed, and the last user has gone.
+    pub fn is_over(&self) -> bool {
+        self.users.is_none() && self.waiting.is_none() && self.room.is_empty()
     }
 
     /// The user who waits for room, or the next one.
     fn next(&mut self) -> Accepted {
         match self.waiting.take() {
             Some(stream) => Accepted::One(stream),
-            None => self.users.accept(),
+            None => match &mut self.users {
+                Some(users) => users.accept(),
+                None => Accepted::None,
+            },
         }
     }
 
@@ -95,7 +116,9 @@ impl Ports {
                 Accepted::None | Accepted::Rest => return,
             }
         }
-        self.users.fall_behind();
+        if let Some(users) = &mut self.users {
+            users.fall_behind();
+        }
     }
 
     /// Hands a user to the loop whose turn it is. False if there is no room for it: then it waits, and a loop is asked to

@@ -57,6 +57,11 @@ impl Room {
         Room::new((limit.rlim_cur.saturating_sub(others) / USER).max(1))
     }
 
+    /// Whether there is no user.
+    pub fn is_empty(&self) -> bool {
+        self.used.load(Ordering::SeqCst) == 0
+    }
+
     /// A place for one more user, if there is one.
     pub fn enter(room: &Arc<Room>) -> Option<Place> {
         if room.used.load(Ordering::SeqCst) >= room.most {

@@ -68,6 +68,10 @@ pub trait Work {
     /// The answer to a line of the admin port. `Err` if no memory was found for it.
     fn answer<R: Wait>(&mut self, rt: &R, request: Request) -> Result<Vec<u8>, AllocError>;
 
-    /// Ends all exchanges. Those whose users still have to get their refusal are driven on for a while.
+    /// Takes note that no further user comes, and that exchanges are the last ones of their connections from now on: it is
+    /// driven for each of them after that.
+    fn drain(&mut self);
+
+    /// Ends all exchanges. Those whose users are still to be told so are driven on for a while.
     fn halt<R: Wait + Dial + Clock>(&mut self, rt: &R, registry: &Registry, now: u64);
 }

@@ -44,6 +44,8 @@ pub struct Desk<'a, B: Ledgers, Q: Ledger, A: Ledger, G: Gate> {
     pub request_book: PointBook,
     pub response_book: PointBook,
     pub scratch: Vec<u8>,
+    /// Whether users are let go: no connection carries a further request.
+    pub draining: bool,
     /// Whether the proxy stops: no exchange goes on to its next message.
     pub stopping: bool,
 }
@@ -65,6 +67,7 @@ impl<'a, B: Ledgers, Q: Ledger, A: Ledger, G: Gate> Desk<'a, B, Q, A, G> {
             request_book: PointBook::new(),
             response_book: PointBook::new(),
             scratch,
+            draining: false,
             stopping: false,
         })
     }

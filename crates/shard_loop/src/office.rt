@@ -83,9 +83,11 @@ impl<'a, B: Ledgers> Work for Office<'a, B> {
         match request {
             Request::Book => self.say_book(rt),
             Request::Capacity(n) => self.set_capacity(rt, n),
-            Request::Stop | Request::Bad => b"bad\n".to_vec(self.alloc),
+            Request::Drain | Request::Stop | Request::Bad => b"bad\n".to_vec(self.alloc),
         }
     }
+
+    fn drain(&mut self) {}
 
     fn halt<R: Wait + Dial + Clock>(&mut self, _rt: &R, _registry: &Registry, _now: u64) {}
 }

@@ -223,6 +223,10 @@ impl<'a, B: Ledgers, Q: Ledger, A: Ledger, G: Gate> Work for Shard<'a, B, Q, A, 
         b"bad\n".to_vec(self.desk.alloc)
     }
 
+    fn drain(&mut self) {
+        self.desk.draining = true;
+    }
+
     fn halt<R: Wait + Dial + Clock>(&mut self, rt: &R, registry: &Registry, now: u64) {
         self.desk.stopping = true;
         for key in 0..self.slots.count() {

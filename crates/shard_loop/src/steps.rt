@@ -17,6 +17,9 @@ use std::time::Clock;
 use trace_core::Point;
 use wire_kit::{Gate, Put, Wire};
 
+/// How many seconds a user that is let go may say nothing.
+const GRACE: u64 = 1;
+
 impl<'a, B: Ledgers, Q: Ledger, A: Ledger, G: Gate> Desk<'a, B, Q, A, G> {
     /// A step of an exchange.
     pub fn step<R: Wait + Dial + Clock>(
@@ -41,6 +44,11 @@ impl<'a, B: Ledgers, Q: Ledger, A: Ledger, G: Gate> Desk<'a, B, Q, A, G> {
         self.seats.is_late(at, self.shared.config.deadline)
     }
 
+    /// Whether a user is let go that has said nothing of a request: for a while a request may be on its way.
+    fn lets_go(&self, at: At<'_>, ends: &Ends) -> bool {
+        self.draining && !ends.message.has_begun() && self.seats.is_late(at, GRACE)
+    }
+
     /// Reads the head of the next request.
     fn head_step<R: Wait + Dial + Clock>(
         &mut self,
@@ -62,7 +70,7 @@ impl<'a, B: Ledgers, Q: Ledger, A: Ledger, G: Gate> Desk<'a, B, Q, A, G> {
                 self.offer(rt, at, ends, Point::Reqmod)
             }
             Ok(false) if moved => Step::On(Phase::Head(ends)),
-            Ok(false) if self.is_late(at) => Step::Over,
+            Ok(false) if self.is_late(at) || self.lets_go(at, &ends) => Step::Over,
             Ok(false) => Step::Waits(Phase::Head(ends)),
             Err(fault) => match user_head_reason(fault, ends.message.head_fault()) {
                 Some(reason) => self.refuse_user(at, ends, reason),

@@ -127,6 +127,8 @@ impl Work for Echo {
         }
     }
 
+    fn drain(&mut self) {}
+
     fn halt<R: Wait + Dial + Clock>(&mut self, _rt: &R, _registry: &Registry, _now: u64) {
         self.all.clear();
     }

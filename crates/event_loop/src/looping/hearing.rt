@@ -2,7 +2,7 @@
 
 use crate::admin_lines::Request;
 use crate::askers::{LINES, MAX_ASKERS};
-use crate::inbox::{Inbox, stop_all};
+use crate::inbox::{Inbox, drain_all, stop_all};
 use crate::looping::EventLoop;
 use crate::work::Work;
 use std::alloc::Global;
@@ -21,6 +21,10 @@ impl<K: Work> EventLoop<K> {
         for _ in 0..LINES {
             match self.askers.hear(key) {
                 Some(Request::Stop) => stop_all(inboxes),
+                Some(Request::Drain) => {
+                    drain_all(inboxes);
+                    self.askers.say(key, b"ok\n");
+                }
                 Some(Request::Bad) => self.askers.say(key, b"bad\n"),
                 Some(request) => match self.work.answer(rt, request) {
                     Ok(answer) => self.askers.say(key, answer.as_slice()),
