@@ -8,7 +8,7 @@ use Rattle.http_relay.specs.declared.side.SourceHead.{SourceHead}
 use Rattle.http_relay.specs.declared.side.SourceHead.TheVariants as heads
 use Rattle.http_relay.specs.declared.side.SourceSide.{SourceSide}
 use Rattle.http_relay.specs.Reading.{request_of}
-use Rattle.proxy_rules.specs.Heads.{Makes, MakesOf, user_head, body_read_of}
+use Rattle.proxy_rules.specs.Heads.{Makes, MakesOf, user_head, carries_on_of}
 use Rattle.proxy_rules.specs.declared.onward.Headed.{Headed}
 
 -- a side whose request is there has read its head
@@ -17,8 +17,8 @@ pub was_read : (user : Option SourceSide) (source : SourceHead) (asked : Request
 was_read None source asked e = tt
 was_read (Some side) source asked e = λ unread. (let found : request_of heads.Unread ≡ Some asked = rw unread at e in cc)
 
-pub makes : (r : Result Headed Cause) (user : Option SourceSide) (source : SourceHead) (x : Seen) (adapted : Option (List ℕ)) (is_response : Bool)
-    (asked : RequestParts) (body_read has_body : Bool) → request_of (user_head user source) ≡ Some asked → body_read ≡ body_read_of user x → has_body ≡ x.has_body
-    → IfOk r (MakesOf source asked body_read adapted is_response has_body) → IfOk r (Makes user source x adapted is_response)
-makes (Ok headed) user source x adapted is_response asked body_read has_body e b f m = record { asked = asked; asked_is = e; makes = rw (b, f) at m }
-makes (Err cause) user source x adapted is_response asked body_read has_body e b f m = tt
+pub makes : (r : Result Headed Cause) (last : Bool) (user : Option SourceSide) (source : SourceHead) (x : Seen) (adapted : Option (List ℕ)) (is_response : Bool)
+    (asked : RequestParts) (body_read has_body : Bool) → request_of (user_head user source) ≡ Some asked → body_read ≡ carries_on_of last user x → has_body ≡ x.has_body
+    → IfOk r (MakesOf source asked body_read adapted is_response has_body) → IfOk r (Makes last user source x adapted is_response)
+makes (Ok headed) last user source x adapted is_response asked body_read has_body e b f m = record { asked = asked; asked_is = e; makes = rw (b, f) at m }
+makes (Err cause) last user source x adapted is_response asked body_read has_body e b f m = tt

@@ -1,5 +1,5 @@
 -- The head of a transaction's chosen message.
-use Rattle.std.specs.Prelude.{◌≡◌, ◌⊎◌, Bool, true, false, List, ℕ, Option, Some, None}
+use Rattle.std.specs.Prelude.{◌≡◌, ◌⊎◌, Bool, true, false, not, ◌&&◌, List, ℕ, Option, Some, None}
 use Rattle.trace_core.specs.declared.history.Cause.{Cause}
 use Rattle.trace_core.specs.declared.history.Cause.TheVariants as causes
 use Rattle.trace_core.specs.declared.history.Seen.{Seen}
@@ -37,16 +37,20 @@ abbrev pub body_read_of : Option SourceSide → Seen → Bool
 body_read_of None x = x.ended
 body_read_of (Some user) x = user.body.ended
 
+-- whether the connection may carry a further request: the message isn't its last one, and the request was read to its end
+abbrev pub carries_on_of : Bool → Option SourceSide → Seen → Bool
+carries_on_of last user x = not last && body_read_of user x
+
 -- a message that goes on, of what the transaction has
-pub record Makes (user : Option SourceSide) (source : SourceHead) (x : Seen) (adapted : Option (List ℕ)) (is_response : Bool) (headed : Headed) : Type 0 where
+pub record Makes (last : Bool) (user : Option SourceSide) (source : SourceHead) (x : Seen) (adapted : Option (List ℕ)) (is_response : Bool) (headed : Headed) : Type 0 where
   pub asked : RequestParts
   pub asked_is : request_of (user_head user source) ≡ Some asked
-  pub makes : MakesOf source asked (body_read_of user x) adapted is_response x.has_body headed
+  pub makes : MakesOf source asked (carries_on_of last user x) adapted is_response x.has_body headed
 
 -- and what is told of it: its text, how its body goes, and whether the user's connection ends behind it
-pub record Remembers (user : Option SourceSide) (source : SourceHead) (x : Seen) (adapted : Option (List ℕ)) (is_response : Bool) (head : List ℕ) (framing : Framing) (ends : Bool) : Type 0 where
+pub record Remembers (last : Bool) (user : Option SourceSide) (source : SourceHead) (x : Seen) (adapted : Option (List ℕ)) (is_response : Bool) (head : List ℕ) (framing : Framing) (ends : Bool) : Type 0 where
   pub headed : Headed
-  pub makes : Makes user source x adapted is_response headed
+  pub makes : Makes last user source x adapted is_response headed
   pub head_is : head ≡ headed.head.items
   pub framing_is : framing ≡ headed.framing
   pub ends_is : ends ≡ headed.closes

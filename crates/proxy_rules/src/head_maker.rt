@@ -3,7 +3,7 @@
 ghost use Rattle.std.specs.Prelude.{◌≡◌, IfOk, IfErr, IfSome, true, false, Some, None, option_copied};
 ghost use Rattle.trace_core.specs.History.{seen};
 ghost use Rattle.http_relay.specs.Reading.{request_of};
-ghost use Rattle.proxy_rules.specs.Heads.{Makes, MakesNone, Remembers, MakesOf, MakesNoneOf, user_head, body_read_of};
+ghost use Rattle.proxy_rules.specs.Heads.{Makes, MakesNone, Remembers, MakesOf, MakesNoneOf, user_head, body_read_of, carries_on_of};
 
 use crate::onward::{
     Asked, Headed, adapted_request, adapted_response, request_onward, response_onward,
@@ -18,28 +18,34 @@ use trace_core::{Cause, State};
 #[derive(Drop)]
 pub struct HeadMaker {
     user: Option<SourceSide>,
+    /// Whether the message is the last one of its user's connection, whatever else is said.
+    last: bool,
     closes: bool,
 }
 
 impl HeadMaker {
-    /// For a request: its source is the user's side.
-    pub fn for_request() -> HeadMaker
+    /// For a request: its source is the user's side. An answer to it may be the last one of the user's connection.
+    pub fn for_request(last: bool) -> HeadMaker
         ensures user { result.user ≡ None }
+        ensures last { result.last ≡ last }
         ensures closes { result.closes ≡ true }
     {
         HeadMaker {
             user: None,
+            last,
             closes: true,
         }
     }
 
-    /// For a response: this is the side of the user whose request it answers.
-    pub fn for_response(user: SourceSide) -> HeadMaker
+    /// For a response: this is the side of the user whose request it answers. It may be the last one of the user's connection.
+    pub fn for_response(user: SourceSide, last: bool) -> HeadMaker
         ensures user { result.user ≡ Some user }
+        ensures last { result.last ≡ last }
         ensures closes { result.closes ≡ true }
     {
         HeadMaker {
             user: Some(user),
+            last,
             closes: true,
         }
     }
@@ -78,6 +84,14 @@ impl HeadMaker {
         }
     }
 
+    /// Whether the user's connection may carry a further request: its body was read to its end, and the message isn't the last.
+    fn carries_on(&self, state: &State) -> bool
+        ensures { IfSome self.now.user (λ user. user.head ≡ SourceHead.Unread → ⊥) → result ≡ carries_on_of self.now.last self.now.user (seen state.now.plan state.now.events) }
+    {
+        let read = self.body_read(state);
+        !self.last && read
+    }
+
     /// The head of the chosen message: of the original, or of what a service made, where its head is given.
     pub fn make(
         &self,
@@ -87,7 +101,7 @@ impl HeadMaker {
         adapted: Option<&[u8]>,
         is_response: bool,
     ) -> Result<Headed, Cause>
-        ensures ok { IfOk result (Makes self.now.user source.now.head (seen state.now.plan state.now.events) (option_copied adapted.entry) is_response) }
+        ensures ok { IfOk result (Makes self.now.last self.now.user source.now.head (seen state.now.plan state.now.events) (option_copied adapted.entry) is_response) }
         ensures err { IfErr result (MakesNone self.now.user source.now.head (seen state.now.plan state.now.events) (option_copied adapted.entry) is_response) }
     {
         let Some(user) = self.asked(source) else {
@@ -95,7 +109,7 @@ impl HeadMaker {
         };
         let asked = Asked {
             user,
-            body_read: self.body_read(state),
+            body_read: self.carries_on(state),
         };
         let has_body = state.seen().has_body;
         chosen(alloc, asked, source, adapted, is_response, has_body)
@@ -110,9 +124,10 @@ impl HeadMaker {
         adapted: Option<&[u8]>,
         is_response: bool,
     ) -> Result<(Vec<u8>, Framing), Cause>
-        ensures ok { IfOk result (λ made. Remembers self.old.user source.now.head (seen state.now.plan state.now.events) (option_copied adapted.entry) is_response made.0.items made.1 self.new.closes) }
+        ensures ok { IfOk result (λ made. Remembers self.old.last self.old.user source.now.head (seen state.now.plan state.now.events) (option_copied adapted.entry) is_response made.0.items made.1 self.new.closes) }
         ensures err { IfErr result (MakesNone self.old.user source.now.head (seen state.now.plan state.now.events) (option_copied adapted.entry) is_response) }
         ensures user { self.new.user ≡ self.old.user }
+        ensures last { self.new.last ≡ self.old.last }
     {
         let headed = self.make(alloc, state, source, adapted, is_response)?;
         self.closes = headed.closes;
@@ -159,7 +174,7 @@ fn chosen(
 }
 
 impl Forward<SourceSide, NextHop> for HeadMaker {
-    ghost makes = { λ maker source x adapted is_response head framing. Remembers maker.user source x adapted is_response head framing maker.closes };
+    ghost makes = { λ maker source x adapted is_response head framing. Remembers maker.last maker.user source x adapted is_response head framing maker.closes };
 
     ghost makes_none = { λ maker source x adapted is_response cause. MakesNone maker.user source x adapted is_response cause };
 

@@ -143,16 +143,16 @@ impl Incoming {
         Source::begins(&self.side, plan)
     }
 
-    /// The source's side, and what makes the heads of the message that goes on.
-    pub(crate) fn into_sides(self) -> (SourceSide, HeadMaker)
+    /// The source's side, and what makes the heads of the message that goes on, which may be the last one of the user's connection.
+    pub(crate) fn into_sides(self, last: bool) -> (SourceSide, HeadMaker)
         ensures side { result.0 ≡ self.side }
-        ensures user { result.1.user ≡ self.user }
+        ensures heads { (result.1.user ≡ self.user) × (result.1.last ≡ last) }
         ensures arrives { Arrives result.0 self.user }
     {
         let Incoming { side, user } = self;
         let heads = match user {
-            Some(user) => HeadMaker::for_response(user),
-            None => HeadMaker::for_request(),
+            Some(user) => HeadMaker::for_response(user, last),
+            None => HeadMaker::for_request(last),
         };
         (side, heads)
     }

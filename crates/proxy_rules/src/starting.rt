@@ -36,6 +36,8 @@ pub struct Beginning<B: Ledgers, A, W, C> {
     pub now: u64,
     /// Whether the service's connection was used before.
     pub reused: bool,
+    /// Whether the user's connection ends after the answer, whatever else is said.
+    pub last: bool,
 }
 
 /// Whether a transaction may begin: the offer is of a message of this kind, which may begin at its source by that plan, and a
@@ -81,7 +83,7 @@ pub fn begin<B: Ledgers, A: Wire, W: Wire, C: Wire>(
     ensures stands { IfOk result (λ tx. (read : List ℕ) × ⟦<Tx<B, SourceSide, ServiceSide, NextHop, HeadMaker, A, W, C> as Standing>⟧.stands tx (text_of beginning.offer.side) (record no_texts { source_read = record { bytes = read; ended = false } })) }
     ensures faultless { IfOk result (λ tx. ⟦<Tx<B, SourceSide, ServiceSide, NextHop, HeadMaker, A, W, C> as Answering>⟧.faultless tx) }
     ensures line { IfOk result (λ tx. (tx.broken ≡ false) × (tx.reused ≡ beginning.reused)) }
-    ensures sides { IfOk result (λ tx. (tx.source ≡ beginning.message.side) × (tx.forward.user ≡ beginning.message.user) × (tx.service ≡ line_with beginning.offer.side beginning.service_wire)) }
+    ensures sides { IfOk result (λ tx. (tx.source ≡ beginning.message.side) × (tx.forward.user ≡ beginning.message.user) × (tx.forward.last ≡ beginning.last) × (tx.service ≡ line_with beginning.offer.side beginning.service_wire)) }
     ensures wires { IfOk result (λ tx. (tx.source_wire ≡ beginning.source_wire) × (tx.next_wire ≡ beginning.next_wire)) }
     ensures back { IfErr result (λ back. back ≡ beginning) }
 {
@@ -100,9 +102,10 @@ pub fn begin<B: Ledgers, A: Wire, W: Wire, C: Wire>(
         deadline,
         now,
         reused,
+        last,
     } = beginning;
     let (plan, side) = offer.into_plan();
-    let (source, heads) = message.into_sides();
+    let (source, heads) = message.into_sides(last);
     let start = Start {
         plan,
         limits,

@@ -97,6 +97,7 @@ pub fn unused<B: Ledgers, X: Drop>(beginning: Beginning<B, X, X, X>) -> Stake<B>
         deadline: _,
         now: _,
         reused: _,
+        last: _,
     } = beginning;
     stake
 }

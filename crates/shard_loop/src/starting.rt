@@ -202,6 +202,7 @@ impl<'a, B: Ledgers, Q: Ledger, A: Ledger, G: Gate> Desk<'a, B, Q, A, G> {
             deadline: self.shared.config.deadline.saturating_add(1),
             now: at.now,
             reused,
+            last: self.draining,
         };
         self.set_out(rt, at, beginning, lease)
     }

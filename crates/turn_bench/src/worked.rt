@@ -277,6 +277,7 @@ fn beginning<B: Ledgers, A: Wire + Drop>(
         deadline: DEADLINE,
         now: BEGIN,
         reused: limits.retry,
+        last: false,
     }
 }
 
@@ -299,6 +300,7 @@ pub fn undo<B: Ledgers, A: Wire + Drop>(
         deadline: _,
         now: _,
         reused: _,
+        last: _,
     } = beginning;
     bank.close(rt, stake, Pages::none());
 }

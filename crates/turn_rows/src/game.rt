@@ -140,6 +140,7 @@ pub fn undo<B: Ledgers, A: Drop, W: Drop, C: Drop, R: Wait>(
         deadline: _,
         now: _,
         reused: _,
+        last: _,
     } = beginning;
     bank.close(rt, stake, Pages::none());
 }

@@ -86,6 +86,7 @@ fn start<B: Ledgers, A: Wire + Drop>(
         deadline: DEADLINE,
         now: BEGIN,
         reused: limits.retry,
+        last: false,
     };
     match proxy_rules::begin(alloc, beginning) {
         Ok(tx) => Some(tx),

@@ -53,7 +53,7 @@ fn originals(rt: HostRuntime) -> Result<(), Fail> {
     let alloc = rt.alloc();
     let request = user_side(alloc, GET)?;
     let state = offered(&rt, Point::Reqmod);
-    let made = HeadMaker::for_request().make(alloc, &state, &request, None, false)?;
+    let made = HeadMaker::for_request(false).make(alloc, &state, &request, None, false)?;
     let want: &[u8] =
         b"GET /a.txt HTTP/1.1\r\nHost: o.test\r\nConnection: close\r\nVia: 1.1 adaptproxy\r\n\r\n";
     assert_eq!(rt; made.head.as_slice(), want);
@@ -65,13 +65,19 @@ fn originals(rt: HostRuntime) -> Result<(), Fail> {
         false,
     )?;
     let state = offered(&rt, Point::Respmod);
-    let maker = HeadMaker::for_response(request);
+    let maker = HeadMaker::for_response(request, false);
     assert_eq!(rt; maker.closes(), true);
     let made = maker.make(alloc, &state, &origin, None, false)?;
     let want: &[u8] = b"HTTP/1.1 200 OK\r\nContent-Length: 6\r\nVia: 1.1 adaptproxy\r\n\r\n";
     assert_eq!(rt; made.head.as_slice(), want);
     assert_eq!(rt; made.framing, Framing::Length(6));
     assert_eq!(rt; made.closes, false);
+    let ending = HeadMaker::for_response(user_side(alloc, GET)?, true);
+    let last = ending.make(alloc, &state, &origin, None, false)?;
+    let want: &[u8] =
+        b"HTTP/1.1 200 OK\r\nContent-Length: 6\r\nConnection: close\r\nVia: 1.1 adaptproxy\r\n\r\n";
+    assert_eq!(rt; last.head.as_slice(), want);
+    assert_eq!(rt; last.closes, true);
     let Some(user) = maker.into_user() else {
         return Err(Fail::new("no side"));
     };
@@ -92,13 +98,13 @@ fn answers_of_a_service_to_a_user(rt: HostRuntime) -> Result<(), Fail> {
     let mut state = adapted(&rt, Point::Reqmod, Payload::Body);
 
     // The request wasn't read to its end: the connection ends after the answer.
-    let made = HeadMaker::for_request().make(alloc, &state, &source, Some(text), true)?;
+    let made = HeadMaker::for_request(false).make(alloc, &state, &source, Some(text), true)?;
     let want: &[u8] =
         b"HTTP/1.1 403 Forbidden\r\nContent-Length: 8\r\nConnection: close\r\nVia: 1.1 adaptproxy\r\n\r\n";
     assert_eq!(rt; made.head.as_slice(), want);
     assert_eq!(rt; made.closes, true);
     state.step(Event::End)?;
-    let made = HeadMaker::for_request().make(alloc, &state, &source, Some(text), true)?;
+    let made = HeadMaker::for_request(false).make(alloc, &state, &source, Some(text), true)?;
     let want: &[u8] = b"HTTP/1.1 403 Forbidden\r\nContent-Length: 8\r\nVia: 1.1 adaptproxy\r\n\r\n";
     assert_eq!(rt; made.head.as_slice(), want);
     assert_eq!(rt; made.closes, false);
@@ -111,13 +117,13 @@ fn heads_of_a_service_that_go_on(rt: HostRuntime) -> Result<(), Fail> {
     let source = user_side(alloc, GET)?;
     let state = adapted(&rt, Point::Reqmod, Payload::Body);
     let text: &[u8] = b"POST /b HTTP/1.1\r\nHost: other\r\nX: y\r\n\r\n";
-    let made = HeadMaker::for_request().make(alloc, &state, &source, Some(text), false)?;
+    let made = HeadMaker::for_request(false).make(alloc, &state, &source, Some(text), false)?;
     let want: &[u8] =
         b"POST /b HTTP/1.1\r\nHost: o.test\r\nX: y\r\nTransfer-Encoding: chunked\r\nConnection: close\r\nVia: 1.1 adaptproxy\r\n\r\n";
     assert_eq!(rt; made.head.as_slice(), want);
     assert_eq!(rt; made.framing, Framing::Chunked);
 
-    let maker = HeadMaker::for_response(source);
+    let maker = HeadMaker::for_response(source, false);
     let origin = origin_side(
         alloc,
         b"HTTP/1.1 200 OK\r\nContent-Length: 6\r\n\r\n",
@@ -152,11 +158,11 @@ fn heads_of_a_service_that_do_not(rt: HostRuntime) -> Result<(), Fail> {
         (b"HTTP/1.1 200 OK\r\nContent-Length: x\r\n\r\n", true),
     ];
     for (text, is_response) in texts {
-        let made = HeadMaker::for_request().make(alloc, &state, &source, Some(text), is_response);
+        let made = HeadMaker::for_request(false).make(alloc, &state, &source, Some(text), is_response);
         assert_eq!(rt; made.err(), Some(Cause::Service));
     }
     let unread = SourceSide::request(alloc);
-    let made = HeadMaker::for_request().make(alloc, &state, &unread, None, false);
+    let made = HeadMaker::for_request(false).make(alloc, &state, &unread, None, false);
     assert_eq!(rt; made.err(), Some(Cause::Source));
     Ok(())
 }
