@@ -30,6 +30,16 @@ fn put_service(out: &mut Vec<u8>, service: &Option<ServicePoint>) -> Result<(), 
     }
 }
 
+fn put_log(out: &mut Vec<u8>, log: &Option<String>) -> Result<(), NoMemory> {
+    match log {
+        Some(path) => {
+            out.extend_from_slice(b"log ")?;
+            put_line(out, path.as_bytes())
+        }
+        None => put_line(out, b"no log"),
+    }
+}
+
 /// Adds each value.
 fn put_values(out: &mut Vec<u8>, config: &Config) -> Result<(), NoMemory> {
     put_number(out, b"listen", u64::from(config.listen.port()))?;
@@ -43,6 +53,8 @@ fn put_values(out: &mut Vec<u8>, config: &Config) -> Result<(), NoMemory> {
     put_number(out, b"allow_limit", config.allow_limit)?;
     put_number(out, b"window", config.window)?;
     put_shown(out, b"retry", &config.retry)?;
+    put_number(out, b"wait", config.wait)?;
+    put_log(out, &config.log)?;
     put_service(out, &config.reqmod)?;
     put_service(out, &config.respmod)
 }

@@ -1,13 +1,14 @@
 -- What a configuration says, and which fault of a document is the first.
-use Rattle.std.specs.Prelude.{◌≡◌, ℕ, ◌⊎◌, List, Option, Some, None, IsSome, Bool, true, codes, ⊤, IsUtf8}
+use Rattle.std.specs.Prelude.{◌≡◌, ℕ, ◌⊎◌, List, Option, Some, None, IsSome, Bool, true, codes, ⊤, IsUtf8, option_map, string_bytes}
 use Rattle.toml.specs.Data.{Members, get_member}
 use Rattle.toml.specs.Parse.{parse_document}
 use Rattle.std.specs.declared.net.socket_addr.SocketAddrV4.{SocketAddrV4}
 use Rattle.adapt_bytes.specs.declared.limits.TheConstants.{MAX_ALLOW_LIMIT, MAX_CAPACITY, MAX_PREVIEW, MAX_ROWS, MAX_WINDOW}
-use Rattle.proxy_config.specs.declared.limits.TheConstants.{MAX_DEADLINE, MAX_JOURNAL, MAX_SHARDS}
-use Rattle.proxy_config.specs.declared.defaults.TheConstants.{ALLOW_LIMIT, CAPACITY, DEADLINE, JOURNAL, PREVIEW_LIMIT, ROWS, SHARDS, WINDOW}
+use Rattle.proxy_config.specs.declared.limits.TheConstants.{MAX_DEADLINE, MAX_JOURNAL, MAX_SHARDS, MAX_WAIT}
+use Rattle.proxy_config.specs.declared.defaults.TheConstants.{ALLOW_LIMIT, CAPACITY, DEADLINE, JOURNAL, PREVIEW_LIMIT, ROWS, SHARDS, WAIT, WINDOW}
 use Rattle.proxy_config.specs.Values.{number_or, truth_or, HasAddress}
 use Rattle.proxy_config.specs.Fault.{IsFaultAt}
+use Rattle.proxy_config.specs.Log.{log_of}
 use Rattle.proxy_config.specs.Services.{IsServiceOf}
 use Rattle.proxy_config.specs.declared.fault.ConfigFault.{ConfigFault}
 use Rattle.proxy_config.specs.declared.fault.ConfigFault.TheVariants.{Text, Key, NoMemory}
@@ -45,6 +46,9 @@ window_of = number_at (codes "window") 1 MAX_WINDOW WINDOW
 abbrev pub retry_of : Members → Option Bool
 retry_of document = truth_or true (get_member (codes "retry") document)
 
+abbrev pub wait_of : Members → Option ℕ
+wait_of = number_at (codes "wait") 0 MAX_WAIT WAIT
+
 -- the document says these values; its hosts aside
 pub record IsConfig (document : Members) (config : Config) : Type 0 where
   pub listen : HasAddress (codes "listen") document config.listen
@@ -58,6 +62,8 @@ pub record IsConfig (document : Members) (config : Config) : Type 0 where
   pub allow_limit : allow_limit_of document ≡ Some config.allow_limit
   pub window : window_of document ≡ Some config.window
   pub retry : retry_of document ≡ Some config.retry
+  pub wait : wait_of document ≡ Some config.wait
+  pub log : log_of document ≡ Some (option_map string_bytes config.log)
   pub reqmod : IsServiceOf (codes "reqmod") document config.reqmod
   pub respmod : IsServiceOf (codes "respmod") document config.respmod
 
@@ -90,7 +96,9 @@ IsFirstFault document fault =
     ValueFirst (codes "allow_limit") (allow_limit_of document) (
     ValueFirst (codes "window") (window_of document) (
     ValueFirst (codes "retry") (retry_of document) (
-    ⊤) fault) fault) fault) fault) fault) fault) fault) fault) fault) fault) fault
+    ValueFirst (codes "wait") (wait_of document) (
+    ValueFirst (codes "log") (log_of document) (
+    ⊤) fault) fault) fault) fault) fault) fault) fault) fault) fault) fault) fault) fault) fault
 
 -- why a text is no configuration: it is no document, or this is the first fault of its document
 abbrev pub Refuses : List ℕ → ConfigFault → Type 0

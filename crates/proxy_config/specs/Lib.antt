@@ -4,3 +4,4 @@ pub mod Sizes
 pub mod Config
 pub mod Services
 pub mod Hosts
+pub mod Log

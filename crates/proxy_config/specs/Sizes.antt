@@ -1,9 +1,9 @@
 -- The ranges of the configuration's numbers.
 use Rattle.std.specs.Prelude.{ℕ, ◌≤◌}
 use Rattle.adapt_bytes.specs.declared.limits.TheConstants.{MAX_ALLOW_LIMIT, MAX_CAPACITY, MAX_PREVIEW, MAX_ROWS, MAX_WINDOW}
-use Rattle.proxy_config.specs.declared.limits.TheConstants.{MAX_DEADLINE, MAX_JOURNAL, MAX_SHARDS}
+use Rattle.proxy_config.specs.declared.limits.TheConstants.{MAX_DEADLINE, MAX_JOURNAL, MAX_SHARDS, MAX_WAIT}
 
-pub record IsInRange (shards capacity rows journal deadline preview_limit allow_limit window : ℕ) : Type 0 where
+pub record IsInRange (shards capacity rows journal deadline preview_limit allow_limit window wait : ℕ) : Type 0 where
   pub some_shard : 1 ≤ shards
   pub few_shards : shards ≤ MAX_SHARDS
   pub some_capacity : 1 ≤ capacity
@@ -18,3 +18,4 @@ pub record IsInRange (shards capacity rows journal deadline preview_limit allow_
   pub short_allowed : allow_limit ≤ MAX_ALLOW_LIMIT
   pub some_window : 1 ≤ window
   pub small_window : window ≤ MAX_WINDOW
+  pub short_wait : wait ≤ MAX_WAIT

@@ -31,11 +31,16 @@ pub struct Config {
     pub window: u64,
     /// Whether a request that may be answered by 204 begins anew once, on a fresh connection, where a reused one broke.
     pub retry: bool,
+    /// Seconds that an exchange may wait for a connection to its service where all are in use: 0 to 3,600; 0 where it
+    /// doesn't wait.
+    pub wait: u64,
+    /// The file that a line an exchange is added to, a path of 1 to 4,096 bytes without NUL; none where no log is kept.
+    pub log: Option<String>,
     /// Where named hosts are.
     pub hosts: Hosts,
     /// The service of requests; none where they aren't adapted.
     pub reqmod: Option<ServicePoint>,
     /// The service of responses; none where they aren't adapted.
     pub respmod: Option<ServicePoint>,
-    ghost in_range: { IsInRange shards capacity rows journal deadline preview_limit allow_limit window },
+    ghost in_range: { IsInRange shards capacity rows journal deadline preview_limit allow_limit window wait },
 }

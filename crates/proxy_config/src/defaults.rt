@@ -24,6 +24,9 @@ pub const ALLOW_LIMIT: u64 = 65_536;
 /// Bytes that may be read ahead.
 pub const WINDOW: u64 = 8_192;
 
+/// Seconds that an exchange waits for a connection to its service.
+pub const WAIT: u64 = 0;
+
 /// A service's port (RFC 3507, section 4.2).
 pub const PORT: u64 = 1_344;
 

@@ -9,6 +9,7 @@ mod defaults;
 mod fault;
 mod hosts;
 mod limits;
+mod log;
 mod point;
 mod reading;
 mod services;

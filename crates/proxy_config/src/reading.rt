@@ -9,11 +9,12 @@ ghost use Rattle.proxy_config.specs.Fault.{IsFaultAt, Names};
 
 use crate::config::Config;
 use crate::defaults::{
-    ALLOW_LIMIT, CAPACITY, DEADLINE, JOURNAL, PREVIEW_LIMIT, ROWS, SHARDS, WINDOW,
+    ALLOW_LIMIT, CAPACITY, DEADLINE, JOURNAL, PREVIEW_LIMIT, ROWS, SHARDS, WAIT, WINDOW,
 };
 use crate::fault::{ConfigFault, needed};
 use crate::hosts::read_hosts;
-use crate::limits::{MAX_DEADLINE, MAX_JOURNAL, MAX_SHARDS};
+use crate::limits::{MAX_DEADLINE, MAX_JOURNAL, MAX_SHARDS, MAX_WAIT};
+use crate::log::read_log;
 use crate::services::read_point;
 use crate::unknown::check_keys;
 use crate::values::{address, number_or, truth_or};
@@ -56,6 +57,8 @@ fn read_table(alloc: Global, table: &Table) -> Result<Config, ConfigFault>
     let allow_limit = number(alloc, table, "allow_limit", 0, MAX_ALLOW_LIMIT, ALLOW_LIMIT)?;
     let window = number(alloc, table, "window", 1, MAX_WINDOW, WINDOW)?;
     let retry = needed(alloc, "retry", truth_or(table, "retry", true))?;
+    let wait = number(alloc, table, "wait", 0, MAX_WAIT, WAIT)?;
+    let log = read_log(alloc, table)?;
     let hosts = read_hosts(alloc, table)?;
     let reqmod = read_point(alloc, table, "reqmod")?;
     let respmod = read_point(alloc, table, "respmod")?;
@@ -72,6 +75,8 @@ fn read_table(alloc: Global, table: &Table) -> Result<Config, ConfigFault>
         allow_limit,
         window,
         retry,
+        wait,
+        log,
         hosts,
         reqmod,
         respmod,

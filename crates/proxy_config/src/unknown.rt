@@ -9,7 +9,7 @@ use std::alloc::{AllocError, Global};
 use toml::{Table, Value};
 
 /// The keys of the document.
-const KEYS: [&str; 14] = [
+const KEYS: [&str; 16] = [
     "listen",
     "admin",
     "shards",
@@ -21,6 +21,8 @@ const KEYS: [&str; 14] = [
     "allow_limit",
     "window",
     "retry",
+    "wait",
+    "log",
     "hosts",
     "reqmod",
     "respmod",
