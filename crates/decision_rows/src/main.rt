@@ -12,6 +12,7 @@ mod marks;
 mod options;
 mod plans;
 mod random;
+mod reports;
 mod scripts;
 mod worlds;
 
@@ -33,6 +34,7 @@ fn put_answer(
     plans::put_answer(alloc, call, row, out)?;
     worlds::put_answer(alloc, call, row, out)?;
     configurations::put_answer(alloc, call, row, out)?;
+    reports::put_answer(alloc, call, row, out)?;
     random::put_answer(call, row, out)
 }
 

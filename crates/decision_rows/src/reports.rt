@@ -1,0 +1,131 @@
+//! The log's line of an exchange, and the text of the counters.
+use crate::events::cut;
+use exchange_report::{
+    Address, Entry, Family, Kind, Metric, Reply, Verdict, Why, metrics_text, write_line,
+};
+use std::alloc::Global;
+use test_rows::{NoMemory, Row, number, says};
+
+/// The reasons, in the order of the table that says what each is.
+const WHYS: [Why; 20] = [
+    Why::Served,
+    Why::BadRequest,
+    Why::NotServed,
+    Why::RequestBroken,
+    Why::UnknownHost,
+    Why::OriginRefused,
+    Why::OriginBroken,
+    Why::OriginDeadline,
+    Why::ServiceRefused,
+    Why::ServiceStatus,
+    Why::ServiceBroken,
+    Why::ServiceDeadline,
+    Why::Busy,
+    Why::Full,
+    Why::NoRow,
+    Why::NoSeat,
+    Why::NoMemory,
+    Why::UserDeadline,
+    Why::UserGone,
+    Why::Stopping,
+];
+
+/// The address of four numbers, as `192 0 2 1`.
+fn address(text: &[u8]) -> Option<Address> {
+    let (first, rest) = cut(text, b" ");
+    let (second, rest) = cut(rest, b" ");
+    let (third, fourth) = cut(rest, b" ");
+    Some(Address {
+        first: number(first)?.min(255) as u8,
+        second: number(second)?.min(255) as u8,
+        third: number(third)?.min(255) as u8,
+        fourth: number(fourth)?.min(255) as u8,
+    })
+}
+
+/// The verdict of words, as `retried continued unchanged`.
+fn verdict(text: &[u8]) -> Verdict {
+    let mut verdict = Verdict::none();
+    for word in text.split(|byte| *byte == b' ') {
+        if says(word, b"retried") {
+            verdict.retried = true;
+        } else if says(word, b"continued") {
+            verdict.continued = true;
+        } else if says(word, b"plain") {
+            verdict.reply = Reply::Plain;
+        } else if says(word, b"unchanged") {
+            verdict.reply = Reply::Unchanged;
+        } else if says(word, b"changed") {
+            verdict.reply = Reply::Changed;
+        }
+    }
+    verdict
+}
+
+/// The exchange of a row.
+fn entry_of<'a>(row: &Row<'a>) -> Entry<'a> {
+    let why = row.number(b"why").unwrap_or(0);
+    Entry {
+        ended: row.number(b"ended").unwrap_or(0),
+        elapsed: row.number(b"elapsed").unwrap_or(0),
+        user: address(row.get(b"user")),
+        refused: row.has(b"refused"),
+        status: row.number(b"status").unwrap_or(200).min(999) as u16,
+        sent: row.number(b"sent").unwrap_or(0),
+        method: row.get(b"method"),
+        target: row.get(b"target"),
+        origin: address(row.get(b"origin")),
+        kind: row.get(b"type"),
+        reqmod: verdict(row.get(b"reqmod")),
+        respmod: verdict(row.get(b"respmod")),
+        why: match WHYS.get(why as usize) {
+            Some(why) => *why,
+            None => Why::Served,
+        },
+    }
+}
+
+const SERVED: Family = Family {
+    name: b"served",
+    kind: Kind::Counter,
+    help: b"Those that were served.",
+};
+
+const OPEN: Family = Family {
+    name: b"open",
+    kind: Kind::Gauge,
+    help: b"Those that are open.",
+};
+
+/// The text of two families, of which the first has two numbers.
+fn put_metrics(alloc: Global, row: &Row<'_>, out: &mut Vec<u8>) -> Result<(), NoMemory> {
+    let metrics = [
+        Metric::Family(SERVED),
+        Metric::Sample(SERVED, b"{at=\"first\"}", row.number(b"first").unwrap_or(0)),
+        Metric::Sample(
+            SERVED,
+            b"{at=\"second\"}",
+            row.number(b"second").unwrap_or(0),
+        ),
+        Metric::Family(OPEN),
+        Metric::Sample(OPEN, b"", row.number(b"open").unwrap_or(0)),
+    ];
+    let text = metrics_text(alloc, &metrics)?;
+    out.extend_from_slice(text.as_slice())
+}
+
+/// Adds the answer to a row of this table; nothing where it is another one's.
+pub fn put_answer(
+    alloc: Global,
+    call: &[u8],
+    row: &Row<'_>,
+    out: &mut Vec<u8>,
+) -> Result<(), NoMemory> {
+    if says(call, b"write_line") {
+        write_line(out, &entry_of(row))
+    } else if says(call, b"metrics_text") {
+        put_metrics(alloc, row, out)
+    } else {
+        Ok(())
+    }
+}

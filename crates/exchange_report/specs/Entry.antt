@@ -1,0 +1,80 @@
+-- The log's line of an exchange: the fields of Squid's native format in their order, and three more.
+use Rattle.std.specs.Prelude.{◌≡◌, ℕ, ◌/◌, ◌%◌, Bool, true, false, List, [], ◌++◌, Option, Some, None, take, if◌then◌else◌, codes}
+use Rattle.adapt_bytes.specs.Numeral.{numeral, three_digits}
+use Rattle.exchange_report.specs.Words.{word_of}
+use Rattle.exchange_report.specs.declared.entry.Address.{Address}
+use Rattle.exchange_report.specs.declared.entry.Entry.{Entry}
+use Rattle.exchange_report.specs.declared.verdict.Reply.{Reply}
+use Rattle.exchange_report.specs.declared.verdict.Reply.TheVariants.{Missing, Plain, Unchanged, Changed}
+use Rattle.exchange_report.specs.declared.verdict.Verdict.{Verdict}
+use Rattle.exchange_report.specs.declared.why.Why.{Why}
+use Rattle.exchange_report.specs.declared.why.Why.TheVariants.{Served, BadRequest, NotServed, RequestBroken, UnknownHost, OriginRefused, OriginBroken, OriginDeadline, ServiceRefused, ServiceStatus, ServiceBroken, ServiceDeadline, Busy, Full, NoRow, NoSeat, NoMemory, UserDeadline, UserGone, Stopping}
+use Rattle.exchange_report.specs.declared.words.TheConstants.{MAX_TARGET, MAX_METHOD, MAX_KIND}
+
+abbrev pub address_text : Address → List ℕ
+address_text a = numeral 10 a.first ++ codes "." ++ numeral 10 a.second ++ codes "." ++ numeral 10 a.third ++ codes "." ++ numeral 10 a.fourth
+
+-- the user's address, or a hyphen
+abbrev pub user_text : Option Address → List ℕ
+user_text (Some address) = address_text address
+user_text None = codes "-"
+
+-- where the request went
+abbrev pub origin_text : Option Address → List ℕ
+origin_text (Some address) = codes "HIER_DIRECT/" ++ address_text address
+origin_text None = codes "HIER_NONE/-"
+
+-- whose answer it is: the proxy's own is denied
+abbrev pub tag_text : Bool → List ℕ
+tag_text refused = if refused then codes " TCP_DENIED/" else codes " TCP_MISS/"
+
+-- the moment in seconds with three decimals, the milliseconds that it took, the user, whose answer and its status, and the bytes
+-- that went to the user
+abbrev pub head_text : Entry → List ℕ
+head_text e = numeral 10 (e.ended / 1000) ++ codes "." ++ three_digits (e.ended % 1000) ++ codes " " ++ numeral 10 e.elapsed ++ codes " "
+    ++ user_text e.user ++ tag_text e.refused ++ numeral 10 e.status ++ codes " " ++ numeral 10 e.sent
+
+-- the method, the target, no login, where the request went, and the media type of the answer
+abbrev pub request_text : Entry → List ℕ
+request_text e = codes " " ++ word_of (take MAX_METHOD e.method.now) ++ codes " " ++ word_of (take MAX_TARGET e.target.now) ++ codes " - "
+    ++ origin_text e.origin ++ codes " " ++ word_of (take MAX_KIND e.kind.now)
+
+abbrev pub reply_word : Reply → List ℕ
+reply_word Missing = codes "-"
+reply_word Plain = codes "plain"
+reply_word Unchanged = codes "204"
+reply_word Changed = codes "200"
+
+-- what became of a message: that it was sent anew, that more than the preview was asked for, and the reply
+abbrev pub verdict_text : Verdict → List ℕ
+verdict_text v = (if v.retried then codes "retry+" else []) ++ (if v.continued then codes "100+" else []) ++ reply_word v.reply
+
+abbrev pub why_word : Why → List ℕ
+why_word Served = codes "-"
+why_word BadRequest = codes "bad-request"
+why_word NotServed = codes "not-served"
+why_word RequestBroken = codes "request-broken"
+why_word UnknownHost = codes "unknown-host"
+why_word OriginRefused = codes "origin-refused"
+why_word OriginBroken = codes "origin-broken"
+why_word OriginDeadline = codes "origin-deadline"
+why_word ServiceRefused = codes "service-refused"
+why_word ServiceStatus = codes "service-status"
+why_word ServiceBroken = codes "service-broken"
+why_word ServiceDeadline = codes "service-deadline"
+why_word Busy = codes "busy"
+why_word Full = codes "full"
+why_word NoRow = codes "no-row"
+why_word NoSeat = codes "no-seat"
+why_word NoMemory = codes "no-memory"
+why_word UserDeadline = codes "user-deadline"
+why_word UserGone = codes "user-gone"
+why_word Stopping = codes "stopping"
+
+-- what a service made of the request and of the response, and why the exchange ended otherwise than by its answer
+abbrev pub end_text : Entry → List ℕ
+end_text e = codes " reqmod=" ++ verdict_text e.reqmod ++ codes " respmod=" ++ verdict_text e.respmod ++ codes " why=" ++ why_word e.why ++ codes "\n"
+
+-- the whole line
+abbrev pub line_text : Entry → List ℕ
+line_text e = head_text e ++ request_text e ++ end_text e

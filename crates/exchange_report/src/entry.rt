@@ -1,0 +1,144 @@
+//! The log's line of an exchange, in the native format of Squid's `access.log`, with three fields behind it.
+
+ghost use Rattle.std.specs.Prelude.{◌≡◌, ◌++◌, ◌<◌, OnOk};
+ghost use Rattle.exchange_report.specs.Entry.{address_text, user_text, origin_text, tag_text, head_text, request_text, end_text, line_text};
+
+use crate::verdict::{Verdict, write_verdict};
+use crate::why::Why;
+use crate::words::{MAX_KIND, MAX_METHOD, MAX_TARGET, write_number, write_word};
+use adapt_bytes::three_digits;
+use std::alloc::AllocError;
+
+/// An IPv4 address.
+#[derive(Clone, Copy, Debug, PartialEq, Eq)]
+pub struct Address {
+    pub first: u8,
+    pub second: u8,
+    pub third: u8,
+    pub fourth: u8,
+}
+
+/// An exchange that is over: a user's request, and what went back.
+#[derive(Clone, Copy, Debug)]
+pub struct Entry<'a> {
+    /// The moment of its end, in milliseconds since the beginning of 1970.
+    pub ended: u64,
+    /// How many milliseconds it took.
+    pub elapsed: u64,
+    /// Where the user is; none where nobody knows.
+    pub user: Option<Address>,
+    /// Whether the answer was the proxy's own.
+    pub refused: bool,
+    pub status: u16,
+    /// How many bytes went to the user.
+    pub sent: u64,
+    pub method: &'a [u8],
+    pub target: &'a [u8],
+    /// Where the request went; none where it went nowhere.
+    pub origin: Option<Address>,
+    /// The media type of the answer.
+    pub kind: &'a [u8],
+    pub reqmod: Verdict,
+    pub respmod: Verdict,
+    pub why: Why,
+}
+
+/// Adds an address, as `192.0.2.1`.
+fn write_address(out: &mut Vec<u8>, address: Address) -> Result<(), AllocError>
+    ensures { OnOk result (out.new.items ≡ out.old.items ++ address_text address) }
+{
+    write_number(out, u64::from(address.first))?;
+    out.extend_from_slice(b".")?;
+    write_number(out, u64::from(address.second))?;
+    out.extend_from_slice(b".")?;
+    write_number(out, u64::from(address.third))?;
+    out.extend_from_slice(b".")?;
+    write_number(out, u64::from(address.fourth))
+}
+
+/// Adds the user's address.
+fn write_user(out: &mut Vec<u8>, user: Option<Address>) -> Result<(), AllocError>
+    ensures { OnOk result (out.new.items ≡ out.old.items ++ user_text user) }
+{
+    match user {
+        Some(address) => write_address(out, address),
+        None => out.extend_from_slice(b"-"),
+    }
+}
+
+/// Adds where the request went.
+fn write_origin(out: &mut Vec<u8>, origin: Option<Address>) -> Result<(), AllocError>
+    ensures { OnOk result (out.new.items ≡ out.old.items ++ origin_text origin) }
+{
+    match origin {
+        Some(address) => {
+            out.extend_from_slice(b"HIER_DIRECT/")?;
+            write_address(out, address)
+        }
+        None => out.extend_from_slice(b"HIER_NONE/-"),
+    }
+}
+
+/// Whose answer it is.
+fn tag(refused: bool) -> &'static [u8]
+    ensures { result.now ≡ tag_text refused }
+{
+    if refused {
+        b" TCP_DENIED/"
+    } else {
+        b" TCP_MISS/"
+    }
+}
+
+/// Adds the fields up to the bytes that went to the user.
+fn write_head(out: &mut Vec<u8>, entry: &Entry<'_>) -> Result<(), AllocError>
+    ensures { OnOk result (out.new.items ≡ out.old.items ++ head_text entry.now) }
+{
+    write_number(out, entry.ended / 1000)?;
+    out.extend_from_slice(b".")?;
+    out.extend_from_slice(&three_digits((entry.ended % 1000) as u16))?;
+    out.extend_from_slice(b" ")?;
+    write_number(out, entry.elapsed)?;
+    out.extend_from_slice(b" ")?;
+    write_user(out, entry.user)?;
+    out.extend_from_slice(tag(entry.refused))?;
+    write_number(out, u64::from(entry.status))?;
+    out.extend_from_slice(b" ")?;
+    write_number(out, entry.sent)
+}
+
+/// Adds the fields of the request, and the one for a login, which there is none of.
+fn write_request(out: &mut Vec<u8>, entry: &Entry<'_>) -> Result<(), AllocError>
+    ensures { OnOk result (out.new.items ≡ out.old.items ++ request_text entry.now) }
+{
+    out.extend_from_slice(b" ")?;
+    write_word(out, MAX_METHOD, entry.method)?;
+    out.extend_from_slice(b" ")?;
+    write_word(out, MAX_TARGET, entry.target)?;
+    out.extend_from_slice(b" - ")?;
+    write_origin(out, entry.origin)?;
+    out.extend_from_slice(b" ")?;
+    write_word(out, MAX_KIND, entry.kind)
+}
+
+/// Adds the fields that Squid's format hasn't, and the line's end.
+fn write_end(out: &mut Vec<u8>, entry: &Entry<'_>) -> Result<(), AllocError>
+    ensures { OnOk result (out.new.items ≡ out.old.items ++ end_text entry.now) }
+{
+    out.extend_from_slice(b" reqmod=")?;
+    write_verdict(out, entry.reqmod)?;
+    out.extend_from_slice(b" respmod=")?;
+    write_verdict(out, entry.respmod)?;
+    out.extend_from_slice(b" why=")?;
+    out.extend_from_slice(entry.why.word())?;
+    out.extend_from_slice(b"\n")
+}
+
+/// Adds the line of an exchange. `Err` where no memory was found for it: then a part of it may be there.
+pub fn write_line(out: &mut Vec<u8>, entry: &Entry<'_>) -> Result<(), AllocError>
+    ensures { OnOk result (out.new.items ≡ out.old.items ++ line_text entry.now) }
+{
+    write_head(out, entry)?;
+    write_request(out, entry)?;
+    write_end(out, entry)
+}

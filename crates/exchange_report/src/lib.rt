@@ -1,0 +1,17 @@
+//! What operators read: the log's line of an exchange, and the text of the counters.
+//!
+//! Both are functions of records. No value from outside can end a line or begin a field: it is written as one word.
+#![tactic(auto)]
+
+mod entry;
+pub mod laws;
+mod metrics;
+mod verdict;
+mod why;
+mod words;
+
+pub use entry::{Address, Entry, write_line};
+pub use metrics::{Family, Kind, Metric, metrics_text};
+pub use verdict::{Reply, Verdict};
+pub use why::Why;
+pub use words::{MAX_KIND, MAX_METHOD, MAX_TARGET};
