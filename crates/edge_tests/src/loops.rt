@@ -7,6 +7,8 @@ fn lines_ask(rt: HostRuntime) {
     let cases = [
         (b"book".as_slice(), Request::Book),
         (b"drain".as_slice(), Request::Drain),
+        (b"stats".as_slice(), Request::Stats),
+        (b"reopen".as_slice(), Request::Reopen),
         (b"stop".as_slice(), Request::Stop),
         (b"capacity 1".as_slice(), Request::Capacity(1)),
         (b"capacity 0004096".as_slice(), Request::Capacity(4096)),

@@ -5,7 +5,7 @@ use Rattle.std.specs.Str.{str_eq_ignore_ascii_case}
 use Rattle.adapt_bytes.specs.declared.limits.TheConstants.{MAX_CAPACITY}
 use Rattle.adapt_bytes.specs.Numeral.{Writes}
 use Rattle.event_loop.specs.declared.admin_lines.Request.{Request}
-use Rattle.event_loop.specs.declared.admin_lines.Request.TheVariants.{Book, Capacity, Drain, Stop, Bad}
+use Rattle.event_loop.specs.declared.admin_lines.Request.TheVariants.{Book, Capacity, Drain, Stats, Reopen, Stop, Bad}
 
 -- the digits spell a size of the buffer budget
 abbrev pub SpellsSize : List ℕ → ℕ → Type 0
@@ -19,9 +19,11 @@ AsksForSize line n = (digits : List ℕ) × (line ≡ codes "capacity " ++ digit
 abbrev pub Asks : List ℕ → Request → Type 0
 Asks line Book = line ≡ codes "book"
 Asks line Drain = line ≡ codes "drain"
+Asks line Stats = line ≡ codes "stats"
+Asks line Reopen = line ≡ codes "reopen"
 Asks line Stop = line ≡ codes "stop"
 Asks line (Capacity n) = AsksForSize line n
-Asks line Bad = (line ≢ codes "book") × (line ≢ codes "drain") × (line ≢ codes "stop") × ((n : ℕ) → AsksForSize line n → ⊥)
+Asks line Bad = (line ≢ codes "book") × (line ≢ codes "drain") × (line ≢ codes "stats") × (line ≢ codes "reopen") × (line ≢ codes "stop") × ((n : ℕ) → AsksForSize line n → ⊥)
 
 -- a byte of a method as all registered ones are written: a capital letter or a hyphen (RFC 9110, section 9.1)
 abbrev pub is_method_byte : ℕ → Bool

@@ -18,6 +18,10 @@ pub enum Request {
     /// `drain`: no new user is taken, exchanges are the last ones on their connections, and the program ends once all users
     /// have gone.
     Drain,
+    /// `stats`: the counters.
+    Stats,
+    /// `reopen`: the log's file is opened anew.
+    Reopen,
     /// `stop`: every transaction fails, and the program ends.
     Stop,
     /// Any other line.
@@ -44,6 +48,12 @@ pub fn read_request(line: &[u8]) -> Request
     }
     if line == b"drain".as_slice() {
         return Request::Drain;
+    }
+    if line == b"stats".as_slice() {
+        return Request::Stats;
+    }
+    if line == b"reopen".as_slice() {
+        return Request::Reopen;
     }
     if line == b"stop".as_slice() {
         return Request::Stop;

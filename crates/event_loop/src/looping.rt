@@ -146,8 +146,23 @@ impl<K: Work> EventLoop<K> {
         }
     }
 
-    /// How long the next wait may be: the deadlines of exchanges are whole seconds of the loop's clock.
+    /// How long the next wait may be, for all that the loop serves.
     fn patience(&self) -> Option<Duration> {
+        let least = self.patience_of_exchanges();
+        match self.work.patience() {
+            Some(most) => {
+                let most = Duration::from_millis(most);
+                match least {
+                    Some(least) if least < most => Some(least),
+                    _ => Some(most),
+                }
+            }
+            None => least,
+        }
+    }
+
+    /// How long the next wait may be: the deadlines of exchanges are whole seconds of the loop's clock.
+    fn patience_of_exchanges(&self) -> Option<Duration> {
         if !self.ready.is_empty() || self.askers.are_behind() {
             return Some(Duration::from_millis(0));
         }
@@ -251,6 +266,7 @@ impl<K: Work> EventLoop<K> {
         if woken {
             self.take_in(rt, inboxes[number].take_all(rt, alloc))?;
         }
+        self.work.turn_over(rt);
         Ok(())
     }
 

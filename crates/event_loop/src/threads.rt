@@ -43,11 +43,13 @@ pub fn add_loop<R: Net>(
 ) -> io::Result<Base> {
     let poll = Poll::new(rt)?;
     let ports = match users {
-        Some(Entrance {
-            listener,
-            room,
-            loops,
-        }) => Some(Ports::new(
+        Some(
+            Entrance {
+                listener,
+                room,
+                loops,
+            },
+        ) => Some(Ports::new(
             Listening::new(listener, poll.registry(), LISTENER)?,
             Arc::new(alloc, room)?,
             loops,

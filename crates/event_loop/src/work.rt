@@ -45,7 +45,7 @@ pub trait Work {
     ) -> Option<usize>;
 
     /// Closes the connection of the user that can best be spared, so that another one has room. False if there is no such user.
-    fn make_room<R: Wait>(&mut self, rt: &R) -> bool;
+    fn make_room<R: Wait + Clock>(&mut self, rt: &R) -> bool;
 
     /// Takes note of an event of a connection. False if it says nothing new, so that the exchange needn't be driven.
     fn note(&mut self, key: usize, side: Side, told: Told) -> bool;
@@ -65,13 +65,25 @@ pub trait Work {
     /// Whether there is no exchange.
     fn is_idle(&self) -> bool;
 
-    /// The answer to a line of the admin port. `Err` if no memory was found for it.
-    fn answer<R: Wait>(&mut self, rt: &R, request: Request) -> Result<Vec<u8>, AllocError>;
+    /// The answer to a line of the admin port. `Err` if no memory was found for it. `now` is the
+    /// number of seconds since the loop's start.
+    fn answer<R: Wait>(
+        &mut self,
+        rt: &R,
+        request: Request,
+        now: u64,
+    ) -> Result<Vec<u8>, AllocError>;
 
-    /// Takes note that no further user comes, and that exchanges are the last ones of their connections from now on: it is
-    /// driven for each of them after that.
+    /// How many milliseconds may pass before the next turn, whatever the exchanges wait for; none if that doesn't matter.
+    fn patience(&self) -> Option<u64>;
+
+    /// Is called at the end of each turn.
+    fn turn_over<R: Wait>(&mut self, rt: &R);
+
+    /// Takes note that no further user comes, and that each exchange is the last one of its connection from now on. All of them
+    /// are driven after that.
     fn drain(&mut self);
 
-    /// Ends all exchanges. Those whose users are still to be told so are driven on for a while.
+    /// Ends all exchanges. Those whose users still have to get their refusal are driven on for a while.
     fn halt<R: Wait + Dial + Clock>(&mut self, rt: &R, registry: &Registry, now: u64);
 }

@@ -144,6 +144,13 @@ impl ServiceSide {
         self.answered = false;
     }
 
+    /// The fault that each turn answers, if there is one.
+    pub fn fault(&self) -> Option<ClientFault>
+        ensures { result ≡ self.now.replies.fault }
+    {
+        self.replies.fault()
+    }
+
     /// Whether the request is whole: all of it is out; or all of the preview is, and it was answered without a 100.
     pub fn request_whole(&self) -> bool
         ensures { result ≡ is_whole_request self.now }

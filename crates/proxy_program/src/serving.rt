@@ -7,10 +7,11 @@ use crate::serve_error::ServeError;
 use mio::net::TcpListener;
 use proxy_config::Config;
 use service_pool::LEDGER_PARTS;
-use shard_loop::{Stopped, serve};
+use shard_loop::{Append, Stopped, serve};
 use socket_wire::Dial;
 use span_bank::Blanks;
 use std::alloc::Global;
+use std::fs::File;
 use std::io::{Read, Write};
 use std::marker::Brand;
 use std::net::{Net, SocketAddr};
@@ -30,6 +31,29 @@ pub fn listen<R: Net>(rt: &R, config: &Config) -> Result<(TcpListener, TcpListen
     }
 }
 
+/// Opens the file of the log, where one is kept. The key is at fault where that can't be.
+pub fn open_log<R: Append>(
+    rt: &R,
+    alloc: Global,
+    config: &Config,
+) -> Result<Option<File>, ServeError> {
+    let Some(path) = &config.log else {
+        return Ok(None);
+    };
+    match rt.append(path.as_str()) {
+        Ok(file) => Ok(Some(file)),
+        Err(_) => Err(log_fault(alloc)),
+    }
+}
+
+/// The error of a log whose file can't be opened.
+fn log_fault(alloc: Global) -> ServeError {
+    match String::from_str(alloc, "log") {
+        Ok(key) => ServeError::Key(key),
+        Err(_) => ServeError::Ended(Error::NoMemory),
+    }
+}
+
 /// Writes a line to standard output.
 pub fn say<W: Write>(output: &mut W, line: &[u8]) -> Result<(), ServeError> {
     match write_out(output, line) {
@@ -40,12 +64,13 @@ pub fn say<W: Write>(output: &mut W, line: &[u8]) -> Result<(), ServeError> {
 
 /// Serves until the administrator says `stop` or the system fails a loop, and audits. The buffer budget and each pool have
 /// ledgers of their own.
-pub fn serve_ports<G: Gate + Sync, R: Threads + Wait + Net + Dial + Clock + Sync>(
+pub fn serve_ports<G: Gate + Sync, R: Threads + Wait + Net + Dial + Append + Clock + Sync>(
     rt: &R,
     alloc: Global,
     config: &Config,
     users: TcpListener,
     admin: TcpListener,
+    log: Option<File>,
     gate: &G,
 ) -> Result<Stopped, ServeError> {
     let ended = serve::<Brand, Brand, Brand, Brand, Brand, Brand, G, R>(
@@ -54,6 +79,7 @@ pub fn serve_ports<G: Gate + Sync, R: Threads + Wait + Net + Dial + Clock + Sync
         config,
         users,
         admin,
+        log,
         gate,
         Blanks::new(config.rows + 1),
         Blank::new(LEDGER_PARTS),
@@ -77,16 +103,17 @@ fn say_end<O: Write>(alloc: Global, output: &mut O, stopped: Stopped) -> Result<
     }
 }
 
-/// Reads the configuration, listens, says so, serves until the administrator says `stop`, and says what was still out.
-pub fn serve_from<I: Read + Drop, O: Write, R: Threads + Wait + Net + Dial + Clock + Sync>(
+/// Reads the configuration, opens the log, listens, says so, serves until the administrator says `stop`, and says what was still out.
+pub fn serve_from<I: Read + Drop, O: Write, R: Threads + Wait + Net + Dial + Append + Clock + Sync>(
     rt: &R,
     alloc: Global,
     reader: I,
     output: &mut O,
 ) -> Result<(), ServeError> {
     let config = read_configuration(alloc, reader)?;
+    let log = open_log(rt, alloc, &config)?;
     let (users, admin) = listen(rt, &config)?;
     say(output, b"listening\n")?;
-    let stopped = serve_ports(rt, alloc, &config, users, admin, &OpenGate)?;
+    let stopped = serve_ports(rt, alloc, &config, users, admin, log, &OpenGate)?;
     say_end(alloc, output, stopped)
 }

@@ -8,7 +8,7 @@ ghost use Rattle.service_pool.specs.Journal.{slid, stepped};
 use crate::NoMemory;
 use crate::lease::{Lease, Taken, give_back, lend};
 use crate::state::{Found, PoolState};
-use crate::step::{AuditFault, LEDGER_PARTS, Over, PoolStep};
+use crate::step::{AuditFault, LEDGER_PARTS, Numbers, Over, PoolStep};
 use crate::window::Window;
 use adapt_bytes::MAX_CONNECTIONS;
 use std::alloc::Global;
@@ -58,6 +58,13 @@ impl<C, L: Ledger> Locked<C, L> {
             leased,
             rest,
         }
+    }
+
+    /// The numbers now.
+    pub fn numbers(&self) -> Numbers
+        ensures { result ≡ self.now.journal.numbers }
+    {
+        self.state.numbers()
     }
 
     /// Takes the idle connection that was put last, or the right to open one, with a lease, as the

@@ -7,7 +7,7 @@ use crate::NoMemory;
 use crate::lease::{Lease, Taken};
 use crate::locked::Locked;
 use crate::state::PoolState;
-use crate::step::{AuditFault, LEDGER_PARTS, Over};
+use crate::step::{AuditFault, LEDGER_PARTS, Numbers, Over};
 use adapt_bytes::MAX_CONNECTIONS;
 use std::alloc::Global;
 use std::sync::ledger::{Blank, Ledger};
@@ -56,6 +56,11 @@ impl<C, L: Ledger> Pool<C, L> {
         Ok(Pool {
             locked: Mutex::new(Locked::new(state, blank)),
         })
+    }
+
+    /// How many connections are idle and leased, and how many may be open, at one moment.
+    pub fn numbers(&self, rt: &impl Wait) -> Numbers {
+        self.locked.lock(rt).numbers()
     }
 
     /// Takes the idle connection that was put last. If there is none, takes the right to open one if

@@ -5,18 +5,21 @@ ghost use Rattle.std.specs.Prelude.{◌≡◌};
 use crate::audit::ServeFault;
 use crate::desk::Shared;
 use crate::left::Left;
+use crate::log::{Append, Log};
 use crate::office::Office;
 use crate::pools::{Pools, Spare};
 use crate::shard::Shard;
+use crate::tally::Tally;
 use event_loop::{
-    Base, Ended, Entrance, Inbox, LoopFault, Room, add_loop, name_thread, run_loop, stop_all,
+    Base, Ended, Entrance, Inbox, LoopFault, Room, Work, add_loop, name_thread, run_loop, stop_all,
 };
 use mio::net::TcpListener;
 use proxy_config::{Config, MAX_SHARDS, ServicePoint};
 use service_pool::Pool;
 use socket_wire::Dial;
 use span_bank::{Bank, Ledgers};
-use std::alloc::Global;
+use std::alloc::{AllocError, Global};
+use std::fs::File;
 use std::net::Net;
 use std::sync::ledger::Ledger;
 use std::sync::{Mutex, Wait};
@@ -114,16 +117,53 @@ impl Place for Option<Base> {
     }
 }
 
-/// The inboxes of all threads.
-trait Inboxes {
-    /// Them, in the order of the threads.
-    fn all(&self) -> &[Inbox];
+/// What all threads have: their inboxes, what they count, and the log.
+trait Common {
+    /// The inboxes, in the order of the threads.
+    fn inboxes(&self) -> &[Inbox];
+
+    /// What each thread counts that takes users.
+    fn tallies(&self) -> &[Tally];
+
+    fn log(&self) -> &Log;
 }
 
-impl Inboxes for Vec<Inbox> {
-    fn all(&self) -> &[Inbox] {
-        self.as_slice()
+/// The same.
+#[derive(Drop)]
+struct Board {
+    inboxes: Vec<Inbox>,
+    tallies: Vec<Tally>,
+    log: Log,
+}
+
+impl Common for Board {
+    fn inboxes(&self) -> &[Inbox] {
+        self.inboxes.as_slice()
     }
+
+    fn tallies(&self) -> &[Tally] {
+        self.tallies.as_slice()
+    }
+
+    fn log(&self) -> &Log {
+        &self.log
+    }
+}
+
+/// A board of so many threads that take users, before their inboxes are there.
+fn board_of(alloc: Global, count: u64, file: Option<File>) -> Result<Board, AllocError> {
+    let mut tallies = Vec::new(alloc);
+    for _ in 0..count {
+        let tally = Tally::new(alloc)?;
+        if tallies.push(tally).is_err() {
+            return Err(AllocError);
+        }
+    }
+    Ok(Board {
+        inboxes: Vec::new(alloc),
+        tallies,
+        log: Log::new(alloc, file, count)?,
+    })
 }
 
 /// Runs a loop on each base, in a thread of its own, until one is told to stop or fails: then all end. What is left comes
@@ -137,8 +177,8 @@ fn run_on<
     A: Ledger + Send + Sync,
     G: Gate + Sync,
     K: Place + Send,
-    N: Inboxes + Sync,
-    R: Threads + Wait + Dial + Clock + Sync,
+    N: Common + Sync,
+    R: Threads + Wait + Dial + Append + Clock + Sync,
 >(
     rt: &R,
     alloc: Global,
@@ -147,7 +187,7 @@ fn run_on<
     request: &Pool<Spare, Q>,
     response: &Pool<Spare, A>,
     gate: &G,
-    inboxes: &N,
+    common: &N,
     left: &Mutex<Left<B, Q, A>>,
     places: &mut [K],
 )
@@ -163,7 +203,7 @@ where
         MAX_SHARDS as usize + 1,
         &|number, place| {
             run_one(
-                rt, alloc, config, bank, request, response, gate, inboxes, left, number, place,
+                rt, alloc, config, bank, request, response, gate, common, left, number, place,
             )
         },
     );
@@ -176,7 +216,7 @@ pub fn run_crew<
     Q: Ledger + Send + Sync,
     A: Ledger + Send + Sync,
     G: Gate + Sync,
-    R: Threads + Wait + Net + Dial + Clock + Sync,
+    R: Threads + Wait + Net + Dial + Append + Clock + Sync,
 >(
     rt: &R,
     alloc: Global,
@@ -186,6 +226,7 @@ pub fn run_crew<
     response: &Pool<Spare, A>,
     gate: &G,
     ports: (TcpListener, TcpListener),
+    file: Option<File>,
     left: &Mutex<Left<B, Q, A>>,
 ) -> Result<(), ServeFault>
 where
@@ -194,10 +235,13 @@ where
     B::Slack: Send + Sync,
     B::Pages: Send + Sync,
 {
-    let mut inboxes = Vec::new(alloc);
+    let Ok(board) = board_of(alloc, config.shards, file) else {
+        return Err(ServeFault::NoMemory);
+    };
+    let mut board = board;
     let (users, admin) = ports;
     let users = entrance_of(config, users);
-    let mut bases = make_bases(rt, alloc, config.shards, users, admin, &mut inboxes)?;
+    let mut bases = make_bases(rt, alloc, config.shards, users, admin, &mut board.inboxes)?;
     run_on(
         rt,
         alloc,
@@ -206,15 +250,26 @@ where
         request,
         response,
         gate,
-        &inboxes,
+        &board,
         left,
         bases.as_mut_slice(),
     );
+
+    // What the last exchanges left.
+    board.log.write_out(rt);
     Ok(())
 }
 
 /// Runs a loop on the base in this place, if there is one.
-fn run_one<B: Ledgers, Q: Ledger, A: Ledger, G: Gate, K: Place, N: Inboxes, R: Wait + Dial + Clock>(
+fn run_one<
+    B: Ledgers,
+    Q: Ledger,
+    A: Ledger,
+    G: Gate,
+    K: Place,
+    N: Common,
+    R: Wait + Dial + Append + Clock,
+>(
     rt: &R,
     alloc: Global,
     config: &Config,
@@ -222,7 +277,7 @@ fn run_one<B: Ledgers, Q: Ledger, A: Ledger, G: Gate, K: Place, N: Inboxes, R: W
     request: &Pool<Spare, Q>,
     response: &Pool<Spare, A>,
     gate: &G,
-    inboxes: &N,
+    common: &N,
     left: &Mutex<Left<B, Q, A>>,
     number: usize,
     place: &mut K,
@@ -230,30 +285,40 @@ fn run_one<B: Ledgers, Q: Ledger, A: Ledger, G: Gate, K: Place, N: Inboxes, R: W
     let Some(base) = place.take_base() else {
         return;
     };
-    if number as u64 >= config.shards {
-        return run_office(rt, alloc, bank, number, base, inboxes.all(), left);
-    }
-    let pools = Pools { request, response };
+    let Some(tally) = common
+        .tallies()
+        .get(number.min(common.tallies().len().saturating_sub(1)))
+    else {
+        return;
+    };
     let shared = Shared {
         config,
         bank,
-        pools,
+        pools: Pools { request, response },
         gate,
+        number,
+        tally,
+        log: common.log(),
     };
-    run_base(rt, alloc, shared, number, base, inboxes.all(), left);
+    let inboxes = common.inboxes();
+    if number < common.tallies().len() {
+        run_base(rt, alloc, shared, number, base, inboxes, left);
+    } else {
+        let office = Office::new(alloc, shared, common.tallies(), rt);
+        run_office(rt, alloc, office, number, base, inboxes, left);
+    }
 }
 
 /// Runs the administrator's loop. Where it fails, all others are told to stop.
-fn run_office<B: Ledgers, Q: Ledger, A: Ledger, R: Wait + Dial + Clock>(
+fn run_office<K: Work + Drop, B: Ledgers, Q: Ledger, A: Ledger, R: Wait + Dial + Clock>(
     rt: &R,
     alloc: Global,
-    bank: &Bank<B>,
+    office: K,
     number: usize,
     base: Base,
     inboxes: &[Inbox],
     left: &Mutex<Left<B, Q, A>>,
 ) {
-    let office = Office { alloc, bank };
     let Ended { work: _, fault } = run_loop(rt, alloc, number, base, office, inboxes);
     if let Some(fault) = fault {
         left.lock(rt).fail(loop_fault(fault));
@@ -279,6 +344,8 @@ fn run_base<'a, B: Ledgers, Q: Ledger, A: Ledger, G: Gate, R: Wait + Dial + Cloc
         return;
     };
     let Ended { work, fault } = run_loop(rt, alloc, number, base, shard, inboxes);
+    let mut work = work;
+    work.report_all(rt);
     let mut left = left.lock(rt);
     if let Some(fault) = fault {
         left.fail(loop_fault(fault));

@@ -1,8 +1,11 @@
 //! What the exchanges of one thread have in common.
 
 use crate::book::PointBook;
+use crate::log::Log;
+use crate::notes::Notes;
 use crate::pools::Pools;
 use crate::seats::Seats;
+use crate::tally::Tally;
 use adapt_sides::MAX_READ;
 use plan_rules::Limits;
 use proxy_config::{Config, ServicePoint};
@@ -20,6 +23,10 @@ pub struct Shared<'a, B: Ledgers, Q: Ledger, A: Ledger, G: Gate> {
     pub bank: &'a Bank<B>,
     pub pools: Pools<'a, Q, A>,
     pub gate: &'a G,
+    /// The number of the thread, what it counts, and the log.
+    pub number: usize,
+    pub tally: &'a Tally,
+    pub log: &'a Log,
 }
 
 impl<'a, B: Ledgers, Q: Ledger, A: Ledger, G: Gate> Shared<'a, B, Q, A, G> {
@@ -30,6 +37,9 @@ impl<'a, B: Ledgers, Q: Ledger, A: Ledger, G: Gate> Shared<'a, B, Q, A, G> {
             bank: self.bank,
             pools: self.pools.again(),
             gate: self.gate,
+            number: self.number,
+            tally: self.tally,
+            log: self.log,
         }
     }
 }
@@ -41,6 +51,7 @@ pub struct Desk<'a, B: Ledgers, Q: Ledger, A: Ledger, G: Gate> {
     pub shared: Shared<'a, B, Q, A, G>,
     pub limits: Limits,
     pub seats: Seats,
+    pub notes: Notes,
     pub request_book: PointBook,
     pub response_book: PointBook,
     pub scratch: Vec<u8>,
@@ -59,11 +70,14 @@ impl<'a, B: Ledgers, Q: Ledger, A: Ledger, G: Gate> Desk<'a, B, Q, A, G> {
     ) -> Result<Desk<'a, B, Q, A, G>, AllocError> {
         let scratch = Vec::from_elem(alloc, 0u8, MAX_READ)?;
         let limits = limits_of(shared.config);
+        let seats = Seats::new(alloc, rows)?;
+        let notes = Notes::new(alloc, seats.bound(), shared.log.is_kept())?;
         Ok(Desk {
             alloc,
             shared,
             limits,
-            seats: Seats::new(alloc, rows)?,
+            seats,
+            notes,
             request_book: PointBook::new(),
             response_book: PointBook::new(),
             scratch,

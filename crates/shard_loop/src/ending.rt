@@ -40,6 +40,11 @@ impl<'a, B: Ledgers, Q: Ledger, A: Ledger, G: Gate> Desk<'a, B, Q, A, G> {
             seen,
         } = parts_of(rt, self.shared.bank, Box::into_inner(tx));
         self.shared.bank.close(rt, stake, Pages::none());
+        let user = match seen.plan.point {
+            Point::Reqmod => &source_wire,
+            Point::Respmod => &next_wire,
+        };
+        self.note_end(at, &seen, outcome, &service, &next_wire, user);
         self.give_back(rt, at, lease, service, &seen);
         match seen.plan.point {
             Point::Reqmod if outcome == Outcome::Done && back.is_idle() => {

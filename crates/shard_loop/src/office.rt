@@ -1,24 +1,49 @@
 //! The loop of the administrator: it takes no users, so what an answer costs keeps nobody waiting.
 
+use crate::desk::Shared;
+use crate::log::{Append, Log};
+use crate::stats::stats_text;
+use crate::tally::Tally;
 use adapt_bytes::MAX_CAPACITY;
 use event_loop::{Driven, Handed, Request, Told, Work};
 use mio::Registry;
 use socket_wire::{Dial, Side};
-use span_bank::{Bank, CapacityFault, Ledgers};
+use span_bank::{CapacityFault, Ledgers};
 use std::alloc::{AllocError, Global};
 use std::sync::Wait;
+use std::sync::ledger::Ledger;
 use std::time::Clock;
+use wire_kit::Gate;
 
-/// What the administrator's loop answers from.
+/// How many milliseconds lines of the log may wait to be written.
+const LINES_WAIT: u64 = 50;
+
+/// What the administrator's loop answers from. It also writes the log.
 #[derive(Drop)]
-pub struct Office<'a, B: Ledgers> {
-    pub alloc: Global,
-    pub bank: &'a Bank<B>,
+pub struct Office<'a, B: Ledgers, Q: Ledger, A: Ledger, G: Gate, F: Append> {
+    alloc: Global,
+    shared: Shared<'a, B, Q, A, G>,
+    tallies: &'a [Tally],
+    files: &'a F,
 }
 
-impl<'a, B: Ledgers> Office<'a, B> {
+impl<'a, B: Ledgers, Q: Ledger, A: Ledger, G: Gate, F: Append> Office<'a, B, Q, A, G, F> {
+    pub fn new(
+        alloc: Global,
+        shared: Shared<'a, B, Q, A, G>,
+        tallies: &'a [Tally],
+        files: &'a F,
+    ) -> Office<'a, B, Q, A, G, F> {
+        Office {
+            alloc,
+            shared,
+            tallies,
+            files,
+        }
+    }
+
     fn say_book<R: Wait>(&mut self, rt: &R) -> Result<Vec<u8>, AllocError> {
-        let book = self.bank.book(rt, None);
+        let book = self.shared.bank.book(rt, None);
         let rows = book.rows;
         let held = book.held;
         let claimed = book.claimed;
@@ -31,7 +56,7 @@ impl<'a, B: Ledgers> Office<'a, B> {
 
     fn set_capacity<R: Wait>(&mut self, rt: &R, n: u64) -> Result<Vec<u8>, AllocError> {
         let size = n.max(1).min(MAX_CAPACITY);
-        match self.bank.set_capacity(rt, size) {
+        match self.shared.bank.set_capacity(rt, size) {
             Ok(()) => b"ok\n".to_vec(self.alloc),
             Err(CapacityFault::TooLow { claimed }) => {
                 let text = format!(in self.alloc; "refused {claimed}\n")?;
@@ -40,9 +65,24 @@ impl<'a, B: Ledgers> Office<'a, B> {
             Err(CapacityFault::NoMemory) => b"out of memory\n".to_vec(self.alloc),
         }
     }
+
+    /// Opens the log's file anew, where a log is kept.
+    fn reopen<R: Wait>(&mut self, rt: &R) -> Result<Vec<u8>, AllocError> {
+        let log: &Log = self.shared.log;
+        let Some(path) = &self.shared.config.log else {
+            return b"cannot open\n".to_vec(self.alloc);
+        };
+        match self.files.append(path.as_str()) {
+            Ok(file) => {
+                log.change(rt, file);
+                b"ok\n".to_vec(self.alloc)
+            }
+            Err(_) => b"cannot open\n".to_vec(self.alloc),
+        }
+    }
 }
 
-impl<'a, B: Ledgers> Work for Office<'a, B> {
+impl<'a, B: Ledgers, Q: Ledger, A: Ledger, G: Gate, F: Append> Work for Office<'a, B, Q, A, G, F> {
     fn admit<R: Wait + Dial + Clock>(
         &mut self,
         _rt: &R,
@@ -53,7 +93,7 @@ impl<'a, B: Ledgers> Work for Office<'a, B> {
         None
     }
 
-    fn make_room<R: Wait>(&mut self, _rt: &R) -> bool {
+    fn make_room<R: Wait + Clock>(&mut self, _rt: &R) -> bool {
         false
     }
 
@@ -79,12 +119,31 @@ impl<'a, B: Ledgers> Work for Office<'a, B> {
         true
     }
 
-    fn answer<R: Wait>(&mut self, rt: &R, request: Request) -> Result<Vec<u8>, AllocError> {
+    fn answer<R: Wait>(
+        &mut self,
+        rt: &R,
+        request: Request,
+        now: u64,
+    ) -> Result<Vec<u8>, AllocError> {
         match request {
             Request::Book => self.say_book(rt),
             Request::Capacity(n) => self.set_capacity(rt, n),
+            Request::Stats => stats_text(rt, self.alloc, &self.shared, self.tallies, now),
+            Request::Reopen => self.reopen(rt),
             Request::Drain | Request::Stop | Request::Bad => b"bad\n".to_vec(self.alloc),
         }
+    }
+
+    fn patience(&self) -> Option<u64> {
+        if self.shared.log.is_kept() {
+            Some(LINES_WAIT)
+        } else {
+            None
+        }
+    }
+
+    fn turn_over<R: Wait>(&mut self, rt: &R) {
+        self.shared.log.write_out(rt);
     }
 
     fn drain(&mut self) {}

@@ -5,6 +5,7 @@ use crate::phase::{Ends, Line, Phase, Step};
 use crate::pools::{Leased, Spare, Took};
 use crate::seats::At;
 use adapt_sides::ClientFault;
+use exchange_report::Why;
 use icap_client::OptionsSide;
 use icap_head::IcapResponse;
 use options_book::read_record;
@@ -30,6 +31,15 @@ fn asker(alloc: Global, service: &ServicePoint) -> Result<Box<OptionsSide>, Allo
     match Box::new(alloc, side) {
         Ok(side) => Ok(side),
         Err(_) => Err(AllocError),
+    }
+}
+
+/// Why a service that was asked can't serve.
+fn asked_word(fault: ClientFault, untouched: bool) -> Why {
+    match fault {
+        ClientFault::Status => Why::ServiceStatus,
+        ClientFault::Device if untouched => Why::ServiceRefused,
+        _ => Why::ServiceBroken,
     }
 }
 
@@ -249,6 +259,8 @@ impl<'a, B: Ledgers, Q: Ledger, A: Ledger, G: Gate> Desk<'a, B, Q, A, G> {
                 Err(reason) => self.refuse_user(at, ends, reason),
             },
             _ => {
+                let untouched = line.wire.counts() == (0, 0);
+                self.blame(at, asked_word(fault, untouched));
                 self.drop_line(rt, line);
                 self.refuse_user(at, ends, options_reason(fault))
             }
@@ -267,6 +279,7 @@ impl<'a, B: Ledgers, Q: Ledger, A: Ledger, G: Gate> Desk<'a, B, Q, A, G> {
     ) -> Step<B, Q, A> {
         let point = ends.point();
         if let Err(reason) = self.keep_record(rt, at, point, answer) {
+            self.blame(at, Why::ServiceStatus);
             self.drop_line(rt, line);
             return self.refuse_user(at, ends, reason);
         }

@@ -7,6 +7,7 @@ ghost use Rattle.service_pool.specs.declared.step.TheConstants.{LEDGER_PARTS};
 use crate::audit::{ServeFault, Stopped};
 use crate::crew::run_crew;
 use crate::left::Left;
+use crate::log::Append;
 use crate::pools::Spare;
 use mio::net::TcpListener;
 use proxy_config::{Config, ServicePoint};
@@ -14,6 +15,7 @@ use service_pool::Pool;
 use socket_wire::Dial;
 use span_bank::{Bank, Blanks, Four};
 use std::alloc::Global;
+use std::fs::File;
 use std::net::Net;
 use std::sync::ledger::{Blank, Ledger};
 use std::sync::{Mutex, Wait};
@@ -48,7 +50,7 @@ fn make_pool<L: Ledger>(
 }
 
 /// Runs the proxy on these ports until the administrator stops it or one of its loops fails, and audits its budget and its
-/// pools.
+/// pools. Lines are added to the log's file, if there is one.
 ///
 /// Each blank of the budget has a part for each transaction that there may be, and one more; those of the pools have
 /// `LEDGER_PARTS`.
@@ -61,13 +63,14 @@ pub fn serve<
     Q: Ledger + Send + Sync,
     A: Ledger + Send + Sync,
     G: Gate + Sync,
-    R: Threads + Wait + Net + Dial + Clock + Sync,
+    R: Threads + Wait + Net + Dial + Append + Clock + Sync,
 >(
     rt: &R,
     alloc: Global,
     config: &'x Config,
     users: TcpListener,
     admin: TcpListener,
+    log: Option<File>,
     gate: &'x G,
     blanks: Blanks,
     reqmod: Blank,
@@ -108,6 +111,7 @@ pub fn serve<
             &response,
             gate,
             (users, admin),
+            log,
             &left,
         )
     } else {

@@ -119,6 +119,14 @@ impl Seats {
         }
     }
 
+    /// How many bytes a user has taken, on its connection.
+    pub fn taken(&self, key: usize) -> u64 {
+        match self.all.get(key) {
+            Some(seat) => taken_by(&seat.user),
+            None => 0,
+        }
+    }
+
     /// Whether no seat is taken.
     pub fn is_empty(&self) -> bool {
         self.all.is_empty()

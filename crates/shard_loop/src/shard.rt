@@ -3,9 +3,12 @@
 ghost use Rattle.shard_loop.specs.Slots.{ChangesOnly};
 
 use crate::desk::{Desk, Shared};
+use crate::notes::{is_between, stage_of};
 use crate::phase::{Ends, Phase, Step};
 use crate::seats::{At, Purpose, Stay};
+use crate::tally::USERS;
 use event_loop::{Driven, Handed, Request, Slots, Told, Work};
+use exchange_report::Why;
 use http_side::own_refusal;
 use mio::Registry;
 use mio::net::TcpStream;
@@ -81,38 +84,71 @@ impl<'a, B: Ledgers, Q: Ledger, A: Ledger, G: Gate> Shard<'a, B, Q, A, G> {
         let Some(phase) = self.slots.take(at.key) else {
             return Driven::Over;
         };
+        if let Some(note) = self.desk.notes.get_mut(at.key) {
+            note.stage = stage_of(&phase);
+        }
         match self.desk.step(rt, at, phase) {
             Step::On(phase) => {
+                self.note_phase(rt, at.key, &phase);
                 self.keep(rt, at.key, phase);
                 Driven::CutShort
             }
             Step::Waits(phase) => {
+                self.note_phase(rt, at.key, &phase);
                 self.keep(rt, at.key, phase);
                 Driven::Waiting
             }
             Step::Over => {
-                self.desk.seats.leave(at.key);
+                self.leave(rt, at.key);
                 Driven::Over
             }
         }
     }
 
+    /// Where no exchange is under way in this phase, the one before is over.
+    fn note_phase<R: Wait + Clock>(&mut self, rt: &R, key: usize, phase: &Phase<B, Q, A>)
+        ensures { self.new.slots ≡ self.old.slots }
+    {
+        if is_between(phase) {
+            self.desk.report(rt, key);
+        }
+    }
+
+    /// The user under this key has left.
+    fn leave<R: Wait + Clock>(&mut self, rt: &R, key: usize)
+        ensures { self.new.slots ≡ self.old.slots }
+    {
+        self.desk.report(rt, key);
+        self.desk.seats.leave(key);
+        self.desk.shared.tally.take(USERS, 1);
+    }
+
+    /// Reports the exchanges that are still open.
+    pub fn report_all<R: Wait + Clock>(&mut self, rt: &R) {
+        for key in 0..self.slots.count() {
+            self.desk.report(rt, key);
+        }
+    }
+
     /// Ends the exchange under this key, and all of its connections.
-    fn end_slot<R: Wait>(&mut self, rt: &R, key: usize) {
+    fn end_slot<R: Wait + Clock>(&mut self, rt: &R, key: usize) {
         if let Some(phase) = self.slots.take(key) {
             self.desk.end(rt, phase);
         }
-        self.desk.seats.leave(key);
+        self.leave(rt, key);
     }
 
     /// Ends the exchange under this key, because the proxy stops: where a refusal is due, it is driven on.
-    fn halt_slot<R: Wait>(&mut self, rt: &R, at: At<'_>) {
+    fn halt_slot<R: Wait + Clock>(&mut self, rt: &R, at: At<'_>) {
         let Some(phase) = self.slots.take(at.key) else {
             return;
         };
         match self.desk.halt(rt, at, phase) {
             Step::On(phase) | Step::Waits(phase) => self.keep(rt, at.key, phase),
-            Step::Over => self.desk.seats.leave(at.key),
+            Step::Over => {
+                self.desk.note_stop(at.key);
+                self.leave(rt, at.key);
+            }
         }
     }
 
@@ -154,6 +190,12 @@ impl<'a, B: Ledgers, Q: Ledger, A: Ledger, G: Gate> Work for Shard<'a, B, Q, A, 
             turn_away(stream);
             return None;
         };
+        let address = self.desk.origin_of_user(&stream);
+        self.desk.note_user(key, address);
+        self.desk.shared.tally.add(USERS, 1);
+        if purpose == Purpose::Refusal {
+            self.desk.notes.refuse(key, Why::NoSeat, 503);
+        }
         let at = At { registry, key, now };
         match self.desk.seats.wire(at, Side::User, stream) {
             Ok(user) => {
@@ -162,7 +204,7 @@ impl<'a, B: Ledgers, Q: Ledger, A: Ledger, G: Gate> Work for Shard<'a, B, Q, A, 
                 Some(key)
             }
             Err(stream) => {
-                self.desk.seats.leave(key);
+                self.leave(rt, key);
                 turn_away(stream);
                 None
             }
@@ -170,7 +212,7 @@ impl<'a, B: Ledgers, Q: Ledger, A: Ledger, G: Gate> Work for Shard<'a, B, Q, A, 
     }
 
     /// An idle connection on which a request has just come is spared no more: its head has begun.
-    fn make_room<R: Wait>(&mut self, rt: &R) -> bool {
+    fn make_room<R: Wait + Clock>(&mut self, rt: &R) -> bool {
         for _ in 0..LOOKS {
             let Some(key) = self.desk.seats.spared() else {
                 return false;
@@ -219,9 +261,20 @@ impl<'a, B: Ledgers, Q: Ledger, A: Ledger, G: Gate> Work for Shard<'a, B, Q, A, 
     }
 
     /// None comes here: the administrator has a loop of its own.
-    fn answer<R: Wait>(&mut self, _rt: &R, _request: Request) -> Result<Vec<u8>, AllocError> {
+    fn answer<R: Wait>(
+        &mut self,
+        _rt: &R,
+        _request: Request,
+        _now: u64,
+    ) -> Result<Vec<u8>, AllocError> {
         b"bad\n".to_vec(self.desk.alloc)
     }
+
+    fn patience(&self) -> Option<u64> {
+        None
+    }
+
+    fn turn_over<R: Wait>(&mut self, _rt: &R) {}
 
     fn drain(&mut self) {
         self.desk.draining = true;

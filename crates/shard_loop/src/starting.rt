@@ -64,7 +64,10 @@ impl<'a, B: Ledgers, Q: Ledger, A: Ledger, G: Gate> Desk<'a, B, Q, A, G> {
     ) -> Result<Option<SocketWire>, Reason> {
         match address {
             Some(address) => match self.dial(rt, at, Side::Origin, address, Reason::NoOrigin) {
-                Ok(wire) => Ok(Some(wire)),
+                Ok(wire) => {
+                    self.note_origin(at, address);
+                    Ok(Some(wire))
+                }
                 Err(reason) => Err(reason),
             },
             None => Ok(None),

@@ -66,6 +66,7 @@ impl<'a, B: Ledgers, Q: Ledger, A: Ledger, G: Gate> Desk<'a, B, Q, A, G> {
         }
         match read {
             Ok(true) => {
+                self.note_request(rt, at, &ends.message);
                 self.seats.begin_stay(at.key, Stay::Exchange);
                 self.offer(rt, at, ends, Point::Reqmod)
             }
@@ -92,7 +93,10 @@ impl<'a, B: Ledgers, Q: Ledger, A: Ledger, G: Gate> Desk<'a, B, Q, A, G> {
             self.seats.touch(at);
         }
         match read {
-            Ok(true) => self.offer(rt, at, ends, Point::Respmod),
+            Ok(true) => {
+                self.note_answer(at, &ends.message);
+                self.offer(rt, at, ends, Point::Respmod)
+            }
             Ok(false) if moved => Step::On(Phase::Answer(ends)),
             Ok(false) if self.is_late(at) => self.refuse_user(at, ends, Reason::Deadline),
             Ok(false) => Step::Waits(Phase::Answer(ends)),
@@ -131,6 +135,7 @@ impl<'a, B: Ledgers, Q: Ledger, A: Ledger, G: Gate> Desk<'a, B, Q, A, G> {
 
     /// Has the proxy's own refusal written. It is written, and the connection closed after it, within one deadline.
     pub fn refuse(&mut self, at: At<'_>, user: SocketWire, reason: Reason) -> Step<B, Q, A> {
+        self.note_refusal(at, &user, reason);
         self.seats.touch(at);
         self.seats.begin_stay(at.key, Stay::End);
         Step::On(Phase::Refusing {

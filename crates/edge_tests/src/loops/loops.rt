@@ -1,7 +1,8 @@
 //! Loops in threads, over loopback: they echo.
 
 use event_loop::{
-    Base, Driven, Ended, Entrance, Handed, Inbox, Place, Request, Room, Told, Work, add_loop, run_loop,
+    Base, Driven, Ended, Entrance, Handed, Inbox, Place, Request, Room, Told, Work, add_loop,
+    run_loop,
 };
 use mio::net::TcpListener;
 use mio::{Registry, Token};
@@ -72,7 +73,7 @@ impl Work for Echo {
         take_in(self, registry, user).ok()
     }
 
-    fn make_room<R: Wait>(&mut self, _rt: &R) -> bool {
+    fn make_room<R: Wait + Clock>(&mut self, _rt: &R) -> bool {
         for key in 0..self.bound() {
             if self.all.try_remove(key).is_some() {
                 return true;
@@ -120,12 +121,23 @@ impl Work for Echo {
         self.all.is_empty()
     }
 
-    fn answer<R: Wait>(&mut self, _rt: &R, request: Request) -> Result<Vec<u8>, AllocError> {
+    fn answer<R: Wait>(
+        &mut self,
+        _rt: &R,
+        request: Request,
+        _now: u64,
+    ) -> Result<Vec<u8>, AllocError> {
         match request {
             Request::Book => b"a book\n".to_vec(self.alloc),
             _ => b"ok\n".to_vec(self.alloc),
         }
     }
+
+    fn patience(&self) -> Option<u64> {
+        None
+    }
+
+    fn turn_over<R: Wait>(&mut self, _rt: &R) {}
 
     fn drain(&mut self) {}
 

@@ -158,7 +158,13 @@ fn heads_of_a_service_that_do_not(rt: HostRuntime) -> Result<(), Fail> {
         (b"HTTP/1.1 200 OK\r\nContent-Length: x\r\n\r\n", true),
     ];
     for (text, is_response) in texts {
-        let made = HeadMaker::for_request(false).make(alloc, &state, &source, Some(text), is_response);
+        let made = HeadMaker::for_request(false).make(
+            alloc,
+            &state,
+            &source,
+            Some(text),
+            is_response,
+        );
         assert_eq!(rt; made.err(), Some(Cause::Service));
     }
     let unread = SourceSide::request(alloc);

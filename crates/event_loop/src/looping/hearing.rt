@@ -18,6 +18,7 @@ impl<K: Work> EventLoop<K> {
 
     /// Answers the lines of a connection of the administrator. One for whose answer no memory is found is closed.
     pub(super) fn hear<R: Wait>(&mut self, rt: &R, inboxes: &[Inbox], key: usize) {
+        let now = self.now();
         for _ in 0..LINES {
             match self.askers.hear(key) {
                 Some(Request::Stop) => stop_all(inboxes),
@@ -26,7 +27,7 @@ impl<K: Work> EventLoop<K> {
                     self.askers.say(key, b"ok\n");
                 }
                 Some(Request::Bad) => self.askers.say(key, b"bad\n"),
-                Some(request) => match self.work.answer(rt, request) {
+                Some(request) => match self.work.answer(rt, request, now) {
                     Ok(answer) => self.askers.say(key, answer.as_slice()),
                     Err(_) => self.askers.leave(key),
                 },

@@ -170,7 +170,7 @@ pub fn goes_well<
         rt,
         &mut || {
             if let Some((users, admin)) = made.take() {
-                stopped = serve_ports(rt, alloc, &config, users, admin, &gate).ok();
+                stopped = serve_ports(rt, alloc, &config, users, admin, None, &gate).ok();
             }
         },
         &mut || {

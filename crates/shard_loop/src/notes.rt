@@ -1,0 +1,318 @@
+//! What is noted of an exchange while it goes on: what its line in the log says, and what is counted.
+
+use crate::phase::Phase;
+use adapt_bytes::front;
+use exchange_report::{Address, Entry, MAX_KIND, MAX_METHOD, MAX_TARGET, Reply, Verdict, Why};
+use http_side::HttpFault;
+use proxy_rules::Reason;
+use span_bank::Ledgers;
+use std::alloc::{AllocError, Global};
+use std::net::SocketAddrV4;
+use std::sync::ledger::Ledger;
+use trace_core::{Point, Seen};
+
+/// Where an exchange stands, as far as a reason's word depends on it.
+#[derive(Clone, Copy, Debug, PartialEq, Eq)]
+pub enum Stage {
+    /// A service is asked for its options.
+    Asking,
+    /// Anywhere else.
+    Elsewhere,
+}
+
+/// What is noted of the exchange under a key.
+#[derive(Clone, Copy)]
+pub struct Note {
+    /// Whether a request was read, or refused, and its answer isn't over.
+    pub is_open: bool,
+    pub stage: Stage,
+    pub user: Option<Address>,
+    /// The moment at which the request's head was there, in milliseconds since 1970.
+    pub begun: u64,
+    /// How many bytes the user had taken before.
+    pub taken: u64,
+    /// How many bytes were read of the user, as far as they are counted.
+    pub read: u64,
+    pub origin: Option<Address>,
+    pub refused: bool,
+    pub status: u16,
+    pub reqmod: Verdict,
+    pub respmod: Verdict,
+    pub why: Option<Why>,
+    /// Why a service can't serve, where that was found.
+    pub blamed: Option<Why>,
+}
+
+/// Texts from outside: the method, the target and the answer's media type, one behind another.
+#[derive(Drop)]
+struct Words {
+    text: Vec<u8>,
+    method: usize,
+    target: usize,
+}
+
+/// The notes of a loop, one for each key.
+#[derive(Drop)]
+pub struct Notes {
+    notes: Vec<Note>,
+    /// None where no log is kept.
+    words: Vec<Words>,
+}
+
+/// Before a user.
+fn blank() -> Note {
+    Note {
+        is_open: false,
+        stage: Stage::Elsewhere,
+        user: None,
+        begun: 0,
+        taken: 0,
+        read: 0,
+        origin: None,
+        refused: false,
+        status: 0,
+        reqmod: Verdict::none(),
+        respmod: Verdict::none(),
+        why: None,
+        blamed: None,
+    }
+}
+
+/// An address without its port.
+pub fn address_of(address: SocketAddrV4) -> Address {
+    let [first, second, third, fourth] = address.ip().octets();
+    Address {
+        first,
+        second,
+        third,
+        fourth,
+    }
+}
+
+/// What became of a message, as its history shows.
+pub fn verdict_of(seen: &Seen) -> Verdict {
+    Verdict {
+        retried: seen.retried,
+        continued: seen.continued,
+        reply: if seen.plan.kind.is_plain() {
+            Reply::Plain
+        } else if seen.no_mod {
+            Reply::Unchanged
+        } else if seen.modified {
+            Reply::Changed
+        } else {
+            Reply::Missing
+        },
+    }
+}
+
+impl Words {
+    /// Notes a method and a target. Where no memory is found, there is none.
+    fn begin(&mut self, method: &[u8], target: &[u8]) {
+        let method = front(method, MAX_METHOD);
+        let target = front(target, MAX_TARGET);
+        self.clear();
+        if self.text.extend_from_slice(method).is_ok() {
+            self.method = method.len();
+        }
+        if self.text.extend_from_slice(target).is_ok() {
+            self.target = target.len();
+        }
+    }
+
+    /// Notes a media type.
+    fn answer(&mut self, kind: &[u8]) {
+        let end = self.method.saturating_add(self.target);
+        if end < self.text.len() {
+            self.text.truncate(end);
+        }
+        let _ = self.text.extend_from_slice(front(kind, MAX_KIND));
+    }
+
+    fn clear(&mut self) {
+        self.text.clear();
+        self.method = 0;
+        self.target = 0;
+    }
+
+    /// The method, the target and the media type.
+    fn all(&self) -> (&[u8], &[u8], &[u8]) {
+        let end = self.method.saturating_add(self.target);
+        let text = self.text.as_slice();
+        (
+            text.get(..self.method).unwrap_or(b""),
+            text.get(self.method..end).unwrap_or(b""),
+            text.get(end..).unwrap_or(b""),
+        )
+    }
+}
+
+impl Notes {
+    /// Of so many keys. `Err` where no memory was found.
+    pub fn new(alloc: Global, keys: usize, is_kept: bool) -> Result<Notes, AllocError> {
+        let mut notes = Vec::with_capacity(alloc, keys)?;
+        let mut words = Vec::with_capacity(alloc, if is_kept { keys } else { 0 })?;
+        for _ in 0..keys {
+            if notes.len() < notes.capacity() {
+                notes.push_reserved(blank());
+            }
+            if is_kept && words.len() < words.capacity() {
+                words.push_reserved(Words {
+                    text: Vec::new(alloc),
+                    method: 0,
+                    target: 0,
+                });
+            }
+        }
+        Ok(Notes { notes, words })
+    }
+
+    /// A note, to be changed.
+    pub fn get_mut(&mut self, key: usize) -> Option<&mut Note> {
+        self.notes.get_mut(key)
+    }
+
+    /// A user comes.
+    pub fn enter(&mut self, key: usize, user: Option<Address>) {
+        if let Some(note) = self.notes.get_mut(key) {
+            *note = blank();
+            note.user = user;
+        }
+        if let Some(words) = self.words.get_mut(key) {
+            words.clear();
+        }
+    }
+
+    /// An exchange begins, with this request; its words are noted where a log is kept.
+    pub fn begin(&mut self, key: usize, moment: u64, taken: u64, method: &[u8], target: &[u8]) {
+        if let Some(note) = self.notes.get_mut(key) {
+            let user = note.user;
+            let read = note.read;
+            *note = blank();
+            note.is_open = true;
+            note.user = user;
+            note.read = read;
+            note.begun = moment;
+            note.taken = taken;
+        }
+        if let Some(words) = self.words.get_mut(key) {
+            words.begin(method, target);
+        }
+    }
+
+    /// The answer has this status, and this media type.
+    pub fn answer(&mut self, key: usize, status: u16, kind: &[u8]) {
+        if let Some(note) = self.notes.get_mut(key) {
+            note.status = status;
+        }
+        if let Some(words) = self.words.get_mut(key) {
+            words.answer(kind);
+        }
+    }
+
+    /// The proxy's own refusal is the answer. It has no media type.
+    pub fn refuse(&mut self, key: usize, why: Why, status: u16) {
+        self.answer(key, status, b"");
+        if let Some(note) = self.notes.get_mut(key) {
+            note.is_open = true;
+            note.refused = true;
+            note.why = Some(why);
+        }
+    }
+
+    /// Notes what became of a message.
+    pub fn judge(&mut self, key: usize, point: Point, verdict: Verdict) {
+        if let Some(note) = self.notes.get_mut(key) {
+            match point {
+                Point::Reqmod => note.reqmod = verdict,
+                Point::Respmod => note.respmod = verdict,
+            }
+        }
+    }
+
+    /// Closes an exchange that is open, and gives its note.
+    pub fn close(&mut self, key: usize) -> Option<Note> {
+        let note = self.notes.get_mut(key)?;
+        if !note.is_open {
+            return None;
+        }
+        note.is_open = false;
+        Some(*note)
+    }
+
+    /// What the log says of an exchange that ended at this moment, when so many bytes had gone to the user.
+    pub fn entry(&self, key: usize, note: &Note, ended: u64, sent: u64) -> Entry<'_> {
+        let (method, target, kind) = match self.words.get(key) {
+            Some(words) => words.all(),
+            None => (b"".as_slice(), b"".as_slice(), b"".as_slice()),
+        };
+        let begun = if note.begun == 0 { ended } else { note.begun };
+        Entry {
+            ended,
+            elapsed: ended.saturating_sub(begun),
+            user: note.user,
+            refused: note.refused,
+            status: status_of(note),
+            sent,
+            method,
+            target,
+            origin: note.origin,
+            kind,
+            reqmod: note.reqmod,
+            respmod: note.respmod,
+            why: why_of(note),
+        }
+    }
+}
+
+/// The status of an exchange whose user was gone before it had one.
+const CLOSED_REQUEST: u16 = 499;
+
+/// The status of an exchange.
+pub fn status_of(note: &Note) -> u16 {
+    if note.status == 0 {
+        CLOSED_REQUEST
+    } else {
+        note.status
+    }
+}
+
+/// Why an exchange ended as it did.
+pub fn why_of(note: &Note) -> Why {
+    match note.why {
+        Some(why) => why,
+        None => Why::UserGone,
+    }
+}
+
+/// Where an exchange stands.
+pub fn stage_of<B: Ledgers, Q: Ledger, A: Ledger>(phase: &Phase<B, Q, A>) -> Stage {
+    match phase {
+        Phase::Asking { .. } => Stage::Asking,
+        _ => Stage::Elsewhere,
+    }
+}
+
+/// Whether no exchange is under way.
+pub fn is_between<B: Ledgers, Q: Ledger, A: Ledger>(phase: &Phase<B, Q, A>) -> bool {
+    matches!(phase, Phase::Head(_) | Phase::Closing(_))
+}
+
+/// The word for a reason.
+pub fn word_of(reason: Reason, note: &Note) -> Why {
+    match reason {
+        Reason::Request(HttpFault::Coding | HttpFault::Connect) => Why::NotServed,
+        Reason::Request(HttpFault::NoMemory) | Reason::NoMemory => Why::NoMemory,
+        Reason::Request(_) => Why::BadRequest,
+        Reason::UnknownHost => Why::UnknownHost,
+        Reason::NoOrigin => Why::OriginRefused,
+        Reason::OriginHead => Why::OriginBroken,
+        Reason::Service => note.blamed.unwrap_or(Why::ServiceRefused),
+        Reason::Busy => Why::Busy,
+        Reason::Full => Why::Full,
+        Reason::NoRow => Why::NoRow,
+        Reason::Deadline if note.stage == Stage::Asking => Why::ServiceDeadline,
+        Reason::Deadline => Why::OriginDeadline,
+        Reason::Stopping => Why::Stopping,
+    }
+}

@@ -1,0 +1,290 @@
+//! The answer to `stats`: the sums of what the loops count, and the numbers of what they share.
+
+use crate::desk::Shared;
+use crate::tally::{
+    READ, REQUESTS, RETRIES, SENT, Tally, USERS, class_place, offer_place, refusal_place, total,
+};
+use exchange_report::{Family, Kind, Metric, Reply, Why, metrics_text};
+use service_pool::Numbers;
+use span_bank::Ledgers;
+use std::alloc::{AllocError, Global};
+use std::sync::Wait;
+use std::sync::ledger::Ledger;
+use trace_core::Point;
+use wire_kit::Gate;
+
+/// A family of counters.
+const fn counter(name: &'static [u8], help: &'static [u8]) -> Family {
+    Family {
+        name,
+        kind: Kind::Counter,
+        help,
+    }
+}
+
+/// A family of numbers that rise and fall.
+const fn gauge(name: &'static [u8], help: &'static [u8]) -> Family {
+    Family {
+        name,
+        kind: Kind::Gauge,
+        help,
+    }
+}
+
+/// The labels of answers, by the class of their status.
+const CLASSES: [(u16, &[u8]); 4] = [
+    (200, b"{class=\"2xx\"}"),
+    (300, b"{class=\"3xx\"}"),
+    (400, b"{class=\"4xx\"}"),
+    (500, b"{class=\"5xx\"}"),
+];
+
+/// The labels of what became of messages.
+const OFFERS: [(Point, Reply, &[u8]); 8] = [
+    (
+        Point::Reqmod,
+        Reply::Plain,
+        b"{point=\"reqmod\",outcome=\"plain\"}",
+    ),
+    (
+        Point::Reqmod,
+        Reply::Unchanged,
+        b"{point=\"reqmod\",outcome=\"204\"}",
+    ),
+    (
+        Point::Reqmod,
+        Reply::Changed,
+        b"{point=\"reqmod\",outcome=\"200\"}",
+    ),
+    (
+        Point::Reqmod,
+        Reply::Missing,
+        b"{point=\"reqmod\",outcome=\"failed\"}",
+    ),
+    (
+        Point::Respmod,
+        Reply::Plain,
+        b"{point=\"respmod\",outcome=\"plain\"}",
+    ),
+    (
+        Point::Respmod,
+        Reply::Unchanged,
+        b"{point=\"respmod\",outcome=\"204\"}",
+    ),
+    (
+        Point::Respmod,
+        Reply::Changed,
+        b"{point=\"respmod\",outcome=\"200\"}",
+    ),
+    (
+        Point::Respmod,
+        Reply::Missing,
+        b"{point=\"respmod\",outcome=\"failed\"}",
+    ),
+];
+
+/// The labels of the proxy's own refusals.
+const REFUSALS: [(Why, &[u8]); 18] = [
+    (Why::BadRequest, b"{why=\"bad-request\"}"),
+    (Why::NotServed, b"{why=\"not-served\"}"),
+    (Why::RequestBroken, b"{why=\"request-broken\"}"),
+    (Why::UnknownHost, b"{why=\"unknown-host\"}"),
+    (Why::OriginRefused, b"{why=\"origin-refused\"}"),
+    (Why::OriginBroken, b"{why=\"origin-broken\"}"),
+    (Why::OriginDeadline, b"{why=\"origin-deadline\"}"),
+    (Why::ServiceRefused, b"{why=\"service-refused\"}"),
+    (Why::ServiceStatus, b"{why=\"service-status\"}"),
+    (Why::ServiceBroken, b"{why=\"service-broken\"}"),
+    (Why::ServiceDeadline, b"{why=\"service-deadline\"}"),
+    (Why::Busy, b"{why=\"busy\"}"),
+    (Why::Full, b"{why=\"full\"}"),
+    (Why::NoRow, b"{why=\"no-row\"}"),
+    (Why::NoSeat, b"{why=\"no-seat\"}"),
+    (Why::NoMemory, b"{why=\"no-memory\"}"),
+    (Why::UserDeadline, b"{why=\"user-deadline\"}"),
+    (Why::Stopping, b"{why=\"stopping\"}"),
+];
+
+/// The numbers, in the order in which they are told.
+#[derive(Drop)]
+struct Sheet<'a> {
+    metrics: Vec<Metric>,
+    tallies: &'a [Tally],
+}
+
+impl<'a> Sheet<'a> {
+    fn put(&mut self, metric: Metric) -> Result<(), AllocError> {
+        match self.metrics.push(metric) {
+            Ok(()) => Ok(()),
+            Err(_) => Err(AllocError),
+        }
+    }
+
+    /// A family of one number.
+    fn one(&mut self, family: Family, value: u64) -> Result<(), AllocError> {
+        self.put(Metric::Family(family))?;
+        self.put(Metric::Sample(family, b"", value))
+    }
+
+    /// The sum of what the loops count.
+    fn sum(&self, place: usize) -> u64 {
+        total(self.tallies, place)
+    }
+
+    /// What the loops count of requests and answers.
+    fn put_counts(&mut self) -> Result<(), AllocError> {
+        let requests = self.sum(REQUESTS);
+        self.one(
+            counter(
+                b"adaptproxy_requests",
+                b"Requests that were answered, refused or cut.",
+            ),
+            requests,
+        )?;
+        let answers = counter(
+            b"adaptproxy_answers",
+            b"Answers by the class of their status.",
+        );
+        self.put(Metric::Family(answers))?;
+        for (status, label) in CLASSES {
+            let value = self.sum(class_place(status));
+            self.put(Metric::Sample(answers, label, value))?;
+        }
+        let refusals = counter(
+            b"adaptproxy_refusals",
+            b"The proxy's own refusals by their reason.",
+        );
+        self.put(Metric::Family(refusals))?;
+        for (why, label) in REFUSALS {
+            let value = self.sum(refusal_place(why));
+            self.put(Metric::Sample(refusals, label, value))?;
+        }
+        Ok(())
+    }
+
+    /// What the loops count of messages, and of bytes.
+    fn put_messages(&mut self) -> Result<(), AllocError> {
+        let messages = counter(
+            b"adaptproxy_messages",
+            b"Messages by point and by the final reply of its service.",
+        );
+        self.put(Metric::Family(messages))?;
+        for (point, reply, label) in OFFERS {
+            let value = self.sum(offer_place(point, reply));
+            self.put(Metric::Sample(messages, label, value))?;
+        }
+        let retries = self.sum(RETRIES);
+        self.one(
+            counter(
+                b"adaptproxy_retries",
+                b"Messages that were sent to their service anew.",
+            ),
+            retries,
+        )?;
+        let bytes = counter(b"adaptproxy_user_bytes", b"Bytes from and to users.");
+        let (read, sent) = (self.sum(READ), self.sum(SENT));
+        self.put(Metric::Family(bytes))?;
+        self.put(Metric::Sample(bytes, b"{direction=\"in\"}", read))?;
+        self.put(Metric::Sample(bytes, b"{direction=\"out\"}", sent))
+    }
+
+    /// The connections to both services.
+    fn put_pools(&mut self, reqmod: Numbers, respmod: Numbers) -> Result<(), AllocError> {
+        let open = gauge(
+            b"adaptproxy_service_connections",
+            b"Connections to services, leased and idle.",
+        );
+        self.put(Metric::Family(open))?;
+        for (label, value) in [
+            (
+                b"{point=\"reqmod\",state=\"leased\"}".as_slice(),
+                reqmod.leased,
+            ),
+            (b"{point=\"reqmod\",state=\"idle\"}".as_slice(), reqmod.idle),
+            (
+                b"{point=\"respmod\",state=\"leased\"}".as_slice(),
+                respmod.leased,
+            ),
+            (
+                b"{point=\"respmod\",state=\"idle\"}".as_slice(),
+                respmod.idle,
+            ),
+        ] {
+            self.put(Metric::Sample(open, label, value))?;
+        }
+        let most = gauge(
+            b"adaptproxy_service_connections_maximum",
+            b"Connections to services that may be open.",
+        );
+        self.put(Metric::Family(most))?;
+        self.put(Metric::Sample(most, b"{point=\"reqmod\"}", reqmod.maximum))?;
+        self.put(Metric::Sample(most, b"{point=\"respmod\"}", respmod.maximum))
+    }
+}
+
+/// The counters as OpenMetrics text, so many seconds after the start.
+pub fn stats_text<B: Ledgers, Q: Ledger, A: Ledger, G: Gate, R: Wait>(
+    rt: &R,
+    alloc: Global,
+    shared: &Shared<'_, B, Q, A, G>,
+    tallies: &[Tally],
+    now: u64,
+) -> Result<Vec<u8>, AllocError> {
+    let book = shared.bank.book(rt, None);
+    let mut sheet = Sheet {
+        metrics: Vec::new(alloc),
+        tallies,
+    };
+    sheet.put_counts()?;
+    sheet.put_messages()?;
+    let users = sheet.sum(USERS);
+    let seats = shared.config.shards.saturating_mul(shared.config.rows);
+    sheet.one(
+        gauge(b"adaptproxy_users", b"Users that are connected."),
+        users,
+    )?;
+    sheet.one(
+        gauge(b"adaptproxy_seats", b"Users that can be served at once."),
+        seats,
+    )?;
+    let reqmod = shared.pools.request.numbers(rt);
+    let respmod = shared.pools.response.numbers(rt);
+    sheet.put_pools(reqmod, respmod)?;
+    sheet.one(
+        gauge(b"adaptproxy_budget_rows", b"Transactions that are open."),
+        book.rows,
+    )?;
+    sheet.one(
+        gauge(
+            b"adaptproxy_budget_held_bytes",
+            b"Body bytes that they hold.",
+        ),
+        book.held,
+    )?;
+    sheet.one(
+        gauge(
+            b"adaptproxy_budget_claimed_bytes",
+            b"Body bytes that they have reserved.",
+        ),
+        book.claimed,
+    )?;
+    sheet.one(
+        gauge(
+            b"adaptproxy_budget_capacity_bytes",
+            b"Body bytes that may be reserved.",
+        ),
+        book.capacity,
+    )?;
+    sheet.one(
+        counter(
+            b"adaptproxy_log_lines_lost",
+            b"Lines of the log that could not be written.",
+        ),
+        shared.log.lost(),
+    )?;
+    sheet.one(
+        gauge(b"adaptproxy_uptime_seconds", b"Seconds since the start."),
+        now,
+    )?;
+    metrics_text(alloc, sheet.metrics.as_slice())
+}
