@@ -1,5 +1,7 @@
 """Cases of tools/try_serve: what the administrator asks for while the proxy runs."""
 import os
+import re
+import shutil
 import signal
 import socket
 import subprocess
@@ -7,8 +9,8 @@ import tempfile
 import threading
 import time
 
-from serve_lab.cases import ADAPTPROXY, IDLE, case, get, same
-from serve_lab.loopback import PATIENCE, TOP, User, ask, body_of, free_port
+from serve_lab.cases import ADAPTPROXY, IDLE, case, get, post, same
+from serve_lab.loopback import PATIENCE, TOP, Icap, Program, Server, User, ask, body_of, free_port
 
 
 def is_refused(port):
@@ -163,3 +165,347 @@ def capacity_keeps_nobody_waiting(bench):
     print("      two GiB of pages took %.2f s; the slowest two of %d requests beside it %.3f s" % (
         time.time() - begun, 2 * count, slowest))
     same("audit", proxy.stop(), IDLE)
+
+
+# A line: time, elapsed, user, tag/status, bytes, method, target, login, hierarchy, media type, and three fields of ours.
+LINE = re.compile(r'(\d+\.\d{3}) (\d+) (\S+) (TCP_MISS|TCP_DENIED)/(\d{3}) (\d+) (\S+) (\S+) - '
+                  r'(HIER_DIRECT/[0-9.]+|HIER_NONE/-) (\S+) reqmod=(\S+) respmod=(\S+) why=(\S+)')
+
+
+class Log:
+    """A log's file, in a folder of its own."""
+
+    def __init__(self, folder=None):
+        self.folder = tempfile.TemporaryDirectory(dir=folder)
+        self.path = os.path.join(self.folder.name, "access.log")
+        self.seen = 0
+        self.key = 'log = "%s"\n' % self.path
+
+    def text(self):
+        with open(self.path, "rb") as text:
+            return text.read()
+
+    def next(self, count=1, patience=5.0):
+        """The next lines, each as the groups of LINE; just so many."""
+        end = time.time() + patience
+        while True:
+            lines = self.text().split(b"\n")
+            if len(lines) - 1 >= self.seen + count or time.time() > end:
+                break
+            time.sleep(0.02)
+        time.sleep(0.12)
+        lines = self.text().split(b"\n")
+        same("the last line's end", lines[-1], b"")
+        found = lines[self.seen:-1]
+        self.seen = len(lines) - 1
+        same("lines", len(found), count)
+        rows = []
+        for line in found:
+            row = LINE.fullmatch(line.decode("ascii"))
+            if row is None:
+                raise AssertionError("no line: %r" % line)
+            rows.append(row.groups())
+        return rows
+
+    def close(self):
+        self.folder.cleanup()
+
+
+def told(row):
+    """Of a line: whose answer, its status, method, target, where it went, and the three fields of ours."""
+    return (row[3][4:], int(row[4]), row[6], row[7], row[8].split("/")[0][5:], row[10], row[11], row[12])
+
+
+@case
+def a_line_an_exchange_says_what_became_of_it(bench):
+    origin = bench.origin()
+    log = bench.keep(Log())
+    service = bench.icap()
+    proxy = bench.proxy(origin, log.key, [("reqmod", service.port, "/reqmod"), ("respmod", service.port, "/respmod")])
+    begun = time.time()
+    user = User(proxy.port)
+    answer = user.ask(get("/bytes/3000"))
+    row = log.next()[0]
+    same("served", told(row), ("MISS", 200, "GET", "http://o.test/bytes/3000", "DIRECT", "204", "204", "-"))
+    same("the moment", begun - 0.01 <= float(row[0]) <= time.time(), True)
+    same("elapsed", int(row[1]) <= 1000 * (time.time() - begun) + 1, True)
+    same("user, bytes, type", (row[2], int(row[5]), row[9]), ("127.0.0.1", len(answer.head) + len(answer.body), "-"))
+    user.ask(post("/echo", b"x" * 5000))
+    same("on the same connection", told(log.next()[0])[1:4], (200, "POST", "http://o.test/echo"))
+    user.ask(get("/status/304", method="HEAD"), to_head=True)
+    same("without a body", told(log.next()[0])[1:3], (304, "HEAD"))
+    user.close()
+    same("audit", proxy.stop(), IDLE)
+
+
+@case
+def a_line_has_one_line_whatever_the_target(bench):
+    origin = bench.origin()
+    log = bench.keep(Log())
+    proxy = bench.proxy(origin, log.key)
+    same("long", ask(proxy.port, get("/bytes/3?" + "x" * 4000)).status, 200)
+    target = log.next()[0][7]
+    same("cut", (target[:25], len(target)), ("http://o.test/bytes/3?xxx", 2048))
+    for number, wild in enumerate([b"/a\x01b", b"/a\x7f\xff", b'/a"b', b"/a\rb", b"/a b", b"/a\tb", b"/%0d%0a"]):
+        user = User(proxy.port)
+        user.send(b"GET http://o.test" + wild + b" HTTP/1.1\r\nHost: o.test\r\n\r\n")
+        user.answer()
+        user.close()
+        row = log.next()[0]
+        same("a word %d" % number, re.fullmatch(r'[!#-~]+', row[7]) is not None, True)
+    user = User(proxy.port)
+    user.send(b"GET http://o.test/a\nHost: x\n1.2 3 evil TCP_MISS/200 HTTP/1.1\r\n\r\n" + b'" ' * 2000)
+    user.reader.to_end()
+    user.close()
+    same("lines in it", told(log.next()[0])[:2], ("DENIED", 400))
+    same("audit", proxy.stop(), IDLE)
+
+
+def refused(bench, log, what, text, services, request, wanted, prepare=None):
+    """A request of which the log says this: status, why."""
+    origin = bench.origin()
+    proxy = bench.proxy(origin, log.key + text, services)
+    if prepare:
+        prepare(proxy, origin)
+    user = User(proxy.port)
+    user.send(request)
+    try:
+        user.reader.to_end()
+    except TimeoutError:
+        raise AssertionError(what + ": no answer") from None
+    user.close()
+    row = told(log.next()[0])
+    same(what, (row[0], row[1], row[7]), wanted)
+    same(what + ": audit", proxy.stop()[:11], "audit rows ")
+
+
+@case
+def a_line_says_why_the_proxy_refused(bench):
+    log = bench.keep(Log())
+    closed = free_port()
+
+    def status(conn, reader, head, _count):
+        Icap.rest(reader, head)
+        conn.sendall(b"ICAP/1.0 500 No\r\nISTag: \"t-1\"\r\nEncapsulated: null-body=0\r\n\r\n")
+
+    def broken(conn, reader, head, _count):
+        Icap.rest(reader, head)
+        return False
+
+    def silent(_conn, reader, head, _count):
+        Icap.rest(reader, head)
+        time.sleep(5)
+        return False
+
+    def at(reply, **words):
+        return [("respmod", bench.icap(reply, **words).port, "/respmod")]
+    page = get("/bytes/3")
+    refused(bench, log, "no HTTP", "", [], b"what\r\n\r\n", ("DENIED", 400, "bad-request"))
+    refused(bench, log, "CONNECT", "", [], b"CONNECT o.test:443 HTTP/1.1\r\nHost: o.test\r\n\r\n", ("DENIED", 501, "not-served"))
+    refused(bench, log, "unknown host", "", [], b"GET http://x.test/ HTTP/1.1\r\nHost: x.test\r\n\r\n",
+            ("DENIED", 502, "unknown-host"))
+    refused(bench, log, "no origin", "", [], b"GET http://127.0.0.1:%d/ HTTP/1.1\r\nHost: x\r\n\r\n" % closed,
+            ("DENIED", 502, "origin-refused"))
+    refused(bench, log, "no HTTP of the origin", "", [], get("/garbage"), ("DENIED", 502, "origin-broken"))
+    refused(bench, log, "a silent origin", "deadline = 1\n", [], get("/mute"), ("DENIED", 504, "origin-deadline"))
+    refused(bench, log, "no service", "", [("respmod", closed, "/respmod")], page, ("DENIED", 502, "service-refused"))
+    refused(bench, log, "a status", "", at(status), page, ("DENIED", 502, "service-status"))
+    refused(bench, log, "a service that breaks off", "", at(broken), page, ("DENIED", 502, "service-broken"))
+    refused(bench, log, "a silent service", "deadline = 1\n", at(silent), page, ("DENIED", 504, "service-deadline"))
+    refused(bench, log, "silent at OPTIONS", "deadline = 1\n", at(None, answer_options=False), page,
+            ("DENIED", 504, "service-deadline"))
+    refused(bench, log, "no capacity", "capacity = 100\n", [], page, ("DENIED", 503, "full"))
+    refused(bench, log, "a broken body", "", at(None), get("/echo", "Transfer-Encoding: chunked\r\n", "POST") + b"zz\r\n",
+            ("DENIED", 400, "request-broken"))
+    refused(bench, log, "a cut answer", "", [], get("/cut/100000"), ("MISS", 200, "origin-broken"))
+
+    def busy(proxy, origin):
+        one = User(proxy.port)
+        one.send(get("/bytes/3"))
+        comes("the other", lambda: len(origin.heads) == 1)
+        time.sleep(0.3)
+        bench.keep(one)
+    slow = bench.icap(silent)
+    refused(bench, log, "busy", "", [("respmod", slow.port, "/respmod", 1)], page, ("DENIED", 503, "busy"), busy)
+    log.next(1)
+
+    def taken(proxy, origin):
+        one = User(proxy.port)
+        one.send(get("/mute"))
+        comes("the other", lambda: len(origin.heads) == 1)
+        bench.keep(one)
+    refused(bench, log, "no row", "shards = 2\nrows = 1\n", [("respmod", slow.port, "/respmod")], page,
+            ("DENIED", 503, "no-row"), busy)
+    log.next(1)
+    refused(bench, log, "no seat", "shards = 1\nrows = 1\n", [], page, ("DENIED", 503, "no-seat"), taken)
+    same("stopped", told(log.next()[0])[7], "stopping")
+
+
+@case
+def a_line_says_that_a_user_has_gone(bench):
+    origin = bench.origin()
+    log = bench.keep(Log())
+    proxy = bench.proxy(origin, log.key)
+    user = User(proxy.port)
+    user.send(get("/mute"))
+    comes("the exchange", lambda: len(origin.heads) == 1)
+    user.reset()
+    row = told(log.next()[0])
+    same("gone", (row[0], row[1], row[7]), ("MISS", 499, "user-gone"))
+    same("audit", proxy.stop(), IDLE)
+
+
+@case
+def a_log_is_opened_anew(bench):
+    origin = bench.origin()
+    log = bench.keep(Log())
+    proxy = bench.proxy(origin, log.key)
+    ask(proxy.port, get("/bytes/1"))
+    log.next()
+    os.rename(log.path, log.path + ".1")
+    ask(proxy.port, get("/bytes/2"))
+    time.sleep(0.3)
+    same("no new file", os.path.exists(log.path), False)
+    same("reopen", proxy.say("reopen"), "ok")
+    log.seen = 0
+    ask(proxy.port, get("/bytes/3"))
+    same("the new file", told(log.next()[0])[3], "http://o.test/bytes/3")
+    with open(log.path + ".1") as old:
+        same("the old one", len(old.readlines()), 2)
+    os.remove(log.path)
+    os.mkdir(log.path)
+    same("a folder", proxy.say("reopen"), "cannot open")
+    os.rmdir(log.path)
+    ask(proxy.port, get("/bytes/4"))
+    same("audit", proxy.stop(), IDLE)
+    plain = bench.proxy(origin)
+    same("without a log", plain.say("reopen"), "cannot open")
+    same("audit", plain.stop(), IDLE)
+
+
+@case
+def a_log_that_cant_be_opened_ends_the_program(bench):
+    text = 'listen = "127.0.0.1:%d"\nadmin = "127.0.0.1:%d"\nlog = "/nowhere/access.log"\n' % (free_port(), free_port())
+    program = bench.keep(Program(ADAPTPROXY, text))
+    same("ended", (program.first, program.ended()), (b"", (b"", b"adaptproxy: config log\n", 2)))
+
+
+@case
+def a_full_disk_loses_lines_and_no_exchange(bench):
+    if os.geteuid() != 0 or shutil.which("mount") is None:
+        print("      needs root and mount: left out")
+        return
+    origin = bench.origin()
+    with tempfile.TemporaryDirectory() as folder:
+        if subprocess.run(["mount", "-t", "tmpfs", "-o", "size=16k", "tmpfs", folder], stderr=subprocess.DEVNULL).returncode:
+            print("      no tmpfs can be mounted: left out")
+            return
+        try:
+            path = os.path.join(folder, "access.log")
+            proxy = bench.proxy(origin, 'log = "%s"\n' % path)
+            user = User(proxy.port)
+            for number in range(400):
+                same("served %d" % number, user.ask(get("/bytes/3/" + "y" * 100)).body, b"the")
+            user.close()
+            time.sleep(0.3)
+            with open(path, "rb") as text:
+                lines = text.read().split(b"\n")
+            whole = [line for line in lines if LINE.fullmatch(line.decode("ascii"))]
+            lost = stats(proxy)["adaptproxy_log_lines_lost_total"]
+            same("written and lost", (len(whole) + lost, lost > 300), (400, True))
+            same("at most one torn", len(lines) - 1 - len(whole) <= 1, True)
+            with open(path, "wb"):
+                pass
+            ask(proxy.port, get("/bytes/5"))
+            time.sleep(0.3)
+            with open(path, "rb") as text:
+                same("it goes on", text.read().count(b"bytes/5"), 1)
+            same("audit", proxy.stop(), IDLE)
+        finally:
+            subprocess.run(["umount", "-l", folder], check=False)
+
+
+def stats(proxy):
+    """The numbers of `stats` by their names and labels, and that the text is OpenMetrics."""
+    with socket.create_connection(("127.0.0.1", proxy.admin), PATIENCE) as sock:
+        sock.sendall(b"stats\n")
+        text = b""
+        while not text.endswith(b"# EOF\n"):
+            piece = sock.recv(65536)
+            if not piece:
+                raise AssertionError("no end: %r" % text[-100:])
+            text += piece
+    numbers, family, kind = {}, None, None
+    for line in text.decode().splitlines()[:-1]:
+        words = line.split(" ", 3)
+        if words[:2] == ["#", "TYPE"]:
+            same("one family once", words[2] in [name.split("{")[0] for name in numbers], False)
+            family, kind = words[2:]
+        elif words[:2] == ["#", "HELP"]:
+            same("help", words[2], family)
+        else:
+            name, value = line.rsplit(" ", 1)
+            same("of its family", name.split("{")[0], family + ("_total" if kind == "counter" else ""))
+            numbers[name] = int(value)
+    return numbers
+
+
+@case
+def the_counters_count(bench):
+    origin = bench.origin()
+    service = bench.icap()
+    proxy = bench.proxy(origin, "rows = 8\nshards = 3\n", [("respmod", service.port, "/respmod", 5)])
+    user = User(proxy.port)
+    heads = 0
+    for _ in range(5):
+        answer = user.ask(get("/bytes/1000"))
+        heads += len(answer.head) + len(answer.body)
+    same("unknown", ask(proxy.port, b"GET http://x.test/ HTTP/1.1\r\nHost: x.test\r\n\r\n").status, 502)
+    comes("the refused one's end", lambda: stats(proxy)["adaptproxy_requests_total"] == 6)
+    comes("the idle connection", lambda: stats(proxy)['adaptproxy_service_connections{point="respmod",state="idle"}'] == 1)
+    found = stats(proxy)
+    wanted = {
+        "adaptproxy_requests_total": 6, 'adaptproxy_answers_total{class="2xx"}': 5,
+        'adaptproxy_answers_total{class="5xx"}': 1, 'adaptproxy_refusals_total{why="unknown-host"}': 1,
+        'adaptproxy_refusals_total{why="busy"}': 0, 'adaptproxy_messages_total{point="reqmod",outcome="plain"}': 5,
+        'adaptproxy_messages_total{point="respmod",outcome="204"}': 5, "adaptproxy_retries_total": 0,
+        'adaptproxy_user_bytes_total{direction="out"}': heads + len(b"HTTP/1.1 502 Bad Gateway\r\nContent-Length: 0\r\n"
+                                                                    b"Connection: close\r\n\r\n"),
+        'adaptproxy_user_bytes_total{direction="in"}': 5 * len(get("/bytes/1000"))
+        + len(b"GET http://x.test/ HTTP/1.1\r\nHost: x.test\r\n\r\n"),
+        "adaptproxy_users": 1, "adaptproxy_seats": 24,
+        'adaptproxy_service_connections_maximum{point="respmod"}': 5, "adaptproxy_budget_rows": 0,
+        "adaptproxy_budget_capacity_bytes": 16777216, "adaptproxy_log_lines_lost_total": 0}
+    same("numbers", {name: found.get(name) for name in wanted}, wanted)
+    user.close()
+    same("audit", proxy.stop(), IDLE)
+
+
+@case
+def goaccess_reads_the_log(bench):
+    if shutil.which("goaccess") is None:
+        print("      goaccess isn't installed: left out")
+        return
+    origin = bench.origin()
+    log = bench.keep(Log())
+    proxy = bench.proxy(origin, log.key + "deadline = 1\n")
+    user = User(proxy.port)
+    for path in ("/bytes/10", "/chunked/5000", "/status/304", "/x?" + "z" * 4000):
+        user.ask(get(path))
+    user.close()
+    for request in (get("/mute"), get("/garbage"), b"GET http://x.test/ HTTP/1.1\r\nHost: x.test\r\n\r\n"):
+        ask(proxy.port, request)
+    gone = User(proxy.port)
+    gone.send(get("/mute"))
+    time.sleep(0.3)
+    gone.reset()
+    log.next(8)
+    same("audit", proxy.stop(), IDLE)
+    report = os.path.join(log.folder.name, "report.json")
+    subprocess.run(["goaccess", log.path, "--log-format=%x.%^ %~%L %h %^/%s %b %m %U", "--date-format=%s",
+                    "--time-format=%s", "--no-global-config", "--no-progress", "-o", report], check=True,
+                   stdout=subprocess.DEVNULL, stderr=subprocess.DEVNULL)
+    with open(report) as text:
+        general = text.read()
+    figures = {name: int(re.search(r'"%s": ?(\d+)' % name, general).group(1)) for name in ("valid_requests", "failed_requests")}
+    same("goaccess", figures, {"valid_requests": 8, "failed_requests": 0})
