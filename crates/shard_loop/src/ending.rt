@@ -116,7 +116,7 @@ impl<'a, B: Ledgers, Q: Ledger, A: Ledger, G: Gate> Desk<'a, B, Q, A, G> {
     /// The user's next request comes on the same connection.
     fn next_request(&mut self, at: At<'_>, request: SourceSide, user: SocketWire) -> Step<B, Q, A> {
         let message = match Incoming::next(request) {
-            Some(message) if !self.stopping && !self.draining => message,
+            Some(message) if !self.stopping => message,
             _ => return self.close(at, user),
         };
         self.seats.begin_stay(at.key, Stay::Idle);
