@@ -317,6 +317,8 @@ def a_line_says_why_the_proxy_refused(bench):
     refused(bench, log, "no capacity", "capacity = 100\n", [], page, ("DENIED", 503, "full"))
     refused(bench, log, "a broken body", "", at(None), get("/echo", "Transfer-Encoding: chunked\r\n", "POST") + b"zz\r\n",
             ("DENIED", 400, "request-broken"))
+    refused(bench, log, "a silent user", "deadline = 1\n", [("reqmod", bench.icap().port, "/reqmod")],
+            get("/echo", "Content-Length: 10\r\n", "POST") + b"abc", ("DENIED", 504, "user-deadline"))
     refused(bench, log, "a cut answer", "", [], get("/cut/100000"), ("MISS", 200, "origin-broken"))
 
     def busy(proxy, origin):
