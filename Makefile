@@ -67,24 +67,24 @@ fmt: ## lays out the files of the crate CRATE
 	@cd crates/$(CRATE) && rt fmt
 
 bench-chunks: ## chunked bodies: seconds and MB/s for 1 GiB
-	@tools/prove_programs chunk_bench
-	@bin/chunk_bench 1024
+	@tools/prove_programs layer_bench
+	@bin/layer_bench chunks 1024
 
 bench-heads: ## heads: nanoseconds to read an HTTP request and write two, and to read ICAP responses, beside the parser alone
-	@tools/prove_programs head_bench
-	@bin/head_bench 200000
+	@tools/prove_programs layer_bench
+	@bin/layer_bench heads 200000
 
 bench-exchange: ## a whole exchange with a service over memory wires: nanoseconds, and calls of its wire
-	@tools/prove_programs exchange_bench
-	@bin/exchange_bench 200000
+	@tools/prove_programs layer_bench
+	@bin/layer_bench exchange 200000
 
 bench-turns: ## a whole exchange by a transaction's turns over memory wires: nanoseconds, a transaction's bytes, and calls of its wires
-	@tools/prove_programs turn_bench
-	@bin/turn_bench 20000
+	@tools/prove_programs layer_bench
+	@bin/layer_bench turns 20000
 
 bench-bank: ## the buffer budget: nanoseconds for a pair of calls, for turns of 4,096 bytes on tapes, and four threads' rounds
-	@tools/prove_programs bank_bench
-	@bin/bank_bench 1000000
+	@tools/prove_programs layer_bench
+	@bin/layer_bench bank 1000000
 
 refuse-allocations: ## refuses each allocation in turn, and compares how each run ends
 	tools/refuse_allocations && tools/refuse_allocations_in_turns && tools/refuse_allocations_in_tests && tools/refuse_allocations_in_rows

@@ -1,0 +1,7 @@
+use Rattle.std.proofs.Common.{◌≡◌}
+use Rattle.layer_bench.specs.declared.budget.TheConstants.{PIECE}
+use Rattle.layer_bench.proofs.budget.time_pairs.Given as goal
+
+-- each round ends with nothing held
+abbrev pub invariant-loop : goal.invariant-loop
+invariant-loop g l = l.stake ≡ record { held = 0; claim = PIECE; pages = 0 }

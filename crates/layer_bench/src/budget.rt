@@ -1,0 +1,203 @@
+//! What threads do with reservations and their tapes, and how long that takes: a grow with its shrink, whole turns of 4,096 bytes
+//! on a short and on a long tape beside the two copies alone, and rounds in four threads.
+ghost use Rattle.std.specs.Prelude.{◌≡◌, ◌+◌, ◌*◌, ◌≤◌, ◌<◌, length};
+ghost use Rattle.adapt_bytes.specs.declared.limits.TheConstants.{COUNT_LIMIT, MAX_CAPACITY};
+ghost use Rattle.span_tape.specs.Tape.{end_of};
+
+use crate::nanos_each;
+use crate::threads::rounds_of_two;
+use anyhow::Result;
+use span_bank::{Bank, Ledgers, Pages, Stake};
+use span_tape::SpanTape;
+use std::alloc::Global;
+use std::sync::Wait;
+use std::thread;
+use std::thread::Threads;
+use std::time::{Clock, Duration, Instant};
+
+/// The bytes of a turn.
+pub const PIECE: u64 = 4096;
+
+/// How long the rounds of growing and shrinking one reservation took, with no other thread.
+fn time_pairs<B: Ledgers, R: Wait + Clock>(
+    rt: &R,
+    bank: &Bank<B>,
+    rounds: u32,
+) -> Result<Duration> {
+    let mut stake = bank.open(rt, PIECE)?;
+    let start = Instant::now(rt);
+    for _ in 0..rounds {
+        let page = bank.grow(rt, &mut stake, PIECE, 1);
+        bank.shrink(rt, &mut stake, PIECE, page);
+    }
+    // A reservation can't be lost, so a clock that fails waits until it has ended.
+    let took = match start {
+        Ok(start) => start.elapsed(rt),
+        Err(error) => Err(error),
+    };
+    bank.close(rt, stake, Pages::none());
+    Ok(took?)
+}
+
+/// How long it took to copy a piece into a buffer and out of it, for all rounds.
+fn time_copies<R: Clock>(rt: &R, alloc: Global, rounds: u32) -> Result<Duration> {
+    let input = [7; 4096];
+    let mut out = [0; 4096];
+    let mut room = Vec::with_capacity(alloc, 4096)?;
+    room.extend_from_slice(&out)?;
+    let start = Instant::now(rt)?;
+    for _ in 0..rounds {
+        copy_in(&mut room, &input);
+        copy_back(&room, &mut out);
+    }
+    Ok(start.elapsed(rt)?)
+}
+
+// Copies a piece into a buffer.
+#[inline(never)]
+fn copy_in(room: &mut [u8], input: &[u8; 4096])
+    requires { length room.old ≡ 4096 }
+    ensures { length room.new ≡ 4096 }
+{
+    room.copy_from_slice(input);
+}
+
+// Copies a piece out of a buffer.
+#[inline(never)]
+fn copy_back(room: &[u8], out: &mut [u8; 4096])
+    requires { length room.now ≡ 4096 }
+{
+    out.copy_from_slice(room);
+}
+
+/// How long whole turns took on a tape that keeps this number of pieces: in each a piece comes, is copied
+/// out, and the oldest one goes.
+fn time_tape<B: Ledgers, R: Wait + Clock>(
+    rt: &R,
+    bank: &Bank<B>,
+    rounds: u32,
+    kept: u64,
+) -> Result<Duration>
+    requires { kept ≤ 256 }
+{
+    let input = [7; 4096];
+    let mut out = [0; 4096];
+    let mut stake = bank.open(rt, PIECE * (kept + 1))?;
+    let mut tape = SpanTape::new();
+    for _piece in 0..kept {
+        let mut page = bank.grow(rt, &mut stake, PIECE, 1);
+        tape.append(&input, &mut page);
+    }
+    let start = Instant::now(rt);
+    for _round in 0..rounds {
+        turn(rt, bank, &mut stake, &mut tape, &input, &mut out);
+    }
+    let took = match start {
+        Ok(start) => start.elapsed(rt),
+        Err(error) => Err(error),
+    };
+    let end = tape.end();
+    let pages = tape.drop_to(end);
+    let held = stake.held();
+    if held > 0 {
+        bank.shrink(rt, &mut stake, held, pages);
+        bank.close(rt, stake, Pages::none());
+    } else {
+        bank.close(rt, stake, pages);
+    }
+    Ok(took?)
+}
+
+// A piece comes at the end, is copied out there, and the oldest one goes.
+fn turn<B: Ledgers>(
+    rt: &impl Wait,
+    bank: &Bank<B>,
+    stake: &mut Stake<B>,
+    tape: &mut SpanTape,
+    input: &[u8],
+    out: &mut [u8],
+)
+    requires input { length input.now ≡ 4096 }
+    requires out { length out.old ≡ 4096 }
+    requires room { stake.old.held + 4096 ≤ stake.old.claim }
+    requires claim { stake.old.claim ≤ MAX_CAPACITY }
+    requires pieces { (stake.old.held ≡ 4096 * stake.old.pages) × (length tape.old.bytes ≡ stake.old.held) × (tape.old.start ≡ 0) }
+    requires fits { end_of tape.old + 4096 < COUNT_LIMIT }
+    ensures stake { stake.new ≡ stake.old }
+    ensures tape { (length tape.new.bytes ≡ stake.old.held) × (tape.new.start ≡ 0) × (tape.new.base ≡ tape.old.base + 4096) }
+    ensures out { length out.new ≡ 4096 }
+{
+    let more = tape.pages_for(PIECE);
+    let mut pages = bank.grow(rt, stake, PIECE, more);
+    tape.append(input, &mut pages);
+    let from = tape.end() - PIECE;
+    tape.copy_out(from, out);
+    let first = tape.base() + PIECE;
+    let gone = tape.drop_to(first);
+    bank.shrink(rt, stake, PIECE, gone);
+}
+
+/// Prints what one thread takes.
+fn time_one<B: Ledgers, R: Wait + Clock + Eprint>(
+    rt: &R,
+    alloc: Global,
+    bank: &Bank<B>,
+    rounds: u32,
+) -> Result<()> {
+    let pair = nanos_each(time_pairs(rt, bank, rounds)?, rounds);
+    eprintln!(rt; "a grow and a shrink: {pair} ns")?;
+    let copies = nanos_each(time_copies(rt, alloc, rounds)?, rounds);
+    eprintln!(rt; "two copies of 4096 bytes: {copies} ns")?;
+    let empty = nanos_each(time_tape(rt, bank, rounds, 0)?, rounds);
+    eprintln!(rt; "grow, append, copy_out, drop_to and shrink of 4096 bytes: {empty} ns")?;
+    let short = nanos_each(time_tape(rt, bank, rounds, 2)?, rounds);
+    eprintln!(rt; "the same on a tape of 8192 bytes: {short} ns")?;
+    let long = nanos_each(time_tape(rt, bank, rounds, 256)?, rounds);
+    eprintln!(rt; "the same on a tape of 1048576 bytes: {long} ns")?;
+    Ok(())
+}
+
+/// Prints what four threads take.
+fn time_four<B: Ledgers + Send + Sync, R: Threads + Wait + Clock + Eprint + Sync>(
+    rt: &R,
+    bank: &Bank<B>,
+    rounds: u32,
+) -> Result<()>
+where
+    B::Held: Send + Sync,
+    B::Free: Send + Sync,
+    B::Slack: Send + Sync,
+    B::Pages: Send + Sync,
+{
+    let start = Instant::now(rt)?;
+    let ((first, second), (third, fourth)) = thread::join(
+        rt,
+        move || rounds_of_two(rt, bank, rounds),
+        move || rounds_of_two(rt, bank, rounds),
+    );
+    let step = nanos_each(start.elapsed(rt)?, rounds) / 16;
+    first.and(second).and(third).and(fourth)?;
+    eprintln!(rt;
+        "four threads, {rounds} rounds of open, grow, shrink and close each: {step} ns a step"
+    )?;
+    Ok(())
+}
+
+/// Prints what a round takes.
+pub fn time_budget<B: Ledgers + Send + Sync, R: Threads + Wait + Clock + Print + Eprint + Sync>(
+    rt: &R,
+    alloc: Global,
+    bank: &Bank<B>,
+    rounds: u32,
+) -> Result<()>
+where
+    B::Held: Send + Sync,
+    B::Free: Send + Sync,
+    B::Slack: Send + Sync,
+    B::Pages: Send + Sync,
+{
+    time_one(rt, alloc, bank, rounds)?;
+    time_four(rt, bank, rounds)?;
+    println!(rt; "bank: {rounds} rounds")?;
+    Ok(())
+}

@@ -1,0 +1,111 @@
+//! Measures the layers: chunked bodies, heads, an exchange with a service, a transaction's turns, and the buffer budget.
+//!
+//! The arguments are pairs of a word and how often, as `heads 200000`. What was done is printed, and the figures go to standard
+//! error, since they differ from run to run. The status is 1 if an answer is wrong, and 2 for other words.
+#![tactic(auto)]
+
+ghost use Rattle.std.specs.Prelude.{◌≡◌};
+
+mod answers;
+mod budget;
+mod chunks;
+mod exchange;
+mod heads;
+mod hostile;
+mod offered;
+mod requests;
+mod task;
+mod threads;
+mod transaction;
+mod turns;
+
+use crate::budget::time_budget;
+use crate::chunks::time_chunks;
+use crate::exchange::time_exchanges;
+use crate::heads::time_heads;
+use crate::task::{Layer, Task, read_tasks};
+use crate::turns::time_turns;
+use anyhow::{Result, bail};
+use span_bank::{Bank, Blanks, Four, Ledgers};
+use std::alloc::Global;
+use std::marker::Brand;
+use std::process::ExitCode;
+use std::sync::Wait;
+use std::sync::ledger::Ledger;
+use std::thread::Threads;
+use std::time::{Clock, Duration};
+
+/// The size of the budget: a tape of a MiB and a piece more fit.
+const CAPACITY: u64 = 2 * 1024 * 1024;
+
+/// The nanoseconds of one of these many times.
+pub fn nanos_each(took: Duration, times: u32) -> u128 {
+    took.as_nanos() / u128::from(times.max(1))
+}
+
+/// Measures a layer.
+fn measure<B: Ledgers + Send + Sync, R: Threads + Wait + Clock + Print + Eprint + Sync>(
+    rt: &R,
+    alloc: Global,
+    bank: &Bank<B>,
+    task: Task,
+) -> Result<()>
+where
+    B::Held: Send + Sync,
+    B::Free: Send + Sync,
+    B::Slack: Send + Sync,
+    B::Pages: Send + Sync,
+{
+    match task.layer {
+        Layer::Chunks => time_chunks(rt, alloc, task.times),
+        Layer::Heads => time_heads(rt, alloc, task.times),
+        Layer::Exchange => time_exchanges(rt, alloc, bank, task.times),
+        Layer::Turns => time_turns(rt, alloc, bank, task.times),
+        Layer::Bank => time_budget(rt, alloc, bank, task.times),
+    }
+}
+
+/// Whether no reservation is left of a budget.
+fn is_empty<B: Ledgers>(alloc: Global, bank: Bank<B>) -> bool {
+    match bank.audit(Vec::new(alloc)) {
+        Ok(audit) => audit.rows == 0 && audit.held == 0 && audit.claimed == 0 && audit.pages == 0,
+        Err((_, stakes, _)) => {
+            stakes.destroy_empty();
+            false
+        }
+    }
+}
+
+/// Measures layers on one budget, which is empty at the end.
+fn run<
+    H: Ledger + Send + Sync,
+    F: Ledger + Send + Sync,
+    S: Ledger + Send + Sync,
+    P: Ledger + Send + Sync,
+    R: Threads + Wait + Clock + Print + Eprint + Sync,
+>(rt: &R, alloc: Global, blanks: Blanks, tasks: &[Task]) -> Result<()>
+    requires held { (blanks.held.name ≡ H.name) × (blanks.held.parts ≡ H.parts) × (blanks.held.parts ≡ 5) }
+    requires free { (blanks.free.name ≡ F.name) × (blanks.free.parts ≡ F.parts) × (blanks.free.parts ≡ 5) }
+    requires slack { (blanks.slack.name ≡ S.name) × (blanks.slack.parts ≡ S.parts) × (blanks.slack.parts ≡ 5) }
+    requires pages { (blanks.pages.name ≡ P.name) × (blanks.pages.parts ≡ P.parts) × (blanks.pages.parts ≡ 5) }
+{
+    let bank: Bank<Four<H, F, S, P>> = Bank::new(alloc, blanks, CAPACITY, 4, 64)?;
+    for task in tasks {
+        measure(rt, alloc, &bank, *task)?;
+    }
+    if is_empty(alloc, bank) {
+        Ok(())
+    } else {
+        bail!("something is left of the budget")
+    }
+}
+
+fn main(rt: HostRuntime) -> Result<ExitCode> {
+    let Some(tasks) = read_tasks(&rt, rt.alloc())? else {
+        eprintln!(rt; "usage: layer_bench {{chunks|heads|exchange|turns|bank}} COUNT ..")?;
+        return Ok(ExitCode::from(2));
+    };
+    let blanks = Blanks::new(5);
+    run::<Brand, Brand, Brand, Brand, HostRuntime>(&rt, rt.alloc(), blanks, &tasks)?;
+    Ok(ExitCode::SUCCESS)
+}
