@@ -1,6 +1,6 @@
 //! What a transaction reserves, and how much its turns may take.
 use plan_rules::{Limits, TURN_BYTES, adapted_room, claim_after, original_room};
-use test_rows::{NoMemory, Row, number, put_decimal, put_line, says};
+use test_rows::{NoMemory, Row, number, put_count, says};
 use trace_core::State;
 
 /// The limits that a row says; what it doesn't say is 0.
@@ -9,11 +9,6 @@ pub fn limits_of(row: &Row<'_>) -> Option<Limits> {
     let allow = row.number(b"allow-limit").unwrap_or(0);
     let window = row.number(b"window").unwrap_or(0);
     Limits::new(preview, allow, window, row.has(b"retry"))
-}
-
-fn put_count(out: &mut Vec<u8>, count: u64) -> Result<(), NoMemory> {
-    put_decimal(out, count)?;
-    put_line(out, b"")
 }
 
 /// Adds what is said of a question of these; nothing of another.

@@ -1,11 +1,7 @@
 //! What a state shows, and what may follow.
 use crate::events::{put_events, read_event};
-use test_rows::{NoMemory, number, put_decimal, put_fault, put_line, says};
+use test_rows::{NoMemory, number, put_decimal, put_fault, put_line, put_truth, says};
 use trace_core::{Seen, Sendable, State, StepFault};
-
-pub fn put_truth(out: &mut Vec<u8>, is_so: bool) -> Result<(), NoMemory> {
-    put_line(out, if is_so { b"yes" } else { b"no" })
-}
 
 fn put_fault_of(out: &mut Vec<u8>, fault: Option<StepFault>) -> Result<(), NoMemory> {
     match fault {

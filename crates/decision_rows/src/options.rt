@@ -1,11 +1,10 @@
 //! Responses to OPTIONS (RFC 3507, section 4.10.2), and the records that are made of them.
 use crate::events::{asked, cut};
-use crate::marks::put_truth;
 use icap_head::{Fields, IcapResponse};
 use options_book::laws::{has_a_reading, reads_one_way};
 use options_book::{OptFault, Record, Treat, extension, read_record};
 use std::alloc::Global;
-use test_rows::{NoMemory, Row, number, put_decimal, put_fault, put_line, says};
+use test_rows::{NoMemory, Row, number, put_count, put_fault, put_line, put_truth, says};
 use trace_core::Point;
 
 /// The fields of these lines.
@@ -32,10 +31,7 @@ pub fn response_of(alloc: Global, row: &Row<'_>) -> Result<IcapResponse, NoMemor
 
 pub fn put_number(out: &mut Vec<u8>, number: Option<u64>) -> Result<(), NoMemory> {
     match number {
-        Some(number) => {
-            put_decimal(out, number)?;
-            put_line(out, b"")
-        }
+        Some(number) => put_count(out, number),
         None => put_line(out, b"none"),
     }
 }

@@ -1,69 +1,50 @@
 //! Random histories, from a written seed: what follows, what is held, and that each held byte has a script.
 use need_witness::{check, fits, fits_next, witness};
-use test_rows::{NoMemory, Row, put_line, put_number, says};
+use test_rows::{NoMemory, Random, Row, put_line, put_number, says};
 use trace_core::{Cause, Event, Kind, Payload, Plan, Point, State, Tape};
 
-/// Numbers that look random, by Knuth's linear congruential generator.
-#[derive(Drop)]
-struct Random(u64);
+fn plan(random: &mut Random) -> Option<Plan> {
+    let kind = match random.below(4) {
+        0 => Kind::Plain,
+        1 => Kind::Whole,
+        _ => Kind::Preview(random.below(7)),
+    };
+    let allow = random.truth();
+    let len = if random.truth() {
+        Some(random.below(12))
+    } else {
+        None
+    };
+    Plan::new(kind, allow, random.truth(), len, Point::Respmod)
+}
 
-impl Random {
-    /// A number below this one, or 0.
-    fn below(&mut self, most: u64) -> u64 {
-        self.0 = self
-            .0
-            .wrapping_mul(6_364_136_223_846_793_005)
-            .wrapping_add(1_442_695_040_888_963_407);
-        (self.0 >> 33).checked_rem(most).unwrap_or(0)
+fn mark(random: &mut Random) -> Event {
+    match random.below(11) {
+        0 => Event::End,
+        1 | 2 => Event::Stop,
+        3 => Event::Heard,
+        4 => Event::Continue,
+        5 => Event::NoMod,
+        6 => Event::Mod(Payload::Body),
+        7 => Event::Mod(Payload::NullBody),
+        8 => Event::AdEnd,
+        9 => Event::Retry,
+        _ => Event::Done,
     }
+}
 
-    fn truth(&mut self) -> bool {
-        self.below(2) == 0
-    }
-
-    fn plan(&mut self) -> Option<Plan> {
-        let kind = match self.below(4) {
-            0 => Kind::Plain,
-            1 => Kind::Whole,
-            _ => Kind::Preview(self.below(7)),
-        };
-        let allow = self.truth();
-        let len = if self.truth() {
-            Some(self.below(12))
-        } else {
-            None
-        };
-        Plan::new(kind, allow, self.truth(), len, Point::Respmod)
-    }
-
-    fn mark(&mut self) -> Event {
-        match self.below(11) {
-            0 => Event::End,
-            1 | 2 => Event::Stop,
-            3 => Event::Heard,
-            4 => Event::Continue,
-            5 => Event::NoMod,
-            6 => Event::Mod(Payload::Body),
-            7 => Event::Mod(Payload::NullBody),
-            8 => Event::AdEnd,
-            9 => Event::Retry,
-            _ => Event::Done,
-        }
-    }
-
-    fn event(&mut self) -> Event {
-        let count = self.below(6);
-        match self.below(9) {
-            0 | 1 => Event::In(count),
-            2 | 3 => Event::Svc(count),
-            4 => Event::Ad(count),
-            5 => Event::Usr(count),
-            _ => {
-                if self.below(60) == 0 {
-                    Event::Fail(Cause::Source)
-                } else {
-                    self.mark()
-                }
+fn event(random: &mut Random) -> Event {
+    let count = random.below(6);
+    match random.below(9) {
+        0 | 1 => Event::In(count),
+        2 | 3 => Event::Svc(count),
+        4 => Event::Ad(count),
+        5 => Event::Usr(count),
+        _ => {
+            if random.below(60) == 0 {
+                Event::Fail(Cause::Source)
+            } else {
+                mark(random)
             }
         }
     }
@@ -130,7 +111,7 @@ impl Tally {
     fn is_history_good(&mut self, random: &mut Random, plan: Plan) -> bool {
         let mut state = State::begin(plan);
         for _ in 0..80 {
-            if !self.is_step_good(&mut state, random.event()) {
+            if !self.is_step_good(&mut state, event(random)) {
                 return false;
             }
         }
@@ -138,7 +119,7 @@ impl Tally {
     }
 
     fn add(&mut self, random: &mut Random) {
-        if let Some(plan) = random.plan() {
+        if let Some(plan) = plan(random) {
             if self.is_history_good(random, plan) {
                 self.good = self.good.saturating_add(1);
             }
@@ -148,7 +129,7 @@ impl Tally {
 
 /// Adds how many of so many random histories were as they should be, and whether they took several events each.
 fn put_histories(out: &mut Vec<u8>, row: &Row<'_>) -> Result<(), NoMemory> {
-    let mut random = Random(row.number(b"seed").unwrap_or(0));
+    let mut random = Random::new(row.number(b"seed").unwrap_or(0));
     let count = row.number(b"count").unwrap_or(0);
     let mut tally = Tally { good: 0, taken: 0 };
     for _ in 0..count {

@@ -1,8 +1,7 @@
 //! Scripts that still send a byte, and their checkers.
 use crate::events::{cut, put_events, read_event, read_place, read_script};
-use crate::marks::put_truth;
 use need_witness::{check, fits, fits_next, held_is_needed, witness};
-use test_rows::{NoMemory, number, put_line};
+use test_rows::{NoMemory, number, put_line, put_truth};
 use trace_core::State;
 
 fn put_witness(out: &mut Vec<u8>, state: &State, place: &[u8]) -> Result<(), NoMemory> {

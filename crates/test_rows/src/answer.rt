@@ -16,6 +16,11 @@ pub fn put_line(out: &mut Vec<u8>, text: &[u8]) -> Result<(), NoMemory> {
     out.extend_from_slice(b"\n")
 }
 
+/// Adds a line of yes or no.
+pub fn put_truth(out: &mut Vec<u8>, is_so: bool) -> Result<(), NoMemory> {
+    put_line(out, if is_so { b"yes" } else { b"no" })
+}
+
 /// What each digit of a number counts, from the first on.
 const UNITS: [u64; 20] = [
     10_000_000_000_000_000_000,
@@ -42,7 +47,8 @@ const UNITS: [u64; 20] = [
 
 const DIGITS: &[u8; 16] = b"0123456789abcdef";
 
-fn digit(number: u64) -> u8 {
+/// The last hexadecimal digit of a number.
+pub fn hex_letter(number: u64) -> u8 {
     DIGITS[(number % 16) as usize]
 }
 
@@ -53,18 +59,23 @@ pub fn put_decimal(out: &mut Vec<u8>, number: u64) -> Result<(), NoMemory> {
         let passed = number.checked_div(unit).unwrap_or(0);
         is_begun = is_begun || passed != 0 || unit == 1;
         if is_begun {
-            out.extend_from_slice(&[digit(passed % 10)])?;
+            out.extend_from_slice(&[hex_letter(passed % 10)])?;
         }
     }
     Ok(())
+}
+
+/// Adds a line of a number.
+pub fn put_count(out: &mut Vec<u8>, number: u64) -> Result<(), NoMemory> {
+    put_decimal(out, number)?;
+    out.extend_from_slice(b"\n")
 }
 
 /// Adds a line of a word and a number.
 pub fn put_number(out: &mut Vec<u8>, word: &[u8], number: u64) -> Result<(), NoMemory> {
     out.extend_from_slice(word)?;
     out.extend_from_slice(b" ")?;
-    put_decimal(out, number)?;
-    out.extend_from_slice(b"\n")
+    put_count(out, number)
 }
 
 /// Adds a line of a word and a value as a programmer is shown it.
@@ -89,8 +100,8 @@ fn put_byte(out: &mut Vec<u8>, byte: u8) -> Result<(), NoMemory> {
         b'\n' => out.extend_from_slice(b"\\n"),
         b' '..=b'~' => out.extend_from_slice(&[byte]),
         _ => {
-            let high = digit(u64::from(byte / 16));
-            out.extend_from_slice(&[b'\\', b'x', high, digit(u64::from(byte))])
+            let high = hex_letter(u64::from(byte / 16));
+            out.extend_from_slice(&[b'\\', b'x', high, hex_letter(u64::from(byte))])
         }
     }
 }

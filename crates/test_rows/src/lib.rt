@@ -9,17 +9,25 @@
 //! stands behind the star.
 //!
 //! A row is good where its answer is just what `want` says, or, where memory may be refused, what `or` says.
+//!
+//! A program of rows gives `judge_files` a `Driver`, which runs the calls that its rows name.
 #![tactic(auto)]
 
 mod answer;
+mod judging;
 mod memory;
+mod random;
 mod report;
 mod row;
 mod table;
 mod text;
 
-pub use answer::{put_all, put_decimal, put_escaped, put_fault, put_line, put_number, put_shown};
-pub use memory::allocate;
+pub use answer::{
+    hex_letter, put_all, put_count, put_decimal, put_escaped, put_fault, put_line, put_number,
+    put_shown, put_truth,
+};
+pub use judging::{Driver, judge_files};
+pub use random::Random;
 pub use report::Report;
 pub use row::{Row, call_of, number, says};
 pub use std::alloc::AllocError as NoMemory;

@@ -18,10 +18,6 @@ fn part_of(row: &Row<'_>) -> Part {
     }
 }
 
-fn put_text(out: &mut Vec<u8>, text: Vec<u8>) -> Result<(), NoMemory> {
-    out.extend_from_slice(&text)
-}
-
 fn put_forward(
     alloc: Global,
     out: &mut Vec<u8>,
@@ -31,7 +27,7 @@ fn put_forward(
     if forward.closes() {
         put_line(out, b"the user's connection ends")?;
     }
-    put_text(out, forward_head(alloc, forward)?)
+    out.extend_from_slice(&forward_head(alloc, forward)?)
 }
 
 /// The user's own request as an origin gets it.
@@ -42,16 +38,13 @@ fn put_to_origin(alloc: Global, out: &mut Vec<u8>, user: &HttpRequest) -> Result
         part: Part::Own,
         body_read: true,
     };
-    put_text(out, forward_head(alloc, &forward)?)
+    out.extend_from_slice(&forward_head(alloc, &forward)?)
 }
 
 /// The user's own request as a service gets it.
 fn put_to_service(alloc: Global, out: &mut Vec<u8>, user: &HttpRequest) -> Result<(), NoMemory> {
     let message = Message::Request(user);
-    put_text(
-        out,
-        encapsulated_head(alloc, &Encapsulated { user, message })?,
-    )
+    out.extend_from_slice(&encapsulated_head(alloc, &Encapsulated { user, message })?)
 }
 
 /// How the request that goes on is read again.

@@ -16,64 +16,30 @@ mod random;
 mod words;
 
 use std::alloc::Global;
-use std::io::Write;
-use std::rt::Files;
-use std::{env, fs, io};
-use test_rows::{NoMemory, Report, Row, Table, allocate, call_of, number, read_table};
+use std::io;
+use test_rows::{Driver, NoMemory, Row, call_of, judge_files};
 
-/// Adds the answer to a row of this call; nothing where there is no such call.
-fn put_answer(
+/// What runs the calls of the rows.
+#[derive(Drop)]
+struct Grammars {
     alloc: Global,
-    call: &[u8],
-    row: &Row<'_>,
-    out: &mut Vec<u8>,
-) -> Result<(), NoMemory> {
-    words::put_answer(alloc, call, row, out)?;
-    lists::put_answer(alloc, call, row, out)?;
-    chunks::put_answer(alloc, call, row, out)?;
-    feeds::put_answer(call, row, out)?;
-    icap_heads::put_answer(alloc, call, row, out)?;
-    icap_writing::put_answer(alloc, call, row, out)?;
-    http_heads::put_answer(alloc, call, row, out)?;
-    forwarding::put_answer(alloc, call, row, out)
 }
 
-/// Judges the row at a place of a table.
-fn judge_row(alloc: Global, table: &Table, at: usize, report: &mut Report) -> Result<(), NoMemory> {
-    let head = table.head();
-    let row = table.row(at);
-    let mut answer = Vec::new(alloc);
-    put_answer(alloc, call_of(&head, &row), &row, &mut answer)?;
-    report.judge(&head, &row, &answer)
-}
-
-fn judge_rows(alloc: Global, table: &Table, report: &mut Report) -> Result<(), NoMemory> {
-    for at in 1..table.len() {
-        judge_row(alloc, table, at, report)?;
+impl Driver for Grammars {
+    fn put_answer(&self, head: &Row<'_>, row: &Row<'_>, out: &mut Vec<u8>) -> Result<(), NoMemory> {
+        let (alloc, call) = (self.alloc, call_of(head, row));
+        words::put_answer(alloc, call, row, out)?;
+        lists::put_answer(alloc, call, row, out)?;
+        chunks::put_answer(alloc, call, row, out)?;
+        feeds::put_answer(call, row, out)?;
+        icap_heads::put_answer(alloc, call, row, out)?;
+        icap_writing::put_answer(alloc, call, row, out)?;
+        http_heads::put_answer(alloc, call, row, out)?;
+        forwarding::put_answer(alloc, call, row, out)
     }
-    report.finish(&table.head())
-}
-
-/// Judges the rows of a file.
-fn judge_file(
-    rt: &(impl Files + AllocGlobal),
-    path: &str,
-    output: &mut impl Write,
-) -> io::Result<()> {
-    let text = fs::read(rt, path)?;
-    let table = read_table(rt.alloc(), &text)?;
-    let mut report = Report::new(rt.alloc());
-    judge_rows(rt.alloc(), &table, &mut report)?;
-    output.write_all(report.lines())
 }
 
 fn main(rt: HostRuntime) -> io::Result<()> {
-    let mut output = rt.stdout();
-    for path in env::args(&rt)?.skip(1) {
-        match number(path.as_bytes()) {
-            Some(count) => allocate(rt.alloc(), count)?,
-            None => judge_file(&rt, path.as_str(), &mut output)?,
-        }
-    }
-    Ok(())
+    let grammars = Grammars { alloc: rt.alloc() };
+    judge_files(&rt, &grammars, &mut rt.stdout())
 }

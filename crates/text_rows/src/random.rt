@@ -1,34 +1,7 @@
 //! Random bodies in random chunks, from a written seed.
 use icap_chunks::{Outcome, read_cut};
 use std::alloc::Global;
-use test_rows::{NoMemory, Row, put_all, put_number};
-
-/// Numbers that look random, by Knuth's linear congruential generator.
-#[derive(Drop)]
-struct Random(u64);
-
-impl Random {
-    fn next(&mut self) -> u64 {
-        self.0 = self
-            .0
-            .wrapping_mul(6_364_136_223_846_793_005)
-            .wrapping_add(1_442_695_040_888_963_407);
-        self.0 >> 33
-    }
-
-    /// A number below this one, or 0.
-    fn below(&mut self, most: u64) -> u64 {
-        self.next().checked_rem(most).unwrap_or(0)
-    }
-
-    fn byte(&mut self) -> u8 {
-        (self.next() % 256) as u8
-    }
-}
-
-fn hex_letter(digit: u64) -> u8 {
-    b"0123456789abcdef"[(digit % 16) as usize]
-}
+use test_rows::{NoMemory, Random, Row, hex_letter, put_all, put_number};
 
 /// The most bytes of a chunk.
 const MOST: u64 = 40;
@@ -102,7 +75,7 @@ fn is_read_back(alloc: Global, random: &mut Random, body: &[u8]) -> Result<bool,
 
 /// Adds how often, of so many times, the front of a text is read back as a body.
 pub fn put_random_bodies(alloc: Global, out: &mut Vec<u8>, row: &Row<'_>) -> Result<(), NoMemory> {
-    let mut random = Random(row.number(b"seed").unwrap_or(0));
+    let mut random = Random::new(row.number(b"seed").unwrap_or(0));
     let all = row.get(b"text");
     let mut read: u64 = 0;
     for _ in 0..row.number(b"count").unwrap_or(0) {

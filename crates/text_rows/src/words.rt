@@ -4,17 +4,13 @@ use adapt_bytes::{
     same_ascii, trim,
 };
 use std::alloc::Global;
-use test_rows::{NoMemory, Row, put_line, put_number, says};
+use test_rows::{NoMemory, Row, put_line, put_number, put_truth, says};
 
 fn put_read(out: &mut Vec<u8>, number: Option<u64>) -> Result<(), NoMemory> {
     match number {
         Some(number) => put_number(out, b"number", number),
         None => put_line(out, b"no number"),
     }
-}
-
-fn put_truth(out: &mut Vec<u8>, is_so: bool) -> Result<(), NoMemory> {
-    put_line(out, if is_so { b"yes" } else { b"no" })
 }
 
 fn put_written(out: &mut Vec<u8>, number: u64) -> Result<(), NoMemory> {

@@ -8,7 +8,6 @@
 #![tactic(auto)]
 
 mod plans;
-mod random;
 mod runs;
 mod scene;
 mod shown;

@@ -1,10 +1,9 @@
 //! The answers of wires, and wires that give them.
-use crate::random::Random;
 use crate::scene::Scene;
 use crate::values::{Values, answer_of, number};
 use crate::words::{is, parts};
 use std::alloc::Global;
-use test_rows::NoMemory;
+use test_rows::{NoMemory, Random};
 use wire_kit::{Answer, MemoryWire, ReadAnswer, WriteAnswer};
 
 /// What a word lists.
@@ -16,6 +15,16 @@ enum Listed {
     Pieces(usize, usize),
     /// This many answers by a seed.
     Random(u64, usize),
+}
+
+/// An answer by chance: one time in four Wait, else one to nine bytes.
+fn random_answer(random: &mut Random) -> Answer {
+    let number = random.next();
+    if number % 4 == 0 {
+        Answer::Wait
+    } else {
+        Answer::Moved((number / 4 % 9) as usize + 1)
+    }
 }
 
 /// One answer: a word, the letter e, or how many bytes go over at most.
@@ -71,7 +80,7 @@ fn put_listed(list: &mut Vec<Answer>, listed: Listed, salt: u64) -> Result<(), N
         Listed::Random(seed, times) => {
             let mut random = Random::new(seed.wrapping_mul(31).wrapping_add(salt));
             for _ in 0..times {
-                list.push(random.answer())?;
+                list.push(random_answer(&mut random))?;
             }
             Ok(())
         }
