@@ -1,5 +1,5 @@
 -- Each pass of a side keeps what stands between a transaction and its wires.
-use Rattle.std.proofs.Common.{◌≡◌, ℕ, true, false, List, [], ◌∷◌, ◌++◌, length, Option, arith, refl, sym, ◌∙◌, ap, subst}
+use Rattle.std.proofs.Common.{◌≡◌, ℕ, true, false, List, [], ◌∷◌, ◌++◌, length, arith, refl, sym, ◌∙◌, ap, subst}
 use Rattle.std.proofs.lemmas.List.{append-nil}
 use Rattle.trace_core.specs.declared.history.Seen.{Seen}
 use Rattle.trace_core.specs.declared.history.Event.{Event}
@@ -9,9 +9,10 @@ use Rattle.trace_core.specs.History.{in_bytes}
 use Rattle.trace_core.specs.Legal.{Allows, MayFollow}
 use Rattle.trace_core.specs.View.{after}
 use Rattle.trace_core.specs.Turns.{after_all, AllAre, is_of_source, is_of_replies, is_of_sending, is_of_hop}
-use Rattle.wire_kit.specs.Past.{Past}
-use Rattle.adapt_sides.specs.declared.fault.ClientFault.{ClientFault}
-use Rattle.adapt_sides.specs.declared.fault.RelayFault.{RelayFault}
+use Rattle.wire_kit.specs.declared.wire.Wire.{Ghosts as Wire}
+use Rattle.adapt_sides.specs.declared.source.Source.{Ghosts as Source}
+use Rattle.adapt_sides.specs.declared.service.Service.{Ghosts as Service}
+use Rattle.adapt_sides.specs.declared.hop.Hop.{Ghosts as Hop}
 use Rattle.adapt_sides.specs.Tapes.{chosen}
 use Rattle.adapt_sides.specs.Turns.{Given, given_then}
 use Rattle.adapt_hold.specs.Spans.{EndsBody}
@@ -20,11 +21,18 @@ use Rattle.adapt_hold.specs.Steps.{MayRun, moved_all}
 use Rattle.adapt_hold.proofs.Bodies.{ends}
 use Rattle.adapt_hold.proofs.Row.{Ran, ran, all_original, all_adapted}
 use Rattle.adapt_turn.specs.declared.parts.Passed.{Passed}
-use Rattle.adapt_turn.specs.Parts.{SourcePart, SendPart, HearPart, HopPart, stepped}
+use Rattle.adapt_turn.specs.Parts.{Lent, SourcePart, SendPart, HearPart, HopPart, stepped}
 use Rattle.adapt_turn.specs.Stands.{Texts, Stands, IsDone}
 use Rattle.adapt_turn.proofs.Stepped.{part_ran}
 use Rattle.adapt_turn.proofs.Told.{never_done, done_reported}
 use Rattle.adapt_turn.proofs.Carry.{off_source, off_sending, off_replies, off_hop, source_off, sending_off, replies_off, hop_off, all_then, none_original, none_adapted, carry, carry_body, KeepsChosen, carry_chosen, own_then, own_source, own_replies, same_choices}
+
+-- what the service's side says of the request, and of the replies
+abbrev pub sent_by : {V : Type 0} → Service V → V → List ℕ → Seen → List ℕ → List ℕ → Type 0
+sent_by v side heads x came taken = v.has_sent heads x came taken side
+
+abbrev pub heard_by : {V : Type 0} → Service V → V → Seen → List ℕ → List ℕ → Type 0
+heard_by v side x adapted text = v.has_heard x adapted text side
 
 -- what the sides say of events that aren't theirs
 pub record Others (agrees : Seen → Type 0) (read : Seen → List ℕ → Given → Type 0) (sent : List ℕ → Seen → List ℕ → List ℕ → Type 0) (heard : Seen → List ℕ → List ℕ → Type 0) (hops : Seen → List ℕ → List ℕ → List ℕ → Type 0) (refuses : Seen → Type 0) : Type 0 where
@@ -112,18 +120,22 @@ hops_kept hops h events out original adapted next back law t o m l p =
 
 -- The source's pass.
 
-pub source_stands : (h k : Holding) (ao an : Seen → Type 0) (ro rn : Seen → List ℕ → Given → Type 0) (sent : List ℕ → Seen → List ℕ → List ℕ → Type 0) (heard : Seen → List ℕ → List ℕ → Type 0) (hops : Seen → List ℕ → List ℕ → List ℕ → Type 0) (refuses : Seen → Type 0) (delivered : List ℕ → List ℕ → List ℕ → Type 0)
-    (f0 f1 : Option RelayFault) (rests framed over : Type 0) (before after_ : Past → Type 0) (passed : Passed) (request : List ℕ) (t : Texts)
-    → Others an rn sent heard hops refuses → IsTied h → (shows h.history).closed ≡ false → (d : SourcePart h k ro rn an f0 f1 rests framed over before after_ passed)
-    → Stands h ao ro sent heard hops refuses delivered request t → Stands k an rn sent heard hops refuses delivered request (record t { source_read = given_then t.source_read d.delta })
-source_stands h k ao an ro rn sent heard hops refuses delivered f0 f1 rests framed over before after_ passed request t u tied c d s =
+pub source_stands : {S H W : Type 0} (s : Source S H) (w : Wire W) (old new : Lent S W) (sent : List ℕ → Seen → List ℕ → List ℕ → Type 0) (heard : Seen → List ℕ → List ℕ → Type 0) (hops : Seen → List ℕ → List ℕ → List ℕ → Type 0) (refuses : Seen → Type 0) (delivered : List ℕ → List ℕ → List ℕ → Type 0) (passed : Passed) (request : List ℕ) (t : Texts)
+    → Others (λ x. s.agrees x new.side) (λ x body read. s.has_read x body read new.side) sent heard hops refuses → IsTied old.hold → (shows old.hold.history).closed ≡ false → (d : SourcePart s w old new passed)
+    → Stands old.hold (λ x. s.agrees x old.side) (λ x body read. s.has_read x body read old.side) sent heard hops refuses delivered request t
+    → Stands new.hold (λ x. s.agrees x new.side) (λ x body read. s.has_read x body read new.side) sent heard hops refuses delivered request (record t { source_read = given_then t.source_read d.delta })
+source_stands side w old new sent heard hops refuses delivered passed request t u tied c d s =
+    let h = old.hold in
+    let k = new.hold in
+    let an : Seen → Type 0 = λ x. side.agrees x new.side in
+    let rn : Seen → List ℕ → Given → Type 0 = λ x body read. side.has_read x body read new.side in
     let x = shows h.history in
     let events = stepped passed.failed d.reported in
     let l = lengths h s.original s.adapted tied s.original_is s.adapted_is in
     let o = d.part.only in
     let m = d.part.runs in
     assemble h k events d.out s.original s.adapted an rn sent heard hops refuses delivered request (record t { source_read = given_then t.source_read d.delta })
-    (part_ran _ _ h k is_of_source d.reported d.out _ _ _ _ _ _ _ _ _ passed tied d.part) d.part.is s.original_is s.adapted_is (record {
+    (part_ran tied d.part) d.part.is s.original_is s.adapted_is (record {
       agrees_is = λ c. own_then an x passed.failed d.reported (λ cause a. u.agrees_on x (Fail cause) refl a) d.part.quiet d.agrees;
       read_is = own_source (λ y bs. rn y bs (given_then t.source_read d.delta)) x passed.failed d.reported d.out s.original (λ cause bs p. u.read_on x (Fail cause) bs (given_then t.source_read d.delta) refl p) o d.part.quiet
           (d.goes_on s.original t.source_read s.read_is);
@@ -131,17 +143,21 @@ source_stands h k ao an ro rn sent heard hops refuses delivered f0 f1 rests fram
       heard_is = heard_kept heard x events d.out s.adapted t.service_read u.heard_on (all_then is_of_source off_replies (λ event q. (source_off event q).1) (λ cause. refl) passed.failed d.reported o) s.heard_is;
       hops_are = hops_kept hops h events d.out s.original s.adapted t.next_taken t.back_taken (u.hops_on t.next_taken t.back_taken) tied (all_then is_of_source off_hop (λ event q. (source_off event q).2) (λ cause. refl) passed.failed d.reported o) m l s.hops_are;
     }) (carry_any refuses u.refuses_on events x s.refuses_is)
-    (λ n. absurd (never_done h events d.out c m.may (part_ran _ _ h k is_of_source d.reported d.out _ _ _ _ _ _ _ _ _ passed tied d.part)
+    (λ n. absurd (never_done h events d.out c m.may (part_ran tied d.part)
     (all_then is_of_source off_hop (λ event q. (source_off event q).2) (λ cause. refl) passed.failed d.reported o) n))
 
 -- The service's pass that writes.
 
-pub send_stands : (h k : Holding) (agrees : Seen → Type 0) (read : Seen → List ℕ → Given → Type 0) (so sn : List ℕ → Seen → List ℕ → List ℕ → Type 0) (ho hn : Seen → List ℕ → List ℕ → Type 0) (hops : Seen → List ℕ → List ℕ → List ℕ → Type 0) (refuses : Seen → Type 0) (delivered : List ℕ → List ℕ → List ℕ → Type 0)
-    (f0 f1 : Option ClientFault) (rests : Type 0) (before after_ : Past → Type 0) (passed : Passed) (request : List ℕ) (t : Texts)
-    → Others agrees read sn hn hops refuses → ((x : Seen) (adapted text : List ℕ) → ho x adapted text → hn x adapted text) → IsTied h
-    → (shows h.history).closed ≡ false → (d : SendPart h k so sn f0 f1 rests before after_ passed)
-    → Stands h agrees read so ho hops refuses delivered request t → Stands k agrees read sn hn hops refuses delivered request (record t { service_taken = t.service_taken ++ d.delta })
-send_stands h k agrees read so sn ho hn hops refuses delivered f0 f1 rests before after_ passed request t u same tied c d s =
+pub send_stands : {V W : Type 0} (v : Service V) (w : Wire W) (old new : Lent V W) (agrees : Seen → Type 0) (read : Seen → List ℕ → Given → Type 0) (hops : Seen → List ℕ → List ℕ → List ℕ → Type 0) (refuses : Seen → Type 0) (delivered : List ℕ → List ℕ → List ℕ → Type 0) (passed : Passed) (request : List ℕ) (t : Texts)
+    → Others agrees read (sent_by v new.side) (heard_by v new.side) hops refuses → ((x : Seen) (adapted text : List ℕ) → v.has_heard x adapted text old.side → v.has_heard x adapted text new.side) → IsTied old.hold
+    → (shows old.hold.history).closed ≡ false → (d : SendPart v w old new passed)
+    → Stands old.hold agrees read (sent_by v old.side) (heard_by v old.side) hops refuses delivered request t
+    → Stands new.hold agrees read (sent_by v new.side) (heard_by v new.side) hops refuses delivered request (record t { service_taken = t.service_taken ++ d.delta })
+send_stands v w old new agrees read hops refuses delivered passed request t u same tied c d s =
+    let h = old.hold in
+    let k = new.hold in
+    let sn : List ℕ → Seen → List ℕ → List ℕ → Type 0 = sent_by v new.side in
+    let hn : Seen → List ℕ → List ℕ → Type 0 = heard_by v new.side in
     let x = shows h.history in
     let events = stepped passed.failed d.reported in
     let l = lengths h s.original s.adapted tied s.original_is s.adapted_is in
@@ -150,7 +166,7 @@ send_stands h k agrees read so sn ho hn hops refuses delivered f0 f1 rests befor
     let os = all_then is_of_sending off_source (λ event q. (sending_off event q).0) (λ cause. refl) passed.failed d.reported o in
     let none : s.original ++ all_original events [] ≡ s.original = ap (λ (bs : List ℕ). s.original ++ bs) (none_original events [] os) ∙ append-nil s.original in
     assemble h k events [] s.original s.adapted agrees read sn hn hops refuses delivered request (record t { service_taken = t.service_taken ++ d.delta })
-    (part_ran _ _ h k is_of_sending d.reported [] _ _ _ _ _ _ _ _ _ passed tied d.part) d.part.is s.original_is s.adapted_is (record {
+    (part_ran tied d.part) d.part.is s.original_is s.adapted_is (record {
       agrees_is = λ w. carry agrees off_source u.agrees_on events x os (s.agrees_is c);
       read_is = read_kept read x events [] s.original t.source_read u.read_on os s.read_is;
       sent_is = subst (λ (bs : List ℕ). sn request (after_all x events) bs (t.service_taken ++ d.delta)) (sym none)
@@ -161,17 +177,21 @@ send_stands h k agrees read so sn ho hn hops refuses delivered f0 f1 rests befor
       heard_is = heard_kept hn x events [] s.adapted t.service_read u.heard_on (all_then is_of_sending off_replies (λ event q. (sending_off event q).1) (λ cause. refl) passed.failed d.reported o) (same x s.adapted t.service_read s.heard_is);
       hops_are = hops_kept hops h events [] s.original s.adapted t.next_taken t.back_taken (u.hops_on t.next_taken t.back_taken) tied (all_then is_of_sending off_hop (λ event q. (sending_off event q).2) (λ cause. refl) passed.failed d.reported o) m l s.hops_are;
     }) (carry_any refuses u.refuses_on events x s.refuses_is)
-    (λ n. absurd (never_done h events [] c m.may (part_ran _ _ h k is_of_sending d.reported [] _ _ _ _ _ _ _ _ _ passed tied d.part)
+    (λ n. absurd (never_done h events [] c m.may (part_ran tied d.part)
     (all_then is_of_sending off_hop (λ event q. (sending_off event q).2) (λ cause. refl) passed.failed d.reported o) n))
 
 -- The service's pass that reads.
 
-pub hear_stands : (h k : Holding) (agrees : Seen → Type 0) (read : Seen → List ℕ → Given → Type 0) (so sn : List ℕ → Seen → List ℕ → List ℕ → Type 0) (ho hn : Seen → List ℕ → List ℕ → Type 0) (hops : Seen → List ℕ → List ℕ → List ℕ → Type 0) (refuses : Seen → Type 0) (delivered : List ℕ → List ℕ → List ℕ → Type 0)
-    (f0 f1 : Option ClientFault) (rests framed : Type 0) (before after_ : Past → Type 0) (passed : Passed) (request : List ℕ) (t : Texts)
-    → Others agrees read sn hn hops refuses → ((heads came text : List ℕ) → so heads (shows h.history) came text → sn heads (shows h.history) came text) → IsTied h
-    → (shows h.history).closed ≡ false → (d : HearPart h k ho hn f0 f1 rests framed before after_ passed)
-    → Stands h agrees read so ho hops refuses delivered request t → Stands k agrees read sn hn hops refuses delivered request (record t { service_read = t.service_read ++ d.delta })
-hear_stands h k agrees read so sn ho hn hops refuses delivered f0 f1 rests framed before after_ passed request t u same tied c d s =
+pub hear_stands : {V W : Type 0} (v : Service V) (w : Wire W) (old new : Lent V W) (agrees : Seen → Type 0) (read : Seen → List ℕ → Given → Type 0) (hops : Seen → List ℕ → List ℕ → List ℕ → Type 0) (refuses : Seen → Type 0) (delivered : List ℕ → List ℕ → List ℕ → Type 0) (passed : Passed) (request : List ℕ) (t : Texts)
+    → Others agrees read (sent_by v new.side) (heard_by v new.side) hops refuses → ((heads came text : List ℕ) → v.has_sent heads (shows old.hold.history) came text old.side → v.has_sent heads (shows old.hold.history) came text new.side) → IsTied old.hold
+    → (shows old.hold.history).closed ≡ false → (d : HearPart v w old new passed)
+    → Stands old.hold agrees read (sent_by v old.side) (heard_by v old.side) hops refuses delivered request t
+    → Stands new.hold agrees read (sent_by v new.side) (heard_by v new.side) hops refuses delivered request (record t { service_read = t.service_read ++ d.delta })
+hear_stands v w old new agrees read hops refuses delivered passed request t u same tied c d s =
+    let h = old.hold in
+    let k = new.hold in
+    let sn : List ℕ → Seen → List ℕ → List ℕ → Type 0 = sent_by v new.side in
+    let hn : Seen → List ℕ → List ℕ → Type 0 = heard_by v new.side in
     let x = shows h.history in
     let events = stepped passed.failed d.reported in
     let l = lengths h s.original s.adapted tied s.original_is s.adapted_is in
@@ -179,7 +199,7 @@ hear_stands h k agrees read so sn ho hn hops refuses delivered f0 f1 rests frame
     let m = d.part.runs in
     let os = all_then is_of_replies off_source (λ event q. (replies_off event q).0) (λ cause. refl) passed.failed d.reported o in
     assemble h k events d.out s.original s.adapted agrees read sn hn hops refuses delivered request (record t { service_read = t.service_read ++ d.delta })
-    (part_ran _ _ h k is_of_replies d.reported d.out _ _ _ _ _ _ _ _ _ passed tied d.part) d.part.is s.original_is s.adapted_is (record {
+    (part_ran tied d.part) d.part.is s.original_is s.adapted_is (record {
       agrees_is = λ w. carry agrees off_source u.agrees_on events x os (s.agrees_is c);
       read_is = read_kept read x events d.out s.original t.source_read u.read_on os s.read_is;
       sent_is = sent_kept (sn request) h events d.out s.original s.adapted t.service_taken (u.sent_on request) (all_then is_of_replies off_sending (λ event q. (replies_off event q).1) (λ cause. refl) passed.failed d.reported o) m l
@@ -188,7 +208,7 @@ hear_stands h k agrees read so sn ho hn hops refuses delivered f0 f1 rests frame
           (d.goes_on s.adapted t.service_read s.heard_is);
       hops_are = hops_kept hops h events d.out s.original s.adapted t.next_taken t.back_taken (u.hops_on t.next_taken t.back_taken) tied (all_then is_of_replies off_hop (λ event q. (replies_off event q).2) (λ cause. refl) passed.failed d.reported o) m l s.hops_are;
     }) (carry_any refuses u.refuses_on events x s.refuses_is)
-    (λ n. absurd (never_done h events d.out c m.may (part_ran _ _ h k is_of_replies d.reported d.out _ _ _ _ _ _ _ _ _ passed tied d.part)
+    (λ n. absurd (never_done h events d.out c m.may (part_ran tied d.part)
     (all_then is_of_replies off_hop (λ event q. (replies_off event q).2) (λ cause. refl) passed.failed d.reported o) n))
 
 -- The writer's pass: on the next hop's wire, or on the source's.
@@ -203,18 +223,19 @@ fail_hops hops h original adapted next back cause law t c l p =
     (subst (λ (bs : List ℕ). hops x (chosen x (original ++ []) bs) next back) (append-nil adapted)
     (law h.history.plan h.history.events (Fail cause) original adapted [] [] ((c, tt), t.legal) refl l.original_is l.adapted_is refl refl p))
 
-pub give_stands : (h k : Holding) (agrees : Seen → Type 0) (read : Seen → List ℕ → Given → Type 0) (sent : List ℕ → Seen → List ℕ → List ℕ → Type 0) (heard : Seen → List ℕ → List ℕ → Type 0) (hopso hopsn : Seen → List ℕ → List ℕ → List ℕ → Type 0) (refuses : Seen → Type 0) (before_done delivered : List ℕ → List ℕ → List ℕ → Type 0)
-    (go gn : Seen → List ℕ → List ℕ → List ℕ → Type 0) (whole : List ℕ → List ℕ → List ℕ → Type 0) (f0 f1 : Option RelayFault) (rests : Type 0) (before after_ : Past → Type 0) (passed : Passed) (request : List ℕ) (t t' : Texts)
-    → Others agrees read sent heard hopsn refuses → IsTied h → (shows h.history).closed ≡ false → (d : HopPart h k go gn whole f0 f1 rests before after_ passed)
+pub give_stands : {K G W : Type 0} (hop : Hop K G) (w : Wire W) (old new : Lent K W) (agrees : Seen → Type 0) (read : Seen → List ℕ → Given → Type 0) (sent : List ℕ → Seen → List ℕ → List ℕ → Type 0) (heard : Seen → List ℕ → List ℕ → Type 0) (hopso hopsn : Seen → List ℕ → List ℕ → List ℕ → Type 0) (refuses : Seen → Type 0) (before_done delivered : List ℕ → List ℕ → List ℕ → Type 0) (passed : Passed) (request : List ℕ) (t t' : Texts)
+    → Others agrees read sent heard hopsn refuses → IsTied old.hold → (shows old.hold.history).closed ≡ false → (d : HopPart hop w old new passed)
     → (t'.source_read ≡ t.source_read) → (t'.service_taken ≡ t.service_taken) → (t'.service_read ≡ t.service_read)
-    → ((original adapted : List ℕ) → EndsBody h.original original → EndsBody h.adapted adapted
-    → hopso (shows h.history) (chosen (shows h.history) original adapted) t.next_taken t.back_taken
-    → hopsn (after_all (shows h.history) d.reported) (chosen (shows h.history) original adapted) t'.next_taken t'.back_taken)
-    → ((original adapted : List ℕ) → EndsBody h.original original → EndsBody h.adapted adapted → (after_all (shows h.history) d.reported).closed ≡ true
-    → hopso (shows h.history) (chosen (shows h.history) original adapted) t.next_taken t.back_taken
-    → delivered (chosen (shows h.history) original adapted) t'.next_taken t'.back_taken)
-    → Stands h agrees read sent heard hopso refuses before_done request t → Stands k agrees read sent heard hopsn refuses delivered request t'
-give_stands h k agrees read sent heard hopso hopsn refuses before_done delivered go gn whole f0 f1 rests before after_ passed request t t' u tied c d e1 e2 e3 own whole_then s =
+    → ((original adapted : List ℕ) → EndsBody old.hold.original original → EndsBody old.hold.adapted adapted
+    → hopso (shows old.hold.history) (chosen (shows old.hold.history) original adapted) t.next_taken t.back_taken
+    → hopsn (after_all (shows old.hold.history) d.reported) (chosen (shows old.hold.history) original adapted) t'.next_taken t'.back_taken)
+    → ((original adapted : List ℕ) → EndsBody old.hold.original original → EndsBody old.hold.adapted adapted → (after_all (shows old.hold.history) d.reported).closed ≡ true
+    → hopso (shows old.hold.history) (chosen (shows old.hold.history) original adapted) t.next_taken t.back_taken
+    → delivered (chosen (shows old.hold.history) original adapted) t'.next_taken t'.back_taken)
+    → Stands old.hold agrees read sent heard hopso refuses before_done request t → Stands new.hold agrees read sent heard hopsn refuses delivered request t'
+give_stands hop w old new agrees read sent heard hopso hopsn refuses before_done delivered passed request t t' u tied c d e1 e2 e3 own whole_then s =
+    let h = old.hold in
+    let k = new.hold in
     let x = shows h.history in
     let events = stepped passed.failed d.reported in
     let l = lengths h s.original s.adapted tied s.original_is s.adapted_is in
@@ -227,7 +248,7 @@ give_stands h k agrees read sent heard hopso hopsn refuses before_done delivered
     ∙ ap (λ (bs : List ℕ). chosen (after_all x events) s.original bs) (ap (λ (bs : List ℕ). s.adapted ++ bs) (none_adapted events [] oa) ∙ append-nil s.adapted)
     ∙ same_choices x events s.original s.adapted oa in
     assemble h k events [] s.original s.adapted agrees read sent heard hopsn refuses delivered request t'
-    (part_ran _ _ h k is_of_hop d.reported [] _ _ _ _ _ _ _ _ _ passed tied d.part) d.part.is s.original_is s.adapted_is (record {
+    (part_ran tied d.part) d.part.is s.original_is s.adapted_is (record {
       agrees_is = λ w. carry agrees off_source u.agrees_on events x os (s.agrees_is c);
       read_is = subst (λ (bs : Given). read (after_all x events) (s.original ++ all_original events []) bs) (sym e1) (read_kept read x events [] s.original t.source_read u.read_on os s.read_is);
       sent_is = subst (λ (bs : List ℕ). sent request (after_all x events) (s.original ++ all_original events []) bs) (sym e2)
@@ -240,7 +261,7 @@ give_stands h k agrees read sent heard hopso hopsn refuses before_done delivered
     }) (carry_any refuses u.refuses_on events x s.refuses_is)
     (λ n. subst (λ (bs : List ℕ). delivered bs t'.next_taken t'.back_taken) (sym body)
     (whole_then s.original s.adapted s.original_is s.adapted_is
-    (done_reported h [] passed.failed d.reported (part_ran _ _ h k is_of_hop d.reported [] _ _ _ _ _ _ _ _ _ passed tied d.part) n) s.hops_are))
+    (done_reported h [] passed.failed d.reported (part_ran tied d.part) n) s.hops_are))
 
 -- A failure, and a new beginning, of which every side keeps what it says.
 

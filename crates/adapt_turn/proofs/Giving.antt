@@ -7,15 +7,16 @@ use Rattle.trace_core.specs.declared.history.Point.{Point}
 use Rattle.trace_core.specs.declared.history.Point.TheVariants.{Reqmod, Respmod}
 use Rattle.trace_core.specs.declared.history.Event.{Event}
 use Rattle.trace_core.specs.declared.history.Cause.{Cause}
-use Rattle.trace_core.specs.Turns.{after_all, MayAllFollow, is_of_hop}
+use Rattle.trace_core.specs.Turns.{after_all, MayAllFollow}
 use Rattle.wire_kit.specs.Past.{Past}
-use Rattle.adapt_sides.specs.declared.fault.RelayFault.{RelayFault}
+use Rattle.wire_kit.specs.declared.wire.Wire.{Ghosts as Wire}
+use Rattle.adapt_sides.specs.declared.hop.Hop.{Ghosts as Hop}
 use Rattle.adapt_sides.specs.Tapes.{chosen}
 use Rattle.adapt_sides.specs.Turns.{Gift, Given}
 use Rattle.adapt_sides.specs.Turns.Gift.{nothing, message, refusal}
 use Rattle.adapt_hold.specs.Holding.{Holding, IsTied, shows}
 use Rattle.adapt_turn.specs.declared.parts.Passed.{Passed}
-use Rattle.adapt_turn.specs.Parts.{HopPart, stepped}
+use Rattle.adapt_turn.specs.Parts.{Lent, GivesOn, HopPart, stepped}
 use Rattle.adapt_turn.specs.Made.{OfHead, WholeOf, answers_user, is_reqmod}
 use Rattle.adapt_turn.specs.Stands.{Stands, Goes, HopsAre, IsRefusing, user_gift, TakesAside, IsDone, IsDelivered}
 use Rattle.adapt_turn.proofs.Advance.{Others, give_stands}
@@ -30,70 +31,67 @@ reported_may : (failed : Option Cause) (reported : List Event) (x : Seen) → ((
 reported_may None reported x q m = m
 reported_may (Some cause) reported x q m = subst (λ (es : List Event). MayAllFollow x es) (sym (q cause refl)) tt
 
-pub with_heads : (h k : Holding) (mo mn : Seen → List ℕ → Type 0) (go gn : Seen → List ℕ → List ℕ → List ℕ → Type 0) (whole : List ℕ → List ℕ → List ℕ → Type 0) (f0 f1 : Option RelayFault) (rests : Type 0) (before after_ : Past → Type 0) (passed : Passed)
-    → IsTied h → ((head : List ℕ) → mo (shows h.history) head → mn (shows h.history) head) → KeepsMade mn
-    → HopPart h k go gn whole f0 f1 rests before after_ passed
-    → HopPart h k (OfHead mo go) (OfHead mn gn) (WholeOf (mn (shows k.history)) whole) f0 f1 rests before after_ passed
-with_heads h k mo mn go gn whole f0 f1 rests before after_ passed tied same keep d =
-    let x = shows h.history in
-    let all : shows k.history ≡ after_all x (stepped passed.failed d.reported) = part_shows _ _ h k is_of_hop d.reported [] _ _ _ _ _ _ _ _ _ passed tied d.part in
+pub with_heads : {K G W : Type 0} (hop : Hop K G) (w : Wire W) (old new : Lent K W) (mo mn : Seen → List ℕ → Type 0) (passed : Passed)
+    → IsTied old.hold → ((head : List ℕ) → mo (shows old.hold.history) head → mn (shows old.hold.history) head) → KeepsMade mn
+    → (d : HopPart hop w old new passed) → GivesOn old.hold d.reported d.delta (OfHead mo (λ x head body taken. hop.has_given x head body taken old.side)) (OfHead mn (λ x head body taken. hop.has_given x head body taken new.side))
+    (WholeOf (mn (shows new.hold.history)) (λ head body taken. hop.is_whole head body taken new.side))
+with_heads hop w old new mo mn passed tied same keep d =
+    let x = shows old.hold.history in
+    let all : shows new.hold.history ≡ after_all x (stepped passed.failed d.reported) = part_shows tied d.part in
     record {
-      delta = d.delta;
-      reported = d.reported;
-      part = d.part;
       goes_on = λ original adapted head taken f g q. (
         made_all mn keep d.reported x head (reported_may passed.failed d.reported x d.part.quiet d.part.runs.may) (same head q.0),
-        d.goes_on original adapted head taken f g q.1,
+        d.gives.goes_on original adapted head taken f g q.1,
       );
-      done = λ original adapted head taken f g w q. (
+      done = λ original adapted head taken f g over q. (
         subst (λ (y : Seen). mn y head) (sym all) (made_all mn keep (stepped passed.failed d.reported) x head d.part.runs.may (same head q.0)),
-        d.done original adapted head taken f g w q.1,
+        d.gives.done original adapted head taken f g over q.1,
       );
     }
 
 -- More of a message goes out.
 
-pub next_goes : (h k : Holding) (agrees : Seen → Type 0) (read : Seen → List ℕ → Given → Type 0) (sent : List ℕ → Seen → List ℕ → List ℕ → Type 0) (heard : Seen → List ℕ → List ℕ → Type 0) (ng ng' bg : Gift) (go gn bgiven : Seen → List ℕ → List ℕ → List ℕ → Type 0) (ao an baside : List ℕ → Type 0) (refusing : Bool)
-    (whole bwhole before_done : List ℕ → List ℕ → List ℕ → Type 0) (f0 f1 : Option RelayFault) (rests : Type 0) (source service before after_ : Past → Type 0) (passed : Passed)
-    → Others agrees read sent heard (HopsAre ng' bg gn an bgiven baside) (IsRefusing refusing ng' bg) → IsTied h → (shows h.history).closed ≡ false → bg ≡ nothing → (ng ≡ nothing → ⊥) → ng' ≡ ng
-    → HopPart h k go gn whole f0 f1 rests before after_ passed
-    → Goes (Stands h agrees read sent heard (HopsAre ng bg go ao bgiven baside) (IsRefusing refusing ng bg) before_done) (Stands k agrees read sent heard (HopsAre ng' bg gn an bgiven baside) (IsRefusing refusing ng' bg) (IsDelivered refusing ng' bg whole an bwhole baside))
-    source source service service before after_
-next_goes h k agrees read sent heard ng ng' bg go gn bgiven ao an baside refusing whole bwhole before_done f0 f1 rests source service before after_ passed u tied c idle busy same d = record {
+pub next_goes : {K G W : Type 0} (hop : Hop K G) (w : Wire W) (old new : Lent K W) (agrees : Seen → Type 0) (read : Seen → List ℕ → Given → Type 0) (sent : List ℕ → Seen → List ℕ → List ℕ → Type 0) (heard : Seen → List ℕ → List ℕ → Type 0) (ng ng' bg : Gift) (go gn bgiven : Seen → List ℕ → List ℕ → List ℕ → Type 0) (ao an baside : List ℕ → Type 0) (refusing : Bool)
+    (whole bwhole before_done : List ℕ → List ℕ → List ℕ → Type 0) (source service : Past → Type 0) (passed : Passed)
+    → Others agrees read sent heard (HopsAre ng' bg gn an bgiven baside) (IsRefusing refusing ng' bg) → IsTied old.hold → (shows old.hold.history).closed ≡ false → bg ≡ nothing → (ng ≡ nothing → ⊥) → ng' ≡ ng
+    → (d : HopPart hop w old new passed) → GivesOn old.hold d.reported d.delta go gn whole
+    → Goes (Stands old.hold agrees read sent heard (HopsAre ng bg go ao bgiven baside) (IsRefusing refusing ng bg) before_done) (Stands new.hold agrees read sent heard (HopsAre ng' bg gn an bgiven baside) (IsRefusing refusing ng' bg) (IsDelivered refusing ng' bg whole an bwhole baside))
+    source source service service (w.past old.wire) (w.past new.wire)
+next_goes hop w old new agrees read sent heard ng ng' bg go gn bgiven ao an baside refusing whole bwhole before_done source service passed u tied c idle busy same d gives = record {
   delta = record { source_read = no_given; service_read = []; service_taken = []; next_taken = d.delta; back_taken = [] };
-  stands = λ request t o. of_five (Stands k agrees read sent heard (HopsAre ng' bg gn an bgiven baside) (IsRefusing refusing ng' bg) (IsDelivered refusing ng' bg whole an bwhole baside) request) _ _ _ _ _ _ _ _ _ _
+  stands = λ request t o. of_five (Stands new.hold agrees read sent heard (HopsAre ng' bg gn an bgiven baside) (IsRefusing refusing ng' bg) (IsDelivered refusing ng' bg whole an bwhole baside) request) _ _ _ _ _ _ _ _ _ _
       (given_still t.source_read) (sym (append-nil t.service_read)) (sym (append-nil t.service_taken)) refl (sym (append-nil t.back_taken))
-      (give_stands h k agrees read sent heard (HopsAre ng bg go ao bgiven baside) (HopsAre ng' bg gn an bgiven baside) (IsRefusing refusing ng' bg) before_done (IsDelivered refusing ng' bg whole an bwhole baside) go gn whole f0 f1 rests before after_ passed request t (record t { next_taken = t.next_taken ++ d.delta })
+      (give_stands hop w old new agrees read sent heard (HopsAre ng bg go ao bgiven baside) (HopsAre ng' bg gn an bgiven baside) (IsRefusing refusing ng' bg) before_done (IsDelivered refusing ng' bg whole an bwhole baside) passed request t (record t { next_taken = t.next_taken ++ d.delta })
       u tied c d refl refl refl
-      (λ original adapted f g p. next_gives ng ng' bg go gn bgiven ao an baside (shows h.history) (after_all (shows h.history) d.reported) (chosen (shows h.history) original adapted) t.next_taken t.back_taken d.delta c idle busy same
-      (λ head taken q. d.goes_on original adapted head taken f g q) p)
-      (λ original adapted f g w p. next_whole refusing ng ng' bg go bgiven whole bwhole ao an baside (shows h.history) (chosen (shows h.history) original adapted) t.next_taken t.back_taken d.delta c idle busy same o.refuses_is
-      (λ head taken q. d.done original adapted head taken f g w q) p)
-      (rehop h agrees read sent heard (HopsAre ng bg go ao bgiven baside) (HopsAre ng bg go ao bgiven baside) (IsRefusing refusing ng bg) (IsRefusing refusing ng' bg) before_done before_done request t t.next_taken t.back_taken (λ body p. p)
-      (λ r. subst (λ (z : Gift). IsRefusing refusing z bg (shows h.history)) (sym same) r) (λ w body p. p) o));
+      (λ original adapted f g p. next_gives ng ng' bg go gn bgiven ao an baside (shows old.hold.history) (after_all (shows old.hold.history) d.reported) (chosen (shows old.hold.history) original adapted) t.next_taken t.back_taken d.delta c idle busy same
+      (λ head taken q. gives.goes_on original adapted head taken f g q) p)
+      (λ original adapted f g w p. next_whole refusing ng ng' bg go bgiven whole bwhole ao an baside (shows old.hold.history) (chosen (shows old.hold.history) original adapted) t.next_taken t.back_taken d.delta c idle busy same o.refuses_is
+      (λ head taken q. gives.done original adapted head taken f g w q) p)
+      (rehop old.hold agrees read sent heard (HopsAre ng bg go ao bgiven baside) (HopsAre ng bg go ao bgiven baside) (IsRefusing refusing ng bg) (IsRefusing refusing ng' bg) before_done before_done request t t.next_taken t.back_taken (λ body p. p)
+      (λ r. subst (λ (z : Gift). IsRefusing refusing z bg (shows old.hold.history)) (sym same) r) (λ w body p. p) o));
   source = λ p b. still_source source p b;
   service = λ p b. still service p b;
   next = λ p b. let w = d.part.wire p b in (w.0, w.1, w.2);
 }
 
-pub back_goes : (h k : Holding) (agrees : Seen → Type 0) (read : Seen → List ℕ → Given → Type 0) (sent : List ℕ → Seen → List ℕ → List ℕ → Type 0) (heard : Seen → List ℕ → List ℕ → Type 0) (ng bg bg' : Gift) (go gn ngiven : Seen → List ℕ → List ℕ → List ℕ → Type 0) (ao an naside : List ℕ → Type 0) (refusing : Bool)
-    (whole nwhole before_done : List ℕ → List ℕ → List ℕ → Type 0) (f0 f1 : Option RelayFault) (rests : Type 0) (before after_ service next : Past → Type 0) (passed : Passed)
-    → Others agrees read sent heard (HopsAre ng bg' ngiven naside gn an) (IsRefusing refusing ng bg') → IsTied h → (shows h.history).closed ≡ false → (bg ≡ nothing → ⊥) → bg' ≡ bg
-    → HopPart h k go gn whole f0 f1 rests before after_ passed
-    → Goes (Stands h agrees read sent heard (HopsAre ng bg ngiven naside go ao) (IsRefusing refusing ng bg) before_done) (Stands k agrees read sent heard (HopsAre ng bg' ngiven naside gn an) (IsRefusing refusing ng bg') (IsDelivered refusing ng bg' nwhole naside whole an))
-    before after_ service service next next
-back_goes h k agrees read sent heard ng bg bg' go gn ngiven ao an naside refusing whole nwhole before_done f0 f1 rests before after_ service next passed u tied c busy same d = record {
+pub back_goes : {K G W : Type 0} (hop : Hop K G) (w : Wire W) (old new : Lent K W) (agrees : Seen → Type 0) (read : Seen → List ℕ → Given → Type 0) (sent : List ℕ → Seen → List ℕ → List ℕ → Type 0) (heard : Seen → List ℕ → List ℕ → Type 0) (ng bg bg' : Gift) (go gn ngiven : Seen → List ℕ → List ℕ → List ℕ → Type 0) (ao an naside : List ℕ → Type 0) (refusing : Bool)
+    (whole nwhole before_done : List ℕ → List ℕ → List ℕ → Type 0) (service next : Past → Type 0) (passed : Passed)
+    → Others agrees read sent heard (HopsAre ng bg' ngiven naside gn an) (IsRefusing refusing ng bg') → IsTied old.hold → (shows old.hold.history).closed ≡ false → (bg ≡ nothing → ⊥) → bg' ≡ bg
+    → (d : HopPart hop w old new passed) → GivesOn old.hold d.reported d.delta go gn whole
+    → Goes (Stands old.hold agrees read sent heard (HopsAre ng bg ngiven naside go ao) (IsRefusing refusing ng bg) before_done) (Stands new.hold agrees read sent heard (HopsAre ng bg' ngiven naside gn an) (IsRefusing refusing ng bg') (IsDelivered refusing ng bg' nwhole naside whole an))
+    (w.past old.wire) (w.past new.wire) service service next next
+back_goes hop w old new agrees read sent heard ng bg bg' go gn ngiven ao an naside refusing whole nwhole before_done service next passed u tied c busy same d gives = record {
   delta = record { source_read = no_given; service_read = []; service_taken = []; next_taken = []; back_taken = d.delta };
-  stands = λ request t o. of_five (Stands k agrees read sent heard (HopsAre ng bg' ngiven naside gn an) (IsRefusing refusing ng bg') (IsDelivered refusing ng bg' nwhole naside whole an) request) _ _ _ _ _ _ _ _ _ _
+  stands = λ request t o. of_five (Stands new.hold agrees read sent heard (HopsAre ng bg' ngiven naside gn an) (IsRefusing refusing ng bg') (IsDelivered refusing ng bg' nwhole naside whole an) request) _ _ _ _ _ _ _ _ _ _
       (given_still t.source_read) (sym (append-nil t.service_read)) (sym (append-nil t.service_taken)) (sym (append-nil t.next_taken)) refl
-      (give_stands h k agrees read sent heard (HopsAre ng bg ngiven naside go ao) (HopsAre ng bg' ngiven naside gn an) (IsRefusing refusing ng bg') before_done (IsDelivered refusing ng bg' nwhole naside whole an) go gn whole f0 f1 rests before after_ passed request t (record t { back_taken = t.back_taken ++ d.delta })
+      (give_stands hop w old new agrees read sent heard (HopsAre ng bg ngiven naside go ao) (HopsAre ng bg' ngiven naside gn an) (IsRefusing refusing ng bg') before_done (IsDelivered refusing ng bg' nwhole naside whole an) passed request t (record t { back_taken = t.back_taken ++ d.delta })
       u tied c d refl refl refl
-      (λ original adapted f g p. back_gives ng bg bg' go gn ngiven ao an naside (shows h.history) (after_all (shows h.history) d.reported) (chosen (shows h.history) original adapted) t.next_taken t.back_taken d.delta c busy same
-      (λ head taken q. d.goes_on original adapted head taken f g q) p)
-      (λ original adapted f g w p. back_whole refusing ng bg bg' go ngiven whole nwhole ao an naside (shows h.history) (chosen (shows h.history) original adapted) t.next_taken t.back_taken d.delta c busy same o.refuses_is
-      (λ head taken q. d.done original adapted head taken f g w q) p)
-      (rehop h agrees read sent heard (HopsAre ng bg ngiven naside go ao) (HopsAre ng bg ngiven naside go ao) (IsRefusing refusing ng bg) (IsRefusing refusing ng bg') before_done before_done request t t.next_taken t.back_taken (λ body p. p)
-      (λ r. subst (λ (z : Gift). IsRefusing refusing ng z (shows h.history)) (sym same) r) (λ w body p. p) o));
+      (λ original adapted f g p. back_gives ng bg bg' go gn ngiven ao an naside (shows old.hold.history) (after_all (shows old.hold.history) d.reported) (chosen (shows old.hold.history) original adapted) t.next_taken t.back_taken d.delta c busy same
+      (λ head taken q. gives.goes_on original adapted head taken f g q) p)
+      (λ original adapted f g w p. back_whole refusing ng bg bg' go ngiven whole nwhole ao an naside (shows old.hold.history) (chosen (shows old.hold.history) original adapted) t.next_taken t.back_taken d.delta c busy same o.refuses_is
+      (λ head taken q. gives.done original adapted head taken f g w q) p)
+      (rehop old.hold agrees read sent heard (HopsAre ng bg ngiven naside go ao) (HopsAre ng bg ngiven naside go ao) (IsRefusing refusing ng bg) (IsRefusing refusing ng bg') before_done before_done request t t.next_taken t.back_taken (λ body p. p)
+      (λ r. subst (λ (z : Gift). IsRefusing refusing ng z (shows old.hold.history)) (sym same) r) (λ w body p. p) o));
   source = λ p b. let w = d.part.wire p b in (w.0, w.1, w.2, λ e. cc);
   service = λ p b. still service p b;
   next = λ p b. still next p b;

@@ -1,5 +1,5 @@
 -- How far a pass brings each body.
-use Rattle.std.proofs.Common.{◌≡◌, ℕ, ◌+◌, ◌≤◌, Bool, false, List, [], ◌∷◌, Option, Some, None, arith, refl, sym, ◌∙◌, ap, subst}
+use Rattle.std.proofs.Common.{◌≡◌, ℕ, ◌+◌, ◌≤◌, false, List, [], ◌∷◌, Option, Some, None, arith, refl, sym, ◌∙◌, ap, subst}
 use Rattle.std.proofs.lemmas.Bool.Decides.{nat_tests}
 use Rattle.std.proofs.lemmas.Bool.{false≢true}
 use Rattle.trace_core.specs.declared.history.Seen.{Seen}
@@ -11,11 +11,10 @@ use Rattle.trace_core.specs.View.{after}
 use Rattle.trace_core.specs.Turns.{after_all, AllAre, in_sum, ad_sum, is_of_sending}
 use Rattle.plan_rules.specs.declared.room.TheConstants.{TURN_BYTES}
 use Rattle.plan_rules.specs.Room.{original_room, adapted_room}
-use Rattle.wire_kit.specs.Past.{Past}
 use Rattle.adapt_hold.specs.Holding.{Holding, IsTied, shows, history_then, moved}
 use Rattle.adapt_hold.proofs.Closes.{then_shows}
 use Rattle.adapt_turn.specs.declared.parts.Passed.{Passed}
-use Rattle.adapt_turn.specs.Parts.{Part, stepped}
+use Rattle.adapt_turn.specs.Parts.{View, Report, Part, stepped}
 use Rattle.adapt_turn.proofs.Stepped.{part_shows}
 
 -- an event brings the bytes of its own body that it says
@@ -55,24 +54,24 @@ pub adapted_few : (x : Seen) (window : ℕ) → adapted_room x window ≤ TURN_B
 adapted_few x window = grind (arith, nat_tests)
 
 -- of what a pass reports so much came of the original, and so much of the adapted body
-pub part_received : {F : Type 0} (of_wire : F → Past → Past → Type 0) (own : F → Cause) (h k : Holding) (test : Event → Bool) (reported : List Event) (out given taken delta : List ℕ) (f0 f1 : Option F) (rests : Type 0) (waits : Past → ℕ) (before after_ : Past → Type 0) (passed : Passed)
-    → IsTied h → Part of_wire own h k test reported out given taken delta f0 f1 rests waits before after_ passed
-    → (n : ℕ) → in_sum reported ≤ n → n ≤ TURN_BYTES → (shows k.history).received ≤ (shows h.history).received + TURN_BYTES
-part_received of_wire own h k test reported out given taken delta f0 f1 rests waits before after_ passed t p n few turn =
-    let shown = part_shows of_wire own h k test reported out given taken delta f0 f1 rests waits before after_ passed t p in
-    let all = received_all (shows h.history) (stepped passed.failed reported) in
-    let less = in_stepped passed.failed reported in
-    let at : (after_all (shows h.history) (stepped passed.failed reported)).received ≤ (shows h.history).received + TURN_BYTES = omega (arith, all, less, few, turn) in
+pub part_received : {F : Type 0} {v : View F} {h k : Holding} {r : Report} {passed : Passed}
+    → IsTied h → Part v h k r passed
+    → (n : ℕ) → in_sum r.events ≤ n → n ≤ TURN_BYTES → (shows k.history).received ≤ (shows h.history).received + TURN_BYTES
+part_received {F} {v} {h} {k} {r} {passed} t p n few turn =
+    let shown = part_shows t p in
+    let all = received_all (shows h.history) (stepped passed.failed r.events) in
+    let less = in_stepped passed.failed r.events in
+    let at : (after_all (shows h.history) (stepped passed.failed r.events)).received ≤ (shows h.history).received + TURN_BYTES = omega (arith, all, less, few, turn) in
     subst (λ (x : Seen). x.received ≤ (shows h.history).received + TURN_BYTES) (sym shown) at
 
-pub part_adapted : {F : Type 0} (of_wire : F → Past → Past → Type 0) (own : F → Cause) (h k : Holding) (test : Event → Bool) (reported : List Event) (out given taken delta : List ℕ) (f0 f1 : Option F) (rests : Type 0) (waits : Past → ℕ) (before after_ : Past → Type 0) (passed : Passed)
-    → IsTied h → Part of_wire own h k test reported out given taken delta f0 f1 rests waits before after_ passed
-    → (n : ℕ) → ad_sum reported ≤ n → (shows k.history).adapted_received ≤ (shows h.history).adapted_received + n
-part_adapted of_wire own h k test reported out given taken delta f0 f1 rests waits before after_ passed t p n few =
-    let shown = part_shows of_wire own h k test reported out given taken delta f0 f1 rests waits before after_ passed t p in
-    let all = adapted_all (shows h.history) (stepped passed.failed reported) in
-    let less = ad_stepped passed.failed reported in
-    let at : (after_all (shows h.history) (stepped passed.failed reported)).adapted_received ≤ (shows h.history).adapted_received + n = omega (arith, all, less, few) in
+pub part_adapted : {F : Type 0} {v : View F} {h k : Holding} {r : Report} {passed : Passed}
+    → IsTied h → Part v h k r passed
+    → (n : ℕ) → ad_sum r.events ≤ n → (shows k.history).adapted_received ≤ (shows h.history).adapted_received + n
+part_adapted {F} {v} {h} {k} {r} {passed} t p n few =
+    let shown = part_shows t p in
+    let all = adapted_all (shows h.history) (stepped passed.failed r.events) in
+    let less = ad_stepped passed.failed r.events in
+    let at : (after_all (shows h.history) (stepped passed.failed r.events)).adapted_received ≤ (shows h.history).adapted_received + n = omega (arith, all, less, few) in
     subst (λ (x : Seen). x.adapted_received ≤ (shows h.history).adapted_received + n) (sym shown) at
 
 -- closing brings no byte of either body

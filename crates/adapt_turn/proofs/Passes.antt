@@ -18,8 +18,12 @@ use Rattle.trace_core.proofs.Sound.{Sound, sound-after}
 use Rattle.plan_rules.specs.Room.{original_room, adapted_room, claim_then}
 use Rattle.span_tape.specs.Tape.{Tape, end_of}
 use Rattle.wire_kit.specs.Past.{Past, IsLater}
+use Rattle.wire_kit.specs.declared.wire.Wire.{Ghosts as Wire}
+use Rattle.adapt_sides.specs.declared.source.Source.{Ghosts as Source}
+use Rattle.adapt_sides.specs.declared.service.Service.{Ghosts as Service}
+use Rattle.adapt_sides.specs.declared.hop.Hop.{Ghosts as Hop}
 use Rattle.adapt_sides.specs.Tapes.{Follows, KeepsUnsent, KeepsUndelivered, chosen, chosen_received, chosen_delivered}
-use Rattle.adapt_sides.specs.Turns.{Given, ReadsBody, Sends, Hears, Gives, HasReason, SaysWaiting, OfRelayWire, OfClientWire}
+use Rattle.adapt_sides.specs.Turns.{ReadsBody, Sends, Hears, Gives, HasReason, SaysWaiting}
 use Rattle.adapt_sides.specs.declared.fault.ClientFault.{ClientFault}
 use Rattle.adapt_sides.specs.declared.fault.RelayFault.{RelayFault}
 use Rattle.adapt_sides.specs.declared.turn.Turn.{Turn}
@@ -28,7 +32,7 @@ use Rattle.adapt_hold.specs.Holding.{Holding, IsTied, IsRoomy, shows, moved}
 use Rattle.adapt_hold.specs.Steps.{brought_all, HasRoomFor, MayRun, moved_all}
 use Rattle.adapt_hold.proofs.Bodies.{ends}
 use Rattle.adapt_turn.specs.declared.parts.Passed.{Passed}
-use Rattle.adapt_turn.specs.Parts.{Breaks, Part, SourcePart, SendPart, HearPart, HopPart, source_cause, service_cause, hop_cause}
+use Rattle.adapt_turn.specs.Parts.{Breaks, Lent, View, Report, IsStill, Part, SourcePart, SendPart, HearPart, HopPart, source_room, service_room, source_cause, service_cause, hop_cause}
 use Rattle.adapt_turn.specs.Stands.{IsChosen, chosen_span}
 
 -- an event without body bytes that come
@@ -260,18 +264,28 @@ ends_chosen h original adapted w f g = chosen_by (chooses_original (shows h.hist
 
 -- The parts, from a side's turn.
 
-abbrev WireOf : {F : Type 0} → (F → Past → Past → Type 0) → Option F → Type 0 → (Past → ℕ) → List ℕ → List ℕ → (Past → Type 0) → (Past → Type 0) → Result Turn F → Type 0
-WireOf of_wire f0 rests waits given taken before after_ result =
-    (p : Past) → before p → (q : Past) × after_ q × IsLater p given taken q × HasReason of_wire p q f0 rests waits result
+abbrev WireOf : {F : Type 0} → View F → Report → Result Turn F → Type 0
+WireOf v r result = (p : Past) → v.before p → (q : Past) × v.after q × IsLater p r.given r.taken q × HasReason v.of_wire p q v.old_fault v.rests v.waits result
 
-pub took_part : {F : Type 0} (of_wire : F → Past → Past → Type 0) (own : F → Cause) (h k : Holding) (test : Event → Bool) (turn : Turn) (out given taken delta : List ℕ) (f0 f1 : Option F) (rests : Type 0) (waits : Past → ℕ) (before after_ : Past → Type 0) (passed : Passed)
-    → passed ≡ record { waiting = turn.waiting; failed = None; broken = false }
-    → WireOf of_wire f0 rests waits given taken before after_ (Ok turn)
-    → AllAre test turn.events.items → MayRun h turn.events.items out → SaysWaiting turn.events.items delta (let r : Result Turn F = Ok turn in r)
-    → k ≡ moved_all h turn.events.items out → f1 ≡ None
-    → Part of_wire own h k test turn.events.items out given taken delta f0 f1 rests waits before after_ passed
-took_part {F} of_wire own h k test turn out given taken delta f0 f1 rests waits before after_ passed e wire only runs says is sound =
-    subst (λ (y : Passed). Part of_wire own h k test turn.events.items out given taken delta f0 f1 rests waits before after_ y) (sym e) (record {
+abbrev Closed : Cause → Passed → Type 0
+Closed cause passed = passed ≡ record { waiting = false; failed = Some cause; broken = false }
+
+abbrev WentOn : Turn → Passed → Type 0
+WentOn turn passed = passed ≡ record { waiting = turn.waiting; failed = None; broken = false }
+
+abbrev IsBroken : Passed → Type 0
+IsBroken passed = passed ≡ record { waiting = false; failed = None; broken = true }
+
+-- nothing was reported
+abbrev silent : (given taken : List ℕ) → Report
+silent given taken = record { events = []; out = []; given = given; taken = taken }
+
+took_part : {F : Type 0} {v : View F} {h k : Holding} {r : Report} {passed : Passed} (turn : Turn) (delta : List ℕ)
+    → WentOn turn passed → WireOf v r (Ok turn) → AllAre v.events r.events → MayRun h r.events r.out
+    → (delta ≡ [] → IsStill r) → (IsStill r → delta ≡ []) → SaysWaiting r.events delta (let x : Result Turn F = Ok turn in x)
+    → k ≡ moved_all h r.events r.out → v.new_fault ≡ None → Part v h k r passed
+took_part {F} {v} {h} {k} {r} {passed} turn delta e wire only runs still none says is sound =
+    subst (λ (y : Passed). Part v h k r y) (sym e) (record {
       wire = λ p b. let w = wire p b in (w.0, w.1, w.2, record { failed = λ cause n. cc; waiting = w.3.waiting });
       only = only;
       runs = runs;
@@ -279,46 +293,40 @@ took_part {F} of_wire own h k test turn out given taken delta f0 f1 rests waits 
       quiet = λ cause n. cc;
       blamed = λ cause n. cc;
       tells = record {
-        idle = λ w. let i = says.idle w in (i.1, i.0, refl);
-        active = λ w b d r n. false≢true (sym w ∙ says.waits turn refl r d);
+        idle = λ w. let i = says.idle w in (still i.1, i.0, refl);
+        active = λ w b d x n. false≢true (sym w ∙ says.waits turn refl x (none d));
       };
       sound = λ n b. sound;
     })
 
-pub failed_part : {F : Type 0} (of_wire : F → Past → Past → Type 0) (own : F → Cause) (h k : Holding) (test : Event → Bool) (fault : F) (out given taken delta : List ℕ) (f0 f1 : Option F) (rests : Type 0) (waits : Past → ℕ) (before after_ : Past → Type 0) (passed : Passed)
-    → passed ≡ record { waiting = false; failed = Some (own fault); broken = false }
-    → WireOf of_wire f0 rests waits given taken before after_ (Err fault)
-    → f1 ≡ Some fault → IsRoomy h → (shows h.history).closed ≡ false
-    → k ≡ moved h (Fail (own fault)) []
-    → Part of_wire own h k test [] [] given taken delta f0 f1 rests waits before after_ passed
-failed_part {F} of_wire own h k test fault out given taken delta f0 f1 rests waits before after_ passed e wire stays r c is =
-    subst (λ (y : Passed). Part of_wire own h k test [] [] given taken delta f0 f1 rests waits before after_ y) (sym e) (record {
+failed_part : {F : Type 0} {v : View F} {h k : Holding} {passed : Passed} (fault : F) (given taken : List ℕ)
+    → Closed (v.cause fault) passed → WireOf v (silent given taken) (Err fault) → v.new_fault ≡ Some fault → IsRoomy h → (shows h.history).closed ≡ false
+    → k ≡ moved h (Fail (v.cause fault)) [] → Part v h k (silent given taken) passed
+failed_part {F} {v} {h} {k} {passed} fault given taken e wire stays r c is =
+    subst (λ (y : Passed). Part v h k (silent given taken) y) (sym e) (record {
       wire = λ p b. let w = wire p b in (
         w.0,
         w.1,
         w.2,
         record {
-          failed = λ cause n. (fault, stays, (let same : Some (own fault) ≡ Some cause = n in cc), λ o. w.3.failed fault refl o);
+          failed = λ cause n. (fault, stays, (let same : Some (v.cause fault) ≡ Some cause = n in cc), λ o. w.3.failed fault refl o);
           waiting = λ n. absurd (false≢true n);
         },
       );
       only = tt;
-      runs = fail_runs h (own fault) [] r c;
+      runs = fail_runs h (v.cause fault) [] r c;
       is = is;
       quiet = λ cause n. refl;
-      blamed = λ cause n. (fault, stays, (let same : Some (own fault) ≡ Some cause = n in cc));
+      blamed = λ cause n. (fault, stays, (let same : Some (v.cause fault) ≡ Some cause = n in cc));
       tells = record { idle = λ n. absurd (false≢true n); active = λ w b d z n. cc };
       sound = λ n b. cc;
     })
 
 -- the connection broke where the request may begin anew: nothing is stepped
-pub broken_part : {F : Type 0} (of_wire : F → Past → Past → Type 0) (own : F → Cause) (h k : Holding) (test : Event → Bool) (fault : F) (given taken delta : List ℕ) (f0 f1 : Option F) (rests : Type 0) (waits : Past → ℕ) (before after_ : Past → Type 0) (passed : Passed)
-    → passed ≡ record { waiting = false; failed = None; broken = true }
-    → WireOf of_wire f0 rests waits given taken before after_ (Err fault)
-    → IsRoomy h → k ≡ h
-    → Part of_wire own h k test [] [] given taken delta f0 f1 rests waits before after_ passed
-broken_part {F} of_wire own h k test fault given taken delta f0 f1 rests waits before after_ passed e wire r is =
-    subst (λ (y : Passed). Part of_wire own h k test [] [] given taken delta f0 f1 rests waits before after_ y) (sym e) (record {
+broken_part : {F : Type 0} {v : View F} {h k : Holding} {passed : Passed} (fault : F) (given taken : List ℕ)
+    → IsBroken passed → WireOf v (silent given taken) (Err fault) → IsRoomy h → k ≡ h → Part v h k (silent given taken) passed
+broken_part {F} {v} {h} {k} {passed} fault given taken e wire r is =
+    subst (λ (y : Passed). Part v h k (silent given taken) y) (sym e) (record {
       wire = λ p b. let w = wire p b in (w.0, w.1, w.2, record { failed = λ cause n. cc; waiting = λ n. absurd (false≢true n) });
       only = tt;
       runs = record { may = tt; carried = omega arith; room = tt; roomy = r };
@@ -329,199 +337,205 @@ broken_part {F} of_wire own h k test fault given taken delta f0 f1 rests waits b
       sound = λ n b. absurd (false≢true (sym b));
     })
 
-pub either_part : {F : Type 0} (of_wire : F → Past → Past → Type 0) (own : F → Cause) (h k : Holding) (test : Event → Bool) (fault : F) (given taken delta : List ℕ) (f0 f1 : Option F) (rests : Type 0) (waits : Past → ℕ) (before after_ : Past → Type 0) (passed : Passed) (b : Bool)
-    → passed.broken ≡ b
-    → WireOf of_wire f0 rests waits given taken before after_ (Err fault)
-    → f1 ≡ Some fault → IsRoomy h → (shows h.history).closed ≡ false
-    → (passed.broken ≡ true → (k ≡ h) × (passed ≡ record { waiting = false; failed = None; broken = true }))
-    → (passed.broken ≡ false → (k ≡ moved h (Fail (own fault)) []) × (passed ≡ record { waiting = false; failed = Some (own fault); broken = false }))
-    → Part of_wire own h k test [] [] given taken delta f0 f1 rests waits before after_ passed
-either_part of_wire own h k test fault given taken delta f0 f1 rests waits before after_ passed true e wire stays r c broke shut =
-    broken_part of_wire own h k test fault given taken delta f0 f1 rests waits before after_ passed (broke e).1 wire r (broke e).0
-either_part of_wire own h k test fault given taken delta f0 f1 rests waits before after_ passed false e wire stays r c broke shut =
-    failed_part of_wire own h k test fault [] given taken delta f0 f1 rests waits before after_ passed (shut e).1 wire stays r c (shut e).0
+either_part : {F : Type 0} {v : View F} {h k : Holding} {passed : Passed} (fault : F) (given taken : List ℕ) (b : Bool)
+    → passed.broken ≡ b → WireOf v (silent given taken) (Err fault) → v.new_fault ≡ Some fault → IsRoomy h → (shows h.history).closed ≡ false
+    → (passed.broken ≡ true → (k ≡ h) × IsBroken passed)
+    → (passed.broken ≡ false → (k ≡ moved h (Fail (v.cause fault)) []) × Closed (v.cause fault) passed)
+    → Part v h k (silent given taken) passed
+either_part fault given taken true e wire stays r c broke shut = broken_part fault given taken (broke e).1 wire r (broke e).0
+either_part fault given taken false e wire stays r c broke shut = failed_part fault given taken (shut e).1 wire stays r c (shut e).0
 
-abbrev Closed : Cause → Passed → Type 0
-Closed cause passed = passed ≡ record { waiting = false; failed = Some cause; broken = false }
+-- the source's
 
-abbrev WentOn : Turn → Passed → Type 0
-WentOn turn passed = passed ≡ record { waiting = turn.waiting; failed = None; broken = false }
+abbrev pub ReadsOf : {S H W : Type 0} → Source S H → Wire W → (old new : Lent S W) → ℕ → List ℕ → Result Turn RelayFault → Type 0
+ReadsOf s w old new room out result = ReadsBody (λ x body read. s.has_read x body read old.side) (λ x body read. s.has_read x body read new.side) (λ x. s.agrees x old.side) (λ x. s.agrees x new.side)
+    (s.fault old.side) (s.fault new.side) (s.rests room new.side) (s.is_framed room new.side) (s.is_over new.side) (w.past old.wire) (w.past new.wire) out result
 
-pub source_took : (h k : Holding) (turn : Turn) (events : List Event) (out : List ℕ) (ro rn : Seen → List ℕ → Given → Type 0) (ao an : Seen → Type 0) (f0 f1 : Option RelayFault) (rests framed : ℕ → Type 0) (over : Type 0) (n room : ℕ) (before after_ : Past → Type 0) (passed : Passed)
-    → n ≡ room → IsTied h → IsRoomy h → (shows h.history).closed ≡ false → ao (shows h.history) → length out ≤ original_room (shows h.history) h.claim h.limits.window
-    → events ≡ turn.events.items
-    → ReadsBody ro rn ao an f0 f1 (rests n) (framed n) over before after_ out (Ok turn)
-    → k ≡ moved_all h events out → WentOn turn passed
-    → SourcePart h k ro rn an f0 f1 (rests room) (framed room) over before after_ passed
-source_took h k turn events out ro rn ao an f0 f1 rests framed over n room before after_ passed same t r c a l e b0 is went =
-    let b = subst (λ (y : ℕ). ReadsBody ro rn ao an f0 f1 (rests y) (framed y) over before after_ out (Ok turn)) same b0 in
+pub source_took : {S H W : Type 0} (s : Source S H) (w : Wire W) (old new : Lent S W) (turn : Turn) (events : List Event) (out : List ℕ) (n : ℕ) (passed : Passed)
+    → n ≡ source_room old.hold → IsTied old.hold → IsRoomy old.hold → (shows old.hold.history).closed ≡ false → s.agrees (shows old.hold.history) old.side → length out ≤ source_room old.hold
+    → events ≡ turn.events.items → ReadsOf s w old new n out (Ok turn) → new.hold ≡ moved_all old.hold events out → WentOn turn passed
+    → SourcePart s w old new passed
+source_took s w old new turn events out n passed same t r c a l e b0 is went =
+    let h = old.hold in
+    let b = subst (λ (y : ℕ). ReadsOf s w old new y out (Ok turn)) same b0 in
     let legal = b.legal (shows h.history) a c in
     record {
       delta = b.delta;
       out = out;
       reported = turn.events.items;
-      part = took_part OfRelayWire source_cause h k is_of_source turn out b.delta.bytes [] b.delta.bytes f0 f1 (rests room) (λ past. past.read_waits) before after_ passed went (λ p w. let u = b.wire p w in (u.0, u.1, u.2, u.3)) b.only
-          (source_runs h turn.events.items out t r legal.0 b.only b.count l) b.waiting (is ∙ ap (λ (es : List Event). moved_all h es out) e) (b.fault.sound turn refl);
+      part = took_part turn b.delta.bytes went (λ p g. let u = b.wire p g in (u.0, u.1, u.2, u.3)) b.only (source_runs h turn.events.items out t r legal.0 b.only b.count l)
+          (λ d. (d, refl)) (λ d. d.0) b.waiting (is ∙ ap (λ (es : List Event). moved_all h es out) e) (b.fault.sound turn refl);
       few = omega (arith, b.count, l);
-      framed = λ w. b.framed (sym (ap (λ (y : Passed). y.waiting) went) ∙ w);
-      wire = λ p w. let u = b.wire p w in (u.0, u.1, u.2, u.4);
-      told = λ n o. b.told turn refl o (after_all (shows h.history) turn.events.items) legal.1;
+      framed = λ g. b.framed (sym (ap (λ (y : Passed). y.waiting) went) ∙ g);
+      wire = λ p g. let u = b.wire p g in (u.0, u.1, u.2, u.4);
+      told = λ k o. b.told turn refl o (after_all (shows h.history) turn.events.items) legal.1;
       agrees = legal.1;
       goes_on = λ body read h0. b.goes_on (shows h.history) body read h0 c;
     }
 
-pub source_failed : (h k : Holding) (fault : RelayFault) (out : List ℕ) (ro rn : Seen → List ℕ → Given → Type 0) (ao an : Seen → Type 0) (f0 f1 : Option RelayFault) (rests framed : ℕ → Type 0) (over : Type 0) (n room : ℕ) (before after_ : Past → Type 0) (cause : Cause) (passed : Passed)
-    → n ≡ room → IsRoomy h → (shows h.history).closed ≡ false → ao (shows h.history)
-    → ReadsBody ro rn ao an f0 f1 (rests n) (framed n) over before after_ out (Err fault)
-    → cause ≡ source_cause fault → Closed cause passed → k ≡ moved h (Fail cause) []
-    → SourcePart h k ro rn an f0 f1 (rests room) (framed room) over before after_ passed
-source_failed h k fault out ro rn ao an f0 f1 rests framed over n room before after_ cause passed same r c a b0 own did is =
-    let b = subst (λ (y : ℕ). ReadsBody ro rn ao an f0 f1 (rests y) (framed y) over before after_ out (Err fault)) same b0 in
+pub source_failed : {S H W : Type 0} (s : Source S H) (w : Wire W) (old new : Lent S W) (fault : RelayFault) (out : List ℕ) (n : ℕ) (cause : Cause) (passed : Passed)
+    → n ≡ source_room old.hold → IsRoomy old.hold → (shows old.hold.history).closed ≡ false → s.agrees (shows old.hold.history) old.side
+    → ReadsOf s w old new n out (Err fault) → cause ≡ source_cause fault → Closed cause passed → new.hold ≡ moved old.hold (Fail cause) []
+    → SourcePart s w old new passed
+source_failed s w old new fault out n cause passed same r c a b0 own did is =
+    let h = old.hold in
+    let b = subst (λ (y : ℕ). ReadsOf s w old new y out (Err fault)) same b0 in
     let legal = b.legal (shows h.history) a c in
     record {
       delta = b.delta;
       out = [];
       reported = [];
-      part = failed_part OfRelayWire source_cause h k is_of_source fault [] b.delta.bytes [] b.delta.bytes f0 f1 (rests room) (λ past. past.read_waits) before after_ passed
-          (did ∙ ap (λ (y : Cause). record { waiting = false; failed = Some y; broken = false }) own) (λ p w. let u = b.wire p w in (u.0, u.1, u.2, u.3)) (b.fault.stays fault refl) r c (is ∙ ap (λ (y : Cause). moved h (Fail y) []) own);
+      part = failed_part fault b.delta.bytes [] (did ∙ ap (λ (y : Cause). record { waiting = false; failed = Some y; broken = false }) own) (λ p g. let u = b.wire p g in (u.0, u.1, u.2, u.3))
+          (b.fault.stays fault refl) r c (is ∙ ap (λ (y : Cause). moved h (Fail y) []) own);
       few = omega arith;
-      framed = λ w. absurd (false≢true (sym (ap (λ (y : Passed). y.waiting) did) ∙ w));
-      wire = λ p w. let u = b.wire p w in (u.0, u.1, u.2, u.4);
-      told = λ n o. absurd (let odd : Some cause ≡ None = sym (ap (λ (y : Passed). y.failed) did) ∙ n in cc);
+      framed = λ g. absurd (false≢true (sym (ap (λ (y : Passed). y.waiting) did) ∙ g));
+      wire = λ p g. let u = b.wire p g in (u.0, u.1, u.2, u.4);
+      told = λ k o. absurd (let odd : Some cause ≡ None = sym (ap (λ (y : Passed). y.failed) did) ∙ k in cc);
       agrees = legal.1;
       goes_on = λ body read h0. b.goes_on (shows h.history) body read h0 c;
     }
 
-sends_at : (h : Holding) (history : History) (tape : Tape) (result : Result Turn ClientFault) (so sn : List ℕ → Seen → List ℕ → List ℕ → Type 0) (f0 f1 : Option ClientFault) (rests : Seen → Type 0) (before after_ : Past → Type 0)
-    → history ≡ h.history → Sends (shows history) tape so sn f0 f1 (rests (shows history)) before after_ result → Sends (shows h.history) tape so sn f0 f1 (rests (shows h.history)) before after_ result
-sends_at h history tape result so sn f0 f1 rests before after_ he b = subst (λ (y : History). Sends (shows y) tape so sn f0 f1 (rests (shows y)) before after_ result) he b
+-- the service's
 
-pub send_took : (h k : Holding) (history : History) (tape : Tape) (turn : Turn) (events : List Event) (so sn : List ℕ → Seen → List ℕ → List ℕ → Type 0) (f0 f1 : Option ClientFault) (rests : Seen → Type 0) (before after_ : Past → Type 0) (passed : Passed)
-    → IsRoomy h → history ≡ h.history → span_of tape ≡ h.original → events ≡ turn.events.items
-    → Sends (shows history) tape so sn f0 f1 (rests (shows history)) before after_ (Ok turn)
-    → k ≡ moved_all h events [] → WentOn turn passed
-    → SendPart h k so sn f0 f1 (rests (shows h.history)) before after_ passed
-send_took h k history tape turn events so sn f0 f1 rests before after_ passed r he te e b0 is went =
-    let b = sends_at h history tape (Ok turn) so sn f0 f1 rests before after_ he b0 in
+abbrev pub SendsOf : {V W : Type 0} → Service V → Wire W → (old new : Lent V W) → History → Tape → Result Turn ClientFault → Type 0
+SendsOf v w old new history tape result = Sends (shows history) tape (λ heads x came taken. v.has_sent heads x came taken old.side) (λ heads x came taken. v.has_sent heads x came taken new.side)
+    (v.fault old.side) (v.fault new.side) (v.rests_writing (shows history) new.side) (w.past old.wire) (w.past new.wire) result
+
+pub send_took : {V W : Type 0} (v : Service V) (w : Wire W) (old new : Lent V W) (history : History) (tape : Tape) (turn : Turn) (events : List Event) (passed : Passed)
+    → IsRoomy old.hold → history ≡ old.hold.history → span_of tape ≡ old.hold.original → events ≡ turn.events.items
+    → SendsOf v w old new history tape (Ok turn) → new.hold ≡ moved_all old.hold events [] → WentOn turn passed
+    → SendPart v w old new passed
+send_took v w old new history tape turn events passed r he te e b0 is went =
+    let h = old.hold in
+    let b = subst (λ (y : History). SendsOf v w old new y tape (Ok turn)) he b0 in
     record {
       delta = b.delta;
       reported = turn.events.items;
-      part = took_part OfClientWire service_cause h k is_of_sending turn [] [] b.delta b.delta f0 f1 (rests (shows h.history)) (λ past. past.write_waits) before after_ passed went b.wire b.only
-          (sending_runs h turn.events.items r b.legal b.only) b.waiting (is ∙ ap (λ (es : List Event). moved_all h es []) e) (b.fault.sound turn refl);
+      part = took_part turn b.delta went b.wire b.only (sending_runs h turn.events.items r b.legal b.only)
+          (λ d. (refl, d)) (λ d. d.1) b.waiting (is ∙ ap (λ (es : List Event). moved_all h es []) e) (b.fault.sound turn refl);
       goes_on = λ request came taken f s. b.goes_on request came taken (follows_span tape h.original came te f) s;
     }
 
-pub send_failed : (h k : Holding) (history : History) (tape : Tape) (fault : ClientFault) (so sn : List ℕ → Seen → List ℕ → List ℕ → Type 0) (f0 f1 : Option ClientFault) (rests : Seen → Type 0) (before after_ : Past → Type 0) (passed : Passed)
-    → IsRoomy h → (shows h.history).closed ≡ false → history ≡ h.history → span_of tape ≡ h.original
-    → Sends (shows history) tape so sn f0 f1 (rests (shows history)) before after_ (Err fault)
-    → (passed.broken ≡ true → (k ≡ h) × (passed ≡ record { waiting = false; failed = None; broken = true }))
-    → (passed.broken ≡ false → (k ≡ moved h (Fail (service_cause fault)) []) × Closed (service_cause fault) passed)
-    → SendPart h k so sn f0 f1 (rests (shows h.history)) before after_ passed
-send_failed h k history tape fault so sn f0 f1 rests before after_ passed r c he te b0 broke shut =
-    let b = sends_at h history tape (Err fault) so sn f0 f1 rests before after_ he b0 in
+pub send_failed : {V W : Type 0} (v : Service V) (w : Wire W) (old new : Lent V W) (history : History) (tape : Tape) (fault : ClientFault) (passed : Passed)
+    → IsRoomy old.hold → (shows old.hold.history).closed ≡ false → history ≡ old.hold.history → span_of tape ≡ old.hold.original
+    → SendsOf v w old new history tape (Err fault)
+    → (passed.broken ≡ true → (new.hold ≡ old.hold) × IsBroken passed)
+    → (passed.broken ≡ false → (new.hold ≡ moved old.hold (Fail (service_cause fault)) []) × Closed (service_cause fault) passed)
+    → SendPart v w old new passed
+send_failed v w old new history tape fault passed r c he te b0 broke shut =
+    let b = subst (λ (y : History). SendsOf v w old new y tape (Err fault)) he b0 in
     record {
       delta = b.delta;
       reported = [];
-      part = either_part OfClientWire service_cause h k is_of_sending fault [] b.delta b.delta f0 f1 (rests (shows h.history)) (λ past. past.write_waits) before after_ passed passed.broken refl b.wire (b.fault.stays fault refl) r c broke shut;
-      goes_on = λ request came taken f s. b.goes_on request came taken (follows_span tape h.original came te f) s;
+      part = either_part fault [] b.delta passed.broken refl b.wire (b.fault.stays fault refl) r c broke shut;
+      goes_on = λ request came taken f s. b.goes_on request came taken (follows_span tape old.hold.original came te f) s;
     }
 
-hears_at : (h : Holding) (history : History) (result : Result Turn ClientFault) (out : List ℕ) (so sn : Seen → List ℕ → List ℕ → Type 0) (f0 f1 : Option ClientFault) (rests : Seen → ℕ → Type 0) (framed : ℕ → Type 0) (n room : ℕ) (before after_ : Past → Type 0)
-    → n ≡ room → history ≡ h.history → Hears (shows history) so sn f0 f1 (rests (shows history) n) (framed n) before after_ out result → Hears (shows h.history) so sn f0 f1 (rests (shows h.history) room) (framed room) before after_ out result
-hears_at h history result out so sn f0 f1 rests framed n room before after_ same he b =
-    subst (λ (y : ℕ). Hears (shows h.history) so sn f0 f1 (rests (shows h.history) y) (framed y) before after_ out result) same
-    (subst (λ (y : History). Hears (shows y) so sn f0 f1 (rests (shows y) n) (framed n) before after_ out result) he b)
+abbrev pub HearsOf : {V W : Type 0} → Service V → Wire W → (old new : Lent V W) → History → ℕ → List ℕ → Result Turn ClientFault → Type 0
+HearsOf v w old new history room out result = Hears (shows history) (λ x adapted read. v.has_heard x adapted read old.side) (λ x adapted read. v.has_heard x adapted read new.side)
+    (v.fault old.side) (v.fault new.side) (v.rests_reading (shows history) room new.side) (v.is_framed room new.side) (w.past old.wire) (w.past new.wire) out result
 
-pub hear_runs : (h : Holding) (history : History) (turn : Turn) (events : List Event) (out : List ℕ) (so sn : Seen → List ℕ → List ℕ → Type 0) (f0 f1 : Option ClientFault) (rests framed : Type 0) (before after_ : Past → Type 0)
-    → IsTied h → IsRoomy h → history ≡ h.history → events ≡ turn.events.items → length out ≤ adapted_room (shows h.history) h.limits.window
-    → Hears (shows history) so sn f0 f1 rests framed before after_ out (Ok turn) → MayRun h events out
-hear_runs h history turn events out so sn f0 f1 rests framed before after_ t r he e l b =
-    subst (λ (es : List Event). MayRun h es out) (sym e)
-    (replies_run h turn.events.items out t r (subst (λ (y : History). MayAllFollow (shows y) turn.events.items) he b.legal) b.only b.count l)
+hears_at : {V W : Type 0} (v : Service V) (w : Wire W) (old new : Lent V W) (history : History) (n : ℕ) (out : List ℕ) (result : Result Turn ClientFault)
+    → n ≡ service_room old.hold → history ≡ old.hold.history → HearsOf v w old new history n out result → HearsOf v w old new old.hold.history (service_room old.hold) out result
+hears_at v w old new history n out result same he b =
+    subst (λ (y : ℕ). HearsOf v w old new old.hold.history y out result) same (subst (λ (y : History). HearsOf v w old new y n out result) he b)
+
+pub hear_runs : {V W : Type 0} (v : Service V) (w : Wire W) (old new : Lent V W) (history : History) (turn : Turn) (events : List Event) (n : ℕ) (out : List ℕ)
+    → IsTied old.hold → IsRoomy old.hold → history ≡ old.hold.history → events ≡ turn.events.items → length out ≤ service_room old.hold
+    → HearsOf v w old new history n out (Ok turn) → MayRun old.hold events out
+hear_runs v w old new history turn events n out t r he e l b =
+    subst (λ (es : List Event). MayRun old.hold es out) (sym e)
+    (replies_run old.hold turn.events.items out t r (subst (λ (y : History). MayAllFollow (shows y) turn.events.items) he b.legal) b.only b.count l)
 
 -- a pass behind a fault doesn't wait
 not_waiting : (passed : Passed) {A B : Type 0} {cause : Cause} (b : Bool) → passed.broken ≡ b
-    → (passed.broken ≡ true → A × (passed ≡ record { waiting = false; failed = None; broken = true }))
-    → (passed.broken ≡ false → B × Closed cause passed) → passed.waiting ≡ true → ⊥
+    → (passed.broken ≡ true → A × IsBroken passed) → (passed.broken ≡ false → B × Closed cause passed) → passed.waiting ≡ true → ⊥
 not_waiting passed true e broke shut w = false≢true (sym (ap (λ (y : Passed). y.waiting) (broke e).1) ∙ w)
 not_waiting passed false e broke shut w = false≢true (sym (ap (λ (y : Passed). y.waiting) (shut e).1) ∙ w)
 
-pub hear_took : (h k : Holding) (history : History) (turn : Turn) (events : List Event) (out : List ℕ) (so sn : Seen → List ℕ → List ℕ → Type 0) (f0 f1 : Option ClientFault) (rests : Seen → ℕ → Type 0) (framed : ℕ → Type 0) (n room : ℕ) (before after_ : Past → Type 0) (passed : Passed)
-    → n ≡ room → IsTied h → IsRoomy h → history ≡ h.history → events ≡ turn.events.items → length out ≤ adapted_room (shows h.history) h.limits.window
-    → Hears (shows history) so sn f0 f1 (rests (shows history) n) (framed n) before after_ out (Ok turn)
-    → k ≡ moved_all h events out → WentOn turn passed
-    → HearPart h k so sn f0 f1 (rests (shows h.history) room) (framed room) before after_ passed
-hear_took h k history turn events out so sn f0 f1 rests framed n room before after_ passed same t r he e l b0 is went =
-    let b = hears_at h history (Ok turn) out so sn f0 f1 rests framed n room before after_ same he b0 in
+pub hear_took : {V W : Type 0} (v : Service V) (w : Wire W) (old new : Lent V W) (history : History) (turn : Turn) (events : List Event) (out : List ℕ) (n : ℕ) (passed : Passed)
+    → n ≡ service_room old.hold → IsTied old.hold → IsRoomy old.hold → history ≡ old.hold.history → events ≡ turn.events.items → length out ≤ service_room old.hold
+    → HearsOf v w old new history n out (Ok turn) → new.hold ≡ moved_all old.hold events out → WentOn turn passed
+    → HearPart v w old new passed
+hear_took v w old new history turn events out n passed same t r he e l b0 is went =
+    let h = old.hold in
+    let b = hears_at v w old new history n out (Ok turn) same he b0 in
     record {
       delta = b.delta;
       out = out;
       reported = turn.events.items;
-      part = took_part OfClientWire service_cause h k is_of_replies turn out b.delta [] b.delta f0 f1 (rests (shows h.history) room) (λ past. past.read_waits) before after_ passed went b.wire b.only
-          (replies_run h turn.events.items out t r b.legal b.only b.count l) b.waiting (is ∙ ap (λ (es : List Event). moved_all h es out) e) (b.fault.sound turn refl);
+      part = took_part turn b.delta went b.wire b.only (replies_run h turn.events.items out t r b.legal b.only b.count l)
+          (λ d. (d, refl)) (λ d. d.0) b.waiting (is ∙ ap (λ (es : List Event). moved_all h es out) e) (b.fault.sound turn refl);
       few = omega (arith, b.count, l);
-      framed = λ w. b.framed (sym (ap (λ (y : Passed). y.waiting) went) ∙ w);
+      framed = λ g. b.framed (sym (ap (λ (y : Passed). y.waiting) went) ∙ g);
       goes_on = b.goes_on;
     }
 
-pub hear_failed : (h k : Holding) (history : History) (fault : ClientFault) (out : List ℕ) (so sn : Seen → List ℕ → List ℕ → Type 0) (f0 f1 : Option ClientFault) (rests : Seen → ℕ → Type 0) (framed : ℕ → Type 0) (n room : ℕ) (before after_ : Past → Type 0) (passed : Passed)
-    → n ≡ room → IsRoomy h → (shows h.history).closed ≡ false → history ≡ h.history
-    → Hears (shows history) so sn f0 f1 (rests (shows history) n) (framed n) before after_ out (Err fault)
-    → (passed.broken ≡ true → (k ≡ h) × (passed ≡ record { waiting = false; failed = None; broken = true }))
-    → (passed.broken ≡ false → (k ≡ moved h (Fail (service_cause fault)) []) × Closed (service_cause fault) passed)
-    → HearPart h k so sn f0 f1 (rests (shows h.history) room) (framed room) before after_ passed
-hear_failed h k history fault out so sn f0 f1 rests framed n room before after_ passed same r c he b0 broke shut =
-    let b = hears_at h history (Err fault) out so sn f0 f1 rests framed n room before after_ same he b0 in
+pub hear_failed : {V W : Type 0} (v : Service V) (w : Wire W) (old new : Lent V W) (history : History) (fault : ClientFault) (out : List ℕ) (n : ℕ) (passed : Passed)
+    → n ≡ service_room old.hold → IsRoomy old.hold → (shows old.hold.history).closed ≡ false → history ≡ old.hold.history
+    → HearsOf v w old new history n out (Err fault)
+    → (passed.broken ≡ true → (new.hold ≡ old.hold) × IsBroken passed)
+    → (passed.broken ≡ false → (new.hold ≡ moved old.hold (Fail (service_cause fault)) []) × Closed (service_cause fault) passed)
+    → HearPart v w old new passed
+hear_failed v w old new history fault out n passed same r c he b0 broke shut =
+    let b = hears_at v w old new history n out (Err fault) same he b0 in
     record {
       delta = b.delta;
       out = [];
       reported = [];
-      part = either_part OfClientWire service_cause h k is_of_replies fault b.delta [] b.delta f0 f1 (rests (shows h.history) room) (λ past. past.read_waits) before after_ passed passed.broken refl b.wire (b.fault.stays fault refl) r c broke shut;
+      part = either_part fault b.delta [] passed.broken refl b.wire (b.fault.stays fault refl) r c broke shut;
       few = omega arith;
-      framed = λ w. absurd (not_waiting passed passed.broken refl broke shut w);
+      framed = λ g. absurd (not_waiting passed passed.broken refl broke shut g);
       goes_on = b.goes_on;
     }
 
-gives_at : (h : Holding) (history : History) (tape : Tape) (result : Result Turn RelayFault) (so sn : Seen → List ℕ → List ℕ → List ℕ → Type 0) (ao an : List ℕ → Type 0) (whole : List ℕ → List ℕ → List ℕ → Type 0) (f0 f1 : Option RelayFault) (rests : Seen → Type 0) (before after_ : Past → Type 0)
-    → history ≡ h.history → Gives (shows history) tape so sn ao an whole f0 f1 (rests (shows history)) before after_ result → Gives (shows h.history) tape so sn ao an whole f0 f1 (rests (shows h.history)) before after_ result
-gives_at h history tape result so sn ao an whole f0 f1 rests before after_ he b = subst (λ (y : History). Gives (shows y) tape so sn ao an whole f0 f1 (rests (shows y)) before after_ result) he b
+-- the next hop's
 
-pub hop_took : (h k : Holding) (history : History) (tape : Tape) (turn : Turn) (events : List Event) (so sn : Seen → List ℕ → List ℕ → List ℕ → Type 0) (ao an : List ℕ → Type 0) (whole : List ℕ → List ℕ → List ℕ → Type 0) (f0 f1 : Option RelayFault) (rests : Seen → Type 0) (before after_ : Past → Type 0) (passed : Passed)
-    → IsRoomy h → (shows h.history).closed ≡ false → IsChosen (shows h.history) → history ≡ h.history → span_of tape ≡ chosen_span h → events ≡ turn.events.items
-    → Gives (shows history) tape so sn ao an whole f0 f1 (rests (shows history)) before after_ (Ok turn)
-    → k ≡ moved_all h events [] → WentOn turn passed
-    → HopPart h k so sn whole f0 f1 (rests (shows h.history)) before after_ passed
-hop_took h k history tape turn events so sn ao an whole f0 f1 rests before after_ passed r c w he te e b0 is went =
-    let b = gives_at h history tape (Ok turn) so sn ao an whole f0 f1 rests before after_ he b0 in
+abbrev pub GivesOf : {K G W : Type 0} → Hop K G → Wire W → (old new : Lent K W) → History → Tape → Result Turn RelayFault → Type 0
+GivesOf k w old new history tape result = Gives (shows history) tape (λ x head body taken. k.has_given x head body taken old.side) (λ x head body taken. k.has_given x head body taken new.side)
+    (λ taken. k.aside taken old.side) (λ taken. k.aside taken new.side) (λ head body taken. k.is_whole head body taken new.side)
+    (k.fault old.side) (k.fault new.side) (k.rests (shows history) new.side) (w.past old.wire) (w.past new.wire) result
+
+pub hop_took : {K G W : Type 0} (k : Hop K G) (w : Wire W) (old new : Lent K W) (history : History) (tape : Tape) (turn : Turn) (events : List Event) (passed : Passed)
+    → IsRoomy old.hold → (shows old.hold.history).closed ≡ false → IsChosen (shows old.hold.history) → history ≡ old.hold.history → span_of tape ≡ chosen_span old.hold → events ≡ turn.events.items
+    → GivesOf k w old new history tape (Ok turn) → new.hold ≡ moved_all old.hold events [] → WentOn turn passed
+    → HopPart k w old new passed
+hop_took k w old new history tape turn events passed r c chooses he te e b0 is went =
+    let h = old.hold in
+    let b = subst (λ (y : History). GivesOf k w old new y tape (Ok turn)) he b0 in
     record {
       delta = b.delta;
       reported = turn.events.items;
-      part = took_part OfRelayWire hop_cause h k is_of_hop turn [] [] b.delta b.delta f0 f1 (rests (shows h.history)) (λ past. past.write_waits) before after_ passed went b.wire b.only
-          (hop_runs h turn.events.items r b.legal b.only) b.waiting (is ∙ ap (λ (es : List Event). moved_all h es []) e) (b.fault.sound turn refl);
-      goes_on = λ original adapted head taken f g given. b.goes_on c head (chosen (shows h.history) original adapted) taken (follows_span tape (chosen_span h) _ te (ends_chosen h original adapted w f g)) given;
-      done = λ original adapted head taken f g over given. b.done c over head (chosen (shows h.history) original adapted) taken (follows_span tape (chosen_span h) _ te (ends_chosen h original adapted w f g)) given;
+      part = took_part turn b.delta went b.wire b.only (hop_runs h turn.events.items r b.legal b.only)
+          (λ d. (refl, d)) (λ d. d.1) b.waiting (is ∙ ap (λ (es : List Event). moved_all h es []) e) (b.fault.sound turn refl);
+      gives = record {
+        goes_on = λ original adapted head taken f g given. b.goes_on c head (chosen (shows h.history) original adapted) taken (follows_span tape (chosen_span h) _ te (ends_chosen h original adapted chooses f g)) given;
+        done = λ original adapted head taken f g over given. b.done c over head (chosen (shows h.history) original adapted) taken (follows_span tape (chosen_span h) _ te (ends_chosen h original adapted chooses f g)) given;
+      };
     }
 
-pub hop_failed : (h k : Holding) (history : History) (tape : Tape) (fault : RelayFault) (so sn : Seen → List ℕ → List ℕ → List ℕ → Type 0) (ao an : List ℕ → Type 0) (whole : List ℕ → List ℕ → List ℕ → Type 0) (f0 f1 : Option RelayFault) (rests : Seen → Type 0) (before after_ : Past → Type 0) (cause : Cause) (passed : Passed)
-    → IsRoomy h → (shows h.history).closed ≡ false → IsChosen (shows h.history) → history ≡ h.history → span_of tape ≡ chosen_span h
-    → Gives (shows history) tape so sn ao an whole f0 f1 (rests (shows history)) before after_ (Err fault)
-    → cause ≡ hop_cause fault → Closed cause passed → k ≡ moved h (Fail cause) []
-    → HopPart h k so sn whole f0 f1 (rests (shows h.history)) before after_ passed
-hop_failed h k history tape fault so sn ao an whole f0 f1 rests before after_ cause passed r c w he te b0 own did is =
-    let b = gives_at h history tape (Err fault) so sn ao an whole f0 f1 rests before after_ he b0 in
+pub hop_failed : {K G W : Type 0} (k : Hop K G) (w : Wire W) (old new : Lent K W) (history : History) (tape : Tape) (fault : RelayFault) (cause : Cause) (passed : Passed)
+    → IsRoomy old.hold → (shows old.hold.history).closed ≡ false → IsChosen (shows old.hold.history) → history ≡ old.hold.history → span_of tape ≡ chosen_span old.hold
+    → GivesOf k w old new history tape (Err fault) → cause ≡ hop_cause fault → Closed cause passed → new.hold ≡ moved old.hold (Fail cause) []
+    → HopPart k w old new passed
+hop_failed k w old new history tape fault cause passed r c chooses he te b0 own did is =
+    let h = old.hold in
+    let b = subst (λ (y : History). GivesOf k w old new y tape (Err fault)) he b0 in
     record {
       delta = b.delta;
       reported = [];
-      part = failed_part OfRelayWire hop_cause h k is_of_hop fault [] [] b.delta b.delta f0 f1 (rests (shows h.history)) (λ past. past.write_waits) before after_ passed
-          (did ∙ ap (λ (y : Cause). record { waiting = false; failed = Some y; broken = false }) own) b.wire (b.fault.stays fault refl) r c (is ∙ ap (λ (y : Cause). moved h (Fail y) []) own);
-      goes_on = λ original adapted head taken f g given. b.goes_on c head (chosen (shows h.history) original adapted) taken (follows_span tape (chosen_span h) _ te (ends_chosen h original adapted w f g)) given;
-      done = λ original adapted head taken f g over given. absurd (false≢true (sym c ∙ over));
+      part = failed_part fault [] b.delta (did ∙ ap (λ (y : Cause). record { waiting = false; failed = Some y; broken = false }) own) b.wire
+          (b.fault.stays fault refl) r c (is ∙ ap (λ (y : Cause). moved h (Fail y) []) own);
+      gives = record {
+        goes_on = λ original adapted head taken f g given. b.goes_on c head (chosen (shows h.history) original adapted) taken (follows_span tape (chosen_span h) _ te (ends_chosen h original adapted chooses f g)) given;
+        done = λ original adapted head taken f g over given. absurd (false≢true (sym c ∙ over));
+      };
     }
 
 -- the service's fault where the request might not begin anew
 
 pub unbroken_by : (h k : Holding) (reused : Bool) (fault : ClientFault) (f1 : Option ClientFault) (passed : Passed) (b : Bool) → passed.broken ≡ b → f1 ≡ Some fault
-    → (passed.broken ≡ true → (k ≡ h) × (passed ≡ record { waiting = false; failed = None; broken = true }))
+    → (passed.broken ≡ true → (k ≡ h) × IsBroken passed)
     → (passed.broken ≡ false → Breaks h.history reused (Some fault) → ⊥)
     → (cause : Cause) → passed.failed ≡ Some cause → Breaks h.history reused f1 → ⊥
 unbroken_by h k reused fault f1 passed true e stays broke shut cause f =

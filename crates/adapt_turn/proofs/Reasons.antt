@@ -17,20 +17,18 @@ use Rattle.adapt_turn.specs.declared.turned.Outcome.TheVariants as outcomes
 use Rattle.adapt_sides.specs.declared.turn.Turn.{Turn}
 use Rattle.adapt_sides.specs.declared.fault.RelayFault.{RelayFault}
 use Rattle.adapt_sides.specs.Turns.{OfClientWire, OfRelayWire, FailsGiving, Remembers, IsExplained}
-use Rattle.adapt_turn.specs.Parts.{Breaks, HasCause, FailsFor, Part, stepped, hop_cause, outcome_by, fault_of}
+use Rattle.adapt_turn.specs.Parts.{Breaks, HasCause, FailsFor, View, Report, Part, stepped, hop_cause, outcome_by, fault_of}
 use Rattle.adapt_turn.specs.Stands.{Waited, WaitedBeside, WaitedBoth, Blamed, BlamedWriter, BlamedService}
 
-pub part_waits : {F : Type 0} (of_wire : F → Past → Past → Type 0) (own : F → Cause) (h k : Holding) (test : Event → Bool) (reported : List Event) (out given taken delta : List ℕ) (f0 f1 : Option F) (rests : Type 0) (waits : Past → ℕ) (before after_ : Past → Type 0) (passed : Passed)
-    → Part of_wire own h k test reported out given taken delta f0 f1 rests waits before after_ passed → passed.waiting ≡ true → Waited rests waits before after_
-part_waits of_wire own h k test reported out given taken delta f0 f1 rests waits before after_ passed p e = λ past b. let w = p.wire past b in (w.0, w.1, w.3.waiting e)
+pub part_waits : {F : Type 0} {v : View F} {h k : Holding} {r : Report} {passed : Passed} → Part v h k r passed → passed.waiting ≡ true → Waited v.rests v.waits v.before v.after
+part_waits p e = λ past b. let w = p.wire past b in (w.0, w.1, w.3.waiting e)
 
-pub part_blames : {F : Type 0} (of_wire : F → Past → Past → Type 0) (own : F → Cause) (h k : Holding) (test : Event → Bool) (reported : List Event) (out given taken delta : List ℕ) (f0 f1 : Option F) (rests : Type 0) (waits : Past → ℕ) (before after_ : Past → Type 0) (passed : Passed)
-    → Part of_wire own h k test reported out given taken delta f0 f1 rests waits before after_ passed → (cause : Cause) → passed.failed ≡ Some cause → Blamed of_wire own cause f0 f1 before after_
-part_blames of_wire own h k test reported out given taken delta f0 f1 rests waits before after_ passed p cause e = λ past b. let w = p.wire past b in (w.0, w.1, w.3.failed cause e)
+pub part_blames : {F : Type 0} {v : View F} {h k : Holding} {r : Report} {passed : Passed} → Part v h k r passed → (cause : Cause) → passed.failed ≡ Some cause
+    → Blamed v.of_wire v.cause cause v.old_fault v.new_fault v.before v.after
+part_blames p cause e = λ past b. let w = p.wire past b in (w.0, w.1, w.3.failed cause e)
 
-pub part_idle : {F : Type 0} (of_wire : F → Past → Past → Type 0) (own : F → Cause) (h k : Holding) (test : Event → Bool) (reported : List Event) (out given taken delta : List ℕ) (f0 f1 : Option F) (rests : Type 0) (waits : Past → ℕ) (before after_ : Past → Type 0) (passed : Passed)
-    → Part of_wire own h k test reported out given taken delta f0 f1 rests waits before after_ passed → passed.waiting ≡ true → passed.failed ≡ None
-part_idle of_wire own h k test reported out given taken delta f0 f1 rests waits before after_ passed p e = (p.tells.idle e).2
+pub part_idle : {F : Type 0} {v : View F} {h k : Holding} {r : Report} {passed : Passed} → Part v h k r passed → passed.waiting ≡ true → passed.failed ≡ None
+part_idle p e = (p.tells.idle e).2
 
 -- the same sides and wires, by other names
 
@@ -57,38 +55,30 @@ outcome_fails (Some c) r cause s e = cc
 
 -- the service's line
 
-pub part_still : {F : Type 0} (of_wire : F → Past → Past → Type 0) (own : F → Cause) (h k : Holding) (test : Event → Bool) (reported : List Event) (out given taken delta : List ℕ) (f0 f1 : Option F) (rests : Type 0) (waits : Past → ℕ) (before after_ : Past → Type 0) (passed : Passed)
-    → Part of_wire own h k test reported out given taken delta f0 f1 rests waits before after_ passed → passed.waiting ≡ true → k ≡ h
-part_still of_wire own h k test reported out given taken delta f0 f1 rests waits before after_ passed p e =
+pub part_still : {F : Type 0} {v : View F} {h k : Holding} {r : Report} {passed : Passed} → Part v h k r passed → passed.waiting ≡ true → k ≡ h
+part_still {F} {v} {h} {k} {r} {passed} p e =
     let i = p.tells.idle e in
-    p.is ∙ ap (λ (f : Option Cause). moved_all h (stepped f reported) out) i.2 ∙ ap (λ (es : List Event). moved_all h es out) i.1
+    p.is ∙ ap (λ (f : Option Cause). moved_all h (stepped f r.events) r.out) i.2 ∙ ap (λ (es : List Event). moved_all h es r.out) i.1
 
-pub send_waits : {L : Type 0} (line : Option L) (l : L) (past : L → Past → Type 0) (own : ClientFault → Cause) (h k : Holding) (test : Event → Bool) (reported : List Event) (out given taken delta : List ℕ) (f0 f1 : Option ClientFault) (rests : Type 0) (after_ : Past → Type 0) (passed : Passed)
-    → line ≡ Some l → Part OfClientWire own h k test reported out given taken delta f0 f1 rests (λ q. q.write_waits) (past l) after_ passed → passed.waiting ≡ true
-    → WaitedBeside rests (λ q. q.write_waits) (λ q. q.read_waits) (λ p. MatchOption line ⊥ (λ z. past z p)) after_
-send_waits {L} line l past own h k test reported out given taken delta f0 f1 rests after_ passed same part e =
-    subst (λ (z : Option L). WaitedBeside rests (λ q. q.write_waits) (λ q. q.read_waits) (λ p. MatchOption z ⊥ (λ y. past y p)) after_) (sym same)
-    (λ p b. let w = part.wire p b in (w.0, w.1, w.2.read_waits, w.3.waiting e))
+-- where a pass waits, the other answers of its wire that say so haven't become fewer
+pub writes_beside : {F : Type 0} {v : View F} {h k : Holding} {r : Report} {passed : Passed} → Part v h k r passed → passed.waiting ≡ true → WaitedBeside v.rests v.waits (λ q. q.read_waits) v.before v.after
+writes_beside part e = λ p b. let w = part.wire p b in (w.0, w.1, w.2.read_waits, w.3.waiting e)
 
-pub hear_waits : {L : Type 0} (line : Option L) (l : L) (past : L → Past → Type 0) (own : ClientFault → Cause) (h k : Holding) (test : Event → Bool) (reported : List Event) (out given taken delta : List ℕ) (f0 f1 : Option ClientFault) (rests : Type 0) (after_ : Past → Type 0) (passed : Passed)
-    → line ≡ Some l → Part OfClientWire own h k test reported out given taken delta f0 f1 rests (λ q. q.read_waits) (past l) after_ passed → passed.waiting ≡ true
-    → WaitedBeside rests (λ q. q.read_waits) (λ q. q.write_waits) (λ p. MatchOption line ⊥ (λ z. past z p)) after_
-hear_waits {L} line l past own h k test reported out given taken delta f0 f1 rests after_ passed same part e =
-    subst (λ (z : Option L). WaitedBeside rests (λ q. q.read_waits) (λ q. q.write_waits) (λ p. MatchOption z ⊥ (λ y. past y p)) after_) (sym same)
-    (λ p b. let w = part.wire p b in (w.0, w.1, w.2.write_waits, w.3.waiting e))
+pub reads_beside : {F : Type 0} {v : View F} {h k : Holding} {r : Report} {passed : Passed} → Part v h k r passed → passed.waiting ≡ true → WaitedBeside v.rests v.waits (λ q. q.write_waits) v.before v.after
+reads_beside part e = λ p b. let w = part.wire p b in (w.0, w.1, w.2.write_waits, w.3.waiting e)
+
+pub line_waits : {L : Type 0} (line : Option L) (l : L) (past : L → Past → Type 0) (rests : Type 0) (waits others : Past → ℕ) (after_ : Past → Type 0)
+    → line ≡ Some l → WaitedBeside rests waits others (past l) after_ → WaitedBeside rests waits others (λ p. MatchOption line ⊥ (λ z. past z p)) after_
+line_waits {L} line l past rests waits others after_ same w = subst (λ (z : Option L). WaitedBeside rests waits others (λ p. MatchOption z ⊥ (λ y. past y p)) after_) (sym same) w
 
 -- a pass that failed did so by one step
-pub part_fails : {F : Type 0} (of_wire : F → Past → Past → Type 0) (own : F → Cause) (h k : Holding) (test : Event → Bool) (reported : List Event) (out given taken delta : List ℕ) (f0 f1 : Option F) (rests : Type 0) (waits : Past → ℕ) (before after_ : Past → Type 0) (passed : Passed)
-    → Part of_wire own h k test reported out given taken delta f0 f1 rests waits before after_ passed → (cause : Cause) → passed.failed ≡ Some cause → k ≡ moved h (Fail cause) []
-part_fails of_wire own h k test reported out given taken delta f0 f1 rests waits before after_ passed p cause e =
-    p.is ∙ ap (λ (f : Option Cause). moved_all h (stepped f reported) out) e
+pub part_fails : {F : Type 0} {v : View F} {h k : Holding} {r : Report} {passed : Passed} → Part v h k r passed → (cause : Cause) → passed.failed ≡ Some cause → k ≡ moved h (Fail cause) []
+part_fails {F} {v} {h} {k} {r} {passed} p cause e = p.is ∙ ap (λ (f : Option Cause). moved_all h (stepped f r.events) r.out) e
 
-pub line_blamed : {L : Type 0} (line : Option L) (l : L) (fault : L → Option ClientFault) (past : L → Past → Type 0) (own : ClientFault → Cause) (h k : Holding) (test : Event → Bool) (reported : List Event) (out given taken delta : List ℕ) (f1 : Option ClientFault) (rests : Type 0) (waits : Past → ℕ) (after_ : Past → Type 0) (passed : Passed)
-    → line ≡ Some l → Part OfClientWire own h k test reported out given taken delta (fault l) f1 rests waits (past l) after_ passed → (cause : Cause) → passed.failed ≡ Some cause
-    → Blamed OfClientWire own cause (fault_of fault line) f1 (λ p. MatchOption line ⊥ (λ z. past z p)) after_
-line_blamed {L} line l fault past own h k test reported out given taken delta f1 rests waits after_ passed same part cause e =
-    subst (λ (z : Option L). Blamed OfClientWire own cause (fault_of fault z) f1 (λ p. MatchOption z ⊥ (λ y. past y p)) after_) (sym same)
-    (part_blames OfClientWire own h k test reported out given taken delta (fault l) f1 rests waits (past l) after_ passed part cause e)
+pub line_blamed : {L : Type 0} (line : Option L) (l : L) (fault : L → Option ClientFault) (past : L → Past → Type 0) (own : ClientFault → Cause) (cause : Cause) (f1 : Option ClientFault) (after_ : Past → Type 0)
+    → line ≡ Some l → Blamed OfClientWire own cause (fault l) f1 (past l) after_ → Blamed OfClientWire own cause (fault_of fault line) f1 (λ p. MatchOption line ⊥ (λ z. past z p)) after_
+line_blamed {L} line l fault past own cause f1 after_ same w =
+    subst (λ (z : Option L). Blamed OfClientWire own cause (fault_of fault z) f1 (λ p. MatchOption z ⊥ (λ y. past y p)) after_) (sym same) w
 
 -- behind a pass that left no new fault
 pub blamed_then : (own : ClientFault → Cause) (cause : Cause) (f0 f1 f2 : Option ClientFault) (before mid after_ : Past → Type 0) (given taken : List ℕ) → (f0 ≡ None → f1 ≡ None)

@@ -17,7 +17,7 @@ use Rattle.adapt_hold.proofs.Closes.{then_shows}
 use Rattle.adapt_turn.specs.declared.parts.Passed.{Passed}
 use Rattle.adapt_turn.specs.declared.turned.Side.{Side}
 use Rattle.adapt_turn.specs.declared.turned.Side.TheVariants.{Source, Service, NextHop}
-use Rattle.adapt_turn.specs.Parts.{Part, stepped}
+use Rattle.adapt_turn.specs.Parts.{View, Report, Part, stepped}
 use Rattle.adapt_turn.specs.Rows.{is_fail, may_step, TookAll, TookBy, Advances, BytesOr}
 use Rattle.adapt_turn.proofs.Carry.{all_then}
 
@@ -89,13 +89,13 @@ of_replies event e = or_right (is_fail event) (is_of_sending event || is_of_repl
 pub of_hop : (event : Event) → is_of_hop event ≡ true → may_step NextHop event ≡ true
 of_hop event e = or_right (is_fail event) (is_of_hop event) e
 
-pub part_took : {F : Type 0} (side : Side) (of_wire : F → Past → Past → Type 0) (own : F → Cause) (h k : Holding) (test : Event → Bool) (reported : List Event) (out given taken delta : List ℕ) (f0 f1 : Option F) (rests : Type 0) (waits : Past → ℕ) (before after_ : Past → Type 0) (passed : Passed)
-    → ((event : Event) → test event ≡ true → may_step side event ≡ true) → IsTied h
-    → Part of_wire own h k test reported out given taken delta f0 f1 rests waits before after_ passed → TookBy (may_step side) h k
-part_took {F} side of_wire own h k test reported out given taken delta f0 f1 rests waits before after_ passed i t p = (
-  stepped passed.failed reported,
-  all_then test (may_step side) i (λ cause. refl) passed.failed reported p.only,
-  subst (λ (y : Holding). TookAll h (stepped passed.failed reported) y) (sym p.is) (took_all h (stepped passed.failed reported) out t p.runs),
+pub part_took : {F : Type 0} (side : Side) {v : View F} {h k : Holding} {r : Report} {passed : Passed}
+    → ((event : Event) → v.events event ≡ true → may_step side event ≡ true) → IsTied h
+    → Part v h k r passed → TookBy (may_step side) h k
+part_took {F} side {v} {h} {k} {r} {passed} i t p = (
+  stepped passed.failed r.events,
+  all_then v.events (may_step side) i (λ cause. refl) passed.failed r.events p.only,
+  subst (λ (y : Holding). TookAll h (stepped passed.failed r.events) y) (sym p.is) (took_all h (stepped passed.failed r.events) r.out t p.runs),
 )
 
 none_stepped : (failed : Option Cause) (reported : List Event) → stepped failed reported ≡ [] → (failed ≡ None) × (reported ≡ [])
@@ -112,22 +112,22 @@ grown p q given taken l = record {
   out = ap (λ (bs : List ℕ). length bs) l.out ∙ length-append p.taken taken;
 }
 
-pub part_acts : {F : Type 0} (side : Side) (of_wire : F → Past → Past → Type 0) (own : F → Cause) (h k : Holding) (test : Event → Bool) (reported : List Event) (out given taken delta : List ℕ) (f0 f1 : Option F) (rests : Type 0) (waits : Past → ℕ) (before after_ : Past → Type 0) (passed : Passed)
-    → ((event : Event) → test event ≡ true → may_step side event ≡ true) → length delta ≡ length given + length taken → IsTied h
-    → Part of_wire own h k test reported out given taken delta f0 f1 rests waits before after_ passed
-    → passed.waiting ≡ false → passed.broken ≡ false → BytesOr (Advances (may_step side) h k) before after_
-part_acts {F} side of_wire own h k test reported out given taken delta f0 f1 rests waits before after_ passed i n t p w b = λ past here.
+pub part_acts : {F : Type 0} (side : Side) {v : View F} {h k : Holding} {r : Report} {passed : Passed}
+    → ((event : Event) → v.events event ≡ true → may_step side event ≡ true) → IsTied h
+    → Part v h k r passed
+    → passed.waiting ≡ false → passed.broken ≡ false → BytesOr (Advances (may_step side) h k) v.before v.after
+part_acts {F} side {v} {h} {k} {r} {passed} i t p w b = λ past here.
     let u = p.wire past here in
-    let g = grown past u.0 given taken u.2 in
+    let g = grown past u.0 r.given r.taken u.2 in
     let gr = g.read in
     let go = g.out in (
       u.0,
       u.1,
       omega (arith, gr),
       omega (arith, go),
-      λ z. some_stepped (may_step side) h k (stepped passed.failed reported) (all_then test (may_step side) i (λ cause. refl) passed.failed reported p.only)
-          (subst (λ (y : Holding). TookAll h (stepped passed.failed reported) y) (sym p.is) (took_all h (stepped passed.failed reported) out t p.runs)) (λ e.
-          let v = none_stepped passed.failed reported e in p.tells.active w b (no_bytes delta (omega (arith, gr, go, n, z))) v.1 v.0),
+      λ z. some_stepped (may_step side) h k (stepped passed.failed r.events) (all_then v.events (may_step side) i (λ cause. refl) passed.failed r.events p.only)
+          (subst (λ (y : Holding). TookAll h (stepped passed.failed r.events) y) (sym p.is) (took_all h (stepped passed.failed r.events) r.out t p.runs)) (λ e.
+          let none = none_stepped passed.failed r.events e in p.tells.active w b (no_bytes r.given (omega (arith, gr, go, z)), no_bytes r.taken (omega (arith, gr, go, z))) none.1 none.0),
     )
 
 -- a wire that wasn't touched

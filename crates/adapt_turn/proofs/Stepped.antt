@@ -1,39 +1,38 @@
 -- What stands after a pass.
-use Rattle.std.proofs.Common.{◌≡◌, ℕ, Bool, true, false, List, [], Option, Some, None, refl, ◌∙◌, ap}
+use Rattle.std.proofs.Common.{◌≡◌, true, false, List, [], Option, Some, None, refl, ◌∙◌, ap}
 use Rattle.trace_core.specs.declared.history.Seen.{Seen}
 use Rattle.trace_core.specs.declared.history.Event.{Event}
 use Rattle.trace_core.specs.declared.history.Event.TheVariants.{Fail}
 use Rattle.trace_core.specs.declared.history.Cause.{Cause}
 use Rattle.trace_core.specs.Turns.{after_all}
-use Rattle.wire_kit.specs.Past.{Past}
 use Rattle.adapt_hold.specs.Holding.{Holding, IsTied, shows, history_then, moved}
 use Rattle.adapt_hold.proofs.Row.{Ran, ran}
 use Rattle.adapt_hold.proofs.Closes.{then_shows}
 use Rattle.adapt_turn.specs.declared.parts.Passed.{Passed}
-use Rattle.adapt_turn.specs.Parts.{Part, stepped}
+use Rattle.adapt_turn.specs.Parts.{View, Report, Part, stepped}
 
-pub part_ran : {F : Type 0} (of_wire : F → Past → Past → Type 0) (own : F → Cause) (h k : Holding) (test : Event → Bool) (reported : List Event) (out given taken delta : List ℕ) (f0 f1 : Option F) (rests : Type 0) (waits : Past → ℕ) (before after_ : Past → Type 0) (passed : Passed)
-    → IsTied h → Part of_wire own h k test reported out given taken delta f0 f1 rests waits before after_ passed
-    → Ran h (stepped passed.failed reported) out
-part_ran {F} of_wire own h k test reported out given taken delta f0 f1 rests waits before after_ passed t p = ran h (stepped passed.failed reported) out t p.runs.roomy p.runs.may p.runs.carried p.runs.room
+pub part_ran : {F : Type 0} {v : View F} {h k : Holding} {r : Report} {passed : Passed}
+    → IsTied h → Part v h k r passed
+    → Ran h (stepped passed.failed r.events) r.out
+part_ran {F} {v} {h} {k} {r} {passed} t p = ran h (stepped passed.failed r.events) r.out t p.runs.roomy p.runs.may p.runs.carried p.runs.room
 
 -- what is seen then
-pub part_shows : {F : Type 0} (of_wire : F → Past → Past → Type 0) (own : F → Cause) (h k : Holding) (test : Event → Bool) (reported : List Event) (out given taken delta : List ℕ) (f0 f1 : Option F) (rests : Type 0) (waits : Past → ℕ) (before after_ : Past → Type 0) (passed : Passed)
-    → IsTied h → Part of_wire own h k test reported out given taken delta f0 f1 rests waits before after_ passed
-    → shows k.history ≡ after_all (shows h.history) (stepped passed.failed reported)
-part_shows {F} of_wire own h k test reported out given taken delta f0 f1 rests waits before after_ passed t p =
-    ap (λ (y : Holding). shows y.history) p.is ∙ (part_ran of_wire own h k test reported out given taken delta f0 f1 rests waits before after_ passed t p).seen
+pub part_shows : {F : Type 0} {v : View F} {h k : Holding} {r : Report} {passed : Passed}
+    → IsTied h → Part v h k r passed
+    → shows k.history ≡ after_all (shows h.history) (stepped passed.failed r.events)
+part_shows {F} {v} {h} {k} {r} {passed} t p =
+    ap (λ (y : Holding). shows y.history) p.is ∙ (part_ran t p).seen
 
 over_by : (failed : Option Cause) (x y : Seen) (reported : List Event) (cause : Cause) → failed ≡ Some cause → y ≡ after_all x (stepped failed reported) → y.closed ≡ true
 over_by None x y reported cause e s = absurd cc
 over_by (Some c) x y reported cause e s = ap (λ (z : Seen). z.closed) s
 
 -- a pass that failed closed the history
-pub part_over : {F : Type 0} (of_wire : F → Past → Past → Type 0) (own : F → Cause) (h k : Holding) (test : Event → Bool) (reported : List Event) (out given taken delta : List ℕ) (f0 f1 : Option F) (rests : Type 0) (waits : Past → ℕ) (before after_ : Past → Type 0) (passed : Passed)
-    → IsTied h → Part of_wire own h k test reported out given taken delta f0 f1 rests waits before after_ passed
+pub part_over : {F : Type 0} {v : View F} {h k : Holding} {r : Report} {passed : Passed}
+    → IsTied h → Part v h k r passed
     → (cause : Cause) → passed.failed ≡ Some cause → (shows k.history).closed ≡ true
-part_over {F} of_wire own h k test reported out given taken delta f0 f1 rests waits before after_ passed t p cause e =
-    over_by passed.failed (shows h.history) (shows k.history) reported cause e (part_shows of_wire own h k test reported out given taken delta f0 f1 rests waits before after_ passed t p)
+part_over {F} {v} {h} {k} {r} {passed} t p cause e =
+    over_by passed.failed (shows h.history) (shows k.history) r.events cause e (part_shows t p)
 
 -- Fail closes; Retry doesn't.
 

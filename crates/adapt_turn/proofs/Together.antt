@@ -13,8 +13,9 @@ use Rattle.trace_core.specs.Legal.{Allows, IsLegal, MayFollow}
 use Rattle.trace_core.specs.View.{after}
 use Rattle.trace_core.specs.Turns.{is_of_source, is_of_replies, is_of_sending, is_of_hop}
 use Rattle.wire_kit.specs.Past.{Past, IsLater}
-use Rattle.adapt_sides.specs.declared.fault.ClientFault.{ClientFault}
-use Rattle.adapt_sides.specs.declared.fault.RelayFault.{RelayFault}
+use Rattle.wire_kit.specs.declared.wire.Wire.{Ghosts as Wire}
+use Rattle.adapt_sides.specs.declared.source.Source.{Ghosts as Source}
+use Rattle.adapt_sides.specs.declared.service.Service.{Ghosts as Service}
 use Rattle.adapt_sides.specs.Tapes.{chosen}
 use Rattle.adapt_sides.specs.Turns.{Gift, Given, given_then}
 use Rattle.adapt_sides.specs.Turns.Gift.{nothing, message}
@@ -22,13 +23,13 @@ use Rattle.adapt_hold.specs.Spans.{Span, EndsBody}
 use Rattle.adapt_hold.specs.Holding.{Holding, IsTied, IsRoomy, shows, moved}
 use Rattle.adapt_turn.specs.declared.parts.Passed.{Passed}
 use Rattle.adapt_turn.specs.declared.start.Line.{Line}
-use Rattle.adapt_turn.specs.Parts.{SourcePart, SendPart, HearPart}
+use Rattle.adapt_turn.specs.Parts.{Lent, SourcePart, SendPart, HearPart}
 use Rattle.adapt_turn.specs.Stands.{Texts, joined, no_texts, Stands, Goes, HopsAre, IsRefusing, IsDelivered, IsDone}
 use Rattle.adapt_sides.specs.Tapes.{IsUndelivered}
-use Rattle.adapt_turn.specs.Made.{OfHead}
+use Rattle.adapt_turn.specs.Made.{OfHead, on_held}
 use Rattle.adapt_turn.proofs.Carry.{off_sending, off_replies, not_true, both_not}
 use Rattle.adapt_turn.proofs.Passes.{fail_runs}
-use Rattle.adapt_turn.proofs.Advance.{Others, source_stands, send_stands, hear_stands, fail_stands, retry_stands}
+use Rattle.adapt_turn.proofs.Advance.{Others, sent_by, heard_by, source_stands, send_stands, hear_stands, fail_stands, retry_stands}
 use Rattle.adapt_turn.proofs.Hops.{other_idle, hops_others}
 use Rattle.adapt_turn.proofs.Made.{KeepsMade}
 
@@ -207,14 +208,16 @@ pub reopen : (h : Holding) (agrees : Seen → Type 0) (read : Seen → List ℕ 
 reopen h agrees read sent heard hopso hops refuses done delivered request t c f s =
     rehop h agrees read sent heard hopso hops refuses refuses done delivered request t t.next_taken t.back_taken (λ body p. f body t.next_taken t.back_taken p) (λ r. r) (λ w body p. absurd (false≢true (sym c ∙ w.0))) s
 
-pub source_goes : (h k : Holding) (ao an : Seen → Type 0) (ro rn : Seen → List ℕ → Given → Type 0) (sent : List ℕ → Seen → List ℕ → List ℕ → Type 0) (heard : Seen → List ℕ → List ℕ → Type 0) (hopso hops : Seen → List ℕ → List ℕ → List ℕ → Type 0) (refuses : Seen → Type 0) (done delivered : List ℕ → List ℕ → List ℕ → Type 0)
-    (f0 f1 : Option RelayFault) (rests framed over : Type 0) (before after_ service next : Past → Type 0) (passed : Passed)
-    → ((body next back : List ℕ) → hopso (shows h.history) body next back → hops (shows h.history) body next back) → Others an rn sent heard hops refuses → IsTied h → (shows h.history).closed ≡ false → SourcePart h k ro rn an f0 f1 rests framed over before after_ passed
-    → Goes (Stands h ao ro sent heard hopso refuses done) (Stands k an rn sent heard hops refuses delivered) before after_ service service next next
-source_goes h k ao an ro rn sent heard hopso hops refuses done delivered f0 f1 rests framed over before after_ service next passed conv u tied c d = record {
+pub source_goes : {S H W : Type 0} (s : Source S H) (w : Wire W) (old new : Lent S W) (sent : List ℕ → Seen → List ℕ → List ℕ → Type 0) (heard : Seen → List ℕ → List ℕ → Type 0) (hopso hops : Seen → List ℕ → List ℕ → List ℕ → Type 0) (refuses : Seen → Type 0) (done delivered : List ℕ → List ℕ → List ℕ → Type 0)
+    (service next : Past → Type 0) (passed : Passed)
+    → ((body next back : List ℕ) → hopso (shows old.hold.history) body next back → hops (shows old.hold.history) body next back) → Others (λ x. s.agrees x new.side) (λ x body read. s.has_read x body read new.side) sent heard hops refuses
+    → IsTied old.hold → (shows old.hold.history).closed ≡ false → SourcePart s w old new passed
+    → Goes (Stands old.hold (λ x. s.agrees x old.side) (λ x body read. s.has_read x body read old.side) sent heard hopso refuses done)
+    (Stands new.hold (λ x. s.agrees x new.side) (λ x body read. s.has_read x body read new.side) sent heard hops refuses delivered) (w.past old.wire) (w.past new.wire) service service next next
+source_goes s w old new sent heard hopso hops refuses done delivered service next passed conv u tied c d = record {
   delta = record { source_read = d.delta; service_read = []; service_taken = []; next_taken = []; back_taken = [] };
-  stands = λ request t o. of_five (Stands k an rn sent heard hops refuses delivered request) _ _ _ _ _ _ _ _ _ _ refl (sym (append-nil t.service_read)) (sym (append-nil t.service_taken)) (sym (append-nil t.next_taken)) (sym (append-nil t.back_taken))
-      (source_stands h k ao an ro rn sent heard hops refuses delivered f0 f1 rests framed over before after_ passed request t u tied c d (reopen h ao ro sent heard hopso hops refuses done delivered request t c conv o));
+  stands = λ request t o. of_five (Stands new.hold (λ x. s.agrees x new.side) (λ x body read. s.has_read x body read new.side) sent heard hops refuses delivered request) _ _ _ _ _ _ _ _ _ _ refl (sym (append-nil t.service_read)) (sym (append-nil t.service_taken)) (sym (append-nil t.next_taken)) (sym (append-nil t.back_taken))
+      (source_stands s w old new sent heard hops refuses delivered passed request t u tied c d (reopen old.hold _ _ sent heard hopso hops refuses done delivered request t c conv o));
   source = d.wire;
   service = λ p b. still service p b;
   next = λ p b. still next p b;
@@ -237,44 +240,49 @@ disagree_goes h history agrees read sent heard hops refuses delivered new source
 
 -- the service's line, where there is one
 
-abbrev pub on_line : {L : Type 0} → (L → List ℕ → Seen → List ℕ → List ℕ → Type 0) → Option L → List ℕ → Seen → List ℕ → List ℕ → Type 0
-on_line said line heads x came taken = MatchOption line (taken ≡ []) (λ l. said l heads x came taken)
+abbrev pub held : {V W : Type 0} → Lent V W → Line V W
+held lent = record { side = lent.side; wire = Some lent.wire }
 
-abbrev pub heard_on_line : {L : Type 0} → (L → Seen → List ℕ → List ℕ → Type 0) → Option L → Seen → List ℕ → List ℕ → Type 0
-heard_on_line said line x adapted text = MatchOption line ((adapted ≡ []) × (text ≡ [])) (λ l. said l x adapted text)
+abbrev pub sent_on : {V W : Type 0} → Service V → Option (Line V W) → List ℕ → Seen → List ℕ → List ℕ → Type 0
+sent_on v line heads x came taken = MatchOption line (taken ≡ []) (λ l. v.has_sent heads x came taken l.side)
 
-abbrev pub past_on : {L : Type 0} → (L → Past → Type 0) → Option L → Past → Type 0
-past_on past line p = MatchOption line ⊥ (λ l. past l p)
+abbrev pub heard_on : {V W : Type 0} → Service V → Option (Line V W) → Seen → List ℕ → List ℕ → Type 0
+heard_on v line x adapted text = MatchOption line ((adapted ≡ []) × (text ≡ [])) (λ l. v.has_heard x adapted text l.side)
 
-pub send_goes : {L : Type 0} (line : Option L) (l m : L) (h k : Holding) (agrees : Seen → Type 0) (read : Seen → List ℕ → Given → Type 0) (said : L → List ℕ → Seen → List ℕ → List ℕ → Type 0) (heard : L → Seen → List ℕ → List ℕ → Type 0) (past : L → Past → Type 0)
-    (hopso hops : Seen → List ℕ → List ℕ → List ℕ → Type 0) (refuses : Seen → Type 0) (done delivered : List ℕ → List ℕ → List ℕ → Type 0) (f0 f1 : Option ClientFault) (rests : Type 0) (source next : Past → Type 0) (passed : Passed)
-    → line ≡ Some l → ((body next back : List ℕ) → hopso (shows h.history) body next back → hops (shows h.history) body next back) → Others agrees read (said m) (heard m) hops refuses → ((x : Seen) (adapted text : List ℕ) → heard l x adapted text → heard m x adapted text) → IsTied h
-    → (shows h.history).closed ≡ false → SendPart h k (said l) (said m) f0 f1 rests (past l) (past m) passed
-    → Goes (Stands h agrees read (on_line said line) (heard_on_line heard line) hopso refuses done) (Stands k agrees read (on_line said (Some m)) (heard_on_line heard (Some m)) hops refuses delivered)
-    source source (past_on past line) (past_on past (Some m)) next next
-send_goes {L} line l m h k agrees read said heard past hopso hops refuses done delivered f0 f1 rests source next passed e conv u same tied c d =
-    subst (λ (z : Option L). Goes (Stands h agrees read (on_line said z) (heard_on_line heard z) hopso refuses done) (Stands k agrees read (said m) (heard m) hops refuses delivered) source source (past_on past z) (past m) next next) (sym e)
+abbrev pub past_on : {V W : Type 0} → Wire W → Option (Line V W) → Past → Type 0
+past_on w line p = on_held line ⊥ (λ wire. w.past wire p)
+
+pub send_goes : {V W : Type 0} (v : Service V) (w : Wire W) (line : Option (Line V W)) (old new : Lent V W) (agrees : Seen → Type 0) (read : Seen → List ℕ → Given → Type 0)
+    (hopso hops : Seen → List ℕ → List ℕ → List ℕ → Type 0) (refuses : Seen → Type 0) (done delivered : List ℕ → List ℕ → List ℕ → Type 0) (source next : Past → Type 0) (passed : Passed)
+    → line ≡ Some (held old) → ((body next back : List ℕ) → hopso (shows old.hold.history) body next back → hops (shows old.hold.history) body next back)
+    → Others agrees read (sent_by v new.side) (heard_by v new.side) hops refuses → ((x : Seen) (adapted text : List ℕ) → v.has_heard x adapted text old.side → v.has_heard x adapted text new.side) → IsTied old.hold
+    → (shows old.hold.history).closed ≡ false → SendPart v w old new passed
+    → Goes (Stands old.hold agrees read (sent_on v line) (heard_on v line) hopso refuses done) (Stands new.hold agrees read (sent_by v new.side) (heard_by v new.side) hops refuses delivered)
+    source source (past_on w line) (w.past new.wire) next next
+send_goes {V} {W} v w line old new agrees read hopso hops refuses done delivered source next passed e conv u same tied c d =
+    subst (λ (z : Option (Line V W)). Goes (Stands old.hold agrees read (sent_on v z) (heard_on v z) hopso refuses done) (Stands new.hold agrees read (sent_by v new.side) (heard_by v new.side) hops refuses delivered) source source (past_on w z) (w.past new.wire) next next) (sym e)
     (record {
       delta = record { source_read = no_given; service_read = []; service_taken = d.delta; next_taken = []; back_taken = [] };
-      stands = λ request t o. of_five (Stands k agrees read (said m) (heard m) hops refuses delivered request) _ _ _ _ _ _ _ _ _ _ (given_still t.source_read) (sym (append-nil t.service_read)) refl (sym (append-nil t.next_taken)) (sym (append-nil t.back_taken))
-          (send_stands h k agrees read (said l) (said m) (heard l) (heard m) hops refuses delivered f0 f1 rests (past l) (past m) passed request t u same tied c d (reopen h agrees read (said l) (heard l) hopso hops refuses done delivered request t c conv o));
+      stands = λ request t o. of_five (Stands new.hold agrees read (sent_by v new.side) (heard_by v new.side) hops refuses delivered request) _ _ _ _ _ _ _ _ _ _ (given_still t.source_read) (sym (append-nil t.service_read)) refl (sym (append-nil t.next_taken)) (sym (append-nil t.back_taken))
+          (send_stands v w old new agrees read hops refuses delivered passed request t u same tied c d (reopen old.hold agrees read (sent_by v old.side) (heard_by v old.side) hopso hops refuses done delivered request t c conv o));
       source = λ p b. still_source source p b;
       service = λ p b. let w = d.part.wire p b in (w.0, w.1, w.2);
       next = λ p b. still next p b;
     })
 
-pub hear_goes : {L : Type 0} (line : Option L) (l m : L) (h k : Holding) (agrees : Seen → Type 0) (read : Seen → List ℕ → Given → Type 0) (said : L → List ℕ → Seen → List ℕ → List ℕ → Type 0) (heard : L → Seen → List ℕ → List ℕ → Type 0) (past : L → Past → Type 0)
-    (hopso hops : Seen → List ℕ → List ℕ → List ℕ → Type 0) (refuses : Seen → Type 0) (done delivered : List ℕ → List ℕ → List ℕ → Type 0) (f0 f1 : Option ClientFault) (rests framed : Type 0) (source next : Past → Type 0) (passed : Passed)
-    → line ≡ Some l → ((body next back : List ℕ) → hopso (shows h.history) body next back → hops (shows h.history) body next back) → Others agrees read (said m) (heard m) hops refuses → ((heads came text : List ℕ) → said l heads (shows h.history) came text → said m heads (shows h.history) came text) → IsTied h
-    → (shows h.history).closed ≡ false → HearPart h k (heard l) (heard m) f0 f1 rests framed (past l) (past m) passed
-    → Goes (Stands h agrees read (on_line said line) (heard_on_line heard line) hopso refuses done) (Stands k agrees read (on_line said (Some m)) (heard_on_line heard (Some m)) hops refuses delivered)
-    source source (past_on past line) (past_on past (Some m)) next next
-hear_goes {L} line l m h k agrees read said heard past hopso hops refuses done delivered f0 f1 rests framed source next passed e conv u same tied c d =
-    subst (λ (z : Option L). Goes (Stands h agrees read (on_line said z) (heard_on_line heard z) hopso refuses done) (Stands k agrees read (said m) (heard m) hops refuses delivered) source source (past_on past z) (past m) next next) (sym e)
+pub hear_goes : {V W : Type 0} (v : Service V) (w : Wire W) (line : Option (Line V W)) (old new : Lent V W) (agrees : Seen → Type 0) (read : Seen → List ℕ → Given → Type 0)
+    (hopso hops : Seen → List ℕ → List ℕ → List ℕ → Type 0) (refuses : Seen → Type 0) (done delivered : List ℕ → List ℕ → List ℕ → Type 0) (source next : Past → Type 0) (passed : Passed)
+    → line ≡ Some (held old) → ((body next back : List ℕ) → hopso (shows old.hold.history) body next back → hops (shows old.hold.history) body next back)
+    → Others agrees read (sent_by v new.side) (heard_by v new.side) hops refuses → ((heads came text : List ℕ) → v.has_sent heads (shows old.hold.history) came text old.side → v.has_sent heads (shows old.hold.history) came text new.side) → IsTied old.hold
+    → (shows old.hold.history).closed ≡ false → HearPart v w old new passed
+    → Goes (Stands old.hold agrees read (sent_on v line) (heard_on v line) hopso refuses done) (Stands new.hold agrees read (sent_by v new.side) (heard_by v new.side) hops refuses delivered)
+    source source (past_on w line) (w.past new.wire) next next
+hear_goes {V} {W} v w line old new agrees read hopso hops refuses done delivered source next passed e conv u same tied c d =
+    subst (λ (z : Option (Line V W)). Goes (Stands old.hold agrees read (sent_on v z) (heard_on v z) hopso refuses done) (Stands new.hold agrees read (sent_by v new.side) (heard_by v new.side) hops refuses delivered) source source (past_on w z) (w.past new.wire) next next) (sym e)
     (record {
       delta = record { source_read = no_given; service_read = d.delta; service_taken = []; next_taken = []; back_taken = [] };
-      stands = λ request t o. of_five (Stands k agrees read (said m) (heard m) hops refuses delivered request) _ _ _ _ _ _ _ _ _ _ (given_still t.source_read) refl (sym (append-nil t.service_taken)) (sym (append-nil t.next_taken)) (sym (append-nil t.back_taken))
-          (hear_stands h k agrees read (said l) (said m) (heard l) (heard m) hops refuses delivered f0 f1 rests framed (past l) (past m) passed request t u same tied c d (reopen h agrees read (said l) (heard l) hopso hops refuses done delivered request t c conv o));
+      stands = λ request t o. of_five (Stands new.hold agrees read (sent_by v new.side) (heard_by v new.side) hops refuses delivered request) _ _ _ _ _ _ _ _ _ _ (given_still t.source_read) refl (sym (append-nil t.service_taken)) (sym (append-nil t.next_taken)) (sym (append-nil t.back_taken))
+          (hear_stands v w old new agrees read hops refuses delivered passed request t u same tied c d (reopen old.hold agrees read (sent_by v old.side) (heard_by v old.side) hopso hops refuses done delivered request t c conv o));
       source = λ p b. still_source source p b;
       service = λ p b. let w = d.part.wire p b in (w.0, w.1, w.2);
       next = λ p b. still next p b;

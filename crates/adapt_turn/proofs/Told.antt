@@ -11,14 +11,13 @@ use Rattle.trace_core.specs.History.{History, seen, is_close}
 use Rattle.trace_core.specs.Norm.{norm}
 use Rattle.trace_core.specs.View.{after}
 use Rattle.trace_core.specs.Turns.{after_all, MayAllFollow, AllAre}
-use Rattle.wire_kit.specs.Past.{Past}
 use Rattle.adapt_hold.specs.Holding.{Holding, IsTied, shows, history_then, moved}
 use Rattle.adapt_hold.specs.Steps.{history_all, moved_all}
 use Rattle.adapt_hold.proofs.Row.{Ran}
 use Rattle.adapt_turn.specs.declared.parts.Passed.{Passed}
 use Rattle.adapt_turn.specs.declared.turned.Outcome.{Outcome}
 use Rattle.adapt_turn.specs.declared.turned.Outcome.TheVariants as outcomes
-use Rattle.adapt_turn.specs.Parts.{Part, stepped, outcome_by, outcome_of}
+use Rattle.adapt_turn.specs.Parts.{View, Report, Part, stepped, outcome_by, outcome_of}
 use Rattle.adapt_turn.specs.Stands.{IsDone}
 use Rattle.adapt_turn.proofs.Stepped.{part_ran}
 use Rattle.adapt_turn.proofs.Carry.{off_hop}
@@ -89,12 +88,12 @@ told_run test none h bytes None reported c m r o = by_close (after_all (shows h.
         let w = closed_by h.history (shows h.history) reported c m e in
         sym (ap outcome_of (ap (λ (y : History). y.events) r.history ∙ w.is) ∙ done_close test none w.event w.before w.close (w.of test o))
 
-pub part_told : {F : Type 0} (of_wire : F → Past → Past → Type 0) (own : F → Cause) (h k : Holding) (test : Event → Bool) (reported : List Event) (out given taken delta : List ℕ) (f0 f1 : Option F) (rests : Type 0) (waits : Past → ℕ) (before after_ : Past → Type 0) (passed : Passed)
-    → ((cause : Cause) → test (Fail cause) ≡ false) → IsTied h → (shows h.history).closed ≡ false
-    → Part of_wire own h k test reported out given taken delta f0 f1 rests waits before after_ passed
+pub part_told : {F : Type 0} {v : View F} {h k : Holding} {r : Report} {passed : Passed}
+    → ((cause : Cause) → v.events (Fail cause) ≡ false) → IsTied h → (shows h.history).closed ≡ false
+    → Part v h k r passed
     → outcome_by passed.failed ≡ outcome_of k.history.events
-part_told {F} of_wire own h k test reported out given taken delta f0 f1 rests waits before after_ passed none t c p =
-    told_run test none h out passed.failed reported c p.runs.may (part_ran of_wire own h k test reported out given taken delta f0 f1 rests waits before after_ passed t p) p.only
+part_told {F} {v} {h} {k} {r} {passed} none t c p =
+    told_run v.events none h r.out passed.failed r.events c p.runs.may (part_ran t p) p.only
     ∙ ap (λ (y : Holding). outcome_of y.history.events) (sym p.is)
 
 pub done_reported : (h : Holding) (bytes : List ℕ) (failed : Option Cause) (reported : List Event) → Ran h (stepped failed reported) bytes

@@ -10,6 +10,10 @@ use Rattle.trace_core.specs.Legal.{MayFollow}
 use Rattle.trace_core.specs.Turns.{after_all, AllAre, in_sum, ad_sum, is_of_source, is_of_sending, is_of_replies, is_of_hop}
 use Rattle.plan_rules.specs.Room.{original_room, adapted_room}
 use Rattle.wire_kit.specs.Past.{Past, IsLater}
+use Rattle.wire_kit.specs.declared.wire.Wire.{Ghosts as Wire}
+use Rattle.adapt_sides.specs.declared.source.Source.{Ghosts as Source}
+use Rattle.adapt_sides.specs.declared.service.Service.{Ghosts as Service}
+use Rattle.adapt_sides.specs.declared.hop.Hop.{Ghosts as Hop}
 use Rattle.adapt_sides.specs.declared.fault.ClientFault.{ClientFault}
 use Rattle.adapt_sides.specs.declared.fault.ClientFault.TheVariants as client
 use Rattle.adapt_sides.specs.declared.fault.RelayFault.{RelayFault}
@@ -86,68 +90,168 @@ abbrev pub stepped : Option Cause → List Event → List Event
 stepped None reported = reported
 stepped (Some cause) reported = Fail cause ∷ []
 
--- Why a pass failed or waits, on a wire with the past p before and q after. It failed by the side's fault, and `of_wire` says what a
--- first one shows of the wire.
-pub record Explains {F : Type 0} (of_wire : F → Past → Past → Type 0) (own : F → Cause) (p q : Past) (old_fault new_fault : Option F) (rests : Type 0) (waits : Past → ℕ) (passed : Passed) : Type 0 where
+-- how much room the source's side reads into, and the service's
+abbrev pub source_room : Holding → ℕ
+source_room h = original_room (shows h.history) h.claim h.limits.window
+
+abbrev pub service_room : Holding → ℕ
+service_room h = adapted_room (shows h.history) h.limits.window
+
+-- What a pass is lent, at one moment: what the transaction holds, one side, and the side's wire.
+pub record Lent (S W : Type 0) : Type 0 where
+  pub hold : Holding
+  pub side : S
+  pub wire : W
+
+abbrev pub lending : {S W : Type 0} → Holding → S → W → Lent S W
+lending hold side wire = record { hold = hold; side = side; wire = wire }
+
+-- One side and its wire through a pass, whichever of the three it is.
+pub record View (F : Type 0) : Type 1 where
+  -- the events that are the side's
+  pub events : Event → Bool
+  -- the cause that a fault of it is
+  pub cause : F → Cause
+  -- what a first fault shows of the wire
+  pub of_wire : F → Past → Past → Type 0
+  -- how often the wire answered Wait
+  pub waits : Past → ℕ
+  pub old_fault : Option F
+  pub new_fault : Option F
+  -- nothing is due
+  pub rests : Type 0
+  pub before : Past → Type 0
+  pub after : Past → Type 0
+
+abbrev pub source_view : {S H W : Type 0} → Source S H → Wire W → (old new : Lent S W) → View RelayFault
+source_view s w old new = record {
+  events = is_of_source;
+  cause = source_cause;
+  of_wire = OfRelayWire;
+  waits = λ past. past.read_waits;
+  old_fault = s.fault old.side;
+  new_fault = s.fault new.side;
+  rests = s.rests (source_room old.hold) new.side;
+  before = w.past old.wire;
+  after = w.past new.wire;
+}
+
+-- the service's side as it writes, and as it reads
+abbrev pub send_view : {V W : Type 0} → Service V → Wire W → (old new : Lent V W) → View ClientFault
+send_view v w old new = record {
+  events = is_of_sending;
+  cause = service_cause;
+  of_wire = OfClientWire;
+  waits = λ past. past.write_waits;
+  old_fault = v.fault old.side;
+  new_fault = v.fault new.side;
+  rests = v.rests_writing (shows old.hold.history) new.side;
+  before = w.past old.wire;
+  after = w.past new.wire;
+}
+
+abbrev pub hear_view : {V W : Type 0} → Service V → Wire W → (old new : Lent V W) → View ClientFault
+hear_view v w old new = record {
+  events = is_of_replies;
+  cause = service_cause;
+  of_wire = OfClientWire;
+  waits = λ past. past.read_waits;
+  old_fault = v.fault old.side;
+  new_fault = v.fault new.side;
+  rests = v.rests_reading (shows old.hold.history) (service_room old.hold) new.side;
+  before = w.past old.wire;
+  after = w.past new.wire;
+}
+
+abbrev pub hop_view : {K G W : Type 0} → Hop K G → Wire W → (old new : Lent K W) → View RelayFault
+hop_view k w old new = record {
+  events = is_of_hop;
+  cause = hop_cause;
+  of_wire = OfRelayWire;
+  waits = λ past. past.write_waits;
+  old_fault = k.fault old.side;
+  new_fault = k.fault new.side;
+  rests = k.rests (shows old.hold.history) new.side;
+  before = w.past old.wire;
+  after = w.past new.wire;
+}
+
+-- What a side reported: events, the body bytes that they brought, and the bytes that its wire gave and took.
+pub record Report : Type 0 where
+  pub events : List Event
+  pub out : List ℕ
+  pub given : List ℕ
+  pub taken : List ℕ
+
+-- of a read, and of a write
+abbrev pub reading : (events : List Event) → (out given : List ℕ) → Report
+reading events out given = record { events = events; out = out; given = given; taken = [] }
+
+abbrev pub writing : (events : List Event) → (taken : List ℕ) → Report
+writing events taken = record { events = events; out = []; given = []; taken = taken }
+
+-- no byte went over the wire
+abbrev pub IsStill : Report → Type 0
+IsStill r = (r.given ≡ []) × (r.taken ≡ [])
+
+-- Why a pass failed or waits, on a wire with the past p before and q after. It failed by the side's fault.
+pub record Explains {F : Type 0} (v : View F) (p q : Past) (passed : Passed) : Type 0 where
   pub failed : (cause : Cause) → passed.failed ≡ Some cause
-      → (fault : F) × (new_fault ≡ Some fault) × (cause ≡ own fault) × (old_fault ≡ None → of_wire fault p q)
-  pub waiting : passed.waiting ≡ true → rests ⊎ (waits p < waits q)
+      → (fault : F) × (v.new_fault ≡ Some fault) × (cause ≡ v.cause fault) × (v.old_fault ≡ None → v.of_wire fault p q)
+  pub waiting : passed.waiting ≡ true → v.rests ⊎ (v.waits p < v.waits q)
 
 -- a pass that waits did nothing; another one moved a byte, stepped an event, or met a broken connection
-pub record Tells (delta : List ℕ) (reported : List Event) (passed : Passed) : Type 0 where
-  pub idle : passed.waiting ≡ true → (delta ≡ []) × (reported ≡ []) × (passed.failed ≡ None)
-  pub active : passed.waiting ≡ false → passed.broken ≡ false → delta ≡ [] → reported ≡ [] → passed.failed ≡ None → ⊥
+pub record Tells (r : Report) (passed : Passed) : Type 0 where
+  pub idle : passed.waiting ≡ true → IsStill r × (r.events ≡ []) × (passed.failed ≡ None)
+  pub active : passed.waiting ≡ false → passed.broken ≡ false → IsStill r → r.events ≡ [] → passed.failed ≡ None → ⊥
 
 -- What a side reported, of what its wire gave and took, and what was stepped of it.
-pub record Part {F : Type 0} (of_wire : F → Past → Past → Type 0) (own : F → Cause) (old new : Holding) (test : Event → Bool) (reported : List Event) (out given taken delta : List ℕ) (old_fault new_fault : Option F) (rests : Type 0) (waits : Past → ℕ) (before after : Past → Type 0) (passed : Passed) : Type 0 where
-  pub wire : (p : Past) → before p → (q : Past) × after q × IsLater p given taken q × Explains of_wire own p q old_fault new_fault rests waits passed
-  pub only : AllAre test reported
-  pub runs : MayRun old (stepped passed.failed reported) out
-  pub is : new ≡ moved_all old (stepped passed.failed reported) out
-  pub quiet : (cause : Cause) → passed.failed ≡ Some cause → reported ≡ []
-  pub blamed : (cause : Cause) → passed.failed ≡ Some cause → (fault : F) × (new_fault ≡ Some fault) × (cause ≡ own fault)
-  pub tells : Tells delta reported passed
-  pub sound : passed.failed ≡ None → passed.broken ≡ false → new_fault ≡ None
+pub record Part {F : Type 0} (v : View F) (old new : Holding) (r : Report) (passed : Passed) : Type 0 where
+  pub wire : (p : Past) → v.before p → (q : Past) × v.after q × IsLater p r.given r.taken q × Explains v p q passed
+  pub only : AllAre v.events r.events
+  pub runs : MayRun old (stepped passed.failed r.events) r.out
+  pub is : new ≡ moved_all old (stepped passed.failed r.events) r.out
+  pub quiet : (cause : Cause) → passed.failed ≡ Some cause → r.events ≡ []
+  pub blamed : (cause : Cause) → passed.failed ≡ Some cause → (fault : F) × (v.new_fault ≡ Some fault) × (cause ≡ v.cause fault)
+  pub tells : Tells r passed
+  pub sound : passed.failed ≡ None → passed.broken ≡ false → v.new_fault ≡ None
 
 -- The source's wire gave this, of the body no more than there was room for; where it waits, all is framed that may be; and an end
 -- that the framing tells isn't withheld.
-pub record SourcePart (old new : Holding) (read_old read_new : Seen → List ℕ → Given → Type 0) (agrees_new : Seen → Type 0) (old_fault new_fault : Option RelayFault) (rests all_framed over : Type 0) (before after : Past → Type 0) (passed : Passed) : Type 0 where
+pub record SourcePart {S H W : Type 0} (s : Source S H) (w : Wire W) (old new : Lent S W) (passed : Passed) : Type 0 where
   pub delta : Given
   pub out : List ℕ
   pub reported : List Event
-  pub part : Part OfRelayWire source_cause old new is_of_source reported out delta.bytes [] delta.bytes old_fault new_fault rests (λ past. past.read_waits) before after passed
-  pub few : in_sum reported ≤ original_room (shows old.history) old.claim old.limits.window
-  pub framed : passed.waiting ≡ true → all_framed
-  pub wire : (p : Past) → before p → (q : Past) × after q × IsLater p delta.bytes [] q × (delta.ended ≡ true → p.ends < q.ends)
-  pub told : passed.failed ≡ None → over → (after_all (shows old.history) reported).ended ≡ true
-  pub agrees : agrees_new (after_all (shows old.history) reported)
-  pub goes_on : (body : List ℕ) (read : Given) → read_old (shows old.history) body read
-      → read_new (after_all (shows old.history) reported) (body ++ take (in_sum reported) out) (given_then read delta)
+  pub part : Part (source_view s w old new) old.hold new.hold (reading reported out delta.bytes) passed
+  pub few : in_sum reported ≤ source_room old.hold
+  pub framed : passed.waiting ≡ true → s.is_framed (source_room old.hold) new.side
+  pub wire : (p : Past) → w.past old.wire p → (q : Past) × w.past new.wire q × IsLater p delta.bytes [] q × (delta.ended ≡ true → p.ends < q.ends)
+  pub told : passed.failed ≡ None → s.is_over new.side → (after_all (shows old.hold.history) reported).ended ≡ true
+  pub agrees : s.agrees (after_all (shows old.hold.history) reported) new.side
+  pub goes_on : (body : List ℕ) (read : Given) → s.has_read (shows old.hold.history) body read old.side
+      → s.has_read (after_all (shows old.hold.history) reported) (body ++ take (in_sum reported) out) (given_then read delta) new.side
 
 -- the service's wire took these bytes
-pub record SendPart (old new : Holding) (sent_old sent_new : List ℕ → Seen → List ℕ → List ℕ → Type 0) (old_fault new_fault : Option ClientFault) (rests : Type 0) (before after : Past → Type 0) (passed : Passed) : Type 0 where
+pub record SendPart {V W : Type 0} (v : Service V) (w : Wire W) (old new : Lent V W) (passed : Passed) : Type 0 where
   pub delta : List ℕ
   pub reported : List Event
-  pub part : Part OfClientWire service_cause old new is_of_sending reported [] [] delta delta old_fault new_fault rests (λ past. past.write_waits) before after passed
-  pub goes_on : (request came taken : List ℕ) → EndsBody old.original came → sent_old request (shows old.history) came taken
-      → sent_new request (after_all (shows old.history) reported) came (taken ++ delta)
+  pub part : Part (send_view v w old new) old.hold new.hold (writing reported delta) passed
+  pub goes_on : (request came taken : List ℕ) → EndsBody old.hold.original came → v.has_sent request (shows old.hold.history) came taken old.side
+      → v.has_sent request (after_all (shows old.hold.history) reported) came (taken ++ delta) new.side
 
 -- The service's wire gave these bytes, of the adapted body no more than there was room for; where it waits, all is framed that may be.
-pub record HearPart (old new : Holding) (heard_old heard_new : Seen → List ℕ → List ℕ → Type 0) (old_fault new_fault : Option ClientFault) (rests all_framed : Type 0) (before after : Past → Type 0) (passed : Passed) : Type 0 where
+pub record HearPart {V W : Type 0} (v : Service V) (w : Wire W) (old new : Lent V W) (passed : Passed) : Type 0 where
   pub delta : List ℕ
   pub out : List ℕ
   pub reported : List Event
-  pub part : Part OfClientWire service_cause old new is_of_replies reported out delta [] delta old_fault new_fault rests (λ past. past.read_waits) before after passed
-  pub few : ad_sum reported ≤ adapted_room (shows old.history) old.limits.window
-  pub framed : passed.waiting ≡ true → all_framed
-  pub goes_on : (adapted read : List ℕ) → heard_old (shows old.history) adapted read
-      → heard_new (after_all (shows old.history) reported) (adapted ++ take (ad_sum reported) out) (read ++ delta)
+  pub part : Part (hear_view v w old new) old.hold new.hold (reading reported out delta) passed
+  pub few : ad_sum reported ≤ service_room old.hold
+  pub framed : passed.waiting ≡ true → v.is_framed (service_room old.hold) new.side
+  pub goes_on : (adapted read : List ℕ) → v.has_heard (shows old.hold.history) adapted read old.side
+      → v.has_heard (after_all (shows old.hold.history) reported) (adapted ++ take (ad_sum reported) out) (read ++ delta) new.side
 
--- the next hop's wire took these bytes
-pub record HopPart (old new : Holding) (given_old given_new : Seen → List ℕ → List ℕ → List ℕ → Type 0) (whole : List ℕ → List ℕ → List ℕ → Type 0) (old_fault new_fault : Option RelayFault) (rests : Type 0) (before after : Past → Type 0) (passed : Passed) : Type 0 where
-  pub delta : List ℕ
-  pub reported : List Event
-  pub part : Part OfRelayWire hop_cause old new is_of_hop reported [] [] delta delta old_fault new_fault rests (λ past. past.write_waits) before after passed
+-- The writer's wire took so many more bytes of the message with the chosen body; where Done is reported, the whole of it was taken.
+pub record GivesOn (old : Holding) (reported : List Event) (delta : List ℕ) (given_old given_new : Seen → List ℕ → List ℕ → List ℕ → Type 0) (whole : List ℕ → List ℕ → List ℕ → Type 0) : Type 0 where
   pub goes_on : (original adapted head taken : List ℕ) → EndsBody old.original original → EndsBody old.adapted adapted
       → given_old (shows old.history) head (chosen (shows old.history) original adapted) taken
       → given_new (after_all (shows old.history) reported) head (chosen (shows old.history) original adapted) (taken ++ delta)
@@ -155,3 +259,11 @@ pub record HopPart (old new : Holding) (given_old given_new : Seen → List ℕ 
       → (after_all (shows old.history) reported).closed ≡ true
       → given_old (shows old.history) head (chosen (shows old.history) original adapted) taken
       → whole head (chosen (shows old.history) original adapted) (taken ++ delta)
+
+-- the next hop's wire took these bytes
+pub record HopPart {K G W : Type 0} (k : Hop K G) (w : Wire W) (old new : Lent K W) (passed : Passed) : Type 0 where
+  pub delta : List ℕ
+  pub reported : List Event
+  pub part : Part (hop_view k w old new) old.hold new.hold (writing reported delta) passed
+  pub gives : GivesOn old.hold reported delta (λ x head body taken. k.has_given x head body taken old.side) (λ x head body taken. k.has_given x head body taken new.side)
+      (λ head body taken. k.is_whole head body taken new.side)

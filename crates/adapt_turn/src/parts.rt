@@ -4,13 +4,12 @@ ghost use Rattle.std.specs.Prelude.{◌≡◌, ℕ, ◌≤◌, ◌⊎◌, true, 
 ghost use Rattle.trace_core.specs.declared.history.Seen.{Seen};
 ghost use Rattle.trace_core.specs.declared.history.Cause.{Cause};
 ghost use Rattle.trace_core.specs.declared.history.Event.TheVariants.{Fail};
-ghost use Rattle.plan_rules.specs.Room.{original_room, adapted_room};
 ghost use Rattle.adapt_hold.specs.Spans.{span_of};
 ghost use Rattle.adapt_hold.specs.Holding.{shows, moved, IsRoomy, IsTied};
 ghost use Rattle.adapt_sides.specs.declared.fault.ClientFault.TheVariants.{Device};
 ghost use Rattle.adapt_sides.specs.declared.fault.RelayFault.{RelayFault as Fault};
 ghost use Rattle.adapt_sides.specs.Turns.{FailsGiving};
-ghost use Rattle.adapt_turn.specs.Parts.{Breaks, HasCause, SourcePart, SendPart, HearPart, HopPart, source_cause, service_cause, hop_cause, outcome_by};
+ghost use Rattle.adapt_turn.specs.Parts.{Breaks, HasCause, lending, source_room, service_room, SourcePart, SendPart, HearPart, HopPart, source_cause, service_cause, hop_cause, outcome_by};
 ghost use Rattle.adapt_turn.specs.Stands.{IsChosen, chosen_span};
 
 use crate::turned::Outcome;
@@ -118,10 +117,8 @@ pub(crate) fn take_source<B: Ledgers, S: Source, A: Wire>(
     requires running { (shows hold.old.history).closed ≡ false }
     requires roomy { IsRoomy hold.old }
     requires agrees { S.agrees (shows hold.old.history) source.old }
-    requires room { length out.old ≡ original_room (shows hold.old.history) hold.old.claim hold.old.limits.window }
-    ensures part { SourcePart hold.old hold.new (λ x body read. S.has_read x body read source.old) (λ x body read. S.has_read x body read source.new)
-        (λ x. S.agrees x source.new) (S.fault source.old) (S.fault source.new) (S.rests (original_room (shows hold.old.history) hold.old.claim hold.old.limits.window) source.new) (S.is_framed (original_room (shows hold.old.history) hold.old.claim hold.old.limits.window) source.new) (S.is_over source.new)
-        (A.past wire.old) (A.past wire.new) result }
+    requires room { length out.old ≡ source_room hold.old }
+    ensures part { SourcePart S.Source A.Wire (lending hold.old source.old wire.old) (lending hold.new source.new wire.new) result }
     ensures reason { HasCause (S.fault source.old) (S.fault source.new) (λ fault. S.has_reason fault source.new) }
     ensures head { S.head source.new ≡ S.head source.old }
     ensures whole { result.broken ≡ false }
@@ -185,9 +182,7 @@ pub(crate) fn send<B: Ledgers, V: Service, W: Wire>(
 ) -> Passed
     requires running { (shows hold.old.history).closed ≡ false }
     requires roomy { IsRoomy hold.old }
-    ensures part { SendPart hold.old hold.new (λ request x came taken. V.has_sent request x came taken service.old) (λ request x came taken. V.has_sent request x came taken service.new)
-        (V.fault service.old) (V.fault service.new) (V.rests_writing (shows hold.old.history) service.new)
-        (W.past wire.old) (W.past wire.new) result }
+    ensures part { SendPart V.Service W.Wire (lending hold.old service.old wire.old) (lending hold.new service.new wire.new) result }
     ensures reason { HasCause (V.fault service.old) (V.fault service.new) (λ fault. fault ≡ Device) }
     ensures heard { (x : Seen) (adapted read : List ℕ) → V.has_heard x adapted read service.old → V.has_heard x adapted read service.new }
     ensures head { V.adapted_head service.new ≡ V.adapted_head service.old }
@@ -220,10 +215,8 @@ pub(crate) fn take_service<B: Ledgers, V: Service, W: Wire>(
 ) -> Passed
     requires running { (shows hold.old.history).closed ≡ false }
     requires roomy { IsRoomy hold.old }
-    requires room { length out.old ≡ adapted_room (shows hold.old.history) hold.old.limits.window }
-    ensures part { HearPart hold.old hold.new (λ x adapted read. V.has_heard x adapted read service.old) (λ x adapted read. V.has_heard x adapted read service.new)
-        (V.fault service.old) (V.fault service.new) (V.rests_reading (shows hold.old.history) (adapted_room (shows hold.old.history) hold.old.limits.window) service.new) (V.is_framed (adapted_room (shows hold.old.history) hold.old.limits.window) service.new)
-        (W.past wire.old) (W.past wire.new) result }
+    requires room { length out.old ≡ service_room hold.old }
+    ensures part { HearPart V.Service W.Wire (lending hold.old service.old wire.old) (lending hold.new service.new wire.new) result }
     ensures reason { HasCause (V.fault service.old) (V.fault service.new) (λ fault. V.has_reason fault (shows hold.old.history) service.new) }
     ensures sent { (request came taken : List ℕ) → V.has_sent request (shows hold.old.history) came taken service.old → V.has_sent request (shows hold.old.history) came taken service.new }
     ensures rests { (x : Seen) → V.rests_writing x service.old → V.rests_writing x service.new }
@@ -266,9 +259,7 @@ pub(crate) fn give<B: Ledgers, K: Hop, W: Wire>(
     requires running { (shows hold.old.history).closed ≡ false }
     requires chosen { IsChosen (shows hold.old.history) }
     requires roomy { IsRoomy hold.old }
-    ensures part { HopPart hold.old hold.new (λ x head body taken. K.has_given x head body taken hop.old) (λ x head body taken. K.has_given x head body taken hop.new)
-        (λ head body taken. K.is_whole head body taken hop.new) (K.fault hop.old) (K.fault hop.new) (K.rests (shows hold.old.history) hop.new)
-        (W.past wire.old) (W.past wire.new) result }
+    ensures part { HopPart K.Hop W.Wire (lending hold.old hop.old wire.old) (lending hold.new hop.new wire.new) result }
     ensures reason { HasCause (K.fault hop.old) (K.fault hop.new) (FailsGiving (K.breaks_length (shows hold.old.history) (K.body_framing hop.new))) }
     ensures again { (had : Fault) → K.fault hop.old ≡ Some had → result.failed ≡ Some (hop_cause had) }
     ensures gift { K.gift hop.new ≡ K.gift hop.old }

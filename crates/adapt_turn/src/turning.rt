@@ -3,9 +3,8 @@
 ghost use Rattle.std.specs.Prelude.{◌≡◌, ℕ, true, false, List, Some};
 ghost use Rattle.trace_core.specs.declared.history.Cause.{Cause};
 ghost use Rattle.trace_core.specs.declared.history.Seen.{Seen};
-ghost use Rattle.plan_rules.specs.Room.{original_room, adapted_room};
 ghost use Rattle.adapt_hold.specs.Holding.{shows, IsRoomy};
-ghost use Rattle.adapt_turn.specs.Parts.{Breaks, HasCause, SourcePart, HearPart};
+ghost use Rattle.adapt_turn.specs.Parts.{Breaks, HasCause, lending, SourcePart, HearPart};
 
 use crate::parts::{Passed, take_service, take_source};
 use adapt_hold::Hold;
@@ -26,9 +25,7 @@ pub(crate) fn read_source<B: Ledgers, S: Source, A: Wire>(
     requires running { (shows hold.old.history).closed ≡ false }
     requires roomy { IsRoomy hold.old }
     requires agrees { S.agrees (shows hold.old.history) source.old }
-    ensures part { SourcePart hold.old hold.new (λ x body read. S.has_read x body read source.old) (λ x body read. S.has_read x body read source.new)
-        (λ x. S.agrees x source.new) (S.fault source.old) (S.fault source.new) (S.rests (original_room (shows hold.old.history) hold.old.claim hold.old.limits.window) source.new) (S.is_framed (original_room (shows hold.old.history) hold.old.claim hold.old.limits.window) source.new) (S.is_over source.new)
-        (A.past wire.old) (A.past wire.new) result }
+    ensures part { SourcePart S.Source A.Wire (lending hold.old source.old wire.old) (lending hold.new source.new wire.new) result }
     ensures reason { HasCause (S.fault source.old) (S.fault source.new) (λ fault. S.has_reason fault source.new) }
     ensures head { S.head source.new ≡ S.head source.old }
     ensures whole { result.broken ≡ false }
@@ -51,9 +48,7 @@ pub(crate) fn hear<B: Ledgers, V: Service, W: Wire>(
 ) -> Passed
     requires running { (shows hold.old.history).closed ≡ false }
     requires roomy { IsRoomy hold.old }
-    ensures part { HearPart hold.old hold.new (λ x adapted read. V.has_heard x adapted read service.old) (λ x adapted read. V.has_heard x adapted read service.new)
-        (V.fault service.old) (V.fault service.new) (V.rests_reading (shows hold.old.history) (adapted_room (shows hold.old.history) hold.old.limits.window) service.new) (V.is_framed (adapted_room (shows hold.old.history) hold.old.limits.window) service.new)
-        (W.past wire.old) (W.past wire.new) result }
+    ensures part { HearPart V.Service W.Wire (lending hold.old service.old wire.old) (lending hold.new service.new wire.new) result }
     ensures reason { HasCause (V.fault service.old) (V.fault service.new) (λ fault. V.has_reason fault (shows hold.old.history) service.new) }
     ensures sent { (request came taken : List ℕ) → V.has_sent request (shows hold.old.history) came taken service.old → V.has_sent request (shows hold.old.history) came taken service.new }
     ensures rests { (x : Seen) → V.rests_writing x service.old → V.rests_writing x service.new }

@@ -8,7 +8,7 @@ use Rattle.adapt_hold.specs.Holding.{shows}
 use Rattle.adapt_hold.specs.Steps.{MayRun}
 use Rattle.adapt_turn.proofs.Passes as passes
 use Rattle.adapt_sides.specs.Turns.{FailsGiving}
-use Rattle.adapt_turn.specs.Parts.{HasCause, hop_cause}
+use Rattle.adapt_turn.specs.Parts.{HasCause, hop_cause, lending}
 use Rattle.adapt_turn.proofs.Reasons.{cause_of, cause_weaker, giving_weaker, never_err, same_err}
 use Rattle.adapt_turn.proofs.parts.give.Goals as goal
 
@@ -24,12 +24,12 @@ step_all-requires g c =
 
 pub returns-in-Ok-clause-part : goal.returns-in-Ok-clause-part
 returns-in-Ok-clause-part g c =
-    passes.hop_took c.args.hold.now c.step_all.new.hold c.state-state.result.now c.tape_of-tape.result.now c.in-Ok.turn c.as_slice.result.now _ _ _ _ _ _ _ (λ x. g.K.Hop.rests x c.write_turn.new.self) _ _ c.went_on.result
+    passes.hop_took g.K.Hop g.W.Wire (lending c.args.hold.now c.args.hop.now c.args.wire.now) (lending c.step_all.new.hold c.write_turn.new.self c.write_turn.new.wire) c.state-state.result.now c.tape_of-tape.result.now c.in-Ok.turn c.as_slice.result.now c.went_on.result
     c.requires.roomy c.requires.running c.requires.chosen c.state-state.ensures.state c.tape_of-tape.ensures.tape c.as_slice.ensures.value c.in-Ok.ensures.turn c.step_all.ensures.stepped c.went_on.ensures
 
 pub returns-in-Err-clause-part : goal.returns-in-Err-clause-part
 returns-in-Err-clause-part g c =
-    passes.hop_failed c.args.hold.now c.close.new.hold c.state-state.result.now c.tape_of-tape.result.now c.in-Err.fault _ _ _ _ _ _ _ (λ x. g.K.Hop.rests x c.write_turn.new.self) _ _ c.hop_cause.result c.close.result
+    passes.hop_failed g.K.Hop g.W.Wire (lending c.args.hold.now c.args.hop.now c.args.wire.now) (lending c.close.new.hold c.write_turn.new.self c.write_turn.new.wire) c.state-state.result.now c.tape_of-tape.result.now c.in-Err.fault c.hop_cause.result c.close.result
     c.requires.roomy c.requires.running c.requires.chosen c.state-state.ensures.state c.tape_of-tape.ensures.tape c.in-Err.ensures.turn c.hop_cause.ensures c.close.ensures.passed c.close.ensures.moved
 
 pub returns-in-Ok-clause-reason : goal.returns-in-Ok-clause-reason

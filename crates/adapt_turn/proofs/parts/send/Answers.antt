@@ -4,6 +4,7 @@ use Rattle.trace_core.specs.History.{History}
 use Rattle.trace_core.specs.Turns.{MayAllFollow}
 use Rattle.adapt_hold.specs.Holding.{shows}
 use Rattle.adapt_hold.specs.Steps.{MayRun}
+use Rattle.adapt_turn.specs.Parts.{lending}
 use Rattle.adapt_turn.proofs.Passes as passes
 use Rattle.adapt_turn.proofs.Reasons.{cause_of}
 use Rattle.adapt_turn.proofs.parts.send.Goals as goal
@@ -20,12 +21,12 @@ step_all-requires g c =
 
 pub returns-in-Ok-clause-part : goal.returns-in-Ok-clause-part
 returns-in-Ok-clause-part g c =
-    passes.send_took c.args.hold.now c.step_all.new.hold c.state-state.result.now c.original-tape.result.now c.in-Ok.turn c.as_slice.result.now _ _ _ _ (λ x. g.V.Service.rests_writing x c.write_turn.new.self) _ _ c.went_on.result
+    passes.send_took g.V.Service g.W.Wire (lending c.args.hold.now c.args.service.now c.args.wire.now) (lending c.step_all.new.hold c.write_turn.new.self c.write_turn.new.wire) c.state-state.result.now c.original-tape.result.now c.in-Ok.turn c.as_slice.result.now c.went_on.result
     c.requires.roomy c.state-state.ensures.state c.original-tape.ensures.tape c.as_slice.ensures.value c.in-Ok.ensures.turn c.step_all.ensures.stepped c.went_on.ensures
 
 pub returns-in-Err-clause-part : goal.returns-in-Err-clause-part
 returns-in-Err-clause-part g c =
-    passes.send_failed c.args.hold.now c.service_failed.new.hold c.state-state.result.now c.original-tape.result.now c.in-Err.fault _ _ _ _ (λ x. g.V.Service.rests_writing x c.write_turn.new.self) _ _ c.service_failed.result
+    passes.send_failed g.V.Service g.W.Wire (lending c.args.hold.now c.args.service.now c.args.wire.now) (lending c.service_failed.new.hold c.write_turn.new.self c.write_turn.new.wire) c.state-state.result.now c.original-tape.result.now c.in-Err.fault c.service_failed.result
     c.requires.roomy c.requires.running c.state-state.ensures.state c.original-tape.ensures.tape c.in-Err.ensures.turn c.service_failed.ensures.broken c.service_failed.ensures.closed
 
 pub returns-in-Err-clause-unbroken : goal.returns-in-Err-clause-unbroken

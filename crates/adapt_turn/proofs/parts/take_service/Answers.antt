@@ -1,8 +1,7 @@
 use Rattle.std.proofs.Common.{◌≤◌, length, arith, refl, subst}
 use Rattle.trace_core.specs.History.{History}
-use Rattle.adapt_turn.specs.Parts.{HasCause}
+use Rattle.adapt_turn.specs.Parts.{HasCause, lending, service_room}
 use Rattle.adapt_turn.proofs.Reasons.{cause_of}
-use Rattle.plan_rules.specs.Room.{adapted_room}
 use Rattle.adapt_hold.specs.Holding.{shows}
 use Rattle.adapt_turn.proofs.Passes as passes
 use Rattle.adapt_turn.proofs.parts.take_service.Goals as goal
@@ -11,20 +10,20 @@ pub step_all-requires : goal.step_all-requires
 step_all-requires g c =
     let h = c.args.hold.now in
     let keeps = c.in-Ok.ensures.keeps in
-    let l : length c.read_turn.new.out ≤ adapted_room (shows h.history) h.limits.window = omega (arith, c.requires.room, keeps) in
-    passes.hear_runs h c.state-state.result.now c.in-Ok.turn c.as_slice.result.now c.read_turn.new.out _ _ _ _ _ _ _ _ c.state-state.ensures.tied c.requires.roomy c.state-state.ensures.state c.as_slice.ensures.value l c.in-Ok.ensures.turn
+    let l : length c.read_turn.new.out ≤ service_room h = omega (arith, c.requires.room, keeps) in
+    passes.hear_runs g.V.Service g.W.Wire (lending h c.args.service.now c.args.wire.now) (lending h c.read_turn.new.self c.read_turn.new.wire) c.state-state.result.now c.in-Ok.turn c.as_slice.result.now (length c.args.out.now) c.read_turn.new.out c.state-state.ensures.tied c.requires.roomy c.state-state.ensures.state c.as_slice.ensures.value l c.in-Ok.ensures.turn
 
 pub returns-in-Ok-clause-part : goal.returns-in-Ok-clause-part
 returns-in-Ok-clause-part g c =
     let h = c.args.hold.now in
     let keeps = c.in-Ok.ensures.keeps in
-    let l : length c.read_turn.new.out ≤ adapted_room (shows h.history) h.limits.window = omega (arith, c.requires.room, keeps) in
-    passes.hear_took h c.step_all.new.hold c.state-state.result.now c.in-Ok.turn c.as_slice.result.now c.read_turn.new.out _ _ _ _ (λ x k. g.V.Service.rests_reading x k c.read_turn.new.self) (λ k. g.V.Service.is_framed k c.read_turn.new.self) (length c.args.out.now) _ _ _ c.went_on.result
+    let l : length c.read_turn.new.out ≤ service_room h = omega (arith, c.requires.room, keeps) in
+    passes.hear_took g.V.Service g.W.Wire (lending h c.args.service.now c.args.wire.now) (lending c.step_all.new.hold c.read_turn.new.self c.read_turn.new.wire) c.state-state.result.now c.in-Ok.turn c.as_slice.result.now c.read_turn.new.out (length c.args.out.now) c.went_on.result
     c.requires.room c.state-state.ensures.tied c.requires.roomy c.state-state.ensures.state c.as_slice.ensures.value l c.in-Ok.ensures.turn c.step_all.ensures.stepped c.went_on.ensures
 
 pub returns-in-Err-clause-part : goal.returns-in-Err-clause-part
 returns-in-Err-clause-part g c =
-    passes.hear_failed c.args.hold.now c.service_failed.new.hold c.state-state.result.now c.in-Err.fault c.read_turn.new.out _ _ _ _ (λ x k. g.V.Service.rests_reading x k c.read_turn.new.self) (λ k. g.V.Service.is_framed k c.read_turn.new.self) (length c.args.out.now) _ _ _ c.service_failed.result
+    passes.hear_failed g.V.Service g.W.Wire (lending c.args.hold.now c.args.service.now c.args.wire.now) (lending c.service_failed.new.hold c.read_turn.new.self c.read_turn.new.wire) c.state-state.result.now c.in-Err.fault c.read_turn.new.out (length c.args.out.now) c.service_failed.result
     c.requires.room c.requires.roomy c.requires.running c.state-state.ensures.state c.in-Err.ensures.turn c.service_failed.ensures.broken c.service_failed.ensures.closed
 
 pub returns-in-Err-clause-unbroken : goal.returns-in-Err-clause-unbroken
