@@ -1,10 +1,10 @@
 -- A host and a port are at one address at most.
-use Rattle.std.proofs.Common.{◌≡◌, ℕ, List, Option, Some, None, inl, inr, sym, ap, ◌∙◌, subst}
+use Rattle.std.proofs.Common.{◌≡◌, ℕ, List, Option, inl, inr, sym, ap, ◌∙◌}
 use Rattle.std.proofs.lemmas.Option.{same_Some}
 use Rattle.std.proofs.NetLemmas.Theorems.{IsIpv4Text_unique}
 use Rattle.std.specs.declared.net.socket_addr.SocketAddrV4.{SocketAddrV4}
 use Rattle.std.specs.Net.Socket.{v4_ip, v4_port}
-use Rattle.proxy_config.specs.declared.hosts.Hosts.{Hosts}
+use Rattle.proxy_config.specs.declared.host_table.Hosts.{Hosts}
 use Rattle.proxy_config.specs.Hosts.{port_or, IsAt, IsLiteral, IsNamed}
 
 pub same_address : (a b : SocketAddrV4) → v4_ip a ≡ v4_ip b → v4_port a ≡ v4_port b → a ≡ b

@@ -6,8 +6,8 @@ use Rattle.std.specs.declared.net.socket_addr.SocketAddrV4.{SocketAddrV4}
 use Rattle.std.specs.Net.Grammar.{IsIpv4Text}
 use Rattle.std.specs.Net.Socket.{v4_ip, v4_port}
 use Rattle.proxy_config.specs.declared.hosts.TheConstants.{HTTP_PORT}
-use Rattle.proxy_config.specs.declared.hosts.Host.{Host}
-use Rattle.proxy_config.specs.declared.hosts.Hosts.{Hosts}
+use Rattle.proxy_config.specs.declared.host.Host.{Host}
+use Rattle.proxy_config.specs.declared.host_table.Hosts.{Hosts}
 
 -- the address of the first entry with this name, ASCII case ignored
 abbrev pub address_of_name : List ℕ → List Host → Option SocketAddrV4

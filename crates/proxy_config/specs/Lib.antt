@@ -5,3 +5,4 @@ pub mod Config
 pub mod Services
 pub mod Hosts
 pub mod Log
+pub mod Names

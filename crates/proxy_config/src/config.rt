@@ -2,7 +2,7 @@
 
 ghost use Rattle.proxy_config.specs.Sizes.{IsInRange};
 
-use crate::hosts::Hosts;
+use crate::host_table::Hosts;
 use crate::point::ServicePoint;
 use std::net::SocketAddrV4;
 

@@ -1,28 +1,38 @@
 //! The table of host names: no resolver is asked.
 
-ghost use Rattle.std.specs.Prelude.{◌≡◌, IfErr, IfSome, IfNone};
+ghost use Rattle.std.specs.Prelude.{◌≡◌, ◌<◌, IfErr, IfSome, IfNone};
+ghost use Rattle.std.specs.List.Sorted.{IsNonDecreasingBy};
 ghost use Rattle.std.specs.declared.net.socket_addr.SocketAddrV4.{SocketAddrV4 as AnyAddress};
 ghost use Rattle.proxy_config.specs.Fault.{Names};
-ghost use Rattle.proxy_config.specs.Hosts.{found_host, port_or, IsAt};
+ghost use Rattle.proxy_config.specs.Hosts.{address_of_name, found_host, port_or, IsAt};
+ghost use Rattle.proxy_config.specs.Names.{number_of_name};
+ghost use Rattle.proxy_config.specs.declared.host.Host.{Host as AnyHost};
 
 use crate::fault::{ConfigFault, at_key, needed};
+use crate::host::{Host, host_at, number_of};
+use crate::host_table::{Hosts, sorted};
 use crate::values::address_of;
 use adapt_bytes::same_ascii;
 use std::alloc::{AllocError, Global};
+use std::collections::BTreeSet;
 use std::net::{Ipv4Addr, SocketAddrV4};
 use toml::{Table, Value};
 
-/// A host name and where it is.
-#[derive(Debug, Drop)]
-struct Host {
-    name: String,
-    address: SocketAddrV4,
-}
-
-/// The host names that the configuration knows, each with its address.
-#[derive(Debug, Drop)]
-pub struct Hosts {
-    all: Vec<Host>,
+/// The address of the first of these hosts that has the name, ASCII case ignored; the name's number is told.
+fn among(hosts: &[Host], number: u64, name: &[u8]) -> Option<SocketAddrV4>
+    requires rising { IsNonDecreasingBy (λ (host : AnyHost). host.number) hosts.now }
+    requires number { number ≡ number_of_name name.now }
+    ensures { result ≡ address_of_name name.now hosts.now }
+{
+    for host in hosts {
+        if host.number > number {
+            return None;
+        }
+        if same_ascii(host.name.as_bytes(), name) {
+            return Some(host.address);
+        }
+    }
+    None
 }
 
 /// The port of `http` where none is written (RFC 9110, section 4.2.1).
@@ -43,12 +53,9 @@ impl Hosts {
     fn find(&self, name: &[u8]) -> Option<SocketAddrV4>
         ensures { result ≡ found_host self.now name.now }
     {
-        for host in &self.all {
-            if same_ascii(host.name.as_bytes(), name) {
-                return Some(host.address);
-            }
-        }
-        None
+        let number = number_of(name);
+        let first = self.all.partition_point(|host| host.number < number);
+        among(&self.all[first..], number, name)
     }
 
     /// Where a host of a request's target is, with the target's port where one is written.
@@ -67,26 +74,6 @@ impl Hosts {
             None => None,
         }
     }
-
-    /// Adds a name, where no such name is there.
-    fn add(&mut self, alloc: Global, name: &str, value: &Value) -> Result<(), ConfigFault>
-        ensures { IfErr result Names }
-    {
-        let address = match self.find(name.as_bytes()) {
-            Some(_) => None,
-            None => address_of(value),
-        };
-        match address {
-            Some(address) => Ok(self.keep(alloc, name, address)?),
-            None => Err(at_host(alloc, name)),
-        }
-    }
-
-    fn keep(&mut self, alloc: Global, name: &str, address: SocketAddrV4) -> Result<(), AllocError> {
-        let name = String::from_str(alloc, name)?;
-        self.all.push(Host { name, address })?;
-        Ok(())
-    }
 }
 
 /// The fault of a host name.
@@ -99,19 +86,56 @@ fn at_host(alloc: Global, name: &str) -> ConfigFault
     }
 }
 
+/// Marks a name as seen, ASCII case ignored, and says whether it is new.
+fn is_new(alloc: Global, seen: &mut BTreeSet<String>, name: &str) -> Result<bool, AllocError> {
+    let mut lower = String::from_str(alloc, name)?;
+    lower.make_ascii_lowercase();
+    match seen.insert(lower) {
+        Ok(is_new) => Ok(is_new),
+        Err(_) => Err(AllocError),
+    }
+}
+
+/// Reads a name's address, where no such name was seen before.
+fn read_host(
+    alloc: Global,
+    seen: &mut BTreeSet<String>,
+    name: &str,
+    value: &Value,
+) -> Result<Host, ConfigFault>
+    ensures { IfErr result Names }
+{
+    if is_new(alloc, seen, name)? {
+        if let Some(address) = address_of(value) {
+            return Ok(host_at(alloc, name, address)?);
+        }
+    }
+    Err(at_host(alloc, name))
+}
+
+/// Reads each name of the table.
+fn read_all(alloc: Global, names: &Table) -> Result<Vec<Host>, ConfigFault>
+    ensures { IfErr result Names }
+{
+    let mut all = Vec::new(alloc);
+    let mut seen = BTreeSet::new(alloc);
+    for (name, value) in names {
+        let host = read_host(alloc, &mut seen, name.as_str(), value)?;
+        if all.push(host).is_err() {
+            return Err(ConfigFault::NoMemory);
+        }
+    }
+    Ok(all)
+}
+
 /// Reads the table of host names, which may be missing. Names that differ in ASCII case alone are a fault of the later
 /// one, in the order of their bytes.
 pub(crate) fn read_hosts(alloc: Global, table: &Table) -> Result<Hosts, ConfigFault>
     ensures { IfErr result Names }
 {
-    let mut hosts = Hosts {
-        all: Vec::new(alloc),
+    let all = match table.get("hosts") {
+        Some(value) => read_all(alloc, needed(alloc, "hosts", value.as_table())?)?,
+        None => Vec::new(alloc),
     };
-    let Some(value) = table.get("hosts") else {
-        return Ok(hosts);
-    };
-    for (name, value) in needed(alloc, "hosts", value.as_table())? {
-        hosts.add(alloc, name.as_str(), value)?;
-    }
-    Ok(hosts)
+    Ok(sorted(all)?)
 }

@@ -7,6 +7,8 @@
 mod config;
 mod defaults;
 mod fault;
+mod host;
+mod host_table;
 mod hosts;
 mod limits;
 mod log;
@@ -18,7 +20,7 @@ mod values;
 
 pub use config::Config;
 pub use fault::ConfigFault;
-pub use hosts::Hosts;
+pub use host_table::Hosts;
 pub use limits::MAX_SHARDS;
 pub use point::ServicePoint;
 pub use reading::read_config;

@@ -2,7 +2,7 @@
 use Rattle.std.proofs.Common.{◌≡◌, inl, inr, rules, Some, None, sym, ◌∙◌}
 use Rattle.std.specs.Net.Socket.{v4_ip}
 use Rattle.proxy_config.specs.Hosts.{found_host}
-use Rattle.proxy_config.proofs.hosts.Hosts.resolve.Goals as goal
+use Rattle.proxy_config.proofs.host_table.Hosts.resolve.Goals as goal
 
 pub returns-in-Some-clause-found : goal.returns-in-Some-clause-found
 returns-in-Some-clause-found c = inr (record {
