@@ -3,6 +3,7 @@
 ghost use Rattle.std.specs.Prelude.{◌<◌, length};
 
 mod draining;
+mod driving;
 mod farewell;
 mod hearing;
 
@@ -12,7 +13,7 @@ use crate::inbox::{Handed, Inbox, begin, have_begun, stop_all};
 use crate::listening::Listening;
 use crate::ports::Ports;
 use crate::ready_list::ReadyList;
-use crate::work::{Driven, Told, Work};
+use crate::work::{Told, Work};
 use mio::{Events, Poll, Token};
 use socket_wire::{Dial, place_of};
 use std::alloc::Global;
@@ -262,6 +263,9 @@ impl<K: Work> EventLoop<K> {
         if woken && inboxes[number].take_crowded() && self.work.make_room(rt) {
             inboxes[0].wake();
         }
+        if woken {
+            self.drive_first(rt)?;
+        }
         self.ask_ports(rt, alloc, inboxes);
         if woken {
             self.take_in(rt, inboxes[number].take_all(rt, alloc))?;
@@ -373,39 +377,6 @@ impl<K: Work> EventLoop<K> {
             if let Some(key) = self.work.admit(rt, self.poll.registry(), user, now) {
                 self.drive(rt, key)?;
             }
-        }
-        Ok(())
-    }
-
-    /// Drives an exchange, and marks it if others get their turn first.
-    fn drive<R: Wait + Dial + Clock>(&mut self, rt: &R, key: usize) -> io::Result<()> {
-        self.read_clock(rt)?;
-        let now = self.now();
-        match self.work.drive(rt, self.poll.registry(), key, now) {
-            Driven::CutShort => self.ready.add(key),
-            Driven::Waiting | Driven::Over => {}
-        }
-        Ok(())
-    }
-
-    /// Drives those that were cut short.
-    fn drive_ready<R: Wait + Dial + Clock>(&mut self, rt: &R) -> io::Result<()> {
-        if self.ready.is_empty() {
-            return Ok(());
-        }
-        for key in 0..self.ready.keys() {
-            if self.ready.take(key) {
-                self.drive(rt, key)?;
-            }
-        }
-        self.ready.look();
-        Ok(())
-    }
-
-    /// Drives all, for their deadlines.
-    fn drive_all<R: Wait + Dial + Clock>(&mut self, rt: &R) -> io::Result<()> {
-        for key in 0..self.work.bound() {
-            self.drive(rt, key)?;
         }
         Ok(())
     }

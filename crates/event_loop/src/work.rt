@@ -59,6 +59,13 @@ pub trait Work {
         now: u64,
     ) -> Driven;
 
+    /// How many queues exchanges may wait in for what another exchange, of whichever thread, gives back.
+    fn queues(&self) -> usize;
+
+    /// The key of the exchange that is first in a queue, where it is one of this thread's: it is driven once the loop was
+    /// woken.
+    fn first_of<R: Wait>(&self, rt: &R, queue: usize) -> Option<usize>;
+
     /// The keys that may be in use are below this number.
     fn bound(&self) -> usize;
 

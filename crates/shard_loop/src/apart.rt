@@ -1,8 +1,9 @@
 //! Taking the loops apart.
 
+use crate::connections::Line;
 use crate::halting::{Remains, end_of};
 use crate::left::Left;
-use crate::phase::{Line, Phase};
+use crate::phase::Phase;
 use crate::pools::Pools;
 use span_bank::{Bank, Ledgers};
 use std::boxed::Box;
@@ -36,6 +37,7 @@ impl<B: Ledgers, Q: Ledger, A: Ledger> Left<B, Q, A> {
                 }
             }
             Phase::Head(_) | Phase::Answer(_) | Phase::Closing(_) => {}
+            Phase::Queued { ends: _, waiter: _ } => {}
             Phase::Telling { ends: _, rest: _ } => {}
             Phase::Refusing { user: _, rest: _ } => {}
         }

@@ -1,7 +1,8 @@
 //! The beginning of a transaction: its plan, its service's connection, and its reservation.
 
+use crate::connections::Line;
 use crate::desk::Desk;
-use crate::phase::{Ends, Line, Step};
+use crate::phase::{Ends, Step};
 use crate::seats::At;
 use plan_rules::claim;
 use proxy_rules::{Offer, Reason, awaits_continue, open_reason};
@@ -74,14 +75,6 @@ impl<'a, B: Ledgers, Q: Ledger, A: Ledger, G: Gate> Desk<'a, B, Q, A, G> {
         })
     }
 
-    /// Gives back a connection that was asked for options and isn't used.
-    pub fn spare<R: Wait>(&mut self, rt: &R, at: At<'_>, line: Option<Line<Q, A>>) {
-        if let Some(line) = line {
-            let Line { wire, lease } = line;
-            self.put_line(rt, at, wire, lease);
-        }
-    }
-
     /// Begins the transaction of a message whose head was read, on the connection that was asked for options if there is
     /// one.
     pub fn begin<R: Wait + Dial + Clock>(
@@ -128,7 +121,7 @@ impl<'a, B: Ledgers, Q: Ledger, A: Ledger, G: Gate> Desk<'a, B, Q, A, G> {
         };
         match found {
             Ok(line) => self.reserve(rt, at, ends, planned, Some(line)),
-            Err(reason) => self.refuse_user(at, ends, reason),
+            Err(reason) => self.wait_or_refuse(rt, at, ends, reason),
         }
     }
 

@@ -8,6 +8,7 @@ use crate::left::Left;
 use crate::log::{Append, Log};
 use crate::office::Office;
 use crate::pools::{Pools, Spare};
+use crate::queues::{Queues, Waiting};
 use crate::shard::Shard;
 use crate::tally::Tally;
 use event_loop::{
@@ -126,6 +127,9 @@ trait Common {
     fn tallies(&self) -> &[Tally];
 
     fn log(&self) -> &Log;
+
+    /// Those who wait for a connection to a service.
+    fn queues(&self) -> &Queues;
 }
 
 /// The same.
@@ -134,6 +138,7 @@ struct Board {
     inboxes: Vec<Inbox>,
     tallies: Vec<Tally>,
     log: Log,
+    queues: Queues,
 }
 
 impl Common for Board {
@@ -148,10 +153,14 @@ impl Common for Board {
     fn log(&self) -> &Log {
         &self.log
     }
+
+    fn queues(&self) -> &Queues {
+        &self.queues
+    }
 }
 
 /// A board of so many threads that take users, before their inboxes are there.
-fn board_of(alloc: Global, count: u64, file: Option<File>) -> Result<Board, AllocError> {
+fn board_of(alloc: Global, count: u64, rows: u64, file: Option<File>) -> Result<Board, AllocError> {
     let mut tallies = Vec::new(alloc);
     for _ in 0..count {
         let tally = Tally::new(alloc)?;
@@ -163,6 +172,7 @@ fn board_of(alloc: Global, count: u64, file: Option<File>) -> Result<Board, Allo
         inboxes: Vec::new(alloc),
         tallies,
         log: Log::new(alloc, file, count)?,
+        queues: Queues::new(alloc, rows as usize)?,
     })
 }
 
@@ -235,7 +245,7 @@ where
     B::Slack: Send + Sync,
     B::Pages: Send + Sync,
 {
-    let Ok(board) = board_of(alloc, config.shards, file) else {
+    let Ok(board) = board_of(alloc, config.shards, config.rows, file) else {
         return Err(ServeFault::NoMemory);
     };
     let mut board = board;
@@ -294,7 +304,15 @@ fn run_one<
     let shared = Shared {
         config,
         bank,
-        pools: Pools { request, response },
+        pools: Pools {
+            request,
+            response,
+            waiting: Waiting {
+                queues: common.queues(),
+                inboxes: common.inboxes(),
+                seconds: config.wait,
+            },
+        },
         gate,
         number,
         tally,

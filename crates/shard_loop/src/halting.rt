@@ -115,6 +115,7 @@ impl<'a, B: Ledgers, Q: Ledger, A: Ledger, G: Gate> Desk<'a, B, Q, A, G> {
                 self.end_moving(rt, Box::into_inner(tx), lease);
             }
             Phase::Head(_) | Phase::Answer(_) | Phase::Closing(_) => {}
+            Phase::Queued { ends, waiter } => self.stop_waiting(rt, &ends, waiter),
             Phase::Telling { ends: _, rest: _ } => {}
             Phase::Refusing { user: _, rest: _ } => {}
         }
@@ -134,6 +135,10 @@ impl<'a, B: Ledgers, Q: Ledger, A: Ledger, G: Gate> Desk<'a, B, Q, A, G> {
                 side: _,
             } => {
                 self.drop_line(rt, line);
+                self.refuse_user(at, ends, Reason::Stopping)
+            }
+            Phase::Queued { ends, waiter } => {
+                self.stop_waiting(rt, &ends, waiter);
                 self.refuse_user(at, ends, Reason::Stopping)
             }
             Phase::Answer(ends) => self.refuse_user(at, ends, Reason::Stopping),

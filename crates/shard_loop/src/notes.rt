@@ -288,7 +288,7 @@ pub fn why_of(note: &Note) -> Why {
 /// Where an exchange stands.
 pub fn stage_of<B: Ledgers, Q: Ledger, A: Ledger>(phase: &Phase<B, Q, A>) -> Stage {
     match phase {
-        Phase::Asking { .. } => Stage::Asking,
+        Phase::Asking { .. } | Phase::Queued { .. } => Stage::Asking,
         _ => Stage::Elsewhere,
     }
 }

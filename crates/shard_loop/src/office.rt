@@ -111,6 +111,14 @@ impl<'a, B: Ledgers, Q: Ledger, A: Ledger, G: Gate, F: Append> Work for Office<'
         Driven::Over
     }
 
+    fn queues(&self) -> usize {
+        0
+    }
+
+    fn first_of<R: Wait>(&self, _rt: &R, _queue: usize) -> Option<usize> {
+        None
+    }
+
     fn bound(&self) -> usize {
         0
     }

@@ -1,8 +1,8 @@
 //! Asking a service for its options.
 
+use crate::connections::Line;
 use crate::desk::Desk;
-use crate::phase::{Ends, Line, Phase, Step};
-use crate::pools::{Leased, Spare, Took};
+use crate::phase::{Ends, Phase, Step};
 use crate::seats::At;
 use adapt_sides::ClientFault;
 use exchange_report::Why;
@@ -13,7 +13,7 @@ use proxy_config::ServicePoint;
 use proxy_rules::{
     Reason, ask_options, is_reusable_after_options, options_reason, pool_maximum, record_reason,
 };
-use socket_wire::{Dial, Side, SocketWire, Unread};
+use socket_wire::{Dial, Side, SocketWire};
 use span_bank::Ledgers;
 use std::alloc::{AllocError, Global};
 use std::boxed::Box;
@@ -86,92 +86,6 @@ impl<'a, B: Ledgers, Q: Ledger, A: Ledger, G: Gate> Desk<'a, B, Q, A, G> {
         }
     }
 
-    /// A connection to a point's service that is opened now.
-    pub fn dial_service<R: Dial>(
-        &mut self,
-        rt: &R,
-        at: At<'_>,
-        point: Point,
-    ) -> Result<SocketWire, Reason> {
-        match self.service(point) {
-            Some(service) => self.dial(rt, at, Side::Service, service.address, Reason::Service),
-            None => Err(Reason::Service),
-        }
-    }
-
-    /// Leases a connection to a point's service, an idle one first.
-    pub fn lend<R: Wait + Dial>(
-        &mut self,
-        rt: &R,
-        at: At<'_>,
-        point: Point,
-        address: SocketAddrV4,
-    ) -> Result<Line<Q, A>, Reason> {
-        let (wire, lease) = match self.shared.pools.take_live(rt, point) {
-            Took::Idle(spare, lease) => {
-                let Spare { wire, ready } = spare;
-                match self.seats.enlist(at, Side::Service, wire, ready) {
-                    Ok(wire) => (Ok(wire), lease),
-                    Err(_) => (Err(Reason::NoMemory), lease),
-                }
-            }
-            Took::Fresh(lease) => {
-                let wire = self.dial(rt, at, Side::Service, address, Reason::Service);
-                (wire, lease)
-            }
-            Took::Busy => return Err(Reason::Busy),
-        };
-        self.line_of(rt, wire, lease)
-    }
-
-    /// A connection with its lease, which is given up where there is no connection.
-    fn line_of<R: Wait>(
-        &mut self,
-        rt: &R,
-        wire: Result<SocketWire, Reason>,
-        lease: Leased<Q, A>,
-    ) -> Result<Line<Q, A>, Reason> {
-        match wire {
-            Ok(wire) => Ok(Line { wire, lease }),
-            Err(reason) => {
-                self.shared.pools.give_up(rt, lease);
-                Err(reason)
-            }
-        }
-    }
-
-    /// Opens a fresh connection in place of one that broke, which is closed first.
-    fn renew<R: Wait + Dial>(
-        &mut self,
-        rt: &R,
-        at: At<'_>,
-        line: Line<Q, A>,
-    ) -> Result<Line<Q, A>, Reason> {
-        let Line { wire, lease } = line;
-        drop(wire);
-        let mut lease = lease;
-        let wire = self.fresh(rt, at, &mut lease);
-        self.line_of(rt, wire, lease)
-    }
-
-    /// Closes a connection, and gives up its lease after that: others may open one in its place.
-    pub fn drop_line<R: Wait>(&mut self, rt: &R, line: Line<Q, A>) {
-        let Line { wire, lease } = line;
-        drop(wire);
-        self.shared.pools.give_up(rt, lease);
-    }
-
-    /// Puts a connection back that may serve again. One that its service has ended, or on which it says what nobody asked
-    /// for, is closed.
-    pub fn put_line<R: Wait>(&mut self, rt: &R, at: At<'_>, wire: SocketWire, lease: Leased<Q, A>) {
-        let mut wire = wire;
-        let lives = wire.deregister(at.registry).is_ok() && wire.unread() == Unread::Nothing;
-        match self.seats.dismiss(at.key) {
-            Some(ready) if lives => self.shared.pools.put(rt, Spare { wire, ready }, lease),
-            _ => self.drop_line(rt, Line { wire, lease }),
-        }
-    }
-
     /// Begins to ask.
     pub fn ask<R: Wait + Dial>(
         &mut self,
@@ -183,12 +97,12 @@ impl<'a, B: Ledgers, Q: Ledger, A: Ledger, G: Gate> Desk<'a, B, Q, A, G> {
     ) -> Step<B, Q, A> {
         match self.lend(rt, at, point, service.address) {
             Ok(line) => self.ask_on(rt, at, ends, service, line),
-            Err(reason) => self.refuse_user(at, ends, reason),
+            Err(reason) => self.wait_or_refuse(rt, at, ends, reason),
         }
     }
 
     /// Begins to ask on this connection.
-    fn ask_on<R: Wait>(
+    pub fn ask_on<R: Wait>(
         &mut self,
         rt: &R,
         at: At<'_>,

@@ -1,5 +1,6 @@
 //! What a user's connection is in the midst of.
 
+use crate::connections::Line;
 use crate::pools::Leased;
 use adapt_turn::Tx;
 use http_relay::{NextHop, RelayFault, SourceSide};
@@ -11,6 +12,7 @@ use span_bank::Ledgers;
 use std::boxed::Box;
 use std::sync::ledger::Ledger;
 use trace_core::Point;
+use wait_queue::Waiter;
 use wire_kit::Wire;
 
 /// A transaction over sockets.
@@ -27,12 +29,6 @@ pub type Moving<B> = Tx<
 
 /// What a transaction over sockets begins with.
 pub type Starting<B> = Beginning<B, SocketWire, SocketWire, SocketWire>;
-
-/// A leased connection to a service.
-pub struct Line<Q: Ledger, A: Ledger> {
-    pub wire: SocketWire,
-    pub lease: Leased<Q, A>,
-}
 
 /// The user's connection, the message that waits to be adapted, and the origin's connection once the request is with it.
 #[derive(Drop)]
@@ -94,6 +90,11 @@ pub enum Phase<B: Ledgers, Q: Ledger, A: Ledger> {
         ends: Box<Ends>,
         line: Line<Q, A>,
         side: Box<OptionsSide>,
+    },
+    /// A message waits for a connection to its service, in the queue of its point.
+    Queued {
+        ends: Box<Ends>,
+        waiter: Waiter,
     },
     /// A user that waits for it is told to send the body of its request, and this is left of the text.
     Telling {

@@ -2,6 +2,7 @@
 
 ghost use Rattle.std.specs.Prelude.{◌≤◌};
 
+use crate::queues::Waiting;
 use adapt_bytes::MAX_CONNECTIONS;
 use service_pool::{Lease, Pool, Taken};
 use socket_wire::{Readiness, SocketWire, Unread};
@@ -46,6 +47,8 @@ impl<Q: Ledger, A: Ledger> Leased<Q, A> {
 pub struct Pools<'a, Q: Ledger, A: Ledger> {
     pub request: &'a Pool<Spare, Q>,
     pub response: &'a Pool<Spare, A>,
+    /// Those who wait for a connection of them.
+    pub waiting: Waiting<'a>,
 }
 
 /// What was found in a pool.
@@ -64,6 +67,7 @@ impl<'a, Q: Ledger, A: Ledger> Pools<'a, Q, A> {
         Pools {
             request: self.request,
             response: self.response,
+            waiting: self.waiting,
         }
     }
 
@@ -98,8 +102,9 @@ impl<'a, Q: Ledger, A: Ledger> Pools<'a, Q, A> {
         Took::Busy
     }
 
-    /// Puts a connection back. One that is too many is closed.
+    /// Puts a connection back, for the one that waits longest. One that is too many is closed.
     pub fn put<R: Wait>(&self, rt: &R, spare: Spare, lease: Leased<Q, A>) {
+        let point = lease.point();
         match lease {
             Leased::Request(lease) => {
                 let _ = self.request.put(rt, spare, lease);
@@ -108,14 +113,17 @@ impl<'a, Q: Ledger, A: Ledger> Pools<'a, Q, A> {
                 let _ = self.response.put(rt, spare, lease);
             }
         }
+        self.waiting.call(rt, point);
     }
 
-    /// Gives up the lease of a connection that is closed.
+    /// Gives up the lease of a connection that is closed: the one that waits longest may open another.
     pub fn give_up<R: Wait>(&self, rt: &R, lease: Leased<Q, A>) {
+        let point = lease.point();
         match lease {
             Leased::Request(lease) => self.request.give_up(rt, lease),
             Leased::Response(lease) => self.response.give_up(rt, lease),
         }
+        self.waiting.call(rt, point);
     }
 
     /// Whether a fresh connection may be opened in place of one that broke.
@@ -140,6 +148,7 @@ impl<'a, Q: Ledger, A: Ledger> Pools<'a, Q, A> {
             Point::Reqmod => self.request.set_max(rt, alloc, maximum)?,
             Point::Respmod => self.response.set_max(rt, alloc, maximum)?,
         };
+        self.waiting.call(rt, point);
         Ok(())
     }
 }

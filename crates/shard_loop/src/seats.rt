@@ -55,6 +55,8 @@ struct Seat {
     stay: Stay,
     /// When the stay began, in the order of all stays.
     since: u64,
+    /// When the message began to wait for a connection to its service.
+    waits: Option<u64>,
     /// How many bytes the user had taken when the transaction began.
     taken: u64,
     /// Whether a byte of the transaction's answer has gone out, and no refusal's.
@@ -149,6 +151,7 @@ impl Seats {
                 Purpose::Refusal => Stay::Exchange,
             },
             since,
+            waits: None,
             taken: 0,
             answered: false,
             user: None,
@@ -244,9 +247,32 @@ impl Seats {
         }
     }
 
+    /// A message waits for a connection to its service. One that waited before has waited since then.
+    pub fn begin_wait(&mut self, at: At<'_>) {
+        if let Some(seat) = self.all.get_mut(at.key)
+            && seat.waits.is_none()
+        {
+            seat.waits = Some(at.now);
+        }
+    }
+
+    /// Whether it has waited for more than so many seconds: that is never early, and a second late at most.
+    pub fn has_waited(&self, at: At<'_>, seconds: u64) -> bool {
+        match self.all.get(at.key) {
+            Some(
+                Seat {
+                    waits: Some(since),
+                    ..
+                },
+            ) => at.now.saturating_sub(*since) > seconds,
+            _ => false,
+        }
+    }
+
     /// A transaction begins: nothing of its answer is out.
     pub fn begin_answer(&mut self, key: usize) {
         if let Some(seat) = self.all.get_mut(key) {
+            seat.waits = None;
             seat.taken = taken_by(&seat.user);
             seat.answered = false;
         }

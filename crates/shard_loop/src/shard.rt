@@ -5,6 +5,7 @@ ghost use Rattle.shard_loop.specs.Slots.{ChangesOnly};
 use crate::desk::{Desk, Shared};
 use crate::notes::{is_between, stage_of};
 use crate::phase::{Ends, Phase, Step};
+use crate::queues::POINTS;
 use crate::seats::{At, Purpose, Stay};
 use crate::tally::USERS;
 use event_loop::{Driven, Handed, Request, Slots, Told, Work};
@@ -250,6 +251,16 @@ impl<'a, B: Ledgers, Q: Ledger, A: Ledger, G: Gate> Work for Shard<'a, B, Q, A, 
             }
         }
         Driven::CutShort
+    }
+
+    fn queues(&self) -> usize {
+        POINTS.len()
+    }
+
+    fn first_of<R: Wait>(&self, rt: &R, queue: usize) -> Option<usize> {
+        let point = *POINTS.get(queue)?;
+        let shared = &self.desk.shared;
+        shared.pools.waiting.first_of(rt, point, shared.number)
     }
 
     fn bound(&self) -> usize {

@@ -5,9 +5,10 @@ ghost use Rattle.adapt_bytes.specs.declared.limits.TheConstants.{MAX_CAPACITY};
 ghost use Rattle.plan_rules.specs.Claims.{claim_of};
 
 use crate::begin::Planned;
+use crate::connections::Line;
 use crate::desk::Desk;
 use crate::halting::unused;
-use crate::phase::{Ends, Line, Moving, Phase, Starting, Step};
+use crate::phase::{Ends, Moving, Phase, Starting, Step};
 use crate::pools::Leased;
 use crate::seats::At;
 use crate::telling::go_ahead;

@@ -220,6 +220,17 @@ impl<'a> Sheet<'a> {
         self.put(Metric::Sample(most, b"{point=\"reqmod\"}", reqmod.maximum))?;
         self.put(Metric::Sample(most, b"{point=\"respmod\"}", respmod.maximum))
     }
+
+    /// The exchanges that wait for a connection.
+    fn put_waiting(&mut self, reqmod: u64, respmod: u64) -> Result<(), AllocError> {
+        let waiting = gauge(
+            b"adaptproxy_waiting",
+            b"Exchanges that wait for a connection to a service.",
+        );
+        self.put(Metric::Family(waiting))?;
+        self.put(Metric::Sample(waiting, b"{point=\"reqmod\"}", reqmod))?;
+        self.put(Metric::Sample(waiting, b"{point=\"respmod\"}", respmod))
+    }
 }
 
 /// The counters as OpenMetrics text, so many seconds after the start.
@@ -250,6 +261,11 @@ pub fn stats_text<B: Ledgers, Q: Ledger, A: Ledger, G: Gate, R: Wait>(
     let reqmod = shared.pools.request.numbers(rt);
     let respmod = shared.pools.response.numbers(rt);
     sheet.put_pools(reqmod, respmod)?;
+    let waiting = shared.pools.waiting;
+    sheet.put_waiting(
+        waiting.len(rt, Point::Reqmod),
+        waiting.len(rt, Point::Respmod),
+    )?;
     sheet.one(
         gauge(b"adaptproxy_budget_rows", b"Transactions that are open."),
         book.rows,

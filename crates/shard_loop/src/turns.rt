@@ -1,7 +1,8 @@
 //! The turns of a transaction.
 
+use crate::connections::Line;
 use crate::desk::Desk;
-use crate::phase::{Line, Moving, Phase, Step};
+use crate::phase::{Moving, Phase, Step};
 use crate::pools::Leased;
 use crate::seats::At;
 use adapt_turn::{FreeLine, Side as Turning, Turned};
@@ -67,20 +68,6 @@ impl<'a, B: Ledgers, Q: Ledger, A: Ledger, G: Gate> Desk<'a, B, Q, A, G> {
             self.seats.note_answer(at.key);
         }
         round
-    }
-
-    /// A fresh connection in place of a leased one that broke, where the pool allows one.
-    pub fn fresh<R: Wait + Dial>(
-        &mut self,
-        rt: &R,
-        at: At<'_>,
-        lease: &mut Leased<Q, A>,
-    ) -> Result<SocketWire, Reason> {
-        if self.shared.pools.replace(rt, lease) {
-            self.dial_service(rt, at, lease.point())
-        } else {
-            Err(Reason::Service)
-        }
     }
 
     /// Begins a request anew on a fresh connection, or fails it where there is none. What is left of the broken connection,

@@ -31,6 +31,7 @@ fn lines_of(alloc: Global, scene: Scene<'_>, values: Values) -> Result<Lines, No
     Ok(Lines {
         fresh,
         broken: None,
+        freed: None,
         failed: 0,
     })
 }

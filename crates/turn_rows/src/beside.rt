@@ -48,6 +48,7 @@ fn no_lines() -> Lines {
     Lines {
         fresh: None,
         broken: None,
+        freed: None,
         failed: 0,
     }
 }

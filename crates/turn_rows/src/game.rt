@@ -4,7 +4,7 @@ ghost use Rattle.std.specs.Prelude.{◌≡◌};
 
 use crate::sides::Counted;
 use adapt_sides::{Hop, Service, Source};
-use adapt_turn::{Forward, Line, Outcome, Parts, Side, Turned, Tx};
+use adapt_turn::{Forward, FreeLine, Line, Outcome, Parts, Side, Turned, Tx};
 use proxy_rules::Beginning;
 use span_bank::{Bank, Ledgers, Pages};
 use std::sync::Wait;
@@ -17,6 +17,8 @@ pub struct Lines {
     pub fresh: Option<Counted>,
     /// The broken one.
     pub broken: Option<Counted>,
+    /// One that was given up once the service had said all.
+    pub freed: Option<Counted>,
     /// How often a broken one failed the transaction.
     pub failed: usize,
 }
@@ -37,6 +39,10 @@ pub trait Game<B: Ledgers> {
 
     /// Begins anew on a fresh connection if the service's broke before a byte of a reply; without a fresh one it fails.
     fn mend<R: Wait>(&mut self, rt: &R, bank: &Bank<B>, lines: &mut Lines);
+
+    /// Gives up the service's connection where the service has said all. Whether it may carry another request; `None` where
+    /// it isn't given up.
+    fn free(&mut self, lines: &mut Lines) -> Option<bool>;
 }
 
 impl<B: Ledgers, S: Source, V: Service, K: Hop, F: Forward<S, K>, A: Wire, C: Wire> Game<B>
@@ -67,6 +73,12 @@ impl<B: Ledgers, S: Source, V: Service, K: Hop, F: Forward<S, K>, A: Wire, C: Wi
                 }
             }
         }
+    }
+
+    fn free(&mut self, lines: &mut Lines) -> Option<bool> {
+        let FreeLine { wire, is_reusable } = self.free_line()?;
+        lines.freed = Some(wire);
+        Some(is_reusable)
     }
 }
 

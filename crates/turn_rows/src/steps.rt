@@ -152,7 +152,17 @@ struct Pace<'a> {
     at: Option<usize>,
 }
 
-/// Plays a step: `rounds=500`, `tally=80`, `until-over`, `halt`, or turns whose answers are added, as `source@190` and `each@189`.
+/// Adds what becomes of the service's connection where it is given up.
+fn put_freed(freed: Option<bool>, out: &mut Vec<u8>) -> Result<(), NoMemory> {
+    let text: &[u8] = match freed {
+        Some(true) => b"free for another request",
+        Some(false) => b"free to be closed",
+        None => b"not free",
+    };
+    put_line(out, text)
+}
+
+/// Plays a step: `rounds=500`, `tally=80`, `until-over`, `halt`, `free`, or turns whose answers are added, as `source@190` and `each@189`.
 fn put_step<B: Ledgers, G: Game<B>, R: Wait>(
     rt: &R,
     bank: &Bank<B>,
@@ -174,13 +184,14 @@ fn put_step<B: Ledgers, G: Game<B>, R: Wait>(
     }
     let (name, count) = parts(word, b'=').unwrap_or((word, b"0"));
     let count = number(count, values).unwrap_or(0);
-    match place_of(b"rounds until-over halt", name) {
+    match place_of(b"rounds until-over halt free", name) {
         Some(0) => match pace.at {
             Some(now) => play_rounds_at(rt, bank, game, pace.order, now, count),
             None => play_rounds(rt, bank, game, lines, pace.order, count),
         },
         Some(1) => play_until_over(rt, bank, game, pace.order),
         Some(2) => game.stop(rt, bank),
+        Some(3) => return put_freed(game.free(lines), out),
         _ => {
             let tally = count_turns(rt, bank, game, pace.tally, count);
             return put_tally(tally, values, out);

@@ -70,6 +70,9 @@ fn put_lines(
     if let Some(broken) = &lines.broken {
         put_text(out, scene, b"broken", broken.taken(), values)?;
     }
+    if let Some(freed) = &lines.freed {
+        put_text(out, scene, b"freed", freed.taken(), values)?;
+    }
     if lines.failed > 0 {
         put_number(out, b"not tried again", lines.failed as u64)?;
     }

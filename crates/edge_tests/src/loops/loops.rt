@@ -113,6 +113,14 @@ impl Work for Echo {
         Driven::CutShort
     }
 
+    fn queues(&self) -> usize {
+        0
+    }
+
+    fn first_of<R: Wait>(&self, _rt: &R, _queue: usize) -> Option<usize> {
+        None
+    }
+
     fn bound(&self) -> usize {
         16
     }

@@ -1,0 +1,143 @@
+//! Connections to services: how they are lent, opened anew, put back and given up.
+
+use crate::desk::Desk;
+use crate::pools::{Leased, Spare, Took};
+use crate::seats::At;
+use proxy_rules::Reason;
+use socket_wire::{Dial, Side, SocketWire, Unread};
+use span_bank::Ledgers;
+use std::net::SocketAddrV4;
+use std::sync::Wait;
+use std::sync::ledger::Ledger;
+use trace_core::Point;
+use wire_kit::Gate;
+
+/// A leased connection to a service.
+pub struct Line<Q: Ledger, A: Ledger> {
+    pub wire: SocketWire,
+    pub lease: Leased<Q, A>,
+}
+
+impl<'a, B: Ledgers, Q: Ledger, A: Ledger, G: Gate> Desk<'a, B, Q, A, G> {
+    /// A connection to a point's service that is opened now.
+    pub fn dial_service<R: Dial>(
+        &mut self,
+        rt: &R,
+        at: At<'_>,
+        point: Point,
+    ) -> Result<SocketWire, Reason> {
+        match self.service(point) {
+            Some(service) => self.dial(rt, at, Side::Service, service.address, Reason::Service),
+            None => Err(Reason::Service),
+        }
+    }
+
+    /// Leases a connection to a point's service, an idle one first. One that comes while others wait for theirs gets none.
+    pub fn lend<R: Wait + Dial>(
+        &mut self,
+        rt: &R,
+        at: At<'_>,
+        point: Point,
+        address: SocketAddrV4,
+    ) -> Result<Line<Q, A>, Reason> {
+        if self.shared.pools.waiting.is_awaited(rt, point) {
+            return Err(Reason::Busy);
+        }
+        self.lend_now(rt, at, point, address)
+    }
+
+    /// The same, whoever waits.
+    pub fn lend_now<R: Wait + Dial>(
+        &mut self,
+        rt: &R,
+        at: At<'_>,
+        point: Point,
+        address: SocketAddrV4,
+    ) -> Result<Line<Q, A>, Reason> {
+        let (wire, lease) = match self.shared.pools.take_live(rt, point) {
+            Took::Idle(spare, lease) => {
+                let Spare { wire, ready } = spare;
+                match self.seats.enlist(at, Side::Service, wire, ready) {
+                    Ok(wire) => (Ok(wire), lease),
+                    Err(_) => (Err(Reason::NoMemory), lease),
+                }
+            }
+            Took::Fresh(lease) => {
+                let wire = self.dial(rt, at, Side::Service, address, Reason::Service);
+                (wire, lease)
+            }
+            Took::Busy => return Err(Reason::Busy),
+        };
+        self.line_of(rt, wire, lease)
+    }
+
+    /// A connection with its lease, which is given up where there is no connection.
+    fn line_of<R: Wait>(
+        &mut self,
+        rt: &R,
+        wire: Result<SocketWire, Reason>,
+        lease: Leased<Q, A>,
+    ) -> Result<Line<Q, A>, Reason> {
+        match wire {
+            Ok(wire) => Ok(Line { wire, lease }),
+            Err(reason) => {
+                self.shared.pools.give_up(rt, lease);
+                Err(reason)
+            }
+        }
+    }
+
+    /// Opens a fresh connection in place of one that broke, which is closed first.
+    pub fn renew<R: Wait + Dial>(
+        &mut self,
+        rt: &R,
+        at: At<'_>,
+        line: Line<Q, A>,
+    ) -> Result<Line<Q, A>, Reason> {
+        let Line { wire, lease } = line;
+        drop(wire);
+        let mut lease = lease;
+        let wire = self.fresh(rt, at, &mut lease);
+        self.line_of(rt, wire, lease)
+    }
+
+    /// Closes a connection, and gives up its lease after that: others may open one in its place.
+    pub fn drop_line<R: Wait>(&mut self, rt: &R, line: Line<Q, A>) {
+        let Line { wire, lease } = line;
+        drop(wire);
+        self.shared.pools.give_up(rt, lease);
+    }
+
+    /// Puts a connection back that may serve again. One that its service has ended, or on which it says what nobody asked
+    /// for, is closed.
+    pub fn put_line<R: Wait>(&mut self, rt: &R, at: At<'_>, wire: SocketWire, lease: Leased<Q, A>) {
+        let mut wire = wire;
+        let lives = wire.deregister(at.registry).is_ok() && wire.unread() == Unread::Nothing;
+        match self.seats.dismiss(at.key) {
+            Some(ready) if lives => self.shared.pools.put(rt, Spare { wire, ready }, lease),
+            _ => self.drop_line(rt, Line { wire, lease }),
+        }
+    }
+
+    /// A fresh connection in place of a leased one that broke, where the pool allows one.
+    pub fn fresh<R: Wait + Dial>(
+        &mut self,
+        rt: &R,
+        at: At<'_>,
+        lease: &mut Leased<Q, A>,
+    ) -> Result<SocketWire, Reason> {
+        if self.shared.pools.replace(rt, lease) {
+            self.dial_service(rt, at, lease.point())
+        } else {
+            Err(Reason::Service)
+        }
+    }
+
+    /// Gives back a connection that was asked for options and isn't used.
+    pub fn spare<R: Wait>(&mut self, rt: &R, at: At<'_>, line: Option<Line<Q, A>>) {
+        if let Some(line) = line {
+            let Line { wire, lease } = line;
+            self.put_line(rt, at, wire, lease);
+        }
+    }
+}

@@ -1,0 +1,9 @@
+//! Who waits for a connection to a service, in the order of arrival.
+//!
+//! The queue is a pure value: who is first may take a connection, and who leaves tells whose turn it is then. Threads share
+//! it under a lock of their own.
+#![tactic(auto)]
+
+mod queue;
+
+pub use queue::{JoinFault, WaitQueue, Waiter};

@@ -1,0 +1,229 @@
+"""Exchanges that wait for a connection to a service, and what becomes of the connections that are given back."""
+import socket
+import threading
+import time
+
+from serve_lab.cases import ICAPD, IDLE, at_once, case, get, is_refused, post, refusal, same, settled
+from serve_lab.loopback import PATIENCE, Icap, Program, Reader, User, body_of, free_port
+
+
+def kept_users(proxy, count, requests, path="/bytes/1000"):
+    """So many users, each with so many requests on connections that are kept where the proxy keeps them: how many answers have
+    which status, and the longest wait for one."""
+    found, longest, lock = {}, [0.0], threading.Lock()
+
+    def one(_number):
+        user = None
+        for _ in range(requests):
+            user = user or User(proxy.port)
+            begin = time.time()
+            answer = user.ask(get(path))
+            late = time.time() - begin
+            with lock:
+                found[answer.status] = found.get(answer.status, 0) + 1
+                longest[0] = max(longest[0], late)
+            if answer.fields.get("connection") == "close":
+                user.close()
+                user = None
+        if user:
+            user.close()
+    at_once(count, one)
+    return found, longest[0]
+
+
+def waiting(proxy):
+    """How many exchanges wait at both points together, by the counters."""
+    with socket.create_connection(("127.0.0.1", proxy.admin), PATIENCE) as sock:
+        sock.sendall(b"stats\n")
+        text = Reader(sock).until(b"# EOF\n")
+    return sum(int(line.split()[-1]) for line in text.splitlines() if line.startswith(b"adaptproxy_waiting{"))
+
+
+def wait_for(proxy, count, patience=5.0):
+    """Waits until so many wait."""
+    end = time.time() + patience
+    while waiting(proxy) != count:
+        if time.time() > end:
+            raise AssertionError("%d wait, never %d" % (waiting(proxy), count))
+        time.sleep(0.02)
+
+
+@case
+def the_defaults_of_both_programs_keep_nobody_hanging(bench):
+    """Forty users on kept connections, both points at one icapd: answered at once where none waits, and all where they may."""
+    for text, wanted in (("", None), ("wait = 5", {200: 400})):
+        origin = bench.origin()
+        port = bench.icapd()
+        proxy = bench.proxy(origin, text, [("reqmod", port, "/reqmod/pass"), ("respmod", port, "/respmod/pass")])
+        begin = time.time()
+        found, longest = kept_users(proxy, 40, 10)
+        print("      %s: %s in %.1f s, the longest wait %.2f s" % (text or "wait = 0", found, time.time() - begin, longest))
+        same("answers", sum(found.values()), 400)
+        same("statuses", set(found) <= {200, 503}, True)
+        if wanted:
+            same("all are served", found, wanted)
+        else:
+            same("no wait above two seconds", longest <= 2.0, True)
+        same("book", settled(proxy)[:24], "rows 0 held 0 claimed 0 ")
+        same("audit", proxy.stop(), IDLE)
+
+
+@case
+def two_connections_serve_sixty_four_users_in_turn(bench):
+    origin = bench.origin()
+
+    def reply(conn, reader, head, count):
+        time.sleep(0.05)
+        return service.no_modification(conn, reader, head, count)
+    service = bench.icap(reply, [b"Max-Connections: 2"])
+    proxy = bench.proxy(origin, "wait = 10\nshards = 4", [("respmod", service.port, "/respmod/x", 2)])
+    begin = time.time()
+    found, longest = kept_users(proxy, 64, 1)
+    late = time.time() - begin
+    print("      %s in %.2f s, the longest wait %.2f s; at most %d connections" % (found, late, longest, service.most))
+    same("all are served", found, {200: 64})
+    same("within four seconds", late <= 4.0, True)
+    same("at most", service.most <= 2, True)
+    same("book", settled(proxy)[:24], "rows 0 held 0 claimed 0 ")
+    same("audit", proxy.stop(), IDLE)
+
+
+def one_held(bench, text, sizes=None):
+    """A proxy with one connection to its service, which a first user holds until `held` is set."""
+    origin = bench.origin()
+    held = threading.Event()
+
+    def reply(conn, reader, head, count):
+        if count == 1:
+            held.wait(PATIENCE)
+        _heads, body, _last = Icap.rest(reader, head)
+        if sizes is not None:
+            sizes.append(len(body))
+        conn.sendall(Icap.NO_MODIFICATION)
+    service = bench.icap(reply, [b"Max-Connections: 1"])
+    proxy = bench.proxy(origin, text, [("respmod", service.port, "/respmod/x", 1)])
+    first = User(proxy.port)
+    first.send(get("/bytes/3"))
+    while not service.requests:
+        time.sleep(0.01)
+    return service, proxy, first, held
+
+
+@case
+def exchanges_wait_in_the_order_of_arrival(bench):
+    sizes = []
+    service, proxy, first, held = one_held(bench, "wait = 10\nshards = 4", sizes)
+    users = []
+    for number in range(1, 13):
+        user = User(proxy.port)
+        user.send(get("/bytes/%d" % number))
+        users.append(user)
+        wait_for(proxy, number)
+    for gone in (0, 5, 11):
+        users[gone].reset()
+    wait_for(proxy, 9)
+    held.set()
+    same("the first user", first.answer().body, body_of(3))
+    for number, user in enumerate(users):
+        if number not in (0, 5, 11):
+            same("user %d" % number, user.answer().body, body_of(number + 1))
+    same("in the order of arrival", sizes, [3, 2, 3, 4, 5, 7, 8, 9, 10, 11])
+    same("connections", service.count, 1)
+    same("book", settled(proxy)[:24], "rows 0 held 0 claimed 0 ")
+    same("audit", proxy.stop(), IDLE)
+
+
+@case
+def a_wait_ends_with_a_refusal(bench):
+    """By its own seconds, by the deadline, by the bound of the queue, and by a stop."""
+    _service, proxy, _first, held = one_held(bench, "wait = 1\nshards = 2\nrows = 3")
+    begin = time.time()
+    users = [User(proxy.port) for _ in range(3)]
+    for user in users:
+        user.send(get("/bytes/3"))
+    wait_for(proxy, 3)
+    is_refused("one too many", proxy.port, get("/bytes/3"), 503)
+    same("that one at once", time.time() - begin < 1.0, True)
+    same("refused", [user.reader.to_end() for user in users], [refusal(503)] * 3)
+    late = time.time() - begin
+    print("      wait = 1: refused after %.2f s" % late)
+    same("within its seconds", 1.0 <= late <= 2.3, True)
+    held.set()
+    same("audit", proxy.stop(), IDLE)
+    _service, proxy, first, held = one_held(bench, "wait = 10\ndeadline = 1\nshards = 2")
+    is_refused("the deadline comes first", proxy.port, get("/bytes/3"), 504)
+    held.set()
+    first.close()
+    same("audit", proxy.stop(), IDLE)
+    _service, proxy, first, held = one_held(bench, "wait = 10\nshards = 2")
+    user = User(proxy.port)
+    user.send(get("/bytes/3"))
+    wait_for(proxy, 1)
+    same("audit", proxy.stop(), IDLE)
+    same("a stop", user.reader.to_end(), refusal(503))
+    held.set()
+    first.close()
+
+
+@case
+def a_restart_of_the_service_is_not_seen(bench):
+    """Eight connections lie idle when the service ends and comes again: no answer is lost, of those that can't be retried."""
+    origin = bench.origin()
+    port = free_port()
+
+    def begin():
+        program = bench.keep(Program(ICAPD, 'listen = "127.0.0.1:%d"\nmax = 16\n' % port))
+        same("icapd", program.first, b"listening\n")
+        return program
+    service = begin()
+    proxy = bench.proxy(origin, "shards = 2", [("respmod", port, "/respmod/pass", 8)])
+    for turn in range(3):
+        together = threading.Barrier(8)
+
+        def one(_number):
+            user = User(proxy.port)
+            together.wait(PATIENCE)
+            for path in ("/chunked/20000", "/bytes/300000"):
+                found.append(user.ask(get(path)).status)
+            user.close()
+        found = []
+        at_once(8, one)
+        print("      turn %d: %d of 16 answered 200" % (turn, found.count(200)))
+        same("all are served", found, [200] * 16)
+        same("book", settled(proxy)[:24], "rows 0 held 0 claimed 0 ")
+        service.kill()
+        service = begin()
+        time.sleep(0.1)
+    same("audit", proxy.stop(), IDLE)
+
+
+@case
+def a_connection_that_ends_too_early_isnt_put_back(bench):
+    """A 204 behind 3 of 8 body bytes that were offered whole: the rest isn't sent, and the connection serves no more."""
+    origin = bench.origin()
+    seen = []
+
+    def reply(conn, reader, head, _count):
+        fields = head.decode("latin-1").lower()
+        same("whole, with Allow", ("preview" not in fields, "allow: 204" in fields), (True, True))
+        offset = int(fields.split("req-body=")[1].split()[0])
+        reader.exactly(offset)
+        same("a first chunk", reader.exactly(8), b"3\r\nabc\r\n")
+        conn.sendall(Icap.NO_MODIFICATION)
+        seen.append(reader.to_end())
+        return False
+    service = bench.icap(reply)
+    proxy = bench.proxy(origin, "", [("reqmod", service.port, "/reqmod/x")])
+    for number in (1, 2):
+        user = User(proxy.port)
+        user.send(post("/echo", b"abcdefgh")[:-5])
+        time.sleep(0.3)
+        user.send(b"defgh")
+        same("the request", user.answer().body, b"abcdefgh")
+        end = time.time() + 5
+        while len(seen) < number and time.time() < end:
+            time.sleep(0.01)
+        same("the rest that the service got, before its connection was closed", seen[number - 1], b"")
+        same("connections", service.count, number)
+        user.close()
+    same("audit", proxy.stop(), IDLE)
