@@ -1,6 +1,6 @@
 //! Taking the loops apart.
 
-use crate::connections::Line;
+use crate::connections::LeasedConnection;
 use crate::halting::{Remains, end_of};
 use crate::left::Left;
 use crate::phase::Phase;
@@ -21,10 +21,10 @@ impl<B: Ledgers, Q: Ledger, A: Ledger> Left<B, Q, A> {
         match phase {
             Phase::Asking {
                 ends: _,
-                line,
+                connection,
                 side: _,
             } => {
-                let Line { wire, lease } = line;
+                let LeasedConnection { wire, lease } = connection;
                 drop(wire);
                 self.keep_lease(rt, pools, lease);
             }

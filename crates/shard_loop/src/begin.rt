@@ -1,6 +1,6 @@
 //! The beginning of a transaction: its plan, its service's connection, and its reservation.
 
-use crate::connections::Line;
+use crate::connections::LeasedConnection;
 use crate::desk::Desk;
 use crate::phase::{Ends, Step};
 use crate::seats::At;
@@ -83,16 +83,16 @@ impl<'a, B: Ledgers, Q: Ledger, A: Ledger, G: Gate> Desk<'a, B, Q, A, G> {
         at: At<'_>,
         ends: Box<Ends>,
         point: Point,
-        line: Option<Line<Q, A>>,
+        connection: Option<LeasedConnection<Q, A>>,
     ) -> Step<B, Q, A> {
         let planned = match point {
             Point::Reqmod => self.plan_request(&ends),
             Point::Respmod => self.plan_response(&ends),
         };
         match planned {
-            Ok(planned) => self.lease_for(rt, at, ends, planned, line),
+            Ok(planned) => self.lease_for(rt, at, ends, planned, connection),
             Err(reason) => {
-                self.spare(rt, at, line);
+                self.spare(rt, at, connection);
                 self.refuse_user(at, ends, reason)
             }
         }
@@ -105,22 +105,22 @@ impl<'a, B: Ledgers, Q: Ledger, A: Ledger, G: Gate> Desk<'a, B, Q, A, G> {
         at: At<'_>,
         ends: Box<Ends>,
         planned: Planned,
-        line: Option<Line<Q, A>>,
+        connection: Option<LeasedConnection<Q, A>>,
     ) -> Step<B, Q, A> {
         let point = planned.offer.plan().point;
         let service = match self.service(point) {
             Some(service) if planned.offer.is_offered() => service,
             _ => {
-                self.spare(rt, at, line);
+                self.spare(rt, at, connection);
                 return self.reserve(rt, at, ends, planned, None);
             }
         };
-        let found = match line {
-            Some(line) => Ok(line),
+        let found = match connection {
+            Some(connection) => Ok(connection),
             None => self.lend(rt, at, point, service.address),
         };
         match found {
-            Ok(line) => self.reserve(rt, at, ends, planned, Some(line)),
+            Ok(connection) => self.reserve(rt, at, ends, planned, Some(connection)),
             Err(reason) => self.wait_or_refuse(rt, at, ends, reason),
         }
     }
@@ -132,17 +132,17 @@ impl<'a, B: Ledgers, Q: Ledger, A: Ledger, G: Gate> Desk<'a, B, Q, A, G> {
         at: At<'_>,
         ends: Box<Ends>,
         planned: Planned,
-        line: Option<Line<Q, A>>,
+        connection: Option<LeasedConnection<Q, A>>,
     ) -> Step<B, Q, A> {
         let bytes = claim(planned.offer.plan(), &self.limits);
         if bytes == 0 {
-            self.spare(rt, at, line);
+            self.spare(rt, at, connection);
             return Step::Over;
         }
         match self.shared.bank.open(rt, bytes) {
-            Ok(stake) => self.start(rt, at, ends, planned, line, stake),
+            Ok(stake) => self.start(rt, at, ends, planned, connection, stake),
             Err(fault) => {
-                self.spare(rt, at, line);
+                self.spare(rt, at, connection);
                 self.refuse_user(at, ends, open_reason(fault))
             }
         }

@@ -13,7 +13,7 @@ use trace_core::Point;
 use wire_kit::Gate;
 
 /// A leased connection to a service.
-pub struct Line<Q: Ledger, A: Ledger> {
+pub struct LeasedConnection<Q: Ledger, A: Ledger> {
     pub wire: SocketWire,
     pub lease: Leased<Q, A>,
 }
@@ -39,7 +39,7 @@ impl<'a, B: Ledgers, Q: Ledger, A: Ledger, G: Gate> Desk<'a, B, Q, A, G> {
         at: At<'_>,
         point: Point,
         address: SocketAddrV4,
-    ) -> Result<Line<Q, A>, Reason> {
+    ) -> Result<LeasedConnection<Q, A>, Reason> {
         if self.shared.pools.waiting.is_awaited(rt, point) {
             return Err(Reason::Busy);
         }
@@ -53,7 +53,7 @@ impl<'a, B: Ledgers, Q: Ledger, A: Ledger, G: Gate> Desk<'a, B, Q, A, G> {
         at: At<'_>,
         point: Point,
         address: SocketAddrV4,
-    ) -> Result<Line<Q, A>, Reason> {
+    ) -> Result<LeasedConnection<Q, A>, Reason> {
         let (wire, lease) = match self.shared.pools.take_live(rt, point) {
             Took::Idle(spare, lease) => {
                 let Spare { wire, ready } = spare;
@@ -68,18 +68,18 @@ impl<'a, B: Ledgers, Q: Ledger, A: Ledger, G: Gate> Desk<'a, B, Q, A, G> {
             }
             Took::Busy => return Err(Reason::Busy),
         };
-        self.line_of(rt, wire, lease)
+        self.connection_of(rt, wire, lease)
     }
 
     /// A connection with its lease, which is given up where there is no connection.
-    fn line_of<R: Wait>(
+    fn connection_of<R: Wait>(
         &mut self,
         rt: &R,
         wire: Result<SocketWire, Reason>,
         lease: Leased<Q, A>,
-    ) -> Result<Line<Q, A>, Reason> {
+    ) -> Result<LeasedConnection<Q, A>, Reason> {
         match wire {
-            Ok(wire) => Ok(Line { wire, lease }),
+            Ok(wire) => Ok(LeasedConnection { wire, lease }),
             Err(reason) => {
                 self.shared.pools.give_up(rt, lease);
                 Err(reason)
@@ -92,30 +92,36 @@ impl<'a, B: Ledgers, Q: Ledger, A: Ledger, G: Gate> Desk<'a, B, Q, A, G> {
         &mut self,
         rt: &R,
         at: At<'_>,
-        line: Line<Q, A>,
-    ) -> Result<Line<Q, A>, Reason> {
-        let Line { wire, lease } = line;
+        connection: LeasedConnection<Q, A>,
+    ) -> Result<LeasedConnection<Q, A>, Reason> {
+        let LeasedConnection { wire, lease } = connection;
         drop(wire);
         let mut lease = lease;
         let wire = self.fresh(rt, at, &mut lease);
-        self.line_of(rt, wire, lease)
+        self.connection_of(rt, wire, lease)
     }
 
     /// Closes a connection, and gives up its lease after that: others may open one in its place.
-    pub fn drop_line<R: Wait>(&mut self, rt: &R, line: Line<Q, A>) {
-        let Line { wire, lease } = line;
+    pub fn drop_connection<R: Wait>(&mut self, rt: &R, connection: LeasedConnection<Q, A>) {
+        let LeasedConnection { wire, lease } = connection;
         drop(wire);
         self.shared.pools.give_up(rt, lease);
     }
 
     /// Puts a connection back that may serve again. One that its service has ended, or on which it says what nobody asked
     /// for, is closed.
-    pub fn put_line<R: Wait>(&mut self, rt: &R, at: At<'_>, wire: SocketWire, lease: Leased<Q, A>) {
+    pub fn put_connection<R: Wait>(
+        &mut self,
+        rt: &R,
+        at: At<'_>,
+        wire: SocketWire,
+        lease: Leased<Q, A>,
+    ) {
         let mut wire = wire;
         let lives = wire.deregister(at.registry).is_ok() && wire.unread() == Unread::Nothing;
         match self.seats.dismiss(at.key) {
             Some(ready) if lives => self.shared.pools.put(rt, Spare { wire, ready }, lease),
-            _ => self.drop_line(rt, Line { wire, lease }),
+            _ => self.drop_connection(rt, LeasedConnection { wire, lease }),
         }
     }
 
@@ -134,10 +140,15 @@ impl<'a, B: Ledgers, Q: Ledger, A: Ledger, G: Gate> Desk<'a, B, Q, A, G> {
     }
 
     /// Gives back a connection that was asked for options and isn't used.
-    pub fn spare<R: Wait>(&mut self, rt: &R, at: At<'_>, line: Option<Line<Q, A>>) {
-        if let Some(line) = line {
-            let Line { wire, lease } = line;
-            self.put_line(rt, at, wire, lease);
+    pub fn spare<R: Wait>(
+        &mut self,
+        rt: &R,
+        at: At<'_>,
+        connection: Option<LeasedConnection<Q, A>>,
+    ) {
+        if let Some(connection) = connection {
+            let LeasedConnection { wire, lease } = connection;
+            self.put_connection(rt, at, wire, lease);
         }
     }
 }

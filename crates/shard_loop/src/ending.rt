@@ -5,7 +5,7 @@ use crate::halting::{parts_of, wire_of};
 use crate::phase::{Ends, Moving, Phase, Step};
 use crate::pools::Leased;
 use crate::seats::{At, Stay};
-use adapt_turn::{Line as ServiceLine, Outcome, Parts};
+use adapt_turn::{Line, Outcome, Parts};
 use http_relay::{NextHop, SourceSide};
 use icap_client::ServiceSide;
 use proxy_rules::{HeadMaker, Incoming, Reason, keeps_user};
@@ -63,7 +63,7 @@ impl<'a, B: Ledgers, Q: Ledger, A: Ledger, G: Gate> Desk<'a, B, Q, A, G> {
         rt: &R,
         at: At<'_>,
         lease: Option<Leased<Q, A>>,
-        service: Option<ServiceLine<ServiceSide, SocketWire>>,
+        service: Option<Line<ServiceSide, SocketWire>>,
         seen: &Seen,
     ) {
         let reusable = match &service {
@@ -74,7 +74,7 @@ impl<'a, B: Ledgers, Q: Ledger, A: Ledger, G: Gate> Desk<'a, B, Q, A, G> {
             None => false,
         };
         match (wire_of(service), lease) {
-            (Some(wire), Some(lease)) if reusable => self.put_line(rt, at, wire, lease),
+            (Some(wire), Some(lease)) if reusable => self.put_connection(rt, at, wire, lease),
             (wire, lease) => {
                 drop(wire);
                 self.give_up(rt, lease);

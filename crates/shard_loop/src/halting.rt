@@ -7,7 +7,7 @@ use crate::phase::{Moving, Phase, Step};
 use crate::pools::Leased;
 use crate::seats::At;
 use adapt_sides::{Hop, Service, Source};
-use adapt_turn::{Forward, Line as ServiceLine, Parts, Tx};
+use adapt_turn::{Forward, Line, Parts, Tx};
 use proxy_rules::{Beginning, Reason};
 use socket_wire::SocketWire;
 use span_bank::{Bank, Ledgers, Pages, Stake};
@@ -72,10 +72,10 @@ pub fn end_of<
 }
 
 /// The connection of a service's side that has ended. None where it was given up before.
-pub fn wire_of<V: Drop, W>(service: Option<ServiceLine<V, W>>) -> Option<W> {
+pub fn wire_of<V: Drop, W>(service: Option<Line<V, W>>) -> Option<W> {
     match service {
         Some(line) => {
-            let ServiceLine { side: _, wire } = line;
+            let Line { side: _, wire } = line;
             wire
         }
         None => None,
@@ -108,9 +108,9 @@ impl<'a, B: Ledgers, Q: Ledger, A: Ledger, G: Gate> Desk<'a, B, Q, A, G> {
         match phase {
             Phase::Asking {
                 ends: _,
-                line,
+                connection,
                 side: _,
-            } => self.drop_line(rt, line),
+            } => self.drop_connection(rt, connection),
             Phase::Moving { tx, lease } => {
                 self.end_moving(rt, Box::into_inner(tx), lease);
             }
@@ -131,10 +131,10 @@ impl<'a, B: Ledgers, Q: Ledger, A: Ledger, G: Gate> Desk<'a, B, Q, A, G> {
             }
             Phase::Asking {
                 ends,
-                line,
+                connection,
                 side: _,
             } => {
-                self.drop_line(rt, line);
+                self.drop_connection(rt, connection);
                 self.refuse_user(at, ends, Reason::Stopping)
             }
             Phase::Queued { ends, waiter } => {

@@ -6,7 +6,7 @@ use crate::seats::At;
 use crate::tally::{READ, REQUESTS, RETRIES, SENT, class_place, offer_place, refusal_place};
 use adapt_bytes::{front, is_blank, read_decimal, same_ascii, trim};
 use adapt_sides::ClientFault;
-use adapt_turn::{Line as ServiceLine, Outcome};
+use adapt_turn::{Line, Outcome};
 use exchange_report::Why;
 use http_side::Values;
 use icap_client::ServiceSide;
@@ -86,7 +86,7 @@ fn late_of(seen: &Seen) -> Why {
 }
 
 /// Why a service failed a transaction.
-fn service_word(service: &Option<ServiceLine<ServiceSide, SocketWire>>) -> Why {
+fn service_word(service: &Option<Line<ServiceSide, SocketWire>>) -> Why {
     let Some(line) = service else {
         return Why::ServiceBroken;
     };
@@ -232,7 +232,7 @@ impl<'a, B: Ledgers, Q: Ledger, A: Ledger, G: Gate> Desk<'a, B, Q, A, G> {
         at: At<'_>,
         seen: &Seen,
         outcome: Outcome,
-        service: &Option<ServiceLine<ServiceSide, SocketWire>>,
+        service: &Option<Line<ServiceSide, SocketWire>>,
         next: &SocketWire,
         user: &SocketWire,
     ) {

@@ -1,6 +1,6 @@
 //! Asking a service for its options.
 
-use crate::connections::Line;
+use crate::connections::LeasedConnection;
 use crate::desk::Desk;
 use crate::phase::{Ends, Phase, Step};
 use crate::seats::At;
@@ -96,7 +96,7 @@ impl<'a, B: Ledgers, Q: Ledger, A: Ledger, G: Gate> Desk<'a, B, Q, A, G> {
         service: &ServicePoint,
     ) -> Step<B, Q, A> {
         match self.lend(rt, at, point, service.address) {
-            Ok(line) => self.ask_on(rt, at, ends, service, line),
+            Ok(connection) => self.ask_on(rt, at, ends, service, connection),
             Err(reason) => self.wait_or_refuse(rt, at, ends, reason),
         }
     }
@@ -108,16 +108,20 @@ impl<'a, B: Ledgers, Q: Ledger, A: Ledger, G: Gate> Desk<'a, B, Q, A, G> {
         at: At<'_>,
         ends: Box<Ends>,
         service: &ServicePoint,
-        line: Line<Q, A>,
+        connection: LeasedConnection<Q, A>,
     ) -> Step<B, Q, A> {
         match asker(self.alloc, service) {
             Ok(side) => {
                 self.seats.touch(at);
-                Step::On(Phase::Asking { ends, line, side })
+                Step::On(Phase::Asking {
+                    ends,
+                    connection,
+                    side,
+                })
             }
             Err(_) => {
-                let Line { wire, lease } = line;
-                self.put_line(rt, at, wire, lease);
+                let LeasedConnection { wire, lease } = connection;
+                self.put_connection(rt, at, wire, lease);
                 self.refuse_user(at, ends, Reason::NoMemory)
             }
         }
@@ -129,10 +133,10 @@ impl<'a, B: Ledgers, Q: Ledger, A: Ledger, G: Gate> Desk<'a, B, Q, A, G> {
         rt: &R,
         at: At<'_>,
         ends: Box<Ends>,
-        line: Line<Q, A>,
+        connection: LeasedConnection<Q, A>,
         side: Box<OptionsSide>,
     ) -> Step<B, Q, A> {
-        let Line { wire, lease } = line;
+        let LeasedConnection { wire, lease } = connection;
         let mut wire = wire;
         let mut side = side;
         let before = wire.counts();
@@ -141,16 +145,24 @@ impl<'a, B: Ledgers, Q: Ledger, A: Ledger, G: Gate> Desk<'a, B, Q, A, G> {
         if moved {
             self.seats.touch(at);
         }
-        let line = Line { wire, lease };
+        let connection = LeasedConnection { wire, lease };
         match heard {
-            Ok(Some(answer)) => self.options_heard(rt, at, ends, line, &side, &answer),
-            Ok(None) if moved => Step::On(Phase::Asking { ends, line, side }),
-            Ok(None) if !self.is_late(at) => Step::Waits(Phase::Asking { ends, line, side }),
+            Ok(Some(answer)) => self.options_heard(rt, at, ends, connection, &side, &answer),
+            Ok(None) if moved => Step::On(Phase::Asking {
+                ends,
+                connection,
+                side,
+            }),
+            Ok(None) if !self.is_late(at) => Step::Waits(Phase::Asking {
+                ends,
+                connection,
+                side,
+            }),
             Ok(None) => {
-                self.drop_line(rt, line);
+                self.drop_connection(rt, connection);
                 self.refuse_user(at, ends, Reason::Deadline)
             }
-            Err(fault) => self.options_failed(rt, at, ends, line, fault),
+            Err(fault) => self.options_failed(rt, at, ends, connection, fault),
         }
     }
 
@@ -160,22 +172,22 @@ impl<'a, B: Ledgers, Q: Ledger, A: Ledger, G: Gate> Desk<'a, B, Q, A, G> {
         rt: &R,
         at: At<'_>,
         ends: Box<Ends>,
-        line: Line<Q, A>,
+        connection: LeasedConnection<Q, A>,
         fault: ClientFault,
     ) -> Step<B, Q, A> {
         let point = ends.point();
         let stale = self.shared.config.retry
-            && line.lease.reused()
+            && connection.lease.reused()
             && matches!(fault, ClientFault::Closed | ClientFault::Device);
         match self.service(point) {
-            Some(service) if stale => match self.renew(rt, at, line) {
-                Ok(line) => self.ask_on(rt, at, ends, service, line),
+            Some(service) if stale => match self.renew(rt, at, connection) {
+                Ok(connection) => self.ask_on(rt, at, ends, service, connection),
                 Err(reason) => self.refuse_user(at, ends, reason),
             },
             _ => {
-                let untouched = line.wire.counts() == (0, 0);
+                let untouched = connection.wire.counts() == (0, 0);
                 self.blame(at, asked_word(fault, untouched));
-                self.drop_line(rt, line);
+                self.drop_connection(rt, connection);
                 self.refuse_user(at, ends, options_reason(fault))
             }
         }
@@ -187,20 +199,20 @@ impl<'a, B: Ledgers, Q: Ledger, A: Ledger, G: Gate> Desk<'a, B, Q, A, G> {
         rt: &R,
         at: At<'_>,
         ends: Box<Ends>,
-        line: Line<Q, A>,
+        connection: LeasedConnection<Q, A>,
         side: &OptionsSide,
         answer: &IcapResponse,
     ) -> Step<B, Q, A> {
         let point = ends.point();
         if let Err(reason) = self.keep_record(rt, at, point, answer) {
             self.blame(at, Why::ServiceStatus);
-            self.drop_line(rt, line);
+            self.drop_connection(rt, connection);
             return self.refuse_user(at, ends, reason);
         }
         if is_reusable_after_options(side, answer) {
-            self.begin(rt, at, ends, point, Some(line))
+            self.begin(rt, at, ends, point, Some(connection))
         } else {
-            self.drop_line(rt, line);
+            self.drop_connection(rt, connection);
             self.begin(rt, at, ends, point, None)
         }
     }

@@ -1,6 +1,6 @@
 //! What a user's connection is in the midst of.
 
-use crate::connections::Line;
+use crate::connections::LeasedConnection;
 use crate::pools::Leased;
 use adapt_turn::Tx;
 use http_relay::{NextHop, RelayFault, SourceSide};
@@ -88,7 +88,7 @@ pub enum Phase<B: Ledgers, Q: Ledger, A: Ledger> {
     /// A message waits for the answer of its service to an OPTIONS request.
     Asking {
         ends: Box<Ends>,
-        line: Line<Q, A>,
+        connection: LeasedConnection<Q, A>,
         side: Box<OptionsSide>,
     },
     /// A message waits for a connection to its service, in the queue of its point.

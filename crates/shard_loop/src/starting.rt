@@ -5,7 +5,7 @@ ghost use Rattle.adapt_bytes.specs.declared.limits.TheConstants.{MAX_CAPACITY};
 ghost use Rattle.plan_rules.specs.Claims.{claim_of};
 
 use crate::begin::Planned;
-use crate::connections::Line;
+use crate::connections::LeasedConnection;
 use crate::desk::Desk;
 use crate::halting::unused;
 use crate::phase::{Ends, Moving, Phase, Starting, Step};
@@ -76,11 +76,17 @@ impl<'a, B: Ledgers, Q: Ledger, A: Ledger, G: Gate> Desk<'a, B, Q, A, G> {
     }
 
     /// Gives back what no transaction begins with.
-    fn forgo<R: Wait>(&mut self, rt: &R, at: At<'_>, line: Option<Line<Q, A>>, stake: Stake<B>)
+    fn forgo<R: Wait>(
+        &mut self,
+        rt: &R,
+        at: At<'_>,
+        connection: Option<LeasedConnection<Q, A>>,
+        stake: Stake<B>,
+    )
         requires { (stake.held ≡ 0) × (stake.pages ≡ 0) }
     {
         self.shared.bank.close(rt, stake, Pages::none());
-        self.spare(rt, at, line);
+        self.spare(rt, at, connection);
     }
 
     /// Brings both ends together, and starts.
@@ -90,7 +96,7 @@ impl<'a, B: Ledgers, Q: Ledger, A: Ledger, G: Gate> Desk<'a, B, Q, A, G> {
         at: At<'_>,
         ends: Box<Ends>,
         planned: Planned,
-        line: Option<Line<Q, A>>,
+        connection: Option<LeasedConnection<Q, A>>,
         stake: Stake<B>,
     ) -> Step<B, Q, A>
         requires empty { (stake.held ≡ 0) × (stake.pages ≡ 0) }
@@ -99,9 +105,9 @@ impl<'a, B: Ledgers, Q: Ledger, A: Ledger, G: Gate> Desk<'a, B, Q, A, G> {
     {
         let limits = self.limits;
         match self.open(rt, at, planned.address) {
-            Ok(opened) => self.join(rt, at, ends, opened, planned, limits, line, stake),
+            Ok(opened) => self.join(rt, at, ends, opened, planned, limits, connection, stake),
             Err(reason) => {
-                self.forgo(rt, at, line, stake);
+                self.forgo(rt, at, connection, stake);
                 self.refuse_user(at, ends, reason)
             }
         }
@@ -116,7 +122,7 @@ impl<'a, B: Ledgers, Q: Ledger, A: Ledger, G: Gate> Desk<'a, B, Q, A, G> {
         opened: Option<SocketWire>,
         planned: Planned,
         limits: Limits,
-        line: Option<Line<Q, A>>,
+        connection: Option<LeasedConnection<Q, A>>,
         stake: Stake<B>,
     ) -> Step<B, Q, A>
         requires empty { (stake.held ≡ 0) × (stake.pages ≡ 0) }
@@ -131,19 +137,19 @@ impl<'a, B: Ledgers, Q: Ledger, A: Ledger, G: Gate> Desk<'a, B, Q, A, G> {
         let mut ends = ends;
         match go_ahead(&mut ends.user, text) {
             Some([]) => match sides_of(Box::into_inner(ends), opened) {
-                Some(sides) => self.launch(rt, at, sides, planned, limits, line, stake),
+                Some(sides) => self.launch(rt, at, sides, planned, limits, connection, stake),
                 None => {
-                    self.forgo(rt, at, line, stake);
+                    self.forgo(rt, at, connection, stake);
                     Step::Over
                 }
             },
             Some(rest) => {
-                self.forgo(rt, at, line, stake);
+                self.forgo(rt, at, connection, stake);
                 self.seats.touch(at);
                 Step::On(Phase::Telling { ends, rest })
             }
             None => {
-                self.forgo(rt, at, line, stake);
+                self.forgo(rt, at, connection, stake);
                 Step::Over
             }
         }
@@ -155,12 +161,12 @@ impl<'a, B: Ledgers, Q: Ledger, A: Ledger, G: Gate> Desk<'a, B, Q, A, G> {
         rt: &R,
         at: At<'_>,
         is_offered: bool,
-        line: Option<Line<Q, A>>,
+        connection: Option<LeasedConnection<Q, A>>,
     ) -> (Option<SocketWire>, Option<Leased<Q, A>>) {
-        match line {
-            Some(Line { wire, lease }) if is_offered => (Some(wire), Some(lease)),
-            line => {
-                self.spare(rt, at, line);
+        match connection {
+            Some(LeasedConnection { wire, lease }) if is_offered => (Some(wire), Some(lease)),
+            connection => {
+                self.spare(rt, at, connection);
                 (None, None)
             }
         }
@@ -174,7 +180,7 @@ impl<'a, B: Ledgers, Q: Ledger, A: Ledger, G: Gate> Desk<'a, B, Q, A, G> {
         sides: Sides,
         planned: Planned,
         limits: Limits,
-        line: Option<Line<Q, A>>,
+        connection: Option<LeasedConnection<Q, A>>,
         stake: Stake<B>,
     ) -> Step<B, Q, A>
         requires empty { (stake.held ≡ 0) × (stake.pages ≡ 0) }
@@ -183,7 +189,7 @@ impl<'a, B: Ledgers, Q: Ledger, A: Ledger, G: Gate> Desk<'a, B, Q, A, G> {
     {
         let Planned { offer, .. } = planned;
         let offer = Box::into_inner(offer);
-        let (service_wire, lease) = self.engage(rt, at, offer.is_offered(), line);
+        let (service_wire, lease) = self.engage(rt, at, offer.is_offered(), connection);
         let reused = match &lease {
             Some(lease) => lease.reused(),
             None => false,

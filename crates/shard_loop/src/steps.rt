@@ -30,7 +30,11 @@ impl<'a, B: Ledgers, Q: Ledger, A: Ledger, G: Gate> Desk<'a, B, Q, A, G> {
     ) -> Step<B, Q, A> {
         match phase {
             Phase::Head(ends) => self.head_step(rt, at, ends),
-            Phase::Asking { ends, line, side } => self.asking_step(rt, at, ends, line, side),
+            Phase::Asking {
+                ends,
+                connection,
+                side,
+            } => self.asking_step(rt, at, ends, connection, side),
             Phase::Queued { ends, waiter } => self.queued_step(rt, at, ends, waiter),
             Phase::Telling { ends, rest } => self.telling_step(rt, at, ends, rest),
             Phase::Moving { tx, lease } => self.moving_step(rt, at, tx, lease),

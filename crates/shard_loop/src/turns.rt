@@ -1,6 +1,6 @@
 //! The turns of a transaction.
 
-use crate::connections::Line;
+use crate::connections::LeasedConnection;
 use crate::desk::Desk;
 use crate::phase::{Moving, Phase, Step};
 use crate::pools::Leased;
@@ -105,8 +105,8 @@ impl<'a, B: Ledgers, Q: Ledger, A: Ledger, G: Gate> Desk<'a, B, Q, A, G> {
             return;
         };
         match lease.take() {
-            Some(lease) if is_reusable => self.put_line(rt, at, wire, lease),
-            Some(lease) => self.drop_line(rt, Line { wire, lease }),
+            Some(lease) if is_reusable => self.put_connection(rt, at, wire, lease),
+            Some(lease) => self.drop_connection(rt, LeasedConnection { wire, lease }),
             None => drop(wire),
         }
     }

@@ -1,6 +1,6 @@
 //! Messages that wait for a connection to their service.
 
-use crate::connections::Line;
+use crate::connections::LeasedConnection;
 use crate::desk::Desk;
 use crate::phase::{Ends, Phase, Step};
 use crate::seats::At;
@@ -48,7 +48,7 @@ impl<'a, B: Ledgers, Q: Ledger, A: Ledger, G: Gate> Desk<'a, B, Q, A, G> {
         at: At<'_>,
         ends: &Ends,
         waiter: Waiter,
-    ) -> Result<Line<Q, A>, Reason> {
+    ) -> Result<LeasedConnection<Q, A>, Reason> {
         let point = ends.point();
         if !self.shared.pools.waiting.is_first(rt, point, waiter) {
             return Err(Reason::Busy);
@@ -79,9 +79,9 @@ impl<'a, B: Ledgers, Q: Ledger, A: Ledger, G: Gate> Desk<'a, B, Q, A, G> {
         waiter: Waiter,
     ) -> Step<B, Q, A> {
         match self.lend_in_turn(rt, at, &ends, waiter) {
-            Ok(line) => {
+            Ok(connection) => {
                 self.stop_waiting(rt, &ends, waiter);
-                self.offer_on(rt, at, ends, line)
+                self.offer_on(rt, at, ends, connection)
             }
             Err(reason) => match self.waited_reason(at, reason) {
                 Some(reason) => {
@@ -100,14 +100,14 @@ impl<'a, B: Ledgers, Q: Ledger, A: Ledger, G: Gate> Desk<'a, B, Q, A, G> {
         rt: &R,
         at: At<'_>,
         ends: Box<Ends>,
-        line: Line<Q, A>,
+        connection: LeasedConnection<Q, A>,
     ) -> Step<B, Q, A> {
         let point = ends.point();
         match self.service(point) {
             Some(service) if !self.book(point).is_fresh(at.now) => {
-                self.ask_on(rt, at, ends, service, line)
+                self.ask_on(rt, at, ends, service, connection)
             }
-            _ => self.begin(rt, at, ends, point, Some(line)),
+            _ => self.begin(rt, at, ends, point, Some(connection)),
         }
     }
 }
