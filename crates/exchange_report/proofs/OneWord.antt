@@ -1,5 +1,5 @@
 -- A value from outside is written as one word: each byte is visible, and no quote.
-use Rattle.std.proofs.Common.{◌≡◌, ℕ, ◌+◌, ◌/◌, ◌%◌, ◌<◌, Bool, true, false, List, [], ◌∷◌, ◌++◌, All, IsTrue, refl, arith, rules, length, codes, inl, inr}
+use Rattle.std.proofs.Common.{ℕ, ◌/◌, ◌%◌, ◌<◌, List, [], ◌∷◌, All, IsTrue, arith, rules, inl, inr}
 use Rattle.std.proofs.lemmas.Bool.{cases_Bool}
 use Rattle.std.proofs.lemmas.List.Elements.{All-cons, All-nil, All-append, All-head, All-tail}
 use Rattle.exchange_report.specs.Words.{is_plain, hex_digit, escaped, escaped_text, word_of}

@@ -1,5 +1,5 @@
 -- The log's line of an exchange: the fields of Squid's native format in their order, and three more.
-use Rattle.std.specs.Prelude.{◌≡◌, ℕ, ◌/◌, ◌%◌, Bool, true, false, List, [], ◌++◌, Option, Some, None, take, if◌then◌else◌, codes}
+use Rattle.std.specs.Prelude.{ℕ, ◌/◌, ◌%◌, Bool, List, [], ◌++◌, Option, Some, None, take, if◌then◌else◌, codes}
 use Rattle.adapt_bytes.specs.Numeral.{numeral, three_digits}
 use Rattle.exchange_report.specs.Words.{word_of}
 use Rattle.exchange_report.specs.declared.entry.Address.{Address}

@@ -1,5 +1,5 @@
 -- Counters as OpenMetrics text: the lines of a family stand together, behind those that say its kind and what it is.
-use Rattle.std.specs.Prelude.{◌≡◌, ℕ, List, [], ◌∷◌, ◌++◌, codes}
+use Rattle.std.specs.Prelude.{ℕ, List, [], ◌∷◌, ◌++◌, codes}
 use Rattle.adapt_bytes.specs.Numeral.{numeral}
 use Rattle.exchange_report.specs.declared.metrics.Kind.{Kind}
 use Rattle.exchange_report.specs.declared.metrics.Kind.TheVariants.{Counter, Gauge}

@@ -1,6 +1,6 @@
 //! Values from outside, each written as one word.
 
-ghost use Rattle.std.specs.Prelude.{◌≡◌, ◌<◌, ◌++◌, OnOk, take};
+ghost use Rattle.std.specs.Prelude.{◌≡◌, ◌<◌, ◌++◌, OnOk, IsTrue, take};
 ghost use Rattle.adapt_bytes.specs.Numeral.{numeral};
 ghost use Rattle.exchange_report.specs.Words.{is_plain, hex_digit, escaped, escaped_text, word_of};
 
@@ -46,10 +46,25 @@ fn write_escaped(out: &mut Vec<u8>, byte: u8) -> Result<(), AllocError>
     }
 }
 
-/// Adds bytes, each as it is or as `%XX`.
+/// Whether each byte is written as it is.
+fn are_plain(bytes: &[u8]) -> bool
+    ensures { IsTrue result → escaped_text bytes.now ≡ bytes.now }
+{
+    for byte in bytes {
+        if !is_plain(*byte) {
+            return false;
+        }
+    }
+    true
+}
+
+/// Adds bytes, each as it is or as `%XX`. Mostly all of them are plain, and are copied at once.
 fn write_bytes(out: &mut Vec<u8>, bytes: &[u8]) -> Result<(), AllocError>
     ensures { OnOk result (out.new.items ≡ out.old.items ++ escaped_text bytes.now) }
 {
+    if are_plain(bytes) {
+        return out.extend_from_slice(bytes);
+    }
     for byte in bytes {
         write_escaped(out, *byte)?;
     }
