@@ -15,3 +15,4 @@ pub mod Rows
 pub mod Refusals
 pub mod ByTurn
 pub mod Faultless
+pub mod Lines

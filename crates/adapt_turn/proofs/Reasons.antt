@@ -9,6 +9,7 @@ use Rattle.trace_core.specs.declared.history.Event.TheVariants.{Fail, Retry}
 use Rattle.trace_core.specs.Legal.{MayFollow}
 use Rattle.wire_kit.specs.Past.{Past, IsLater}
 use Rattle.adapt_sides.specs.declared.fault.ClientFault.{ClientFault}
+use Rattle.adapt_sides.specs.declared.fault.ClientFault.TheVariants as client
 use Rattle.adapt_hold.specs.Holding.{Holding, moved}
 use Rattle.adapt_hold.specs.Steps.{moved_all}
 use Rattle.adapt_turn.specs.declared.parts.Passed.{Passed}
@@ -16,8 +17,9 @@ use Rattle.adapt_turn.specs.declared.turned.Outcome.{Outcome}
 use Rattle.adapt_turn.specs.declared.turned.Outcome.TheVariants as outcomes
 use Rattle.adapt_sides.specs.declared.turn.Turn.{Turn}
 use Rattle.adapt_sides.specs.declared.fault.RelayFault.{RelayFault}
+use Rattle.adapt_sides.specs.declared.fault.RelayFault.TheVariants as relay
 use Rattle.adapt_sides.specs.Turns.{OfClientWire, OfRelayWire, FailsGiving, Remembers, IsExplained}
-use Rattle.adapt_turn.specs.Parts.{Breaks, HasCause, FailsFor, View, Report, Part, stepped, hop_cause, outcome_by, fault_of}
+use Rattle.adapt_turn.specs.Parts.{IsOfSide, source_cause, service_cause, Breaks, HasCause, FailsFor, View, Report, Part, stepped, hop_cause, outcome_by, fault_of}
 use Rattle.adapt_turn.specs.Stands.{Waited, WaitedBeside, WaitedBoth, Blamed, BlamedWriter, BlamedService}
 
 pub part_waits : {F : Type 0} {v : View F} {h k : Holding} {r : Report} {passed : Passed} → Part v h k r passed → passed.waiting ≡ true → Waited v.rests v.waits v.before v.after
@@ -29,6 +31,22 @@ part_blames p cause e = λ past b. let w = p.wire past b in (w.0, w.1, w.3.faile
 
 pub part_idle : {F : Type 0} {v : View F} {h k : Holding} {r : Report} {passed : Passed} → Part v h k r passed → passed.waiting ≡ true → passed.failed ≡ None
 part_idle p e = (p.tells.idle e).2
+
+-- the cause lies with the side, or with memory
+
+source_side : (fault : RelayFault) → IsOfSide (source_cause fault)
+source_side relay.NoMemory = tt
+source_side _ = tt
+
+pub source_blame : {new : Option RelayFault} (cause : Cause) → (fault : RelayFault) × (new ≡ Some fault) × (cause ≡ source_cause fault) → IsOfSide cause
+source_blame cause w = subst IsOfSide (sym w.2) (source_side w.0)
+
+service_side : (fault : ClientFault) → IsOfSide (service_cause fault)
+service_side client.NoMemory = tt
+service_side _ = tt
+
+pub service_blame : {new : Option ClientFault} (cause : Cause) → (fault : ClientFault) × (new ≡ Some fault) × (cause ≡ service_cause fault) → IsOfSide cause
+service_blame cause w = subst IsOfSide (sym w.2) (service_side w.0)
 
 -- the same sides and wires, by other names
 

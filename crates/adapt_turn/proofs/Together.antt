@@ -1,5 +1,5 @@
 -- Passes one behind the other, over the three wires.
-use Rattle.std.proofs.Common.{◌≡◌, ℕ, ◌<◌, ◌≤◌, inl, Bool, true, false, ◌||◌, List, [], ◌∷◌, ◌++◌, length, Option, Some, None, arith, refl, sym, ◌∙◌, ap, subst}
+use Rattle.std.proofs.Common.{◌≡◌, ℕ, ◌<◌, ◌≤◌, inl, inr, Bool, true, false, ◌||◌, List, [], ◌∷◌, ◌++◌, length, Option, Some, None, arith, refl, sym, ◌∙◌, ap, subst}
 use Rattle.std.specs.Prelude.{MatchOption, IfSome}
 use Rattle.std.proofs.lemmas.Bool.{false≢true}
 use Rattle.std.proofs.lemmas.List.{append-nil, append_assoc}
@@ -24,6 +24,7 @@ use Rattle.adapt_hold.specs.Holding.{Holding, IsTied, IsRoomy, shows, moved}
 use Rattle.adapt_turn.specs.declared.parts.Passed.{Passed}
 use Rattle.adapt_turn.specs.declared.start.Line.{Line}
 use Rattle.adapt_turn.specs.Parts.{Lent, SourcePart, SendPart, HearPart}
+use Rattle.adapt_turn.specs.Passes.{Disagrees, SourcePasses, WritesDue, ReadsReplies, ServicePasses, LinePasses, line_of}
 use Rattle.adapt_turn.specs.Stands.{Texts, joined, no_texts, Stands, Goes, HopsAre, IsRefusing, IsDelivered, IsDone}
 use Rattle.adapt_sides.specs.Tapes.{IsUndelivered}
 use Rattle.adapt_turn.specs.Made.{OfHead, on_held}
@@ -208,7 +209,7 @@ pub reopen : (h : Holding) (agrees : Seen → Type 0) (read : Seen → List ℕ 
 reopen h agrees read sent heard hopso hops refuses done delivered request t c f s =
     rehop h agrees read sent heard hopso hops refuses refuses done delivered request t t.next_taken t.back_taken (λ body p. f body t.next_taken t.back_taken p) (λ r. r) (λ w body p. absurd (false≢true (sym c ∙ w.0))) s
 
-pub source_goes : {S H W : Type 0} (s : Source S H) (w : Wire W) (old new : Lent S W) (sent : List ℕ → Seen → List ℕ → List ℕ → Type 0) (heard : Seen → List ℕ → List ℕ → Type 0) (hopso hops : Seen → List ℕ → List ℕ → List ℕ → Type 0) (refuses : Seen → Type 0) (done delivered : List ℕ → List ℕ → List ℕ → Type 0)
+source_goes : {S H W : Type 0} (s : Source S H) (w : Wire W) (old new : Lent S W) (sent : List ℕ → Seen → List ℕ → List ℕ → Type 0) (heard : Seen → List ℕ → List ℕ → Type 0) (hopso hops : Seen → List ℕ → List ℕ → List ℕ → Type 0) (refuses : Seen → Type 0) (done delivered : List ℕ → List ℕ → List ℕ → Type 0)
     (service next : Past → Type 0) (passed : Passed)
     → ((body next back : List ℕ) → hopso (shows old.hold.history) body next back → hops (shows old.hold.history) body next back) → Others (λ x. s.agrees x new.side) (λ x body read. s.has_read x body read new.side) sent heard hops refuses
     → IsTied old.hold → (shows old.hold.history).closed ≡ false → SourcePart s w old new passed
@@ -231,17 +232,26 @@ fail_goes h k cause agrees read sent heard hopso hops refuses done delivered sou
     goes_still _ _ source service next (λ request t o. fail_stands h k cause agrees read sent heard hops refuses delivered request t u tied (fail_runs h cause [] roomy c) c is (reopen h agrees read sent heard hopso hops refuses done delivered request t c conv o))
 
 -- a source that doesn't agree never stood
-pub disagree_goes : (h : Holding) (history : History) (agrees : Seen → Type 0) (read : Seen → List ℕ → Given → Type 0) (sent : List ℕ → Seen → List ℕ → List ℕ → Type 0) (heard : Seen → List ℕ → List ℕ → Type 0) (hops : Seen → List ℕ → List ℕ → List ℕ → Type 0) (refuses : Seen → Type 0) (delivered : List ℕ → List ℕ → List ℕ → Type 0)
-    (new : List ℕ → Texts → Type 0) (source service next : Past → Type 0)
-    → (shows h.history).closed ≡ false → history ≡ h.history → (agrees (shows history) → ⊥)
-    → Goes (Stands h agrees read sent heard hops refuses delivered) new source source service service next next
-disagree_goes h history agrees read sent heard hops refuses delivered new source service next c e un =
-    goes_still _ new source service next (λ request t o. absurd (un (subst (λ (y : History). agrees (shows y)) (sym e) (o.agrees_is c))))
+disagree_goes : {S H W : Type 0} (s : Source S H) (w : Wire W) (old new : Lent S W) (read : Seen → List ℕ → Given → Type 0) (sent : List ℕ → Seen → List ℕ → List ℕ → Type 0) (heard : Seen → List ℕ → List ℕ → Type 0) (hops : Seen → List ℕ → List ℕ → List ℕ → Type 0) (refuses : Seen → Type 0) (delivered : List ℕ → List ℕ → List ℕ → Type 0)
+    (stands : List ℕ → Texts → Type 0) (service next : Past → Type 0) (passed : Passed)
+    → (shows old.hold.history).closed ≡ false → Disagrees s old new passed
+    → Goes (Stands old.hold (λ x. s.agrees x old.side) read sent heard hops refuses delivered) stands (w.past old.wire) (w.past new.wire) service service next next
+disagree_goes {S} {H} {W} s w old new read sent heard hops refuses delivered stands service next passed c d =
+    subst (λ (z : W). Goes (Stands old.hold (λ x. s.agrees x old.side) read sent heard hops refuses delivered) stands (w.past old.wire) (w.past z) service service next next) (sym d.wire)
+    (goes_still _ stands (w.past old.wire) service next (λ request t o. absurd (d.no (o.agrees_is c))))
+
+pub source_passes_go : {S H W : Type 0} (s : Source S H) (w : Wire W) (old new : Lent S W) (sent : List ℕ → Seen → List ℕ → List ℕ → Type 0) (heard : Seen → List ℕ → List ℕ → Type 0) (hopso hops : Seen → List ℕ → List ℕ → List ℕ → Type 0) (refuses : Seen → Type 0) (done delivered : List ℕ → List ℕ → List ℕ → Type 0)
+    (service next : Past → Type 0) (passed : Passed)
+    → ((body next back : List ℕ) → hopso (shows old.hold.history) body next back → hops (shows old.hold.history) body next back) → Others (λ x. s.agrees x new.side) (λ x body read. s.has_read x body read new.side) sent heard hops refuses
+    → (shows old.hold.history).closed ≡ false → SourcePasses s w old new passed
+    → Goes (Stands old.hold (λ x. s.agrees x old.side) (λ x body read. s.has_read x body read old.side) sent heard hopso refuses done)
+    (Stands new.hold (λ x. s.agrees x new.side) (λ x body read. s.has_read x body read new.side) sent heard hops refuses delivered) (w.past old.wire) (w.past new.wire) service service next next
+source_passes_go s w old new sent heard hopso hops refuses done delivered service next passed conv u c p = elim p.did [
+  | inl a ↦ source_goes s w old new sent heard hopso hops refuses done delivered service next passed conv u p.tied c a.1
+  | inr d ↦ disagree_goes s w old new _ sent heard hopso refuses done _ service next passed c d
+]
 
 -- the service's line, where there is one
-
-abbrev pub held : {V W : Type 0} → Lent V W → Line V W
-held lent = record { side = lent.side; wire = Some lent.wire }
 
 abbrev pub sent_on : {V W : Type 0} → Service V → Option (Line V W) → List ℕ → Seen → List ℕ → List ℕ → Type 0
 sent_on v line heads x came taken = MatchOption line (taken ≡ []) (λ l. v.has_sent heads x came taken l.side)
@@ -252,9 +262,9 @@ heard_on v line x adapted text = MatchOption line ((adapted ≡ []) × (text ≡
 abbrev pub past_on : {V W : Type 0} → Wire W → Option (Line V W) → Past → Type 0
 past_on w line p = on_held line ⊥ (λ wire. w.past wire p)
 
-pub send_goes : {V W : Type 0} (v : Service V) (w : Wire W) (line : Option (Line V W)) (old new : Lent V W) (agrees : Seen → Type 0) (read : Seen → List ℕ → Given → Type 0)
+send_goes : {V W : Type 0} (v : Service V) (w : Wire W) (line : Option (Line V W)) (old new : Lent V W) (agrees : Seen → Type 0) (read : Seen → List ℕ → Given → Type 0)
     (hopso hops : Seen → List ℕ → List ℕ → List ℕ → Type 0) (refuses : Seen → Type 0) (done delivered : List ℕ → List ℕ → List ℕ → Type 0) (source next : Past → Type 0) (passed : Passed)
-    → line ≡ Some (held old) → ((body next back : List ℕ) → hopso (shows old.hold.history) body next back → hops (shows old.hold.history) body next back)
+    → line ≡ Some (line_of old.side old.wire) → ((body next back : List ℕ) → hopso (shows old.hold.history) body next back → hops (shows old.hold.history) body next back)
     → Others agrees read (sent_by v new.side) (heard_by v new.side) hops refuses → ((x : Seen) (adapted text : List ℕ) → v.has_heard x adapted text old.side → v.has_heard x adapted text new.side) → IsTied old.hold
     → (shows old.hold.history).closed ≡ false → SendPart v w old new passed
     → Goes (Stands old.hold agrees read (sent_on v line) (heard_on v line) hopso refuses done) (Stands new.hold agrees read (sent_by v new.side) (heard_by v new.side) hops refuses delivered)
@@ -270,9 +280,9 @@ send_goes {V} {W} v w line old new agrees read hopso hops refuses done delivered
       next = λ p b. still next p b;
     })
 
-pub hear_goes : {V W : Type 0} (v : Service V) (w : Wire W) (line : Option (Line V W)) (old new : Lent V W) (agrees : Seen → Type 0) (read : Seen → List ℕ → Given → Type 0)
+hear_goes : {V W : Type 0} (v : Service V) (w : Wire W) (line : Option (Line V W)) (old new : Lent V W) (agrees : Seen → Type 0) (read : Seen → List ℕ → Given → Type 0)
     (hopso hops : Seen → List ℕ → List ℕ → List ℕ → Type 0) (refuses : Seen → Type 0) (done delivered : List ℕ → List ℕ → List ℕ → Type 0) (source next : Past → Type 0) (passed : Passed)
-    → line ≡ Some (held old) → ((body next back : List ℕ) → hopso (shows old.hold.history) body next back → hops (shows old.hold.history) body next back)
+    → line ≡ Some (line_of old.side old.wire) → ((body next back : List ℕ) → hopso (shows old.hold.history) body next back → hops (shows old.hold.history) body next back)
     → Others agrees read (sent_by v new.side) (heard_by v new.side) hops refuses → ((heads came text : List ℕ) → v.has_sent heads (shows old.hold.history) came text old.side → v.has_sent heads (shows old.hold.history) came text new.side) → IsTied old.hold
     → (shows old.hold.history).closed ≡ false → HearPart v w old new passed
     → Goes (Stands old.hold agrees read (sent_on v line) (heard_on v line) hopso refuses done) (Stands new.hold agrees read (sent_by v new.side) (heard_by v new.side) hops refuses delivered)
@@ -287,6 +297,44 @@ hear_goes {V} {W} v w line old new agrees read hopso hops refuses done delivered
       service = λ p b. let w = d.part.wire p b in (w.0, w.1, w.2);
       next = λ p b. still next p b;
     })
+
+-- A pass of the line: what stands is told by what is held and by the line.
+module _ {V W : Type 0} (v : Service V) (w : Wire W) (agrees : Seen → Type 0) (read : Seen → List ℕ → Given → Type 0) (hops : Option (Line V W) → Seen → List ℕ → List ℕ → List ℕ → Type 0) (refuses : Seen → Type 0)
+    (delivered : Holding → Option (Line V W) → List ℕ → List ℕ → List ℕ → Type 0) (source next : Past → Type 0)
+    (conv : (x : Seen) (l m : Line V W) → (x.modified ≡ true → v.adapted_head m.side ≡ v.adapted_head l.side) → (x.modified ≡ true → v.is_response m.side ≡ v.is_response l.side)
+    → (body on back : List ℕ) → hops (Some l) x body on back → hops (Some m) x body on back)
+    (others : (line : Option (Line V W)) → Others agrees read (sent_on v line) (heard_on v line) (hops line) refuses) where
+  abbrev stands_on : Holding → Option (Line V W) → List ℕ → Texts → Type 0
+  stands_on h line = Stands h agrees read (sent_on v line) (heard_on v line) (hops line) refuses (delivered h line)
+
+  abbrev goes_on : Holding → Option (Line V W) → Holding → Option (Line V W) → Type 0
+  goes_on h line k line' = Goes (stands_on h line) (stands_on k line') source source (past_on w line) (past_on w line') next next
+
+  write_goes : (reused : Bool) (old new : Lent V W) (passed : Passed) → IsTied old.hold → (shows old.hold.history).closed ≡ false → WritesDue v w reused old new passed
+      → goes_on old.hold (Some (line_of old.side old.wire)) new.hold (Some (line_of new.side new.wire))
+  write_goes reused old new passed tied c d =
+      send_goes v w (Some (line_of old.side old.wire)) old new agrees read (hops (Some (line_of old.side old.wire))) (hops (Some (line_of new.side new.wire))) refuses _ _ source next passed
+      refl (conv (shows old.hold.history) (line_of old.side old.wire) (line_of new.side new.wire) (λ e. d.head) (λ e. d.response)) (others (Some (line_of new.side new.wire))) d.heard tied c d.part
+
+  read_goes : (reused : Bool) (old new : Lent V W) (passed : Passed) → IsTied old.hold → (shows old.hold.history).closed ≡ false → ReadsReplies v w reused old new passed
+      → goes_on old.hold (Some (line_of old.side old.wire)) new.hold (Some (line_of new.side new.wire))
+  read_goes reused old new passed tied c d =
+      hear_goes v w (Some (line_of old.side old.wire)) old new agrees read (hops (Some (line_of old.side old.wire))) (hops (Some (line_of new.side new.wire))) refuses _ _ source next passed
+      refl (conv (shows old.hold.history) (line_of old.side old.wire) (line_of new.side new.wire) d.head d.response) (others (Some (line_of new.side new.wire))) d.sent tied c d.part
+
+  side_goes : (reused : Bool) (old new : Lent V W) (passed : Passed) → (shows old.hold.history).closed ≡ false → ServicePasses v w reused old new passed
+      → goes_on old.hold (Some (line_of old.side old.wire)) new.hold (Some (line_of new.side new.wire))
+  side_goes reused old new passed c p = elim p.did [
+    | inl d ↦ write_goes reused old new passed p.tied c d
+    | inr d ↦ goes_then _ _ _ _ _ _ _ _ _ _ _ _ (write_goes reused old d.mid d.first p.tied c d.writes) (read_goes reused d.mid new d.second d.tied d.running d.reads)
+  ]
+
+  pub line_passes_go : (reused : Bool) (h : Holding) (line : Option (Line V W)) (k : Holding) (line' : Option (Line V W)) (passed : Passed) → (shows h.history).closed ≡ false → LinePasses v w reused h line k line' passed → goes_on h line k line'
+  line_passes_go reused h line k line' passed c p = elim p.did [
+    | inl n ↦ subst (λ (y : Holding). goes_on h line y line') (sym n.2) (subst (λ (z : Option (Line V W)). goes_on h line h z) (sym n.1) (goes_none (stands_on h line) source (past_on w line) next))
+    | inr m ↦ subst (λ (z : Option (Line V W)). goes_on h z k line') (sym m.4) (subst (λ (z : Option (Line V W)). goes_on h (Some (line_of m.0 m.2)) k z) (sym m.5)
+        (side_goes reused (record { hold = h; side = m.0; wire = m.2 }) (record { hold = k; side = m.1; wire = m.3 }) passed c m.6))
+  ]
 
 -- A new beginning, where there is a service and where there is none.
 

@@ -6,3 +6,4 @@ pub mod Refusals
 pub mod Rows
 pub mod Stands
 pub mod ByTurn
+pub mod Passes

@@ -3,9 +3,9 @@
 
 mod forward;
 mod parts;
+mod pass;
 mod start;
 mod turned;
-mod turning;
 mod tx;
 
 pub use forward::Forward;

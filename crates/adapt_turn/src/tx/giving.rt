@@ -8,15 +8,16 @@ ghost use Rattle.adapt_sides.specs.Turns.Gift.{nothing, message};
 ghost use Rattle.adapt_hold.specs.Holding.{shows, moved, IsTied};
 ghost use Rattle.adapt_turn.specs.Made.{MakesAt, MakesNoneAt, adapted_of, response_of, is_reqmod, answers_user};
 ghost use Rattle.adapt_turn.specs.Parts.{IsOfSide, outcome_by};
+ghost use Rattle.adapt_turn.specs.Passes.{NextPasses, writers};
 ghost use Rattle.adapt_turn.specs.Rows.{may_step, TookBy, Advances, BytesOr};
 ghost use Rattle.adapt_turn.specs.Stands.{IsChosen, Waited, BlamedWriter};
 ghost use Rattle.adapt_turn.specs.ByTurn.{OfWriter};
 
 use crate::forward::Forward;
 use crate::parts::{Passed, give, outcome_by};
+use crate::pass::idle;
 use crate::start::Line;
 use crate::turned::{Outcome, Side};
-use crate::tx::passes::idle;
 use crate::tx::{Going, Tx};
 use adapt_hold::{Hold, fail};
 use adapt_sides::{Hop, Service, Source};
@@ -220,24 +221,10 @@ impl<B: Ledgers, S: Source, V: Service, K: Hop, F: Forward<S, K>, A: Wire, W: Wi
     pub(crate) fn next_pass(&mut self, rt: &impl Wait, bank: &Bank<B>) -> Passed
         requires running { (shows self.old.hold.history).closed ≡ false }
         ensures goes { ⟦<Self as Going>⟧.goes self.old self.new }
-        ensures over { (cause : Cause) → result.failed ≡ Some cause → (shows self.new.hold.history).closed ≡ true }
-        ensures whole { result.broken ≡ false }
-        ensures idle { result.waiting ≡ true → result.failed ≡ None }
-        ensures waits { result.waiting ≡ true → (IsChosen (shows self.old.hold.history) → ⊥) ⊎ ((K.gift self.new.next ≡ nothing → K.gift self.new.back ≡ nothing → ⊥) × OfWriter (K.gift self.new.back) (Waited (K.rests (shows self.old.hold.history) self.new.next) (λ past. past.write_waits) (C.past self.old.next_wire) (C.past self.new.next_wire))
-            (Waited (K.rests (shows self.old.hold.history) self.new.back) (λ past. past.write_waits) (A.past self.old.source_wire) (A.past self.new.source_wire))) }
-        ensures still { result.waiting ≡ true → self.new.hold ≡ self.old.hold }
-        ensures took { TookBy (may_step Side.NextHop) self.old.hold self.new.hold }
+        ensures passes { NextPasses K.Hop A.Wire C.Wire (answers_user (shows self.old.hold.history) (response_of V.is_response self.old.service))
+            (MakesNoneAt (F.makes_none self.old.forward (S.head self.old.source)) (adapted_of V.adapted_head self.old.service) (response_of V.is_response self.old.service) (shows self.old.hold.history))
+            (writers self.old.hold self.old.next self.old.next_wire self.old.back self.old.source_wire) (writers self.new.hold self.new.next self.new.next_wire self.new.back self.new.source_wire) result }
         ensures apart { self.new.source ≡ self.old.source }
-        ensures way { (K.gift self.old.back ≡ nothing → K.gift self.new.back ≡ message → answers_user (shows self.old.hold.history) (response_of V.is_response self.old.service) ≡ true)
-            × (K.gift self.old.next ≡ nothing → K.gift self.new.next ≡ message → answers_user (shows self.old.hold.history) (response_of V.is_response self.old.service) ≡ false) }
-        ensures active { result.waiting ≡ false → OfWriter (K.gift self.new.back) (BytesOr (Advances (may_step Side.NextHop) self.old.hold self.new.hold) (C.past self.old.next_wire) (C.past self.new.next_wire))
-            (BytesOr (Advances (may_step Side.NextHop) self.old.hold self.new.hold) (A.past self.old.source_wire) (A.past self.new.source_wire)) }
-        ensures blames { (cause : Cause) → result.failed ≡ Some cause → (IsChosen (shows self.old.hold.history) × (K.gift self.old.next ≡ nothing) × (K.gift self.old.back ≡ nothing)
-            × MakesNoneAt (F.makes_none self.old.forward (S.head self.old.source)) (adapted_of V.adapted_head self.old.service) (response_of V.is_response self.old.service) (shows self.old.hold.history) cause) ⊎ (BlamedWriter cause (FailsGiving (K.breaks_length (shows self.old.hold.history) (K.body_framing self.new.next))) (K.fault self.old.next) (C.past self.old.next_wire) (C.past self.new.next_wire)
-            ⊎ BlamedWriter cause (FailsGiving (K.breaks_length (shows self.old.hold.history) (K.body_framing self.new.back))) (K.fault self.old.back) (A.past self.old.source_wire) (A.past self.new.source_wire)) }
-        ensures sound { result.failed ≡ None → (K.fault self.old.next ≡ None → K.fault self.new.next ≡ None) × (K.fault self.old.back ≡ None → K.fault self.new.back ≡ None) }
-        ensures elsewhere { OfWriter (K.gift self.new.back) (self.new.source_wire ≡ self.old.source_wire) (self.new.next_wire ≡ self.old.next_wire) }
-        ensures of_side { (cause : Cause) → result.failed ≡ Some cause → IsOfSide cause ⊎ MakesNoneAt (F.makes_none self.old.forward (S.head self.old.source)) (adapted_of V.adapted_head self.old.service) (response_of V.is_response self.old.service) (shows self.old.hold.history) cause }
         ensures outcome { self.new.outcome ≡ outcome_by result.failed }
         ensures served { self.new.service ≡ self.old.service }
         ensures timed { (self.new.last_moved ≡ self.old.last_moved) × (self.new.deadline ≡ self.old.deadline) }

@@ -27,6 +27,7 @@ use Rattle.adapt_sides.specs.Turns.{FailsGiving}
 use Rattle.adapt_turn.specs.Parts.{fault_of}
 use Rattle.adapt_turn.specs.declared.start.Line.{Line}
 use Rattle.adapt_turn.proofs.Faultless.{unmarked_before, unmarked_now}
+use Rattle.adapt_turn.proofs.Lines.{line_told}
 use Rattle.adapt_turn.proofs.tx.Tx.turn.Goals as goal
 
 pub returns-then-is_broken-clause-goes : goal.returns-then-is_broken-clause-goes
@@ -36,13 +37,13 @@ pub returns-clause-goes : goal.returns-clause-goes
 returns-clause-goes g c = goes_then _ _ _ _ _ _ _ _ _ _ _ _ c.pass-passed.ensures.goes c.after_pass.ensures.goes
 
 pub returns-clause-timely : goal.returns-clause-timely
-returns-clause-timely g c = λ o e. elim (c.pass-passed.ensures.of_side Deadline (outcome_fails c.pass-passed.result.failed c.after_pass.new.self.outcome Deadline (c.after_pass.ensures.outcome ∙ c.pass-passed.ensures.outcome) e)) [
+returns-clause-timely g c = λ o e. elim (c.pass-passed.ensures.any.of_side Deadline (outcome_fails c.pass-passed.result.failed c.after_pass.new.self.outcome Deadline (c.after_pass.ensures.outcome ∙ c.pass-passed.ensures.outcome) e)) [
   | inl b ↦ absurd b
   | inr m ↦ inr m
 ]
 
 pub returns-clause-unstopped : goal.returns-clause-unstopped
-returns-clause-unstopped g c = λ o e. elim (c.pass-passed.ensures.of_side Stopping (outcome_fails c.pass-passed.result.failed c.after_pass.new.self.outcome Stopping (c.after_pass.ensures.outcome ∙ c.pass-passed.ensures.outcome) e)) [
+returns-clause-unstopped g c = λ o e. elim (c.pass-passed.ensures.any.of_side Stopping (outcome_fails c.pass-passed.result.failed c.after_pass.new.self.outcome Stopping (c.after_pass.ensures.outcome ∙ c.pass-passed.ensures.outcome) e)) [
   | inl b ↦ absurd b
   | inr m ↦ m
 ]
@@ -69,22 +70,22 @@ returns-then-is_broken-clause-refuses g c = λ o cause e. absurd (false≢true (
 pub returns-clause-answers : goal.returns-clause-answers
 returns-clause-answers g c = by_answer c.after_pass.result _ _ _ _
     (λ w. (
-      c.after_pass.ensures.hold ∙ c.pass-passed.ensures.still (c.after_pass.ensures.waiting w).0,
+      c.after_pass.ensures.hold ∙ c.pass-passed.ensures.any.still (c.after_pass.ensures.waiting w).0,
       moves_of g.A.Wire.past g.W.Wire.past g.C.Wire.past c.args.self.now.source_wire c.pass-passed.new.self.source_wire c.after_pass.new.self.source_wire
           c.args.self.now.service c.pass-passed.new.self.service c.after_pass.new.self.service c.args.self.now.next_wire c.pass-passed.new.self.next_wire c.after_pass.new.self.next_wire _ _ _ _ _ _ 0
           c.counts-before.ensures.source c.counts.ensures.source c.counts-before.ensures.service c.counts.ensures.service c.counts-before.ensures.next c.counts.ensures.next
           c.pass-passed.ensures.served c.after_pass.ensures.kept.1 c.after_pass.ensures.kept.2 c.after_pass.ensures.kept.3 (sym (c.after_pass.ensures.waiting w).1 ∙ c.since-moved.ensures),
       λ k. absurd (false≢true (sym (sym c.is_closed.ensures ∙ c.if-is_closed.false) ∙ k)),
       λ k. for_side c.args.side _ _ _
-          (λ s. (waits_kept (λ z. g.S.Source.rests (original_room (shows c.args.self.now.hold.history) c.args.self.now.hold.claim c.args.self.now.hold.limits.window) z) g.A.Wire.past _ _ c.pass-passed.new.self.source c.after_pass.new.self.source c.pass-passed.new.self.source_wire c.after_pass.new.self.source_wire c.after_pass.ensures.kept.0 c.after_pass.ensures.kept.1 (c.pass-passed.ensures.waits_source s (c.after_pass.ensures.waiting w).0), subst (λ z. g.S.Source.is_framed (original_room (shows c.args.self.now.hold.history) c.args.self.now.hold.claim c.args.self.now.hold.limits.window) z) (sym c.after_pass.ensures.kept.0) (c.pass-passed.ensures.framed_source s (c.after_pass.ensures.waiting w).0)))
-          (λ s. (both_kept (λ l. g.V.Service.rests_writing (shows c.args.self.now.hold.history) l.side) (λ l. g.V.Service.rests_reading (shows c.args.self.now.hold.history) (adapted_room (shows c.args.self.now.hold.history) c.args.self.now.hold.limits.window) l.side) (λ l p. MatchOption l.wire ⊥ (λ w. g.W.Wire.past w p)) _ c.pass-passed.new.self.service c.after_pass.new.self.service c.after_pass.ensures.kept.2 (c.pass-passed.ensures.waits_service s (c.after_pass.ensures.waiting w).0), subst (λ z. MatchOption z ⊤ (λ l. MatchOption l.wire ⊤ (λ w. g.V.Service.is_framed (adapted_room (shows c.args.self.now.hold.history) c.args.self.now.hold.limits.window) l.side))) (sym c.after_pass.ensures.kept.2) (c.pass-passed.ensures.framed_service s (c.after_pass.ensures.waiting w).0)))
-          (λ s. elim (c.pass-passed.ensures.waits_next s (c.after_pass.ensures.waiting w).0) [
+          (λ s. (waits_kept (λ z. g.S.Source.rests (original_room (shows c.args.self.now.hold.history) c.args.self.now.hold.claim c.args.self.now.hold.limits.window) z) g.A.Wire.past _ _ c.pass-passed.new.self.source c.after_pass.new.self.source c.pass-passed.new.self.source_wire c.after_pass.new.self.source_wire c.after_pass.ensures.kept.0 c.after_pass.ensures.kept.1 ((c.pass-passed.ensures.source s).waits (c.after_pass.ensures.waiting w).0), subst (λ z. g.S.Source.is_framed (original_room (shows c.args.self.now.hold.history) c.args.self.now.hold.claim c.args.self.now.hold.limits.window) z) (sym c.after_pass.ensures.kept.0) ((c.pass-passed.ensures.source s).framed (c.after_pass.ensures.waiting w).0)))
+          (λ s. (both_kept (λ l. g.V.Service.rests_writing (shows c.args.self.now.hold.history) l.side) (λ l. g.V.Service.rests_reading (shows c.args.self.now.hold.history) (adapted_room (shows c.args.self.now.hold.history) c.args.self.now.hold.limits.window) l.side) (λ l p. MatchOption l.wire ⊥ (λ w. g.W.Wire.past w p)) _ c.pass-passed.new.self.service c.after_pass.new.self.service c.after_pass.ensures.kept.2 ((line_told (c.pass-passed.ensures.service s)).waits (c.after_pass.ensures.waiting w).0), subst (λ z. MatchOption z ⊤ (λ l. MatchOption l.wire ⊤ (λ w. g.V.Service.is_framed (adapted_room (shows c.args.self.now.hold.history) c.args.self.now.hold.limits.window) l.side))) (sym c.after_pass.ensures.kept.2) ((line_told (c.pass-passed.ensures.service s)).framed (c.after_pass.ensures.waiting w).0)))
+          (λ s. elim ((c.pass-passed.ensures.next s).waits (c.after_pass.ensures.waiting w).0) [
             | inl u ↦ inl u
             | inr v ↦ inr (
-              λ n b. v.0 (sym (ap g.K.Hop.gift (c.after_pass.ensures.same (c.pass-passed.ensures.idle (c.after_pass.ensures.waiting w).0)).0) ∙ n) (sym (ap g.K.Hop.gift (c.after_pass.ensures.same (c.pass-passed.ensures.idle (c.after_pass.ensures.waiting w).0)).1) ∙ b),
-              of_either _ _ _ _ _ _ (ap g.K.Hop.gift (c.after_pass.ensures.same (c.pass-passed.ensures.idle (c.after_pass.ensures.waiting w).0)).1)
-                  (λ z. waits_kept (λ k. g.K.Hop.rests (shows c.args.self.now.hold.history) k) g.C.Wire.past _ _ c.pass-passed.new.self.next c.after_pass.new.self.next c.pass-passed.new.self.next_wire c.after_pass.new.self.next_wire (c.after_pass.ensures.same (c.pass-passed.ensures.idle (c.after_pass.ensures.waiting w).0)).0 c.after_pass.ensures.kept.3 z)
-                  (λ z. waits_kept (λ k. g.K.Hop.rests (shows c.args.self.now.hold.history) k) g.A.Wire.past _ _ c.pass-passed.new.self.back c.after_pass.new.self.back c.pass-passed.new.self.source_wire c.after_pass.new.self.source_wire (c.after_pass.ensures.same (c.pass-passed.ensures.idle (c.after_pass.ensures.waiting w).0)).1 c.after_pass.ensures.kept.1 z)
+              λ n b. v.0 (sym (ap g.K.Hop.gift (c.after_pass.ensures.same (c.pass-passed.ensures.any.idle (c.after_pass.ensures.waiting w).0)).0) ∙ n) (sym (ap g.K.Hop.gift (c.after_pass.ensures.same (c.pass-passed.ensures.any.idle (c.after_pass.ensures.waiting w).0)).1) ∙ b),
+              of_either _ _ _ _ _ _ (ap g.K.Hop.gift (c.after_pass.ensures.same (c.pass-passed.ensures.any.idle (c.after_pass.ensures.waiting w).0)).1)
+                  (λ z. waits_kept (λ k. g.K.Hop.rests (shows c.args.self.now.hold.history) k) g.C.Wire.past _ _ c.pass-passed.new.self.next c.after_pass.new.self.next c.pass-passed.new.self.next_wire c.after_pass.new.self.next_wire (c.after_pass.ensures.same (c.pass-passed.ensures.any.idle (c.after_pass.ensures.waiting w).0)).0 c.after_pass.ensures.kept.3 z)
+                  (λ z. waits_kept (λ k. g.K.Hop.rests (shows c.args.self.now.hold.history) k) g.A.Wire.past _ _ c.pass-passed.new.self.back c.after_pass.new.self.back c.pass-passed.new.self.source_wire c.after_pass.new.self.source_wire (c.after_pass.ensures.same (c.pass-passed.ensures.any.idle (c.after_pass.ensures.waiting w).0)).1 c.after_pass.ensures.kept.1 z)
                   v.1,
             )
           ]),
@@ -105,13 +106,13 @@ returns-clause-answers g c = by_answer c.after_pass.result _ _ _ _
                 c.pass-passed.ensures.served refl refl refl (c.after_pass.ensures.moved 0 e ∙ c.since-moved.ensures)) in
                 subst (λ h. Advances (may_step c.args.side) c.args.self.now.hold h) (sym c.after_pass.ensures.hold)
                 (by_side c.args.side (λ side. Advances (may_step side) c.args.self.now.hold c.pass-passed.new.self.hold)
-                (λ s. let v = c.pass-passed.ensures.active_source s w p a in v.4 (k.0 p v.0 a v.1))
+                (λ s. let v = (c.pass-passed.ensures.source s).active w p a in v.4 (k.0 p v.0 a v.1))
                 (λ s. some_line g.W.Wire.past c.args.self.now.service c.pass-passed.new.self.service _ q b k.1
-                (λ n. false≢true (sym w ∙ c.pass-passed.ensures.absent s n)) (c.pass-passed.ensures.active_service s w (c.after_pass.ensures.active 0 e).1))
-                (λ s. of_one _ _ _ _ (λ act. let v = act r d in v.4 (k.2 r v.0 d v.1)) (λ act. let v = act p a in v.4 (k.0 p v.0 a v.1)) (c.pass-passed.ensures.active_next s w))),
+                (λ n. false≢true (sym w ∙ (line_told (c.pass-passed.ensures.service s)).absent n)) ((line_told (c.pass-passed.ensures.service s)).active w (c.after_pass.ensures.active 0 e).1))
+                (λ s. of_one _ _ _ _ (λ act. let v = act r d in v.4 (k.2 r v.0 d v.1)) (λ act. let v = act p a in v.4 (k.0 p v.0 a v.1)) ((c.pass-passed.ensures.next s).active w))),
           ),
     ))
-    (λ b. let w = c.pass-passed.ensures.breaks (c.after_pass.ensures.broken b) in
+    (λ b. let w = c.pass-passed.ensures.any.breaks (c.after_pass.ensures.broken b) in
     let k = breaks_kept (λ l. g.V.Service.fault l.side) c.args.self.now.reused c.pass-passed.new.self.hold c.after_pass.new.self.hold c.pass-passed.new.self.service c.after_pass.new.self.service c.after_pass.ensures.kept.2 c.after_pass.ensures.hold w.2 in
     (w.0, sym c.is_closed.ensures ∙ c.if-is_closed.false, k.0, inr k.1))
     (λ outcome e. absurd (c.after_pass.ensures.open outcome e))
@@ -150,20 +151,20 @@ returns-clause-fails g c = λ o cause e.
     let f = outcome_fails c.pass-passed.result.failed c.after_pass.new.self.outcome cause (c.after_pass.ensures.outcome ∙ c.pass-passed.ensures.outcome) e in
     inr (for_side c.args.side _ _ _
     (λ s. (
-      λ a. blamed_kept _ _ cause g.A.Wire.past _ _ (g.S.Source.fault c.pass-passed.new.self.source) (g.S.Source.fault c.after_pass.new.self.source) c.pass-passed.new.self.source_wire c.after_pass.new.self.source_wire (ap g.S.Source.fault c.after_pass.ensures.kept.0) c.after_pass.ensures.kept.1 ((c.pass-passed.ensures.blames_source s cause f).0 a),
-      (c.pass-passed.ensures.blames_source s cause f).1,
-      cause_kept (λ z fault. g.S.Source.has_reason fault z) _ _ _ c.pass-passed.new.self.source c.after_pass.new.self.source (ap g.S.Source.fault c.after_pass.ensures.kept.0) c.after_pass.ensures.kept.0 (c.pass-passed.ensures.reason_source s),
+      λ a. blamed_kept _ _ cause g.A.Wire.past _ _ (g.S.Source.fault c.pass-passed.new.self.source) (g.S.Source.fault c.after_pass.new.self.source) c.pass-passed.new.self.source_wire c.after_pass.new.self.source_wire (ap g.S.Source.fault c.after_pass.ensures.kept.0) c.after_pass.ensures.kept.1 (((c.pass-passed.ensures.source s).blames cause f).0 a),
+      ((c.pass-passed.ensures.source s).blames cause f).1,
+      cause_kept (λ z fault. g.S.Source.has_reason fault z) _ _ _ c.pass-passed.new.self.source c.after_pass.new.self.source (ap g.S.Source.fault c.after_pass.ensures.kept.0) c.after_pass.ensures.kept.0 ((c.pass-passed.ensures.source s).reason),
     ))
     (λ s. (
-      λ n. (let d : None ≡ Some cause = sym (c.pass-passed.ensures.idle (c.pass-passed.ensures.absent s n)) ∙ f in absurd cc),
-      line_blamed_kept (λ l. g.V.Service.fault l.side) (λ l p. MatchOption l.wire ⊥ (λ w. g.W.Wire.past w p)) cause _ _ c.pass-passed.new.self.service c.after_pass.new.self.service c.after_pass.ensures.kept.2 (c.pass-passed.ensures.blames_service s cause f),
-      fails_kept (λ l. g.V.Service.fault l.side) (λ fault x l. g.V.Service.has_reason fault x l.side) cause c.args.self.now.reused c.args.self.now.service c.pass-passed.new.self.hold c.after_pass.new.self.hold c.pass-passed.new.self.service c.after_pass.new.self.service c.after_pass.ensures.hold c.after_pass.ensures.kept.2 (c.pass-passed.ensures.unbroken s cause f),
+      λ n. (let d : None ≡ Some cause = sym (c.pass-passed.ensures.any.idle ((line_told (c.pass-passed.ensures.service s)).absent n)) ∙ f in absurd cc),
+      line_blamed_kept (λ l. g.V.Service.fault l.side) (λ l p. MatchOption l.wire ⊥ (λ w. g.W.Wire.past w p)) cause _ _ c.pass-passed.new.self.service c.after_pass.new.self.service c.after_pass.ensures.kept.2 ((line_told (c.pass-passed.ensures.service s)).blames cause f),
+      fails_kept (λ l. g.V.Service.fault l.side) (λ fault x l. g.V.Service.has_reason fault x l.side) cause c.args.self.now.reused c.args.self.now.service c.pass-passed.new.self.hold c.after_pass.new.self.hold c.pass-passed.new.self.service c.after_pass.new.self.service c.after_pass.ensures.hold c.after_pass.ensures.kept.2 ((line_told (c.pass-passed.ensures.service s)).unbroken cause f),
     ))
     (λ s.
     let x = shows c.args.self.now.hold.history in
     let mid = c.pass-passed.new.self in
     let new = c.after_pass.new.self in
-    elim (c.pass-passed.ensures.blames_next s cause f) [
+    elim ((c.pass-passed.ensures.next s).blames cause f) [
       | inl u ↦ inl u
       | inr (inl v) ↦ inr (inl (writer_kept cause (λ z. FailsGiving (g.K.Hop.breaks_length x z)) _ g.C.Wire.past _ (g.K.Hop.body_framing mid.next) (g.K.Hop.body_framing new.next) mid.next_wire new.next_wire c.after_pass.ensures.framings.0 c.after_pass.ensures.kept.3 v))
       | inr (inr v) ↦ inr (inr (writer_kept cause (λ z. FailsGiving (g.K.Hop.breaks_length x z)) _ g.A.Wire.past _ (g.K.Hop.body_framing mid.back) (g.K.Hop.body_framing new.back) mid.source_wire new.source_wire c.after_pass.ensures.framings.1 c.after_pass.ensures.kept.1 v))
@@ -209,39 +210,39 @@ pub returns-clause-keeps : goal.returns-clause-keeps
 returns-clause-keeps g c = (
   λ o. (
     subst (λ h. TookBy (may_step c.args.side) c.args.self.now.hold h) (sym c.after_pass.ensures.hold)
-        (by_side c.args.side (λ side. TookBy (may_step side) c.args.self.now.hold c.pass-passed.new.self.hold) (λ s. c.pass-passed.ensures.took_source s) (λ s. c.pass-passed.ensures.took_service s) (λ s. c.pass-passed.ensures.took_next s)),
+        (by_side c.args.side (λ side. TookBy (may_step side) c.args.self.now.hold c.pass-passed.new.self.hold) (λ s. (c.pass-passed.ensures.source s).took) (λ s. (line_told (c.pass-passed.ensures.service s)).took) (λ s. (c.pass-passed.ensures.next s).took)),
     for_side c.args.side _ _ _
         (λ s. let a = c.pass-passed.ensures.apart_source s in (
           c.after_pass.ensures.kept.2 ∙ a.0,
           c.after_pass.ensures.kept.3 ∙ a.1,
-          paced_kept _ (λ x. x.received) c.pass-passed.new.self.hold c.after_pass.new.self.hold c.after_pass.ensures.hold (c.pass-passed.ensures.paced_source s),
+          paced_kept _ (λ x. x.received) c.pass-passed.new.self.hold c.after_pass.new.self.hold c.after_pass.ensures.hold ((c.pass-passed.ensures.source s).paced),
           λ n. let w = c.after_pass.ensures.same (unfailed c.pass-passed.result.failed c.after_pass.new.self.outcome (c.after_pass.ensures.outcome ∙ c.pass-passed.ensures.outcome) n) in (w.0 ∙ a.2, w.1 ∙ a.3),
         ))
         (λ s. let a = c.pass-passed.ensures.apart_service s in (
           c.after_pass.ensures.kept.0 ∙ a.0,
           c.after_pass.ensures.kept.1 ∙ a.1,
           c.after_pass.ensures.kept.3 ∙ a.2,
-          paced_kept _ (λ x. x.adapted_received) c.pass-passed.new.self.hold c.after_pass.new.self.hold c.after_pass.ensures.hold (c.pass-passed.ensures.paced_service s),
+          paced_kept _ (λ x. x.adapted_received) c.pass-passed.new.self.hold c.after_pass.new.self.hold c.after_pass.ensures.hold ((line_told (c.pass-passed.ensures.service s)).paced),
           λ n. let w = c.after_pass.ensures.same (unfailed c.pass-passed.result.failed c.after_pass.new.self.outcome (c.after_pass.ensures.outcome ∙ c.pass-passed.ensures.outcome) n) in (w.0 ∙ a.3, w.1 ∙ a.4),
         ))
         (λ s. let a = c.pass-passed.ensures.apart_next s in (
           c.after_pass.ensures.kept.0 ∙ a.0,
           c.after_pass.ensures.kept.2 ∙ a.1,
-          of_one _ _ _ _ (λ w. inl (c.after_pass.ensures.kept.1 ∙ w)) (λ w. inr (c.after_pass.ensures.kept.3 ∙ w)) (c.pass-passed.ensures.elsewhere s),
+          of_one _ _ _ _ (λ w. inl (c.after_pass.ensures.kept.1 ∙ w)) (λ w. inr (c.after_pass.ensures.kept.3 ∙ w)) ((c.pass-passed.ensures.next s).elsewhere),
           λ n.
               let w = c.after_pass.ensures.same (unfailed c.pass-passed.result.failed c.after_pass.new.self.outcome (c.after_pass.ensures.outcome ∙ c.pass-passed.ensures.outcome) n) in
-              of_either _ _ _ _ _ _ (ap g.K.Hop.gift w.1) (λ v. c.after_pass.ensures.kept.1 ∙ v) (λ v. c.after_pass.ensures.kept.3 ∙ v) (c.pass-passed.ensures.elsewhere s),
+              of_either _ _ _ _ _ _ (ap g.K.Hop.gift w.1) (λ v. c.after_pass.ensures.kept.1 ∙ v) (λ v. c.after_pass.ensures.kept.3 ∙ v) ((c.pass-passed.ensures.next s).elsewhere),
         )),
     λ n m. let w = c.after_pass.ensures.messages.1 m in
         by_side c.args.side (λ side. answers_user (shows c.args.self.now.hold.history) (response_of g.V.Service.is_response c.args.self.now.service) ≡ true)
         (λ s. absurd (idle_no_message _ n (sym (ap g.K.Hop.gift (c.pass-passed.ensures.apart_source s).3) ∙ w)))
         (λ s. absurd (idle_no_message _ n (sym (ap g.K.Hop.gift (c.pass-passed.ensures.apart_service s).4) ∙ w)))
-        (λ s. (c.pass-passed.ensures.way s).0 n w),
+        (λ s. (c.pass-passed.ensures.next s).way.0 n w),
     λ n m. let w = c.after_pass.ensures.messages.0 m in
         by_side c.args.side (λ side. answers_user (shows c.args.self.now.hold.history) (response_of g.V.Service.is_response c.args.self.now.service) ≡ false)
         (λ s. absurd (idle_no_message _ n (sym (ap g.K.Hop.gift (c.pass-passed.ensures.apart_source s).2) ∙ w)))
         (λ s. absurd (idle_no_message _ n (sym (ap g.K.Hop.gift (c.pass-passed.ensures.apart_service s).3) ∙ w)))
-        (λ s. (c.pass-passed.ensures.way s).1 n w),
+        (λ s. (c.pass-passed.ensures.next s).way.1 n w),
   ),
   λ k. absurd (false≢true (sym (sym c.is_closed.ensures ∙ c.if-is_closed.false) ∙ k)),
 )
@@ -279,20 +280,20 @@ returns-clause-faultless g c = λ o f.
     let p = c.pass-passed.ensures in
     let a = c.after_pass.ensures in
     let mid = c.pass-passed.new.self in
-    let n = not_failed c.pass-passed.result.failed _ p.over (ap (λ (h : Holding). (shows h.history).closed) (sym a.hold) ∙ o) in
+    let n = not_failed c.pass-passed.result.failed _ p.any.over (ap (λ (h : Holding). (shows h.history).closed) (sym a.hold) ∙ o) in
     let of_line = fault_of (λ (l : Line g.row.V.Denot g.row.W.Denot). g.V.Service.fault l.side) in (
       ap g.S.Source.fault a.kept.0 ∙ by_side c.args.side (λ side. g.S.Source.fault mid.source ≡ None)
-          (λ s. p.sound_source s n) (λ s. ap g.S.Source.fault (p.apart_service s).0 ∙ f.0) (λ s. ap g.S.Source.fault (p.apart_next s).0 ∙ f.0),
+          (λ s. (p.source s).sound n) (λ s. ap g.S.Source.fault (p.apart_service s).0 ∙ f.0) (λ s. ap g.S.Source.fault (p.apart_next s).0 ∙ f.0),
       λ b. ap of_line a.kept.2 ∙ (
           let before = f.1 (sym p.marked.0 ∙ unmarked_before mid.broken c.after_pass.new.self.broken _ a.marked.0 b) in
           by_side c.args.side (λ side. of_line mid.service ≡ None)
           (λ s. ap of_line (p.apart_source s).0 ∙ before)
-          (λ s. p.sound_service s n (unmarked_now c.pass-passed.result.broken mid.broken c.after_pass.new.self.broken _ a.breaks a.marked.0 b) before)
+          (λ s. (line_told (p.service s)).sound n (unmarked_now c.pass-passed.result.broken mid.broken c.after_pass.new.self.broken _ a.breaks a.marked.0 b) before)
           (λ s. ap of_line (p.apart_next s).1 ∙ before)),
       ap g.K.Hop.fault (a.same n).0 ∙ by_side c.args.side (λ side. g.K.Hop.fault mid.next ≡ None)
-          (λ s. ap g.K.Hop.fault (p.apart_source s).2 ∙ f.2) (λ s. ap g.K.Hop.fault (p.apart_service s).3 ∙ f.2) (λ s. (p.sound_next s n).0 f.2),
+          (λ s. ap g.K.Hop.fault (p.apart_source s).2 ∙ f.2) (λ s. ap g.K.Hop.fault (p.apart_service s).3 ∙ f.2) (λ s. ((p.next s).sound n).0 f.2),
       ap g.K.Hop.fault (a.same n).1 ∙ by_side c.args.side (λ side. g.K.Hop.fault mid.back ≡ None)
-          (λ s. ap g.K.Hop.fault (p.apart_source s).3 ∙ f.3) (λ s. ap g.K.Hop.fault (p.apart_service s).4 ∙ f.3) (λ s. (p.sound_next s n).1 f.3),
+          (λ s. ap g.K.Hop.fault (p.apart_source s).3 ∙ f.3) (λ s. ap g.K.Hop.fault (p.apart_service s).4 ∙ f.3) (λ s. ((p.next s).sound n).1 f.3),
     )
 
 pub returns-then-is_closed-clause-faultless : goal.returns-then-is_closed-clause-faultless
@@ -307,7 +308,7 @@ returns-then-now-self-2-clause-faultless g c = λ o f. absurd (false≢true (sym
 pub returns-clause-told : goal.returns-clause-told
 returns-clause-told g c = λ o s b n v.
     let m = unfailed c.pass-passed.result.failed c.after_pass.new.self.outcome (c.after_pass.ensures.outcome ∙ c.pass-passed.ensures.outcome) n in
-    ap (λ (h : Holding). (shows h.history).ended) c.after_pass.ensures.hold ∙ c.pass-passed.ensures.told_source s m (subst (λ z. g.S.Source.is_over z) c.after_pass.ensures.kept.0 v)
+    ap (λ (h : Holding). (shows h.history).ended) c.after_pass.ensures.hold ∙ (c.pass-passed.ensures.source s).told m (subst (λ z. g.S.Source.is_over z) c.after_pass.ensures.kept.0 v)
 
 pub returns-then-is_closed-clause-told : goal.returns-then-is_closed-clause-told
 returns-then-is_closed-clause-told g c = λ o s b n v. absurd (false≢true (sym o ∙ (sym c.is_closed.ensures ∙ c.if-is_closed.true)))
@@ -317,3 +318,6 @@ returns-then-now-self-2-clause-told g c = λ o s b n v. absurd (n Deadline c.fai
 
 pub returns-then-is_broken-clause-told : goal.returns-then-is_broken-clause-told
 returns-then-is_broken-clause-told g c = λ o s b n v. absurd (b refl)
+
+pub after_pass-requires-clause-over : goal.after_pass-requires-clause-over
+after_pass-requires-clause-over g c = c.pass-passed.ensures.any.over

@@ -1,44 +1,84 @@
-//! A pass of a side, with its buffer.
+//! A pass of the service's side.
 
 ghost use Rattle.std.specs.Prelude.{◌≡◌, ℕ, true, false, List, Some};
 ghost use Rattle.trace_core.specs.declared.history.Cause.{Cause};
 ghost use Rattle.trace_core.specs.declared.history.Seen.{Seen};
-ghost use Rattle.adapt_hold.specs.Holding.{shows, IsRoomy};
-ghost use Rattle.adapt_turn.specs.Parts.{Breaks, HasCause, lending, SourcePart, HearPart};
+ghost use Rattle.adapt_hold.specs.Holding.{shows, IsRoomy, IsTied};
+ghost use Rattle.adapt_turn.specs.Parts.{Breaks, HasCause, lending, HearPart};
+ghost use Rattle.adapt_turn.specs.Passes.{ServicePasses, LinePasses};
 
-use crate::parts::{Passed, take_service, take_source};
+use crate::parts::{Passed, send, take_service};
+use crate::pass::idle;
+use crate::start::Line;
 use adapt_hold::Hold;
-use adapt_sides::{Service, Source};
+use adapt_sides::Service;
 use plan_rules::TURN_BYTES;
 use span_bank::{Bank, Ledgers};
 use std::sync::Wait;
 use wire_kit::Wire;
 
-/// A pass of the source's side, whose numbers are those of the history.
-pub(crate) fn read_source<B: Ledgers, S: Source, A: Wire>(
+/// A pass of the service's side. Nothing is due where there is no service, or its connection was given up.
+pub(crate) fn service_pass<B: Ledgers, V: Service, W: Wire>(
     rt: &impl Wait,
     bank: &Bank<B>,
     hold: &mut Hold<B>,
-    source: &mut S,
-    wire: &mut A,
+    service: &mut Option<Line<V, W>>,
+    reused: bool,
 ) -> Passed
     requires running { (shows hold.old.history).closed ≡ false }
     requires roomy { IsRoomy hold.old }
-    requires agrees { S.agrees (shows hold.old.history) source.old }
-    ensures part { SourcePart S.Source A.Wire (lending hold.old source.old wire.old) (lending hold.new source.new wire.new) result }
-    ensures reason { HasCause (S.fault source.old) (S.fault source.new) (λ fault. S.has_reason fault source.new) }
-    ensures head { S.head source.new ≡ S.head source.old }
-    ensures whole { result.broken ≡ false }
+    ensures passes { LinePasses V.Service W.Wire reused hold.old service.old hold.new service.new result }
+    ensures roomy { IsRoomy hold.new }
+{
+    match service {
+        Some(line) => match &mut line.wire {
+            Some(wire) => held_pass(rt, bank, hold, &mut line.side, wire, reused),
+            None => idle(),
+        },
+        None => idle(),
+    }
+}
+
+/// A pass over a connection that is held: it writes what is due, and then reads.
+fn held_pass<B: Ledgers, V: Service, W: Wire>(
+    rt: &impl Wait,
+    bank: &Bank<B>,
+    hold: &mut Hold<B>,
+    service: &mut V,
+    wire: &mut W,
+    reused: bool,
+) -> Passed
+    requires running { (shows hold.old.history).closed ≡ false }
+    requires roomy { IsRoomy hold.old }
+    ensures passes { ServicePasses V.Service W.Wire reused (lending hold.old service.old wire.old) (lending hold.new service.new wire.new) result }
     ensures roomy { IsRoomy hold.new }
 {
     let _state = hold.state();
-    let mut buf = [0; TURN_BYTES as usize];
-    let room = hold.original_room() as usize;
-    take_source(rt, bank, hold, source, wire, &mut buf[..room])
+    let sent = send(rt, bank, hold, service, wire, reused);
+    if sent.broken {
+        return sent;
+    }
+    if is_closed(hold) {
+        return sent;
+    }
+    let heard = hear(rt, bank, hold, service, wire, reused);
+    Passed {
+        waiting: sent.waiting && heard.waiting,
+        failed: heard.failed,
+        broken: heard.broken,
+    }
 }
 
-/// A pass of the service's side that reads.
-pub(crate) fn hear<B: Ledgers, V: Service, W: Wire>(
+/// Whether Done or Fail stands.
+fn is_closed<B: Ledgers>(hold: &Hold<B>) -> bool
+    ensures closed { result ≡ (shows hold.now.history).closed }
+    ensures tied { IsTied hold.now }
+{
+    hold.state().seen().closed
+}
+
+/// Reads what the service answered.
+fn hear<B: Ledgers, V: Service, W: Wire>(
     rt: &impl Wait,
     bank: &Bank<B>,
     hold: &mut Hold<B>,

@@ -1,0 +1,165 @@
+-- What a pass of a side does, one record for each side.
+use Rattle.std.specs.Prelude.{◌≡◌, ℕ, ◌+◌, ◌≤◌, ◌⊎◌, Bool, true, false, List, [], Option, Some, None, MatchOption}
+use Rattle.trace_core.specs.declared.history.Cause.{Cause}
+use Rattle.trace_core.specs.declared.history.Cause.TheVariants as causes
+use Rattle.trace_core.specs.declared.history.Event.TheVariants.{Fail}
+use Rattle.trace_core.specs.declared.history.Seen.{Seen}
+use Rattle.plan_rules.specs.declared.room.TheConstants.{TURN_BYTES}
+use Rattle.wire_kit.specs.declared.wire.Wire.{Ghosts as Wire}
+use Rattle.adapt_sides.specs.declared.source.Source.{Ghosts as Source}
+use Rattle.adapt_sides.specs.declared.service.Service.{Ghosts as Service}
+use Rattle.adapt_sides.specs.declared.hop.Hop.{Ghosts as Hop}
+use Rattle.adapt_sides.specs.declared.fault.ClientFault.TheVariants as client
+use Rattle.adapt_sides.specs.Turns.{OfRelayWire, FailsGiving}
+use Rattle.adapt_sides.specs.Turns.Gift.{nothing, message}
+use Rattle.adapt_hold.specs.Holding.{Holding, IsTied, shows, moved}
+use Rattle.adapt_turn.specs.declared.parts.Passed.{Passed}
+use Rattle.adapt_turn.specs.declared.turned.Side.{Side}
+use Rattle.adapt_turn.specs.declared.turned.Side.TheVariants as sides
+use Rattle.adapt_turn.specs.Parts.{Lent, lending, SourcePart, SendPart, HearPart, Breaks, HasCause, FailsFor, IsOfSide, source_room, service_room, source_cause, outcome_by, outcome_of}
+use Rattle.adapt_turn.specs.Rows.{may_step, TookBy, Advances, BytesOr}
+use Rattle.adapt_turn.specs.Stands.{IsChosen, Waited, WaitedBoth, Blamed, BlamedService, BlamedWriter}
+use Rattle.adapt_turn.specs.ByTurn.{OfWriter}
+use Rattle.adapt_turn.specs.Made.{wire_of}
+use Rattle.adapt_turn.specs.declared.start.Line.{Line}
+
+-- the source's numbers aren't those of the history: it is no message of this transaction, which fails, and nothing is read
+pub record Disagrees {S H W : Type 0} (s : Source S H) (old new : Lent S W) (passed : Passed) : Type 0 where
+  pub no : s.agrees (shows old.hold.history) old.side → ⊥
+  pub failed : new.hold ≡ moved old.hold (Fail causes.Source) []
+  pub side : new.side ≡ old.side
+  pub wire : new.wire ≡ old.wire
+  pub passed_is : passed ≡ record { waiting = false; failed = Some causes.Source; broken = false }
+
+-- A pass of the source's side. Where it waits, nothing was stepped, there was nothing to read or the wire answered Wait, and none of
+-- the bytes that the side keeps can be framed. Else a byte moved, or an event was stepped.
+pub record SourcePasses {S H W : Type 0} (s : Source S H) (w : Wire W) (old new : Lent S W) (passed : Passed) : Type 0 where
+  pub did : (s.agrees (shows old.hold.history) old.side × SourcePart s w old new passed) ⊎ Disagrees s old new passed
+  pub tied : IsTied old.hold
+  pub idle : passed.waiting ≡ true → passed.failed ≡ None
+  pub still : passed.waiting ≡ true → new.hold ≡ old.hold
+  pub waits : passed.waiting ≡ true → Waited (s.rests (source_room old.hold) new.side) (λ past. past.read_waits) (w.past old.wire) (w.past new.wire)
+  pub framed : passed.waiting ≡ true → s.is_framed (source_room old.hold) new.side
+  -- a pass brings no more of the body than a turn may
+  pub paced : (shows new.hold.history).received ≤ (shows old.hold.history).received + TURN_BYTES
+  -- it steps events of the source, or Fail
+  pub took : TookBy (may_step sides.Source) old.hold new.hold
+  pub active : passed.waiting ≡ false → BytesOr (Advances (may_step sides.Source) old.hold new.hold) (w.past old.wire) (w.past new.wire)
+  -- it failed by the side's fault, or because its numbers aren't those of the history
+  pub blames : (cause : Cause) → passed.failed ≡ Some cause
+      → (s.agrees (shows old.hold.history) old.side → Blamed OfRelayWire source_cause cause (s.fault old.side) (s.fault new.side) (w.past old.wire) (w.past new.wire))
+      × ((s.agrees (shows old.hold.history) old.side → ⊥) → cause ≡ causes.Source)
+  pub reason : HasCause (s.fault old.side) (s.fault new.side) (λ fault. s.has_reason fault new.side)
+  pub of_side : (cause : Cause) → passed.failed ≡ Some cause → IsOfSide cause
+  pub over : (cause : Cause) → passed.failed ≡ Some cause → (shows new.hold.history).closed ≡ true
+  pub ends : outcome_by passed.failed ≡ outcome_of new.hold.history.events
+  pub sound : passed.failed ≡ None → s.fault new.side ≡ None
+  -- an end of the body that the framing tells is told by the pass that reads it
+  pub told : passed.failed ≡ None → s.is_over new.side → (shows new.hold.history).ended ≡ true
+  pub whole : passed.broken ≡ false
+  pub head : s.head new.side ≡ s.head old.side
+
+-- the service's side wrote what was due
+pub record WritesDue {V W : Type 0} (v : Service V) (w : Wire W) (reused : Bool) (old new : Lent V W) (passed : Passed) : Type 0 where
+  pub part : SendPart v w old new passed
+  pub reason : HasCause (v.fault old.side) (v.fault new.side) (λ fault. fault ≡ client.Device)
+  pub heard : (x : Seen) (adapted read : List ℕ) → v.has_heard x adapted read old.side → v.has_heard x adapted read new.side
+  pub head : v.adapted_head new.side ≡ v.adapted_head old.side
+  pub response : v.is_response new.side ≡ v.is_response old.side
+  pub whole : passed.waiting ≡ true → passed.broken ≡ false
+  pub unbroken : (cause : Cause) → passed.failed ≡ Some cause → Breaks old.hold.history reused (v.fault new.side) → ⊥
+  pub breaks : passed.broken ≡ true → Breaks new.hold.history reused (v.fault new.side)
+
+-- it read replies
+pub record ReadsReplies {V W : Type 0} (v : Service V) (w : Wire W) (reused : Bool) (old new : Lent V W) (passed : Passed) : Type 0 where
+  pub part : HearPart v w old new passed
+  pub reason : HasCause (v.fault old.side) (v.fault new.side) (λ fault. v.has_reason fault (shows old.hold.history) new.side)
+  pub sent : (request came taken : List ℕ) → v.has_sent request (shows old.hold.history) came taken old.side → v.has_sent request (shows old.hold.history) came taken new.side
+  pub rests : (x : Seen) → v.rests_writing x old.side → v.rests_writing x new.side
+  pub head : (shows old.hold.history).modified ≡ true → v.adapted_head new.side ≡ v.adapted_head old.side
+  pub response : (shows old.hold.history).modified ≡ true → v.is_response new.side ≡ v.is_response old.side
+  pub unbroken : (cause : Cause) → passed.failed ≡ Some cause → Breaks old.hold.history reused (v.fault new.side) → ⊥
+  pub breaks : passed.broken ≡ true → Breaks new.hold.history reused (v.fault new.side)
+
+-- it wrote, and then read
+pub record DoesBoth {V W : Type 0} (v : Service V) (w : Wire W) (reused : Bool) (old new : Lent V W) : Type 0 where
+  pub mid : Lent V W
+  pub first : Passed
+  pub second : Passed
+  pub tied : IsTied mid.hold
+  pub running : (shows mid.hold.history).closed ≡ false
+  pub writes : WritesDue v w reused old mid first
+  pub reads : ReadsReplies v w reused mid new second
+
+-- A pass of the service's side: it writes, and reads unless the write closed the transaction or met a broken connection.
+pub record ServicePasses {V W : Type 0} (v : Service V) (w : Wire W) (reused : Bool) (old new : Lent V W) (passed : Passed) : Type 0 where
+  pub did : WritesDue v w reused old new passed ⊎ DoesBoth v w reused old new
+  pub tied : IsTied old.hold
+  pub idle : passed.waiting ≡ true → passed.failed ≡ None
+  pub still : passed.waiting ≡ true → new.hold ≡ old.hold
+  pub waits : passed.waiting ≡ true → WaitedBoth (v.rests_writing (shows old.hold.history) new.side) (v.rests_reading (shows old.hold.history) (service_room old.hold) new.side) (w.past old.wire) (w.past new.wire)
+  pub framed : passed.waiting ≡ true → v.is_framed (service_room old.hold) new.side
+  pub paced : (shows new.hold.history).adapted_received ≤ (shows old.hold.history).adapted_received + TURN_BYTES
+  pub took : TookBy (may_step sides.Service) old.hold new.hold
+  pub active : passed.waiting ≡ false → passed.broken ≡ false → BytesOr (Advances (may_step sides.Service) old.hold new.hold) (w.past old.wire) (w.past new.wire)
+  pub blames : (cause : Cause) → passed.failed ≡ Some cause → BlamedService cause (v.fault old.side) (v.fault new.side) (w.past old.wire) (w.past new.wire)
+  -- it fails only where the request might not begin anew
+  pub unbroken : (cause : Cause) → passed.failed ≡ Some cause → FailsFor v.fault v.has_reason cause reused (Some old.side) (Some new.side) new.hold
+  pub of_side : (cause : Cause) → passed.failed ≡ Some cause → IsOfSide cause
+  pub over : (cause : Cause) → passed.failed ≡ Some cause → (shows new.hold.history).closed ≡ true
+  pub ends : outcome_by passed.failed ≡ outcome_of new.hold.history.events
+  pub sound : passed.failed ≡ None → passed.broken ≡ false → v.fault old.side ≡ None → v.fault new.side ≡ None
+  pub breaks : passed.broken ≡ true → (passed.failed ≡ None) × Breaks new.hold.history reused (v.fault new.side)
+
+abbrev pub line_of : {V W : Type 0} → V → W → Line V W
+line_of side wire = record { side = side; wire = Some wire }
+
+-- A pass of the service's line: where no connection is held nothing is due, else it is the side's pass.
+pub record LinePasses {V W : Type 0} (v : Service V) (w : Wire W) (reused : Bool) (old : Holding) (line : Option (Line V W)) (new : Holding) (line' : Option (Line V W)) (passed : Passed) : Type 0 where
+  pub did : ((wire_of line ≡ None) × (line' ≡ line) × (new ≡ old) × (passed ≡ record { waiting = true; failed = None; broken = false }))
+      ⊎ ((side side' : V) × (wire wire' : W) × (line ≡ Some (line_of side wire)) × (line' ≡ Some (line_of side' wire'))
+      × ServicePasses v w reused (lending old side wire) (lending new side' wire') passed)
+
+-- What a pass of the next hop is lent: what is held, the writer on the next hop's wire, and that back to the user, with their wires.
+pub record Writers (K A C : Type 0) : Type 0 where
+  pub hold : Holding
+  pub next : K
+  pub next_wire : C
+  pub back : K
+  pub back_wire : A
+
+abbrev pub writers : {K A C : Type 0} → Holding → K → C → K → A → Writers K A C
+writers hold next next_wire back back_wire = record { hold = hold; next = next; next_wire = next_wire; back = back; back_wire = back_wire }
+
+-- A pass of the next hop's side: `answers` says that the chosen message goes back to the user, and `none` why its head couldn't be made.
+pub record NextPasses {K G A C : Type 0} (k : Hop K G) (a : Wire A) (c : Wire C) (answers : Bool) (none : Cause → Type 0) (old new : Writers K A C) (passed : Passed) : Type 0 where
+  pub whole : passed.broken ≡ false
+  pub idle : passed.waiting ≡ true → passed.failed ≡ None
+  pub still : passed.waiting ≡ true → new.hold ≡ old.hold
+  -- no message is chosen; or nothing of it is due, or its wire answered Wait
+  pub waits : passed.waiting ≡ true → (IsChosen (shows old.hold.history) → ⊥) ⊎ ((k.gift new.next ≡ nothing → k.gift new.back ≡ nothing → ⊥) × OfWriter (k.gift new.back)
+      (Waited (k.rests (shows old.hold.history) new.next) (λ past. past.write_waits) (c.past old.next_wire) (c.past new.next_wire))
+      (Waited (k.rests (shows old.hold.history) new.back) (λ past. past.write_waits) (a.past old.back_wire) (a.past new.back_wire)))
+  pub took : TookBy (may_step sides.NextHop) old.hold new.hold
+  pub active : passed.waiting ≡ false → OfWriter (k.gift new.back) (BytesOr (Advances (may_step sides.NextHop) old.hold new.hold) (c.past old.next_wire) (c.past new.next_wire))
+      (BytesOr (Advances (may_step sides.NextHop) old.hold new.hold) (a.past old.back_wire) (a.past new.back_wire))
+  -- a message is begun back to the user exactly where it answers the user
+  pub way : (k.gift old.back ≡ nothing → k.gift new.back ≡ message → answers ≡ true) × (k.gift old.next ≡ nothing → k.gift new.next ≡ message → answers ≡ false)
+  pub blames : (cause : Cause) → passed.failed ≡ Some cause → (IsChosen (shows old.hold.history) × (k.gift old.next ≡ nothing) × (k.gift old.back ≡ nothing) × none cause)
+      ⊎ (BlamedWriter cause (FailsGiving (k.breaks_length (shows old.hold.history) (k.body_framing new.next))) (k.fault old.next) (c.past old.next_wire) (c.past new.next_wire)
+      ⊎ BlamedWriter cause (FailsGiving (k.breaks_length (shows old.hold.history) (k.body_framing new.back))) (k.fault old.back) (a.past old.back_wire) (a.past new.back_wire))
+  pub of_side : (cause : Cause) → passed.failed ≡ Some cause → IsOfSide cause ⊎ none cause
+  pub over : (cause : Cause) → passed.failed ≡ Some cause → (shows new.hold.history).closed ≡ true
+  pub sound : passed.failed ≡ None → (k.fault old.next ≡ None → k.fault new.next ≡ None) × (k.fault old.back ≡ None → k.fault new.back ≡ None)
+  -- the wire of the writer without a message isn't touched
+  pub elsewhere : OfWriter (k.gift new.back) (new.back_wire ≡ old.back_wire) (new.next_wire ≡ old.next_wire)
+
+-- A pass of any side: `none` says why the head of the chosen message couldn't be made, and the line is the service's after the pass.
+pub record AnyPasses {V W : Type 0} (v : Service V) (reused : Bool) (none : Cause → Type 0) (side : Side) (old new : Holding) (line : Option (Line V W)) (passed : Passed) : Type 0 where
+  -- one that fails closes the transaction, and one that waits does nothing
+  pub over : (cause : Cause) → passed.failed ≡ Some cause → (shows new.history).closed ≡ true
+  pub idle : passed.waiting ≡ true → passed.failed ≡ None
+  pub still : passed.waiting ≡ true → new ≡ old
+  -- the cause is of a side, or the maker's
+  pub of_side : (cause : Cause) → passed.failed ≡ Some cause → IsOfSide cause ⊎ ((side ≡ sides.NextHop) × none cause)
+  pub breaks : passed.broken ≡ true → (side ≡ sides.Service) × (passed.failed ≡ None) × MatchOption line ⊥ (λ l. Breaks new.history reused (v.fault l.side))
