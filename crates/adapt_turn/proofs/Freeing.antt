@@ -3,10 +3,7 @@ use Rattle.std.proofs.Common.{◌≡◌, ℕ, Bool, List, [], Option, Some, None
 use Rattle.std.specs.Prelude.{MatchOption}
 use Rattle.trace_core.specs.declared.history.Seen.{Seen}
 use Rattle.adapt_turn.specs.declared.start.Line.{Line}
-use Rattle.wire_kit.specs.Past.{Past}
-use Rattle.adapt_turn.specs.Made.{adapted_of, response_of, without_wire, on_held}
-use Rattle.adapt_turn.specs.Stands.{Texts, Goes}
-use Rattle.adapt_turn.proofs.Together.{goes_none}
+use Rattle.adapt_turn.specs.Made.{adapted_of, response_of, without_wire}
 
 abbrev line_of : {V W : Type 0} → V → Option W → Line V W
 line_of side wire = record { side = side; wire = wire }
@@ -14,13 +11,6 @@ line_of side wire = record { side = side; wire = wire }
 -- it is held
 pub held_is : {V W : Type 0} (service : Option (Line V W)) (line : Line V W) (wire : W) → service ≡ Some line → line.wire ≡ Some wire → service ≡ Some (record { side = line.side; wire = Some wire })
 held_is {V} {W} service line wire s w = s ∙ ap (λ (z : Option W). Some (line_of line.side z)) w
-
--- by another name
-pub goes_named : {V W : Type 0} (stands : Option (Line V W) → List ℕ → Texts → Type 0) (past : W → Past → Type 0) (source next : Past → Type 0) (line line' : Option (Line V W)) → line ≡ line'
-    → Goes (stands line) (stands line') source source (λ p. on_held line ⊥ (λ w. past w p)) (λ p. on_held line' ⊥ (λ w. past w p)) next next
-goes_named {V} {W} stands past source next line line' e =
-    subst (λ (z : Option (Line V W)). Goes (stands line) (stands z) source source (λ p. on_held line ⊥ (λ w. past w p)) (λ p. on_held z ⊥ (λ w. past w p)) next next) e
-    (goes_none (stands line) source (λ p. on_held line ⊥ (λ w. past w p)) next)
 
 -- what is said of the service's side alone
 pub freed : {V W : Type 0} (has_sent : List ℕ → Seen → List ℕ → List ℕ → V → Type 0) (has_heard : Seen → List ℕ → List ℕ → V → Type 0) (adapted_head : V → Option (List ℕ)) (is_response : V → Bool)

@@ -60,12 +60,6 @@ pub blamed_kept : {F A : Type 0} (of_wire : F → Past → Past → Type 0) (own
 blamed_kept {F} {A} of_wire own cause past before f0 f1 f2 a a' e f w =
     subst (λ (z : Option F). Blamed of_wire own cause f0 z before (past a')) (sym e) (subst (λ (z : A). Blamed of_wire own cause f0 f1 before (past z)) (sym f) w)
 
--- the fault and the wire before it, by other names
-pub blamed_from : {F A : Type 0} (of_wire : F → Past → Past → Type 0) (own : F → Cause) (cause : Cause) (past : A → Past → Type 0) (after_ : Past → Type 0) (f0 f1 f2 : Option F) (a a' : A) → f0 ≡ f1 → a ≡ a'
-    → Blamed of_wire own cause f0 f2 (past a) after_ → Blamed of_wire own cause f1 f2 (past a') after_
-blamed_from {F} {A} of_wire own cause past after_ f0 f1 f2 a a' e f w =
-    subst (λ (z : Option F). Blamed of_wire own cause z f2 (past a') after_) e (subst (λ (z : A). Blamed of_wire own cause f0 f2 (past z) after_) f w)
-
 -- an outcome says why a pass failed
 pub outcome_fails : (failed : Option Cause) (r : Outcome) (cause : Cause) → r ≡ outcome_by failed → r ≡ outcomes.Fail cause → failed ≡ Some cause
 outcome_fails None r cause s e = absurd cc
@@ -85,18 +79,9 @@ writes_beside part e = λ p b. let w = part.wire p b in (w.0, w.1, w.2.read_wait
 pub reads_beside : {F : Type 0} {v : View F} {h k : Holding} {r : Report} {passed : Passed} → Part v h k r passed → passed.waiting ≡ true → WaitedBeside v.rests v.waits (λ q. q.write_waits) v.before v.after
 reads_beside part e = λ p b. let w = part.wire p b in (w.0, w.1, w.2.write_waits, w.3.waiting e)
 
-pub line_waits : {L : Type 0} (line : Option L) (l : L) (past : L → Past → Type 0) (rests : Type 0) (waits others : Past → ℕ) (after_ : Past → Type 0)
-    → line ≡ Some l → WaitedBeside rests waits others (past l) after_ → WaitedBeside rests waits others (λ p. MatchOption line ⊥ (λ z. past z p)) after_
-line_waits {L} line l past rests waits others after_ same w = subst (λ (z : Option L). WaitedBeside rests waits others (λ p. MatchOption z ⊥ (λ y. past y p)) after_) (sym same) w
-
 -- a pass that failed did so by one step
 pub part_fails : {F : Type 0} {v : View F} {h k : Holding} {r : Report} {passed : Passed} → Part v h k r passed → (cause : Cause) → passed.failed ≡ Some cause → k ≡ moved h (Fail cause) []
 part_fails {F} {v} {h} {k} {r} {passed} p cause e = p.is ∙ ap (λ (f : Option Cause). moved_all h (stepped f r.events) r.out) e
-
-pub line_blamed : {L : Type 0} (line : Option L) (l : L) (fault : L → Option ClientFault) (past : L → Past → Type 0) (own : ClientFault → Cause) (cause : Cause) (f1 : Option ClientFault) (after_ : Past → Type 0)
-    → line ≡ Some l → Blamed OfClientWire own cause (fault l) f1 (past l) after_ → Blamed OfClientWire own cause (fault_of fault line) f1 (λ p. MatchOption line ⊥ (λ z. past z p)) after_
-line_blamed {L} line l fault past own cause f1 after_ same w =
-    subst (λ (z : Option L). Blamed OfClientWire own cause (fault_of fault z) f1 (λ p. MatchOption z ⊥ (λ y. past y p)) after_) (sym same) w
 
 -- behind a pass that left no new fault
 pub blamed_then : (own : ClientFault → Cause) (cause : Cause) (f0 f1 f2 : Option ClientFault) (before mid after_ : Past → Type 0) (given taken : List ℕ) → (f0 ≡ None → f1 ≡ None)
@@ -161,23 +146,9 @@ giving_weaker this breaks f (inr l) = inr (l.0, l.1.1)
 pub cause_none : {F : Type 0} (old new : Option F) (reason : F → Type 0) → new ≡ old → HasCause old new reason
 cause_none {F} old new reason e = λ none f n. let odd : Some f ≡ None = sym n ∙ (e ∙ none) in cc
 
--- the fault before it, and what is held, by other names
-pub cause_from : {F : Type 0} (f0 f1 f2 : Option F) (h m : Holding) (reason : Holding → F → Type 0) → f1 ≡ f0 → m ≡ h → HasCause f1 f2 (reason m) → HasCause f0 f2 (reason h)
-cause_from {F} f0 f1 f2 h m reason e same w = λ none f n. subst (λ (k : Holding). reason k f) same (w (e ∙ none) f n)
-
 -- the fault behind it, and what has its reason, by other names
 pub cause_kept : {F G : Type 0} (reason : G → F → Type 0) (f0 f1 f2 : Option F) (g g' : G) → f2 ≡ f1 → g' ≡ g → HasCause f0 f1 (reason g) → HasCause f0 f2 (reason g')
 cause_kept {F} {G} reason f0 f1 f2 g g' e same w = λ none f n. subst (λ (z : G). reason z f) (sym same) (w none f (sym e ∙ n))
-
-pub line_cause : {L : Type 0} (fault : L → Option ClientFault) (line : Option L) (l : L) (new : Option ClientFault) (reason wider : ClientFault → Type 0) → line ≡ Some l → ((f : ClientFault) → reason f → wider f)
-    → HasCause (fault l) new reason → HasCause (fault_of fault line) new wider
-line_cause {L} fault line l new reason wider same k w = λ none f n. k f (w (sym (ap (λ (z : Option L). fault_of fault z) same) ∙ none) f n)
-
--- behind a pass that left no fault
-pub fails_then : {L : Type 0} (fault : L → Option ClientFault) (reason : ClientFault → Seen → L → Type 0) (cause : Cause) (was reused : Bool) (old mid new : Option L) (h : Holding) → (fault_of fault old ≡ None → fault_of fault mid ≡ None) → was ≡ reused
-    → FailsFor fault reason cause was mid new h → FailsFor fault reason cause reused old new h
-fails_then {L} fault reason cause was reused old mid new h e same w =
-    (w.0, w.1, subst (λ (b : Bool). Breaks w.0.history b (fault_of fault new) → ⊥) same w.2, λ none. w.3 (e none))
 
 pub not_failed : (failed : Option Cause) (closed : Bool) → ((cause : Cause) → failed ≡ Some cause → closed ≡ true) → closed ≡ false → failed ≡ None
 not_failed None closed over c = refl

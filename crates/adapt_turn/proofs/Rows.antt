@@ -2,7 +2,6 @@
 use Rattle.std.proofs.Common.{◌≡◌, ℕ, ◌+◌, Bool, true, false, ◌||◌, List, [], ◌∷◌, ◌++◌, length, take, drop, Option, Some, None, arith, refl, sym, ◌∙◌, ap, subst}
 use Rattle.std.proofs.lemmas.Bool.{false≢true}
 use Rattle.std.proofs.lemmas.List.{length-append, length-drop, length-take-le}
-use Rattle.std.specs.Prelude.{MatchOption}
 use Rattle.trace_core.specs.declared.history.Seen.{Seen}
 use Rattle.trace_core.specs.declared.history.Event.{Event}
 use Rattle.trace_core.specs.declared.history.Event.TheVariants.{Fail}
@@ -133,11 +132,6 @@ part_acts {F} side {v} {h} {k} {r} {passed} i t p w b = λ past here.
 -- a wire that wasn't touched
 pub untouched_or : (this : Type 0) (before : Past → Type 0) → this → BytesOr this before before
 untouched_or this before t = λ p b. (p, b, omega arith, omega arith, λ z. t)
-
--- the service's line
-pub line_acts : {L : Type 0} (line : Option L) (l : L) (past : L → Past → Type 0) (this : Type 0) (after_ : Past → Type 0)
-    → line ≡ Some l → BytesOr this (past l) after_ → BytesOr this (λ p. MatchOption line ⊥ (λ z. past z p)) after_
-line_acts {L} line l past this after_ same act = subst (λ (z : Option L). BytesOr this (λ p. MatchOption z ⊥ (λ y. past y p)) after_) (sym same) act
 
 -- Two passes of the service's side.
 
