@@ -5,11 +5,10 @@ ghost use Rattle.adapt_bytes.specs.declared.limits.TheConstants.{MAX_CAPACITY};
 ghost use Rattle.plan_rules.specs.Claims.{claim_of};
 
 use crate::offered::{REQUEST, RESPONSE, offer};
-use adapt_turn::{Line, Outcome, Parts, Tx};
-use http_relay::{NextHop, RelayFault, SourceSide};
-use icap_client::ServiceSide;
+use adapt_turn::{Line, Outcome, Parts};
+use http_relay::{RelayFault, SourceSide};
 use plan_rules::{Limits, claim};
-use proxy_rules::{Beginning, HeadMaker, Incoming, Offer};
+use proxy_rules::{Beginning, Incoming, Offer, OwnTx, Running};
 use span_bank::{Bank, Ledgers, Pages, Stake};
 use std::alloc::{AllocError, Global};
 use std::sync::Wait;
@@ -28,7 +27,7 @@ const BEGIN: u64 = 100;
 pub type Counted = CountedWire<MemoryWire>;
 
 /// A transaction over wires in memory, the source's being one of these.
-pub type Moving<B, A> = Tx<B, SourceSide, ServiceSide, NextHop, HeadMaker, A, Counted, Counted>;
+pub type Moving<B, A> = Running<OwnTx<B, A, Counted, Counted>>;
 
 /// The wires of a transaction.
 #[derive(Drop)]
@@ -238,7 +237,7 @@ pub fn end<B: Ledgers, A: Wire + Drop>(
 ) -> Ended<A> {
     let mut tx = tx;
     tx.halt(rt, bank);
-    match tx.into_parts() {
+    match tx.into_tx().into_parts() {
         Ok(parts) => {
             let Parts {
                 stake,

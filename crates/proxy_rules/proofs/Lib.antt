@@ -6,3 +6,4 @@ pub mod BeginLemmas
 pub mod WireLemmas
 pub mod ArrivalLemmas
 pub mod OfferLemmas
+pub mod RunLemmas

@@ -81,6 +81,8 @@ message_front made whole x f head body taken w k d i g = record {
   taken_is = g.fixed_is;
   waits_is = g.waits;
   within = g.within;
+  there = g.there;
+  all_out = g.all_out;
   delivered = d;
   front = i;
 }

@@ -7,6 +7,7 @@ pub mod Onward
 pub mod Offers
 pub mod Arrivals
 pub mod Beginnings
+pub mod Running
 pub mod Connections
 pub mod Pools
 pub mod Heads

@@ -1,5 +1,5 @@
 -- What the wires of a transaction of the proxy's own sides took.
-use Rattle.std.specs.Prelude.{◌≡◌, ℕ, ◌<◌, ◌≤◌, ◌⊎◌, ◌++◌, Bool, false, List, [], take, Option, IfSome, MatchOption}
+use Rattle.std.specs.Prelude.{◌≡◌, ℕ, ◌+◌, ◌<◌, ◌≤◌, ◌⊎◌, ◌++◌, Bool, true, false, List, [], take, Option, IfSome, MatchOption}
 use Rattle.trace_core.specs.declared.history.Point.{Point}
 use Rattle.trace_core.specs.declared.history.Point.TheVariants.{Reqmod, Respmod}
 use Rattle.trace_core.specs.declared.history.Seen.{Seen}
@@ -9,7 +9,7 @@ use Rattle.chunk_writer.specs.Behind.{WaitsBehind}
 use Rattle.http_side.specs.Refusals.{refusal}
 use Rattle.http_side.specs.declared.body.Framing.{Framing}
 use Rattle.adapt_sides.specs.Turns.{Given}
-use Rattle.adapt_sides.specs.Tapes.{chosen, chosen_delivered, chosen_received, IsUndelivered}
+use Rattle.adapt_sides.specs.Tapes.{chosen, chosen_delivered, chosen_received, chosen_over, IsUndelivered}
 use Rattle.adapt_hold.specs.Spans.{EndsBody}
 use Rattle.adapt_hold.specs.Holding.{Holding, shows}
 use Rattle.adapt_turn.specs.Stands.{Texts, IsDone}
@@ -26,6 +26,8 @@ TookNoMessage taken = (taken ≡ []) ⊎ ((status : ℕ) × IsPrefixOf taken (re
 -- the history, no more than the head says. All of these were taken, and what of the text isn't yet is framing text behind them. So
 -- it is a front of a message whose body begins with these; and as long as no more of the body came than the head says, of the whole
 -- message, however that goes on.
+-- A chunk is no larger than what came of the body and isn't out yet; the body's end is in the text only where the body is over, all of it
+-- is out, and it has the length that the head said.
 pub record TookFront (made : List ℕ → Type 0) (framing : Framing) (x : Seen) (body taken : List ℕ) : Type 0 where
   pub head : List ℕ
   pub made_is : made head
@@ -37,6 +39,8 @@ pub record TookFront (made : List ℕ → Type 0) (framing : Framing) (x : Seen)
   pub taken_is : taken ++ waits ≡ head ++ behind
   pub waits_is : 0 < chosen_delivered x → Waits (is_chunks framing) (take (chosen_delivered x) body) behind waits
   pub within : IfSome (length_of framing) (λ n. chosen_delivered x ≤ n)
+  pub there : chosen_delivered x + left ≤ chosen_received x
+  pub all_out : whole ≡ true → (chosen_over x ≡ true) × (chosen_delivered x ≡ chosen_received x) × IfSome (length_of framing) (λ n. chosen_delivered x ≡ n)
   pub delivered : IsFrontOfMessage framing head (take (chosen_delivered x) body) taken
   pub front : IfSome (length_of framing) (λ n. chosen_received x ≤ n) → IsFrontOfMessage framing head body taken
 

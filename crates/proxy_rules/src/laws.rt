@@ -1,6 +1,7 @@
 //! What holds of every head that goes on: each law is the contract of a function that does nothing.
 
 ghost use Rattle.std.specs.Prelude.{◌≡◌, ◌≤◌, ◌↔◌, ℕ, Bool, List, [], length, Option, true, false, codes, MatchOption};
+ghost use Rattle.trace_core.specs.declared.history.Cause.{Cause as Why};
 ghost use Rattle.trace_core.specs.declared.history.Cause.TheVariants.{Deadline, Stopping};
 ghost use Rattle.trace_core.specs.declared.history.Seen.{Seen};
 ghost use Rattle.trace_core.specs.declared.tape.Tape.TheVariants.{Original, Adapted};
@@ -10,6 +11,7 @@ ghost use Rattle.need_witness.specs.Table.{script_of};
 ghost use Rattle.need_witness.specs.declared.scripts.TheConstants.{MAX_SCRIPT};
 ghost use Rattle.adapt_hold.specs.Holding.{IsTied, interval, shows};
 ghost use Rattle.adapt_turn.specs.Made.{IsMade, adapted_of, response_of};
+ghost use Rattle.adapt_turn.specs.declared.turned.Outcome.TheVariants as outcomes;
 ghost use Rattle.adapt_turn.specs.Stands.{Texts};
 ghost use Rattle.http_relay.specs.declared.side.SourceHead.{SourceHead};
 ghost use Rattle.http_relay.specs.declared.side.SourceSide.{SourceSide as UserSide};
@@ -22,8 +24,9 @@ ghost use Rattle.proxy_rules.specs.Heads.{MakesNone};
 ghost use Rattle.proxy_rules.specs.Wires.{WiresTook};
 
 use crate::head_maker::HeadMaker;
+use crate::running::{OwnTx, Running};
 use adapt_sides::{Service, Source};
-use adapt_turn::{Forward, Standing, Tx};
+use adapt_turn::{Forward, Refusing, Standing, Tx};
 use http_relay::{NextHop, SourceSide};
 use icap_client::ServiceSide;
 use span_bank::Ledgers;
@@ -65,6 +68,25 @@ pub fn the_wires_take_one_message<B: Ledgers, A: Wire, W: Wire, C: Wire>(
         tx.now.next.framing tx.now.back.framing tx.now.hold request t }
 {
     let _ = tx.seen();
+}
+
+/// The same of a transaction that runs, wherever it stands, without a premise: there are a request and texts of which all that is so.
+/// Where it failed, the user's writer has the refusal of the cause's status, or a byte has gone out to the user.
+pub fn a_running_transaction_takes_one_message<B: Ledgers, A: Wire, W: Wire, C: Wire>(
+    running: &Running<OwnTx<B, A, W, C>>,
+)
+    ensures took { ∥ ((request : List ℕ) × (t : Texts)
+        × WiresTook (λ x body read. SideRead x body read.bytes read.ended running.now.tx.source)
+        (λ x adapted read. MatchOption running.now.tx.service ((adapted ≡ []) × (read ≡ [])) (λ line. ServiceHeard x adapted read line.side)) running.now.tx.service
+        (λ head. IsMade (⟦<HeadMaker as Forward<SourceSide, NextHop>>⟧.makes running.now.tx.forward (⟦<SourceSide as Source>⟧.head running.now.tx.source))
+        (adapted_of ⟦<ServiceSide as Service>⟧.adapted_head running.now.tx.service) (response_of ⟦<ServiceSide as Service>⟧.is_response running.now.tx.service) running.now.tx.next.framing (shows running.now.tx.hold.history) head)
+        (λ head. IsMade (⟦<HeadMaker as Forward<SourceSide, NextHop>>⟧.makes running.now.tx.forward (⟦<SourceSide as Source>⟧.head running.now.tx.source))
+        (adapted_of ⟦<ServiceSide as Service>⟧.adapted_head running.now.tx.service) (response_of ⟦<ServiceSide as Service>⟧.is_response running.now.tx.service) running.now.tx.back.framing (shows running.now.tx.hold.history) head)
+        running.now.tx.next.framing running.now.tx.back.framing running.now.tx.hold request t) ∥₁ }
+    ensures refuses { (shows running.now.tx.hold.history).closed ≡ true → (cause : Why) → running.now.tx.outcome ≡ outcomes.Fail cause
+        → ∥ ⟦<Tx<B, SourceSide, ServiceSide, NextHop, HeadMaker, A, W, C> as Refusing>⟧.refuses running.now.tx cause ∥₁ }
+{
+    the_wires_take_one_message(&running.tx);
 }
 
 /// Of a transaction, wherever it stands, each byte that is held is one that some legal continuation still sends, and each byte that a

@@ -16,6 +16,7 @@ mod plans;
 mod pools;
 mod reason;
 mod route;
+mod running;
 mod scan;
 mod starting;
 
@@ -32,4 +33,5 @@ pub use reason::{
     Reason, open_reason, options_reason, origin_head_reason, record_reason, user_head_reason,
 };
 pub use route::origin_address;
+pub use running::{OwnTx, Running};
 pub use starting::{Beginning, begin};

@@ -10,7 +10,8 @@ ghost use Rattle.proxy_rules.specs.Beginnings.{MayBegin, line_with};
 use crate::head_maker::HeadMaker;
 use crate::incoming::Incoming;
 use crate::offer::Offer;
-use adapt_turn::{Answering, Line, Standing, Start, Tx};
+use crate::running::{OwnTx, Running};
+use adapt_turn::{Line, Standing, Start, Tx};
 use http_relay::{NextHop, SourceSide};
 use icap_client::ServiceSide;
 use plan_rules::Limits;
@@ -73,18 +74,17 @@ fn line_of<W>(side: Option<ServiceSide>, wire: Option<W>) -> Option<Line<Service
 pub fn begin<B: Ledgers, A: Wire, W: Wire, C: Wire>(
     alloc: Global,
     beginning: Beginning<B, A, W, C>,
-) -> Result<Tx<B, SourceSide, ServiceSide, NextHop, HeadMaker, A, W, C>, Beginning<B, A, W, C>>
+) -> Result<Running<OwnTx<B, A, W, C>>, Beginning<B, A, W, C>>
     requires empty { (beginning.stake.held ≡ 0) × (beginning.stake.pages ≡ 0) }
     requires claim { beginning.stake.claim ≡ claim_of beginning.offer.plan beginning.limits.window }
     requires small { beginning.stake.claim ≤ MAX_CAPACITY }
     ensures accepts { IsOk result ↔ MayBegin beginning.message beginning.offer (is_some beginning.service_wire) }
-    ensures begun { IfOk result (λ tx. tx.hold.history ≡ record { plan = beginning.offer.plan; events = [] }) }
-    ensures clock { IfOk result (λ tx. (tx.last_moved ≡ beginning.now) × (tx.deadline ≡ beginning.deadline)) }
-    ensures stands { IfOk result (λ tx. (read : List ℕ) × ⟦<Tx<B, SourceSide, ServiceSide, NextHop, HeadMaker, A, W, C> as Standing>⟧.stands tx (text_of beginning.offer.side) (record no_texts { source_read = record { bytes = read; ended = false } })) }
-    ensures faultless { IfOk result (λ tx. ⟦<Tx<B, SourceSide, ServiceSide, NextHop, HeadMaker, A, W, C> as Answering>⟧.faultless tx) }
-    ensures line { IfOk result (λ tx. (tx.broken ≡ false) × (tx.reused ≡ beginning.reused)) }
-    ensures sides { IfOk result (λ tx. (tx.source ≡ beginning.message.side) × (tx.forward.user ≡ beginning.message.user) × (tx.forward.last ≡ beginning.last) × (tx.service ≡ line_with beginning.offer.side beginning.service_wire)) }
-    ensures wires { IfOk result (λ tx. (tx.source_wire ≡ beginning.source_wire) × (tx.next_wire ≡ beginning.next_wire)) }
+    ensures begun { IfOk result (λ running. running.tx.hold.history ≡ record { plan = beginning.offer.plan; events = [] }) }
+    ensures clock { IfOk result (λ running. (running.tx.last_moved ≡ beginning.now) × (running.tx.deadline ≡ beginning.deadline)) }
+    ensures stands { IfOk result (λ running. (read : List ℕ) × ⟦<Tx<B, SourceSide, ServiceSide, NextHop, HeadMaker, A, W, C> as Standing>⟧.stands running.tx (text_of beginning.offer.side) (record no_texts { source_read = record { bytes = read; ended = false } })) }
+    ensures line { IfOk result (λ running. (running.tx.broken ≡ false) × (running.tx.reused ≡ beginning.reused)) }
+    ensures sides { IfOk result (λ running. (running.tx.source ≡ beginning.message.side) × (running.tx.forward.user ≡ beginning.message.user) × (running.tx.forward.last ≡ beginning.last) × (running.tx.service ≡ line_with beginning.offer.side beginning.service_wire)) }
+    ensures wires { IfOk result (λ running. (running.tx.source_wire ≡ beginning.source_wire) × (running.tx.next_wire ≡ beginning.next_wire)) }
     ensures back { IfErr result (λ back. back ≡ beginning) }
 {
     let is_connected = beginning.service_wire.is_some();
@@ -122,7 +122,10 @@ pub fn begin<B: Ledgers, A: Wire, W: Wire, C: Wire>(
         reused,
     };
     match Tx::new(alloc, start) {
-        Ok(tx) => Ok(tx),
+        Ok(tx) => {
+            let running = Running { tx };
+            Ok(running)
+        }
         Err(_) => unreachable!(),
     }
 }

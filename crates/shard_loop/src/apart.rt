@@ -29,7 +29,7 @@ impl<B: Ledgers, Q: Ledger, A: Ledger> Left<B, Q, A> {
                 self.keep_lease(rt, pools, lease);
             }
             Phase::Moving { tx, lease } => {
-                let Remains { stake, user } = end_of(rt, bank, Box::into_inner(tx));
+                let Remains { stake, user } = end_of(rt, bank, Box::into_inner(tx).into_tx());
                 drop(user);
                 self.keep_stake(rt, bank, stake);
                 if let Some(lease) = lease {

@@ -38,7 +38,7 @@ impl<'a, B: Ledgers, Q: Ledger, A: Ledger, G: Gate> Desk<'a, B, Q, A, G> {
             outcome,
             forward,
             seen,
-        } = parts_of(rt, self.shared.bank, Box::into_inner(tx));
+        } = parts_of(rt, self.shared.bank, Box::into_inner(tx).into_tx());
         self.shared.bank.close(rt, stake, Pages::none());
         let user = match seen.plan.point {
             Point::Reqmod => &source_wire,

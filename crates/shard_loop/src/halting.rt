@@ -155,7 +155,7 @@ impl<'a, B: Ledgers, Q: Ledger, A: Ledger, G: Gate> Desk<'a, B, Q, A, G> {
         tx: Moving<B>,
         lease: Option<Leased<Q, A>>,
     ) -> SocketWire {
-        let Remains { stake, user } = end_of(rt, self.shared.bank, tx);
+        let Remains { stake, user } = end_of(rt, self.shared.bank, tx.into_tx());
         self.shared.bank.close(rt, stake, Pages::none());
         self.give_up(rt, lease);
         user

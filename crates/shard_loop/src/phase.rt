@@ -2,11 +2,10 @@
 
 use crate::connections::LeasedConnection;
 use crate::pools::Leased;
-use adapt_turn::Tx;
-use http_relay::{NextHop, RelayFault, SourceSide};
+use http_relay::RelayFault;
 use http_side::own_refusal;
-use icap_client::{OptionsSide, ServiceSide};
-use proxy_rules::{Beginning, HeadMaker, Incoming};
+use icap_client::OptionsSide;
+use proxy_rules::{Beginning, Incoming, OwnTx, Running};
 use socket_wire::SocketWire;
 use span_bank::Ledgers;
 use std::boxed::Box;
@@ -16,16 +15,7 @@ use wait_queue::Waiter;
 use wire_kit::Wire;
 
 /// A transaction over sockets.
-pub type Moving<B> = Tx<
-    B,
-    SourceSide,
-    ServiceSide,
-    NextHop,
-    HeadMaker,
-    SocketWire,
-    SocketWire,
-    SocketWire,
->;
+pub type Moving<B> = Running<OwnTx<B, SocketWire, SocketWire, SocketWire>>;
 
 /// What a transaction over sockets begins with.
 pub type Starting<B> = Beginning<B, SocketWire, SocketWire, SocketWire>;
@@ -38,6 +28,14 @@ pub struct Ends {
     pub origin: Option<SocketWire>,
     /// Whether the user was told to send the body of its request.
     pub told: bool,
+}
+
+/// A turn at a message's head over this wire, and whether a byte came over it.
+fn read_on<W: Wire>(message: &mut Incoming, wire: &mut W) -> (Result<bool, RelayFault>, bool) {
+    let (before, _) = wire.counts();
+    let read = message.head_turn(wire);
+    let (after, _) = wire.counts();
+    (read, after != before)
 }
 
 impl Ends {
@@ -64,14 +62,10 @@ impl Ends {
 
     /// A turn at the head of the message, and whether a byte of it came.
     pub fn read_head(&mut self) -> (Result<bool, RelayFault>, bool) {
-        let wire = match &mut self.origin {
-            Some(origin) => origin,
-            None => &mut self.user,
-        };
-        let (before, _) = wire.counts();
-        let read = self.message.head_turn(wire);
-        let (after, _) = wire.counts();
-        (read, after != before)
+        match &mut self.origin {
+            Some(origin) => read_on(&mut self.message, origin),
+            None => read_on(&mut self.message, &mut self.user),
+        }
     }
 
     /// Which message waits to be adapted.

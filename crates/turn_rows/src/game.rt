@@ -5,7 +5,7 @@ ghost use Rattle.std.specs.Prelude.{◌≡◌};
 use crate::sides::Counted;
 use adapt_sides::{Hop, Service, Source};
 use adapt_turn::{Forward, FreeLine, Line, Outcome, Parts, Side, Turned, Tx};
-use proxy_rules::Beginning;
+use proxy_rules::{Beginning, OwnTx, Running};
 use span_bank::{Bank, Ledgers, Pages};
 use std::sync::Wait;
 use wire_kit::Wire;
@@ -45,8 +45,7 @@ pub trait Game<B: Ledgers> {
     fn free(&mut self, lines: &mut Lines) -> Option<bool>;
 }
 
-impl<B: Ledgers, S: Source, V: Service, K: Hop, F: Forward<S, K>, A: Wire, C: Wire> Game<B>
-    for Tx<B, S, V, K, F, A, Counted, C> {
+impl<B: Ledgers, A: Wire, C: Wire> Game<B> for Running<OwnTx<B, A, Counted, C>> {
     fn take_turn<R: Wait>(&mut self, rt: &R, bank: &Bank<B>, side: Side, now: u64) -> Turned {
         self.turn(rt, bank, side, now)
     }
@@ -91,8 +90,8 @@ pub struct Ended<A, C> {
     pub next_hop: C,
 }
 
-/// Ends a transaction: one that isn't over fails. Its reservation is closed.
-pub fn end<
+/// Ends a transaction, of whatever sides.
+fn end_of<
     B: Ledgers,
     S: Source + Drop,
     V: Service + Drop,
@@ -131,6 +130,15 @@ pub fn end<
         }
         Err(_) => unreachable!(),
     }
+}
+
+/// Ends a transaction: one that isn't over fails. Its reservation is closed.
+pub fn end<B: Ledgers, A: Wire, C: Wire, R: Wait>(
+    rt: &R,
+    bank: &Bank<B>,
+    running: Running<OwnTx<B, A, Counted, C>>,
+) -> Ended<A, C> {
+    end_of(rt, bank, running.into_tx())
 }
 
 /// Takes apart what no transaction began with.

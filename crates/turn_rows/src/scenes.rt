@@ -6,11 +6,8 @@ ghost use Rattle.plan_rules.specs.Claims.{claim_of};
 
 use crate::game::undo;
 use crate::sides::{Counted, Sides, Wires};
-use adapt_turn::Tx;
-use http_relay::{NextHop, SourceSide};
-use icap_client::ServiceSide;
 use plan_rules::{Limits, claim};
-use proxy_rules::{Beginning, HeadMaker};
+use proxy_rules::{Beginning, OwnTx, Running};
 use span_bank::{Bank, Ledgers, Stake};
 use std::alloc::Global;
 use std::sync::Wait;
@@ -24,7 +21,7 @@ const DEADLINE: u64 = 60;
 pub const BEGIN: u64 = 100;
 
 /// A transaction of the proxy's own sides over wires in memory, the source's being one of these.
-pub type Moving<B, A> = Tx<B, SourceSide, ServiceSide, NextHop, HeadMaker, A, Counted, Counted>;
+pub type Moving<B, A> = Running<OwnTx<B, A, Counted, Counted>>;
 
 /// What is configured: the service's connection was used before if the plan allows a retry.
 fn limits_of(plan: &Plan) -> Limits {

@@ -1,0 +1,78 @@
+-- What a transaction that runs keeps.
+use Rattle.std.proofs.Common.{◌≡◌, ℕ, Bool, true, false, not, List, [], refl, sym, ap, subst, ◌∙◌}
+use Rattle.trace_core.specs.declared.history.Seen.{Seen}
+use Rattle.trace_core.specs.declared.history.Cause.{Cause}
+use Rattle.trace_core.specs.declared.history.Event.TheVariants.{Retry}
+use Rattle.trace_core.specs.Legal.{MayFollow}
+use Rattle.wire_kit.specs.Past.{Past}
+use Rattle.adapt_hold.specs.Holding.{Holding, IsTied, shows, history_then, moved}
+use Rattle.adapt_hold.proofs.Closes.{then_shows}
+use Rattle.adapt_turn.specs.declared.turned.Outcome.{Outcome}
+use Rattle.adapt_turn.specs.declared.turned.Outcome.TheVariants as outcomes
+use Rattle.adapt_turn.specs.Refusals.{refusal_status, user_untouched, HasRefusal}
+use Rattle.adapt_turn.specs.Stands.{Texts, Goes, joined, user_gift}
+use Rattle.http_relay.specs.Giving.{Hop, gift_of}
+use Rattle.proxy_rules.specs.Running.{Runs}
+
+pub not_both : {P : Type 0} (b : Bool) → b ≡ true → b ≡ false → P
+not_both b t f = let e : true ≡ false = sym t ∙ f in cc
+
+was_open : (old new : Bool) → (old ≡ true → new ≡ true) → new ≡ false → old ≡ false
+was_open true new s e = not_both new (s refl) e
+was_open false new s e = refl
+
+refuses_then : (old_closed : Bool) (old_outcome new_outcome : Outcome) (old_refuses new_refuses : Cause → Type 0) → (old_closed ≡ true → new_outcome ≡ old_outcome)
+    → (old_closed ≡ false → (cause : Cause) → new_outcome ≡ outcomes.Fail cause → new_refuses cause)
+    → (old_closed ≡ true → (cause : Cause) → old_refuses cause → new_refuses cause)
+    → (old_closed ≡ true → (cause : Cause) → old_outcome ≡ outcomes.Fail cause → old_refuses cause)
+    → (cause : Cause) → new_outcome ≡ outcomes.Fail cause → new_refuses cause
+refuses_then true old_outcome new_outcome old_refuses new_refuses same fresh on before cause e = on refl cause (before refl cause (sym (same refl) ∙ e))
+refuses_then false old_outcome new_outcome old_refuses new_refuses same fresh on before cause e = fresh refl cause e
+
+-- a call that keeps what stands
+pub runs_on : {old_stands new_stands : List ℕ → Texts → Type 0} {old_source new_source old_service new_service old_next new_next : Past → Type 0} (old_closed new_closed : Bool)
+    {old_faultless new_faultless : Type 0} (old_outcome new_outcome : Outcome) (old_refuses new_refuses : Cause → Type 0)
+    → Goes old_stands new_stands old_source new_source old_service new_service old_next new_next
+    → (old_closed ≡ true → new_closed ≡ true) → (new_closed ≡ false → old_faultless → new_faultless) → (old_closed ≡ true → new_outcome ≡ old_outcome)
+    → (old_closed ≡ false → (cause : Cause) → new_outcome ≡ outcomes.Fail cause → new_refuses cause)
+    → (old_closed ≡ true → (cause : Cause) → old_refuses cause → new_refuses cause)
+    → Runs old_stands old_closed old_faultless old_outcome old_refuses → Runs new_stands new_closed new_faultless new_outcome new_refuses
+runs_on old_closed new_closed old_outcome new_outcome old_refuses new_refuses goes stays faultless same fresh on r = record {
+  request = r.request;
+  texts = joined r.texts goes.delta;
+  stands_is = goes.stands r.request r.texts r.stands_is;
+  faultless_is = λ going. faultless going (r.faultless_is (was_open old_closed new_closed stays going));
+  refused_is = λ over. refuses_then old_closed old_outcome new_outcome old_refuses new_refuses same fresh on r.refused_is;
+}
+
+-- how it ended tells the cause
+cause_is : (refuses : Cause → Type 0) (outcome : Outcome) (cause other : Cause) → outcome ≡ outcomes.Fail cause → refuses cause → outcome ≡ outcomes.Fail other → refuses other
+cause_is refuses outcome cause other e r f = let is : cause ≡ other = cc in subst refuses is r
+
+-- a call that fails it where it isn't closed
+pub runs_failed : {old_stands new_stands : List ℕ → Texts → Type 0} {old_source new_source old_service new_service old_next new_next : Past → Type 0} (old_closed new_closed : Bool)
+    {old_faultless new_faultless : Type 0} (old_outcome new_outcome : Outcome) (old_refuses new_refuses : Cause → Type 0) (why : Cause)
+    → Goes old_stands new_stands old_source new_source old_service new_service old_next new_next → new_closed ≡ true → (old_closed ≡ true → new_outcome ≡ old_outcome)
+    → (old_closed ≡ false → new_outcome ≡ outcomes.Fail why) → (old_closed ≡ false → new_refuses why)
+    → (old_closed ≡ true → (cause : Cause) → old_refuses cause → new_refuses cause)
+    → Runs old_stands old_closed old_faultless old_outcome old_refuses → Runs new_stands new_closed new_faultless new_outcome new_refuses
+runs_failed old_closed new_closed old_outcome new_outcome old_refuses new_refuses why goes over same fails refuses on r =
+    runs_on old_closed new_closed old_outcome new_outcome old_refuses new_refuses goes (λ h. over) (λ going before. not_both new_closed over going) same
+    (λ h cause ended. cause_is new_refuses new_outcome why cause (fails h) (refuses h) ended) on r
+
+-- a retry leaves it open
+pub retry_open : (h k : Holding) → IsTied h → MayFollow h.history.plan h.history.events Retry → k ≡ moved h Retry [] → (shows k.history).closed ≡ false
+retry_open h k t m e =
+    ap (λ (x : Seen). x.closed) (ap (λ (y : Holding). shows y.history) e ∙ then_shows h Retry (history_then h.history Retry) t m refl) ∙ m.0
+
+-- a refusal goes by the history, whether it is due, and both writers
+pub refuses_by : (cause : Cause) (h k : Holding) (due still : Bool) (next_old next_new back_old back_new : Hop) → k ≡ h → still ≡ due → next_new ≡ next_old → back_new ≡ back_old
+    → HasRefusal (refusal_status cause h.history.plan.point) due (user_gift h.history.plan.point (gift_of next_old.stage) (gift_of back_old.stage)) (user_untouched h.history.plan.point (not next_old.touched) (not back_old.touched))
+    → HasRefusal (refusal_status cause k.history.plan.point) still (user_gift k.history.plan.point (gift_of next_new.stage) (gift_of back_new.stage)) (user_untouched k.history.plan.point (not next_new.touched) (not back_new.touched))
+refuses_by cause h k due still next_old next_new back_old back_new e d n b r =
+    let refuses : Holding → Bool → Hop → Hop → Type 0 =
+    λ x f next back. HasRefusal (refusal_status cause x.history.plan.point) f (user_gift x.history.plan.point (gift_of next.stage) (gift_of back.stage)) (user_untouched x.history.plan.point (not next.touched) (not back.touched)) in
+    subst (λ (x : Holding). refuses x still next_new back_new) (sym e)
+    (subst (λ (f : Bool). refuses h f next_new back_new) (sym d)
+    (subst (λ (x : Hop). refuses h due x back_new) (sym n)
+    (subst (λ (x : Hop). refuses h due next_old x) (sym b) r)))

@@ -1,0 +1,140 @@
+//! A transaction of the proxy's own sides that runs: what the edge holds.
+
+ghost use Rattle.std.specs.Prelude.{◌≡◌, ◌↔◌, ◌≤◌, ◌⊎◌, ◌+◌, ℕ, List, true, false, [], None, Some, IfSome};
+ghost use Rattle.trace_core.specs.declared.history.Cause.{Cause as Why};
+ghost use Rattle.trace_core.specs.declared.history.Cause.TheVariants.{Deadline, Service as OfService, Stopping};
+ghost use Rattle.trace_core.specs.declared.history.Event.TheVariants.{Fail, Retry};
+ghost use Rattle.trace_core.specs.Legal.{MayFollow};
+ghost use Rattle.adapt_hold.specs.Holding.{IsTied, shows, moved};
+ghost use Rattle.adapt_turn.specs.declared.turned.Outcome.TheVariants as outcomes;
+ghost use Rattle.adapt_turn.specs.Made.{wire_of};
+ghost use Rattle.adapt_turn.specs.Freeing.{MayFree};
+ghost use Rattle.proxy_rules.specs.Running.{Runs};
+
+use crate::head_maker::HeadMaker;
+use adapt_turn::{Answering, FreeLine, Going, Outcome, Refusing, Side, Standing, Turned, Tx};
+use http_relay::{NextHop, SourceSide};
+use icap_client::ServiceSide;
+use span_bank::{Bank, Ledgers};
+use std::sync::Wait;
+use trace_core::Seen;
+use wire_kit::Wire;
+
+/// A transaction of the proxy's own sides.
+pub type OwnTx<B, A, W, C> = Tx<B, SourceSide, ServiceSide, NextHop, HeadMaker, A, W, C>;
+
+/// What is so of a transaction from its beginning on.
+pub trait Run {
+    // some request and texts stand between it and its wires; no side of an open one has a fault, but for a service whose connection
+    // broke; and where it failed, the user's writer has the refusal of the cause, or a byte has gone out to the user
+    ghost runs: { Self → Type 0 };
+}
+
+impl<B: Ledgers, A: Wire, W: Wire, C: Wire> Run
+    for Tx<B, SourceSide, ServiceSide, NextHop, HeadMaker, A, W, C> {
+    ghost use Rattle.adapt_hold.specs.Holding.{shows};
+    ghost use Rattle.proxy_rules.specs.Running.{Runs};
+
+    ghost runs = { λ tx. Runs (⟦<Tx<B, SourceSide, ServiceSide, NextHop, HeadMaker, A, W, C> as Standing>⟧.stands tx) (shows tx.hold.history).closed
+        (⟦<Tx<B, SourceSide, ServiceSide, NextHop, HeadMaker, A, W, C> as Answering>⟧.faultless tx) tx.outcome (⟦<Tx<B, SourceSide, ServiceSide, NextHop, HeadMaker, A, W, C> as Refusing>⟧.refuses tx) };
+}
+
+/// A transaction that was begun, and each step of which kept what stood then.
+#[must_use]
+pub struct Running<T: Run> {
+    pub(crate) tx: T,
+    pub ghost runs: { ∥ T.runs tx ∥₁ },
+}
+
+impl<B: Ledgers, A: Wire, W: Wire, C: Wire> Running<
+    Tx<B, SourceSide, ServiceSide, NextHop, HeadMaker, A, W, C>,
+> {
+    /// One turn of one side, at a moment in seconds.
+    pub fn turn(&mut self, rt: &impl Wait, bank: &Bank<B>, side: Side, now: u64) -> Turned
+        ensures goes { ⟦<Tx<B, SourceSide, ServiceSide, NextHop, HeadMaker, A, W, C> as Going>⟧.goes self.old.tx self.new.tx }
+        ensures answers { ⟦<Tx<B, SourceSide, ServiceSide, NextHop, HeadMaker, A, W, C> as Answering>⟧.answers self.old.tx side self.new.tx result }
+        ensures keeps { ⟦<Tx<B, SourceSide, ServiceSide, NextHop, HeadMaker, A, W, C> as Answering>⟧.keeps self.old.tx side self.new.tx }
+        ensures fails { (shows self.old.tx.hold.history).closed ≡ false → (cause : Why) → self.new.tx.outcome ≡ outcomes.Fail cause
+            → ⟦<Tx<B, SourceSide, ServiceSide, NextHop, HeadMaker, A, W, C> as Answering>⟧.fails self.old.tx side now self.new.tx cause }
+        ensures deadline { (shows self.old.tx.hold.history).closed ≡ false → self.old.tx.last_moved + self.old.tx.deadline ≤ now → self.new.tx.outcome ≡ outcomes.Fail Deadline }
+    {
+        self.tx.turn(rt, bank, side, now)
+    }
+
+    /// Turns by a schedule, each at the moment of the last moved byte.
+    pub fn drive(&mut self, rt: &impl Wait, bank: &Bank<B>, schedule: &[Side])
+        ensures goes { ⟦<Tx<B, SourceSide, ServiceSide, NextHop, HeadMaker, A, W, C> as Going>⟧.goes self.old.tx self.new.tx }
+    {
+        self.tx.drive(rt, bank, schedule);
+    }
+
+    /// Fails it because the proxy stops, where it isn't closed.
+    pub fn halt(&mut self, rt: &impl Wait, bank: &Bank<B>)
+        ensures goes { ⟦<Tx<B, SourceSide, ServiceSide, NextHop, HeadMaker, A, W, C> as Going>⟧.goes self.old.tx self.new.tx }
+        ensures over { (shows self.new.tx.hold.history).closed ≡ true }
+        ensures halted { (shows self.old.tx.hold.history).closed ≡ false → self.new.tx.outcome ≡ outcomes.Fail Stopping }
+    {
+        self.tx.halt(rt, bank);
+    }
+
+    /// How it ended, once it is closed.
+    pub fn outcome(&self) -> Option<Outcome>
+        ensures open { (shows self.now.tx.hold.history).closed ≡ false → result ≡ None }
+        ensures closed { (shows self.now.tx.hold.history).closed ≡ true → result ≡ Some self.now.tx.outcome }
+    {
+        self.tx.outcome()
+    }
+
+    /// What its history shows.
+    pub fn seen(&self) -> Seen
+        ensures seen { result ≡ shows self.now.tx.hold.history }
+        ensures tied { IsTied self.now.tx.hold }
+    {
+        self.tx.seen()
+    }
+
+    /// Whether the service's connection broke before a byte of a reply, and the request may begin anew on a fresh one.
+    pub fn is_broken(&self) -> bool
+        ensures { result ≡ true ↔ (self.now.tx.broken ≡ true) × MayFollow self.now.tx.hold.history.plan self.now.tx.hold.history.events Retry }
+    {
+        self.tx.is_broken()
+    }
+
+    /// Begins the same request anew on a fresh connection, and gives the broken one back.
+    pub fn retry(&mut self, rt: &impl Wait, bank: &Bank<B>, wire: W) -> Option<W>
+        requires broken { self.old.tx.broken ≡ true }
+        requires may { MayFollow self.old.tx.hold.history.plan self.old.tx.hold.history.events Retry }
+        ensures hold { self.new.tx.hold ≡ moved self.old.tx.hold Retry [] }
+        ensures fresh { IfSome self.new.tx.service (λ line. line.wire ≡ Some wire) }
+        ensures back { IfSome self.old.tx.service (λ line. result ≡ line.wire) }
+    {
+        let _ = self.tx.seen();
+        self.tx.retry(rt, bank, wire)
+    }
+
+    /// Fails it by the service's fault, where no fresh connection can be had.
+    pub fn no_retry(&mut self, rt: &impl Wait, bank: &Bank<B>)
+        requires broken { self.old.tx.broken ≡ true }
+        requires may { MayFollow self.old.tx.hold.history.plan self.old.tx.hold.history.events Retry }
+        ensures outcome { self.new.tx.outcome ≡ outcomes.Fail OfService }
+    {
+        self.tx.no_retry(rt, bank);
+    }
+
+    /// Gives up the connection to the service once its exchange is over, and says whether it may carry another request.
+    pub fn free_line(&mut self) -> Option<FreeLine<W>>
+        ensures over { IfSome result (λ free. MayFree (shows self.old.tx.hold.history)) }
+        ensures due { result ≡ None → MayFree (shows self.old.tx.hold.history) → wire_of self.old.tx.service ≡ None }
+        ensures wire { IfSome result (λ free. wire_of self.old.tx.service ≡ Some free.wire) }
+    {
+        self.tx.free_line()
+    }
+
+    /// The transaction itself, to be taken apart.
+    pub fn into_tx(self) -> Tx<B, SourceSide, ServiceSide, NextHop, HeadMaker, A, W, C>
+        ensures { result ≡ self.tx }
+    {
+        let Running { tx } = self;
+        tx
+    }
+}
