@@ -135,8 +135,12 @@ def threads_have_names(bench):
     same("served", ask(proxy.port, get("/bytes/3")).body, b"the")
     task = "/proc/%d/task" % proxy.process.pid
     own = open("/proc/%d/comm" % proxy.process.pid).read().strip()
-    names = sorted(open("%s/%s/comm" % (task, thread)).read().strip() for thread in os.listdir(task))
-    same("names", names, sorted(["shard-%d" % number for number in range(12)] + [own]))
+
+    def names():
+        return sorted(open("%s/%s/comm" % (task, thread)).read().strip() for thread in os.listdir(task))
+    wanted = sorted(["shard-%d" % number for number in range(12)] + [own])
+    comes("the last thread", lambda: names() == wanted)
+    same("names", names(), wanted)
     same("the program's", own.startswith("shard"), False)
     same("audit", proxy.stop(), IDLE)
 
