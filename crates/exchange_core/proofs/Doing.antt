@@ -1,0 +1,79 @@
+-- What comes of doing what is due may come.
+use Rattle.std.proofs.Common.{◌≡◌, true, List, subst, arith}
+use Rattle.std.proofs.lemmas.Bool.Decides.{nat_tests}
+use Rattle.exchange_core.specs.declared.event.Event.{Event}
+use Rattle.exchange_core.specs.declared.event.Event.TheVariants.{HeadBegun, RequestRead, ResponseRead, Stale, Queued, Lent, Asked, Learned, Planned, Reserved, HalfTold, Stuck, Told, Dialed, Started, LetPass, Renewed, Served, Begun, Sent, Answered, Failed, Returned, Released, HungUp, Refused, UserClosed, UserLost, Dropped, Late, Drain, Stop, Tried}
+use Rattle.exchange_core.specs.declared.due.Due.TheVariants.{Start, Turn, ReadResponse}
+use Rattle.exchange_core.specs.declared.course.Course.{Course}
+use Rattle.exchange_core.specs.May.{may_come}
+use Rattle.exchange_core.specs.Dues.{due_of, comes_of, fits, is_wait}
+use Rattle.exchange_core.specs.Log.{course_of, IsLegal, IsReached}
+use Rattle.exchange_core.proofs.Sound.{Sound, sound}
+use Rattle.exchange_core.proofs.Going.{waits_late}
+
+done_at : (c : Course) (event : Event) → Sound c → comes_of (due_of c) event ≡ true → fits c event ≡ true → may_come c event ≡ true
+done_at c HeadBegun s d f = grind (arith, nat_tests)
+done_at c RequestRead s d f = grind (arith, nat_tests)
+done_at c ResponseRead s d f = grind (arith, nat_tests)
+done_at c Stale s d f = grind (arith, nat_tests)
+done_at c Queued s d f = grind (arith, nat_tests)
+done_at c (Lent reused) s d f = grind (arith, nat_tests)
+done_at c Asked s d f = grind (arith, nat_tests)
+done_at c (Learned usable) s d f = grind (arith, nat_tests)
+done_at c (Planned offered waits) s d f = grind (arith, nat_tests)
+done_at c Reserved s d f = grind (arith, nat_tests)
+done_at c HalfTold s d f = grind (arith, nat_tests)
+done_at c Stuck s d f = grind (arith, nat_tests)
+done_at c Told s d f = grind (arith, nat_tests)
+done_at c Dialed s d f = grind (arith, nat_tests)
+done_at c Started s d f = grind (arith, nat_tests)
+done_at c LetPass s d f = grind (arith, nat_tests)
+done_at c Renewed s d f = grind (arith, nat_tests)
+done_at c (Served usable) s d f = grind (arith, nat_tests)
+done_at c Begun s d f = grind (arith, nat_tests)
+done_at c Sent s d f = grind (arith, nat_tests)
+done_at c (Answered keeps) s d f = grind (arith, nat_tests)
+done_at c (Failed why) s d f = grind (arith, nat_tests)
+done_at c (Returned kept) s d f = grind (arith, nat_tests)
+done_at c Released s d f = grind (arith, nat_tests)
+done_at c HungUp s d f = grind (arith, nat_tests)
+done_at c Refused s d f = grind (arith, nat_tests)
+done_at c UserClosed s d f = grind (arith, nat_tests)
+done_at c UserLost s d f = grind (arith, nat_tests)
+done_at c Dropped s d f = grind (arith, nat_tests)
+done_at c Late s d f = grind (arith, nat_tests)
+done_at c Drain s d f = grind (arith, nat_tests)
+done_at c Stop s d f = grind (arith, nat_tests)
+done_at c Tried s d f = grind (arith, nat_tests)
+
+pub done : (events : List Event) (event : Event) → IsLegal events → comes_of (due_of (course_of events)) event ≡ true
+    → fits (course_of events) event ≡ true → may_come (course_of events) event ≡ true
+done events event l d f = done_at (course_of events) event (sound events l) d f
+
+-- the same wherever some legal log leads
+sound_there : (c : Course) → IsReached c → Sound c
+sound_there c r = subst Sound r.2 (sound r.0 r.1)
+
+pub done_there : (c : Course) (event : Event) → IsReached c → comes_of (due_of c) event ≡ true → fits c event ≡ true → may_come c event ≡ true
+done_there c event r d f = done_at c event (sound_there c r) d f
+
+pub late_there : (c : Course) → IsReached c → is_wait (due_of c) ≡ true → may_come c Late ≡ true
+late_there c r w = waits_late c (sound_there c r) w
+
+starts_at : (c : Course) → Sound c → due_of c ≡ Start → (c.stake ≡ true) × (c.origin ≡ true)
+starts_at c s d = grind (arith, nat_tests)
+
+turns_at : (c : Course) → Sound c → due_of c ≡ Turn → (c.stake ≡ true) × (c.origin ≡ true)
+turns_at c s d = grind (arith, nat_tests)
+
+hears_at : (c : Course) → Sound c → due_of c ≡ ReadResponse → c.origin ≡ true
+hears_at c s d = grind (arith, nat_tests)
+
+pub starts_there : (c : Course) → IsReached c → due_of c ≡ Start → (c.stake ≡ true) × (c.origin ≡ true)
+starts_there c r d = starts_at c (sound_there c r) d
+
+pub turns_there : (c : Course) → IsReached c → due_of c ≡ Turn → (c.stake ≡ true) × (c.origin ≡ true)
+turns_there c r d = turns_at c (sound_there c r) d
+
+pub hears_there : (c : Course) → IsReached c → due_of c ≡ ReadResponse → c.origin ≡ true
+hears_there c r d = hears_at c (sound_there c r) d

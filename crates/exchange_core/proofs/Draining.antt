@@ -1,0 +1,46 @@
+-- Once the proxy drains.
+use Rattle.std.proofs.Common.{◌≡◌, ◌+◌, ◌≤◌, Bool, true, not, ◌&&◌, ◌||◌, List, [], ◌∷◌, ◌++◌, refl, ◌∙◌, arith}
+use Rattle.std.proofs.lemmas.Bool.Decides.{nat_tests}
+use Rattle.exchange_core.specs.declared.event.Event.{Event}
+use Rattle.exchange_core.specs.declared.event.Event.TheVariants.{Answered, Drain}
+use Rattle.exchange_core.specs.declared.place.Place.TheVariants.{Closing}
+use Rattle.exchange_core.specs.declared.course.Course.{Course}
+use Rattle.exchange_core.specs.Course.{after}
+use Rattle.exchange_core.specs.May.{may_come, is_idle, is_head, is_moving}
+use Rattle.exchange_core.specs.Log.{course_of, IsLegal, count, one_if, is_request_read, is_last_answer}
+use Rattle.exchange_core.proofs.Sound.{Sound, sound}
+use Rattle.exchange_core.proofs.Marks.{closes_stands}
+
+-- one more request may be read
+abbrev may_ask_more : Course → Bool
+may_ask_more c = is_idle c.place || (is_head c.place || (is_moving c.place && (c.begun && not c.closes)))
+
+one_step : (c : Course) (event : Event) → Sound c → c.draining ≡ true → may_come c event ≡ true
+    → one_if (is_request_read event) + one_if (may_ask_more (after c event)) ≤ one_if (may_ask_more c)
+one_step c event s d m = grind (arith, nat_tests)
+
+draining_step : (c : Course) (event : Event) → c.draining ≡ true → (after c event).draining ≡ true
+draining_step c event d = grind (arith, nat_tests)
+
+stays_draining : (more events : List Event) → (course_of (more ++ Drain ∷ events)).draining ≡ true
+stays_draining [] events = refl
+stays_draining (event ∷ more) events = draining_step (course_of (more ++ Drain ∷ events)) event (stays_draining more events)
+
+one_room : (more events : List Event) → IsLegal (more ++ Drain ∷ events)
+    → count is_request_read more + one_if (may_ask_more (course_of (more ++ Drain ∷ events))) ≤ one_if (may_ask_more (course_of (Drain ∷ events)))
+one_room [] events l = omega arith
+one_room (event ∷ more) events l =
+    omega (arith, one_step (course_of (more ++ Drain ∷ events)) event (sound (more ++ Drain ∷ events) l.1) (stays_draining more events) l.0, one_room more events l.1)
+
+one : (b : Bool) → one_if b ≤ 1
+one b = grind (arith, nat_tests)
+
+pub one_more : (more events : List Event) → IsLegal (more ++ Drain ∷ events) → count is_request_read more ≤ 1
+one_more more events l = omega (arith, one_room more events l, one (may_ask_more (course_of (Drain ∷ events))))
+
+closes_at : (c : Course) (keeps : Bool) → c.closes ≡ true → (after c (Answered keeps)).place ≡ Closing
+closes_at c keeps d = grind (arith, nat_tests)
+
+pub closes : (events : List Event) (keeps : Bool) → IsLegal (Answered keeps ∷ events)
+    → is_last_answer events ≡ true → (course_of (Answered keeps ∷ events)).place ≡ Closing
+closes events keeps l d = closes_at (course_of events) keeps (closes_stands events ∙ d)

@@ -1,0 +1,117 @@
+-- Where nothing moves, and where the proxy stops, few events are left.
+use Rattle.std.proofs.Common.{◌≡◌, ℕ, ◌+◌, ◌≤◌, Bool, true, false, List, [], ◌∷◌, ◌++◌, length, refl, ◌∙◌, arith}
+use Rattle.std.proofs.lemmas.Bool.Decides.{nat_tests}
+use Rattle.exchange_core.specs.declared.event.Event.{Event}
+use Rattle.exchange_core.specs.declared.event.Event.TheVariants.{UserLost, Stop}
+use Rattle.exchange_core.specs.declared.course.Course.{Course}
+use Rattle.exchange_core.specs.declared.place.Place.{Place}
+use Rattle.exchange_core.specs.Course.{after}
+use Rattle.exchange_core.specs.May.{may_come, is_refusing, is_gone}
+use Rattle.exchange_core.specs.Log.{course_of, IsLegal, AllAre, count, one_if, is_late, is_quiet, is_last, is_freeing, is_stop, stands, never, deadlines_from, held_by}
+use Rattle.exchange_core.proofs.Sound.{Sound, sound}
+use Rattle.exchange_core.proofs.Marks.{stopping_stands}
+
+late_step : (c : Course) (event : Event) → may_come c event ≡ true → is_quiet event ≡ true
+    → one_if (is_late event) + deadlines_from (after c event).place ≤ deadlines_from c.place
+late_step c event m q = grind (arith, nat_tests)
+
+free_step : (c : Course) (event : Event) → may_come c event ≡ true → is_quiet event ≡ true
+    → 1 + held_by (after c event) ≤ one_if (is_late event) + held_by c
+free_step c event m q = grind (arith, nat_tests)
+
+pub deadlines_fall : (more events : List Event) → IsLegal (more ++ events) → AllAre is_quiet more
+    → count is_late more + deadlines_from (course_of (more ++ events)).place ≤ deadlines_from (course_of events).place
+deadlines_fall [] events l q = omega arith
+deadlines_fall (event ∷ more) events l q =
+    omega (arith, late_step (course_of (more ++ events)) event l.0 q.0, deadlines_fall more events l.1 q.1)
+
+frees : (more events : List Event) → IsLegal (more ++ events) → AllAre is_quiet more
+    → length more + held_by (course_of (more ++ events)) ≤ count is_late more + held_by (course_of events)
+frees [] events l q = omega arith
+frees (event ∷ more) events l q =
+    omega (arith, free_step (course_of (more ++ events)) event l.0 q.0, frees more events l.1 q.1)
+
+two : (place : Place) → deadlines_from place ≤ 2
+two place = grind (arith, nat_tests)
+
+three : (c : Course) → held_by c ≤ 3
+three c = grind (arith, nat_tests)
+
+pub few_deadlines : (more events : List Event) → IsLegal (more ++ events) → AllAre is_quiet more → count is_late more ≤ 2
+few_deadlines more events l q = omega (arith, deadlines_fall more events l q, two (course_of events).place)
+
+pub few_quiet : (more events : List Event) → IsLegal (more ++ events) → AllAre is_quiet more → length more ≤ 5
+few_quiet more events l q = omega (arith, few_deadlines more events l q, frees more events l q, three (course_of events))
+
+-- what is left once the proxy stops
+abbrev left : Course → ℕ
+left c = one_if (is_refusing c.place) + held_by c
+
+last_step : (c : Course) (event : Event) → Sound c → c.stopping ≡ true → may_come c event ≡ true → is_last event ≡ true
+last_step c event s p m = grind (arith, nat_tests)
+
+left_step : (c : Course) (event : Event) → Sound c → c.stopping ≡ true → may_come c event ≡ true → 1 + left (after c event) ≤ left c
+left_step c event s p m = grind (arith, nat_tests)
+
+stopping_step : (c : Course) (event : Event) → c.stopping ≡ true → (after c event).stopping ≡ true
+stopping_step c event p = grind (arith, nat_tests)
+
+stops_at : (c : Course) → (after c Stop).stopping ≡ true
+stops_at c = refl
+
+stays_stopping : (more events : List Event) → (course_of (more ++ Stop ∷ events)).stopping ≡ true
+stays_stopping [] events = refl
+stays_stopping (event ∷ more) events = stopping_step (course_of (more ++ Stop ∷ events)) event (stays_stopping more events)
+
+pub last_ones : (more events : List Event) → IsLegal (more ++ Stop ∷ events) → AllAre is_last more
+last_ones [] events l = tt
+last_ones (event ∷ more) events l =
+    (last_step (course_of (more ++ Stop ∷ events)) event (sound (more ++ Stop ∷ events) l.1) (stays_stopping more events) l.0, last_ones more events l.1)
+
+left_falls : (more events : List Event) → IsLegal (more ++ Stop ∷ events)
+    → length more + left (course_of (more ++ Stop ∷ events)) ≤ left (course_of (Stop ∷ events))
+left_falls [] events l = omega arith
+left_falls (event ∷ more) events l =
+    omega (arith, left_step (course_of (more ++ Stop ∷ events)) event (sound (more ++ Stop ∷ events) l.1) (stays_stopping more events) l.0, left_falls more events l.1)
+
+one : (b : Bool) → one_if b ≤ 1
+one b = grind (arith, nat_tests)
+
+pub few_last : (more events : List Event) → IsLegal (more ++ Stop ∷ events) → length more ≤ 4
+few_last more events l =
+    omega (arith, left_falls more events l, three (course_of (Stop ∷ events)), one (is_refusing (course_of (Stop ∷ events)).place))
+
+-- after a user's connection is over
+gone_step : (c : Course) (event : Event) → may_come c event ≡ true → is_gone c.place ≡ true → is_freeing event ≡ true
+gone_step c event m g = grind (arith, nat_tests)
+
+gone_stays_at : (c : Course) (event : Event) → may_come c event ≡ true → is_gone c.place ≡ true → is_gone (after c event).place ≡ true
+gone_stays_at c event m g = grind (arith, nat_tests)
+
+gone_frees : (c : Course) (event : Event) → may_come c event ≡ true → is_gone c.place ≡ true → 1 + held_by (after c event) ≤ held_by c
+gone_frees c event m g = grind (arith, nat_tests)
+
+gone_stays : (more events : List Event) → IsLegal (more ++ events) → is_gone (course_of events).place ≡ true → is_gone (course_of (more ++ events)).place ≡ true
+gone_stays [] events l g = g
+gone_stays (event ∷ more) events l g = gone_stays_at (course_of (more ++ events)) event l.0 (gone_stays more events l.1 g)
+
+pub only_frees : (more events : List Event) → IsLegal (more ++ events) → is_gone (course_of events).place ≡ true → AllAre is_freeing more
+only_frees [] events l g = tt
+only_frees (event ∷ more) events l g =
+    (gone_step (course_of (more ++ events)) event l.0 (gone_stays more events l.1 g), only_frees more events l.1 g)
+
+held_falls : (more events : List Event) → IsLegal (more ++ events) → is_gone (course_of events).place ≡ true
+    → length more + held_by (course_of (more ++ events)) ≤ held_by (course_of events)
+held_falls [] events l g = omega arith
+held_falls (event ∷ more) events l g =
+    omega (arith, gone_frees (course_of (more ++ events)) event l.0 (gone_stays more events l.1 g), held_falls more events l.1 g)
+
+pub few_after_gone : (more events : List Event) → IsLegal (more ++ events) → is_gone (course_of events).place ≡ true → length more ≤ 3
+few_after_gone more events l g = omega (arith, held_falls more events l g, three (course_of events))
+
+lost_at : (c : Course) → is_gone c.place ≡ false → c.stopping ≡ false → may_come c UserLost ≡ true
+lost_at c g p = grind (arith, nat_tests)
+
+pub lost_at_once : (events : List Event) → IsLegal events → is_gone (course_of events).place ≡ false
+    → stands is_stop never events ≡ false → may_come (course_of events) UserLost ≡ true
+lost_at_once events l g p = lost_at (course_of events) g (stopping_stands events ∙ p)

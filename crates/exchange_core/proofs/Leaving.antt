@@ -1,0 +1,59 @@
+-- After the end of a connection.
+use Rattle.std.proofs.Common.{◌≡◌, ◌+◌, ◌≤◌, true, false, not, List, [], ◌∷◌, ◌++◌, sym, ◌∙◌, arith}
+use Rattle.std.proofs.lemmas.Bool.Decides.{nat_tests}
+use Rattle.exchange_core.specs.declared.event.Event.{Event}
+use Rattle.exchange_core.specs.declared.event.Why.{Why}
+use Rattle.exchange_core.specs.declared.course.Course.{Course}
+use Rattle.exchange_core.specs.Course.{after}
+use Rattle.exchange_core.specs.May.{may_come, is_refusing}
+use Rattle.exchange_core.specs.Log.{course_of, IsLegal, AllAre, count, one_if, is_leaving, is_silent, is_parting, is_refused, KeepsTo, has_begun, is_half_out}
+use Rattle.exchange_core.proofs.Sound.{Sound, sound}
+use Rattle.exchange_core.proofs.Marks.{begun_stands, half_told_stands}
+
+untouched_at : (c : Course) → Sound c → is_refusing c.place ≡ true → c.begun ≡ false
+untouched_at c s r = grind (arith, nat_tests)
+
+pub untouched : (events : List Event) → IsLegal events → is_refusing (course_of events).place ≡ true → has_begun events ≡ false
+untouched events l r = sym (begun_stands events) ∙ untouched_at (course_of events) (sound events l) r
+
+whole_at : (c : Course) → Sound c → is_refusing c.place ≡ true → c.half_told ≡ false
+whole_at c s r = grind (arith, nat_tests)
+
+pub whole : (events : List Event) → IsLegal events → is_refusing (course_of events).place ≡ true → is_half_out events ≡ false
+whole events l r = sym (half_told_stands events) ∙ whole_at (course_of events) (sound events l) r
+
+parting_step : (c : Course) (event : Event) → may_come c event ≡ true → is_leaving c.place ≡ true → is_parting event ≡ true
+parting_step c event m v = grind (arith, nat_tests)
+
+leaving_step : (c : Course) (event : Event) → may_come c event ≡ true → is_leaving c.place ≡ true → is_leaving (after c event).place ≡ true
+leaving_step c event m v = grind (arith, nat_tests)
+
+pub leaving_stays : (more events : List Event) → IsLegal (more ++ events) → is_leaving (course_of events).place ≡ true → is_leaving (course_of (more ++ events)).place ≡ true
+leaving_stays [] events l v = v
+leaving_stays (event ∷ more) events l v = leaving_step (course_of (more ++ events)) event l.0 (leaving_stays more events l.1 v)
+
+pub parting : (more events : List Event) → IsLegal (more ++ events) → is_leaving (course_of events).place ≡ true → AllAre is_parting more
+parting [] events l v = tt
+parting (event ∷ more) events l v =
+    (parting_step (course_of (more ++ events)) event l.0 (leaving_stays more events l.1 v), parting more events l.1 v)
+
+silent_step : (c : Course) (event : Event) → may_come c event ≡ true → is_silent c.place ≡ true → is_silent (after c event).place ≡ true
+silent_step c event m v = grind (arith, nat_tests)
+
+keeps_to_step : (c : Course) (event : Event) (why : Why) → may_come c event ≡ true → KeepsTo why c.place → KeepsTo why (after c event).place
+keeps_to_step c event why m b = grind (arith, nat_tests)
+
+pub keeps_to : (more events : List Event) (why : Why) → IsLegal (more ++ events) → KeepsTo why (course_of events).place → KeepsTo why (course_of (more ++ events)).place
+keeps_to [] events why l b = b
+keeps_to (event ∷ more) events why l b = keeps_to_step (course_of (more ++ events)) event why l.0 (keeps_to more events why l.1 b)
+
+refused_step : (c : Course) (event : Event) → may_come c event ≡ true
+    → one_if (is_refused event) + one_if (not (is_silent (after c event).place)) ≤ one_if (not (is_silent c.place))
+refused_step c event m = grind (arith, nat_tests)
+
+refused_room : (events : List Event) → IsLegal events → count is_refused events + one_if (not (is_silent (course_of events).place)) ≤ 1
+refused_room [] l = omega arith
+refused_room (event ∷ before) l = omega (arith, refused_step (course_of before) event l.0, refused_room before l.1)
+
+pub one_refusal : (events : List Event) → IsLegal events → count is_refused events ≤ 1
+one_refusal events l = omega (arith, refused_room events l)

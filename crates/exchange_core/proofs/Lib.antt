@@ -1,0 +1,15 @@
+pub mod Reached
+pub mod Marks
+pub mod Counting
+pub mod Sound
+pub mod Turning
+pub mod Leaving
+pub mod Going
+pub mod Serving
+pub mod Ending
+pub mod Once
+pub mod Circles
+pub mod Moving
+pub mod Dialing
+pub mod Draining
+pub mod Doing

@@ -1,0 +1,15 @@
+use Rattle.std.proofs.Common.{◌≡◌, true, sym, subst}
+use Rattle.exchange_core.specs.declared.course.Course.{Course}
+use Rattle.exchange_core.specs.Dues.{due_of, comes_of, fits}
+use Rattle.exchange_core.specs.Log.{IsReached}
+use Rattle.exchange_core.proofs.Reached.{reached_after}
+use Rattle.exchange_core.proofs.Doing.{done_there}
+use Rattle.exchange_core.proofs.exchange.Exchange.done.Goals as goal
+
+pub invariant_of-self : goal.invariant_of-self
+invariant_of-self c =
+    subst IsReached (sym c.after-self-inside.ensures)
+    (reached_after c.self.inside.course c.args.event c.self.invariant
+    (done_there c.self.inside.course c.args.event c.self.invariant
+    (subst (λ (d : Course). comes_of (due_of d) c.args.event ≡ true) (sym c.self.view_is) c.requires.due)
+    (subst (λ (d : Course). fits d c.args.event ≡ true) (sym c.self.view_is) c.requires.fits)))

@@ -1,0 +1,15 @@
+use Rattle.std.proofs.Common.{◌≡◌, true, sym, subst}
+use Rattle.exchange_core.specs.declared.course.Course.{Course}
+use Rattle.exchange_core.specs.declared.event.Event.TheVariants.{Late}
+use Rattle.exchange_core.specs.Dues.{due_of, is_wait}
+use Rattle.exchange_core.specs.Log.{IsReached}
+use Rattle.exchange_core.proofs.Reached.{reached_after}
+use Rattle.exchange_core.proofs.Doing.{late_there}
+use Rattle.exchange_core.proofs.exchange.Exchange.late.Goals as goal
+
+pub invariant_of-self : goal.invariant_of-self
+invariant_of-self c =
+    subst IsReached (sym c.after-self-inside.ensures)
+    (reached_after c.self.inside.course Late c.self.invariant
+    (late_there c.self.inside.course c.self.invariant
+    (subst (λ (d : Course). is_wait (due_of d) ≡ true) (sym c.self.view_is) c.requires)))

@@ -1,0 +1,5 @@
+use Rattle.exchange_core.proofs.Draining.{closes, one_more}
+use Rattle.exchange_core.proofs.laws.a_drain_ends_an_exchange.Goals as goal
+
+pub returns : goal.returns
+returns c = record { closes = closes; one = one_more }

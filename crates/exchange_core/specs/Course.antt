@@ -1,0 +1,239 @@
+-- Where a user's connection stands and what it holds, mark by mark: what each event makes of it.
+use Rattle.std.specs.Prelude.{Bool, true, false, not, ◌&&◌, ◌||◌, if◌then◌else◌}
+use Rattle.trace_core.specs.declared.history.Point.{Point}
+use Rattle.trace_core.specs.declared.history.Point.TheVariants.{Reqmod, Respmod}
+use Rattle.exchange_core.specs.declared.event.Why.{Why}
+use Rattle.exchange_core.specs.declared.event.Why.TheVariants as whys
+use Rattle.exchange_core.specs.declared.event.Event.{Event}
+use Rattle.exchange_core.specs.declared.event.Event.TheVariants.{HeadBegun, RequestRead, ResponseRead, Stale, Queued, Lent, Asked, Learned, Planned, Reserved, HalfTold, Stuck, Told, Dialed, Started, LetPass, Renewed, Served, Begun, Sent, Answered, Failed, Returned, Released, HungUp, Refused, UserClosed, UserLost, Dropped, Late, Drain, Stop, Tried}
+use Rattle.exchange_core.specs.declared.line.Line.{Line}
+use Rattle.exchange_core.specs.declared.line.Line.TheVariants.{Absent, Ready, InUse, Spent}
+use Rattle.exchange_core.specs.declared.place.Place.{Place}
+use Rattle.exchange_core.specs.declared.place.Place.TheVariants.{Idle, Head, Planning, Asking, InQueue, Preparing, Telling, AtGate, Moving, Answer, Refusing, Closing, Gone}
+use Rattle.exchange_core.specs.declared.course.Course.{Course}
+
+-- The service's connection.
+
+abbrev pub is_leased : Line → Bool
+is_leased Absent = false
+is_leased _ = true
+
+abbrev pub is_ready : Line → Bool
+is_ready (Ready reused) = true
+is_ready _ = false
+
+abbrev pub is_in_use : Line → Bool
+is_in_use (InUse reused) = true
+is_in_use _ = false
+
+abbrev pub is_spent : Line → Bool
+is_spent Spent = true
+is_spent _ = false
+
+abbrev pub is_reused : Line → Bool
+is_reused (Ready reused) = reused
+is_reused (InUse reused) = reused
+is_reused _ = false
+
+-- a request goes out on it
+abbrev pub in_use : Line → Line
+in_use (Ready reused) = InUse reused
+in_use line = line
+
+-- the service has said all on it, and it may serve again or not
+abbrev pub said : Line → (usable : Bool) → Line
+said (InUse reused) usable = if usable then Ready reused else Spent
+said line usable = line
+
+-- a fresh one stands in its place
+abbrev pub renewed : Line → Line
+renewed (InUse reused) = InUse false
+renewed line = line
+
+-- what an event makes of it
+abbrev pub line_after : Line → Event → Line
+line_after line (Lent reused) = Ready reused
+line_after line (Returned kept) = Absent
+line_after line Asked = in_use line
+line_after line LetPass = in_use line
+line_after line (Learned usable) = said line usable
+line_after line (Served usable) = said line usable
+line_after line Renewed = renewed line
+line_after line _ = line
+
+-- The other marks.
+
+-- a reservation is open
+abbrev pub stake_after : Bool → Event → Bool
+stake_after stake Reserved = true
+stake_after stake Released = false
+stake_after stake _ = stake
+
+-- the origin's connection is open
+abbrev pub origin_after : Bool → Event → Bool
+origin_after origin Dialed = true
+origin_after origin HungUp = false
+origin_after origin _ = origin
+
+-- the service said its options since the message's head was read
+abbrev pub asked_after : Bool → Event → Bool
+asked_after asked (Learned usable) = true
+asked_after asked RequestRead = false
+asked_after asked ResponseRead = false
+asked_after asked _ = asked
+
+-- the user was told to send its body since its request's head was read
+abbrev pub told_after : Bool → Event → Bool
+told_after told Told = true
+told_after told RequestRead = false
+told_after told _ = told
+
+-- a part of the text that tells it went out, and not all
+abbrev pub half_told_after : Bool → Event → Bool
+half_told_after half_told HalfTold = true
+half_told_after half_told Told = false
+half_told_after half_told RequestRead = false
+half_told_after half_told _ = half_told
+
+-- a byte of an answer that isn't whole yet went to the user
+abbrev pub begun_after : Bool → Event → Bool
+begun_after begun Begun = true
+begun_after begun RequestRead = false
+begun_after begun (Answered keeps) = false
+begun_after begun _ = begun
+
+-- the answer that goes out is the last one of its connection, since it was begun while the proxy drained
+abbrev pub closes_after : (draining closes : Bool) → Event → Bool
+closes_after draining closes Begun = draining
+closes_after draining closes RequestRead = false
+closes_after draining closes (Answered keeps) = false
+closes_after draining closes _ = closes
+
+-- the proxy drains
+abbrev pub draining_after : Bool → Event → Bool
+draining_after draining Drain = true
+draining_after draining _ = draining
+
+-- the proxy stops
+abbrev pub stopping_after : Bool → Event → Bool
+stopping_after stopping Stop = true
+stopping_after stopping _ = stopping
+
+-- The place.
+
+abbrev pub point_of : Place → Point
+point_of (Planning point) = point
+point_of (Asking point) = point
+point_of (InQueue point) = point
+point_of (Preparing point offered waits) = point
+point_of (AtGate point offered) = point
+point_of (Moving point offered) = point
+point_of _ = Reqmod
+
+-- the message is offered to its service
+abbrev pub is_offered : Place → Bool
+is_offered (Preparing point offered waits) = offered
+is_offered (AtGate point offered) = offered
+is_offered (Moving point offered) = offered
+is_offered _ = false
+
+-- what a user got of this request makes no whole text yet: a refusal after that would be read as a part of it
+abbrev pub is_mid_text : Course → Bool
+is_mid_text c = c.begun || c.half_told
+
+-- a refusal is due exactly where it stands alone; else the connection is cut
+abbrev pub place_when_failed : Course → Why → Place
+place_when_failed c why = if is_mid_text c then Closing else Refusing why
+
+-- a message that doesn't move has failed, and so has one whose turn in the queue didn't come; a user that sends no head, or takes
+-- no refusal, is let go
+abbrev pub late_from : Place → Course → Place
+late_from (Asking point) c = place_when_failed c whys.Deadline
+late_from (InQueue point) c = place_when_failed c whys.Scarce
+late_from Telling c = place_when_failed c whys.Deadline
+late_from (Moving point offered) c = place_when_failed c whys.Deadline
+late_from Answer c = place_when_failed c whys.Deadline
+late_from _ c = Gone
+
+abbrev pub place_when_late : Course → Place
+place_when_late c = late_from c.place c
+
+-- a refusal that goes out is tried once more; a request to which nothing was answered is refused
+abbrev pub stop_from : Place → Course → Place
+stop_from (Refusing why) c = Refusing why
+stop_from Idle c = Gone
+stop_from Head c = Gone
+stop_from Closing c = Gone
+stop_from Gone c = Gone
+stop_from _ c = if is_mid_text c then Gone else Refusing whys.Stopping
+
+abbrev pub place_when_stopping : Course → Place
+place_when_stopping c = stop_from c.place c
+
+-- a message that waited for a connection is planned anew
+abbrev pub lent_from : Place → Place
+lent_from (InQueue point) = Planning point
+lent_from place = place
+
+-- so is the request of a user that had to be waited for until it was told
+abbrev pub told_from : Place → Place
+told_from Telling = Planning Reqmod
+told_from place = place
+
+abbrev pub place_after : Course → Event → Place
+place_after c HeadBegun = Head
+place_after c RequestRead = Planning Reqmod
+place_after c ResponseRead = Planning Respmod
+place_after c Stale = Asking (point_of c.place)
+place_after c Queued = InQueue (point_of c.place)
+place_after c (Lent reused) = lent_from c.place
+place_after c (Learned usable) = Planning (point_of c.place)
+place_after c (Planned offered waits) = Preparing (point_of c.place) offered waits
+place_after c Stuck = Telling
+place_after c Told = told_from c.place
+place_after c Started = AtGate (point_of c.place) (is_offered c.place)
+place_after c LetPass = Moving (point_of c.place) (is_offered c.place)
+place_after c Sent = Answer
+place_after c (Answered keeps) = if keeps && not c.closes then Idle else Closing
+place_after c (Failed why) = place_when_failed c why
+place_after c Refused = Closing
+place_after c UserClosed = Gone
+place_after c UserLost = Gone
+place_after c Dropped = Gone
+place_after c Late = place_when_late c
+place_after c Stop = place_when_stopping c
+place_after c Tried = Gone
+place_after c _ = c.place
+
+-- All of it.
+
+abbrev pub after : Course → Event → Course
+after c event = record {
+  place = place_after c event;
+  line = line_after c.line event;
+  stake = stake_after c.stake event;
+  origin = origin_after c.origin event;
+  asked = asked_after c.asked event;
+  told = told_after c.told event;
+  half_told = half_told_after c.half_told event;
+  begun = begun_after c.begun event;
+  closes = closes_after c.draining c.closes event;
+  draining = draining_after c.draining event;
+  stopping = stopping_after c.stopping event;
+}
+
+-- before the first event
+abbrev pub start : Course
+start = record {
+  place = Head;
+  line = Absent;
+  stake = false;
+  origin = false;
+  asked = false;
+  told = false;
+  half_told = false;
+  begun = false;
+  closes = false;
+  draining = false;
+  stopping = false;
+}

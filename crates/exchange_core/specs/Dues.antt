@@ -1,0 +1,139 @@
+-- What is due.
+use Rattle.std.specs.Prelude.{ℕ, Bool, true, false, not, ◌&&◌, ◌||◌, if◌then◌else◌}
+use Rattle.trace_core.specs.declared.history.Point.{Point}
+use Rattle.exchange_core.specs.declared.event.Why.{Why}
+use Rattle.exchange_core.specs.declared.event.Why.TheVariants as whys
+use Rattle.exchange_core.specs.declared.event.Event.{Event}
+use Rattle.exchange_core.specs.declared.event.Event.TheVariants as happens
+use Rattle.exchange_core.specs.declared.due.Due.{Due}
+use Rattle.exchange_core.specs.declared.due.Due.TheVariants.{ReadRequest, Plan, Lend, Await, Ask, Hear, Reserve, TryTell, Tell, Dial, Start, AskGate, Turn, ReadResponse, GiveBack, Release, HangUp, Refuse, TryRefusal, Linger, Nothing}
+use Rattle.exchange_core.specs.declared.line.Line.{Line}
+use Rattle.exchange_core.specs.declared.line.Line.TheVariants.{Absent, Ready, InUse, Spent}
+use Rattle.exchange_core.specs.declared.place.Place.{Place}
+use Rattle.exchange_core.specs.declared.place.Place.TheVariants.{Idle, Head, Planning, Asking, InQueue, Preparing, Telling, AtGate, Moving, Answer, Refusing, Closing, Gone}
+use Rattle.exchange_core.specs.declared.course.Course.{Course}
+use Rattle.exchange_core.specs.Course.{is_leased, is_ready, is_in_use, is_spent, point_of, is_offered}
+use Rattle.exchange_core.specs.May.{is_request, is_idle, is_head, is_gone, is_free, holds_nothing}
+
+-- the status of a refusal (RFC 9110, section 15)
+abbrev pub status_of : Why → ℕ
+status_of whys.Faulty = 400
+status_of whys.Unserved = 501
+status_of whys.Elsewhere = 502
+status_of whys.Scarce = 503
+status_of whys.Deadline = 504
+status_of whys.Stopping = 503
+
+-- what is held goes back before anything else is done
+abbrev pub freed_first : Course → Due → Due
+freed_first c due =
+    if is_leased c.line then GiveBack else (if c.stake then Release else (if c.origin then HangUp else due))
+
+-- of a message that is being gathered: a connection for the offer and none else, a reservation, the user's leave, and the origin
+abbrev pub gathers : Course → Point → (offered waits : Bool) → Due
+gathers c point offered waits =
+    if offered && not (is_leased c.line) then Lend
+    else (if not offered && is_leased c.line then GiveBack
+    else (if not c.stake then Reserve
+    else (if waits && not c.told then TryTell
+    else (if is_request point && not c.origin then Dial
+    else Start))))
+
+-- of a question for options
+abbrev pub asks : Line → Due
+asks Absent = Lend
+asks (Ready reused) = Ask
+asks (InUse reused) = Hear
+asks Spent = GiveBack
+
+abbrev pub due_at : Place → Course → Due
+due_at Idle c = freed_first c ReadRequest
+due_at Head c = freed_first c ReadRequest
+-- a connection that may not serve again goes back at once
+due_at (Planning point) c = if is_spent c.line then GiveBack else Plan
+due_at (Asking point) c = asks c.line
+due_at (InQueue point) c = Await
+due_at (Preparing point offered waits) c = gathers c point offered waits
+due_at Telling c = freed_first c Tell
+due_at (AtGate point offered) c = AskGate
+-- a service that has said all is let go in the midst of the message
+due_at (Moving point offered) c = if is_leased c.line && not (is_in_use c.line) then GiveBack else Turn
+due_at Answer c = if is_leased c.line then GiveBack else (if c.stake then Release else ReadResponse)
+due_at (Refusing why) c = if c.stopping then TryRefusal (status_of why) else freed_first c (Refuse (status_of why))
+due_at Closing c = freed_first c Linger
+due_at Gone c = freed_first c Nothing
+
+abbrev pub due_of : Course → Due
+due_of c = due_at c.place c
+
+-- the user's connection is over, and nothing is held
+abbrev pub is_over : Course → Bool
+is_over c = is_gone c.place && holds_nothing c
+
+-- the event is what comes of doing it
+abbrev pub comes_of : Due → Event → Bool
+comes_of ReadRequest happens.HeadBegun = true
+comes_of ReadRequest happens.RequestRead = true
+comes_of Plan (happens.Planned offered waits) = true
+comes_of Plan happens.Stale = true
+comes_of Lend (happens.Lent reused) = true
+comes_of Lend happens.Queued = true
+comes_of Await (happens.Lent reused) = true
+comes_of Ask happens.Asked = true
+comes_of Hear (happens.Learned usable) = true
+comes_of Reserve happens.Reserved = true
+comes_of TryTell happens.Told = true
+comes_of TryTell happens.HalfTold = true
+comes_of TryTell happens.Stuck = true
+comes_of Tell happens.Told = true
+comes_of Tell happens.HalfTold = true
+comes_of Dial happens.Dialed = true
+comes_of Start happens.Started = true
+comes_of AskGate happens.LetPass = true
+comes_of Turn (happens.Served usable) = true
+comes_of Turn happens.Begun = true
+comes_of Turn happens.Sent = true
+comes_of Turn (happens.Answered keeps) = true
+comes_of ReadResponse happens.ResponseRead = true
+comes_of GiveBack (happens.Returned kept) = true
+comes_of Release happens.Released = true
+comes_of HangUp happens.HungUp = true
+comes_of (Refuse status) happens.Refused = true
+comes_of (TryRefusal status) happens.Tried = true
+comes_of Linger happens.UserClosed = true
+comes_of _ _ = false
+
+-- of the events that may come of it, this one fits what is there
+abbrev pub fits : Course → Event → Bool
+fits c happens.HeadBegun = is_idle c.place
+fits c happens.RequestRead = is_head c.place
+fits c happens.Stale = not c.asked
+fits c happens.Queued = is_free c && (not (is_request (point_of c.place)) || not c.origin)
+fits c (happens.Planned offered waits) = not waits || (is_request (point_of c.place) && not c.told)
+fits c happens.HalfTold = not c.half_told
+fits c (happens.Served usable) = is_in_use c.line
+fits c happens.Begun = not c.begun && (not (is_request (point_of c.place)) || is_offered c.place)
+fits c happens.Sent = is_request (point_of c.place) && (not c.begun && not (is_in_use c.line))
+fits c (happens.Answered keeps) = c.begun && not (is_in_use c.line)
+fits c (happens.Returned kept) = not kept || is_ready c.line
+fits c _ = true
+
+-- doing it may have to wait for somebody else
+abbrev pub is_wait : Due → Bool
+is_wait ReadRequest = true
+is_wait Await = true
+is_wait Hear = true
+is_wait Tell = true
+is_wait Turn = true
+is_wait ReadResponse = true
+is_wait (Refuse status) = true
+is_wait Linger = true
+is_wait _ = false
+
+-- the user alone is waited for, with no transaction
+abbrev pub is_wait_for_user : Due → Bool
+is_wait_for_user ReadRequest = true
+is_wait_for_user Tell = true
+is_wait_for_user (Refuse status) = true
+is_wait_for_user Linger = true
+is_wait_for_user _ = false

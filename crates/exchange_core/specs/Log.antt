@@ -1,0 +1,287 @@
+-- A log is the list of the events that happened to a user's connection, the newest first.
+use Rattle.std.specs.Prelude.{◌≡◌, ◌⊎◌, ℕ, ◌+◌, Bool, true, false, not, ◌&&◌, ◌||◌, ⊤, List, [], ◌∷◌, if◌then◌else◌}
+use Rattle.exchange_core.specs.declared.event.Event.{Event}
+use Rattle.exchange_core.specs.declared.event.Event.TheVariants.{RequestRead, ResponseRead, Lent, Asked, Learned, Reserved, HalfTold, Told, Dialed, LetPass, Served, Begun, Sent, Answered, Returned, Released, HungUp, Refused, UserClosed, UserLost, Dropped, Late, Drain, Stop, Tried}
+use Rattle.exchange_core.specs.declared.event.Why.{Why}
+use Rattle.exchange_core.specs.declared.place.Place.{Place}
+use Rattle.exchange_core.specs.declared.place.Place.TheVariants.{Asking, InQueue, Telling, Moving, Answer, Refusing, Closing, Gone}
+use Rattle.exchange_core.specs.declared.course.Course.{Course}
+use Rattle.exchange_core.specs.Course.{start, after, is_leased, closes_after}
+use Rattle.exchange_core.specs.May.{may_come}
+
+-- where a log leads
+abbrev pub course_of : List Event → Course
+course_of [] = start
+course_of (event ∷ before) = after (course_of before) event
+
+-- each event may come after those before it
+abbrev pub IsLegal : List Event → Type 0
+IsLegal [] = ⊤
+IsLegal (event ∷ before) = (may_come (course_of before) event ≡ true) × IsLegal before
+
+-- some legal log leads there
+abbrev pub IsReached : Course → Type 0
+IsReached c = (events : List Event) × IsLegal events × (course_of events ≡ c)
+
+-- Single events.
+
+abbrev pub one_if : Bool → ℕ
+one_if true = 1
+one_if false = 0
+
+abbrev pub is_lent : Event → Bool
+is_lent (Lent reused) = true
+is_lent _ = false
+
+abbrev pub is_returned : Event → Bool
+is_returned (Returned kept) = true
+is_returned _ = false
+
+abbrev pub is_reserved : Event → Bool
+is_reserved Reserved = true
+is_reserved _ = false
+
+abbrev pub is_released : Event → Bool
+is_released Released = true
+is_released _ = false
+
+abbrev pub is_dialed : Event → Bool
+is_dialed Dialed = true
+is_dialed _ = false
+
+abbrev pub is_hung_up : Event → Bool
+is_hung_up HungUp = true
+is_hung_up _ = false
+
+abbrev pub is_request_read : Event → Bool
+is_request_read RequestRead = true
+is_request_read _ = false
+
+abbrev pub is_answered : Event → Bool
+is_answered (Answered keeps) = true
+is_answered _ = false
+
+abbrev pub is_message_read : Event → Bool
+is_message_read RequestRead = true
+is_message_read ResponseRead = true
+is_message_read _ = false
+
+abbrev pub is_asked : Event → Bool
+is_asked Asked = true
+is_asked _ = false
+
+abbrev pub is_learned : Event → Bool
+is_learned (Learned usable) = true
+is_learned _ = false
+
+abbrev pub is_sent : Event → Bool
+is_sent Sent = true
+is_sent _ = false
+
+abbrev pub is_served : Event → Bool
+is_served (Served usable) = true
+is_served _ = false
+
+abbrev pub is_let_pass : Event → Bool
+is_let_pass LetPass = true
+is_let_pass _ = false
+
+abbrev pub is_begun : Event → Bool
+is_begun Begun = true
+is_begun _ = false
+
+abbrev pub is_stop : Event → Bool
+is_stop Stop = true
+is_stop _ = false
+
+abbrev pub is_told : Event → Bool
+is_told Told = true
+is_told _ = false
+
+abbrev pub is_half_told : Event → Bool
+is_half_told HalfTold = true
+is_half_told _ = false
+
+abbrev pub is_drain : Event → Bool
+is_drain Drain = true
+is_drain _ = false
+
+-- of what nothing ends
+abbrev pub never : Event → Bool
+never event = false
+
+abbrev pub is_late : Event → Bool
+is_late Late = true
+is_late _ = false
+
+-- what was held went back
+abbrev pub is_freeing : Event → Bool
+is_freeing event = is_returned event || (is_released event || is_hung_up event)
+
+-- nothing moved: a deadline passed, or what was held went back
+abbrev pub is_quiet : Event → Bool
+is_quiet event = is_late event || is_freeing event
+
+abbrev pub is_tried : Event → Bool
+is_tried Tried = true
+is_tried _ = false
+
+-- all that may come once the proxy stops
+abbrev pub is_last : Event → Bool
+is_last event = is_tried event || is_freeing event
+
+-- how many events of a list pass the test
+abbrev pub count : (Event → Bool) → List Event → ℕ
+count test [] = 0
+count test (event ∷ events) = one_if (test event) + count test events
+
+-- each event of a list passes the test
+abbrev pub AllAre : (Event → Bool) → List Event → Type 0
+AllAre test [] = ⊤
+AllAre test (event ∷ events) = (test event ≡ true) × AllAre test events
+
+-- What a log shows.
+
+-- whether the service's connection may serve again
+abbrev pub usable_after : Bool → Event → Bool
+usable_after usable (Lent reused) = true
+usable_after usable (Learned again) = again
+usable_after usable (Served again) = again
+usable_after usable _ = usable
+
+-- an event that begins it stands in the log, and none that ends it stands after the newest of those
+abbrev pub stands : (begins ends : Event → Bool) → List Event → Bool
+stands begins ends [] = false
+stands begins ends (event ∷ before) = begins event || (not (ends event) && stands begins ends before)
+
+-- the newest request has no whole answer yet
+abbrev pub is_pending : List Event → Bool
+is_pending events = stands is_request_read is_answered events
+
+-- the origin has the whole of the newest request
+abbrev pub has_request : List Event → Bool
+has_request events = stands is_sent is_request_read events
+
+-- the service has said all of the newest message that passed the gate
+abbrev pub has_served : List Event → Bool
+has_served events = stands is_served is_let_pass events
+
+-- a byte of an answer that isn't whole yet went to the user
+abbrev pub has_begun : List Event → Bool
+has_begun events = stands is_begun (λ event. is_request_read event || is_answered event) events
+
+-- a part of the text that tells a user went out, and not all
+abbrev pub is_half_out : List Event → Bool
+is_half_out events = stands is_half_told (λ event. is_request_read event || is_told event) events
+
+-- the answer that goes out was begun while the proxy drained
+abbrev pub is_last_answer : List Event → Bool
+is_last_answer [] = false
+is_last_answer (event ∷ before) = closes_after (stands is_drain never before) (is_last_answer before) event
+
+-- what the newest answer of the service said of the connection that was leased last
+abbrev pub is_usable : List Event → Bool
+is_usable [] = true
+is_usable (event ∷ before) = usable_after (is_usable before) event
+
+abbrev pub is_keeping : Event → Bool
+is_keeping (Answered keeps) = keeps
+is_keeping _ = false
+
+-- nothing was read yet, or the newest answer keeps the connection
+abbrev pub is_kept_open : List Event → Bool
+is_kept_open [] = true
+is_kept_open (event ∷ before) = if is_answered event then is_keeping event else is_kept_open before
+
+-- The end of a connection.
+
+-- no further request is read
+abbrev pub is_leaving : Place → Bool
+is_leaving (Refusing why) = true
+is_leaving Closing = true
+is_leaving Gone = true
+is_leaving _ = false
+
+-- all is said, also the refusal
+abbrev pub is_silent : Place → Bool
+is_silent Closing = true
+is_silent Gone = true
+is_silent _ = false
+
+-- how many deadlines may pass there before the user's connection is over
+abbrev pub deadlines_from : Place → ℕ
+deadlines_from (Asking point) = 2
+deadlines_from (InQueue point) = 2
+deadlines_from Telling = 2
+deadlines_from (Moving point offered) = 2
+deadlines_from Answer = 2
+deadlines_from Gone = 0
+deadlines_from _ = 1
+
+-- how much is held
+abbrev pub held_by : Course → ℕ
+held_by c = one_if (is_leased c.line) + (one_if c.stake + one_if c.origin)
+
+-- a message moves
+abbrev pub is_move : Event → Bool
+is_move (Served usable) = true
+is_move Begun = true
+is_move Sent = true
+is_move (Answered keeps) = true
+is_move _ = false
+
+-- a message is out whole
+abbrev pub is_out : Event → Bool
+is_out Sent = true
+is_out (Answered keeps) = true
+is_out _ = false
+
+abbrev pub is_response_read : Event → Bool
+is_response_read ResponseRead = true
+is_response_read _ = false
+
+abbrev pub is_refused : Event → Bool
+is_refused Refused = true
+is_refused _ = false
+
+-- all that may come once a connection serves no further request
+abbrev pub is_parting : Event → Bool
+is_parting Refused = true
+is_parting UserClosed = true
+is_parting UserLost = true
+is_parting Dropped = true
+is_parting Drain = true
+is_parting Late = true
+is_parting Stop = true
+is_parting Tried = true
+is_parting (Returned kept) = true
+is_parting Released = true
+is_parting HungUp = true
+is_parting _ = false
+
+-- the same refusal goes on, or all is said
+abbrev pub KeepsTo : Why → Place → Type 0
+KeepsTo why place = (place ≡ Refusing why) ⊎ (is_silent place ≡ true)
+
+-- a connection or a reservation comes or goes with it
+abbrev pub carries : Event → Bool
+carries event = is_lent event || (is_reserved event || (is_dialed event || is_freeing event))
+
+-- Several connections, a log of each.
+
+abbrev pub AreLegal : List (List Event) → Type 0
+AreLegal [] = ⊤
+AreLegal (log ∷ logs) = IsLegal log × AreLegal logs
+
+abbrev pub total : (Event → Bool) → List (List Event) → ℕ
+total test [] = 0
+total test (log ∷ logs) = count test log + total test logs
+
+-- the leases and the reservations that they hold
+abbrev pub leases_held : List (List Event) → ℕ
+leases_held [] = 0
+leases_held (log ∷ logs) = one_if (is_leased (course_of log).line) + leases_held logs
+
+abbrev pub stakes_held : List (List Event) → ℕ
+stakes_held [] = 0
+stakes_held (log ∷ logs) = one_if (course_of log).stake + stakes_held logs

@@ -1,0 +1,217 @@
+-- Which event may come next.
+use Rattle.std.specs.Prelude.{Bool, true, false, not, ◌&&◌, ◌||◌, if◌then◌else◌}
+use Rattle.trace_core.specs.declared.history.Point.{Point}
+use Rattle.trace_core.specs.declared.history.Point.TheVariants.{Reqmod, Respmod}
+use Rattle.exchange_core.specs.declared.event.Event.{Event}
+use Rattle.exchange_core.specs.declared.event.Event.TheVariants.{HeadBegun, RequestRead, ResponseRead, Stale, Queued, Lent, Asked, Learned, Planned, Reserved, HalfTold, Stuck, Told, Dialed, Started, LetPass, Renewed, Served, Begun, Sent, Answered, Failed, Returned, Released, HungUp, Refused, UserClosed, UserLost, Dropped, Late, Drain, Stop, Tried}
+use Rattle.exchange_core.specs.declared.place.Place.{Place}
+use Rattle.exchange_core.specs.declared.place.Place.TheVariants.{Idle, Head, Planning, Asking, InQueue, Preparing, Telling, AtGate, Moving, Answer, Refusing, Closing, Gone}
+use Rattle.exchange_core.specs.declared.course.Course.{Course}
+use Rattle.exchange_core.specs.Course.{is_leased, is_ready, is_in_use, is_spent, is_reused, point_of, is_offered}
+
+abbrev pub is_idle : Place → Bool
+is_idle Idle = true
+is_idle _ = false
+
+abbrev pub is_head : Place → Bool
+is_head Head = true
+is_head _ = false
+
+abbrev pub is_planning : Place → Bool
+is_planning (Planning point) = true
+is_planning _ = false
+
+abbrev pub is_asking : Place → Bool
+is_asking (Asking point) = true
+is_asking _ = false
+
+abbrev pub is_in_queue : Place → Bool
+is_in_queue (InQueue point) = true
+is_in_queue _ = false
+
+abbrev pub is_preparing : Place → Bool
+is_preparing (Preparing point offered waits) = true
+is_preparing _ = false
+
+abbrev pub is_telling : Place → Bool
+is_telling Telling = true
+is_telling _ = false
+
+abbrev pub is_at_gate : Place → Bool
+is_at_gate (AtGate point offered) = true
+is_at_gate _ = false
+
+abbrev pub is_moving : Place → Bool
+is_moving (Moving point offered) = true
+is_moving _ = false
+
+abbrev pub is_answer : Place → Bool
+is_answer Answer = true
+is_answer _ = false
+
+abbrev pub is_refusing : Place → Bool
+is_refusing (Refusing why) = true
+is_refusing _ = false
+
+abbrev pub is_closing : Place → Bool
+is_closing Closing = true
+is_closing _ = false
+
+abbrev pub is_gone : Place → Bool
+is_gone Gone = true
+is_gone _ = false
+
+-- of a request, and not of a response
+abbrev pub is_request : Point → Bool
+is_request Reqmod = true
+is_request Respmod = false
+
+-- its user waits to be told
+abbrev pub waits_of : Place → Bool
+waits_of (Preparing point offered waits) = waits
+waits_of _ = false
+
+-- no lease, no reservation
+abbrev pub is_free : Course → Bool
+is_free c = not (is_leased c.line) && not c.stake
+
+-- nor a connection to the origin
+abbrev pub holds_nothing : Course → Bool
+holds_nothing c = is_free c && not c.origin
+
+-- one leased connection serves the question for options, or the offer
+abbrev pub wants_line : Place → Bool
+wants_line (Asking point) = true
+wants_line (Preparing point offered waits) = offered
+wants_line _ = false
+
+-- A service's connection in use isn't given back: one that is asked, one that a plan or an offer waits for, and one on which the
+-- service still has to say something of a message that goes on.
+abbrev pub needs_line : Place → (in_use : Bool) → Bool
+needs_line (Planning point) in_use = true
+needs_line (Asking point) in_use = true
+needs_line (Preparing point offered waits) in_use = offered
+needs_line (AtGate point offered) in_use = true
+needs_line (Moving point offered) in_use = in_use
+needs_line _ in_use = false
+
+-- a reservation stays open as long as its message goes on
+abbrev pub needs_stake : Place → Bool
+needs_stake place = is_preparing place || (is_at_gate place || is_moving place)
+
+-- an origin's connection lasts from the request to the answer, or until either fails
+abbrev pub needs_origin : Place → Bool
+needs_origin Idle = false
+needs_origin Head = false
+needs_origin Telling = false
+needs_origin (Refusing why) = false
+needs_origin Closing = false
+needs_origin Gone = false
+needs_origin _ = true
+
+-- the connection that an offer wants is there, or none, and the reservation
+abbrev pub is_provided : Course → Bool
+is_provided c = is_preparing c.place
+    && ((if is_offered c.place then is_ready c.line else not (is_leased c.line)) && c.stake)
+
+-- its user doesn't wait, or was told
+abbrev pub is_bidden : Course → Bool
+is_bidden c = not (waits_of c.place) || c.told
+
+-- the text that tells a user is due: a connection and a reservation are there, or were there and nothing is held
+abbrev pub may_tell : Course → Bool
+may_tell c = not c.told && ((waits_of c.place && is_provided c) || (is_telling c.place && holds_nothing c))
+
+-- a message, or the head before it, may go no further
+abbrev pub may_fail : Place → Bool
+may_fail (Refusing why) = false
+may_fail Closing = false
+may_fail Gone = false
+may_fail _ = true
+
+-- the exchange waits for somebody else there
+abbrev pub may_wait : Place → Bool
+may_wait (Planning point) = false
+may_wait (Preparing point offered waits) = false
+may_wait (AtGate point offered) = false
+may_wait Gone = false
+may_wait _ = true
+
+-- the user's connection may be closed at once there: no request of it is under way
+abbrev pub may_drop : Place → Bool
+may_drop Idle = true
+may_drop Head = true
+may_drop (Refusing why) = true
+may_drop Closing = true
+may_drop _ = false
+
+-- it ends a connection, or brings its end nearer
+abbrev pub ends_with : Event → Bool
+ends_with Refused = true
+ends_with UserClosed = true
+ends_with UserLost = true
+ends_with Dropped = true
+ends_with Late = true
+ends_with Drain = true
+ends_with Stop = true
+ends_with Tried = true
+ends_with _ = false
+
+-- a message moves with it, what is held goes back, or the connection ends
+abbrev pub goes_on_with : Event → Bool
+goes_on_with LetPass = true
+goes_on_with Renewed = true
+goes_on_with (Served usable) = true
+goes_on_with Begun = true
+goes_on_with Sent = true
+goes_on_with (Answered keeps) = true
+goes_on_with (Returned kept) = true
+goes_on_with Released = true
+goes_on_with HungUp = true
+goes_on_with event = ends_with event
+
+abbrev pub may_come : Course → Event → Bool
+-- the next request is read once nothing of the one before is held
+may_come c HeadBegun = is_idle c.place && holds_nothing c
+may_come c RequestRead = is_head c.place && holds_nothing c
+may_come c ResponseRead = is_answer c.place && is_free c
+-- options: learned at most once for a message, on a connection that is leased for it
+may_come c Stale = is_planning c.place && (not c.asked && not (is_spent c.line))
+-- who waits for a connection has no other one, but for the origin whose response waits
+may_come c Queued = wants_line c.place && (is_free c && (not (is_request (point_of c.place)) || not c.origin))
+may_come c (Lent reused) = (wants_line c.place || is_in_queue c.place) && not (is_leased c.line)
+may_come c Asked = is_asking c.place && is_ready c.line
+may_come c (Learned usable) = is_asking c.place && is_in_use c.line
+-- a response's user isn't told to send a body, nor one that was told before
+may_come c (Planned offered waits) = is_planning c.place
+    && (not (is_spent c.line) && (not waits || (is_request (point_of c.place) && not c.told)))
+may_come c Reserved = is_preparing c.place && not c.stake
+may_come c HalfTold = may_tell c && not c.half_told
+may_come c Stuck = waits_of c.place && (is_provided c && not c.told)
+may_come c Told = may_tell c
+-- the origin is opened last: once for a request
+may_come c Dialed = is_provided c && (is_bidden c && (is_request (point_of c.place) && not c.origin))
+may_come c Started = is_provided c && (is_bidden c && c.origin)
+may_come c LetPass = is_at_gate c.place
+-- a connection that was idle before may have been closed meanwhile: a fresh one takes its place, once
+may_come c Renewed = is_in_use c.line && (is_reused c.line && (is_asking c.place || (is_moving c.place && not c.begun)))
+may_come c (Served usable) = is_moving c.place && is_in_use c.line
+-- an answer is the origin's, or that of the service which was offered the request
+may_come c Begun = is_moving c.place && (not c.begun && (not (is_request (point_of c.place)) || is_offered c.place))
+may_come c Sent = is_moving c.place && (is_request (point_of c.place) && (not c.begun && not (is_in_use c.line)))
+may_come c (Answered keeps) = is_moving c.place && (c.begun && not (is_in_use c.line))
+may_come c (Failed why) = may_fail c.place
+-- what is held goes back once nothing needs it; a connection is kept only where it may serve again
+may_come c (Returned kept) = is_leased c.line
+    && ((is_spent c.line || not (needs_line c.place (is_in_use c.line))) && (not kept || is_ready c.line))
+may_come c Released = c.stake && not (needs_stake c.place)
+may_come c HungUp = c.origin && not (needs_origin c.place)
+-- the user is waited for with nothing held
+may_come c Refused = is_refusing c.place && (holds_nothing c && not c.stopping)
+may_come c UserClosed = is_closing c.place && holds_nothing c
+may_come c UserLost = not (is_gone c.place) && not c.stopping
+may_come c Dropped = may_drop c.place && not c.stopping
+may_come c Late = may_wait c.place && not c.stopping
+may_come c Drain = not (is_gone c.place) && (not c.draining && not c.stopping)
+may_come c Stop = not (is_gone c.place) && not c.stopping
+may_come c Tried = is_refusing c.place && c.stopping

@@ -1,0 +1,81 @@
+-- Logs of whole exchanges, the newest event first.
+use Rattle.std.specs.Prelude.{true, false, List, [], ◌∷◌, reverse}
+use Rattle.exchange_core.specs.declared.event.Why.TheVariants as whys
+use Rattle.exchange_core.specs.declared.event.Event.{Event}
+use Rattle.exchange_core.specs.declared.event.Event.TheVariants.{HeadBegun, RequestRead, ResponseRead, Stale, Queued, Lent, Asked, Learned, Planned, Reserved, HalfTold, Stuck, Told, Dialed, Started, LetPass, Renewed, Served, Begun, Sent, Answered, Failed, Returned, Released, HungUp, Refused, UserClosed, UserLost, Dropped, Late, Drain, Stop, Tried}
+
+-- no service; the user ends the connection once it has its answer
+abbrev pub plain : List Event
+plain = reverse (
+    RequestRead ∷ Planned false false ∷ Reserved ∷ Dialed ∷ Started ∷ LetPass ∷ Sent ∷ Released
+    ∷ ResponseRead ∷ Planned false false ∷ Reserved ∷ Started ∷ LetPass ∷ Begun ∷ Answered true ∷ Released ∷ HungUp
+    ∷ UserLost ∷ [])
+
+-- both services are asked for their options and adapt; the second closes the connection on which it was asked, and the next one goes
+-- back in the midst of the response
+abbrev pub adapted : List Event
+adapted = reverse (
+    RequestRead ∷ Stale ∷ Lent false ∷ Asked ∷ Learned true ∷ Planned true true ∷ Reserved ∷ Told ∷ Dialed ∷ Started ∷ LetPass
+    ∷ Served true ∷ Sent ∷ Returned true ∷ Released
+    ∷ ResponseRead ∷ Stale ∷ Lent true ∷ Asked ∷ Learned false ∷ Returned false ∷ Planned true false ∷ Lent false ∷ Reserved ∷ Started
+    ∷ LetPass ∷ Begun ∷ Served true ∷ Returned true ∷ Answered false ∷ Released ∷ HungUp ∷ UserClosed ∷ [])
+
+-- the service answers the request itself, and the user sends another one
+abbrev pub blocked : List Event
+blocked = reverse (
+    RequestRead ∷ Planned true false ∷ Lent true ∷ Reserved ∷ Dialed ∷ Started ∷ LetPass ∷ Begun ∷ Served true ∷ Answered true
+    ∷ Returned true ∷ Released ∷ HungUp ∷ HeadBegun ∷ RequestRead ∷ Failed whys.Elsewhere ∷ Refused ∷ UserClosed ∷ [])
+
+-- the user doesn't take at once that it is told to send its body
+abbrev pub stuck : List Event
+stuck = reverse (
+    RequestRead ∷ Planned true true ∷ Lent false ∷ Reserved ∷ HalfTold ∷ Stuck ∷ Returned true ∷ Released ∷ Told
+    ∷ Planned true false ∷ Lent true ∷ Reserved ∷ Dialed ∷ Started ∷ LetPass ∷ Failed whys.Elsewhere ∷ Returned false ∷ Released
+    ∷ HungUp ∷ Refused ∷ UserClosed ∷ [])
+
+-- idle connections turn out to be closed
+abbrev pub renewed_twice : List Event
+renewed_twice = reverse (
+    RequestRead ∷ Stale ∷ Lent true ∷ Asked ∷ Renewed ∷ Learned false ∷ Returned false ∷ Planned true false ∷ Lent true ∷ Reserved
+    ∷ Dialed ∷ Started ∷ LetPass ∷ Renewed ∷ Failed whys.Elsewhere ∷ HungUp ∷ Returned false ∷ Released ∷ Refused ∷ UserClosed ∷ [])
+
+-- all connections are leased: the request waits for one, is planned anew, and its response waits in vain
+abbrev pub waited : List Event
+waited = reverse (
+    RequestRead ∷ Planned true false ∷ Queued ∷ Lent true ∷ Planned true false ∷ Reserved ∷ Dialed ∷ Started ∷ LetPass
+    ∷ Served false ∷ Returned false ∷ Sent ∷ Released ∷ ResponseRead ∷ Stale ∷ Queued ∷ Late ∷ HungUp ∷ Refused ∷ UserClosed ∷ [])
+
+-- no room for the request: what was leased for it goes back before the refusal is out
+abbrev pub refused : List Event
+refused = reverse (RequestRead ∷ Planned true false ∷ Lent true ∷ Failed whys.Scarce ∷ Returned true ∷ Refused ∷ UserClosed ∷ [])
+
+-- the origin breaks off in the midst of its answer
+abbrev pub cut : List Event
+cut = reverse (
+    RequestRead ∷ Planned false false ∷ Reserved ∷ Dialed ∷ Started ∷ LetPass ∷ Sent ∷ Released
+    ∷ ResponseRead ∷ Planned false false ∷ Reserved ∷ Started ∷ LetPass ∷ Begun ∷ Failed whys.Elsewhere ∷ HungUp ∷ Released ∷ Dropped ∷ [])
+
+-- a service says nothing, and the user doesn't take the refusal
+abbrev pub late : List Event
+late = reverse (
+    RequestRead ∷ Planned true false ∷ Lent false ∷ Reserved ∷ Dialed ∷ Started ∷ LetPass ∷ Late ∷ Late ∷ Returned false ∷ Released
+    ∷ HungUp ∷ [])
+
+-- the proxy drains while a request goes on, whose answer would keep the connection
+abbrev pub drained : List Event
+drained = reverse (
+    RequestRead ∷ Planned true false ∷ Lent false ∷ Reserved ∷ Dialed ∷ Started ∷ LetPass ∷ Drain ∷ Begun ∷ Served true
+    ∷ Answered true ∷ Returned true ∷ Released ∷ HungUp ∷ UserClosed ∷ [])
+
+-- the user goes away while its service is asked
+abbrev pub left : List Event
+left = reverse (RequestRead ∷ Stale ∷ Lent false ∷ Asked ∷ UserLost ∷ Returned false ∷ [])
+
+-- the proxy stops, and the user doesn't take the refusal: the lease and the reservation are left for the audit
+abbrev pub stopped : List Event
+stopped = reverse (
+    RequestRead ∷ Planned true false ∷ Lent false ∷ Reserved ∷ Dialed ∷ Started ∷ LetPass ∷ Stop ∷ Tried ∷ [])
+
+-- a user for whom there is no room
+abbrev pub turned_away : List Event
+turned_away = reverse (Failed whys.Scarce ∷ Refused ∷ UserClosed ∷ [])

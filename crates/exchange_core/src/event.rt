@@ -1,0 +1,110 @@
+//! What may happen to a user's connection.
+
+ghost use Rattle.std.specs.Prelude.{◌≡◌};
+ghost use Rattle.exchange_core.specs.Dues.{status_of};
+
+/// Why a user gets the proxy's own refusal.
+#[derive(Clone, Copy, Debug, PartialEq, Eq)]
+pub enum Why {
+    /// Its request is faulty, or broke off.
+    Faulty,
+    /// Its request is understood, but not served.
+    Unserved,
+    /// The origin or the service failed, or isn't known.
+    Elsewhere,
+    /// Room, a connection or memory was wanting.
+    Scarce,
+    /// No byte moved for too long.
+    Deadline,
+    /// The proxy stops.
+    Stopping,
+}
+
+impl Why {
+    /// The status of the refusal (RFC 9110, section 15).
+    pub fn status(self) -> u16
+        ensures { result ≡ status_of self }
+    {
+        match self {
+            Why::Faulty => 400,
+            Why::Unserved => 501,
+            Why::Elsewhere => 502,
+            Why::Scarce | Why::Stopping => 503,
+            Why::Deadline => 504,
+        }
+    }
+}
+
+/// What may happen to a user's connection. A message is a request on its way to the origin, or a response on its way to the
+/// user.
+#[derive(Clone, Copy, Debug, PartialEq, Eq)]
+pub enum Event {
+    /// The first byte of a further request came.
+    HeadBegun,
+    /// The head of a request was read.
+    RequestRead,
+    /// The head of the origin's response was read.
+    ResponseRead,
+    /// What the service said of its options serves no more, or it said nothing yet.
+    Stale,
+    /// All connections of the service are leased, and the message waits for one.
+    Queued,
+    /// A connection of the service was leased, and whether it was idle before.
+    Lent { reused: bool },
+    /// The service is asked for its options on it.
+    Asked,
+    /// The service's options were read, and are kept; and whether the connection may serve again.
+    Learned { usable: bool },
+    /// The message was planned: whether it is offered to the service, and whether its user waits to be told to send its body.
+    Planned { offered: bool, waits: bool },
+    /// What the message may need was reserved.
+    Reserved,
+    /// The first bytes of the text that tells the user to send its body went out, and not all.
+    HalfTold,
+    /// The user doesn't take the whole text now.
+    Stuck,
+    /// The user was told to send its body.
+    Told,
+    /// The origin's connection was opened.
+    Dialed,
+    /// The transaction of the message stands over its wires.
+    Started,
+    /// The gate let it pass.
+    LetPass,
+    /// A fresh connection stands in place of the service's one that broke.
+    Renewed,
+    /// The service has said all: it left the message as it is, or its own message is whole. And whether the connection may
+    /// serve again.
+    Served { usable: bool },
+    /// The first byte of an answer went to the user.
+    Begun,
+    /// The origin has the whole request.
+    Sent,
+    /// The user has the whole answer, and whether its connection serves further requests.
+    Answered { keeps: bool },
+    /// The message, or the connection before it, goes no further.
+    Failed(Why),
+    /// The service's connection was put back, or was closed and its lease given up.
+    Returned { kept: bool },
+    /// The reservation was closed.
+    Released,
+    /// The origin's connection was closed.
+    HungUp,
+    /// The whole refusal went out.
+    Refused,
+    /// The user has closed after all that was said.
+    UserClosed,
+    /// The user's connection has failed, or ended where more was to come.
+    UserLost,
+    /// The proxy closed the user's connection at once: its seat went to another user, or only so does the user see that its
+    /// answer isn't whole.
+    Dropped,
+    /// No byte moved for too long, or no connection of the service came free in time.
+    Late,
+    /// The proxy drains: an answer that is begun from now on is the last one of its connection.
+    Drain,
+    /// The proxy stops.
+    Stop,
+    /// A refusal was tried for the last time.
+    Tried,
+}

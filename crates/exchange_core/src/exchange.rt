@@ -1,0 +1,105 @@
+//! One user's connection, from its first event to its last.
+
+ghost use Rattle.std.specs.Prelude.{◌≡◌, true, false};
+
+use crate::course::Course;
+use crate::due::Due;
+use crate::event::Event;
+use std::marker::Model;
+
+/// One user's connection. To a contract it is its course, to which some legal log of events leads: so the laws hold of it.
+///
+/// ```
+/// let mut exchange = Exchange::begin();
+/// assert_eq!(rt; exchange.due(), Due::ReadRequest);
+/// assert_eq!(rt; exchange.may(Event::Served { usable: true }), false);
+/// if exchange.may(Event::RequestRead) {
+///     exchange.take(Event::RequestRead);
+/// }
+/// assert_eq!(rt; exchange.due(), Due::Plan);
+/// ```
+#[derive(Debug, Drop)]
+pub struct Exchange {
+    course: Course,
+}
+
+impl Model for Exchange {
+    ghost use Rattle.exchange_core.specs.declared.course.Course.{Course};
+
+    ghost Value = { Course };
+
+    ghost use Rattle.exchange_core.specs.Log.{IsReached};
+
+    ghost view = { λ e. e.course };
+
+    ghost invariant = { λ e. IsReached e.course };
+}
+
+impl Exchange {
+    ghost use Rattle.exchange_core.specs.declared.event.Event.TheVariants.{Late};
+    ghost use Rattle.exchange_core.specs.declared.due.Due.TheVariants.{Start, Turn, ReadResponse};
+    ghost use Rattle.exchange_core.specs.Course.{start, after};
+    ghost use Rattle.exchange_core.specs.May.{may_come};
+    ghost use Rattle.exchange_core.specs.Dues.{due_of, comes_of, fits, is_wait};
+    ghost use Rattle.exchange_core.specs.Log.{IsReached};
+
+    /// Before the first event: the head of the first request comes.
+    pub fn begin() -> Exchange
+        ensures { result ≡ start }
+    {
+        Exchange {
+            course: Course::start(),
+        }
+    }
+
+    /// Whether an event may come next.
+    pub fn may(&self, event: Event) -> bool
+        ensures { result ≡ may_come self.now event }
+    {
+        self.course.may(event)
+    }
+
+    /// Takes an event that may come next.
+    pub fn take(&mut self, event: Event)
+        requires { may_come self.old event ≡ true }
+        ensures { self.new ≡ after self.old event }
+    {
+        self.course = self.course.after(event);
+    }
+
+    /// Takes what came of doing what is due, where it fits what is there.
+    pub fn done(&mut self, event: Event)
+        requires due { comes_of (due_of self.old) event ≡ true }
+        requires fits { fits self.old event ≡ true }
+        ensures { self.new ≡ after self.old event }
+    {
+        self.course = self.course.after(event);
+    }
+
+    /// Takes a deadline, where what is due may have to wait.
+    pub fn late(&mut self)
+        requires { is_wait (due_of self.old) ≡ true }
+        ensures { self.new ≡ after self.old Late }
+    {
+        self.course = self.course.after(Event::Late);
+    }
+
+    /// What is due. A transaction starts and turns with a reservation and the origin's connection, and the origin is heard on
+    /// its connection.
+    pub fn due(&self) -> Due
+        ensures due { result ≡ due_of self.now }
+        ensures starts { result ≡ Start → (self.now.stake ≡ true) × (self.now.origin ≡ true) }
+        ensures turns { result ≡ Turn → (self.now.stake ≡ true) × (self.now.origin ≡ true) }
+        ensures hears { result ≡ ReadResponse → self.now.origin ≡ true }
+    {
+        self.course.due()
+    }
+
+    /// Where it stands.
+    pub fn course(&self) -> Course
+        ensures same { result ≡ self.now }
+        ensures reached { IsReached result }
+    {
+        self.course
+    }
+}

@@ -1,0 +1,23 @@
+//! What a user's connection is in the midst of, what may come next, and what is due: events and marks, no bytes.
+//!
+//! Whoever drives a connection asks what is due, does it, and reports what came of it. The laws say what holds of every list
+//! of events that is taken.
+#![tactic(auto)]
+
+mod course;
+mod due;
+mod event;
+mod exchange;
+mod holding;
+pub mod laws;
+mod line;
+mod may;
+mod place;
+
+pub use course::Course;
+pub use due::Due;
+pub use event::{Event, Why};
+pub use exchange::Exchange;
+pub use holding::Holding;
+pub use line::Line;
+pub use place::Place;

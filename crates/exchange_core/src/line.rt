@@ -1,0 +1,89 @@
+//! The connection to a service that an exchange has leased.
+
+ghost use Rattle.std.specs.Prelude.{◌≡◌};
+ghost use Rattle.exchange_core.specs.Course.{is_leased, is_ready, is_in_use, is_spent, is_reused, in_use, said, renewed};
+
+/// The service's connection.
+#[derive(Clone, Copy, Debug, PartialEq, Eq)]
+pub enum Line {
+    /// None is leased.
+    Absent,
+    /// One is leased, and nothing is under way on it. It may have been idle before.
+    Ready { reused: bool },
+    /// A request is under way on it.
+    InUse { reused: bool },
+    /// The service has said all, and it may not serve again: its request isn't whole, a byte is left over, or its service
+    /// closes it.
+    Spent,
+}
+
+impl Line {
+    /// Whether a connection is leased.
+    pub fn is_leased(self) -> bool
+        ensures { result ≡ is_leased self }
+    {
+        !matches!(self, Line::Absent)
+    }
+
+    /// Whether one is leased that may serve, with nothing under way on it.
+    pub fn is_ready(self) -> bool
+        ensures { result ≡ is_ready self }
+    {
+        matches!(self, Line::Ready { .. })
+    }
+
+    /// Whether a request is under way.
+    pub fn is_in_use(self) -> bool
+        ensures { result ≡ is_in_use self }
+    {
+        matches!(self, Line::InUse { .. })
+    }
+
+    /// Whether it may not serve again.
+    pub fn is_spent(self) -> bool
+        ensures { result ≡ is_spent self }
+    {
+        matches!(self, Line::Spent)
+    }
+
+    /// Whether it was idle before, so that its service may have closed it meanwhile.
+    pub fn is_reused(self) -> bool
+        ensures { result ≡ is_reused self }
+    {
+        match self {
+            Line::Ready { reused } | Line::InUse { reused } => reused,
+            Line::Absent | Line::Spent => false,
+        }
+    }
+
+    /// With a request under way.
+    pub(crate) fn in_use(self) -> Line
+        ensures { result ≡ in_use self }
+    {
+        match self {
+            Line::Ready { reused } => Line::InUse { reused },
+            line => line,
+        }
+    }
+
+    /// Once the service has said all.
+    pub(crate) fn said(self, usable: bool) -> Line
+        ensures { result ≡ said self usable }
+    {
+        match self {
+            Line::InUse { reused } if usable => Line::Ready { reused },
+            Line::InUse { .. } => Line::Spent,
+            line => line,
+        }
+    }
+
+    /// A fresh one in its place.
+    pub(crate) fn renewed(self) -> Line
+        ensures { result ≡ renewed self }
+    {
+        match self {
+            Line::InUse { .. } => Line::InUse { reused: false },
+            line => line,
+        }
+    }
+}

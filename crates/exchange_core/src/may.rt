@@ -1,0 +1,141 @@
+//! Which event may come next.
+
+ghost use Rattle.std.specs.Prelude.{◌≡◌, true};
+ghost use Rattle.exchange_core.specs.May.{may_come, is_free, holds_nothing, is_provided, is_bidden, may_tell, ends_with, goes_on_with};
+
+use crate::course::Course;
+use crate::event::Event;
+use crate::place::Place;
+
+impl Course {
+    /// Neither a lease nor a reservation is out.
+    pub fn is_free(self) -> bool
+        ensures { result ≡ is_free self }
+    {
+        !self.line.is_leased() && !self.stake
+    }
+
+    /// Nor a connection to the origin.
+    pub fn holds_nothing(self) -> bool
+        ensures { result ≡ holds_nothing self }
+    {
+        self.is_free() && !self.origin
+    }
+
+    /// Whether the connection that an offer wants is there, or none, and the reservation.
+    fn is_provided(self) -> bool
+        ensures { result ≡ is_provided self }
+    {
+        let line = if self.place.is_offered() {
+            self.line.is_ready()
+        } else {
+            !self.line.is_leased()
+        };
+        matches!(self.place, Place::Preparing { .. }) && line && self.stake
+    }
+
+    /// Whether its user doesn't wait to be told to send its body, or was told.
+    fn is_bidden(self) -> bool
+        ensures { result ≡ is_bidden self }
+    {
+        !self.place.waits() || self.told
+    }
+
+    /// Whether a byte of the text that tells it may go out.
+    fn may_tell(self) -> bool
+        ensures { result ≡ may_tell self }
+    {
+        let waits = self.place.waits() && self.is_provided();
+        let is_told = self.place == Place::Telling && self.holds_nothing();
+        !self.told && (waits || is_told)
+    }
+
+    /// Whether an event may come next.
+    pub fn may(self, event: Event) -> bool
+        ensures { result ≡ may_come self event }
+    {
+        let place = self.place;
+        let line = self.line;
+        match event {
+            Event::HeadBegun => place == Place::Idle && self.holds_nothing(),
+            Event::RequestRead => place == Place::Head && self.holds_nothing(),
+            Event::ResponseRead => place == Place::Answer && self.is_free(),
+            Event::Stale => {
+                matches!(place, Place::Planning { .. }) && !self.asked && !line.is_spent()
+            }
+            Event::Queued => {
+                place.wants_line() && self.is_free() && (!place.is_request() || !self.origin)
+            }
+            Event::Lent { .. } => {
+                (place.wants_line() || matches!(place, Place::InQueue { .. })) && !line.is_leased()
+            }
+            Event::Asked => matches!(place, Place::Asking { .. }) && line.is_ready(),
+            Event::Learned { .. } => matches!(place, Place::Asking { .. }) && line.is_in_use(),
+            Event::Planned { waits, .. } => {
+                matches!(place, Place::Planning { .. })
+                    && !line.is_spent()
+                    && (!waits || (place.is_request() && !self.told))
+            }
+            Event::Reserved => matches!(place, Place::Preparing { .. }) && !self.stake,
+            Event::HalfTold => self.may_tell() && !self.half_told,
+            Event::Stuck => place.waits() && self.is_provided() && !self.told,
+            Event::Told => self.may_tell(),
+            Event::Dialed => {
+                self.is_provided() && self.is_bidden() && place.is_request() && !self.origin
+            }
+            Event::Started => self.is_provided() && self.is_bidden() && self.origin,
+            Event::Failed(_) => place.may_fail(),
+            _ => self.may_go_on(event),
+        }
+    }
+
+    /// The same, of the events with which a message moves, what is held goes back, or a connection ends.
+    fn may_go_on(self, event: Event) -> bool
+        ensures { goes_on_with event ≡ true → result ≡ may_come self event }
+    {
+        let place = self.place;
+        let line = self.line;
+        let is_moving = matches!(place, Place::Moving { .. });
+        match event {
+            Event::LetPass => matches!(place, Place::AtGate { .. }),
+            Event::Renewed => {
+                line.is_in_use()
+                    && line.is_reused()
+                    && (matches!(place, Place::Asking { .. }) || (is_moving && !self.begun))
+            }
+            Event::Served { .. } => is_moving && line.is_in_use(),
+            Event::Begun => {
+                is_moving && !self.begun && (!place.is_request() || place.is_offered())
+            }
+            Event::Sent => is_moving && place.is_request() && !self.begun && !line.is_in_use(),
+            Event::Answered { .. } => is_moving && self.begun && !line.is_in_use(),
+            Event::Returned { kept } => {
+                line.is_leased()
+                    && (line.is_spent() || !place.needs_line(line.is_in_use()))
+                    && (!kept || line.is_ready())
+            }
+            Event::Released => self.stake && !place.needs_stake(),
+            Event::HungUp => self.origin && !place.needs_origin(),
+            _ => self.may_end(event),
+        }
+    }
+
+    /// The same, of the events that end a connection.
+    fn may_end(self, event: Event) -> bool
+        ensures { ends_with event ≡ true → result ≡ may_come self event }
+    {
+        let place = self.place;
+        let is_refusing = matches!(place, Place::Refusing { .. });
+        match event {
+            Event::Refused => is_refusing && self.holds_nothing() && !self.stopping,
+            Event::UserClosed => place == Place::Closing && self.holds_nothing(),
+            Event::UserLost => place != Place::Gone && !self.stopping,
+            Event::Dropped => place.may_drop() && !self.stopping,
+            Event::Late => place.may_wait() && !self.stopping,
+            Event::Drain => place != Place::Gone && !self.draining && !self.stopping,
+            Event::Stop => place != Place::Gone && !self.stopping,
+            Event::Tried => is_refusing && self.stopping,
+            _ => false,
+        }
+    }
+}
