@@ -1,5 +1,6 @@
 //! The work of one thread: its exchanges.
 
+ghost use Rattle.std.specs.Prelude.{◌≡◌};
 ghost use Rattle.shard_loop.specs.Slots.{ChangesOnly};
 
 use crate::desk::{Desk, Shared};
