@@ -1,10 +1,11 @@
 """Exchanges that wait for a connection to a service, and what becomes of the connections that are given back."""
+import random
 import socket
 import threading
 import time
 
 from serve_lab.cases import ICAPD, IDLE, at_once, case, get, is_refused, post, refusal, same, settled
-from serve_lab.loopback import PATIENCE, Icap, Program, Reader, User, body_of, free_port
+from serve_lab.loopback import PATIENCE, Icap, Program, Reader, User, ask, body_of, free_port
 
 
 def kept_users(proxy, count, requests, path="/bytes/1000"):
@@ -163,6 +164,57 @@ def a_wait_ends_with_a_refusal(bench):
     same("a stop", user.reader.to_end(), refusal(503))
     held.set()
     first.close()
+
+
+@case
+def waits_that_end_anyhow_leave_nothing_behind(bench):
+    """Users that wait, give up and reset at random, and a service that closes now and then: nobody hangs, and nothing is left."""
+    origin = bench.origin()
+    chance = random.Random(33)
+
+    class Closing:
+        """A connection whose next answer says that it is the last one."""
+
+        def __init__(self, conn):
+            self.conn = conn
+
+        def sendall(self, text):
+            self.conn.sendall(text.replace(b"ISTag", b"Connection: close\r\nISTag", 1))
+
+    def reply(conn, reader, head, count):
+        time.sleep(0.003)
+        last = count % 7 == 0
+        service.no_modification(Closing(conn) if last else conn, reader, head, count)
+        return not last
+    service = bench.icap(reply, [b"Max-Connections: 3"])
+    proxy = bench.proxy(origin, "wait = 2\nshards = 4", [("respmod", service.port, "/respmod/x", 3), ("reqmod", service.port, "/reqmod/x", 3)])
+    seeds = [chance.random() for _ in range(48)]
+    found, lock = {}, threading.Lock()
+
+    def one(number):
+        own = random.Random(seeds[number])
+        for _ in range(20):
+            user = User(proxy.port)
+            user.send(get("/chunked/%d" % own.randrange(1, 3000)))
+            if own.random() < 0.4:
+                time.sleep(own.random() * 0.15)
+                user.reset()
+                continue
+            status = user.answer().status
+            user.close()
+            with lock:
+                found[status] = found.get(status, 0) + 1
+    begin = time.time()
+    at_once(48, one)
+    print("      %s in %.1f s on %d connections" % (found, time.time() - begin, service.count))
+    same("statuses", set(found) <= {200, 503}, True)
+    same("most are served", found[200] > 400, True)
+    same("book", settled(proxy)[:24], "rows 0 held 0 claimed 0 ")
+    wait_for(proxy, 0)
+    begin = time.time()
+    same("one more", ask(proxy.port, get("/bytes/3")).body, body_of(3))
+    same("at once", time.time() - begin < 0.5, True)
+    same("audit", proxy.stop(), IDLE)
 
 
 @case

@@ -239,6 +239,9 @@ def others_are_served(proxy, what):
     found = [ask(proxy.port, get("/bytes/1000")).status for _ in range(100)]
     print("      %s: %d of 100 further requests answered 200 in %.1f s" % (what, found.count(200), time.time() - begin))
     same("further requests", found, [200] * 100)
+    end = time.time() + 5
+    while proxy.say("book").split()[:2] != ["rows", "4"] and time.time() < end:
+        time.sleep(0.01)
     same("those before them", proxy.say("book").split()[:2], ["rows", "4"])
 
 
