@@ -2,6 +2,7 @@
 #![tactic(auto)]
 
 mod forward;
+mod pace;
 mod parts;
 mod pass;
 mod start;
@@ -9,6 +10,7 @@ mod turned;
 mod tx;
 
 pub use forward::Forward;
+pub use pace::Pace;
 pub use parts::Passed;
 pub use start::{FreeLine, Line, Parts, Start};
 pub use turned::{Outcome, Side, Turned};

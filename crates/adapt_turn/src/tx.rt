@@ -24,6 +24,7 @@ mod retries;
 mod turns;
 
 use crate::forward::Forward;
+use crate::pace::Pace;
 use crate::start::{Line, Parts, Start};
 use crate::turned::Outcome;
 use adapt_hold::Hold;
@@ -88,10 +89,7 @@ pub struct Tx<
     next_wire: C,
     back: K,
     forward: F,
-    deadline: u64,
-    last_moved: u64,
-    reused: bool,
-    broken: bool,
+    pace: Pace,
     refusing: bool,
     outcome: Outcome,
     ghost roomy: { IsRoomy hold },
@@ -196,8 +194,8 @@ impl<B: Ledgers, S: Source, V: Service, K: Hop, F: Forward<S, K>, A: Wire, W: Wi
         ensures accepts { IsOk result ↔ S.may_begin start.plan start.source }
         ensures begun { IfOk result (λ tx. tx.hold.history ≡ record { plan = start.plan; events = [] }) }
         ensures holds { IfOk result (λ tx. (tx.hold.limits ≡ start.limits) × (tx.hold.claim ≡ start.stake.claim) × (tx.hold.held ≡ 0)) }
-        ensures clock { IfOk result (λ tx. (tx.last_moved ≡ start.now) × (tx.deadline ≡ start.deadline)) }
-        ensures line { IfOk result (λ tx. (tx.broken ≡ false) × (tx.reused ≡ start.reused)) }
+        ensures clock { IfOk result (λ tx. (tx.pace.last_moved ≡ start.now) × (tx.pace.deadline ≡ start.deadline)) }
+        ensures line { IfOk result (λ tx. (tx.pace.broken ≡ false) × (tx.pace.reused ≡ start.reused)) }
         ensures stands { IfOk result (λ tx. (read : Given) (request : List ℕ) → S.has_read (seen start.plan []) [] read start.source
             → IfSome start.service (λ line. V.has_sent request (seen start.plan []) [] [] line.side × V.has_heard (seen start.plan []) [] [] line.side)
             → K.gift start.next ≡ nothing → K.aside [] start.next → K.gift start.back ≡ nothing → K.aside [] start.back
@@ -236,10 +234,12 @@ impl<B: Ledgers, S: Source, V: Service, K: Hop, F: Forward<S, K>, A: Wire, W: Wi
             next_wire,
             back,
             forward,
-            deadline,
-            last_moved: now,
-            reused,
-            broken: false,
+            pace: Pace {
+                deadline,
+                last_moved: now,
+                reused,
+                broken: false,
+            },
             refusing: false,
             outcome: Outcome::Done,
         })
@@ -247,9 +247,9 @@ impl<B: Ledgers, S: Source, V: Service, K: Hop, F: Forward<S, K>, A: Wire, W: Wi
 
     /// Whether the service's connection broke before a byte of a reply, and the request may begin anew on a fresh one.
     pub fn is_broken(&self) -> bool
-        ensures { result ≡ true ↔ (self.now.broken ≡ true) × MayFollow self.now.hold.history.plan self.now.hold.history.events Retry }
+        ensures { result ≡ true ↔ (self.now.pace.broken ≡ true) × MayFollow self.now.hold.history.plan self.now.hold.history.events Retry }
     {
-        self.broken && self.hold.state().may(Event::Retry)
+        self.pace.broken && self.hold.state().may(Event::Retry)
     }
 
     /// How it ended, once it is closed.
@@ -296,10 +296,7 @@ impl<B: Ledgers, S: Source, V: Service, K: Hop, F: Forward<S, K>, A: Wire, W: Wi
             next_wire,
             back,
             forward,
-            deadline: _,
-            last_moved: _,
-            reused: _,
-            broken: _,
+            pace: _,
             refusing: _,
             outcome,
         } = self;

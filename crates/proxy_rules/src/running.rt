@@ -56,7 +56,7 @@ impl<B: Ledgers, A: Wire, W: Wire, C: Wire> Running<
         ensures keeps { ⟦<Tx<B, SourceSide, ServiceSide, NextHop, HeadMaker, A, W, C> as Answering>⟧.keeps self.old.tx side self.new.tx }
         ensures fails { (shows self.old.tx.hold.history).closed ≡ false → (cause : Why) → self.new.tx.outcome ≡ outcomes.Fail cause
             → ⟦<Tx<B, SourceSide, ServiceSide, NextHop, HeadMaker, A, W, C> as Answering>⟧.fails self.old.tx side now self.new.tx cause }
-        ensures deadline { (shows self.old.tx.hold.history).closed ≡ false → self.old.tx.last_moved + self.old.tx.deadline ≤ now → self.new.tx.outcome ≡ outcomes.Fail Deadline }
+        ensures deadline { (shows self.old.tx.hold.history).closed ≡ false → self.old.tx.pace.last_moved + self.old.tx.pace.deadline ≤ now → self.new.tx.outcome ≡ outcomes.Fail Deadline }
     {
         self.tx.turn(rt, bank, side, now)
     }
@@ -95,14 +95,14 @@ impl<B: Ledgers, A: Wire, W: Wire, C: Wire> Running<
 
     /// Whether the service's connection broke before a byte of a reply, and the request may begin anew on a fresh one.
     pub fn is_broken(&self) -> bool
-        ensures { result ≡ true ↔ (self.now.tx.broken ≡ true) × MayFollow self.now.tx.hold.history.plan self.now.tx.hold.history.events Retry }
+        ensures { result ≡ true ↔ (self.now.tx.pace.broken ≡ true) × MayFollow self.now.tx.hold.history.plan self.now.tx.hold.history.events Retry }
     {
         self.tx.is_broken()
     }
 
     /// Begins the same request anew on a fresh connection, and gives the broken one back.
     pub fn retry(&mut self, rt: &impl Wait, bank: &Bank<B>, wire: W) -> Option<W>
-        requires broken { self.old.tx.broken ≡ true }
+        requires broken { self.old.tx.pace.broken ≡ true }
         requires may { MayFollow self.old.tx.hold.history.plan self.old.tx.hold.history.events Retry }
         ensures hold { self.new.tx.hold ≡ moved self.old.tx.hold Retry [] }
         ensures fresh { IfSome self.new.tx.service (λ line. line.wire ≡ Some wire) }
@@ -114,7 +114,7 @@ impl<B: Ledgers, A: Wire, W: Wire, C: Wire> Running<
 
     /// Fails it by the service's fault, where no fresh connection can be had.
     pub fn no_retry(&mut self, rt: &impl Wait, bank: &Bank<B>)
-        requires broken { self.old.tx.broken ≡ true }
+        requires broken { self.old.tx.pace.broken ≡ true }
         requires may { MayFollow self.old.tx.hold.history.plan self.old.tx.hold.history.events Retry }
         ensures outcome { self.new.tx.outcome ≡ outcomes.Fail OfService }
     {

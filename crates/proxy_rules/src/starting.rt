@@ -80,9 +80,9 @@ pub fn begin<B: Ledgers, A: Wire, W: Wire, C: Wire>(
     requires small { beginning.stake.claim ≤ MAX_CAPACITY }
     ensures accepts { IsOk result ↔ MayBegin beginning.message beginning.offer (is_some beginning.service_wire) }
     ensures begun { IfOk result (λ running. running.tx.hold.history ≡ record { plan = beginning.offer.plan; events = [] }) }
-    ensures clock { IfOk result (λ running. (running.tx.last_moved ≡ beginning.now) × (running.tx.deadline ≡ beginning.deadline)) }
+    ensures clock { IfOk result (λ running. (running.tx.pace.last_moved ≡ beginning.now) × (running.tx.pace.deadline ≡ beginning.deadline)) }
     ensures stands { IfOk result (λ running. (read : List ℕ) × ⟦<Tx<B, SourceSide, ServiceSide, NextHop, HeadMaker, A, W, C> as Standing>⟧.stands running.tx (text_of beginning.offer.side) (record no_texts { source_read = record { bytes = read; ended = false } })) }
-    ensures line { IfOk result (λ running. (running.tx.broken ≡ false) × (running.tx.reused ≡ beginning.reused)) }
+    ensures line { IfOk result (λ running. (running.tx.pace.broken ≡ false) × (running.tx.pace.reused ≡ beginning.reused)) }
     ensures sides { IfOk result (λ running. (running.tx.source ≡ beginning.message.side) × (running.tx.forward.user ≡ beginning.message.user) × (running.tx.forward.last ≡ beginning.last) × (running.tx.service ≡ line_with beginning.offer.side beginning.service_wire)) }
     ensures wires { IfOk result (λ running. (running.tx.source_wire ≡ beginning.source_wire) × (running.tx.next_wire ≡ beginning.next_wire)) }
     ensures back { IfErr result (λ back. back ≡ beginning) }

@@ -77,7 +77,7 @@ impl<
         × (n ≡ 0 → (p q r : Past) → A.past old.source_wire p → on_held old.service ⊤ (λ wire. W.past wire q) → C.past old.next_wire r
         → ((shows old.hold.history).closed ≡ false) × Advances (may_step side) old.hold new.hold))
         ((side ≡ sides.Service) × ((shows old.hold.history).closed ≡ false) × MayFollow new.hold.history.plan new.hold.history.events Retry
-        × ((old.broken ≡ true) ⊎ MatchOption new.service ⊥ (λ line. Breaks new.hold.history old.reused (V.fault line.side))))
+        × ((old.pace.broken ≡ true) ⊎ MatchOption new.service ⊥ (λ line. Breaks new.hold.history old.pace.reused (V.fault line.side))))
         (λ outcome. ((shows old.hold.history).closed ≡ true) × (outcome ≡ old.outcome) × ((old.refusing ≡ false) ⊎ ⟦<Tx<B, S, V, K, F, A, W, C> as Refusing>⟧.refusal_is_over new)
         × (outcome ≡ outcomes.Done → IsDone new.hold.history)) };
 
@@ -95,17 +95,17 @@ impl<
         × ((shows old.hold.history).closed ≡ true → (new.source ≡ old.source) × (new.service ≡ old.service)
         × (old.hold.history.plan.point ≡ Respmod → new.source_wire ≡ old.source_wire) × (old.hold.history.plan.point ≡ Reqmod → new.next_wire ≡ old.next_wire)) };
 
-    ghost fails = { λ old side now new cause. ((cause ≡ Deadline) × (old.last_moved + old.deadline ≤ now)) ⊎ BySide side
+    ghost fails = { λ old side now new cause. ((cause ≡ Deadline) × (old.pace.last_moved + old.pace.deadline ≤ now)) ⊎ BySide side
         ((S.agrees (shows old.hold.history) old.source → Blamed OfRelayWire source_cause cause (S.fault old.source) (S.fault new.source) (A.past old.source_wire) (A.past new.source_wire))
         × ((S.agrees (shows old.hold.history) old.source → ⊥) → cause ≡ causes.Source)
         × HasCause (S.fault old.source) (S.fault new.source) (λ fault. S.has_reason fault new.source))
         ((wire_of old.service ≡ None → ⊥) × BlamedService cause (fault_of (λ line. V.fault line.side) old.service) (fault_of (λ line. V.fault line.side) new.service)
         (λ p. on_held old.service ⊥ (λ wire. W.past wire p)) (λ p. on_held new.service ⊥ (λ wire. W.past wire p))
-        × FailsFor (λ line. V.fault line.side) (λ fault x line. V.has_reason fault x line.side) cause old.reused old.service new.service new.hold)
+        × FailsFor (λ line. V.fault line.side) (λ fault x line. V.has_reason fault x line.side) cause old.pace.reused old.service new.service new.hold)
         ((IsChosen (shows old.hold.history) × (K.gift old.next ≡ nothing) × (K.gift old.back ≡ nothing)
         × MakesNoneAt (F.makes_none old.forward (S.head old.source)) (adapted_of V.adapted_head old.service) (response_of V.is_response old.service) (shows old.hold.history) cause)
         ⊎ (BlamedWriter cause (FailsGiving (K.breaks_length (shows old.hold.history) (K.body_framing new.next))) (K.fault old.next) (C.past old.next_wire) (C.past new.next_wire)
         ⊎ BlamedWriter cause (FailsGiving (K.breaks_length (shows old.hold.history) (K.body_framing new.back))) (K.fault old.back) (A.past old.source_wire) (A.past new.source_wire))) };
 
-    ghost faultless = { λ tx. (S.fault tx.source ≡ None) × (tx.broken ≡ false → fault_of (λ line. V.fault line.side) tx.service ≡ None) × (K.fault tx.next ≡ None) × (K.fault tx.back ≡ None) };
+    ghost faultless = { λ tx. (S.fault tx.source ≡ None) × (tx.pace.broken ≡ false → fault_of (λ line. V.fault line.side) tx.service ≡ None) × (K.fault tx.next ≡ None) × (K.fault tx.back ≡ None) };
 }

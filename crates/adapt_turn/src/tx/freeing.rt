@@ -66,8 +66,7 @@ impl<B: Ledgers, S: Source, V: Service, K: Hop, F: Forward<S, K>, A: Wire, W: Wi
         ensures faultless { ⟦<Self as Answering>⟧.faultless self.old → ⟦<Self as Answering>⟧.faultless self.new }
         ensures kept { (self.new.hold ≡ self.old.hold) × (self.new.outcome ≡ self.old.outcome) × (self.new.refusing ≡ self.old.refusing) × (self.new.source ≡ self.old.source) × (self.new.source_wire ≡ self.old.source_wire)
             × (self.new.next ≡ self.old.next) × (self.new.next_wire ≡ self.old.next_wire) × (self.new.back ≡ self.old.back) }
-        ensures timed { (self.new.last_moved ≡ self.old.last_moved) × (self.new.deadline ≡ self.old.deadline) }
-        ensures marked { (self.new.broken ≡ self.old.broken) × (self.new.reused ≡ self.old.reused) }
+        ensures pace { self.new.pace ≡ self.old.pace }
     {
         if !self.may_free() {
             return None;

@@ -106,8 +106,7 @@ impl<B: Ledgers, S: Source, V: Service, K: Hop, F: Forward<S, K>, A: Wire, W: Wi
             × (K.gift self.old.next ≡ nothing → K.gift self.new.next ≡ message → answers_user (shows self.old.hold.history) (response_of V.is_response self.old.service) ≡ false) }
         ensures outcome { self.new.outcome ≡ outcome_by result }
         ensures served { self.new.service ≡ self.old.service }
-        ensures timed { (self.new.last_moved ≡ self.old.last_moved) × (self.new.deadline ≡ self.old.deadline) }
-        ensures marked { (self.new.broken ≡ self.old.broken) × (self.new.reused ≡ self.old.reused) }
+        ensures pace { self.new.pace ≡ self.old.pace }
     {
         if !self.next.is_idle() {
             return None;
@@ -137,8 +136,7 @@ impl<B: Ledgers, S: Source, V: Service, K: Hop, F: Forward<S, K>, A: Wire, W: Wi
             × (K.gift self.old.next ≡ nothing → K.gift self.new.next ≡ message → answers_user (shows self.old.hold.history) (response_of V.is_response self.old.service) ≡ false) }
         ensures outcome { self.new.outcome ≡ outcome_by result }
         ensures served { self.new.service ≡ self.old.service }
-        ensures timed { (self.new.last_moved ≡ self.old.last_moved) × (self.new.deadline ≡ self.old.deadline) }
-        ensures marked { (self.new.broken ≡ self.old.broken) × (self.new.reused ≡ self.old.reused) }
+        ensures pace { self.new.pace ≡ self.old.pace }
     {
         let _state = self.hold.state();
         let answers = self.answers_user();
@@ -190,8 +188,7 @@ impl<B: Ledgers, S: Source, V: Service, K: Hop, F: Forward<S, K>, A: Wire, W: Wi
         ensures of_side { (cause : Cause) → result.failed ≡ Some cause → IsOfSide cause }
         ensures outcome { self.new.outcome ≡ outcome_by result.failed }
         ensures served { self.new.service ≡ self.old.service }
-        ensures timed { (self.new.last_moved ≡ self.old.last_moved) × (self.new.deadline ≡ self.old.deadline) }
-        ensures marked { (self.new.broken ≡ self.old.broken) × (self.new.reused ≡ self.old.reused) }
+        ensures pace { self.new.pace ≡ self.old.pace }
     {
         let _state = self.hold.state();
         if self.back.is_idle() {
@@ -227,8 +224,7 @@ impl<B: Ledgers, S: Source, V: Service, K: Hop, F: Forward<S, K>, A: Wire, W: Wi
         ensures apart { self.new.source ≡ self.old.source }
         ensures outcome { self.new.outcome ≡ outcome_by result.failed }
         ensures served { self.new.service ≡ self.old.service }
-        ensures timed { (self.new.last_moved ≡ self.old.last_moved) × (self.new.deadline ≡ self.old.deadline) }
-        ensures marked { (self.new.broken ≡ self.old.broken) × (self.new.reused ≡ self.old.reused) }
+        ensures pace { self.new.pace ≡ self.old.pace }
     {
         if !self.is_chosen() {
             return idle();

@@ -38,10 +38,10 @@ impl<B: Ledgers, S: Source, V: Service, K: Hop, F: Forward<S, K>, A: Wire, W: Wi
     pub(crate) fn pass(&mut self, rt: &impl Wait, bank: &Bank<B>, side: Side) -> Passed
         requires running { (shows self.old.hold.history).closed ≡ false }
         ensures goes { ⟦<Self as Going>⟧.goes self.old self.new }
-        ensures any { AnyPasses V.Service self.old.reused (MakesNoneAt (F.makes_none self.old.forward (S.head self.old.source)) (adapted_of V.adapted_head self.old.service) (response_of V.is_response self.old.service) (shows self.old.hold.history))
+        ensures any { AnyPasses V.Service self.old.pace.reused (MakesNoneAt (F.makes_none self.old.forward (S.head self.old.source)) (adapted_of V.adapted_head self.old.service) (response_of V.is_response self.old.service) (shows self.old.hold.history))
             side self.old.hold self.new.hold self.new.service result }
         ensures source { side ≡ Side.Source → SourcePasses S.Source A.Wire (lending self.old.hold self.old.source self.old.source_wire) (lending self.new.hold self.new.source self.new.source_wire) result }
-        ensures service { side ≡ Side.Service → LinePasses V.Service W.Wire self.old.reused self.old.hold self.old.service self.new.hold self.new.service result }
+        ensures service { side ≡ Side.Service → LinePasses V.Service W.Wire self.old.pace.reused self.old.hold self.old.service self.new.hold self.new.service result }
         ensures next { side ≡ Side.NextHop → NextPasses K.Hop A.Wire C.Wire (answers_user (shows self.old.hold.history) (response_of V.is_response self.old.service))
             (MakesNoneAt (F.makes_none self.old.forward (S.head self.old.source)) (adapted_of V.adapted_head self.old.service) (response_of V.is_response self.old.service) (shows self.old.hold.history))
             (writers self.old.hold self.old.next self.old.next_wire self.old.back self.old.source_wire) (writers self.new.hold self.new.next self.new.next_wire self.new.back self.new.source_wire) result }
@@ -50,8 +50,7 @@ impl<B: Ledgers, S: Source, V: Service, K: Hop, F: Forward<S, K>, A: Wire, W: Wi
         ensures apart_next { side ≡ Side.NextHop → (self.new.source ≡ self.old.source) × (self.new.service ≡ self.old.service) }
         ensures outcome { self.new.outcome ≡ outcome_by result.failed }
         ensures served { wire_of self.old.service ≡ None → wire_of self.new.service ≡ None }
-        ensures timed { (self.new.last_moved ≡ self.old.last_moved) × (self.new.deadline ≡ self.old.deadline) }
-        ensures marked { (self.new.broken ≡ self.old.broken) × (self.new.reused ≡ self.old.reused) }
+        ensures pace { self.new.pace ≡ self.old.pace }
     {
         match side {
             Side::Source => {
@@ -66,7 +65,13 @@ impl<B: Ledgers, S: Source, V: Service, K: Hop, F: Forward<S, K>, A: Wire, W: Wi
                 passed
             }
             Side::Service => {
-                let passed = service_pass(rt, bank, &mut self.hold, &mut self.service, self.reused);
+                let passed = service_pass(
+                    rt,
+                    bank,
+                    &mut self.hold,
+                    &mut self.service,
+                    self.pace.reused,
+                );
                 self.outcome = outcome_by(passed.failed);
                 passed
             }

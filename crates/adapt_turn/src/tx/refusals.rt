@@ -110,8 +110,7 @@ impl<B: Ledgers, S: Source, V: Service, K: Hop, F: Forward<S, K>, A: Wire, W: Wi
         requires failed { self.old.outcome ≡ Outcome.Fail cause }
         requires point { (shows self.old.hold.history).plan.point ≡ Point.Respmod }
         ensures goes { ⟦<Self as Going>⟧.goes self.old self.new }
-        ensures timed { (self.new.last_moved ≡ self.old.last_moved) × (self.new.deadline ≡ self.old.deadline) }
-        ensures marked { (self.new.broken ≡ self.old.broken) × (self.new.reused ≡ self.old.reused) }
+        ensures pace { self.new.pace ≡ self.old.pace }
         ensures hold { self.new.hold ≡ self.old.hold }
         ensures messages { (K.gift self.new.next ≡ message → K.gift self.old.next ≡ message) × (K.gift self.new.back ≡ message → K.gift self.old.back ≡ message) }
         ensures outcome { self.new.outcome ≡ self.old.outcome }
@@ -129,8 +128,7 @@ impl<B: Ledgers, S: Source, V: Service, K: Hop, F: Forward<S, K>, A: Wire, W: Wi
         requires failed { self.old.outcome ≡ Outcome.Fail cause }
         requires point { (shows self.old.hold.history).plan.point ≡ Point.Reqmod }
         ensures goes { ⟦<Self as Going>⟧.goes self.old self.new }
-        ensures timed { (self.new.last_moved ≡ self.old.last_moved) × (self.new.deadline ≡ self.old.deadline) }
-        ensures marked { (self.new.broken ≡ self.old.broken) × (self.new.reused ≡ self.old.reused) }
+        ensures pace { self.new.pace ≡ self.old.pace }
         ensures hold { self.new.hold ≡ self.old.hold }
         ensures messages { (K.gift self.new.next ≡ message → K.gift self.old.next ≡ message) × (K.gift self.new.back ≡ message → K.gift self.old.back ≡ message) }
         ensures outcome { self.new.outcome ≡ self.old.outcome }
@@ -147,8 +145,7 @@ impl<B: Ledgers, S: Source, V: Service, K: Hop, F: Forward<S, K>, A: Wire, W: Wi
         requires over { (shows self.old.hold.history).closed ≡ true }
         requires failed { self.old.outcome ≡ Outcome.Fail cause }
         ensures goes { ⟦<Self as Going>⟧.goes self.old self.new }
-        ensures timed { (self.new.last_moved ≡ self.old.last_moved) × (self.new.deadline ≡ self.old.deadline) }
-        ensures marked { (self.new.broken ≡ self.old.broken) × (self.new.reused ≡ self.old.reused) }
+        ensures pace { self.new.pace ≡ self.old.pace }
         ensures hold { self.new.hold ≡ self.old.hold }
         ensures messages { (K.gift self.new.next ≡ message → K.gift self.old.next ≡ message) × (K.gift self.new.back ≡ message → K.gift self.old.back ≡ message) }
         ensures outcome { self.new.outcome ≡ self.old.outcome }
@@ -167,8 +164,7 @@ impl<B: Ledgers, S: Source, V: Service, K: Hop, F: Forward<S, K>, A: Wire, W: Wi
         requires over { (cause : Cause) → failed ≡ Some cause → (shows self.old.hold.history).closed ≡ true }
         requires outcome { self.old.outcome ≡ outcome_by failed }
         ensures goes { ⟦<Self as Going>⟧.goes self.old self.new }
-        ensures timed { (self.new.last_moved ≡ self.old.last_moved) × (self.new.deadline ≡ self.old.deadline) }
-        ensures marked { (self.new.broken ≡ self.old.broken) × (self.new.reused ≡ self.old.reused) }
+        ensures pace { self.new.pace ≡ self.old.pace }
         ensures hold { self.new.hold ≡ self.old.hold }
         ensures messages { (K.gift self.new.next ≡ message → K.gift self.old.next ≡ message) × (K.gift self.new.back ≡ message → K.gift self.old.back ≡ message) }
         ensures outcome { self.new.outcome ≡ self.old.outcome }
@@ -187,8 +183,7 @@ impl<B: Ledgers, S: Source, V: Service, K: Hop, F: Forward<S, K>, A: Wire, W: Wi
     pub(crate) fn fail_by(&mut self, rt: &impl Wait, bank: &Bank<B>, cause: Cause)
         requires running { (shows self.old.hold.history).closed ≡ false }
         ensures goes { ⟦<Self as Going>⟧.goes self.old self.new }
-        ensures timed { (self.new.last_moved ≡ self.old.last_moved) × (self.new.deadline ≡ self.old.deadline) }
-        ensures marked { (self.new.broken ≡ self.old.broken) × (self.new.reused ≡ self.old.reused) }
+        ensures pace { self.new.pace ≡ self.old.pace }
         ensures hold { self.new.hold ≡ moved self.old.hold (Fail cause) [] }
         ensures paced { ((shows self.new.hold.history).received ≤ (shows self.old.hold.history).received + TURN_BYTES)
             × ((shows self.new.hold.history).adapted_received ≤ (shows self.old.hold.history).adapted_received + TURN_BYTES) }
@@ -216,8 +211,7 @@ impl<B: Ledgers, S: Source, V: Service, K: Hop, F: Forward<S, K>, A: Wire, W: Wi
         ensures ends { ⟦<Self as Refusing>⟧.refusal_is_over self.old → result ≡ None }
         ensures refuses { (cause : Cause) → ⟦<Self as Refusing>⟧.refuses self.old cause → ⟦<Self as Refusing>⟧.refuses self.new cause }
         ensures refusing { self.new.refusing ≡ self.old.refusing }
-        ensures timed { (self.new.last_moved ≡ self.old.last_moved) × (self.new.deadline ≡ self.old.deadline) }
-        ensures marked { (self.new.broken ≡ self.old.broken) × (self.new.reused ≡ self.old.reused) }
+        ensures pace { self.new.pace ≡ self.old.pace }
         ensures apart { (self.new.source ≡ self.old.source) × (self.new.source_wire ≡ self.old.source_wire) }
         ensures served { self.new.service ≡ self.old.service }
         ensures hold { self.new.hold ≡ self.old.hold }
@@ -238,8 +232,7 @@ impl<B: Ledgers, S: Source, V: Service, K: Hop, F: Forward<S, K>, A: Wire, W: Wi
         ensures ends { ⟦<Self as Refusing>⟧.refusal_is_over self.old → result ≡ None }
         ensures refuses { (cause : Cause) → ⟦<Self as Refusing>⟧.refuses self.old cause → ⟦<Self as Refusing>⟧.refuses self.new cause }
         ensures refusing { self.new.refusing ≡ self.old.refusing }
-        ensures timed { (self.new.last_moved ≡ self.old.last_moved) × (self.new.deadline ≡ self.old.deadline) }
-        ensures marked { (self.new.broken ≡ self.old.broken) × (self.new.reused ≡ self.old.reused) }
+        ensures pace { self.new.pace ≡ self.old.pace }
         ensures apart { (self.new.source ≡ self.old.source) × (self.new.next_wire ≡ self.old.next_wire) }
         ensures served { self.new.service ≡ self.old.service }
         ensures hold { self.new.hold ≡ self.old.hold }
@@ -259,8 +252,7 @@ impl<B: Ledgers, S: Source, V: Service, K: Hop, F: Forward<S, K>, A: Wire, W: Wi
         ensures ends { ⟦<Self as Refusing>⟧.refusal_is_over self.old → result ≡ None }
         ensures refuses { (cause : Cause) → ⟦<Self as Refusing>⟧.refuses self.old cause → ⟦<Self as Refusing>⟧.refuses self.new cause }
         ensures refusing { self.new.refusing ≡ self.old.refusing }
-        ensures timed { (self.new.last_moved ≡ self.old.last_moved) × (self.new.deadline ≡ self.old.deadline) }
-        ensures marked { (self.new.broken ≡ self.old.broken) × (self.new.reused ≡ self.old.reused) }
+        ensures pace { self.new.pace ≡ self.old.pace }
         ensures apart { (self.new.source ≡ self.old.source) × (self.new.service ≡ self.old.service) × (self.old.hold.history.plan.point ≡ Point.Respmod → self.new.source_wire ≡ self.old.source_wire)
             × (self.old.hold.history.plan.point ≡ Point.Reqmod → self.new.next_wire ≡ self.old.next_wire) }
         ensures served { self.new.service ≡ self.old.service }
@@ -277,8 +269,7 @@ impl<B: Ledgers, S: Source, V: Service, K: Hop, F: Forward<S, K>, A: Wire, W: Wi
     pub(crate) fn closed_turn(&mut self) -> Turned
         requires over { (shows self.old.hold.history).closed ≡ true }
         ensures goes { ⟦<Self as Going>⟧.goes self.old self.new }
-        ensures timed { (self.new.last_moved ≡ self.old.last_moved) × (self.new.deadline ≡ self.old.deadline) }
-        ensures marked { (self.new.broken ≡ self.old.broken) × (self.new.reused ≡ self.old.reused) }
+        ensures pace { self.new.pace ≡ self.old.pace }
         ensures hold { self.new.hold ≡ self.old.hold }
         ensures apart { (self.new.source ≡ self.old.source) × (self.new.service ≡ self.old.service) × (self.old.hold.history.plan.point ≡ Point.Respmod → self.new.source_wire ≡ self.old.source_wire)
             × (self.old.hold.history.plan.point ≡ Point.Reqmod → self.new.next_wire ≡ self.old.next_wire) }

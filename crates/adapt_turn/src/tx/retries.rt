@@ -30,7 +30,7 @@ impl<B: Ledgers, S: Source, V: Service, K: Hop, F: Forward<S, K>, A: Wire, W: Wi
 > {
     /// Begins the same request anew on a fresh connection, and gives the broken one's wire back.
     pub fn retry(&mut self, rt: &impl Wait, bank: &Bank<B>, wire: W) -> Option<W>
-        requires broken { self.old.broken ≡ true }
+        requires broken { self.old.pace.broken ≡ true }
         requires may { MayFollow self.old.hold.history.plan self.old.hold.history.events Retry }
         ensures hold { self.new.hold ≡ moved self.old.hold Retry [] }
         ensures anew { (request : List ℕ) (t : Texts) → ⟦<Self as Standing>⟧.stands self.old request t → ⟦<Self as Standing>⟧.stands self.new request (record t { service_read = []; service_taken = [] }) }
@@ -41,13 +41,13 @@ impl<B: Ledgers, S: Source, V: Service, K: Hop, F: Forward<S, K>, A: Wire, W: Wi
         ensures kept { (self.new.source ≡ self.old.source) × (self.new.next ≡ self.old.next) × (self.new.back ≡ self.old.back)
             × (self.new.outcome ≡ self.old.outcome) × (self.new.refusing ≡ self.old.refusing) }
         ensures faultless { ⟦<Self as Answering>⟧.faultless self.old → ⟦<Self as Answering>⟧.faultless self.new }
-        ensures unused { (self.new.broken ≡ false) × (self.new.reused ≡ false) }
-        ensures timed { (self.new.last_moved ≡ self.old.last_moved) × (self.new.deadline ≡ self.old.deadline) }
+        ensures unused { (self.new.pace.broken ≡ false) × (self.new.pace.reused ≡ false) }
+        ensures timed { (self.new.pace.last_moved ≡ self.old.pace.last_moved) × (self.new.pace.deadline ≡ self.old.pace.deadline) }
     {
         let _state = self.hold.state();
         go_on(rt, bank, &mut self.hold, Event::Retry);
-        self.broken = false;
-        self.reused = false;
+        self.pace.broken = false;
+        self.pace.reused = false;
         match &mut self.service {
             Some(line) => {
                 line.side.again();
@@ -59,10 +59,10 @@ impl<B: Ledgers, S: Source, V: Service, K: Hop, F: Forward<S, K>, A: Wire, W: Wi
 
     /// Fails the transaction by the service's fault, where no fresh connection can be had.
     pub fn no_retry(&mut self, rt: &impl Wait, bank: &Bank<B>)
-        requires broken { self.old.broken ≡ true }
+        requires broken { self.old.pace.broken ≡ true }
         requires may { MayFollow self.old.hold.history.plan self.old.hold.history.events Retry }
         ensures goes { ⟦<Self as Going>⟧.goes self.old self.new }
-        ensures timed { (self.new.last_moved ≡ self.old.last_moved) × (self.new.deadline ≡ self.old.deadline) }
+        ensures pace { self.new.pace ≡ self.old.pace }
         ensures hold { self.new.hold ≡ moved self.old.hold (Fail Service) [] }
         ensures outcome { self.new.outcome ≡ Outcome.Fail Service }
         ensures refuses { ⟦<Self as Refusing>⟧.refuses self.new Service }

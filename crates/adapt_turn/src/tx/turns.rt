@@ -69,19 +69,19 @@ impl<B: Ledgers, S: Source, V: Service, K: Hop, F: Forward<S, K>, A: Wire, W: Wi
         ensures goes { ⟦<Self as Going>⟧.goes self.old self.new }
         ensures answers { ⟦<Self as Answering>⟧.answers self.old side self.new result }
         ensures keeps { ⟦<Self as Answering>⟧.keeps self.old side self.new }
-        ensures deadline { (shows self.old.hold.history).closed ≡ false → self.old.last_moved + self.old.deadline ≤ now
+        ensures deadline { (shows self.old.hold.history).closed ≡ false → self.old.pace.last_moved + self.old.pace.deadline ≤ now
             → (self.new.hold ≡ moved self.old.hold (Fail Deadline) []) × (result ≡ Turned.Moved 0) × (self.new.outcome ≡ Outcome.Fail Deadline) }
         ensures closed { (shows self.old.hold.history).closed ≡ true → (self.new.hold ≡ self.old.hold) × (self.new.outcome ≡ self.old.outcome) × (self.new.refusing ≡ self.old.refusing) }
         ensures finishes { (shows self.old.hold.history).closed ≡ true → (self.old.refusing ≡ false) ⊎ ⟦<Self as Refusing>⟧.refusal_is_over self.old → result ≡ Turned.Finished self.old.outcome }
-        ensures moment { (self.new.last_moved ≡ self.old.last_moved) ⊎ (self.new.last_moved ≡ now) }
-        ensures clock { (shows self.old.hold.history).closed ≡ false → (n : ℕ) × ⟦<Self as Going>⟧.moves self.old self.new n × (n ≡ 0 → self.new.last_moved ≡ self.old.last_moved) × (0 < n → self.new.last_moved ≡ now)
+        ensures moment { (self.new.pace.last_moved ≡ self.old.pace.last_moved) ⊎ (self.new.pace.last_moved ≡ now) }
+        ensures clock { (shows self.old.hold.history).closed ≡ false → (n : ℕ) × ⟦<Self as Going>⟧.moves self.old self.new n × (n ≡ 0 → self.new.pace.last_moved ≡ self.old.pace.last_moved) × (0 < n → self.new.pace.last_moved ≡ now)
             × ((m : ℕ) → result ≡ Turned.Moved m → m ≡ n) }
-        ensures still { result ≡ Turned.Waiting → self.new.last_moved ≡ self.old.last_moved }
-        ensures rests { (shows self.old.hold.history).closed ≡ true → self.new.last_moved ≡ self.old.last_moved }
-        ensures limit { self.new.deadline ≡ self.old.deadline }
-        ensures marked { (self.new.broken ≡ true ↔ (self.old.broken ≡ true) ⊎ (result ≡ Turned.Broken)) × (self.new.reused ≡ self.old.reused) }
-        ensures breaks_on { (shows self.old.hold.history).closed ≡ false → now < self.old.last_moved + self.old.deadline → side ≡ Side.Service
-            → self.old.broken ≡ true → MayFollow self.old.hold.history.plan self.old.hold.history.events Retry → result ≡ Turned.Broken }
+        ensures still { result ≡ Turned.Waiting → self.new.pace.last_moved ≡ self.old.pace.last_moved }
+        ensures rests { (shows self.old.hold.history).closed ≡ true → self.new.pace.last_moved ≡ self.old.pace.last_moved }
+        ensures limit { self.new.pace.deadline ≡ self.old.pace.deadline }
+        ensures marked { (self.new.pace.broken ≡ true ↔ (self.old.pace.broken ≡ true) ⊎ (result ≡ Turned.Broken)) × (self.new.pace.reused ≡ self.old.pace.reused) }
+        ensures breaks_on { (shows self.old.hold.history).closed ≡ false → now < self.old.pace.last_moved + self.old.pace.deadline → side ≡ Side.Service
+            → self.old.pace.broken ≡ true → MayFollow self.old.hold.history.plan self.old.hold.history.events Retry → result ≡ Turned.Broken }
         ensures refuses { (shows self.old.hold.history).closed ≡ false → (cause : Cause) → self.new.outcome ≡ Outcome.Fail cause → ⟦<Self as Refusing>⟧.refuses self.new cause }
         ensures refuses_on { (shows self.old.hold.history).closed ≡ true → (cause : Cause) → ⟦<Self as Refusing>⟧.refuses self.old cause → ⟦<Self as Refusing>⟧.refuses self.new cause }
         ensures fails { (shows self.old.hold.history).closed ≡ false → (cause : Cause) → self.new.outcome ≡ Outcome.Fail cause → ⟦<Self as Answering>⟧.fails self.old side now self.new cause }
@@ -89,14 +89,14 @@ impl<B: Ledgers, S: Source, V: Service, K: Hop, F: Forward<S, K>, A: Wire, W: Wi
         ensures told { (shows self.old.hold.history).closed ≡ false → side ≡ Side.Source → (result ≡ Turned.Broken → ⊥) → ((cause : Cause) → self.new.outcome ≡ Outcome.Fail cause → ⊥)
             → S.is_over self.new.source → (shows self.new.hold.history).ended ≡ true }
         ensures timely { (shows self.old.hold.history).closed ≡ false → self.new.outcome ≡ Outcome.Fail Deadline
-            → (self.old.last_moved + self.old.deadline ≤ now) ⊎ ((side ≡ Side.NextHop) × MakesNoneAt (F.makes_none self.old.forward (S.head self.old.source)) (adapted_of V.adapted_head self.old.service) (response_of V.is_response self.old.service) (shows self.old.hold.history) Deadline) }
+            → (self.old.pace.last_moved + self.old.pace.deadline ≤ now) ⊎ ((side ≡ Side.NextHop) × MakesNoneAt (F.makes_none self.old.forward (S.head self.old.source)) (adapted_of V.adapted_head self.old.service) (response_of V.is_response self.old.service) (shows self.old.hold.history) Deadline) }
         ensures unstopped { (shows self.old.hold.history).closed ≡ false → self.new.outcome ≡ Outcome.Fail Stopping → (side ≡ Side.NextHop) × MakesNoneAt (F.makes_none self.old.forward (S.head self.old.source)) (adapted_of V.adapted_head self.old.service) (response_of V.is_response self.old.service) (shows self.old.hold.history) Stopping }
     {
         if self.is_closed() {
             return self.closed_turn();
         }
         let before = self.counts();
-        if now >= self.last_moved && now - self.last_moved >= self.deadline {
+        if now >= self.pace.last_moved && now - self.pace.last_moved >= self.pace.deadline {
             self.fail_by(rt, bank, Cause::Deadline);
             return Turned::Moved(0);
         }
@@ -117,22 +117,22 @@ impl<B: Ledgers, S: Source, V: Service, K: Hop, F: Forward<S, K>, A: Wire, W: Wi
         ensures waiting { result ≡ Turned.Waiting → (passed.waiting ≡ true) × (moved ≡ 0) }
         ensures broken { result ≡ Turned.Broken → passed.broken ≡ true }
         ensures breaks { passed.broken ≡ true → result ≡ Turned.Broken }
-        ensures marked { (self.new.broken ≡ true ↔ (self.old.broken ≡ true) ⊎ (result ≡ Turned.Broken)) × (self.new.reused ≡ self.old.reused) }
+        ensures marked { (self.new.pace.broken ≡ true ↔ (self.old.pace.broken ≡ true) ⊎ (result ≡ Turned.Broken)) × (self.new.pace.reused ≡ self.old.pace.reused) }
         ensures hold { self.new.hold ≡ self.old.hold }
         ensures outcome { self.new.outcome ≡ self.old.outcome }
         ensures moved { (n : ℕ) → result ≡ Turned.Moved n → n ≡ moved }
         ensures active { (n : ℕ) → result ≡ Turned.Moved n → (passed.waiting ≡ true → 0 < n) × (passed.broken ≡ false) }
-        ensures moment { (self.new.last_moved ≡ self.old.last_moved) ⊎ (self.new.last_moved ≡ now) }
-        ensures clock { (moved ≡ 0 → self.new.last_moved ≡ self.old.last_moved) × (0 < moved → self.new.last_moved ≡ now) }
-        ensures limit { self.new.deadline ≡ self.old.deadline }
+        ensures moment { (self.new.pace.last_moved ≡ self.old.pace.last_moved) ⊎ (self.new.pace.last_moved ≡ now) }
+        ensures clock { (moved ≡ 0 → self.new.pace.last_moved ≡ self.old.pace.last_moved) × (0 < moved → self.new.pace.last_moved ≡ now) }
+        ensures limit { self.new.pace.deadline ≡ self.old.pace.deadline }
         ensures kept { (self.new.source ≡ self.old.source) × (self.new.source_wire ≡ self.old.source_wire) × (self.new.service ≡ self.old.service) × (self.new.next_wire ≡ self.old.next_wire) }
         ensures framings { (K.body_framing self.new.next ≡ K.body_framing self.old.next) × (K.body_framing self.new.back ≡ K.body_framing self.old.back) }
         ensures messages { (K.gift self.new.next ≡ message → K.gift self.old.next ≡ message) × (K.gift self.new.back ≡ message → K.gift self.old.back ≡ message) }
         ensures refuses { (cause : Cause) → passed.failed ≡ Some cause → ⟦<Self as Refusing>⟧.refuses self.new cause }
         ensures same { passed.failed ≡ None → (self.new.next ≡ self.old.next) × (self.new.back ≡ self.old.back) }
     {
-        self.last_moved = moment_of(moved, now, self.last_moved);
-        self.broken |= passed.broken;
+        self.pace.last_moved = moment_of(moved, now, self.pace.last_moved);
+        self.pace.broken |= passed.broken;
         self.refuse_failed(passed.failed);
         answer_of(passed, moved)
     }
@@ -141,13 +141,13 @@ impl<B: Ledgers, S: Source, V: Service, K: Hop, F: Forward<S, K>, A: Wire, W: Wi
     /// second passes at once.
     pub fn drive(&mut self, rt: &impl Wait, bank: &Bank<B>, schedule: &[Side])
         ensures goes { ⟦<Self as Going>⟧.goes self.old self.new }
-        ensures timed { (self.new.last_moved ≡ self.old.last_moved) × (self.new.deadline ≡ self.old.deadline) }
+        ensures timed { (self.new.pace.last_moved ≡ self.old.pace.last_moved) × (self.new.pace.deadline ≡ self.old.pace.deadline) }
         ensures turns { Drives (λ old side new. (turned : TurnAnswer) × ⟦<Self as Answering>⟧.answers old side new turned × ⟦<Self as Answering>⟧.keeps old side new
-            × (new.broken ≡ true ↔ (old.broken ≡ true) ⊎ (turned ≡ Turned.Broken)) × (new.reused ≡ old.reused)
+            × (new.pace.broken ≡ true ↔ (old.pace.broken ≡ true) ⊎ (turned ≡ Turned.Broken)) × (new.pace.reused ≡ old.pace.reused)
             × ((shows new.hold.history).closed ≡ false → ⟦<Self as Answering>⟧.faultless old → ⟦<Self as Answering>⟧.faultless new)
-            × ((shows old.hold.history).closed ≡ false → (cause : Cause) → new.outcome ≡ Outcome.Fail cause → ⟦<Self as Answering>⟧.fails old side old.last_moved new cause)) self.old schedule.now self.new }
+            × ((shows old.hold.history).closed ≡ false → (cause : Cause) → new.outcome ≡ Outcome.Fail cause → ⟦<Self as Answering>⟧.fails old side old.pace.last_moved new cause)) self.old schedule.now self.new }
         ensures closed { (shows self.old.hold.history).closed ≡ true → (self.new.hold ≡ self.old.hold) × (self.new.outcome ≡ self.old.outcome) × (self.new.refusing ≡ self.old.refusing) }
-        ensures deadline { (shows self.old.hold.history).closed ≡ false → self.old.deadline ≡ 0 → 0 < length schedule.now
+        ensures deadline { (shows self.old.hold.history).closed ≡ false → self.old.pace.deadline ≡ 0 → 0 < length schedule.now
             → (self.new.hold ≡ moved self.old.hold (Fail Deadline) []) × (self.new.outcome ≡ Outcome.Fail Deadline) }
         ensures refuses { (shows self.old.hold.history).closed ≡ false → (cause : Cause) → self.new.outcome ≡ Outcome.Fail cause → ⟦<Self as Refusing>⟧.refuses self.new cause }
         ensures refuses_on { (shows self.old.hold.history).closed ≡ true → (cause : Cause) → ⟦<Self as Refusing>⟧.refuses self.old cause → ⟦<Self as Refusing>⟧.refuses self.new cause }
@@ -155,12 +155,12 @@ impl<B: Ledgers, S: Source, V: Service, K: Hop, F: Forward<S, K>, A: Wire, W: Wi
         ensures unstopped { ((maker : F) (head : S.Head) (x : Seen) (adapted : Option (List ℕ)) (is_response : Bool) → F.makes_none maker head x adapted is_response Stopping → ⊥)
             → (shows self.old.hold.history).closed ≡ false → self.new.outcome ≡ Outcome.Fail Stopping → ⊥ }
         ensures timely { ((maker : F) (head : S.Head) (x : Seen) (adapted : Option (List ℕ)) (is_response : Bool) → F.makes_none maker head x adapted is_response Deadline → ⊥)
-            → (shows self.old.hold.history).closed ≡ false → self.new.outcome ≡ Outcome.Fail Deadline → self.old.deadline ≡ 0 }
+            → (shows self.old.hold.history).closed ≡ false → self.new.outcome ≡ Outcome.Fail Deadline → self.old.pace.deadline ≡ 0 }
     {
         match schedule {
             [] => {}
             [side, rest @ ..] => {
-                let now = self.last_moved;
+                let now = self.pace.last_moved;
                 self.turn(rt, bank, *side, now);
                 self.drive(rt, bank, rest);
             }
@@ -170,7 +170,7 @@ impl<B: Ledgers, S: Source, V: Service, K: Hop, F: Forward<S, K>, A: Wire, W: Wi
     /// Fails the transaction, because the proxy is stopping, where it isn't closed. Later turns write a refusal that is due.
     pub fn halt(&mut self, rt: &impl Wait, bank: &Bank<B>)
         ensures goes { ⟦<Self as Going>⟧.goes self.old self.new }
-        ensures timed { (self.new.last_moved ≡ self.old.last_moved) × (self.new.deadline ≡ self.old.deadline) }
+        ensures pace { self.new.pace ≡ self.old.pace }
         ensures closed { (shows self.old.hold.history).closed ≡ true → (self.new.hold ≡ self.old.hold) × (self.new.outcome ≡ self.old.outcome) }
         ensures halted { (shows self.old.hold.history).closed ≡ false
             → (self.new.hold ≡ moved self.old.hold (Fail Stopping) []) × (self.new.outcome ≡ Outcome.Fail Stopping) }

@@ -37,7 +37,7 @@ returns-in-Service-clause-goes g c =
     (made_by (g.F.Forward.makes tx.forward) g.K.Hop.body_framing g.V.Service.adapted_head g.V.Service.is_response (g.S.Source.head tx.source) (Some m)) tx.next tx.back x
     (line_heads (g.F.Forward.makes tx.forward) g.K.Hop.body_framing g.V.Service.adapted_head g.V.Service.is_response (g.S.Source.head tx.source) (Some l) l m x refl head response))
     (λ line. others_of g.S.Source.agrees g.S.Source.has_read g.V.Service.has_sent g.V.Service.has_heard g.K.Hop.has_given g.K.Hop.gift g.K.Hop.aside (made_by (g.F.Forward.makes tx.forward) g.K.Hop.body_framing g.V.Service.adapted_head g.V.Service.is_response (g.S.Source.head tx.source) line) g.met.S.Source.others_agree g.met.S.Source.others g.met.V.Service.others_sent g.met.V.Service.others_heard g.met.K.Hop.others (λ k. made_on _ _ _ _) tx.source line tx.next tx.back tx.refusing)
-    tx.reused tx.hold tx.service new.hold new.service c.service_pass-passed.result c.requires.running c.service_pass-passed.ensures.passes
+    tx.pace.reused tx.hold tx.service new.hold new.service c.service_pass-passed.result c.requires.running c.service_pass-passed.ensures.passes
 
 pub returns-in-Source-clause-any : goal.returns-in-Source-clause-any
 returns-in-Source-clause-any g c =

@@ -27,6 +27,7 @@ use Rattle.adapt_sides.specs.Turns.{FailsGiving}
 use Rattle.adapt_turn.specs.Parts.{fault_of}
 use Rattle.adapt_turn.specs.declared.start.Line.{Line}
 use Rattle.adapt_turn.proofs.Faultless.{unmarked_before, unmarked_now}
+use Rattle.adapt_turn.specs.declared.pace.Pace.{Pace}
 use Rattle.adapt_turn.proofs.Lines.{line_told}
 use Rattle.adapt_turn.proofs.tx.Tx.turn.Goals as goal
 
@@ -50,7 +51,7 @@ returns-clause-unstopped g c = λ o e. elim (c.pass-passed.ensures.any.of_side S
 
 pub returns-clause-moment : goal.returns-clause-moment
 returns-clause-moment g c = elim c.after_pass.ensures.moment [
-  | inl e ↦ inl (e ∙ c.pass-passed.ensures.timed.0)
+  | inl e ↦ inl (e ∙ (ap (λ (z : Pace). z.last_moved) c.pass-passed.ensures.pace))
   | inr e ↦ inr e
 ]
 
@@ -113,7 +114,7 @@ returns-clause-answers g c = by_answer c.after_pass.result _ _ _ _
           ),
     ))
     (λ b. let w = c.pass-passed.ensures.any.breaks (c.after_pass.ensures.broken b) in
-    let k = breaks_kept (λ l. g.V.Service.fault l.side) c.args.self.now.reused c.pass-passed.new.self.hold c.after_pass.new.self.hold c.pass-passed.new.self.service c.after_pass.new.self.service c.after_pass.ensures.kept.2 c.after_pass.ensures.hold w.2 in
+    let k = breaks_kept (λ l. g.V.Service.fault l.side) c.args.self.now.pace.reused c.pass-passed.new.self.hold c.after_pass.new.self.hold c.pass-passed.new.self.service c.after_pass.new.self.service c.after_pass.ensures.kept.2 c.after_pass.ensures.hold w.2 in
     (w.0, sym c.is_closed.ensures ∙ c.if-is_closed.false, k.0, inr k.1))
     (λ outcome e. absurd (c.after_pass.ensures.open outcome e))
 
@@ -158,7 +159,7 @@ returns-clause-fails g c = λ o cause e.
     (λ s. (
       λ n. (let d : None ≡ Some cause = sym (c.pass-passed.ensures.any.idle ((line_told (c.pass-passed.ensures.service s)).absent n)) ∙ f in absurd cc),
       line_blamed_kept (λ l. g.V.Service.fault l.side) (λ l p. MatchOption l.wire ⊥ (λ w. g.W.Wire.past w p)) cause _ _ c.pass-passed.new.self.service c.after_pass.new.self.service c.after_pass.ensures.kept.2 ((line_told (c.pass-passed.ensures.service s)).blames cause f),
-      fails_kept (λ l. g.V.Service.fault l.side) (λ fault x l. g.V.Service.has_reason fault x l.side) cause c.args.self.now.reused c.args.self.now.service c.pass-passed.new.self.hold c.after_pass.new.self.hold c.pass-passed.new.self.service c.after_pass.new.self.service c.after_pass.ensures.hold c.after_pass.ensures.kept.2 ((line_told (c.pass-passed.ensures.service s)).unbroken cause f),
+      fails_kept (λ l. g.V.Service.fault l.side) (λ fault x l. g.V.Service.has_reason fault x l.side) cause c.args.self.now.pace.reused c.args.self.now.service c.pass-passed.new.self.hold c.after_pass.new.self.hold c.pass-passed.new.self.service c.after_pass.new.self.service c.after_pass.ensures.hold c.after_pass.ensures.kept.2 ((line_told (c.pass-passed.ensures.service s)).unbroken cause f),
     ))
     (λ s.
     let x = shows c.args.self.now.hold.history in
@@ -180,7 +181,7 @@ returns-clause-clock g c = λ o. (
       c.args.self.now.service c.pass-passed.new.self.service c.after_pass.new.self.service c.args.self.now.next_wire c.pass-passed.new.self.next_wire c.after_pass.new.self.next_wire _ _ _ _ _ _ c.since-moved.result
       c.counts-before.ensures.source c.counts.ensures.source c.counts-before.ensures.service c.counts.ensures.service c.counts-before.ensures.next c.counts.ensures.next
       c.pass-passed.ensures.served c.after_pass.ensures.kept.1 c.after_pass.ensures.kept.2 c.after_pass.ensures.kept.3 c.since-moved.ensures,
-  λ z. c.after_pass.ensures.clock.0 z ∙ c.pass-passed.ensures.timed.0,
+  λ z. c.after_pass.ensures.clock.0 z ∙ (ap (λ (z : Pace). z.last_moved) c.pass-passed.ensures.pace),
   c.after_pass.ensures.clock.1,
   λ m e. c.after_pass.ensures.moved m e,
 )
@@ -191,7 +192,7 @@ returns-then-now-self-2-clause-clock g c = λ o. (
   moves_none g.A.Wire.past g.W.Wire.past g.C.Wire.past c.args.self.now.source_wire c.fail_by.new.self.source_wire
       c.args.self.now.service c.fail_by.new.self.service c.args.self.now.next_wire c.fail_by.new.self.next_wire _ _ _ 0
       c.counts-before.ensures.source c.counts-before.ensures.service c.counts-before.ensures.next c.fail_by.ensures.kept.0 c.fail_by.ensures.kept.1 c.fail_by.ensures.kept.2 refl,
-  λ z. c.fail_by.ensures.timed.0,
+  λ z. ap (λ (z : Pace). z.last_moved) c.fail_by.ensures.pace,
   λ l. absurd (omega (arith, l)),
   λ m e. (let d : answers.Moved 0 ≡ answers.Moved m = e in cc),
 )
@@ -285,10 +286,10 @@ returns-clause-faultless g c = λ o f.
       ap g.S.Source.fault a.kept.0 ∙ by_side c.args.side (λ side. g.S.Source.fault mid.source ≡ None)
           (λ s. (p.source s).sound n) (λ s. ap g.S.Source.fault (p.apart_service s).0 ∙ f.0) (λ s. ap g.S.Source.fault (p.apart_next s).0 ∙ f.0),
       λ b. ap of_line a.kept.2 ∙ (
-          let before = f.1 (sym p.marked.0 ∙ unmarked_before mid.broken c.after_pass.new.self.broken _ a.marked.0 b) in
+          let before = f.1 (sym (ap (λ (z : Pace). z.broken) p.pace) ∙ unmarked_before mid.pace.broken c.after_pass.new.self.pace.broken _ a.marked.0 b) in
           by_side c.args.side (λ side. of_line mid.service ≡ None)
           (λ s. ap of_line (p.apart_source s).0 ∙ before)
-          (λ s. (line_told (p.service s)).sound n (unmarked_now c.pass-passed.result.broken mid.broken c.after_pass.new.self.broken _ a.breaks a.marked.0 b) before)
+          (λ s. (line_told (p.service s)).sound n (unmarked_now c.pass-passed.result.broken mid.pace.broken c.after_pass.new.self.pace.broken _ a.breaks a.marked.0 b) before)
           (λ s. ap of_line (p.apart_next s).1 ∙ before)),
       ap g.K.Hop.fault (a.same n).0 ∙ by_side c.args.side (λ side. g.K.Hop.fault mid.next ≡ None)
           (λ s. ap g.K.Hop.fault (p.apart_source s).2 ∙ f.2) (λ s. ap g.K.Hop.fault (p.apart_service s).3 ∙ f.2) (λ s. ((p.next s).sound n).0 f.2),
