@@ -52,8 +52,8 @@ fn put_told(out: &mut Vec<u8>, question: &[u8], exchange: &Exchange) -> Result<(
     let course = exchange.course();
     if says(question, b"place") {
         put_shown(out, b"", &course.place)
-    } else if says(question, b"line") {
-        put_shown(out, b"", &course.line)
+    } else if says(question, b"connection") {
+        put_shown(out, b"", &course.connection)
     } else if says(question, b"marks") {
         put_marks(out, &course)
     } else if says(question, b"next") {

@@ -6,8 +6,8 @@ use Rattle.trace_core.specs.declared.history.Point.TheVariants.{Reqmod, Respmod}
 use Rattle.exchange_core.specs.declared.event.Event.{Event}
 use Rattle.exchange_core.specs.declared.event.Why.{Why}
 use Rattle.exchange_core.specs.declared.event.Event.TheVariants.{HeadBegun, RequestRead, ResponseRead, Stale, Queued, Lent, Asked, Learned, Planned, Reserved, HalfTold, Stuck, Told, Dialed, Started, LetPass, Renewed, Served, Begun, Sent, Answered, Failed, Returned, Released, HungUp, Refused, UserClosed, UserLost, Dropped, Late, Drain, Stop, Tried}
-use Rattle.exchange_core.specs.declared.line.Line.{Line}
-use Rattle.exchange_core.specs.declared.line.Line.TheVariants.{Absent, Ready, InUse, Spent}
+use Rattle.exchange_core.specs.declared.connection.Connection.{Connection}
+use Rattle.exchange_core.specs.declared.connection.Connection.TheVariants.{Absent, Ready, InUse, Spent}
 use Rattle.exchange_core.specs.declared.place.Place.{Place}
 use Rattle.exchange_core.specs.declared.place.Place.TheVariants.{Idle, Head, Planning, Asking, InQueue, Preparing, Telling, AtGate, Moving, Answer, Refusing, Closing, Gone}
 use Rattle.exchange_core.specs.declared.course.Course.{Course}
@@ -17,7 +17,7 @@ use Rattle.exchange_core.proofs.Sound.{Sound, sound}
 use Rattle.exchange_core.specs.Log.{course_of, IsLegal, count, one_if, is_request_read}
 
 -- what is still ahead of a message until it is at the gate, by whether its service was asked and a connection is leased
-abbrev planning_left : (asked : Bool) → Line → ℕ
+abbrev planning_left : (asked : Bool) → Connection → ℕ
 planning_left true Spent = 6
 planning_left true Absent = 5
 planning_left true (Ready reused) = 2
@@ -27,7 +27,7 @@ planning_left false Absent = 11
 planning_left false (Ready reused) = 8
 planning_left false (InUse reused) = 8
 
-abbrev asking_left : Line → ℕ
+abbrev asking_left : Connection → ℕ
 asking_left Absent = 10
 asking_left _ = 7
 
@@ -35,7 +35,7 @@ abbrev queue_left : (asked : Bool) → ℕ
 queue_left true = 3
 queue_left false = 9
 
-abbrev preparing_left : (offered asked : Bool) → Line → ℕ
+abbrev preparing_left : (offered asked : Bool) → Connection → ℕ
 preparing_left true true Absent = 4
 preparing_left true false Absent = 10
 preparing_left _ _ _ = 1
@@ -47,39 +47,39 @@ base Reqmod true = 20
 base Reqmod false = 32
 
 -- the places that are still ahead, counted down
-abbrev stage : Place → (asked told : Bool) → Line → ℕ
-stage Gone asked told line = 0
-stage Closing asked told line = 1
-stage (Refusing why) asked told line = 2
-stage Head asked told line = 3
-stage Idle asked told line = 4
-stage (Moving Respmod offered) asked told line = 5
-stage (AtGate Respmod offered) asked told line = 6
-stage Answer asked told line = 18
-stage (Moving Reqmod offered) asked told line = 19
-stage (AtGate Reqmod offered) asked told line = 20
-stage Telling asked told line = 32
-stage (Planning point) asked told line = base point told + planning_left asked line
-stage (Asking point) asked told line = base point told + asking_left line
-stage (InQueue point) asked told line = base point told + queue_left asked
-stage (Preparing point offered waits) asked told line = base point told + preparing_left offered asked line
+abbrev stage : Place → (asked told : Bool) → Connection → ℕ
+stage Gone asked told connection = 0
+stage Closing asked told connection = 1
+stage (Refusing why) asked told connection = 2
+stage Head asked told connection = 3
+stage Idle asked told connection = 4
+stage (Moving Respmod offered) asked told connection = 5
+stage (AtGate Respmod offered) asked told connection = 6
+stage Answer asked told connection = 18
+stage (Moving Reqmod offered) asked told connection = 19
+stage (AtGate Reqmod offered) asked told connection = 20
+stage Telling asked told connection = 32
+stage (Planning point) asked told connection = base point told + planning_left asked connection
+stage (Asking point) asked told connection = base point told + asking_left connection
+stage (InQueue point) asked told connection = base point told + queue_left asked
+stage (Preparing point offered waits) asked told connection = base point told + preparing_left offered asked connection
 
 -- what the service's connection has ahead where it goes back, and where it is asked
-abbrev going : Line → ℕ
+abbrev going : Connection → ℕ
 going Absent = 0
 going Spent = 1
 going (Ready reused) = 1 + one_if reused
 going (InUse reused) = 2 + one_if reused
 
-abbrev coming : Line → ℕ
+abbrev coming : Connection → ℕ
 coming Absent = 5
 coming Spent = 1
 coming (Ready reused) = 3 + one_if reused
 coming (InUse reused) = 1 + one_if reused
 
-abbrev line_left : Place → Line → ℕ
-line_left (Asking point) line = coming line
-line_left _ line = going line
+abbrev connection_left : Place → Connection → ℕ
+connection_left (Asking point) connection = coming connection
+connection_left _ connection = going connection
 
 -- what a reservation or an origin's connection has ahead
 abbrev held_left : Place → Bool → ℕ
@@ -87,18 +87,18 @@ held_left (Preparing point offered waits) held = one_if (not held)
 held_left _ held = one_if held
 
 abbrev aside : Course → ℕ
-aside c = line_left c.place c.line + (held_left c.place c.stake + (held_left c.place c.origin
+aside c = connection_left c.place c.connection + (held_left c.place c.stake + (held_left c.place c.origin
     + (one_if (not c.begun) + (one_if (not c.half_told) + (one_if (not c.draining) + one_if (not c.stopping))))))
 
 abbrev stage_of : Course → ℕ
-stage_of c = stage c.place c.asked c.told c.line
+stage_of c = stage c.place c.asked c.told c.connection
 
 abbrev left : Course → ℕ
 left c = 12 * stage_of c + aside c
 
 -- what is aside weighs less than a place
-line_small : (place : Place) (line : Line) → line_left place line ≤ 5
-line_small place line = grind (arith, nat_tests)
+connection_small : (place : Place) (connection : Connection) → connection_left place connection ≤ 5
+connection_small place connection = grind (arith, nat_tests)
 
 held_small : (place : Place) (held : Bool) → held_left place held ≤ 1
 held_small place held = grind (arith, nat_tests)
@@ -108,7 +108,7 @@ one_small b = grind (arith, nat_tests)
 
 aside_small : (c : Course) → aside c ≤ 11
 aside_small c =
-    omega (arith, line_small c.place c.line, held_small c.place c.stake, held_small c.place c.origin, one_small (not c.begun), one_small (not c.half_told), one_small (not c.draining), one_small (not c.stopping))
+    omega (arith, connection_small c.place c.connection, held_small c.place c.stake, held_small c.place c.origin, one_small (not c.begun), one_small (not c.half_told), one_small (not c.draining), one_small (not c.stopping))
 
 -- an event that leads to a later place
 further : (c d : Course) → 1 + stage_of d ≤ stage_of c → 1 + left d ≤ left c
@@ -150,7 +150,7 @@ let_pass_stage c m = grind (arith, nat_tests)
 failed_stage : (c : Course) (why : Why) → may_come c (Failed why) ≡ true → 1 + stage_of (after c (Failed why)) ≤ stage_of c
 failed_stage c why m = grind (arith, nat_tests)
 
-late_at : (place : Place) (c : Course) → may_wait place ≡ true → 1 + stage (late_from place c) c.asked c.told c.line ≤ stage place c.asked c.told c.line
+late_at : (place : Place) (c : Course) → may_wait place ≡ true → 1 + stage (late_from place c) c.asked c.told c.connection ≤ stage place c.asked c.told c.connection
 late_at Idle c w = grind (arith, nat_tests)
 late_at Head c w = grind (arith, nat_tests)
 late_at (Planning point) c w = grind (arith, nat_tests)
@@ -172,22 +172,22 @@ late_stage : (c : Course) → may_come c Late ≡ true → 1 + stage_of (after c
 late_stage c m = late_at c.place c (late_waits c m)
 
 -- a fresh connection leaves all but the connection
-renewed_level : (place : Place) (asked told : Bool) (line : Line) → stage place asked told (renewed line) ≤ stage place asked told line
+renewed_level : (place : Place) (asked told : Bool) (connection : Connection) → stage place asked told (renewed connection) ≤ stage place asked told connection
 renewed_level place asked told Absent = omega arith
 renewed_level place asked told (Ready reused) = omega arith
 renewed_level place asked told (InUse reused) = grind (arith, nat_tests)
 renewed_level place asked told Spent = omega arith
 
-renewed_line : (place : Place) (line : Line) → is_in_use line ≡ true → is_reused line ≡ true → 1 + line_left place (renewed line) ≤ line_left place line
-renewed_line place line u r = grind (arith, nat_tests)
+renewed_connection : (place : Place) (connection : Connection) → is_in_use connection ≡ true → is_reused connection ≡ true → 1 + connection_left place (renewed connection) ≤ connection_left place connection
+renewed_connection place connection u r = grind (arith, nat_tests)
 
-renewed_at : (c : Course) → may_come c Renewed ≡ true → (is_in_use c.line ≡ true) × (is_reused c.line ≡ true)
+renewed_at : (c : Course) → may_come c Renewed ≡ true → (is_in_use c.connection ≡ true) × (is_reused c.connection ≡ true)
 renewed_at c m = grind (arith, nat_tests)
 
 renewed_left : (c : Course) → may_come c Renewed ≡ true → 1 + left (after c Renewed) ≤ left c
 renewed_left c m =
     let h = renewed_at c m in
-    omega (arith, renewed_level c.place c.asked c.told c.line, renewed_line c.place c.line h.0 h.1)
+    omega (arith, renewed_level c.place c.asked c.told c.connection, renewed_connection c.place c.connection h.0 h.1)
 
 left_step : (c : Course) (event : Event) → Sound c → may_come c event ≡ true → 1 + left (after c event) ≤ left c + 600 * one_if (is_request_read event)
 left_step c HeadBegun s m = grind (arith, nat_tests)

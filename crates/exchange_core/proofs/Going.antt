@@ -33,7 +33,7 @@ outcome Tell c = happens.Told
 outcome Start c = happens.Started
 outcome AskGate c = happens.LetPass
 outcome Turn c =
-    if is_in_use c.line then happens.Served true
+    if is_in_use c.connection then happens.Served true
     else (if c.begun then happens.Answered false
     else (if is_request (point_of c.place) then happens.Sent else happens.Begun))
 outcome ReadResponse c = happens.ResponseRead

@@ -2,13 +2,13 @@
 use Rattle.std.proofs.Common.{◌≡◌, Bool, true, not, ◌&&◌, ◌||◌, List, [], ◌∷◌, refl, ◌∙◌, ap, arith}
 use Rattle.std.proofs.lemmas.Bool.Decides.{nat_tests}
 use Rattle.exchange_core.specs.declared.event.Event.{Event}
-use Rattle.exchange_core.specs.declared.line.Line.{Line}
-use Rattle.exchange_core.specs.Course.{is_leased, line_after, stake_after, origin_after, asked_after, told_after, half_told_after, begun_after, closes_after, draining_after, stopping_after}
+use Rattle.exchange_core.specs.declared.connection.Connection.{Connection}
+use Rattle.exchange_core.specs.Course.{is_leased, connection_after, stake_after, origin_after, asked_after, told_after, half_told_after, begun_after, closes_after, draining_after, stopping_after}
 use Rattle.exchange_core.specs.Log.{course_of, stands, is_lent, is_returned, is_reserved, is_released, is_dialed, is_hung_up, is_learned, is_message_read, is_told, is_request_read, is_half_told, is_begun, is_answered, is_drain, is_stop, never, has_begun, is_half_out, is_last_answer}
 
 -- one event's step of each
-line_at : (line : Line) (event : Event) → is_leased (line_after line event) ≡ (is_lent event || (not (is_returned event) && is_leased line))
-line_at line event = grind (arith, nat_tests)
+connection_at : (connection : Connection) (event : Event) → is_leased (connection_after connection event) ≡ (is_lent event || (not (is_returned event) && is_leased connection))
+connection_at connection event = grind (arith, nat_tests)
 
 stake_at : (b : Bool) (event : Event) → stake_after b event ≡ (is_reserved event || (not (is_released event) && b))
 stake_at b event = grind (arith, nat_tests)
@@ -34,10 +34,10 @@ draining_at b event = grind (arith, nat_tests)
 stopping_at : (b : Bool) (event : Event) → stopping_after b event ≡ (is_stop event || (true && b))
 stopping_at b event = grind (arith, nat_tests)
 
-pub line_stands : (events : List Event) → is_leased (course_of events).line ≡ stands is_lent is_returned events
-line_stands [] = refl
-line_stands (event ∷ before) =
-    line_at (course_of before).line event ∙ ap (λ b. is_lent event || (not (is_returned event) && b)) (line_stands before)
+pub connection_stands : (events : List Event) → is_leased (course_of events).connection ≡ stands is_lent is_returned events
+connection_stands [] = refl
+connection_stands (event ∷ before) =
+    connection_at (course_of before).connection event ∙ ap (λ b. is_lent event || (not (is_returned event) && b)) (connection_stands before)
 
 pub stake_stands : (events : List Event) → (course_of events).stake ≡ stands is_reserved is_released events
 stake_stands [] = refl

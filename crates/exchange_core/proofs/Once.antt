@@ -28,7 +28,7 @@ told_once events l = omega (arith, told_room events l)
 -- a message is to be planned for which its service wasn't asked
 abbrev may_ask : Course → Bool
 may_ask c = not c.asked
-    && (is_planning c.place || (is_preparing c.place || (is_telling c.place || (is_in_queue c.place || (is_asking c.place && not (is_in_use c.line))))))
+    && (is_planning c.place || (is_preparing c.place || (is_telling c.place || (is_in_queue c.place || (is_asking c.place && not (is_in_use c.connection))))))
 
 asked_step : (c : Course) (event : Event) → Sound c → may_come c event ≡ true
     → one_if (is_asked event) + one_if (may_ask (after c event)) ≤ one_if (is_message_read event) + one_if (may_ask c)

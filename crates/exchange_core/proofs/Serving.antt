@@ -10,30 +10,30 @@ use Rattle.exchange_core.specs.Log.{course_of, IsLegal, has_served, usable_after
 
 -- at the gate the connection is ready; after it either the service still has to say something, or it has said all
 pub record Serves (c : Course) (served : Bool) : Type 0 where
-  pub gate : is_at_gate c.place ≡ true → is_offered c.place ≡ true → is_ready c.line ≡ true
-  pub rest : is_moving c.place ≡ true → is_leased c.line ≡ true → is_in_use c.line ≡ false → served ≡ true
-  pub quiet : is_moving c.place ≡ true → is_offered c.place ≡ true → is_in_use c.line ≡ false → served ≡ true
-  pub plain : is_moving c.place ≡ true → is_offered c.place ≡ false → is_leased c.line ≡ false
-  pub plain_gate : is_at_gate c.place ≡ true → is_offered c.place ≡ false → is_leased c.line ≡ false
+  pub gate : is_at_gate c.place ≡ true → is_offered c.place ≡ true → is_ready c.connection ≡ true
+  pub rest : is_moving c.place ≡ true → is_leased c.connection ≡ true → is_in_use c.connection ≡ false → served ≡ true
+  pub quiet : is_moving c.place ≡ true → is_offered c.place ≡ true → is_in_use c.connection ≡ false → served ≡ true
+  pub plain : is_moving c.place ≡ true → is_offered c.place ≡ false → is_leased c.connection ≡ false
+  pub plain_gate : is_at_gate c.place ≡ true → is_offered c.place ≡ false → is_leased c.connection ≡ false
 
 gate_step : (c : Course) (before : List Event) (event : Event) → Serves c (has_served before) → may_come c event ≡ true
-    → is_at_gate (after c event).place ≡ true → is_offered (after c event).place ≡ true → is_ready (after c event).line ≡ true
+    → is_at_gate (after c event).place ≡ true → is_offered (after c event).place ≡ true → is_ready (after c event).connection ≡ true
 gate_step c before event s m = grind (arith, nat_tests)
 
 rest_step : (c : Course) (before : List Event) (event : Event) → Serves c (has_served before) → may_come c event ≡ true
-    → is_moving (after c event).place ≡ true → is_leased (after c event).line ≡ true → is_in_use (after c event).line ≡ false → has_served (event ∷ before) ≡ true
+    → is_moving (after c event).place ≡ true → is_leased (after c event).connection ≡ true → is_in_use (after c event).connection ≡ false → has_served (event ∷ before) ≡ true
 rest_step c before event s m = grind (arith, nat_tests)
 
 quiet_step : (c : Course) (before : List Event) (event : Event) → Serves c (has_served before) → may_come c event ≡ true
-    → is_moving (after c event).place ≡ true → is_offered (after c event).place ≡ true → is_in_use (after c event).line ≡ false → has_served (event ∷ before) ≡ true
+    → is_moving (after c event).place ≡ true → is_offered (after c event).place ≡ true → is_in_use (after c event).connection ≡ false → has_served (event ∷ before) ≡ true
 quiet_step c before event s m = grind (arith, nat_tests)
 
 plain_step : (c : Course) (before : List Event) (event : Event) → Serves c (has_served before) → may_come c event ≡ true
-    → is_moving (after c event).place ≡ true → is_offered (after c event).place ≡ false → is_leased (after c event).line ≡ false
+    → is_moving (after c event).place ≡ true → is_offered (after c event).place ≡ false → is_leased (after c event).connection ≡ false
 plain_step c before event s m = grind (arith, nat_tests)
 
 plain_gate_step : (c : Course) (before : List Event) (event : Event) → Serves c (has_served before) → may_come c event ≡ true
-    → is_at_gate (after c event).place ≡ true → is_offered (after c event).place ≡ false → is_leased (after c event).line ≡ false
+    → is_at_gate (after c event).place ≡ true → is_offered (after c event).place ≡ false → is_leased (after c event).connection ≡ false
 plain_gate_step c before event s m = grind (arith, nat_tests)
 
 pub serves : (events : List Event) → IsLegal events → Serves (course_of events) (has_served events)
@@ -61,15 +61,15 @@ pub returned_once_served : (events : List Event) (kept : Bool) → IsLegal (Retu
     → is_moving (course_of events).place ≡ true → has_served events ≡ true
 returned_once_served events kept l v = returned_at (course_of events) (has_served events) kept (serves events l.1) l.0 v
 
-pub kept_if_ready : (c : Course) → may_come c (Returned true) ≡ true → is_ready c.line ≡ true
+pub kept_if_ready : (c : Course) → may_come c (Returned true) ≡ true → is_ready c.connection ≡ true
 kept_if_ready c m = grind (arith, nat_tests)
 
 -- a connection that may serve again was said to be one
-usable_step : (c : Course) (usable : Bool) (event : Event) → may_come c event ≡ true → (is_ready c.line ≡ true → usable ≡ true)
-    → is_ready (after c event).line ≡ true → usable_after usable event ≡ true
+usable_step : (c : Course) (usable : Bool) (event : Event) → may_come c event ≡ true → (is_ready c.connection ≡ true → usable ≡ true)
+    → is_ready (after c event).connection ≡ true → usable_after usable event ≡ true
 usable_step c usable event m u r = grind (arith, nat_tests)
 
-usable_at : (events : List Event) → IsLegal events → is_ready (course_of events).line ≡ true → is_usable events ≡ true
+usable_at : (events : List Event) → IsLegal events → is_ready (course_of events).connection ≡ true → is_usable events ≡ true
 usable_at [] l r = grind (arith, nat_tests)
 usable_at (event ∷ before) l r = usable_step (course_of before) (is_usable before) event l.0 (usable_at before l.1) r
 

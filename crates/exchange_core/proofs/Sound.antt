@@ -11,9 +11,9 @@ pub record Sound (c : Course) : Type 0 where
   -- a byte of an answer is out only while the answer goes on, or after the end
   pub begun : c.begun ≡ true → (is_moving c.place || is_silent c.place) ≡ true
   -- a request to the service is under way where one is asked or offered something, or after a failure
-  pub talks : is_in_use c.line ≡ true → (is_asking c.place || (is_moving c.place || is_leaving c.place)) ≡ true
+  pub talks : is_in_use c.connection ≡ true → (is_asking c.place || (is_moving c.place || is_leaving c.place)) ≡ true
   -- a connection that may not serve again isn't used
-  pub spends : is_spent c.line ≡ true → (is_asking c.place || (is_in_queue c.place || (is_preparing c.place || is_at_gate c.place))) ≡ false
+  pub spends : is_spent c.connection ≡ true → (is_asking c.place || (is_in_queue c.place || (is_preparing c.place || is_at_gate c.place))) ≡ false
   -- the origin is there
   pub responds : is_request (point_of c.place) ≡ false → c.origin ≡ true
   pub moves : (is_at_gate c.place || (is_moving c.place || is_answer c.place)) ≡ true → c.origin ≡ true
@@ -39,11 +39,11 @@ begun_step : (c : Course) (event : Event) → Sound c → may_come c event ≡ t
 begun_step c event s m = grind (arith, nat_tests)
 
 talks_step : (c : Course) (event : Event) → Sound c → may_come c event ≡ true
-    → is_in_use (after c event).line ≡ true → (is_asking (after c event).place || (is_moving (after c event).place || is_leaving (after c event).place)) ≡ true
+    → is_in_use (after c event).connection ≡ true → (is_asking (after c event).place || (is_moving (after c event).place || is_leaving (after c event).place)) ≡ true
 talks_step c event s m = grind (arith, nat_tests)
 
 spends_step : (c : Course) (event : Event) → Sound c → may_come c event ≡ true
-    → is_spent (after c event).line ≡ true
+    → is_spent (after c event).connection ≡ true
     → (is_asking (after c event).place || (is_in_queue (after c event).place || (is_preparing (after c event).place || is_at_gate (after c event).place))) ≡ false
 spends_step c event s m = grind (arith, nat_tests)
 

@@ -8,7 +8,7 @@ use Rattle.exchange_core.specs.Course.{after, is_leased}
 use Rattle.exchange_core.specs.declared.place.Place.{Place}
 use Rattle.exchange_core.specs.May.{may_come, is_idle, is_head, is_answer}
 use Rattle.exchange_core.specs.Log.{course_of, IsLegal, count, one_if, is_request_read, is_answered, is_keeping, is_pending, is_kept_open, is_leaving, has_request, stands, is_lent, is_returned, is_reserved, is_released, is_dialed, is_hung_up}
-use Rattle.exchange_core.proofs.Marks.{line_stands, stake_stands, origin_stands}
+use Rattle.exchange_core.proofs.Marks.{connection_stands, stake_stands, origin_stands}
 
 -- no request is under way yet
 abbrev pub is_before_request : Place → Bool
@@ -77,11 +77,11 @@ at_answer c m = grind (arith, nat_tests)
 pub response_after_request : (events : List Event) → IsLegal (ResponseRead ∷ events) → has_request events ≡ true
 response_after_request events l = sent_at_answer events l.1 (at_answer (course_of events) l.0)
 
-free_at : (c : Course) → may_come c RequestRead ≡ true → (is_leased c.line ≡ false) × (c.stake ≡ false) × (c.origin ≡ false)
+free_at : (c : Course) → may_come c RequestRead ≡ true → (is_leased c.connection ≡ false) × (c.stake ≡ false) × (c.origin ≡ false)
 free_at c m = grind (arith, nat_tests)
 
 pub next_is_free : (events : List Event) → IsLegal (RequestRead ∷ events)
     → (stands is_lent is_returned events ≡ false) × (stands is_reserved is_released events ≡ false) × (stands is_dialed is_hung_up events ≡ false)
 next_is_free events l =
     let h = free_at (course_of events) l.0 in
-    (sym (line_stands events) ∙ h.0, sym (stake_stands events) ∙ h.1, sym (origin_stands events) ∙ h.2)
+    (sym (connection_stands events) ∙ h.0, sym (stake_stands events) ∙ h.1, sym (origin_stands events) ∙ h.2)

@@ -6,60 +6,60 @@ use Rattle.exchange_core.specs.declared.event.Why.{Why}
 use Rattle.exchange_core.specs.declared.event.Why.TheVariants as whys
 use Rattle.exchange_core.specs.declared.event.Event.{Event}
 use Rattle.exchange_core.specs.declared.event.Event.TheVariants.{HeadBegun, RequestRead, ResponseRead, Stale, Queued, Lent, Asked, Learned, Planned, Reserved, HalfTold, Stuck, Told, Dialed, Started, LetPass, Renewed, Served, Begun, Sent, Answered, Failed, Returned, Released, HungUp, Refused, UserClosed, UserLost, Dropped, Late, Drain, Stop, Tried}
-use Rattle.exchange_core.specs.declared.line.Line.{Line}
-use Rattle.exchange_core.specs.declared.line.Line.TheVariants.{Absent, Ready, InUse, Spent}
+use Rattle.exchange_core.specs.declared.connection.Connection.{Connection}
+use Rattle.exchange_core.specs.declared.connection.Connection.TheVariants.{Absent, Ready, InUse, Spent}
 use Rattle.exchange_core.specs.declared.place.Place.{Place}
 use Rattle.exchange_core.specs.declared.place.Place.TheVariants.{Idle, Head, Planning, Asking, InQueue, Preparing, Telling, AtGate, Moving, Answer, Refusing, Closing, Gone}
 use Rattle.exchange_core.specs.declared.course.Course.{Course}
 
 -- The service's connection.
 
-abbrev pub is_leased : Line → Bool
+abbrev pub is_leased : Connection → Bool
 is_leased Absent = false
 is_leased _ = true
 
-abbrev pub is_ready : Line → Bool
+abbrev pub is_ready : Connection → Bool
 is_ready (Ready reused) = true
 is_ready _ = false
 
-abbrev pub is_in_use : Line → Bool
+abbrev pub is_in_use : Connection → Bool
 is_in_use (InUse reused) = true
 is_in_use _ = false
 
-abbrev pub is_spent : Line → Bool
+abbrev pub is_spent : Connection → Bool
 is_spent Spent = true
 is_spent _ = false
 
-abbrev pub is_reused : Line → Bool
+abbrev pub is_reused : Connection → Bool
 is_reused (Ready reused) = reused
 is_reused (InUse reused) = reused
 is_reused _ = false
 
 -- a request goes out on it
-abbrev pub in_use : Line → Line
+abbrev pub in_use : Connection → Connection
 in_use (Ready reused) = InUse reused
-in_use line = line
+in_use connection = connection
 
 -- the service has said all on it, and it may serve again or not
-abbrev pub said : Line → (usable : Bool) → Line
+abbrev pub said : Connection → (usable : Bool) → Connection
 said (InUse reused) usable = if usable then Ready reused else Spent
-said line usable = line
+said connection usable = connection
 
 -- a fresh one stands in its place
-abbrev pub renewed : Line → Line
+abbrev pub renewed : Connection → Connection
 renewed (InUse reused) = InUse false
-renewed line = line
+renewed connection = connection
 
 -- what an event makes of it
-abbrev pub line_after : Line → Event → Line
-line_after line (Lent reused) = Ready reused
-line_after line (Returned kept) = Absent
-line_after line Asked = in_use line
-line_after line LetPass = in_use line
-line_after line (Learned usable) = said line usable
-line_after line (Served usable) = said line usable
-line_after line Renewed = renewed line
-line_after line _ = line
+abbrev pub connection_after : Connection → Event → Connection
+connection_after connection (Lent reused) = Ready reused
+connection_after connection (Returned kept) = Absent
+connection_after connection Asked = in_use connection
+connection_after connection LetPass = in_use connection
+connection_after connection (Learned usable) = said connection usable
+connection_after connection (Served usable) = said connection usable
+connection_after connection Renewed = renewed connection
+connection_after connection _ = connection
 
 -- The other marks.
 
@@ -210,7 +210,7 @@ place_after c _ = c.place
 abbrev pub after : Course → Event → Course
 after c event = record {
   place = place_after c event;
-  line = line_after c.line event;
+  connection = connection_after c.connection event;
   stake = stake_after c.stake event;
   origin = origin_after c.origin event;
   asked = asked_after c.asked event;
@@ -226,7 +226,7 @@ after c event = record {
 abbrev pub start : Course
 start = record {
   place = Head;
-  line = Absent;
+  connection = Absent;
   stake = false;
   origin = false;
   asked = false;

@@ -7,8 +7,8 @@ use Rattle.exchange_core.specs.declared.event.Event.{Event}
 use Rattle.exchange_core.specs.declared.event.Event.TheVariants as happens
 use Rattle.exchange_core.specs.declared.due.Due.{Due}
 use Rattle.exchange_core.specs.declared.due.Due.TheVariants.{ReadRequest, Plan, Lend, Await, Ask, Hear, Reserve, TryTell, Tell, Dial, Start, AskGate, Turn, ReadResponse, GiveBack, Release, HangUp, Refuse, TryRefusal, Linger, Nothing}
-use Rattle.exchange_core.specs.declared.line.Line.{Line}
-use Rattle.exchange_core.specs.declared.line.Line.TheVariants.{Absent, Ready, InUse, Spent}
+use Rattle.exchange_core.specs.declared.connection.Connection.{Connection}
+use Rattle.exchange_core.specs.declared.connection.Connection.TheVariants.{Absent, Ready, InUse, Spent}
 use Rattle.exchange_core.specs.declared.place.Place.{Place}
 use Rattle.exchange_core.specs.declared.place.Place.TheVariants.{Idle, Head, Planning, Asking, InQueue, Preparing, Telling, AtGate, Moving, Answer, Refusing, Closing, Gone}
 use Rattle.exchange_core.specs.declared.course.Course.{Course}
@@ -27,20 +27,20 @@ status_of whys.Stopping = 503
 -- what is held goes back before anything else is done
 abbrev pub freed_first : Course → Due → Due
 freed_first c due =
-    if is_leased c.line then GiveBack else (if c.stake then Release else (if c.origin then HangUp else due))
+    if is_leased c.connection then GiveBack else (if c.stake then Release else (if c.origin then HangUp else due))
 
 -- of a message that is being gathered: a connection for the offer and none else, a reservation, the user's leave, and the origin
 abbrev pub gathers : Course → Point → (offered waits : Bool) → Due
 gathers c point offered waits =
-    if offered && not (is_leased c.line) then Lend
-    else (if not offered && is_leased c.line then GiveBack
+    if offered && not (is_leased c.connection) then Lend
+    else (if not offered && is_leased c.connection then GiveBack
     else (if not c.stake then Reserve
     else (if waits && not c.told then TryTell
     else (if is_request point && not c.origin then Dial
     else Start))))
 
 -- of a question for options
-abbrev pub asks : Line → Due
+abbrev pub asks : Connection → Due
 asks Absent = Lend
 asks (Ready reused) = Ask
 asks (InUse reused) = Hear
@@ -50,15 +50,15 @@ abbrev pub due_at : Place → Course → Due
 due_at Idle c = freed_first c ReadRequest
 due_at Head c = freed_first c ReadRequest
 -- a connection that may not serve again goes back at once
-due_at (Planning point) c = if is_spent c.line then GiveBack else Plan
-due_at (Asking point) c = asks c.line
+due_at (Planning point) c = if is_spent c.connection then GiveBack else Plan
+due_at (Asking point) c = asks c.connection
 due_at (InQueue point) c = Await
 due_at (Preparing point offered waits) c = gathers c point offered waits
 due_at Telling c = freed_first c Tell
 due_at (AtGate point offered) c = AskGate
 -- a service that has said all is let go in the midst of the message
-due_at (Moving point offered) c = if is_leased c.line && not (is_in_use c.line) then GiveBack else Turn
-due_at Answer c = if is_leased c.line then GiveBack else (if c.stake then Release else ReadResponse)
+due_at (Moving point offered) c = if is_leased c.connection && not (is_in_use c.connection) then GiveBack else Turn
+due_at Answer c = if is_leased c.connection then GiveBack else (if c.stake then Release else ReadResponse)
 due_at (Refusing why) c = if c.stopping then TryRefusal (status_of why) else freed_first c (Refuse (status_of why))
 due_at Closing c = freed_first c Linger
 due_at Gone c = freed_first c Nothing
@@ -111,11 +111,11 @@ fits c happens.Stale = not c.asked
 fits c happens.Queued = is_free c && (not (is_request (point_of c.place)) || not c.origin)
 fits c (happens.Planned offered waits) = not waits || (is_request (point_of c.place) && not c.told)
 fits c happens.HalfTold = not c.half_told
-fits c (happens.Served usable) = is_in_use c.line
+fits c (happens.Served usable) = is_in_use c.connection
 fits c happens.Begun = not c.begun && (not (is_request (point_of c.place)) || is_offered c.place)
-fits c happens.Sent = is_request (point_of c.place) && (not c.begun && not (is_in_use c.line))
-fits c (happens.Answered keeps) = c.begun && not (is_in_use c.line)
-fits c (happens.Returned kept) = not kept || is_ready c.line
+fits c happens.Sent = is_request (point_of c.place) && (not c.begun && not (is_in_use c.connection))
+fits c (happens.Answered keeps) = c.begun && not (is_in_use c.connection)
+fits c (happens.Returned kept) = not kept || is_ready c.connection
 fits c _ = true
 
 -- doing it may have to wait for somebody else

@@ -220,7 +220,7 @@ deadlines_from _ = 1
 
 -- how much is held
 abbrev pub held_by : Course → ℕ
-held_by c = one_if (is_leased c.line) + (one_if c.stake + one_if c.origin)
+held_by c = one_if (is_leased c.connection) + (one_if c.stake + one_if c.origin)
 
 -- a message moves
 abbrev pub is_move : Event → Bool
@@ -280,7 +280,7 @@ total test (log ∷ logs) = count test log + total test logs
 -- the leases and the reservations that they hold
 abbrev pub leases_held : List (List Event) → ℕ
 leases_held [] = 0
-leases_held (log ∷ logs) = one_if (is_leased (course_of log).line) + leases_held logs
+leases_held (log ∷ logs) = one_if (is_leased (course_of log).connection) + leases_held logs
 
 abbrev pub stakes_held : List (List Event) → ℕ
 stakes_held [] = 0

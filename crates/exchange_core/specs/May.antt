@@ -73,27 +73,27 @@ waits_of _ = false
 
 -- no lease, no reservation
 abbrev pub is_free : Course → Bool
-is_free c = not (is_leased c.line) && not c.stake
+is_free c = not (is_leased c.connection) && not c.stake
 
 -- nor a connection to the origin
 abbrev pub holds_nothing : Course → Bool
 holds_nothing c = is_free c && not c.origin
 
 -- one leased connection serves the question for options, or the offer
-abbrev pub wants_line : Place → Bool
-wants_line (Asking point) = true
-wants_line (Preparing point offered waits) = offered
-wants_line _ = false
+abbrev pub wants_connection : Place → Bool
+wants_connection (Asking point) = true
+wants_connection (Preparing point offered waits) = offered
+wants_connection _ = false
 
 -- A service's connection in use isn't given back: one that is asked, one that a plan or an offer waits for, and one on which the
 -- service still has to say something of a message that goes on.
-abbrev pub needs_line : Place → (in_use : Bool) → Bool
-needs_line (Planning point) in_use = true
-needs_line (Asking point) in_use = true
-needs_line (Preparing point offered waits) in_use = offered
-needs_line (AtGate point offered) in_use = true
-needs_line (Moving point offered) in_use = in_use
-needs_line _ in_use = false
+abbrev pub needs_connection : Place → (in_use : Bool) → Bool
+needs_connection (Planning point) in_use = true
+needs_connection (Asking point) in_use = true
+needs_connection (Preparing point offered waits) in_use = offered
+needs_connection (AtGate point offered) in_use = true
+needs_connection (Moving point offered) in_use = in_use
+needs_connection _ in_use = false
 
 -- a reservation stays open as long as its message goes on
 abbrev pub needs_stake : Place → Bool
@@ -112,7 +112,7 @@ needs_origin _ = true
 -- the connection that an offer wants is there, or none, and the reservation
 abbrev pub is_provided : Course → Bool
 is_provided c = is_preparing c.place
-    && ((if is_offered c.place then is_ready c.line else not (is_leased c.line)) && c.stake)
+    && ((if is_offered c.place then is_ready c.connection else not (is_leased c.connection)) && c.stake)
 
 -- its user doesn't wait, or was told
 abbrev pub is_bidden : Course → Bool
@@ -176,15 +176,15 @@ may_come c HeadBegun = is_idle c.place && holds_nothing c
 may_come c RequestRead = is_head c.place && holds_nothing c
 may_come c ResponseRead = is_answer c.place && is_free c
 -- options: learned at most once for a message, on a connection that is leased for it
-may_come c Stale = is_planning c.place && (not c.asked && not (is_spent c.line))
+may_come c Stale = is_planning c.place && (not c.asked && not (is_spent c.connection))
 -- who waits for a connection has no other one, but for the origin whose response waits
-may_come c Queued = wants_line c.place && (is_free c && (not (is_request (point_of c.place)) || not c.origin))
-may_come c (Lent reused) = (wants_line c.place || is_in_queue c.place) && not (is_leased c.line)
-may_come c Asked = is_asking c.place && is_ready c.line
-may_come c (Learned usable) = is_asking c.place && is_in_use c.line
+may_come c Queued = wants_connection c.place && (is_free c && (not (is_request (point_of c.place)) || not c.origin))
+may_come c (Lent reused) = (wants_connection c.place || is_in_queue c.place) && not (is_leased c.connection)
+may_come c Asked = is_asking c.place && is_ready c.connection
+may_come c (Learned usable) = is_asking c.place && is_in_use c.connection
 -- a response's user isn't told to send a body, nor one that was told before
 may_come c (Planned offered waits) = is_planning c.place
-    && (not (is_spent c.line) && (not waits || (is_request (point_of c.place) && not c.told)))
+    && (not (is_spent c.connection) && (not waits || (is_request (point_of c.place) && not c.told)))
 may_come c Reserved = is_preparing c.place && not c.stake
 may_come c HalfTold = may_tell c && not c.half_told
 may_come c Stuck = waits_of c.place && (is_provided c && not c.told)
@@ -194,16 +194,16 @@ may_come c Dialed = is_provided c && (is_bidden c && (is_request (point_of c.pla
 may_come c Started = is_provided c && (is_bidden c && c.origin)
 may_come c LetPass = is_at_gate c.place
 -- a connection that was idle before may have been closed meanwhile: a fresh one takes its place, once
-may_come c Renewed = is_in_use c.line && (is_reused c.line && (is_asking c.place || (is_moving c.place && not c.begun)))
-may_come c (Served usable) = is_moving c.place && is_in_use c.line
+may_come c Renewed = is_in_use c.connection && (is_reused c.connection && (is_asking c.place || (is_moving c.place && not c.begun)))
+may_come c (Served usable) = is_moving c.place && is_in_use c.connection
 -- an answer is the origin's, or that of the service which was offered the request
 may_come c Begun = is_moving c.place && (not c.begun && (not (is_request (point_of c.place)) || is_offered c.place))
-may_come c Sent = is_moving c.place && (is_request (point_of c.place) && (not c.begun && not (is_in_use c.line)))
-may_come c (Answered keeps) = is_moving c.place && (c.begun && not (is_in_use c.line))
+may_come c Sent = is_moving c.place && (is_request (point_of c.place) && (not c.begun && not (is_in_use c.connection)))
+may_come c (Answered keeps) = is_moving c.place && (c.begun && not (is_in_use c.connection))
 may_come c (Failed why) = may_fail c.place
 -- what is held goes back once nothing needs it; a connection is kept only where it may serve again
-may_come c (Returned kept) = is_leased c.line
-    && ((is_spent c.line || not (needs_line c.place (is_in_use c.line))) && (not kept || is_ready c.line))
+may_come c (Returned kept) = is_leased c.connection
+    && ((is_spent c.connection || not (needs_connection c.place (is_in_use c.connection))) && (not kept || is_ready c.connection))
 may_come c Released = c.stake && not (needs_stake c.place)
 may_come c HungUp = c.origin && not (needs_origin c.place)
 -- the user is waited for with nothing held

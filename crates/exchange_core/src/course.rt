@@ -2,8 +2,8 @@
 
 ghost use Rattle.std.specs.Prelude.{◌≡◌};
 
+use crate::connection::Connection;
 use crate::event::{Event, Why};
-use crate::line::Line;
 use crate::place::Place;
 use trace_core::Point;
 
@@ -12,7 +12,7 @@ use trace_core::Point;
 pub struct Course {
     pub place: Place,
     /// The service's connection.
-    pub line: Line,
+    pub connection: Connection,
     /// A reservation is open.
     pub stake: bool,
     /// The origin's connection is open.
@@ -42,7 +42,7 @@ impl Course {
     {
         Course {
             place: Place::Head,
-            line: Line::Absent,
+            connection: Connection::Absent,
             stake: false,
             origin: false,
             asked: false,
@@ -151,10 +151,10 @@ impl Course {
                 course.closes = false;
             }
             Event::ResponseRead => course.asked = false,
-            Event::Lent { reused } => course.line = Line::Ready { reused },
-            Event::Asked | Event::LetPass => course.line = self.line.in_use(),
+            Event::Lent { reused } => course.connection = Connection::Ready { reused },
+            Event::Asked | Event::LetPass => course.connection = self.connection.in_use(),
             Event::Learned { usable } => {
-                course.line = self.line.said(usable);
+                course.connection = self.connection.said(usable);
                 course.asked = true;
             }
             Event::Reserved => course.stake = true,
@@ -164,8 +164,8 @@ impl Course {
                 course.half_told = false;
             }
             Event::Dialed => course.origin = true,
-            Event::Renewed => course.line = self.line.renewed(),
-            Event::Served { usable } => course.line = self.line.said(usable),
+            Event::Renewed => course.connection = self.connection.renewed(),
+            Event::Served { usable } => course.connection = self.connection.said(usable),
             Event::Begun => {
                 course.begun = true;
                 course.closes = self.draining;
@@ -174,7 +174,7 @@ impl Course {
                 course.begun = false;
                 course.closes = false;
             }
-            Event::Returned { .. } => course.line = Line::Absent,
+            Event::Returned { .. } => course.connection = Connection::Absent,
             Event::Released => course.stake = false,
             Event::HungUp => course.origin = false,
             Event::Drain => course.draining = true,

@@ -3,8 +3,8 @@
 ghost use Rattle.std.specs.Prelude.{◌≡◌};
 ghost use Rattle.exchange_core.specs.Dues.{due_of, freed_first, gathers, asks, is_over, is_wait};
 
+use crate::connection::Connection;
 use crate::course::Course;
-use crate::line::Line;
 use crate::place::Place;
 use trace_core::Point;
 
@@ -86,7 +86,7 @@ impl Course {
     fn freed_first(self, due: Due) -> Due
         ensures { result ≡ freed_first self due }
     {
-        if self.line.is_leased() {
+        if self.connection.is_leased() {
             Due::GiveBack
         } else if self.stake {
             Due::Release
@@ -101,9 +101,9 @@ impl Course {
     fn gathers(self, point: Point, offered: bool, waits: bool) -> Due
         ensures { result ≡ gathers self point offered waits }
     {
-        if offered && !self.line.is_leased() {
+        if offered && !self.connection.is_leased() {
             Due::Lend
-        } else if !offered && self.line.is_leased() {
+        } else if !offered && self.connection.is_leased() {
             Due::GiveBack
         } else if !self.stake {
             Due::Reserve
@@ -118,13 +118,13 @@ impl Course {
 
     /// What a question for options lacks.
     fn asks(self) -> Due
-        ensures { result ≡ asks self.line }
+        ensures { result ≡ asks self.connection }
     {
-        match self.line {
-            Line::Absent => Due::Lend,
-            Line::Ready { .. } => Due::Ask,
-            Line::InUse { .. } => Due::Hear,
-            Line::Spent => Due::GiveBack,
+        match self.connection {
+            Connection::Absent => Due::Lend,
+            Connection::Ready { .. } => Due::Ask,
+            Connection::InUse { .. } => Due::Hear,
+            Connection::Spent => Due::GiveBack,
         }
     }
 
@@ -134,7 +134,7 @@ impl Course {
     {
         match self.place {
             Place::Idle | Place::Head => self.freed_first(Due::ReadRequest),
-            Place::Planning { .. } if self.line.is_spent() => Due::GiveBack,
+            Place::Planning { .. } if self.connection.is_spent() => Due::GiveBack,
             Place::Planning { .. } => Due::Plan,
             Place::Asking { .. } => self.asks(),
             Place::InQueue { .. } => Due::Await,
@@ -145,11 +145,11 @@ impl Course {
             } => self.gathers(point, offered, waits),
             Place::Telling => self.freed_first(Due::Tell),
             Place::AtGate { .. } => Due::AskGate,
-            Place::Moving { .. } if self.line.is_leased() && !self.line.is_in_use() => {
+            Place::Moving { .. } if self.connection.is_leased() && !self.connection.is_in_use() => {
                 Due::GiveBack
             }
             Place::Moving { .. } => Due::Turn,
-            Place::Answer if self.line.is_leased() => Due::GiveBack,
+            Place::Answer if self.connection.is_leased() => Due::GiveBack,
             Place::Answer if self.stake => Due::Release,
             Place::Answer => Due::ReadResponse,
             Place::Refusing { why } if self.stopping => Due::TryRefusal(why.status()),

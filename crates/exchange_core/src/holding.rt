@@ -16,10 +16,10 @@ use std::mem::replace;
 /// they are is the owner's; where they have no `Drop`, none of them is lost.
 pub struct Holding<L, S, O> {
     pub(crate) exchange: Exchange,
-    pub(crate) line: Option<L>,
+    pub(crate) connection: Option<L>,
     pub(crate) stake: Option<S>,
     pub(crate) origin: Option<O>,
-    pub ghost leased: { is_some line ≡ is_leased exchange.line },
+    pub ghost leased: { is_some connection ≡ is_leased exchange.connection },
     pub ghost reserved: { is_some stake ≡ exchange.stake },
     pub ghost dialed: { is_some origin ≡ exchange.origin },
 }
@@ -34,7 +34,7 @@ impl<L, S, O> Holding<L, S, O> {
     {
         Holding {
             exchange: Exchange::begin(),
-            line: None,
+            connection: None,
             stake: None,
             origin: None,
         }
@@ -59,20 +59,20 @@ impl<L, S, O> Holding<L, S, O> {
         requires may { may_come self.old.exchange event ≡ true }
         requires light { carries event ≡ false }
         ensures course { self.new.exchange ≡ after self.old.exchange event }
-        ensures kept { (self.new.line ≡ self.old.line) × (self.new.stake ≡ self.old.stake) × (self.new.origin ≡ self.old.origin) }
+        ensures kept { (self.new.connection ≡ self.old.connection) × (self.new.stake ≡ self.old.stake) × (self.new.origin ≡ self.old.origin) }
     {
         self.exchange.take(event);
     }
 
     /// Takes in a leased connection.
-    pub fn lend(&mut self, line: L, reused: bool)
+    pub fn lend(&mut self, connection: L, reused: bool)
         requires { may_come self.old.exchange (Lent reused) ≡ true }
         ensures course { self.new.exchange ≡ after self.old.exchange (Lent reused) }
-        ensures line { self.new.line ≡ Some line }
+        ensures connection { self.new.connection ≡ Some connection }
         ensures kept { (self.new.stake ≡ self.old.stake) × (self.new.origin ≡ self.old.origin) }
     {
         self.exchange.take(Event::Lent { reused });
-        match replace(&mut self.line, Some(line)) {
+        match replace(&mut self.connection, Some(connection)) {
             None => {}
             Some(_) => unreachable!(),
         }
@@ -82,12 +82,12 @@ impl<L, S, O> Holding<L, S, O> {
     pub fn give_back(&mut self, kept: bool) -> L
         requires { may_come self.old.exchange (Returned kept) ≡ true }
         ensures course { self.new.exchange ≡ after self.old.exchange (Returned kept) }
-        ensures line { self.old.line ≡ Some result }
+        ensures connection { self.old.connection ≡ Some result }
         ensures kept { (self.new.stake ≡ self.old.stake) × (self.new.origin ≡ self.old.origin) }
     {
         self.exchange.take(Event::Returned { kept });
-        match replace(&mut self.line, None) {
-            Some(line) => line,
+        match replace(&mut self.connection, None) {
+            Some(connection) => connection,
             None => unreachable!(),
         }
     }
@@ -97,7 +97,7 @@ impl<L, S, O> Holding<L, S, O> {
         requires { may_come self.old.exchange Reserved ≡ true }
         ensures course { self.new.exchange ≡ after self.old.exchange Reserved }
         ensures stake { self.new.stake ≡ Some stake }
-        ensures kept { (self.new.line ≡ self.old.line) × (self.new.origin ≡ self.old.origin) }
+        ensures kept { (self.new.connection ≡ self.old.connection) × (self.new.origin ≡ self.old.origin) }
     {
         self.exchange.take(Event::Reserved);
         match replace(&mut self.stake, Some(stake)) {
@@ -111,7 +111,7 @@ impl<L, S, O> Holding<L, S, O> {
         requires { may_come self.old.exchange Released ≡ true }
         ensures course { self.new.exchange ≡ after self.old.exchange Released }
         ensures stake { self.old.stake ≡ Some result }
-        ensures kept { (self.new.line ≡ self.old.line) × (self.new.origin ≡ self.old.origin) }
+        ensures kept { (self.new.connection ≡ self.old.connection) × (self.new.origin ≡ self.old.origin) }
     {
         self.exchange.take(Event::Released);
         match replace(&mut self.stake, None) {
@@ -125,7 +125,7 @@ impl<L, S, O> Holding<L, S, O> {
         requires { may_come self.old.exchange Dialed ≡ true }
         ensures course { self.new.exchange ≡ after self.old.exchange Dialed }
         ensures origin { self.new.origin ≡ Some origin }
-        ensures kept { (self.new.line ≡ self.old.line) × (self.new.stake ≡ self.old.stake) }
+        ensures kept { (self.new.connection ≡ self.old.connection) × (self.new.stake ≡ self.old.stake) }
     {
         self.exchange.take(Event::Dialed);
         match replace(&mut self.origin, Some(origin)) {
@@ -139,7 +139,7 @@ impl<L, S, O> Holding<L, S, O> {
         requires { may_come self.old.exchange HungUp ≡ true }
         ensures course { self.new.exchange ≡ after self.old.exchange HungUp }
         ensures origin { self.old.origin ≡ Some result }
-        ensures kept { (self.new.line ≡ self.old.line) × (self.new.stake ≡ self.old.stake) }
+        ensures kept { (self.new.connection ≡ self.old.connection) × (self.new.stake ≡ self.old.stake) }
     {
         self.exchange.take(Event::HungUp);
         match replace(&mut self.origin, None) {
@@ -154,11 +154,11 @@ impl<L, S, O> Holding<L, S, O> {
     {
         let Holding {
             exchange: _,
-            line,
+            connection,
             stake,
             origin,
         } = self;
-        match (line, stake, origin) {
+        match (connection, stake, origin) {
             (None, None, None) => {}
             _ => unreachable!(),
         }

@@ -15,7 +15,7 @@ ghost use Rattle.exchange_core.specs.Log.{AreLegal, total, leases_held, stakes_h
 
 /// Each mark of a course is what the log says: an event that begins it stands, and none that ends it after that.
 pub fn marks_stand_in_the_log()
-    ensures line { (events : List Event) → is_leased (course_of events).line ≡ stands is_lent is_returned events }
+    ensures connection { (events : List Event) → is_leased (course_of events).connection ≡ stands is_lent is_returned events }
     ensures stake { (events : List Event) → (course_of events).stake ≡ stands is_reserved is_released events }
     ensures origin { (events : List Event) → (course_of events).origin ≡ stands is_dialed is_hung_up events }
     ensures asked { (events : List Event) → (course_of events).asked ≡ stands is_learned is_message_read events }
@@ -30,7 +30,7 @@ pub fn marks_stand_in_the_log()
 /// What was leased, reserved and opened has gone back, or is held: at most one of each.
 pub fn what_is_held_is_counted()
     ensures leases { (events : List Event) → IsLegal events
-        → count is_lent events ≡ count is_returned events + one_if (is_leased (course_of events).line) }
+        → count is_lent events ≡ count is_returned events + one_if (is_leased (course_of events).connection) }
     ensures stakes { (events : List Event) → IsLegal events
         → count is_reserved events ≡ count is_released events + one_if (course_of events).stake }
     ensures origins { (events : List Event) → IsLegal events
@@ -102,7 +102,7 @@ pub fn a_refusal_stands_alone()
 pub fn a_connection_in_use_stays()
     ensures served { (events : List Event) (kept : Bool) → IsLegal (Returned kept ∷ events)
         → is_moving (course_of events).place ≡ true → has_served events ≡ true }
-    ensures kept { (events : List Event) → IsLegal (Returned true ∷ events) → is_ready (course_of events).line ≡ true }
+    ensures kept { (events : List Event) → IsLegal (Returned true ∷ events) → is_ready (course_of events).connection ≡ true }
     ensures usable { (events : List Event) → IsLegal (Returned true ∷ events) → is_usable events ≡ true }
     ensures out { (events : List Event) (event : Event) → IsLegal (event ∷ events) → is_out event ≡ true
         → is_offered (course_of events).place ≡ true → has_served events ≡ true }
@@ -189,6 +189,6 @@ pub fn whole_exchanges_are_legal()
 /// So is one that ends with a lease and a reservation out, which the audit counts.
 pub fn a_stopped_exchange_is_audited()
     ensures legal { IsLegal stopped }
-    ensures lease { is_leased (course_of stopped).line ≡ true }
+    ensures lease { is_leased (course_of stopped).connection ≡ true }
     ensures stake { (course_of stopped).stake ≡ true }
 {}

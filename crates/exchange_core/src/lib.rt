@@ -4,20 +4,20 @@
 //! of events that is taken.
 #![tactic(auto)]
 
+mod connection;
 mod course;
 mod due;
 mod event;
 mod exchange;
 mod holding;
 pub mod laws;
-mod line;
 mod may;
 mod place;
 
+pub use connection::Connection;
 pub use course::Course;
 pub use due::Due;
 pub use event::{Event, Why};
 pub use exchange::Exchange;
 pub use holding::Holding;
-pub use line::Line;
 pub use place::Place;

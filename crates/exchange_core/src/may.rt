@@ -12,7 +12,7 @@ impl Course {
     pub fn is_free(self) -> bool
         ensures { result ≡ is_free self }
     {
-        !self.line.is_leased() && !self.stake
+        !self.connection.is_leased() && !self.stake
     }
 
     /// Nor a connection to the origin.
@@ -26,12 +26,12 @@ impl Course {
     fn is_provided(self) -> bool
         ensures { result ≡ is_provided self }
     {
-        let line = if self.place.is_offered() {
-            self.line.is_ready()
+        let connection = if self.place.is_offered() {
+            self.connection.is_ready()
         } else {
-            !self.line.is_leased()
+            !self.connection.is_leased()
         };
-        matches!(self.place, Place::Preparing { .. }) && line && self.stake
+        matches!(self.place, Place::Preparing { .. }) && connection && self.stake
     }
 
     /// Whether its user doesn't wait to be told to send its body, or was told.
@@ -55,25 +55,27 @@ impl Course {
         ensures { result ≡ may_come self event }
     {
         let place = self.place;
-        let line = self.line;
+        let connection = self.connection;
         match event {
             Event::HeadBegun => place == Place::Idle && self.holds_nothing(),
             Event::RequestRead => place == Place::Head && self.holds_nothing(),
             Event::ResponseRead => place == Place::Answer && self.is_free(),
             Event::Stale => {
-                matches!(place, Place::Planning { .. }) && !self.asked && !line.is_spent()
+                matches!(place, Place::Planning { .. }) && !self.asked && !connection.is_spent()
             }
             Event::Queued => {
-                place.wants_line() && self.is_free() && (!place.is_request() || !self.origin)
+                place.wants_connection() && self.is_free() && (!place.is_request() || !self.origin)
             }
             Event::Lent { .. } => {
-                (place.wants_line() || matches!(place, Place::InQueue { .. })) && !line.is_leased()
+                (place.wants_connection() || matches!(place, Place::InQueue { .. }))
+                    && !connection.is_leased()
             }
-            Event::Asked => matches!(place, Place::Asking { .. }) && line.is_ready(),
-            Event::Learned { .. } => matches!(place, Place::Asking { .. }) && line.is_in_use(),
+            Event::Asked => matches!(place, Place::Asking { .. }) && connection.is_ready(),
+            Event::Learned { .. } => matches!(place, Place::Asking { .. })
+                && connection.is_in_use(),
             Event::Planned { waits, .. } => {
                 matches!(place, Place::Planning { .. })
-                    && !line.is_spent()
+                    && !connection.is_spent()
                     && (!waits || (place.is_request() && !self.told))
             }
             Event::Reserved => matches!(place, Place::Preparing { .. }) && !self.stake,
@@ -94,25 +96,28 @@ impl Course {
         ensures { goes_on_with event ≡ true → result ≡ may_come self event }
     {
         let place = self.place;
-        let line = self.line;
+        let connection = self.connection;
         let is_moving = matches!(place, Place::Moving { .. });
         match event {
             Event::LetPass => matches!(place, Place::AtGate { .. }),
             Event::Renewed => {
-                line.is_in_use()
-                    && line.is_reused()
+                connection.is_in_use()
+                    && connection.is_reused()
                     && (matches!(place, Place::Asking { .. }) || (is_moving && !self.begun))
             }
-            Event::Served { .. } => is_moving && line.is_in_use(),
+            Event::Served { .. } => is_moving && connection.is_in_use(),
             Event::Begun => {
                 is_moving && !self.begun && (!place.is_request() || place.is_offered())
             }
-            Event::Sent => is_moving && place.is_request() && !self.begun && !line.is_in_use(),
-            Event::Answered { .. } => is_moving && self.begun && !line.is_in_use(),
+            Event::Sent => is_moving
+                && place.is_request()
+                && !self.begun
+                && !connection.is_in_use(),
+            Event::Answered { .. } => is_moving && self.begun && !connection.is_in_use(),
             Event::Returned { kept } => {
-                line.is_leased()
-                    && (line.is_spent() || !place.needs_line(line.is_in_use()))
-                    && (!kept || line.is_ready())
+                connection.is_leased()
+                    && (connection.is_spent() || !place.needs_connection(connection.is_in_use()))
+                    && (!kept || connection.is_ready())
             }
             Event::Released => self.stake && !place.needs_stake(),
             Event::HungUp => self.origin && !place.needs_origin(),

@@ -2,7 +2,7 @@
 
 ghost use Rattle.std.specs.Prelude.{◌≡◌};
 ghost use Rattle.exchange_core.specs.Course.{point_of, is_offered, lent_from, told_from};
-ghost use Rattle.exchange_core.specs.May.{is_request, waits_of, wants_line, needs_line, needs_stake, needs_origin, may_fail, may_wait, may_drop};
+ghost use Rattle.exchange_core.specs.May.{is_request, waits_of, wants_connection, needs_connection, needs_stake, needs_origin, may_fail, may_wait, may_drop};
 
 use crate::event::Why;
 use trace_core::Point;
@@ -105,8 +105,8 @@ impl Place {
     }
 
     /// Whether a connection is leased for what is under way.
-    pub(crate) fn wants_line(self) -> bool
-        ensures { result ≡ wants_line self }
+    pub(crate) fn wants_connection(self) -> bool
+        ensures { result ≡ wants_connection self }
     {
         match self {
             Place::Asking { .. } => true,
@@ -116,8 +116,8 @@ impl Place {
     }
 
     /// Whether the service's connection is needed, given whether a request is under way on it.
-    pub(crate) fn needs_line(self, in_use: bool) -> bool
-        ensures { result ≡ needs_line self in_use }
+    pub(crate) fn needs_connection(self, in_use: bool) -> bool
+        ensures { result ≡ needs_connection self in_use }
     {
         match self {
             Place::Planning { .. } | Place::Asking { .. } | Place::AtGate { .. } => true,

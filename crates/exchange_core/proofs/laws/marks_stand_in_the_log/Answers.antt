@@ -1,9 +1,9 @@
-use Rattle.exchange_core.proofs.Marks.{line_stands, stake_stands, origin_stands, asked_stands, told_stands, half_told_stands, begun_stands, closes_stands, draining_stands, stopping_stands}
+use Rattle.exchange_core.proofs.Marks.{connection_stands, stake_stands, origin_stands, asked_stands, told_stands, half_told_stands, begun_stands, closes_stands, draining_stands, stopping_stands}
 use Rattle.exchange_core.proofs.laws.marks_stand_in_the_log.Goals as goal
 
 pub returns : goal.returns
 returns c = record {
-  line = line_stands;
+  connection = connection_stands;
   stake = stake_stands;
   origin = origin_stands;
   asked = asked_stands;

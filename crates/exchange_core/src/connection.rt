@@ -5,7 +5,7 @@ ghost use Rattle.exchange_core.specs.Course.{is_leased, is_ready, is_in_use, is_
 
 /// The service's connection.
 #[derive(Clone, Copy, Debug, PartialEq, Eq)]
-pub enum Line {
+pub enum Connection {
     /// None is leased.
     Absent,
     /// One is leased, and nothing is under way on it. It may have been idle before.
@@ -17,33 +17,33 @@ pub enum Line {
     Spent,
 }
 
-impl Line {
+impl Connection {
     /// Whether a connection is leased.
     pub fn is_leased(self) -> bool
         ensures { result ≡ is_leased self }
     {
-        !matches!(self, Line::Absent)
+        !matches!(self, Connection::Absent)
     }
 
     /// Whether one is leased that may serve, with nothing under way on it.
     pub fn is_ready(self) -> bool
         ensures { result ≡ is_ready self }
     {
-        matches!(self, Line::Ready { .. })
+        matches!(self, Connection::Ready { .. })
     }
 
     /// Whether a request is under way.
     pub fn is_in_use(self) -> bool
         ensures { result ≡ is_in_use self }
     {
-        matches!(self, Line::InUse { .. })
+        matches!(self, Connection::InUse { .. })
     }
 
     /// Whether it may not serve again.
     pub fn is_spent(self) -> bool
         ensures { result ≡ is_spent self }
     {
-        matches!(self, Line::Spent)
+        matches!(self, Connection::Spent)
     }
 
     /// Whether it was idle before, so that its service may have closed it meanwhile.
@@ -51,39 +51,39 @@ impl Line {
         ensures { result ≡ is_reused self }
     {
         match self {
-            Line::Ready { reused } | Line::InUse { reused } => reused,
-            Line::Absent | Line::Spent => false,
+            Connection::Ready { reused } | Connection::InUse { reused } => reused,
+            Connection::Absent | Connection::Spent => false,
         }
     }
 
     /// With a request under way.
-    pub(crate) fn in_use(self) -> Line
+    pub(crate) fn in_use(self) -> Connection
         ensures { result ≡ in_use self }
     {
         match self {
-            Line::Ready { reused } => Line::InUse { reused },
-            line => line,
+            Connection::Ready { reused } => Connection::InUse { reused },
+            connection => connection,
         }
     }
 
     /// Once the service has said all.
-    pub(crate) fn said(self, usable: bool) -> Line
+    pub(crate) fn said(self, usable: bool) -> Connection
         ensures { result ≡ said self usable }
     {
         match self {
-            Line::InUse { reused } if usable => Line::Ready { reused },
-            Line::InUse { .. } => Line::Spent,
-            line => line,
+            Connection::InUse { reused } if usable => Connection::Ready { reused },
+            Connection::InUse { .. } => Connection::Spent,
+            connection => connection,
         }
     }
 
     /// A fresh one in its place.
-    pub(crate) fn renewed(self) -> Line
+    pub(crate) fn renewed(self) -> Connection
         ensures { result ≡ renewed self }
     {
         match self {
-            Line::InUse { .. } => Line::InUse { reused: false },
-            line => line,
+            Connection::InUse { .. } => Connection::InUse { reused: false },
+            connection => connection,
         }
     }
 }
