@@ -6,7 +6,7 @@ use Rattle.wire_kit.specs.Past.{Past}
 abbrev pub bytes_between : Past → Past → ℕ
 bytes_between p q = (length q.read - length p.read) + (length q.taken - length p.taken)
 
--- so many, whatever may have happened on it before and after
+-- this many, whatever may have happened on it before and after
 abbrev pub MovesOver : (before after : Past → Type 0) → ℕ → Type 0
 MovesOver before after n = (p q : Past) → before p → after q → bytes_between p q ≡ n
 

@@ -216,8 +216,8 @@ pub record Part {F : Type 0} (v : View F) (old new : Holding) (r : Report) (pass
   pub tells : Tells r passed
   pub sound : passed.failed ≡ None → passed.broken ≡ false → v.new_fault ≡ None
 
--- The source's wire gave this, of the body no more than there was room for; where it waits, all is framed that may be; and an end
--- that the framing tells isn't withheld.
+-- The source's wire gave this, of the body no more than there was room for; if it waits, all is framed that can be; and an end
+-- that the framing gives isn't withheld.
 pub record SourcePart {S H W : Type 0} (s : Source S H) (w : Wire W) (old new : Lent S W) (passed : Passed) : Type 0 where
   pub delta : Given
   pub out : List ℕ

@@ -46,10 +46,10 @@ pub trait Standing {
 
 /// What a call does to a transaction and its wires.
 pub trait Going {
-    // what stood before it stands behind it, with what its wires gave and took in it
+    // what stood before it stands after it, with what its wires gave and took in it
     ghost goes: { Self → Self → Type 0 };
 
-    // so many bytes went over its wires in it
+    // this many bytes went over its wires in it
     ghost moves: { Self → Self → ℕ → Type 0 };
 }
 

@@ -59,7 +59,7 @@ fn put_values(out: &mut Vec<u8>, config: &Config) -> Result<(), NoMemory> {
     put_service(out, &config.respmod)
 }
 
-/// Adds where a host is, with the port behind its name, if there is one.
+/// Adds where a host is, with the port after its name, if there is one.
 fn put_host(out: &mut Vec<u8>, hosts: &Hosts, asked: &[u8]) -> Result<(), NoMemory> {
     let (name, digits) = cut(asked, b" ");
     let port = match number(digits) {
@@ -83,7 +83,7 @@ fn put_hosts(out: &mut Vec<u8>, hosts: &Hosts, lines: &[u8]) -> Result<(), NoMem
     Ok(())
 }
 
-/// The text of a row, behind the two addresses where it isn't whole.
+/// The text of a row, after the two addresses if it isn't whole.
 fn text_of(alloc: Global, row: &Row<'_>) -> Result<Vec<u8>, NoMemory> {
     let mut text = Vec::new(alloc);
     let addresses = if row.has(b"whole") { b"" } else { ADDRESSES };

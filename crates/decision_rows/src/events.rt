@@ -3,7 +3,7 @@ use need_witness::{Script, Tape};
 use test_rows::{NoMemory, number, put_decimal, says};
 use trace_core::{Answer, Cause, Event, Kind, Payload, Plan, Point, State};
 
-/// What stands before this mark, all where there is none, and what stands behind it.
+/// What stands before this mark, or all if there is no mark, and what stands after it.
 pub fn cut<'a>(text: &'a [u8], mark: &[u8]) -> (&'a [u8], &'a [u8]) {
     for at in 0..text.len() {
         if let Some(rest) = text[at..].strip_prefix(mark) {
@@ -150,7 +150,7 @@ pub fn read_script(text: &[u8]) -> Script {
     script
 }
 
-/// The tape that a text begins with, and the number behind it.
+/// The tape that a text begins with, and the number after it.
 pub fn read_place(text: &[u8]) -> Option<(Tape, u64)> {
     let (word, digits) = cut(text, b" ");
     if says(word, b"original") {

@@ -36,7 +36,7 @@ pub fn put_number(out: &mut Vec<u8>, number: Option<u64>) -> Result<(), NoMemory
     }
 }
 
-/// Whether a record is fresh at a moment, and with the tag behind it, if there is one.
+/// Whether a record is fresh at a moment, and with the tag after it, if there is one.
 fn put_fresh(out: &mut Vec<u8>, record: &Record, text: &[u8]) -> Result<(), NoMemory> {
     let (digits, tag) = cut(text, b" with ");
     let now = number(digits).unwrap_or(0);

@@ -62,7 +62,7 @@ fn is_needed_so(state: &State, tape: Tape, place: u64, is_held: bool) -> bool {
     }
 }
 
-/// Whether this is so of each place up to one behind those that are held.
+/// Whether this is so of each place up to one after those that are held.
 fn are_needed_so(state: &State, tape: Tape, held: (u64, u64)) -> bool {
     for place in 0..=held.1 {
         let is_held = held.0 <= place && place < held.1;
@@ -127,7 +127,7 @@ impl Tally {
     }
 }
 
-/// Adds how many of so many random histories were as they should be, and whether they took several events each.
+/// Adds how many of some random histories were as they should be, and whether they took several events each.
 fn put_histories(out: &mut Vec<u8>, row: &Row<'_>) -> Result<(), NoMemory> {
     let mut random = Random::new(row.number(b"seed").unwrap_or(0));
     let count = row.number(b"count").unwrap_or(0);

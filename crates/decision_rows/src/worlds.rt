@@ -4,7 +4,7 @@ use std::alloc::Global;
 use test_rows::{NoMemory, Row, number, put_fault, put_line, put_number, says};
 use world_core::{World, WorldEvent, WorldFault};
 
-/// A number, and what stands behind the space after it.
+/// A number, and what follows the space after it.
 fn numbered(text: &[u8]) -> Option<(u64, &[u8])> {
     let (digits, rest) = cut(text, b" ");
     Some((number(digits)?, rest))

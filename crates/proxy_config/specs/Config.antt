@@ -67,7 +67,7 @@ pub record IsConfig (document : Members) (config : Config) : Type 0 where
   pub reqmod : IsServiceOf (codes "reqmod") document config.reqmod
   pub respmod : IsServiceOf (codes "respmod") document config.respmod
 
--- the first fault of keys that are judged one behind the other: this key's where it is bad, else one of the keys behind it
+-- the first fault of keys that are judged one after the other: this key's if it is bad, else one of the keys after it
 abbrev pub FirstOf : List ℕ → Type 0 → Type 0 → Type 0 → ConfigFault → Type 0
 FirstOf key good bad later fault = (bad × IsFaultAt key fault) ⊎ (good × later)
 

@@ -6,7 +6,7 @@ use crate::host_table::Hosts;
 use crate::point::ServicePoint;
 use std::net::SocketAddrV4;
 
-/// What `adaptproxy serve` is told.
+/// The configuration of `adaptproxy serve`.
 #[derive(Debug, Drop)]
 pub struct Config {
     /// Where users connect.

@@ -48,7 +48,7 @@ fn first_unknown<'a>(table: &'a Table, known: &[&str]) -> Option<&'a str> {
     None
 }
 
-/// The first unknown key of a point's table, behind the point's name and a dot.
+/// The first unknown key of a point's table, after the point's name and a dot.
 fn unknown_of_point(
     alloc: Global,
     table: &Table,

@@ -47,7 +47,7 @@ pub record Makes (last : Bool) (user : Option SourceSide) (source : SourceHead) 
   pub asked_is : request_of (user_head user source) ≡ Some asked
   pub makes : MakesOf source asked (carries_on_of last user x) adapted is_response x.has_body headed
 
--- and what is told of it: its text, how its body goes, and whether the user's connection ends behind it
+-- and what is remembered of it: its text, how its body goes, and whether the user's connection ends after it
 pub record Remembers (last : Bool) (user : Option SourceSide) (source : SourceHead) (x : Seen) (adapted : Option (List ℕ)) (is_response : Bool) (head : List ℕ) (framing : Framing) (ends : Bool) : Type 0 where
   pub headed : Headed
   pub makes : Makes last user source x adapted is_response headed
@@ -55,13 +55,13 @@ pub record Remembers (last : Bool) (user : Option SourceSide) (source : SourceHe
   pub framing_is : framing ≡ headed.framing
   pub ends_is : ends ≡ headed.closes
 
--- why none is made of the chosen message: memory ran out, no head was read, or the service sent none that may go on
+-- why no head is made of the chosen message: memory ran out, no head was read, or the service sent no head that may go on
 abbrev pub MakesNoneOf : SourceHead → RequestParts → Option (List ℕ) → Bool → Bool → Cause → Type 0
 MakesNoneOf source user None is_response has_body cause = (cause ≡ causes.Memory) ⊎ ((cause ≡ causes.Source) × (source ≡ heads.Unread))
 MakesNoneOf source user (Some text) true has_body cause = (cause ≡ causes.Memory) ⊎ ((cause ≡ causes.Service) × NoAdaptedResponse (is_head user) has_body text)
 MakesNoneOf source user (Some text) false has_body cause = (cause ≡ causes.Memory) ⊎ ((cause ≡ causes.Service) × NoAdaptedRequest text)
 
--- why no head is made: the user's wasn't read, or none of the chosen message
+-- why no head is made: that of the user or that of the chosen message wasn't read
 abbrev pub MakesNone : Option SourceSide → SourceHead → Seen → Option (List ℕ) → Bool → Cause → Type 0
 MakesNone user source x adapted is_response cause =
     ((cause ≡ causes.Source) × (request_of (user_head user source) ≡ None))

@@ -25,7 +25,7 @@ abbrev pub IsResponse : ResponseParts → Message → Type 0
 IsResponse parts (Request r) = ⊥
 IsResponse parts (Response r) = r.now ≡ parts
 
--- what a service sent is told by its Encapsulated list
+-- what a service sent is named by its Encapsulated list
 abbrev pub part_of : Bool → Part
 part_of has_body = if has_body then Body else NullBody
 
@@ -56,7 +56,7 @@ abbrev pub NoAdaptedResponse : Bool → Bool → List ℕ → Type 0
 NoAdaptedResponse to_head has_body text = (parts : ResponseParts) → IsAnswerOf to_head has_body text parts → ⊥
 
 -- The head of a message of this kind, for a user with this request, whose body was read to its end or not: its text, how its body
--- goes, and whether the user's connection ends behind it.
+-- goes, and whether the user's connection ends after it.
 pub record GoesOn (user : RequestParts) (body_read : Bool) (part : Part) (is_it : Message → Type 0) (headed : Headed) : Type 0 where
   pub forward : Forward
   pub user_is : forward.user.now ≡ user

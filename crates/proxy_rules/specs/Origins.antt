@@ -36,7 +36,7 @@ abbrev pub port_number : Option ℕ → Option ℕ
 port_number None = None
 port_number (Some n) = if nat_lt 0 n && nat_le n MAX_PORT then Some n else None
 
--- behind the host: nothing, or a colon and the port's digits, which may be none
+-- after the host: nothing, or a colon and the port's digits, if any
 abbrev pub port_in : List ℕ → Option ℕ
 port_in [] = None
 port_in (b ∷ digits) = port_number (length_value digits)

@@ -20,7 +20,7 @@ pub record AreLimits (config : Config) (limits : Limits) : Type 0 where
   pub window : limits.window ≡ config.window
   pub retry : limits.retry ≡ config.retry
 
--- the length that a framing tells, where it may be counted
+-- the length that a framing gives, if it can be counted
 abbrev pub known_length : Framing → Option ℕ
 known_length by.None = Some 0
 known_length (by.Length n) = if nat_lt n COUNT_LIMIT then Some n else None

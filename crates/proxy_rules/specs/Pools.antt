@@ -3,7 +3,7 @@ use Rattle.std.specs.Prelude.{ℕ, Bool, not, ◌&&◌, List, length, Option, So
 use Rattle.adapt_bytes.specs.Fields.{FieldList}
 use Rattle.icap_client.specs.Said.{says_close}
 
--- no raw byte is left over behind the answer, and it doesn't say that the connection closes
+-- no raw byte is left over after the answer, and it doesn't say that the connection closes
 abbrev pub is_reusable_after : List ℕ → FieldList → Bool
 is_reusable_after raw fields = (length raw == 0) && not (says_close fields)
 

@@ -18,14 +18,14 @@ use Rattle.icap_client.specs.Front.{Front as Sent, HasBody}
 use Rattle.http_relay.specs.Message.{IsFrontOfMessage, IsMessage, length_of, is_chunks}
 use Rattle.http_relay.specs.Giving.{Front, Waits}
 
--- nothing, or a front of one of the proxy's own refusals
+-- nothing, or a prefix of one of the proxy's own refusals
 abbrev pub TookNoMessage : List ℕ → Type 0
 TookNoMessage taken = (taken ≡ []) ⊎ ((status : ℕ) × IsPrefixOf taken (refusal status))
 
--- A front of one message with a head that was made: behind the head stands the text of just the bytes of this body that went out by
--- the history, no more than the head says. All of these were taken, and what of the text isn't yet is framing text behind them. So
--- it is a front of a message whose body begins with these; and as long as no more of the body came than the head says, of the whole
--- message, however that goes on.
+-- A prefix of one message with a head that was made: after the head stands the text of just the bytes of this body that went out by
+-- the history, no more than the head says. All of these were taken, and what of the text isn't yet is framing text after them. So
+-- it is a prefix of a message whose body begins with these; and as long as no more of the body came than the head says, of the
+-- whole message, however that goes on.
 -- A chunk is no larger than what came of the body and isn't out yet; the body's end is in the text only where the body is over, all of it
 -- is out, and it has the length that the head said.
 pub record TookFront (made : List ℕ → Type 0) (framing : Framing) (x : Seen) (body taken : List ℕ) : Type 0 where
@@ -48,8 +48,8 @@ pub record TookFront (made : List ℕ → Type 0) (framing : Framing) (x : Seen)
 abbrev pub TookOne : (made : List ℕ → Type 0) → Framing → Seen → List ℕ → List ℕ → Type 0
 TookOne made framing x body taken = (IsUndelivered x × TookNoMessage taken) ⊎ TookFront made framing x body taken
 
--- A front of one request with these heads: behind them stands the text of just the bytes of the original that went to the service by
--- the history. All of these were taken, and what of the text isn't yet is framing text behind them.
+-- A prefix of one request with these heads: after them stands the text of just the bytes of the original that went to the service by
+-- the history. All of these were taken, and what of the text isn't yet is framing text after them.
 pub record TookRequest (x : Seen) (head came taken : List ℕ) : Type 0 where
   pub chunks : List ℕ
   pub left : ℕ
@@ -71,11 +71,11 @@ pub record TookMessage (made : List ℕ → Type 0) (framing : Framing) (body ta
   pub made_is : made head
   pub message : IsMessage framing head body taken
 
--- Two bodies are there, of which the tapes have the ends: what the source's wire gave spells the original, and what the service's
--- gave spells the adapted one. The service's wire took a front of the request with these heads and the original; without a service
--- there is nothing of it. Of the wires to the next hop and back to the user one took a front of one message with a head that was made
--- and the chosen body, or of a refusal, and the other one nothing of a message. A refusal is the user's alone. Where Done stands, one
--- of them took the whole message.
+-- There are two bodies, of which the tapes have the ends: what the source's wire gave spells the original, and what the service's
+-- gave spells the adapted one. The service's wire took a prefix of the request with these heads and the original; without a service
+-- it took nothing. Of the wires to the next hop and back to the user one took a prefix of one message with a head that was made
+-- and the chosen body, or of a refusal, and the other one nothing of a message. A refusal is the user's alone. Once Done stands,
+-- one of them took the whole message.
 pub record WiresTook {Line : Type 0} (read : Seen → List ℕ → Given → Type 0) (heard : Seen → List ℕ → List ℕ → Type 0) (service : Option Line) (next_made back_made : List ℕ → Type 0) (next_framing back_framing : Framing) (h : Holding) (request : List ℕ) (t : Texts) : Type 0 where
   pub original : List ℕ
   pub adapted : List ℕ

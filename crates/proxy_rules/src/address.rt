@@ -38,7 +38,7 @@ fn number(digits: &[u8]) -> Option<u64>
     }
 }
 
-/// The port behind a host: a colon and digits, or nothing.
+/// The port after a host: a colon and digits, or nothing.
 fn port_in(text: &[u8]) -> Option<u16>
     ensures { result ≡ port_in text.now }
 {

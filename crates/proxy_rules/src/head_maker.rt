@@ -14,7 +14,7 @@ use http_side::{Framing, HttpRequest, Part};
 use std::alloc::Global;
 use trace_core::{Cause, State};
 
-/// Makes the heads of one transaction's message, and remembers whether the user's connection ends behind it.
+/// Makes the heads of one transaction's message, and remembers whether the user's connection ends after it.
 #[derive(Drop)]
 pub struct HeadMaker {
     user: Option<SourceSide>,
@@ -50,7 +50,7 @@ impl HeadMaker {
         }
     }
 
-    /// Whether the user's connection ends behind the message: as the head said that was made last, and where none was made.
+    /// Whether the user's connection ends after the message: as the head that was made last said, and also if no head was made.
     pub fn closes(&self) -> bool
         ensures { result ≡ self.now.closes }
     {
@@ -115,7 +115,7 @@ impl HeadMaker {
         chosen(alloc, asked, source, adapted, is_response, has_body)
     }
 
-    /// The same, and remembers whether the user's connection ends behind the message.
+    /// Makes the head that goes on, and remembers whether the user's connection ends after the message.
     fn make_next(
         &mut self,
         alloc: Global,

@@ -32,7 +32,7 @@ use icap_client::ServiceSide;
 use span_bank::Ledgers;
 use wire_kit::Wire;
 
-/// An answer's head says `close` exactly where the user's connection ends behind it; a request's head says it always, for each
+/// An answer's head says `close` exactly if the user's connection ends after it; a request's head says it always, for each
 /// exchange has an origin's connection of its own (RFC 9112, section 9.6).
 pub fn says_close_where_it_ends()
     ensures answer { (f : Sent) → is_response f.message ≡ true → is_named_by (forwarded_fields f) (codes "close") ≡ closes f }
@@ -48,12 +48,13 @@ pub fn a_missing_head_is_of_a_side()
         → MakesNone user source x adapted is_response Stopping → ⊥ }
 {}
 
-/// Of a transaction of the proxy's own sides, wherever it stands: its source's wire gave a message with the original body, whole where it has ended: by its
-/// framing, or because that wire has ended; and its service's gave the adapted one. The service's wire took a front of the one request whose heads were offered at the beginning, with
-/// the original. One of the wires to the next hop and to the user took a front of one message with the chosen body, or of a refusal
-/// alone, and the other one nothing of a message. Of the body just the bytes were taken that the history counts. The message's head,
-/// and how its body goes, were made of the heads that were read, at a moment of such a history. A refusal goes to the user alone.
-/// Where Done stands, the whole message was taken.
+/// What the wires of a transaction of the proxy's own sides gave and took, wherever it stands. The source's wire gave a message with
+/// the original body, whole once it has ended, by its framing or because that wire has ended; the service's gave the adapted one.
+/// The service's wire took a prefix of the one request whose heads were offered at the beginning, with the original. One of the
+/// wires to the next hop and to the user took a prefix of one message with the chosen body, or of a refusal alone, and the other one
+/// nothing of a message. Of the body just the bytes were taken that the history counts. The message's head, and how its body goes,
+/// were made of the heads that were read, at a moment of such a history. A refusal goes to the user alone. Once Done stands, the
+/// whole message was taken.
 pub fn the_wires_take_one_message<B: Ledgers, A: Wire, W: Wire, C: Wire>(
     tx: &Tx<B, SourceSide, ServiceSide, NextHop, HeadMaker, A, W, C>,
 )

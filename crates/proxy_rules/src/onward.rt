@@ -19,9 +19,9 @@ use trace_core::Cause;
 pub struct Headed {
     /// Its text.
     pub head: Vec<u8>,
-    /// How the body goes behind it.
+    /// How the body goes after it.
     pub framing: Framing,
-    /// Whether the user's connection ends behind the message, where that is an answer.
+    /// Whether the user's connection ends after the message, if that is an answer.
     pub closes: bool,
 }
 
@@ -113,7 +113,7 @@ pub(crate) fn adapted_request(
 ) -> Result<Headed, Cause>
     ensures ok { IfOk result (GoesOn asked.entry.user.now asked.entry.body_read (part_of has_body) (IsAdaptedRequest text.now)) }
 
-    // The service is blamed only where its head is none that goes on.
+    // The service is blamed only if its head can't go on.
     ensures err { IfErr result (λ cause. (cause ≡ causes.Memory) ⊎ ((cause ≡ causes.Service) × NoAdaptedRequest text.now)) }
 {
     let head = match read_request(alloc, text, true) {
@@ -144,7 +144,7 @@ pub(crate) fn adapted_response(
 ) -> Result<Headed, Cause>
     ensures ok { IfOk result (GoesOn asked.entry.user.now asked.entry.body_read (part_of has_body) (IsAdaptedResponse (is_head asked.entry.user.now) has_body text.now)) }
 
-    // The service is blamed only where its head is none that goes on.
+    // The service is blamed only if its head can't go on.
     ensures err { IfErr result (λ cause. (cause ≡ causes.Memory) ⊎ ((cause ≡ causes.Service) × NoAdaptedResponse (is_head asked.entry.user.now) has_body text.now)) }
 {
     let head = match read_response(alloc, text, is_head(asked.user)) {

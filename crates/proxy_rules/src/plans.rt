@@ -27,7 +27,7 @@ pub fn limits_of(config: &Config) -> Limits
     }
 }
 
-/// The length of a body, where its framing tells it.
+/// The length of a body, if its framing gives it.
 fn known_length(framing: Framing) -> Option<u64>
     ensures length { result ≡ known_length framing }
     ensures small { IfSome result (λ n. n < COUNT_LIMIT) }

@@ -11,7 +11,7 @@ use icap_head::IcapResponse;
 use options_book::Record;
 use proxy_config::ServicePoint;
 
-/// Whether a connection on which a service was asked for its options may be used again, behind this answer.
+/// Whether a connection on which a service was asked for its options may be used again, after this answer.
 pub fn is_reusable_after_options(side: &OptionsSide, answer: &IcapResponse) -> bool
     ensures { result ≡ is_reusable_after side.now.raw (field_list answer.now.fields) }
 {

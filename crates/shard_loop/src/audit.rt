@@ -19,7 +19,7 @@ pub struct StopAudit {
 pub struct Stopped {
     /// What was still out.
     pub audit: StopAudit,
-    /// What stopped it, where that wasn't the administrator: a loop failed, and all others were told to stop.
+    /// What stopped it, if that wasn't the administrator: a loop failed, and all others had to stop.
     pub fault: Option<ServeFault>,
 }
 

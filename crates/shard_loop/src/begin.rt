@@ -23,7 +23,7 @@ pub struct Planned {
     pub offer: Box<Offer>,
     /// Where a request goes.
     pub address: Option<SocketAddrV4>,
-    /// Whether the user waits to be told to send its body.
+    /// Whether the user waits for `100 Continue`.
     pub waits: bool,
 }
 
@@ -98,7 +98,7 @@ impl<'a, B: Ledgers, Q: Ledger, A: Ledger, G: Gate> Desk<'a, B, Q, A, G> {
         }
     }
 
-    /// Leases a connection, where the message is offered and there is none yet.
+    /// Leases a connection, if the message is offered and there is no connection yet.
     fn lease_for<R: Wait + Dial + Clock>(
         &mut self,
         rt: &R,

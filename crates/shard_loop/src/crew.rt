@@ -176,7 +176,7 @@ fn board_of(alloc: Global, count: u64, rows: u64, file: Option<File>) -> Result<
     })
 }
 
-/// Runs a loop on each base, in a thread of its own, until one is told to stop or fails: then all end. What is left comes
+/// Runs a loop on each base, in a thread of its own, until one has to stop or fails: then all end. What is left comes
 /// together.
 ///
 /// What the threads share comes piece by piece, and what a base and an inbox are made of isn't seen here: otherwise the
@@ -343,7 +343,7 @@ fn run_office<K: Work + Drop, B: Ledgers, Q: Ledger, A: Ledger, R: Wait + Dial +
     }
 }
 
-/// Makes a thread's work, and runs its loop over it. Where either fails, all others are told to stop.
+/// Makes a thread's work, and runs its loop over it. If either fails, all others have to stop.
 fn run_base<'a, B: Ledgers, Q: Ledger, A: Ledger, G: Gate, R: Wait + Dial + Clock>(
     rt: &R,
     alloc: Global,

@@ -30,7 +30,7 @@ pub struct Shared<'a, B: Ledgers, Q: Ledger, A: Ledger, G: Gate> {
 }
 
 impl<'a, B: Ledgers, Q: Ledger, A: Ledger, G: Gate> Shared<'a, B, Q, A, G> {
-    /// The same, for another thread.
+    /// What all threads share, for another thread.
     pub fn again(&self) -> Shared<'a, B, Q, A, G> {
         Shared {
             config: self.config,
@@ -62,7 +62,7 @@ pub struct Desk<'a, B: Ledgers, Q: Ledger, A: Ledger, G: Gate> {
 }
 
 impl<'a, B: Ledgers, Q: Ledger, A: Ledger, G: Gate> Desk<'a, B, Q, A, G> {
-    /// Before the first user, of whom so many may be served at once. `Err` where no memory was found.
+    /// A desk before the first user; `rows` users may be served at once. `Err` if no memory was found.
     pub fn new(
         alloc: Global,
         shared: Shared<'a, B, Q, A, G>,
@@ -107,7 +107,7 @@ impl<'a, B: Ledgers, Q: Ledger, A: Ledger, G: Gate> Desk<'a, B, Q, A, G> {
         }
     }
 
-    /// The same, to be changed.
+    /// What the service of a point said last, to be changed.
     pub fn book_mut(&mut self, point: Point) -> &mut PointBook {
         match point {
             Point::Reqmod => &mut self.request_book,

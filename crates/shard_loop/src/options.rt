@@ -66,7 +66,7 @@ fn is_want_of_room(error: &io::Error) -> bool {
 }
 
 impl<'a, B: Ledgers, Q: Ledger, A: Ledger, G: Gate> Desk<'a, B, Q, A, G> {
-    /// A connection that is opened now. Want of memory, of a descriptor or of a port is told apart from an other side that
+    /// A connection that is opened now. Want of memory, of a descriptor or of a port is another answer than a host that
     /// can't be reached.
     pub fn dial<R: Dial>(
         &mut self,

@@ -26,7 +26,7 @@ pub struct Ends {
     pub user: SocketWire,
     pub message: Incoming,
     pub origin: Option<SocketWire>,
-    /// Whether the user was told to send the body of its request.
+    /// Whether the user got `100 Continue`.
     pub told: bool,
 }
 
@@ -90,7 +90,7 @@ pub enum Phase<B: Ledgers, Q: Ledger, A: Ledger> {
         ends: Box<Ends>,
         waiter: Waiter,
     },
-    /// A user that waits for it is told to send the body of its request, and this is left of the text.
+    /// A user that waits for `100 Continue` gets it, and this is left of the text.
     Telling {
         ends: Box<Ends>,
         rest: &'static [u8],

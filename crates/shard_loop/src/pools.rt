@@ -11,7 +11,7 @@ use std::sync::ledger::Ledger;
 use std::sync::{Arc, Wait};
 use trace_core::Point;
 
-/// A connection to a service that no transaction uses, with what a poll told of it.
+/// A connection to a service that no transaction uses, with its readiness.
 #[derive(Drop)]
 pub struct Spare {
     pub wire: SocketWire,
@@ -62,7 +62,7 @@ pub enum Took<Q: Ledger, A: Ledger> {
 }
 
 impl<'a, Q: Ledger, A: Ledger> Pools<'a, Q, A> {
-    /// The same pools.
+    /// These pools, for another thread.
     pub fn again(&self) -> Pools<'a, Q, A> {
         Pools {
             request: self.request,
@@ -87,7 +87,7 @@ impl<'a, Q: Ledger, A: Ledger> Pools<'a, Q, A> {
         }
     }
 
-    /// The same, but never a connection that its service has ended meanwhile, or on which it has said what nobody asked for:
+    /// Takes a connection, but never one that its service has ended meanwhile, or on which it has said what nobody asked for:
     /// those are closed, and their leases given up.
     pub fn take_live<R: Wait>(&self, rt: &R, point: Point) -> Took<Q, A> {
         for _ in 0..MAX_CONNECTIONS {

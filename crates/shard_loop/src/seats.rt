@@ -1,4 +1,4 @@
-//! Users' connections by their keys: what a poll told of them, when they last moved, and which can best be spared.
+//! Users' connections by their keys: their readiness, when they last moved, and which can best be spared.
 
 use event_loop::{Place, Told};
 use mio::net::TcpStream;
@@ -86,7 +86,7 @@ pub struct Seats {
 }
 
 impl Seats {
-    /// No seat is taken, and at most so many users may be served at once. `Err` where no memory was found for their seats.
+    /// No seat is taken, and at most `most` users may be served at once. `Err` if no memory was found for their seats.
     pub fn new(alloc: Global, most: usize) -> Result<Seats, AllocError> {
         let mut seats = Seats {
             alloc,
@@ -110,7 +110,7 @@ impl Seats {
         self.all.len().saturating_sub(self.refused) < self.most
     }
 
-    /// What the next seat is for. None where there is none.
+    /// What the next seat is for. `None` if no seat is free.
     fn next_purpose(&self) -> Option<Purpose> {
         if self.has_room() {
             Some(Purpose::Requests)
@@ -134,7 +134,7 @@ impl Seats {
         self.all.is_empty()
     }
 
-    /// Takes a seat for a user's connection of this number, and says what it is for. None where there is none.
+    /// Takes a seat for a user's connection of this number, and says what it is for. `None` if no seat is free.
     pub fn take(&mut self, number: u64, place: Place, now: u64) -> Option<(usize, Purpose)> {
         let purpose = self.next_purpose()?;
         let since = self.next_stay();
@@ -302,7 +302,7 @@ impl Seats {
         }
     }
 
-    /// Whether more than so many seconds have passed without a moved byte. Moments are whole seconds, so that is a second
+    /// Whether more than `deadline` seconds have passed without a moved byte. Moments are whole seconds, so that is a second
     /// late at most, and never early.
     pub fn is_late(&self, at: At<'_>, deadline: u64) -> bool {
         match self.all.get(at.key) {
@@ -311,7 +311,7 @@ impl Seats {
         }
     }
 
-    /// Takes note of an event. False where it tells nothing new.
+    /// Takes note of an event. False if it says nothing new.
     pub fn note(&self, key: usize, side: Side, told: Told) -> bool {
         let Some(seat) = self.all.get(key) else {
             return false;
@@ -330,7 +330,7 @@ impl Seats {
         }
     }
 
-    /// Keeps what tells of a connection, in place of what was told of another one.
+    /// Keeps the readiness of a connection, in place of that of another one.
     fn keep(
         &mut self,
         key: usize,
@@ -345,7 +345,7 @@ impl Seats {
         }
     }
 
-    /// A wire over a stream, which the poll tells of. The stream comes back where the system refuses, or no memory was
+    /// A wire over a stream, which the poll reports. The stream comes back if the system refuses, or no memory was
     /// found.
     pub fn wire(
         &mut self,
@@ -369,7 +369,7 @@ impl Seats {
         }
     }
 
-    /// Has the poll tell of a wire. It comes back where the system refuses.
+    /// Has the poll report a wire. It comes back if the system refuses.
     pub fn enlist(
         &mut self,
         at: At<'_>,
@@ -389,7 +389,7 @@ impl Seats {
         Ok(wire)
     }
 
-    /// What tells of a service's connection that leaves the exchange.
+    /// The readiness of a service's connection that leaves the exchange.
     pub fn dismiss(&mut self, key: usize) -> Option<Arc<Readiness>> {
         self.keep(key, Side::Service, None)
     }

@@ -32,7 +32,7 @@ const STEPS: u32 = 8;
 const LOOKS: u32 = 16;
 
 /// The exchanges of one thread, each in the slot of its key. What is in a slot may have a reservation or a lease, so it has
-/// no `Drop`, and none is lost.
+/// no `Drop`, and nothing is lost.
 pub struct Shard<'a, B: Ledgers, Q: Ledger, A: Ledger, G: Gate> {
     desk: Desk<'a, B, Q, A, G>,
     slots: Slots<Phase<B, Q, A>>,
@@ -154,7 +154,7 @@ impl<'a, B: Ledgers, Q: Ledger, A: Ledger, G: Gate> Shard<'a, B, Q, A, G> {
         }
     }
 
-    /// Whether the connection under this key lies idle, but bytes of a request have come that nobody has told of yet.
+    /// Whether the connection under this key lies idle, but bytes of a request have come that no event has reported yet.
     fn is_wanted(&self, key: usize) -> bool {
         if self.desk.seats.stay(key) != Stay::Idle {
             return false;

@@ -113,7 +113,7 @@ impl<'a, B: Ledgers, Q: Ledger, A: Ledger, G: Gate> Desk<'a, B, Q, A, G> {
         }
     }
 
-    /// Starts, once a user that waits for it is told to send the body.
+    /// Starts, once a user that waits for `100 Continue` has got it.
     fn join<R: Wait + Clock>(
         &mut self,
         rt: &R,

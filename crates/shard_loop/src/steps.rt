@@ -149,7 +149,7 @@ impl<'a, B: Ledgers, Q: Ledger, A: Ledger, G: Gate> Desk<'a, B, Q, A, G> {
         })
     }
 
-    /// The same, to a user whose message goes no further. All else of the exchange goes.
+    /// Refuses a user whose message goes no further. All else of the exchange goes.
     pub fn refuse_user(&mut self, at: At<'_>, ends: Box<Ends>, reason: Reason) -> Step<B, Q, A> {
         self.refuse(at, Box::into_inner(ends).into_user(), reason)
     }

@@ -1,4 +1,4 @@
-//! Users that wait to be told to send the body of a request (RFC 9110, section 10.1.1).
+//! Users that wait for `100 Continue` (RFC 9110, section 10.1.1).
 
 use crate::desk::Desk;
 use crate::phase::{Ends, Phase, Step};

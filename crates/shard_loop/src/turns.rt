@@ -70,7 +70,7 @@ impl<'a, B: Ledgers, Q: Ledger, A: Ledger, G: Gate> Desk<'a, B, Q, A, G> {
         round
     }
 
-    /// Begins a request anew on a fresh connection, or fails it where there is none. What is left of the broken connection,
+    /// Begins a request anew on a fresh connection, or fails it without one. What is left of the broken connection,
     /// which its service has ended or which failed, is closed at once after that.
     fn again<R: Wait + Dial>(
         &mut self,

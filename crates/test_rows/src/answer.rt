@@ -2,7 +2,7 @@
 use std::alloc::AllocError as NoMemory;
 use std::fmt::Debug;
 
-/// Adds texts, one behind the other.
+/// Adds texts, one after the other.
 pub fn put_all(out: &mut Vec<u8>, texts: &[&[u8]]) -> Result<(), NoMemory> {
     for text in texts {
         out.extend_from_slice(*text)?;

@@ -6,7 +6,7 @@
 //!
 //! A line `key: text` adds the text to what the key says, and `key| text` adds it as a line, its LF included. In a text
 //! `\r`, `\n`, `\t`, `\0`, `\s` (a space), `\\`, `\}` and `\x80` stand for one byte, and `\{99*A: b\r\n}` is 99 times what
-//! stands behind the star.
+//! stands after the star.
 //!
 //! A row is good where its answer is just what `want` says, or, where memory may be refused, what `or` says.
 //!

@@ -1,6 +1,6 @@
 //! One row: its keys with what they say.
 
-/// Where a key stands, and up to where what it says behind it.
+/// The place of a key, and the end of what it says after it.
 #[derive(Clone, Copy)]
 pub(crate) struct Entry {
     pub(crate) key_from: usize,

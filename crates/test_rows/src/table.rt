@@ -20,7 +20,7 @@ struct Mark {
 /// The rows of a file, its head among them.
 #[derive(Drop)]
 pub struct Table {
-    /// The keys and what they say, one behind the other.
+    /// The keys and what they say, one after the other.
     said: Vec<u8>,
     entries: Vec<Entry>,
     rows: Vec<Mark>,
@@ -28,7 +28,7 @@ pub struct Table {
     is_open: bool,
 }
 
-/// Reads a file's rows. What can't be read of one is told when it is judged.
+/// Reads a file's rows. What can't be read of one is reported when it is judged.
 pub fn read_table(alloc: Global, text: &[u8]) -> Result<Table, NoMemory> {
     let mut table = Table {
         said: Vec::new(alloc),

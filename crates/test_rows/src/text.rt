@@ -35,7 +35,7 @@ fn hex_digit(byte: u8) -> Option<u8> {
     }
 }
 
-/// What one letter behind a backslash stands for.
+/// What one letter after a backslash stands for.
 fn escaped(byte: u8) -> Option<u8> {
     match byte {
         b'r' => Some(b'\r'),

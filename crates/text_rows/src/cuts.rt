@@ -75,7 +75,7 @@ fn is_steady(alloc: Global, grammar: Grammar, text: &[u8], last: u64) -> bool {
     true
 }
 
-/// Adds a line where a prefix of the text, or the text with more behind it, is answered otherwise than it should.
+/// Adds a line if a prefix of the text, or the text with more after it, gets another answer than it should.
 pub fn put_cuts(
     alloc: Global,
     grammar: Grammar,

@@ -56,7 +56,7 @@ fn reader_of(row: &Row<'_>) -> Reader {
     }
 }
 
-/// What is left of a text behind so many bytes, and of that at most so many.
+/// What is left of a text after some bytes, up to a number of bytes.
 fn piece(text: &[u8], at: usize, size: usize) -> &[u8] {
     let rest = &text[at.min(text.len())..];
     &rest[..size.min(rest.len())]

@@ -73,7 +73,7 @@ fn is_read_back(alloc: Global, random: &mut Random, body: &[u8]) -> Result<bool,
     is_read(alloc, random, &text, body, outcome)
 }
 
-/// Adds how often, of so many times, the front of a text is read back as a body.
+/// Adds how often, of these times, the prefix of a text is read back as a body.
 pub fn put_random_bodies(alloc: Global, out: &mut Vec<u8>, row: &Row<'_>) -> Result<(), NoMemory> {
     let mut random = Random::new(row.number(b"seed").unwrap_or(0));
     let all = row.get(b"text");

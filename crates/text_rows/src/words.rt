@@ -36,7 +36,7 @@ fn put_parts(out: &mut Vec<u8>, text: &[u8]) -> Result<(), NoMemory> {
     put_line(out, b"end")
 }
 
-/// Puts two pieces into room for so many bytes.
+/// Puts two pieces into room for this many bytes.
 fn put_room(
     alloc: Global,
     out: &mut Vec<u8>,

@@ -33,7 +33,7 @@ use wire_kit::Wire;
 pub trait Answering {
     // Waiting: no byte moved and nothing was stepped, and each wire that the turn may use answered Wait, or nothing was due on it;
     // none of the bytes that its side keeps can be framed.
-    // Moved: so many bytes moved; where none did, an event of the side was stepped. Broken: the service's connection broke, and the
+    // Moved: this many bytes moved; if none did, an event of the side was stepped. Broken: the service's connection broke, and the
     // request may begin anew. Finished: so it had ended before, and a refusal that was due is out, or its wire has failed.
     ghost answers: { Self → Side → Self → Turned → Type 0 };
 

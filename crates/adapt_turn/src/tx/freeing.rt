@@ -52,9 +52,9 @@ impl<B: Ledgers, S: Source, V: Service, K: Hop, F: Forward<S, K>, A: Wire, W: Wi
         seen.closed || seen.no_mod || seen.adapted_over
     }
 
-    /// Gives up the connection to the service, and says whether it may carry another request. None where none is held, or as long as
-    /// the service's exchange goes on. No byte of this transaction goes over it any more: what its wire took and gave stays what it
-    /// was, and later turns of the service find nothing due.
+    /// Gives up the connection to the service, and says whether it may carry another request. `None` if no connection is held, or
+    /// as long as the service's exchange goes on. No byte of this transaction goes over it any more: what its wire took and gave
+    /// stays what it was, and later turns of the service find nothing due.
     pub fn free_line(&mut self) -> Option<FreeLine<W>>
         ensures over { IfSome result (λ free. MayFree (shows self.old.hold.history)) }
         ensures due { result ≡ None → MayFree (shows self.old.hold.history) → wire_of self.old.service ≡ None }

@@ -89,7 +89,7 @@ impl<B: Ledgers, S: Source, V: Service, K: Hop, F: Forward<S, K>, A: Wire, W: Wi
         }
     }
 
-    /// Begins the chosen message, where none is begun, or says why the transaction was closed in place of it.
+    /// Begins the chosen message, if no message is begun, or says why the transaction was closed in place of it.
     fn begin(&mut self, rt: &impl Wait, bank: &Bank<B>) -> Option<Cause>
         requires running { (shows self.old.hold.history).closed ≡ false }
         requires chosen { IsChosen (shows self.old.hold.history) }

@@ -62,7 +62,7 @@ impl<B: Ledgers, S: Source, V: Service, K: Hop, F: Forward<S, K>, A: Wire, W: Wi
 > {
     /// One turn of one side, at a moment in seconds.
     ///
-    /// An end of the body that the source's framing tells is told by the turn that reads it. A turn at the deadline fails in place of
+    /// The turn that reads an end of the body that the source's framing gives reports it. A turn at the deadline fails in place of
     /// moving a byte. A turn that fails answers what its wires moved before; Finished comes
     /// with a later one, once a refusal that is due is out or its wire has failed.
     pub fn turn(&mut self, rt: &impl Wait, bank: &Bank<B>, side: Side, now: u64) -> Turned
