@@ -8,7 +8,7 @@ use crate::offered::{REQUEST, RESPONSE, offer};
 use adapt_turn::{Line, Outcome, Parts};
 use http_relay::{RelayFault, SourceSide};
 use plan_rules::{Limits, claim};
-use proxy_rules::{Beginning, Incoming, Offer, OwnTx, Running};
+use proxy_rules::{Beginning, Incoming, Offer, Running};
 use span_bank::{Bank, Ledgers, Pages, Stake};
 use std::alloc::{AllocError, Global};
 use std::sync::Wait;
@@ -27,7 +27,7 @@ const BEGIN: u64 = 100;
 pub type Counted = CountedWire<MemoryWire>;
 
 /// A transaction over wires in memory, the source's being one of these.
-pub type Moving<B, A> = Running<OwnTx<B, A, Counted, Counted>>;
+pub type Moving<B, A> = Running<B, A, Counted, Counted>;
 
 /// The wires of a transaction.
 #[derive(Drop)]

@@ -24,7 +24,7 @@ ghost use Rattle.proxy_rules.specs.Heads.{MakesNone};
 ghost use Rattle.proxy_rules.specs.Wires.{WiresTook};
 
 use crate::head_maker::HeadMaker;
-use crate::running::{OwnTx, Running};
+use crate::running::Running;
 use adapt_sides::{Service, Source};
 use adapt_turn::{Forward, Refusing, Standing, Tx};
 use http_relay::{NextHop, SourceSide};
@@ -74,7 +74,7 @@ pub fn the_wires_take_one_message<B: Ledgers, A: Wire, W: Wire, C: Wire>(
 /// The same of a transaction that runs, wherever it stands, without a premise: there are a request and texts of which all that is so.
 /// Where it failed, the user's writer has the refusal of the cause's status, or a byte has gone out to the user.
 pub fn a_running_transaction_takes_one_message<B: Ledgers, A: Wire, W: Wire, C: Wire>(
-    running: &Running<OwnTx<B, A, W, C>>,
+    running: &Running<B, A, W, C>,
 )
     ensures took { ∥ ((request : List ℕ) × (t : Texts)
         × WiresTook (λ x body read. SideRead x body read.bytes read.ended running.now.tx.source)

@@ -9,10 +9,10 @@ ghost use Rattle.adapt_hold.specs.Holding.{IsTied, shows, moved};
 ghost use Rattle.adapt_turn.specs.declared.turned.Outcome.TheVariants as outcomes;
 ghost use Rattle.adapt_turn.specs.Made.{wire_of};
 ghost use Rattle.adapt_turn.specs.Freeing.{MayFree};
-ghost use Rattle.proxy_rules.specs.Running.{Runs};
+ghost use Rattle.proxy_rules.specs.Running.{Runs, StandsOver, IsFaultless, RefusesFor};
 
 use crate::head_maker::HeadMaker;
-use adapt_turn::{Answering, FreeLine, Going, Outcome, Refusing, Side, Standing, Turned, Tx};
+use adapt_turn::{Answering, FreeLine, Going, Outcome, Side, Turned, Tx};
 use http_relay::{NextHop, SourceSide};
 use icap_client::ServiceSide;
 use span_bank::{Bank, Ledgers};
@@ -23,32 +23,17 @@ use wire_kit::Wire;
 /// A transaction of the proxy's own sides.
 pub type OwnTx<B, A, W, C> = Tx<B, SourceSide, ServiceSide, NextHop, HeadMaker, A, W, C>;
 
-/// What is so of a transaction from its beginning on.
-pub trait Run {
-    // some request and texts stand between it and its wires; no side of an open one has a fault, but for a service whose connection
-    // broke; and where it failed, the user's writer has the refusal of the cause, or a byte has gone out to the user
-    ghost runs: { Self → Type 0 };
-}
-
-impl<B: Ledgers, A: Wire, W: Wire, C: Wire> Run
-    for Tx<B, SourceSide, ServiceSide, NextHop, HeadMaker, A, W, C> {
-    ghost use Rattle.adapt_hold.specs.Holding.{shows};
-    ghost use Rattle.proxy_rules.specs.Running.{Runs};
-
-    ghost runs = { λ tx. Runs (⟦<Tx<B, SourceSide, ServiceSide, NextHop, HeadMaker, A, W, C> as Standing>⟧.stands tx) (shows tx.hold.history).closed
-        (⟦<Tx<B, SourceSide, ServiceSide, NextHop, HeadMaker, A, W, C> as Answering>⟧.faultless tx) tx.outcome (⟦<Tx<B, SourceSide, ServiceSide, NextHop, HeadMaker, A, W, C> as Refusing>⟧.refuses tx) };
-}
-
-/// A transaction that was begun, and each step of which kept what stood then.
+/// A transaction that was begun, and each step of which kept what stood then: some request and texts stand between it and its wires; no
+/// side of an open one has a fault, but for a service whose connection broke; and where it failed, the user's writer has the refusal of
+/// the cause, or a byte has gone out to the user.
 #[must_use]
-pub struct Running<T: Run> {
-    pub(crate) tx: T,
-    pub ghost runs: { ∥ T.runs tx ∥₁ },
+pub struct Running<B: Ledgers, A: Wire, W: Wire, C: Wire> {
+    pub(crate) tx: OwnTx<B, A, W, C>,
+    pub ghost runs: { ∥ Runs (StandsOver tx.hold tx.source tx.service tx.next tx.back tx.forward tx.refusing) (shows tx.hold.history).closed
+        (IsFaultless tx.source tx.service tx.pace.broken tx.next tx.back) tx.outcome (RefusesFor tx.hold tx.refusing tx.next tx.back) ∥₁ },
 }
 
-impl<B: Ledgers, A: Wire, W: Wire, C: Wire> Running<
-    Tx<B, SourceSide, ServiceSide, NextHop, HeadMaker, A, W, C>,
-> {
+impl<B: Ledgers, A: Wire, W: Wire, C: Wire> Running<B, A, W, C> {
     /// One turn of one side, at a moment in seconds.
     pub fn turn(&mut self, rt: &impl Wait, bank: &Bank<B>, side: Side, now: u64) -> Turned
         ensures goes { ⟦<Tx<B, SourceSide, ServiceSide, NextHop, HeadMaker, A, W, C> as Going>⟧.goes self.old.tx self.new.tx }

@@ -10,7 +10,7 @@ ghost use Rattle.proxy_rules.specs.Beginnings.{MayBegin, line_with};
 use crate::head_maker::HeadMaker;
 use crate::incoming::Incoming;
 use crate::offer::Offer;
-use crate::running::{OwnTx, Running};
+use crate::running::Running;
 use adapt_turn::{Line, Standing, Start, Tx};
 use http_relay::{NextHop, SourceSide};
 use icap_client::ServiceSide;
@@ -74,7 +74,7 @@ fn line_of<W>(side: Option<ServiceSide>, wire: Option<W>) -> Option<Line<Service
 pub fn begin<B: Ledgers, A: Wire, W: Wire, C: Wire>(
     alloc: Global,
     beginning: Beginning<B, A, W, C>,
-) -> Result<Running<OwnTx<B, A, W, C>>, Beginning<B, A, W, C>>
+) -> Result<Running<B, A, W, C>, Beginning<B, A, W, C>>
     requires empty { (beginning.stake.held ≡ 0) × (beginning.stake.pages ≡ 0) }
     requires claim { beginning.stake.claim ≡ claim_of beginning.offer.plan beginning.limits.window }
     requires small { beginning.stake.claim ≤ MAX_CAPACITY }

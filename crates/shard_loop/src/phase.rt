@@ -5,7 +5,7 @@ use crate::pools::Leased;
 use http_relay::RelayFault;
 use http_side::own_refusal;
 use icap_client::OptionsSide;
-use proxy_rules::{Beginning, Incoming, OwnTx, Running};
+use proxy_rules::{Beginning, Incoming, Running};
 use socket_wire::SocketWire;
 use span_bank::Ledgers;
 use std::boxed::Box;
@@ -15,7 +15,7 @@ use wait_queue::Waiter;
 use wire_kit::Wire;
 
 /// A transaction over sockets.
-pub type Moving<B> = Running<OwnTx<B, SocketWire, SocketWire, SocketWire>>;
+pub type Moving<B> = Running<B, SocketWire, SocketWire, SocketWire>;
 
 /// What a transaction over sockets begins with.
 pub type Starting<B> = Beginning<B, SocketWire, SocketWire, SocketWire>;

@@ -5,7 +5,7 @@ ghost use Rattle.std.specs.Prelude.{◌≡◌};
 use crate::sides::Counted;
 use adapt_sides::{Hop, Service, Source};
 use adapt_turn::{Forward, FreeLine, Line, Outcome, Parts, Side, Turned, Tx};
-use proxy_rules::{Beginning, OwnTx, Running};
+use proxy_rules::{Beginning, Running};
 use span_bank::{Bank, Ledgers, Pages};
 use std::sync::Wait;
 use wire_kit::Wire;
@@ -45,7 +45,7 @@ pub trait Game<B: Ledgers> {
     fn free(&mut self, lines: &mut Lines) -> Option<bool>;
 }
 
-impl<B: Ledgers, A: Wire, C: Wire> Game<B> for Running<OwnTx<B, A, Counted, C>> {
+impl<B: Ledgers, A: Wire, C: Wire> Game<B> for Running<B, A, Counted, C> {
     fn take_turn<R: Wait>(&mut self, rt: &R, bank: &Bank<B>, side: Side, now: u64) -> Turned {
         self.turn(rt, bank, side, now)
     }
@@ -136,7 +136,7 @@ fn end_of<
 pub fn end<B: Ledgers, A: Wire, C: Wire, R: Wait>(
     rt: &R,
     bank: &Bank<B>,
-    running: Running<OwnTx<B, A, Counted, C>>,
+    running: Running<B, A, Counted, C>,
 ) -> Ended<A, C> {
     end_of(rt, bank, running.into_tx())
 }

@@ -7,7 +7,7 @@ ghost use Rattle.plan_rules.specs.Claims.{claim_of};
 use crate::game::undo;
 use crate::sides::{Counted, Sides, Wires};
 use plan_rules::{Limits, claim};
-use proxy_rules::{Beginning, OwnTx, Running};
+use proxy_rules::{Beginning, Running};
 use span_bank::{Bank, Ledgers, Stake};
 use std::alloc::Global;
 use std::sync::Wait;
@@ -21,7 +21,7 @@ const DEADLINE: u64 = 60;
 pub const BEGIN: u64 = 100;
 
 /// A transaction of the proxy's own sides over wires in memory, the source's being one of these.
-pub type Moving<B, A> = Running<OwnTx<B, A, Counted, Counted>>;
+pub type Moving<B, A> = Running<B, A, Counted, Counted>;
 
 /// What is configured: the service's connection was used before if the plan allows a retry.
 fn limits_of(plan: &Plan) -> Limits {

@@ -1,7 +1,7 @@
 use Rattle.std.proofs.Math.Logic.{∥∥₁_map}
 use Rattle.std.proofs.Common.{[]}
 use Rattle.proxy_rules.proofs.RunLemmas.{retry_open, not_both}
-use Rattle.proxy_rules.proofs.running.Running+Tx+B+SourceSide+ServiceSide+NextHop+HeadMaker+A+W+C.retry.Goals as goal
+use Rattle.proxy_rules.proofs.running.Running.retry.Goals as goal
 
 pub invariant_of-self : goal.invariant_of-self
 invariant_of-self g c =

@@ -1,7 +1,7 @@
 use Rattle.std.proofs.Math.Logic.{∥∥₁_map}
 use Rattle.trace_core.specs.declared.history.Cause.TheVariants.{Stopping}
 use Rattle.proxy_rules.proofs.RunLemmas.{runs_failed}
-use Rattle.proxy_rules.proofs.running.Running+Tx+B+SourceSide+ServiceSide+NextHop+HeadMaker+A+W+C.halt.Goals as goal
+use Rattle.proxy_rules.proofs.running.Running.halt.Goals as goal
 
 pub invariant_of-self : goal.invariant_of-self
 invariant_of-self g c =

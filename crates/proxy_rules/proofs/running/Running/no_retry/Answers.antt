@@ -1,7 +1,7 @@
 use Rattle.std.proofs.Math.Logic.{∥∥₁_map}
 use Rattle.trace_core.specs.declared.history.Cause.TheVariants.{Service}
 use Rattle.proxy_rules.proofs.RunLemmas.{runs_failed, not_both}
-use Rattle.proxy_rules.proofs.running.Running+Tx+B+SourceSide+ServiceSide+NextHop+HeadMaker+A+W+C.no_retry.Goals as goal
+use Rattle.proxy_rules.proofs.running.Running.no_retry.Goals as goal
 
 pub invariant_of-self : goal.invariant_of-self
 invariant_of-self g c =

@@ -2,7 +2,7 @@ use Rattle.std.proofs.Common.{ap, sym, ◌∙◌}
 use Rattle.std.proofs.Math.Logic.{∥∥₁_map}
 use Rattle.adapt_hold.specs.Holding.{Holding, shows}
 use Rattle.proxy_rules.proofs.RunLemmas.{refuses_by}
-use Rattle.proxy_rules.proofs.running.Running+Tx+B+SourceSide+ServiceSide+NextHop+HeadMaker+A+W+C.free_line.Goals as goal
+use Rattle.proxy_rules.proofs.running.Running.free_line.Goals as goal
 
 pub invariant_of-self : goal.invariant_of-self
 invariant_of-self g c =
