@@ -172,6 +172,14 @@ impl Notes {
         self.notes.get_mut(key)
     }
 
+    /// Whether an exchange goes on under this key: a request was read, or refused, and its answer isn't over.
+    pub fn is_open(&self, key: usize) -> bool {
+        match self.notes.get(key) {
+            Some(note) => note.is_open,
+            None => false,
+        }
+    }
+
     /// A user comes.
     pub fn enter(&mut self, key: usize, user: Option<Address>) {
         if let Some(note) = self.notes.get_mut(key) {

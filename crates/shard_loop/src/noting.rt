@@ -216,11 +216,11 @@ impl<'a, B: Ledgers, Q: Ledger, A: Ledger, G: Gate> Desk<'a, B, Q, A, G> {
     /// The proxy's own refusal is the answer.
     pub fn note_refusal(&mut self, at: At<'_>, user: &SocketWire, reason: Reason) {
         self.note_read(at.key, user);
-        let taken = self.seats.taken(at.key);
+        if !self.notes.is_open(at.key) {
+            let taken = self.seats.taken(at.key);
+            self.notes.begin(at.key, 0, taken, b"", b"");
+        }
         if let Some(note) = self.notes.get_mut(at.key) {
-            if !note.is_open {
-                note.taken = taken;
-            }
             let why = word_of(reason, note);
             self.notes.refuse(at.key, why, reason.status());
         }
@@ -246,10 +246,12 @@ impl<'a, B: Ledgers, Q: Ledger, A: Ledger, G: Gate> Desk<'a, B, Q, A, G> {
             && let Some(line) = service
             && let Some((_, text)) = line.side.adapted_head()
             && let Some(status) = status_in(text)
-            && outcome == Outcome::Done
+            && (outcome == Outcome::Done || self.seats.has_answered(at.key))
         {
             self.notes.answer(at.key, status, kind_in(text));
-            self.note_whole(at.key);
+            if outcome == Outcome::Done {
+                self.note_whole(at.key);
+            }
         }
     }
 
