@@ -492,22 +492,23 @@ def goaccess_reads_the_log(bench):
     log = bench.keep(Log())
     proxy = bench.proxy(origin, log.key + "deadline = 1\n")
     user = User(proxy.port)
-    for path in ("/bytes/10", "/chunked/5000", "/status/304", "/x?" + "z" * 4000):
+    for path in ("/bytes/10", "/chunked/5000", "/status/304", "/status/999", "/x?" + "z" * 4000):
         user.ask(get(path))
     user.close()
-    for request in (get("/mute"), get("/garbage"), b"GET http://x.test/ HTTP/1.1\r\nHost: x.test\r\n\r\n"):
+    for request in (get("/mute"), get("/garbage"), b"GET http://x.test/ HTTP/1.1\r\nHost: x.test\r\n\r\n", b"what\r\n\r\n",
+                    b"CONNECT o.test:443 HTTP/1.1\r\nHost: o.test\r\n\r\n", get("/bytes/3", method="BREW")):
         ask(proxy.port, request)
     gone = User(proxy.port)
     gone.send(get("/mute"))
     time.sleep(0.3)
     gone.reset()
-    log.next(8)
+    log.next(12)
     same("audit", proxy.stop(), IDLE)
     report = os.path.join(log.folder.name, "report.json")
-    subprocess.run(["goaccess", log.path, "--log-format=%x.%^ %~%L %h %^/%s %b %m %U", "--date-format=%s",
-                    "--time-format=%s", "--no-global-config", "--no-progress", "-o", report], check=True,
+    subprocess.run(["goaccess", log.path, "--log-format=%x.%^ %~%L %h %^/%s %b %^ %U", "--date-format=%s", "--time-format=%s",
+                    "--no-strict-status", "--no-global-config", "--no-progress", "-o", report], check=True,
                    stdout=subprocess.DEVNULL, stderr=subprocess.DEVNULL)
     with open(report) as text:
         general = text.read()
     figures = {name: int(re.search(r'"%s": ?(\d+)' % name, general).group(1)) for name in ("valid_requests", "failed_requests")}
-    same("goaccess", figures, {"valid_requests": 8, "failed_requests": 0})
+    same("goaccess", figures, {"valid_requests": 12, "failed_requests": 0})
