@@ -3,3 +3,5 @@ complete -c adaptproxy -n __fish_use_subcommand -f -a serve -d 'is the proxy: re
 complete -c adaptproxy -n __fish_use_subcommand -f -a check -d 'reads a configuration as serve does, and says ok or its fault'
 complete -c adaptproxy -n __fish_use_subcommand -f -a trace -d 'answers a script of one transaction'
 complete -c adaptproxy -n __fish_use_subcommand -f -a chunks -d 'reads a chunked body in pieces of N bytes'
+complete -c adaptproxy -n __fish_use_subcommand -l help -d 'prints the commands'
+complete -c adaptproxy -n __fish_use_subcommand -l version -d 'prints the version, and the kit that it is proved with'
