@@ -89,18 +89,23 @@ def two_connections_serve_sixty_four_users_in_turn(bench):
     same("audit", proxy.stop(), IDLE)
 
 
-def one_held(bench, text, sizes=None):
-    """A proxy with one connection to its service, which a first user holds until `held` is set."""
+def one_held(bench, text, sizes=None, moves=False):
+    """A proxy with one connection to its service, which a first user holds until `held` is set. Where it `moves`, the service
+    answers a byte at a time meanwhile, so that no deadline of the first user passes."""
     origin = bench.origin()
     held = threading.Event()
 
     def reply(conn, reader, head, count):
+        sent = 0
+        while count == 1 and moves and not held.wait(0.2):
+            conn.sendall(Icap.NO_MODIFICATION[sent:sent + 1])
+            sent += 1
         if count == 1:
             held.wait(PATIENCE)
         _heads, body, _last = Icap.rest(reader, head)
         if sizes is not None:
             sizes.append(len(body))
-        conn.sendall(Icap.NO_MODIFICATION)
+        conn.sendall(Icap.NO_MODIFICATION[sent:])
     service = bench.icap(reply, [b"Max-Connections: 1"])
     proxy = bench.proxy(origin, text, [("respmod", service.port, "/respmod/x", 1)])
     first = User(proxy.port)
@@ -151,7 +156,7 @@ def a_wait_ends_with_a_refusal(bench):
     same("within its seconds", 1.0 <= late <= 2.3, True)
     held.set()
     same("audit", proxy.stop(), IDLE)
-    _service, proxy, first, held = one_held(bench, "wait = 10\ndeadline = 1\nshards = 2")
+    _service, proxy, first, held = one_held(bench, "wait = 10\ndeadline = 1\nshards = 2", moves=True)
     is_refused("the deadline comes first", proxy.port, get("/bytes/3"), 504)
     held.set()
     first.close()
