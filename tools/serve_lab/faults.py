@@ -1,0 +1,205 @@
+"""What the system does to the proxy: calls that it refuses or answers late, by strace, and memory that it doesn't give."""
+import os
+import re
+import resource
+import shutil
+import signal
+import subprocess
+import tempfile
+import threading
+import time
+
+from serve_lab.cases import IDLE, at_once, case, get, refusal, same, settled
+from serve_lab.loopback import Closed, User, ask, body_of
+
+
+class Strace:
+    """strace on each thread of a program, with its words; what it saw comes at the end. None of it where it isn't there."""
+
+    def __init__(self, program, *words):
+        self.file = tempfile.NamedTemporaryFile()
+        self.process = subprocess.Popen(["strace", "-f", "-qq", "-o", self.file.name, *words, "-p", str(program.process.pid)],
+                                        stdout=subprocess.DEVNULL, stderr=subprocess.DEVNULL)
+        task = "/proc/%d/task" % program.process.pid
+        end = time.time() + 5
+        while time.time() < end and any(self.tracer(task, thread) != self.process.pid for thread in os.listdir(task)):
+            time.sleep(0.02)
+        time.sleep(0.2)
+
+    @staticmethod
+    def tracer(task, thread):
+        with open("%s/%s/status" % (task, thread)) as lines:
+            return next(int(line.split()[1]) for line in lines if line.startswith("TracerPid:"))
+
+    def close(self):
+        """What it saw, a line for each call."""
+        self.process.terminate()
+        self.process.wait()
+        with open(self.file.name, errors="replace") as lines:
+            return lines.read().split("\n")
+
+
+def has_strace():
+    if shutil.which("strace") is None:
+        print("      needs strace: left out")
+        return False
+    return True
+
+
+@case
+def a_dial_for_which_there_is_no_room_is_503(bench):
+    """Of the errors of a dial, want of a descriptor or of a port is want of room; all others say that the origin can't be had."""
+    if not has_strace():
+        return
+    origin = bench.origin()
+    proxy = bench.proxy(origin, "shards = 1")
+    for call, error, status in (("socket", "EMFILE", 503), ("socket", "ENFILE", 503), ("socket", "ENOBUFS", 503),
+                                ("connect", "EADDRNOTAVAIL", 503), ("connect", "ECONNREFUSED", 502), ("connect", "ENETUNREACH", 502)):
+        trace = Strace(proxy, "-e", "trace=%s" % call, "-e", "inject=%s:error=%s" % (call, error))
+        user = User(proxy.port)
+        user.send(get("/bytes/3"))
+        same(error, user.reader.to_end(), refusal(status))
+        user.close()
+        same("the call failed", any("INJECTED" in line for line in trace.close()), True)
+    same("behind them", ask(proxy.port, get("/bytes/3")).body, b"the")
+    same("audit", proxy.stop(), IDLE)
+
+
+def waits_after_accepts(lines):
+    """The milliseconds that each wait right after an accepted connection may last. A call may end on a line of its own."""
+    found, accepted = [], {}
+    for line in lines:
+        thread = line.split(" ")[0]
+        if "accept4" in line and " = " in line:
+            accepted[thread] = re.search(r" = \d+$", line) is not None
+        elif "epoll_wait" in line and " = " in line and accepted.get(thread):
+            found.append(int(re.search(r", 256, (-?\d+)\) += ", line).group(1)))
+    return found
+
+
+@case
+def a_loop_that_accepts_many_does_not_rest(bench):
+    """256 connections are accepted in a turn, and the wait after that is none."""
+    if not has_strace():
+        return
+    if resource.getrlimit(resource.RLIMIT_NOFILE)[1] < 4096:
+        print("      needs 4,096 descriptors: left out")
+        return
+    proxy = bench.proxy(bench.origin(), "shards = 1\nrows = 4096", descriptors=4096)
+    os.kill(proxy.process.pid, signal.SIGSTOP)
+    users = [User(proxy.port) for _ in range(600)]
+    trace = Strace(proxy, "-e", "trace=accept4,epoll_wait")
+    os.kill(proxy.process.pid, signal.SIGCONT)
+    same("the last", users[-1].ask(get("/bytes/3")).body, b"the")
+    waits = waits_after_accepts(trace.close())
+    print("      waits within the accepted ones: %s ms" % waits)
+    same("waits", (len(waits) >= 1, set(waits)), (True, {0}))
+    for user in users:
+        user.close()
+    same("audit", proxy.stop(), IDLE)
+
+
+@case
+def a_connection_that_is_gone_before_it_is_taken_is_no_pause(bench):
+    """Where the system says ECONNABORTED, the next one is asked for at once."""
+    if not has_strace():
+        return
+    proxy = bench.proxy(bench.origin(), "shards = 1")
+    trace = Strace(proxy, "-e", "trace=accept4,epoll_wait", "-e", "inject=accept4:error=ECONNABORTED:when=1")
+    same("served", ask(proxy.port, get("/bytes/3")).body, b"the")
+    lines = trace.close()
+    thread = next(line.split(" ")[0] for line in lines if "ECONNABORTED" in line)
+    calls = [line for line in lines if line.startswith(thread + " ")]
+    gone = next(at for at, line in enumerate(calls) if "ECONNABORTED" in line)
+    same("the next call", " accept4(" in calls[gone + 1], True)
+    same("audit", proxy.stop(), IDLE)
+
+
+@case
+def a_refusal_and_its_close_share_a_deadline(bench):
+    """A refusal that can't be written for a while leaves less of the deadline to the close after it."""
+    if not has_strace():
+        return
+    proxy = bench.proxy(bench.origin(), "shards = 1\ndeadline = 3")
+    user = User(proxy.port)
+    time.sleep(0.2)
+    trace = Strace(proxy, "-e", "trace=sendto,shutdown,close", "-e", "inject=sendto:error=EAGAIN:when=1")
+    before = time.time()
+    user.send(b"what is this\r\n\r\n")
+    time.sleep(2)
+    user.send(b"x")
+    same("the refusal", user.reader.to_end(), refusal(400))
+    written = time.time() - before
+    end = before + 12
+    while proxy.descriptors() > 9 and time.time() < end:
+        time.sleep(0.01)
+    passed = time.time() - before
+    trace.close()
+    print("      the refusal came after %.2f s, the connection was closed after %.2f s" % (written, passed))
+    same("in a deadline, and a second late at most", (2 <= written, 3 <= passed <= 4.5), (True, True))
+    user.close()
+    same("audit", proxy.stop(), IDLE)
+
+
+def processor_time(program):
+    """The seconds of user time that a program has used."""
+    with open("/proc/%d/stat" % program.process.pid) as text:
+        return int(text.read().rsplit(") ", 1)[1].split()[11]) / os.sysconf("SC_CLK_TCK")
+
+
+@case
+def a_long_table_of_hosts_is_not_searched_from_the_front(bench):
+    origin = bench.origin()
+    used = []
+    for count in (2, 30000):
+        hosts = "".join('"h%05d.t"="127.0.0.1:%d"\n' % (number, origin.port) for number in range(count))
+        proxy = bench.proxy(origin, "shards = 1", hosts=hosts)
+        user = User(proxy.port)
+        last = get("/bytes/3").replace(b"o.test", b"h%05d.t" % (count - 1))
+        same("the last", user.ask(last).body, b"the")
+        before = processor_time(proxy)
+        for _ in range(2000):
+            user.ask(last)
+        used.append(processor_time(proxy) - before)
+        user.close()
+        same("audit", proxy.stop(), IDLE)
+    print("      2,000 requests took %.2f s of a processor with 2 names, %.2f s with 30,000" % tuple(used))
+    same("as fast", used[1] <= 2 * used[0] + 0.1, True)
+
+
+def lent(proxy, bytes_more):
+    """Lets the program have so many bytes of memory more than it has; all it wants where it is None."""
+    most = "unlimited" if bytes_more is None else str(1024 * proxy.figure("VmData") + bytes_more)
+    subprocess.run(["prlimit", "--pid", str(proxy.process.pid), "--data=%s:" % most], check=True)
+
+
+@case
+def want_of_memory_ends_no_thread(bench):
+    """No memory is found for a while, at once or in the midst of exchanges: who comes gets 503 or is closed, and it goes on."""
+    origin = bench.origin()
+    services = [("respmod", bench.icapd(), "/respmod/pass", 64)]
+    proxy = bench.proxy(origin, "shards = 2\nrows = 400\nallow_limit = 0", services)
+    same("before it", ask(proxy.port, get("/bytes/3")).body, b"the")
+
+    def one(number):
+        for turn in range(4):
+            try:
+                word = ask(proxy.port, get("/chunked/%d" % (20000 * ((number + turn) % 8)))).status
+            except (Closed, OSError, ValueError):
+                word = "closed"
+            with lock:
+                found[word] = found.get(word, 0) + 1
+    lock, refused = threading.Lock(), 0
+    for pages in (0, 8, 32, 128):
+        found = {}
+        lent(proxy, 4096 * pages)
+        at_once(100, one)
+        lent(proxy, None)
+        print("      with %d pages more: %s" % (pages, found))
+        refused += sum(found.values()) - found.get(200, 0)
+        same("it goes on", proxy.process.poll(), None)
+        same("statuses", set(found) <= {200, 503, "closed"}, True)
+        same("book", settled(proxy)[:24], "rows 0 held 0 claimed 0 ")
+        same("after it", ask(proxy.port, get("/chunked/100000")).body, body_of(100000))
+    same("memory was short", refused > 100, True)
+    same("audit", proxy.stop(), IDLE)
