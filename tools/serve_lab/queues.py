@@ -5,7 +5,7 @@ import threading
 import time
 
 from serve_lab.cases import ICAPD, IDLE, at_once, case, get, is_refused, post, refusal, same, settled
-from serve_lab.loopback import PATIENCE, Icap, Program, Reader, User, ask, body_of, free_port
+from serve_lab.loopback import PATIENCE, Icap, Program, Reader, Server, User, ask, body_of, free_port
 
 
 def kept_users(proxy, count, requests, path="/bytes/1000"):
@@ -222,10 +222,27 @@ def waits_that_end_anyhow_leave_nothing_behind(bench):
     same("audit", proxy.stop(), IDLE)
 
 
+def open_connections(port):
+    """How many connections of this machine's are open to a port of it."""
+    wanted = "0100007F:%04X" % port
+    with open("/proc/net/tcp") as lines:
+        rows = [line.split() for line in lines]
+    return sum(row[2] == wanted and row[3] == "01" for row in rows[1:])
+
+
 @case
 def a_restart_of_the_service_is_not_seen(bench):
     """Eight connections lie idle when the service ends and comes again: no answer is lost, of those that can't be retried."""
-    origin = bench.origin()
+    together = threading.Barrier(8)
+
+    def exchange(conn, _number):
+        """The head, and the body once eight are asked for theirs: so each has a connection to the service meanwhile."""
+        body = body_of(int(Reader(conn).head().split(b" ")[1].split(b"/")[2]))
+        chunked = len(body) == 20000
+        conn.sendall(b"HTTP/1.1 200 OK\r\n" + (b"Transfer-Encoding: chunked\r\n\r\n" if chunked else b"Content-Length: %d\r\n\r\n" % len(body)))
+        together.wait(PATIENCE)
+        time.sleep(0.1)
+        conn.sendall(b"%x\r\n%s\r\n0\r\n\r\n" % (len(body), body) if chunked else body)
     port = free_port()
 
     def begin():
@@ -233,21 +250,20 @@ def a_restart_of_the_service_is_not_seen(bench):
         same("icapd", program.first, b"listening\n")
         return program
     service = begin()
-    proxy = bench.proxy(origin, "shards = 2", [("respmod", port, "/respmod/pass", 8)])
-    for turn in range(3):
-        together = threading.Barrier(8)
-
+    proxy = bench.proxy(bench.keep(Server(exchange)), "shards = 2", [("respmod", port, "/respmod/pass", 8)])
+    for turn in range(4):
         def one(_number):
             user = User(proxy.port)
-            together.wait(PATIENCE)
             for path in ("/chunked/20000", "/bytes/300000"):
                 found.append(user.ask(get(path)).status)
             user.close()
         found = []
         at_once(8, one)
-        print("      turn %d: %d of 16 answered 200" % (turn, found.count(200)))
-        same("all are served", found, [200] * 16)
         same("book", settled(proxy)[:24], "rows 0 held 0 claimed 0 ")
+        idle = open_connections(port)
+        print("      turn %d: %d of 16 answered 200, and %d connections lie idle" % (turn, found.count(200), idle))
+        same("all are served", found, [200] * 16)
+        same("idle", idle, 8)
         service.kill()
         service = begin()
         time.sleep(0.1)
