@@ -162,8 +162,9 @@ def capacity_keeps_nobody_waiting(bench):
         count += 1
     asker.join()
     same("answer", answers, ["ok"])
-    print("      two GiB of pages took %.2f s; the slowest two of %d requests beside it %.3f s" % (
-        time.time() - begun, 2 * count, slowest))
+    passed = time.time() - begun
+    print("      two GiB of pages took %.2f s; the slowest two of %d requests beside it %.3f s" % (passed, 2 * count, slowest))
+    same("nobody waited for them", slowest < passed / 2, True)
     same("audit", proxy.stop(), IDLE)
 
 
