@@ -22,7 +22,7 @@ use std::net::SocketAddrV4;
 use std::sync::Wait;
 use std::sync::ledger::Ledger;
 use std::time::Clock;
-use wire_kit::Gate;
+use wire_kit::{Gate, Wire};
 
 /// What a transaction stands over: its message, and the connections of its source and its next hop.
 #[derive(Drop)]
@@ -53,6 +53,11 @@ fn sides_of(ends: Ends, opened: Option<SocketWire>) -> Option<Sides> {
         }),
         (None, None) => None,
     }
+}
+
+/// Whether anything went over a connection, as a request for options does before the first message: its service may be about to close it.
+fn has_served(wire: &SocketWire) -> bool {
+    wire.counts() != (0, 0)
 }
 
 impl<'a, B: Ledgers, Q: Ledger, A: Ledger, G: Gate> Desk<'a, B, Q, A, G> {
@@ -190,9 +195,9 @@ impl<'a, B: Ledgers, Q: Ledger, A: Ledger, G: Gate> Desk<'a, B, Q, A, G> {
         let Planned { offer, .. } = planned;
         let offer = Box::into_inner(offer);
         let (service_wire, lease) = self.engage(rt, at, offer.is_offered(), connection);
-        let reused = match &lease {
-            Some(lease) => lease.reused(),
-            None => false,
+        let reused = match (&lease, &service_wire) {
+            (Some(lease), Some(wire)) => lease.reused() || has_served(wire),
+            _ => false,
         };
         self.seats.touch(at);
         self.seats.begin_answer(at.key);
