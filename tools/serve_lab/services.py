@@ -152,6 +152,21 @@ def a_broken_idle_connection_is_replaced(bench):
 
 
 @case
+def a_connection_that_broke_after_its_options_is_replaced(bench):
+    """The first message on a connection that was opened to ask for options: its service may close it just then."""
+    for point in ("reqmod", "respmod"):
+        def reply(conn, reader, head, count):
+            if count == 1:
+                Icap.rest(reader, head)
+                return False
+            return service.no_modification(conn, reader, head, count)
+        service = bench.icap(reply)
+        proxy = bench.proxy(bench.origin(), "shards = 1", [(point, service.port, "/%s/x" % point)])
+        same(point, [ask(proxy.port, get("/bytes/3")).status for _ in range(2)], [200, 200])
+        same("audit", proxy.stop(), IDLE)
+
+
+@case
 def a_stop_refuses_what_is_under_way(bench):
     origin = bench.origin()
 
