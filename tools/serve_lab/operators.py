@@ -240,6 +240,47 @@ def a_line_an_exchange_says_what_became_of_it(bench):
 
 
 @case
+def a_refused_head_has_a_line_of_its_own(bench):
+    """A further request on a connection: its line repeats nothing of the request before it."""
+    log = bench.keep(Log())
+    proxy = bench.proxy(bench.origin(), log.key)
+    for text, status, why in ((b"what\r\n\r\n", 400, "bad-request"), (b"CONNECT o.test:443 HTTP/1.1\r\nHost: o.test\r\n\r\n", 501, "not-served")):
+        user = User(proxy.port)
+        user.ask(get("/bytes/3000?secret=1"))
+        same("the request before", told(log.next()[0])[1], 200)
+        user.send(text)
+        user.reader.to_end()
+        user.close()
+        row = log.next()[0]
+        same("refused", told(row), ("DENIED", status, "-", "-", "NONE", "-", "-", why))
+        same("elapsed", int(row[1]), 0)
+    same("audit", proxy.stop(), IDLE)
+
+
+@case
+def a_line_has_the_status_of_a_cut_answer(bench):
+    """A service's own answer that breaks in its middle: the user got its head."""
+    def breaks(conn, reader, head, _count):
+        Icap.rest(reader, head)
+        text = b"HTTP/1.1 403 No\r\nContent-Length: 5000\r\n\r\n"
+        conn.sendall(b"ICAP/1.0 200 OK\r\nISTag: \"t-1\"\r\nEncapsulated: res-hdr=0, res-body=%d\r\n\r\n" % len(text) + text
+                     + b"3e8\r\n" + b"x" * 1000 + b"\r\n")
+        time.sleep(0.2)
+        return False
+    log = bench.keep(Log())
+    service = bench.icap(breaks)
+    for point in ("reqmod", "respmod"):
+        proxy = bench.proxy(bench.origin(), log.key, [(point, service.port, "/%s/x" % point)])
+        user = User(proxy.port)
+        user.send(get("/bytes/3000"))
+        same(point + ": cut", user.reader.to_end()[:12], b"HTTP/1.1 403")
+        user.close()
+        row = told(log.next()[0])
+        same(point, (row[0], row[1], row[7]), ("MISS", 403, "service-broken"))
+        same("audit", proxy.stop(), IDLE)
+
+
+@case
 def a_line_has_one_line_whatever_the_target(bench):
     origin = bench.origin()
     log = bench.keep(Log())
