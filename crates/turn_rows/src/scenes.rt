@@ -67,8 +67,13 @@ fn start<B: Ledgers, A: Wire + Drop>(
     requires small { stake.claim ≤ MAX_CAPACITY }
 {
     let Sides { message, offer } = sides;
+    let Wires {
+        source: source_wire,
+        service,
+        next_hop: next_wire,
+    } = wires;
     let service_wire = if offer.is_offered() {
-        Some(wires.service)
+        Some(service)
     } else {
         None
     };
@@ -77,9 +82,9 @@ fn start<B: Ledgers, A: Wire + Drop>(
         limits,
         stake,
         message,
-        source_wire: wires.source,
+        source_wire,
         service_wire,
-        next_wire: wires.next_hop,
+        next_wire,
         deadline: DEADLINE,
         now: BEGIN,
         reused: limits.retry,
