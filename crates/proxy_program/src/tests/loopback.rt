@@ -6,7 +6,7 @@ use crate::serve::read_configuration;
 use crate::serving::serve_ports;
 use mio::net::TcpListener as Listener;
 use proxy_config::Config;
-use shard_loop::{StopAudit, Stopped};
+use shard_loop::{Append, StopAudit, Stopped};
 use socket_wire::Dial;
 use std::alloc::Global;
 use std::io::{self, ErrorKind, Write};
@@ -156,7 +156,7 @@ fn play<R: Threads + Sync>(
 /// Runs the proxy with these lines of a configuration while a scene is played, and stops it. Whether all went as it should,
 /// and nothing was out at the end. Both handles are the test's own: threads are started by a bound alone.
 pub fn goes_well<
-    R: Threads + Wait + Net<Listener = TcpListener, Stream = TcpStream> + Dial + Clock + Sync,
+    R: Threads + Wait + Net<Listener = TcpListener, Stream = TcpStream> + Dial + Append + Clock + Sync,
 >(rt: &R, host: &HostRuntime, scene: Scene, more: &str) -> io::Result<bool> {
     let alloc = host.alloc();
     let others = make_others(host)?;
