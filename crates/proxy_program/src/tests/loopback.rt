@@ -156,7 +156,13 @@ fn play<R: Threads + Sync>(
 /// Runs the proxy with these lines of a configuration while a scene is played, and stops it. Whether all went as it should,
 /// and nothing was out at the end. Both handles are the test's own: threads are started by a bound alone.
 pub fn goes_well<
-    R: Threads + Wait + Net<Listener = TcpListener, Stream = TcpStream> + Dial + Append + Clock + Sync,
+    R: Threads
+        + Wait
+        + Net<Listener = TcpListener, Stream = TcpStream>
+        + Dial
+        + Append
+        + Clock
+        + Sync,
 >(rt: &R, host: &HostRuntime, scene: Scene, more: &str) -> io::Result<bool> {
     let alloc = host.alloc();
     let others = make_others(host)?;
