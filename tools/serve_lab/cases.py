@@ -100,6 +100,28 @@ def at_once(count, one):
     same("users that failed", wrong, [])
 
 
+def comes(what, true, patience=5.0):
+    """It becomes true in time."""
+    end = time.time() + patience
+    while not true():
+        if time.time() > end:
+            raise AssertionError("%s doesn't come" % what)
+        time.sleep(0.01)
+
+
+def statuses_of(proxy, users, paths):
+    """The statuses that these users get at once, each for all paths on one connection."""
+    found = []
+
+    def one(_number):
+        user = User(proxy.port)
+        for path in paths:
+            found.append(user.ask(get(path)).status)
+        user.close()
+    at_once(users, one)
+    return found
+
+
 def settled(proxy, patience=5.0):
     """What `book` says once no transaction is open: a thread may be on its way from the last byte to the end."""
     end = time.time() + patience

@@ -9,22 +9,14 @@ import tempfile
 import threading
 import time
 
-from serve_lab.cases import ADAPTPROXY, IDLE, case, get, post, same
+from serve_lab.cases import ADAPTPROXY, IDLE, case, comes, get, post, same
 from serve_lab.loopback import PATIENCE, TOP, Icap, Program, Server, User, ask, body_of, free_port
 
 
-def is_refused(port):
+def is_closed(port):
     """Whether the system refuses a connection to this port."""
     with socket.socket() as sock:
         return sock.connect_ex(("127.0.0.1", port)) != 0
-
-
-def comes(what, true, patience=5.0):
-    end = time.time() + patience
-    while not true():
-        if time.time() > end:
-            raise AssertionError(what + " doesn't come")
-        time.sleep(0.02)
 
 
 @case
@@ -38,7 +30,7 @@ def a_drain_lets_users_go(bench):
     half.send(get("/bytes/5")[:-2])
     comes("the exchange", lambda: len(origin.heads) == 2)
     same("drain", proxy.say("drain", "book")[0], "ok")
-    comes("the closed port", lambda: is_refused(proxy.port))
+    comes("the closed port", lambda: is_closed(proxy.port))
     begun = time.time()
     same("between requests", idle.is_ended(), True)
     same("silent", silent.is_ended(), True)
@@ -138,7 +130,7 @@ def the_launcher_drains_and_stops(bench):
             comes("the exchange", lambda: len(origin.heads) > heads)
             for number in signals:
                 launcher.send_signal(number)
-                comes("the closed port", lambda: is_refused(port))
+                comes("the closed port", lambda: is_closed(port))
             same("refused", user.reader.to_end()[:12], b"HTTP/1.1 %d" % wanted)
             same("ended", (launcher.wait(PATIENCE), launcher.stdout.read()), (0, (IDLE + "\n").encode()))
             user.close()

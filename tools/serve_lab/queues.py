@@ -4,7 +4,7 @@ import socket
 import threading
 import time
 
-from serve_lab.cases import ICAPD, IDLE, at_once, case, get, is_refused, post, refusal, same, settled
+from serve_lab.cases import ICAPD, IDLE, at_once, case, get, is_refused, post, refusal, same, settled, statuses_of
 from serve_lab.loopback import PATIENCE, Icap, Program, Reader, Server, User, ask, body_of, free_port
 
 
@@ -252,13 +252,7 @@ def a_restart_of_the_service_is_not_seen(bench):
     service = begin()
     proxy = bench.proxy(bench.keep(Server(exchange)), "shards = 2", [("respmod", port, "/respmod/pass", 8)])
     for turn in range(4):
-        def one(_number):
-            user = User(proxy.port)
-            for path in ("/chunked/20000", "/bytes/300000"):
-                found.append(user.ask(get(path)).status)
-            user.close()
-        found = []
-        at_once(8, one)
+        found = statuses_of(proxy, 8, ("/chunked/20000", "/bytes/300000"))
         same("book", settled(proxy)[:24], "rows 0 held 0 claimed 0 ")
         idle = open_connections(port)
         print("      turn %d: %d of 16 answered 200, and %d connections lie idle" % (turn, found.count(200), idle))

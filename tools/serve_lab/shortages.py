@@ -8,7 +8,7 @@ import sys
 import threading
 import time
 
-from serve_lab.cases import ADAPTPROXY, IDLE, at_once, case, get, is_refused, post, refusal, same, settled
+from serve_lab.cases import ADAPTPROXY, IDLE, at_once, case, comes, get, is_refused, post, refusal, same, settled, statuses_of
 from serve_lab.loopback import PATIENCE, TOP, Icap, Program, Reader, Server, User, ask, body_of, free_port
 
 
@@ -16,15 +16,6 @@ def never(_conn, reader, head, _count):
     """A service that hears its request and doesn't answer."""
     Icap.rest(reader, head)
     time.sleep(30)
-
-
-def comes(what, true, patience=5.0):
-    """It becomes true in time."""
-    end = time.time() + patience
-    while not true():
-        if time.time() > end:
-            raise AssertionError("%s doesn't come" % what)
-        time.sleep(0.01)
 
 
 def is_open(user):
@@ -393,13 +384,7 @@ def connections_that_a_service_has_closed_are_not_used(bench):
     service = bench.icap(reply, [b"Max-Connections: 8", b"Options-TTL: 3600"])
     proxy = bench.proxy(origin, "shards = 2", [("respmod", service.port, "/respmod/x")])
     for turn in range(3):
-        def one(_number):
-            user = User(proxy.port)
-            for path in ("/chunked/20000", "/bytes/300000"):
-                found.append(user.ask(get(path)).status)
-            user.close()
-        found = []
-        at_once(6, one)
+        found = statuses_of(proxy, 6, ("/chunked/20000", "/bytes/300000"))
         same("all are served, %d" % turn, found, [200] * 12)
         comes("idle connections", lambda: settled(proxy, 0).startswith("rows 0 "))
         for conn in set(opened):
