@@ -19,7 +19,7 @@ def all_bodies(bench, services, changed=bytes, sizes=SIZES):
             same("upload of %d" % size, (answer.status, answer.body), (200, changed(body_of(size))))
         head = ask(proxy.port, get("/bytes/%d" % size, method="HEAD"), True)
         same("HEAD of %d" % size, (head.status, head.fields.get("content-length")), (200, str(size)))
-    same("book", proxy.say("book"), "rows 0 held 0 claimed 0 capacity 16777216")
+    same("book", settled(proxy), "rows 0 held 0 claimed 0 capacity 16777216")
     same("audit", proxy.stop(), IDLE)
 
 

@@ -1,12 +1,16 @@
 """What the cases of tools/try_serve share: their list, the programs, requests, and what a refusal is."""
 import os
+import subprocess
 import threading
 import time
 
+from serve_lab.lines import Lines
 from serve_lab.loopback import TOP, Icap, Origin, Program, Proxy, User, free_port
 
 ADAPTPROXY = os.environ.get("ADAPTPROXY", os.path.join(TOP, "bin", "adaptproxy"))
 ICAPD = os.environ.get("ICAPD", os.path.join(TOP, "bin", "icapd"))
+# Whether each proxy keeps a log.
+LOGGED = bool(os.environ.get("LOGGED"))
 CASES = []
 
 
@@ -24,10 +28,11 @@ def same(what, found, wanted):
 
 
 class Bench:
-    """An origin, icapd, and a proxy: all that a case makes is ended behind it."""
+    """An origin, icapd, and a proxy: all that a case makes is ended after it."""
 
     def __init__(self):
         self.all = []
+        self.logs = []
 
     def keep(self, thing):
         self.all.append(thing)
@@ -45,12 +50,35 @@ class Bench:
         same("icapd", program.first, b"listening\n")
         return port
 
-    def proxy(self, origin, text="", services=(), hosts="", descriptors=None):
-        return self.keep(Proxy(ADAPTPROXY, origin.port, text, services, hosts, descriptors))
+    def proxy(self, origin, text="", services=(), hosts="", descriptors=None, logged=LOGGED):
+        lines = Lines() if logged and "log =" not in text else None
+        proxy = self.keep(Proxy(ADAPTPROXY, origin.port, (lines.key if lines else "") + text, services, hosts, descriptors))
+        if lines:
+            self.logs.append((proxy, lines))
+        return proxy
 
     def end(self):
+        """Ends all that was made. Answers what is wrong in the logs of the proxies that were stopped."""
+        for proxy, _lines in self.logs:
+            if proxy.process.poll() is None:
+                try:
+                    proxy.stop()
+                except (OSError, subprocess.TimeoutExpired):
+                    pass
         for thing in reversed(self.all):
             (thing.kill if isinstance(thing, Program) else thing.close)()
+        wrong = []
+        for proxy, lines in self.logs:
+            if proxy.process.returncode == 0:
+                wrong += lines.faults(proxy.port)
+            lines.close()
+        return wrong
+
+
+def lent(proxy, bytes_more):
+    """Lets the program have `bytes_more` of memory beside what it has; all that it wants where that is None."""
+    most = "unlimited" if bytes_more is None else str(1024 * proxy.figure("VmData") + bytes_more)
+    subprocess.run(["prlimit", "--pid", str(proxy.process.pid), "--data=%s:" % most], check=True)
 
 
 def get(path, extra="", method="GET", version="1.1"):

@@ -9,7 +9,7 @@ import tempfile
 import threading
 import time
 
-from serve_lab.cases import IDLE, at_once, case, get, refusal, same, settled
+from serve_lab.cases import IDLE, at_once, case, get, lent, refusal, same, settled
 from serve_lab.loopback import Closed, User, ask, body_of
 
 
@@ -61,7 +61,7 @@ def a_dial_for_which_there_is_no_room_is_503(bench):
         same(error, user.reader.to_end(), refusal(status))
         user.close()
         same("the call failed", any("INJECTED" in line for line in trace.close()), True)
-    same("behind them", ask(proxy.port, get("/bytes/3")).body, b"the")
+    same("after them", ask(proxy.port, get("/bytes/3")).body, b"the")
     same("audit", proxy.stop(), IDLE)
 
 
@@ -79,7 +79,7 @@ def waits_after_accepts(lines):
 
 @case
 def a_loop_that_accepts_many_does_not_rest(bench):
-    """256 connections are accepted in a turn, and the wait after that is none."""
+    """256 connections are accepted in a turn, and the loop does not wait after that."""
     if not has_strace():
         return
     if resource.getrlimit(resource.RLIMIT_NOFILE)[1] < 4096:
@@ -120,7 +120,7 @@ def a_refusal_and_its_close_share_a_deadline(bench):
     """A refusal that can't be written for a while leaves less of the deadline to the close after it."""
     if not has_strace():
         return
-    proxy = bench.proxy(bench.origin(), "shards = 1\ndeadline = 3")
+    proxy = bench.proxy(bench.origin(), "shards = 1\ndeadline = 3", logged=False)
     user = User(proxy.port)
     time.sleep(0.2)
     trace = Strace(proxy, "-e", "trace=sendto,shutdown,close", "-e", "inject=sendto:error=EAGAIN:when=1")
@@ -165,12 +165,6 @@ def a_long_table_of_hosts_is_not_searched_from_the_front(bench):
         same("audit", proxy.stop(), IDLE)
     print("      2,000 requests took %.2f s of a processor with 2 names, %.2f s with 30,000" % tuple(used))
     same("as fast", used[1] <= 2 * used[0] + 0.1, True)
-
-
-def lent(proxy, bytes_more):
-    """Lets the program have so many bytes of memory more than it has; all it wants where it is None."""
-    most = "unlimited" if bytes_more is None else str(1024 * proxy.figure("VmData") + bytes_more)
-    subprocess.run(["prlimit", "--pid", str(proxy.process.pid), "--data=%s:" % most], check=True)
 
 
 @case

@@ -1,4 +1,5 @@
 """Parts for trying `adaptproxy serve` over loopback: the programs, an origin, an ICAP service and a client."""
+import collections
 import os
 import socket
 import struct
@@ -8,6 +9,8 @@ import time
 
 TOP = os.path.dirname(os.path.dirname(os.path.dirname(os.path.abspath(__file__))))
 PATIENCE = 20.0
+# The statuses of the answers that users have read, by the port.
+SEEN = collections.defaultdict(collections.Counter)
 
 
 def body_of(count):
@@ -27,11 +30,12 @@ class Closed(Exception):
 
 
 class Reader:
-    """Reads messages off a socket."""
+    """Reads messages off a socket; a user's answers are counted under its port."""
 
-    def __init__(self, sock):
+    def __init__(self, sock, port=None):
         self.sock = sock
         self.raw = b""
+        self.port = port
 
     def more(self):
         piece = self.sock.recv(65536)
@@ -58,7 +62,14 @@ class Reader:
                 self.more()
         except (Closed, ConnectionResetError):
             out, self.raw = self.raw, b""
+            self.count(out)
             return out
+
+    def count(self, head):
+        """Counts an answer of which so much was read."""
+        status = head[9:12]
+        if self.port is not None and head.startswith(b"HTTP/1.1 ") and b"\r\n" in head and status.isdigit() and status[:1] != b"1":
+            SEEN[self.port][int(status)] += 1
 
     def head(self):
         return self.until(b"\r\n\r\n")
@@ -107,6 +118,7 @@ class Answer:
         self.head = reader.head()
         while self.head.startswith(b"HTTP/1.1 100"):
             self.head = reader.head()
+        reader.count(self.head)
         self.fields = fields_of(self.head)
         self.status = int(self.fields[""].split(" ")[1])
         bodyless = to_head or self.status in (204, 304)
@@ -128,7 +140,7 @@ class User:
             self.sock.bind((source, 0))
         self.sock.connect(("127.0.0.1", port))
         self.sock.setsockopt(socket.IPPROTO_TCP, socket.TCP_NODELAY, 1)
-        self.reader = Reader(self.sock)
+        self.reader = Reader(self.sock, port)
 
     def send(self, data):
         self.sock.sendall(data)
@@ -167,7 +179,7 @@ class Server:
     def __init__(self, serve):
         self.serve = serve
         self.count = 0
-        self.open = 0
+        self.inside = set()
         self.most = 0
         self.lock = threading.Lock()
         self.sock = socket.socket()
@@ -190,8 +202,8 @@ class Server:
 
     def one(self, conn, number):
         with self.lock:
-            self.open += 1
-            self.most = max(self.most, self.open)
+            self.inside.add(conn)
+            self.most = max(self.most, len(self.inside))
         try:
             conn.settimeout(PATIENCE)
             conn.setsockopt(socket.IPPROTO_TCP, socket.TCP_NODELAY, 1)
@@ -199,9 +211,13 @@ class Server:
         except (Closed, OSError, ValueError):
             pass
         finally:
-            with self.lock:
-                self.open -= 1
+            self.leave(conn)
             conn.close()
+
+    def leave(self, conn):
+        """Counts a connection no more. Before the other side is told that it ends, since that may open the next one at once."""
+        with self.lock:
+            self.inside.discard(conn)
 
     def close(self):
         try:
@@ -298,6 +314,8 @@ class Icap(Server):
                     self.release.wait(PATIENCE)
                     return
                 method = b"REQMOD" if b"/reqmod" in head.split(b"\r\n")[0] else b"RESPMOD"
+                if b"Connection: close" in self.extra:
+                    self.leave(conn)
                 conn.sendall(b"ICAP/1.0 200 OK\r\nMethods: " + method + b"\r\nISTag: \"t-1\"\r\nAllow: 204\r\n"
                              + self.extra + b"Encapsulated: null-body=0\r\n\r\n")
                 if b"Connection: close" in self.extra:
@@ -357,7 +375,7 @@ class Program:
         self.first = self.process.stdout.readline()
 
     def ended(self, patience=PATIENCE):
-        """What it printed behind its first line, on standard error, and its status."""
+        """What it printed after its first line, on standard error, and its status."""
         status = self.process.wait(patience)
         return self.process.stdout.read(), self.process.stderr.read(), status
 
@@ -393,9 +411,9 @@ class Proxy(Program):
         if self.first != b"listening\n":
             raise AssertionError("not listening: %r" % (self.ended(),))
 
-    def say(self, *lines):
+    def say(self, *lines, patience=PATIENCE):
         """The answers of the admin port to these lines."""
-        with socket.create_connection(("127.0.0.1", self.admin), PATIENCE) as sock:
+        with socket.create_connection(("127.0.0.1", self.admin), patience) as sock:
             reader = Reader(sock)
             answers = []
             for line in lines:

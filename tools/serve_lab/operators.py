@@ -9,8 +9,9 @@ import tempfile
 import threading
 import time
 
-from serve_lab.cases import ADAPTPROXY, IDLE, case, comes, get, post, same
-from serve_lab.loopback import PATIENCE, TOP, Icap, Program, Server, User, ask, body_of, free_port
+from serve_lab.cases import ADAPTPROXY, IDLE, case, comes, get, lent, post, same
+from serve_lab.lines import LINE
+from serve_lab.loopback import PATIENCE, TOP, Icap, Program, Reader, Server, User, ask, body_of, free_port
 
 
 def is_closed(port):
@@ -136,33 +137,60 @@ def the_launcher_drains_and_stops(bench):
             user.close()
 
 
+def times_beside(proxy, user, ends):
+    """How long each request took that was made until `ends` says so, in order of length; 200 of them at least."""
+    times = []
+    while len(times) < 200 or not ends():
+        before = time.time()
+        same("meanwhile", user.ask(get("/bytes/3")).body, b"the")
+        times.append(time.time() - before)
+    return sorted(times)
+
+
 @case
 def capacity_keeps_nobody_waiting(bench):
     origin = bench.origin()
     proxy = bench.proxy(origin, "shards = 1")
     user = User(proxy.port)
-    same("served", user.ask(get("/bytes/3")).body, b"the")
-    answers = []
-    asker = threading.Thread(target=lambda: answers.append(proxy.say("capacity %d" % (1 << 31))))
+    quiet = times_beside(proxy, user, lambda: True)
+    answers, sizes = [], [1 << 30, 1 << 24, 1 << 30, 4096 * 77]
+    asker = threading.Thread(target=lambda: answers.extend(proxy.say("capacity %d" % size, patience=120) for size in sizes))
+    begun = time.time()
     asker.start()
-    slowest, begun, count = 0.0, time.time(), 0
-    while asker.is_alive() or count < 20:
-        before = time.time()
-        same("meanwhile", user.ask(get("/bytes/3")).body, b"the")
-        same("a new user", ask(proxy.port, get("/bytes/4")).body, b"the ")
-        slowest = max(slowest, time.time() - before)
-        count += 1
+    times = times_beside(proxy, user, lambda: not asker.is_alive())
     asker.join()
-    same("answer", answers, ["ok"])
-    passed = time.time() - begun
-    print("      two GiB of pages took %.2f s; the slowest two of %d requests beside it %.3f s" % (passed, 2 * count, slowest))
-    same("nobody waited for them", slowest < passed / 2, True)
+    passed, slow = time.time() - begun, len(times) * 99 // 100
+    same("answers", answers, ["ok"] * len(sizes))
+    print("      four GiB that came and went took %.2f s; of %d requests beside it p99 %.3f s, the slowest %.3f s; %.3f s before it" % (
+        passed, len(times), times[slow], times[-1], quiet[-1]))
+    same("p99", times[slow] < max(0.05, 2 * quiet[-1], passed / 80), True)
+    same("the slowest", times[-1] < max(0.1, 3 * quiet[-1], passed / 20), True)
+    same("a new user", ask(proxy.port, get("/bytes/4")).body, b"the ")
+    same("book", proxy.say("book"), "rows 0 held 0 claimed 0 capacity 315392")
     same("audit", proxy.stop(), IDLE)
 
 
-# A line: time, elapsed, user, tag/status, bytes, method, target, login, hierarchy, media type, and three fields of ours.
-LINE = re.compile(r'(\d+\.\d{3}) (\d+) (\S+) (TCP_MISS|TCP_DENIED)/(\d{3}) (\d+) (\S+) (\S+) - '
-                  r'(HIER_DIRECT/[0-9.]+|HIER_NONE/-) (\S+) reqmod=(\S+) respmod=(\S+) why=(\S+)')
+@case
+def a_capacity_that_is_refused_stays(bench):
+    origin = bench.origin()
+    proxy = bench.proxy(origin, "capacity = 268435456\ndeadline = 600")
+    user = User(proxy.port)
+    request = post("/echo", body_of(100))
+    user.send(request[:-10])
+    comes("the reservation", lambda: proxy.say("book").startswith("rows 1 held 0 "))
+    book = proxy.say("book")
+    claimed = int(book.split()[5])
+    same("reserved", (claimed > 1, book.split()[7]), (True, "268435456"))
+    same("too low", proxy.say("capacity %d" % (claimed - 1), "book"), ["refused %d" % claimed, book])
+    same("just so low", proxy.say("capacity %d" % claimed, "capacity 268435456", "book"), ["ok", "ok", book])
+    # Memory for another 128 MiB, and no more: the growth stops half way, and goes back.
+    lent(proxy, 1 << 27)
+    same("too high", proxy.say("capacity %d" % (1 << 30), "book"), ["out of memory", book])
+    lent(proxy, None)
+    same("with memory", proxy.say("capacity %d" % (1 << 29)), "ok")
+    user.send(request[-10:])
+    same("it goes on", user.answer().body, body_of(100))
+    same("audit", proxy.stop(), IDLE)
 
 
 class Log:
@@ -392,6 +420,52 @@ def a_line_says_that_a_user_has_gone(bench):
 
 
 @case
+def a_line_says_who_let_a_deadline_pass(bench):
+    """A user that takes nothing of a long answer, and an origin that takes nothing of a long request."""
+    origin = bench.origin()
+    log = bench.keep(Log())
+    previews = bench.icap(options=(b"Preview: 4", b"Transfer-Preview: *"))
+    for what, services in (("not offered", []), ("204", [("respmod", previews.port, "/respmod")]),
+                           ("200", [("respmod", bench.icap().port, "/respmod")])):
+        proxy = bench.proxy(origin, log.key + "deadline = 1\n", services)
+        user = User(proxy.port, narrow=True)
+        user.send(get("/bytes/20000000"))
+        row = told(log.next()[0])
+        same(what, (row[0], row[1], row[7]), ("MISS", 200, "user-deadline"))
+        user.close()
+        same("audit", proxy.stop(), IDLE)
+
+    def blocks(conn, reader, head, _count):
+        Icap.rest(reader, head)
+        text, page = b"HTTP/1.1 403 No\r\n\r\n", body_of(1 << 20)
+        conn.sendall(b"ICAP/1.0 200 OK\r\nISTag: \"t-1\"\r\nEncapsulated: res-hdr=0, res-body=%d\r\n\r\n" % len(text) + text)
+        for _ in range(8):
+            conn.sendall(b"%x\r\n%s\r\n" % (len(page), page))
+        conn.sendall(b"0\r\n\r\n")
+    proxy = bench.proxy(origin, log.key + "deadline = 1\n", [("reqmod", bench.icap(blocks).port, "/reqmod")])
+    user = User(proxy.port, narrow=True)
+    user.send(get("/bytes/3"))
+    row = told(log.next()[0])
+    same("a service's own answer", (row[0], row[1], row[5], row[7]), ("MISS", 403, "200", "user-deadline"))
+    user.close()
+    same("audit", proxy.stop(), IDLE)
+
+    def deaf(conn, _number):
+        Reader(conn).head()
+        time.sleep(5)
+    proxy = bench.proxy(bench.keep(Server(deaf)), log.key + "deadline = 1\n")
+    user = User(proxy.port)
+    try:
+        user.send(post("/upload", body_of(20000000)))
+    except OSError:
+        pass
+    row = told(log.next()[0])
+    same("a request", (row[0], row[1], row[7]), ("DENIED", 504, "origin-deadline"))
+    user.close()
+    same("audit", proxy.stop(), IDLE)
+
+
+@case
 def a_log_is_opened_anew(bench):
     origin = bench.origin()
     log = bench.keep(Log())
@@ -414,7 +488,7 @@ def a_log_is_opened_anew(bench):
     os.rmdir(log.path)
     ask(proxy.port, get("/bytes/4"))
     same("audit", proxy.stop(), IDLE)
-    plain = bench.proxy(origin)
+    plain = bench.proxy(origin, logged=False)
     same("without a log", plain.say("reopen"), "cannot open")
     same("audit", plain.stop(), IDLE)
 

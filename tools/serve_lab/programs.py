@@ -34,7 +34,7 @@ def no_target_is_the_proxy_itself(bench):
 
 @case
 def a_line_of_http_ends_its_admin_connection(bench):
-    """What a page has a browser say to the administrator's port is bad, and nothing behind its first line is read."""
+    """What a page has a browser say to the administrator's port is bad, and nothing after its first line is read."""
     origin = bench.origin()
     proxy = bench.proxy(origin)
     for first in (b"POST / HTTP/1.1\r\n", b"GET / HTTP/1.1\r\n", b"M-SEARCH * HTTP/1.1\r\n", b"hoST: 127.0.0.1\r\n"):

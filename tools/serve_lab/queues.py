@@ -9,7 +9,7 @@ from serve_lab.loopback import PATIENCE, Icap, Program, Reader, Server, User, as
 
 
 def kept_users(proxy, count, requests, path="/bytes/1000"):
-    """So many users, each with so many requests on connections that are kept where the proxy keeps them: how many answers have
+    """`count` users, each with `requests` requests on connections that are kept where the proxy keeps them: how many answers have
     which status, and the longest wait for one."""
     found, longest, lock = {}, [0.0], threading.Lock()
 
@@ -41,7 +41,7 @@ def waiting(proxy):
 
 
 def wait_for(proxy, count, patience=5.0):
-    """Waits until so many wait."""
+    """Waits until that many users wait."""
     end = time.time() + patience
     while waiting(proxy) != count:
         if time.time() > end:
@@ -266,7 +266,7 @@ def a_restart_of_the_service_is_not_seen(bench):
 
 @case
 def a_connection_that_ends_too_early_isnt_put_back(bench):
-    """A 204 behind 3 of 8 body bytes that were offered whole: the rest isn't sent, and the connection serves no more."""
+    """A 204 after 3 of 8 body bytes that were offered whole: the rest isn't sent, and the connection serves no more."""
     origin = bench.origin()
     seen = []
 

@@ -41,7 +41,7 @@ def the_worked_exchange(bench):
          b"RESPMOD icap://%s/respmod/upper ICAP/1.0\r\nHost: %s\r\nPreview: 4\r\n" % (host, host)
          + b"Encapsulated: req-hdr=0, res-hdr=50, res-body=88\r\n\r\n" + WORKED
          + b"HTTP/1.1 200 OK\r\nContent-Length: 6\r\n\r\n4\r\nabcd\r\n0\r\n\r\n")
-    same("behind the 100", seen[1], b"2\r\nef\r\n0\r\n\r\n")
+    same("after the 100", seen[1], b"2\r\nef\r\n0\r\n\r\n")
     user.send(WORKED)
     same("again", user.reader.exactly(len(answer)), answer)
     same("audit", proxy.stop(), IDLE)

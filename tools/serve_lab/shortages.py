@@ -9,7 +9,7 @@ import threading
 import time
 
 from serve_lab.cases import ADAPTPROXY, IDLE, at_once, case, comes, get, is_refused, post, refusal, same, settled, statuses_of
-from serve_lab.loopback import PATIENCE, TOP, Icap, Program, Reader, Server, User, ask, body_of, free_port
+from serve_lab.loopback import PATIENCE, TOP, Closed, Icap, Program, Reader, Server, User, ask, body_of, free_port
 
 
 def never(_conn, reader, head, _count):
@@ -138,7 +138,7 @@ def threads_have_names(bench):
 
 @case
 def bulk_doesnt_hold_up_others(bench):
-    """Between two waits of its thread an exchange moves at most 8 rounds of turns: so many reads of its origin's answer."""
+    """Between two waits of its thread an exchange moves at most 8 rounds of turns, so it reads its origin's answer at most 8 times."""
     if shutil.which("strace") is None:
         print("      needs strace: left out")
         return
@@ -224,14 +224,25 @@ def answers_that_are_cut_are_seen_to_be(bench):
         same("audit", proxy.stop(), IDLE)
 
 
+def asked_again(port):
+    """The status of an answer to a user who asks anew where it is closed: a head that isn't there yet gives way to one who
+    waits."""
+    for _ in range(20):
+        try:
+            return ask(port, get("/bytes/3")).status
+        except (Closed, OSError):
+            time.sleep(0.05)
+    raise AssertionError("closed each time")
+
+
 @case
 def descriptors_are_shared_by_those_who_are_let_in(bench):
     origin = bench.origin()
-    proxy = bench.proxy(origin, "deadline = 20", descriptors=40)
+    proxy = bench.proxy(origin, "deadline = 20", descriptors=54)
     statuses = []
 
     def one(_number):
-        statuses.append(ask(proxy.port, get("/bytes/3")).status)
+        statuses.append(asked_again(proxy.port))
     at_once(150, one)
     same("each is served", (len(statuses), set(statuses)), (150, {200}))
     idle = [User(proxy.port) for _ in range(30)]
@@ -240,6 +251,42 @@ def descriptors_are_shared_by_those_who_are_let_in(bench):
     same("beside unfinished heads", ask(proxy.port, get("/bytes/3")).body, b"the")
     for user in idle:
         user.close()
+    same("audit", proxy.stop(), IDLE)
+
+
+@case
+def idle_connections_take_no_descriptor_of_a_user(bench):
+    """A service that allows more connections than the key says: users that were let in always find descriptors."""
+    def slowly(conn, reader, head, count):
+        time.sleep(0.03)
+        return service.no_modification(conn, reader, head, count)
+    origin = bench.origin()
+    service = bench.icap(slowly, options=[b"Max-Connections: 500", b"Preview: 0", b"Transfer-Preview: *"])
+    services = [("reqmod", service.port, "/reqmod/x", 8), ("respmod", service.port, "/respmod/x", 8)]
+    proxy = bench.proxy(origin, "deadline = 20\nwait = 20", services, descriptors=200)
+    statuses, most = [], []
+
+    def kept(_number):
+        user = User(proxy.port)
+        for _ in range(8):
+            try:
+                answer = user.ask(get("/bytes/3"))
+            except (Closed, OSError):
+                # Between two requests, or before the first one, it may be closed for one who waits.
+                break
+            statuses.append(answer.status)
+            if answer.fields.get("connection") == "close":
+                break
+        user.close()
+
+    def fresh(_number):
+        statuses.append(asked_again(proxy.port))
+    for users, one in ((50, kept), (150, fresh), (50, kept)):
+        time.sleep(0.3)
+        at_once(users, one)
+        same("each is served", (set(statuses), len(statuses) >= users), ({200}, True))
+        most.append(proxy.descriptors())
+    print("      descriptors afterwards: %s; %d connections were opened to the service" % (most, service.count))
     same("audit", proxy.stop(), IDLE)
 
 

@@ -199,7 +199,7 @@ def want_of_descriptors_is_survived(bench):
     for user in users[:40]:
         user.close()
     time.sleep(0.5)
-    same("behind it", ask(proxy.port, get("/bytes/3")).body, body_of(3))
+    same("after it", ask(proxy.port, get("/bytes/3")).body, body_of(3))
     same("audit", proxy.stop(), IDLE)
 
 

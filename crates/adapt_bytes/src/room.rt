@@ -9,7 +9,7 @@ use std::marker::Model;
 /// A text that is written into room of a known size; contracts see the text and the room that is left.
 ///
 /// ```
-/// let mut room = Room::new(rt.alloc, 13)?;
+/// let mut room = Room::new(rt.alloc(), 13)?;
 /// room.put(b"HTTP/1.1 ");
 /// room.put(b"200 ");
 /// assert_eq!(rt; room.into_vec(), b"HTTP/1.1 200 ");

@@ -68,23 +68,15 @@ hops_others ng bg ngiven bgiven naside baside nk bk next back plan before event 
       | inr (inr (inr over)) ↦ absurd (false≢true (sym legal.0.0 ∙ over.over))
     ]
 
--- the next hop's wire took more of the message
-pub next_gives : (ng ng' bg : Gift) (go gn bgiven : Seen → List ℕ → List ℕ → List ℕ → Type 0) (ao an baside : List ℕ → Type 0) (x y : Seen) (body next back delta : List ℕ)
-    → x.closed ≡ false → bg ≡ nothing → (ng ≡ nothing → ⊥) → ng' ≡ ng
-    → ((head taken : List ℕ) → go x head body taken → gn y head body (taken ++ delta))
-    → HopsAre ng bg go ao bgiven baside x body next back → HopsAre ng' bg gn an bgiven baside y body (next ++ delta) back
-next_gives ng ng' bg go gn bgiven ao an baside x y body next back delta c idle busy same on_ p =
+-- the two wires, named the other way round
+pub hops_swap : (ng bg : Gift) (ngiven bgiven : Seen → List ℕ → List ℕ → List ℕ → Type 0) (naside baside : List ℕ → Type 0) (x : Seen) (body next back : List ℕ)
+    → HopsAre ng bg ngiven naside bgiven baside x body next back → HopsAre bg ng bgiven baside ngiven naside x body back next
+hops_swap ng bg ngiven bgiven naside baside x body next back p =
     elim p [
-      | inl none ↦ absurd (busy none.next_is)
-      | inr (inl on) ↦ inr (inl (record {
-        begun = same ∙ on.begun;
-        alone = λ w. idle;
-        head = on.head;
-        given_is = on_ on.head next on.given_is;
-        aside_is = on.aside_is;
-      }))
-      | inr (inr (inl on)) ↦ absurd (let e : nothing ≡ message = sym idle ∙ on.begun in cc)
-      | inr (inr (inr over)) ↦ absurd (false≢true (sym c ∙ over.over))
+      | inl none ↦ inl (record { next_is = none.back_is; back_is = none.next_is; none = none.none; next_aside_is = none.back_aside_is; back_aside_is = none.next_aside_is })
+      | inr (inl on) ↦ inr (inr (inl on))
+      | inr (inr (inl on)) ↦ inr (inl on)
+      | inr (inr (inr over)) ↦ inr (inr (inr (record { over = over.over; none = over.none; next_aside_is = over.back_aside_is; back_aside_is = over.next_aside_is })))
     ]
 
 -- the source's wire took more of an answer
@@ -105,6 +97,14 @@ back_gives ng bg bg' go gn ngiven ao an naside x y body next back delta c busy s
       })))
       | inr (inr (inr over)) ↦ absurd (false≢true (sym c ∙ over.over))
     ]
+
+-- the next hop's wire took more of the message
+pub next_gives : (ng ng' bg : Gift) (go gn bgiven : Seen → List ℕ → List ℕ → List ℕ → Type 0) (ao an baside : List ℕ → Type 0) (x y : Seen) (body next back delta : List ℕ)
+    → x.closed ≡ false → bg ≡ nothing → (ng ≡ nothing → ⊥) → ng' ≡ ng
+    → ((head taken : List ℕ) → go x head body taken → gn y head body (taken ++ delta))
+    → HopsAre ng bg go ao bgiven baside x body next back → HopsAre ng' bg gn an bgiven baside y body (next ++ delta) back
+next_gives ng ng' bg go gn bgiven ao an baside x y body next back delta c idle busy same on_ p =
+    hops_swap bg ng' bgiven gn baside an y body back (next ++ delta) (back_gives bg ng ng' go gn bgiven ao an baside x y body back next delta c busy same on_ (hops_swap ng bg go bgiven ao baside x body next back p))
 
 -- and where the history is closed by it, the whole message
 
@@ -192,18 +192,7 @@ pub back_begins : (ng bg bg' : Gift) (go gn ngo ngn : Seen → List ℕ → List
     → x.closed ≡ false → ng ≡ nothing → bg ≡ nothing → bg' ≡ message → BeginsWith x head ao gn
     → HopsAre ng bg ngo naside go ao x body next back → HopsAre ng bg' ngn naside gn an x body next back
 back_begins ng bg bg' go gn ngo ngn ao an naside x head body next back c n b m begin p =
-    elim p [
-      | inl none ↦ inr (inr (inl (record {
-        begun = m;
-        alone = λ w. n;
-        head = head;
-        given_is = begin body back none.back_aside_is none.none.0 none.none.1;
-        aside_is = none.next_aside_is;
-      })))
-      | inr (inl on) ↦ absurd (let e : nothing ≡ message = sym n ∙ on.begun in cc)
-      | inr (inr (inl on)) ↦ absurd (let e : nothing ≡ message = sym b ∙ on.begun in cc)
-      | inr (inr (inr over)) ↦ absurd (false≢true (sym c ∙ over.over))
-    ]
+    hops_swap bg' ng gn ngn an naside x body back next (next_begins bg bg' ng go gn ngo ngn ao an naside x head body back next c b n m begin (hops_swap ng bg ngo go naside ao x body next back p))
 
 -- a refusal is put in the message's place
 
@@ -235,22 +224,7 @@ pub back_refuses : (ng bg bg' : Gift) (go gn ngiven : Seen → List ℕ → List
     → x.closed ≡ true → UntouchedGives go → ((taken : List ℕ) → ao taken → taken ≡ []) → an []
     → HopsAre ng bg ngiven naside go ao x body next back → HopsAre ng bg' ngiven naside gn an x body next back
 back_refuses ng bg bg' go gn ngiven ao an naside x body next back c given aside none p =
-    elim p [
-      | inl idle ↦ inr (inr (inr (record { over = c; none = idle.none; next_aside_is = idle.next_aside_is; back_aside_is = empty back (aside back idle.back_aside_is) })))
-      | inr (inl on) ↦ inr (inl (record {
-        begun = on.begun;
-        alone = λ w. absurd (false≢true (sym w ∙ c));
-        head = on.head;
-        given_is = on.given_is;
-        aside_is = empty back (aside back on.aside_is);
-      }))
-      | inr (inr (inl on)) ↦
-          (let w = given x on.head body back on.given_is in inr (inr (inr (record { over = c; none = (w.1, w.2); next_aside_is = on.aside_is; back_aside_is = empty back w.0 }))))
-      | inr (inr (inr over)) ↦ inr (inr (inr (record { over = c; none = over.none; next_aside_is = over.next_aside_is; back_aside_is = empty back (aside back over.back_aside_is) })))
-    ]
-  where
-    empty : (taken : List ℕ) → taken ≡ [] → an taken
-    empty taken e = subst an (sym e) none
+    hops_swap bg' ng gn ngiven an naside x body back next (next_refuses bg bg' ng go gn ngiven ao an naside x body back next c given aside none (hops_swap ng bg ngiven go naside ao x body next back p))
 
 -- more of a refusal goes out
 
@@ -269,9 +243,4 @@ pub back_refuses_on : (ng bg bg' : Gift) (go gn ngiven : Seen → List ℕ → L
     → (bg ≡ message → ⊥) → bg' ≡ bg → ((taken : List ℕ) → ao taken → an (taken ++ delta))
     → HopsAre ng bg ngiven naside go ao x body next back → HopsAre ng bg' ngiven naside gn an x body next (back ++ delta)
 back_refuses_on ng bg bg' go gn ngiven ao an naside x body next back delta un same aside p =
-    elim p [
-      | inl idle ↦ inl (record { next_is = idle.next_is; back_is = same ∙ idle.back_is; none = idle.none; next_aside_is = idle.next_aside_is; back_aside_is = aside back idle.back_aside_is })
-      | inr (inl on) ↦ inr (inl (record { begun = on.begun; alone = λ w. same ∙ on.alone w; head = on.head; given_is = on.given_is; aside_is = aside back on.aside_is }))
-      | inr (inr (inl on)) ↦ absurd (un on.begun)
-      | inr (inr (inr over)) ↦ inr (inr (inr (record { over = over.over; none = over.none; next_aside_is = over.next_aside_is; back_aside_is = aside back over.back_aside_is })))
-    ]
+    hops_swap bg' ng gn ngiven an naside x body (back ++ delta) next (next_refuses_on bg bg' ng go gn ngiven ao an naside x body back next delta un same aside (hops_swap ng bg ngiven go naside ao x body next back p))

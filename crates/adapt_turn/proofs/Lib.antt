@@ -10,6 +10,7 @@ pub mod Made
 pub mod Together
 pub mod Freeing
 mod Giving
+pub mod Writers
 pub mod Reasons
 pub mod Rows
 pub mod Refusals

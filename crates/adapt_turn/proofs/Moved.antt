@@ -1,5 +1,5 @@
 -- How many bytes went over the wires.
-use Rattle.std.proofs.Common.{◌≡◌, ℕ, Bool, true, false, zero, suc, ◌+◌, ◌-◌, ◌<◌, ◌^◌, ◌⊎◌, inl, inr, length, Option, Some, None, arith, refl, sym, ◌∙◌, ap, subst}
+use Rattle.std.proofs.Common.{◌≡◌, ℕ, Bool, true, false, ◌+◌, ◌-◌, ◌<◌, ◌^◌, length, Option, Some, None, arith, refl, sym, ◌∙◌, ap, subst}
 use Rattle.std.specs.Prelude.{MatchOption, ⊤, min}
 use Rattle.wire_kit.specs.Past.{Past}
 use Rattle.adapt_turn.specs.declared.start.Line.{Line}
@@ -88,11 +88,6 @@ moves_none {A} {C} {V} {W} on_source on_wire on_next a a' line line' x x' c0 c1 
       next_is = same_over (on_next x) c2 f2;
       sum = e;
     })))
-
--- the moment stays, or a byte moved
-pub refreshed_by : (n : ℕ) (now before : ℕ) (moves : ℕ → Type 0) → (n ≡ 0 → now ≡ before) → moves n → (now ≡ before) ⊎ ((k : ℕ) × (0 < k) × moves k)
-refreshed_by zero now before moves same m = inl (same refl)
-refreshed_by (suc n) now before moves same m = inr (suc n, omega arith, m)
 
 -- where none went over all of them, none went over each
 pub none_over : (source service next : ℕ → Type 0) → SumsBytes source service next 0 → source 0 × service 0 × next 0

@@ -109,14 +109,6 @@ writer_blamed cause failed reason f0 f1 before after_ e blamed has again = λ p 
     let f = w.2 in
     (w.0, w.1, (f.0, f.2, (λ had h. (let same : Some (hop_cause had) ≡ Some cause = sym (again had h) ∙ e in cc)), λ n. (f.3 n, has n f.0 f.1)))
 
--- behind a beginning that changed neither its fault, nor what is held, nor its wire
-pub writer_from : {A : Type 0} (cause : Cause) (h m : Holding) (reason : Holding → RelayFault → Type 0) (f0 f1 : Option RelayFault) (past : A → Past → Type 0) (after_ : Past → Type 0) (a a' : A) → m ≡ h → f1 ≡ f0 → a' ≡ a
-    → BlamedWriter cause (reason m) f1 (past a') after_ → BlamedWriter cause (reason h) f0 (past a) after_
-writer_from {A} cause h m reason f0 f1 past after_ a a' e f k w =
-    subst (λ (z : Holding). BlamedWriter cause (reason z) f0 (past a) after_) e
-    (subst (λ (z : Option RelayFault). BlamedWriter cause (reason m) z (past a) after_) f
-    (subst (λ (z : A). BlamedWriter cause (reason m) f1 (past z) after_) k w))
-
 -- and before a refusal
 pub writer_kept : {A G : Type 0} (cause : Cause) (reason : G → RelayFault → Type 0) (f0 : Option RelayFault) (past : A → Past → Type 0) (before : Past → Type 0) (y y' : G) (a a' : A) → y' ≡ y → a' ≡ a
     → BlamedWriter cause (reason y) f0 before (past a) → BlamedWriter cause (reason y') f0 before (past a')
@@ -176,11 +168,6 @@ both_waited h m before mid after_ w0 w1 r e k s t = λ p b. let u = s p b in let
     reads a b c l (inr n) = inr (omega (arith, l, n))
 
 -- the writer's pass, behind a beginning that changed neither what is held nor a wire
-
-pub waits_moved : {A : Type 0} (h m : Holding) (rests : Holding → Type 0) (past : A → Past → Type 0) (waits : Past → ℕ) (after_ : Past → Type 0) (a a' : A) → m ≡ h → a' ≡ a
-    → Waited (rests m) waits (past a') after_ → Waited (rests h) waits (past a) after_
-waits_moved {A} h m rests past waits after_ a a' e f w =
-    subst (λ (z : Holding). Waited (rests z) waits (past a) after_) e (subst (λ (z : A). Waited (rests m) waits (past z) after_) f w)
 
 -- the service's line behind a refusal
 

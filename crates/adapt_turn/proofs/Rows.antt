@@ -161,14 +161,6 @@ acts_then test h m k before mid after_ given taken act goes later = λ p b.
 
 -- The writer's pass, behind a beginning that changed neither what is held nor a wire.
 
-pub acts_moved : {A : Type 0} (test : Event → Bool) (h m k : Holding) (past : A → Past → Type 0) (after_ : Past → Type 0) (a a' : A) → m ≡ h → a' ≡ a
-    → BytesOr (Advances test m k) (past a') after_ → BytesOr (Advances test h k) (past a) after_
-acts_moved {A} test h m k past after_ a a' e f w =
-    subst (λ (z : Holding). BytesOr (Advances test z k) (past a) after_) e (subst (λ (z : A). BytesOr (Advances test m k) (past z) after_) f w)
-
-pub acts_kept : {A : Type 0} (this : Type 0) (past : A → Past → Type 0) (a a' : A) → a' ≡ a → this → BytesOr this (past a) (past a')
-acts_kept {A} this past a a' e t = subst (λ (z : A). BytesOr this (past a) (past z)) (sym e) (untouched_or this (past a) t)
-
 -- Which side a turn is for.
 
 pub by_side : (side : Side) (this : Side → Type 0) → (side ≡ Source → this Source) → (side ≡ Service → this Service) → (side ≡ NextHop → this NextHop) → this side

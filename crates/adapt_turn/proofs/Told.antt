@@ -104,10 +104,6 @@ done_reported h bytes (Some cause) reported r d = let e : outcomes.Fail cause �
 pub failed_told : (h k : Holding) (cause : Cause) → k ≡ moved h (Fail cause) [] → outcomes.Fail cause ≡ outcome_of k.history.events
 failed_told h k cause e = sym (ap (λ (y : Holding). outcome_of y.history.events) e)
 
--- what stands tells of an open one that it hasn't failed
-pub still_done : (history : History) (outcome : Outcome) → outcome ≡ outcome_of history.events → (shows history).closed ≡ false → outcome ≡ outcomes.Done
-still_done history outcome e c = e ∙ open_done history c
-
 -- a closed one that ended by Done
 pub done_told : (h k : Holding) (outcome : Outcome) → outcome ≡ outcome_of h.history.events → k ≡ h → (shows h.history).closed ≡ true → outcomes.Done ≡ outcome → IsDone k.history
 done_told h k outcome told same c e = subst (λ (y : Holding). IsDone y.history) (sym same) (c, sym told ∙ sym e)

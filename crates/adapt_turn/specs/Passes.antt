@@ -10,17 +10,18 @@ use Rattle.adapt_sides.specs.declared.source.Source.{Ghosts as Source}
 use Rattle.adapt_sides.specs.declared.service.Service.{Ghosts as Service}
 use Rattle.adapt_sides.specs.declared.hop.Hop.{Ghosts as Hop}
 use Rattle.adapt_sides.specs.declared.fault.ClientFault.TheVariants as client
+use Rattle.adapt_sides.specs.declared.fault.RelayFault.{RelayFault}
 use Rattle.adapt_sides.specs.Turns.{OfRelayWire, FailsGiving}
 use Rattle.adapt_sides.specs.Turns.Gift.{nothing, message}
 use Rattle.adapt_hold.specs.Holding.{Holding, IsTied, shows, moved}
 use Rattle.adapt_turn.specs.declared.parts.Passed.{Passed}
 use Rattle.adapt_turn.specs.declared.turned.Side.{Side}
 use Rattle.adapt_turn.specs.declared.turned.Side.TheVariants as sides
-use Rattle.adapt_turn.specs.Parts.{Lent, lending, SourcePart, SendPart, HearPart, Breaks, HasCause, FailsFor, IsOfSide, source_room, service_room, source_cause, outcome_by, outcome_of}
+use Rattle.adapt_turn.specs.Parts.{Lent, lending, SourcePart, SendPart, HearPart, HopPart, Breaks, HasCause, FailsFor, IsOfSide, source_room, service_room, source_cause, hop_cause, outcome_by, outcome_of}
 use Rattle.adapt_turn.specs.Rows.{may_step, TookBy, Advances, BytesOr}
 use Rattle.adapt_turn.specs.Stands.{IsChosen, Waited, WaitedBoth, Blamed, BlamedService, BlamedWriter}
 use Rattle.adapt_turn.specs.ByTurn.{OfWriter}
-use Rattle.adapt_turn.specs.Made.{wire_of}
+use Rattle.adapt_turn.specs.Made.{MakesAt, MakesNoneAt, adapted_of, answers_user, response_of, wire_of}
 use Rattle.adapt_turn.specs.declared.start.Line.{Line}
 
 -- the source's numbers aren't those of the history: it is no message of this transaction, which fails, and nothing is read
@@ -131,8 +132,86 @@ pub record Writers (K A C : Type 0) : Type 0 where
 abbrev pub writers : {K A C : Type 0} → Holding → K → C → K → A → Writers K A C
 writers hold next next_wire back back_wire = record { hold = hold; next = next; next_wire = next_wire; back = back; back_wire = back_wire }
 
--- A pass of the next hop's side: `answers` says that the chosen message goes back to the user, and `none` why its head couldn't be made.
-pub record NextPasses {K G A C : Type 0} (k : Hop K G) (a : Wire A) (c : Wire C) (answers : Bool) (none : Cause → Type 0) (old new : Writers K A C) (passed : Passed) : Type 0 where
+-- How the chosen message goes on: whether it answers the user, though a request was offered; that its maker of heads wasn't asked; the
+-- heads that it makes, with how the body goes; and why it makes none.
+pub record Choice (G : Type 0) : Type 1 where
+  pub answers : Bool
+  pub unasked : Type 0
+  pub makes : List ℕ → G → Type 0
+  pub none : Cause → Type 0
+
+abbrev pub choice_of : {V W G : Type 0} → Service V → (makes : Seen → Option (List ℕ) → Bool → List ℕ → G → Type 0) → (makes_none : Seen → Option (List ℕ) → Bool → Cause → Type 0) → (unasked : Type 0) → Option (Line V W) → Seen → Choice G
+choice_of v makes makes_none unasked line x = record {
+  answers = answers_user x (response_of v.is_response line);
+  unasked = unasked;
+  makes = λ head framing. MakesAt makes (adapted_of v.adapted_head line) (response_of v.is_response line) x head framing;
+  none = λ cause. MakesNoneAt makes_none (adapted_of v.adapted_head line) (response_of v.is_response line) x cause;
+}
+
+-- a message was begun before
+pub record HadMessage {K G : Type 0} (k : Hop K G) (choice : Choice G) (next back next' back' : K) : Type 0 where
+  pub unasked : choice.unasked
+  pub busy : k.gift next ≡ nothing → k.gift back ≡ nothing → ⊥
+  pub next_is : next' ≡ next
+  pub back_is : back' ≡ back
+
+-- one writer begins it now, with a head that was made; nothing is begun on the other one
+pub record BeginsOn {K G : Type 0} (k : Hop K G) (choice : Choice G) (answers : Bool) (own own' other other' : K) : Type 0 where
+  pub way : choice.answers ≡ answers
+  pub idle : k.gift own ≡ nothing
+  pub other_idle : k.gift other ≡ nothing
+  pub other_is : other' ≡ other
+  pub gift : k.gift own' ≡ message
+  pub fault : k.fault own' ≡ k.fault own
+  pub head : List ℕ
+  pub made : choice.makes head (k.body_framing own')
+  pub given : (x : Seen) (none body taken : List ℕ) → k.has_given x none body taken own → k.has_given x head body taken own'
+
+-- it goes back to the user exactly where it answers the user
+abbrev pub Begins : {K G : Type 0} → Hop K G → Choice G → (next back next' back' : K) → Type 0
+Begins k choice next back next' back' = HadMessage k choice next back next' back' ⊎ (BeginsOn k choice false next next' back back' ⊎ BeginsOn k choice true back back' next next')
+
+-- a writer gave of the message that it has
+pub record GivesMessage {K G W : Type 0} (k : Hop K G) (w : Wire W) (old new : Lent K W) (passed : Passed) : Type 0 where
+  pub part : HopPart k w old new passed
+  pub reason : HasCause (k.fault old.side) (k.fault new.side) (FailsGiving (k.breaks_length (shows old.hold.history) (k.body_framing new.side)))
+  pub again : (had : RelayFault) → k.fault old.side ≡ Some had → passed.failed ≡ Some (hop_cause had)
+  pub gift : k.gift new.side ≡ k.gift old.side
+  pub framing : k.body_framing new.side ≡ k.body_framing old.side
+  pub whole : passed.broken ≡ false
+
+-- that of the two which has a message: the one back to the user where that was begun; the other one and its wire stay
+abbrev pub GivesOne : {K G A C : Type 0} → Hop K G → Wire A → Wire C → (old new : Writers K A C) → Passed → Type 0
+GivesOne k a c old new passed =
+    ((k.gift old.back ≡ nothing) × GivesMessage k c (lending old.hold old.next old.next_wire) (lending new.hold new.next new.next_wire) passed × (new.back ≡ old.back) × (new.back_wire ≡ old.back_wire))
+    ⊎ ((k.gift old.back ≡ nothing → ⊥) × GivesMessage k a (lending old.hold old.back old.back_wire) (lending new.hold new.back new.back_wire) passed × (new.next ≡ old.next) × (new.next_wire ≡ old.next_wire))
+
+-- no message is chosen, and nothing is done
+pub record HasNoChoice {K G A C : Type 0} (choice : Choice G) (old new : Writers K A C) : Type 0 where
+  pub none : IsChosen (shows old.hold.history) → ⊥
+  pub unasked : choice.unasked
+  pub same : new ≡ old
+
+-- the head of the chosen message couldn't be made, and the transaction is closed
+pub record FailsToBegin {K G A C : Type 0} (k : Hop K G) (choice : Choice G) (old new : Writers K A C) : Type 0 where
+  pub cause : Cause
+  pub none : choice.none cause
+  pub next_idle : k.gift old.next ≡ nothing
+  pub back_idle : k.gift old.back ≡ nothing
+  pub new_is : new ≡ writers (moved old.hold (Fail cause) []) old.next old.next_wire old.back old.back_wire
+
+-- the chosen message goes out, and is begun where it wasn't
+pub record BeginsAndGives {K G A C : Type 0} (k : Hop K G) (a : Wire A) (c : Wire C) (choice : Choice G) (old new : Writers K A C) (passed : Passed) : Type 0 where
+  pub next : K
+  pub back : K
+  pub chosen : IsChosen (shows old.hold.history)
+  pub begins : Begins k choice old.next old.back next back
+  pub gives : GivesOne k a c (writers old.hold next old.next_wire back old.back_wire) new passed
+
+-- A pass of the next hop's side.
+pub record NextPasses {K G A C : Type 0} (k : Hop K G) (a : Wire A) (c : Wire C) (choice : Choice G) (old new : Writers K A C) (passed : Passed) : Type 0 where
+  pub did : HasNoChoice choice old new ⊎ (FailsToBegin k choice old new ⊎ BeginsAndGives k a c choice old new passed)
+  pub tied : IsTied old.hold
   pub whole : passed.broken ≡ false
   pub idle : passed.waiting ≡ true → passed.failed ≡ None
   pub still : passed.waiting ≡ true → new.hold ≡ old.hold
@@ -144,12 +223,13 @@ pub record NextPasses {K G A C : Type 0} (k : Hop K G) (a : Wire A) (c : Wire C)
   pub active : passed.waiting ≡ false → OfWriter (k.gift new.back) (BytesOr (Advances (may_step sides.NextHop) old.hold new.hold) (c.past old.next_wire) (c.past new.next_wire))
       (BytesOr (Advances (may_step sides.NextHop) old.hold new.hold) (a.past old.back_wire) (a.past new.back_wire))
   -- a message is begun back to the user exactly where it answers the user
-  pub way : (k.gift old.back ≡ nothing → k.gift new.back ≡ message → answers ≡ true) × (k.gift old.next ≡ nothing → k.gift new.next ≡ message → answers ≡ false)
-  pub blames : (cause : Cause) → passed.failed ≡ Some cause → (IsChosen (shows old.hold.history) × (k.gift old.next ≡ nothing) × (k.gift old.back ≡ nothing) × none cause)
+  pub way : (k.gift old.back ≡ nothing → k.gift new.back ≡ message → choice.answers ≡ true) × (k.gift old.next ≡ nothing → k.gift new.next ≡ message → choice.answers ≡ false)
+  pub blames : (cause : Cause) → passed.failed ≡ Some cause → (IsChosen (shows old.hold.history) × (k.gift old.next ≡ nothing) × (k.gift old.back ≡ nothing) × choice.none cause)
       ⊎ (BlamedWriter cause (FailsGiving (k.breaks_length (shows old.hold.history) (k.body_framing new.next))) (k.fault old.next) (c.past old.next_wire) (c.past new.next_wire)
       ⊎ BlamedWriter cause (FailsGiving (k.breaks_length (shows old.hold.history) (k.body_framing new.back))) (k.fault old.back) (a.past old.back_wire) (a.past new.back_wire))
-  pub of_side : (cause : Cause) → passed.failed ≡ Some cause → IsOfSide cause ⊎ none cause
+  pub of_side : (cause : Cause) → passed.failed ≡ Some cause → IsOfSide cause ⊎ choice.none cause
   pub over : (cause : Cause) → passed.failed ≡ Some cause → (shows new.hold.history).closed ≡ true
+  pub ends : outcome_by passed.failed ≡ outcome_of new.hold.history.events
   pub sound : passed.failed ≡ None → (k.fault old.next ≡ None → k.fault new.next ≡ None) × (k.fault old.back ≡ None → k.fault new.back ≡ None)
   -- the wire of the writer without a message isn't touched
   pub elsewhere : OfWriter (k.gift new.back) (new.back_wire ≡ old.back_wire) (new.next_wire ≡ old.next_wire)

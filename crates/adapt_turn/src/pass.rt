@@ -2,6 +2,7 @@
 
 ghost use Rattle.std.specs.Prelude.{◌≡◌, true, false, None};
 
+pub(crate) mod hop;
 pub(crate) mod service;
 pub(crate) mod source;
 

@@ -17,7 +17,6 @@ ghost use Rattle.adapt_turn.specs.Stands.{Texts, no_texts, user_gift};
 mod answers;
 mod counts;
 mod freeing;
-mod giving;
 mod passes;
 mod refusals;
 mod retries;
@@ -69,6 +68,15 @@ pub trait Refusing {
 }
 
 /// One transaction.
+///
+/// ```
+/// // A user's request that isn't offered: its head was read, and its body of six bytes comes.
+/// assert_eq!(rt; tx.turn(rt, &bank, Side::Source, 101), Turned::Moved(6));
+/// // 97 bytes of its head go on, and the six.
+/// assert_eq!(rt; tx.turn(rt, &bank, Side::NextHop, 102), Turned::Moved(103));
+/// assert_eq!(rt; tx.outcome(), Some(Outcome::Done));
+/// assert_eq!(rt; tx.turn(rt, &bank, Side::Source, 103), Turned::Finished(Outcome::Done));
+/// ```
 #[must_use]
 pub struct Tx<
     B: Ledgers,

@@ -1,9 +1,9 @@
-//! Tests of what a loop and a running proxy are made of: sockets, the inbox, the admin port, and what is decided of a message.
+//! Tests of the edge that need sockets and threads: a socket's wire, loops that echo, and the connections of `icapd`.
 #![tactic(auto)]
 
 #[cfg(test)]
-mod loops;
+mod connections;
 #[cfg(test)]
-mod rules;
+mod echoes;
 #[cfg(test)]
 mod sockets;

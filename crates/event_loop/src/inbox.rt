@@ -40,10 +40,19 @@ impl Inbox {
         }
     }
 
-    /// Hands a user in, and wakes the loop. `Err` where no memory was found for it: then its connection is closed.
+    /// Lays a user in, and says whether it is alone there. `Err` where no memory was found for it: then its connection is closed.
+    pub fn lay<R: Wait>(&self, rt: &R, user: Handed) -> Result<bool, AllocError> {
+        let mut users = self.users.lock(rt);
+        let is_first = users.is_empty();
+        users.push(user)?;
+        Ok(is_first)
+    }
+
+    /// Hands a user in, and wakes the loop, unless others lie here: it was woken for those. `Err` as above.
     pub fn hand<R: Wait>(&self, rt: &R, user: Handed) -> Result<(), AllocError> {
-        self.users.lock(rt).push(user)?;
-        self.wake();
+        if self.lay(rt, user)? {
+            self.wake();
+        }
         Ok(())
     }
 

@@ -26,7 +26,7 @@ pub use ended::{Ended, LoopFault};
 pub use inbox::{Handed, Inbox, stop_all};
 pub use listening::{Accepted, Listening};
 pub use ready_list::ReadyList;
-pub use room::{Place, Room};
+pub use room::{IdlePlace, Place, Room, USER};
 pub use slots::Slots;
 pub use threads::{Base, Entrance, add_loop, name_thread, run_loop};
 pub use work::{Driven, Told, Work};

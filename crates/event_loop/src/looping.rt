@@ -61,6 +61,8 @@ pub struct EventLoop<K> {
     complete: bool,
     /// Whether users are let go.
     draining: bool,
+    /// Whether users lie in its inbox for whom it wasn't woken.
+    laid: bool,
     work: K,
 }
 
@@ -96,6 +98,7 @@ impl<K: Work> EventLoop<K> {
             elapsed: 0,
             complete: false,
             draining: false,
+            laid: false,
             work,
         })
     }
@@ -114,6 +117,7 @@ impl<K: Work> EventLoop<K> {
             elapsed: _,
             complete: _,
             draining: _,
+            laid: _,
             work,
         } = self;
         work
@@ -259,15 +263,16 @@ impl<K: Work> EventLoop<K> {
         self.drive_ready(rt)?;
         self.hear_on(rt, inboxes);
         self.look();
-        let woken = self.serve_seen(rt, alloc, inboxes)?;
+        let woken = self.serve_seen(rt, alloc, number, inboxes)?;
         if woken && inboxes[number].take_crowded() && self.work.make_room(rt) {
             inboxes[0].wake();
         }
         if woken {
             self.drive_first(rt)?;
         }
-        self.ask_ports(rt, alloc, inboxes);
-        if woken {
+        self.ask_ports(rt, alloc, number, inboxes);
+        if woken || self.laid {
+            self.laid = false;
             self.take_in(rt, inboxes[number].take_all(rt, alloc))?;
         }
         self.work.turn_over(rt);
@@ -297,6 +302,7 @@ impl<K: Work> EventLoop<K> {
         &mut self,
         rt: &R,
         alloc: Global,
+        number: usize,
         inboxes: &[Inbox],
     ) -> io::Result<bool> {
         let mut woken = false;
@@ -308,7 +314,7 @@ impl<K: Work> EventLoop<K> {
             if event.token == WAKER.0 {
                 woken = true;
             } else {
-                self.serve(rt, alloc, inboxes, event)?;
+                self.serve(rt, alloc, number, inboxes, event)?;
             }
         }
         Ok(woken)
@@ -319,11 +325,12 @@ impl<K: Work> EventLoop<K> {
         &mut self,
         rt: &R,
         alloc: Global,
+        number: usize,
         inboxes: &[Inbox],
         event: Event,
     ) -> io::Result<()> {
         if event.token == LISTENER.0 {
-            self.accept(rt, inboxes);
+            self.accept(rt, number, inboxes);
             return Ok(());
         }
         if event.token == ADMIN.0 {
@@ -350,14 +357,16 @@ impl<K: Work> EventLoop<K> {
     }
 
     /// Accepts users.
-    fn accept<R: Wait>(&mut self, rt: &R, inboxes: &[Inbox]) {
-        if let Some(ports) = &mut self.ports {
-            ports.accept(rt, inboxes);
+    fn accept<R: Wait>(&mut self, rt: &R, number: usize, inboxes: &[Inbox]) {
+        if let Some(ports) = &mut self.ports
+            && ports.accept(rt, number, inboxes)
+        {
+            self.laid = true;
         }
     }
 
     /// Asks the ports for connections that no event reports.
-    fn ask_ports<R: Wait>(&mut self, rt: &R, alloc: Global, inboxes: &[Inbox]) {
+    fn ask_ports<R: Wait>(&mut self, rt: &R, alloc: Global, number: usize, inboxes: &[Inbox]) {
         if let Some(admin) = &self.admin
             && admin.may_have_more()
         {
@@ -366,7 +375,7 @@ impl<K: Work> EventLoop<K> {
         if let Some(ports) = &self.ports
             && ports.has_users()
         {
-            self.accept(rt, inboxes);
+            self.accept(rt, number, inboxes);
         }
     }
 

@@ -1,6 +1,6 @@
 //! The users' port, of the one loop that serves it: users that connect are handed out in rotation.
 
-ghost use Rattle.std.specs.Prelude.{◌≡◌, ◌<◌, ◌%◌};
+ghost use Rattle.std.specs.Prelude.{◌≡◌, ◌<◌, ◌%◌, true};
 
 use crate::inbox::{Handed, Inbox};
 use crate::listening::{Accepted, Listening};
@@ -51,8 +51,26 @@ fn inbox_of(number: u64, loops: usize, inboxes: &[Inbox]) -> Option<&Inbox> {
     inboxes.get(loop_of(number, loops))
 }
 
+/// Whether it is the turn of the loop with this number.
+fn is_turn_of(own: usize, number: u64, loops: usize) -> bool
+    ensures { result ≡ true → own ≡ number % loops }
+{
+    loops > 0 && loop_of(number, loops) == own
+}
+
+/// What came of a user that has connected.
+#[derive(Clone, Copy, PartialEq, Eq)]
+enum Turn {
+    /// It lies in the inbox of the loop that serves the port, which wasn't woken for it.
+    Own,
+    /// It was handed to another loop.
+    Other,
+    /// There is no room for it: it waits.
+    Waits,
+}
+
 impl Ports {
-    /// The port before the first user, with room for users, whom so many loops take.
+    /// The port before the first user, with room for users; the first `loops` loops take them.
     pub fn new(users: Listening, room: Arc<Room>, loops: usize) -> Ports {
         Ports {
             users: Some(users),
@@ -83,7 +101,7 @@ impl Ports {
 
     /// Takes in those that have connected, and closes the port: a further user is refused by the system.
     pub fn close<R: Wait>(&mut self, rt: &R, inboxes: &[Inbox]) {
-        self.accept(rt, inboxes);
+        let _ = self.accept(rt, inboxes.len(), inboxes);
         self.users = None;
     }
 
@@ -103,34 +121,36 @@ impl Ports {
         }
     }
 
-    /// Accepts users while there is room for them, and hands them out in rotation. One for whom no memory is found is closed.
-    pub fn accept<R: Wait>(&mut self, rt: &R, inboxes: &[Inbox]) {
+    /// Accepts users while there is room for them, and hands them out in rotation. One for whom no memory is found is closed. Says
+    /// whether the inbox of the number `own` has got one: its loop isn't woken for it.
+    pub fn accept<R: Wait>(&mut self, rt: &R, own: usize, inboxes: &[Inbox]) -> bool {
+        let mut came = false;
         for _ in 0..ACCEPTS {
             match self.next() {
-                Accepted::One(stream) => {
-                    if !self.hand(rt, inboxes, stream) {
-                        return;
-                    }
-                }
+                Accepted::One(stream) => match self.hand(rt, own, inboxes, stream) {
+                    Turn::Own => came = true,
+                    Turn::Other => {}
+                    Turn::Waits => return came,
+                },
                 Accepted::Gone => {}
-                Accepted::None | Accepted::Rest => return,
+                Accepted::None | Accepted::Rest => return came,
             }
         }
         if let Some(users) = &mut self.users {
             users.fall_behind();
         }
+        came
     }
 
-    /// Hands a user to the loop whose turn it is. False if there is no room for it: then it waits, and a loop is asked to
-    /// make some.
-    fn hand<R: Wait>(&mut self, rt: &R, inboxes: &[Inbox], stream: TcpStream) -> bool {
+    /// Hands a user to the loop whose turn it is. If there is no room for it, it waits, and a loop is asked to make some.
+    fn hand<R: Wait>(&mut self, rt: &R, own: usize, inboxes: &[Inbox], stream: TcpStream) -> Turn {
         let Some(place) = Room::enter(&self.room) else {
             self.waiting = Some(stream);
             self.asked = self.asked.wrapping_add(1);
             if let Some(inbox) = inbox_of(self.asked, self.loops, inboxes) {
                 inbox.crowd();
             }
-            return false;
+            return Turn::Waits;
         };
         self.accepted = self.accepted.saturating_add(1);
         let number = self.accepted;
@@ -139,9 +159,15 @@ impl Ports {
             number,
             place,
         };
-        if let Some(inbox) = inbox_of(number, self.loops, inboxes) {
+        let Some(inbox) = inbox_of(number, self.loops, inboxes) else {
+            return Turn::Other;
+        };
+        if is_turn_of(own, number, self.loops) {
+            let _ = inbox.lay(rt, user);
+            Turn::Own
+        } else {
             let _ = inbox.hand(rt, user);
+            Turn::Other
         }
-        true
     }
 }

@@ -1,25 +1,34 @@
-//! The descriptors of the process, and how many users they serve.
+//! The descriptors of the process, and who may have them: users, and idle connections to services.
 
+ghost use Rattle.std.specs.Prelude.{◌≡◌, ◌≤◌, ◌<◌, ◌+◌, ◌*◌, ◌↔◌, true, ℕ};
+ghost use Rattle.event_loop.specs.declared.room.TheConstants.{USER};
+
+use crate::askers::MAX_ASKERS;
 use libc::types::rlimit;
 use libc::{RLIMIT_NOFILE, getrlimit};
 use std::sync::Arc;
 use std::sync::atomic::{AtomicU64, Ordering};
 
-/// Descriptors that belong to no user: the standard ones, the two ports, a user that waits for room, and some
-/// administrators.
-const OWN: u64 = 10;
+/// Descriptors that belong neither to a user nor to a service: the standard ones, the two ports, the log's file and the one
+/// that takes its place, a user that waits for room, and the administrators.
+const OWN: u64 = 8 + MAX_ASKERS as u64;
 
 /// Descriptors of a loop: its poll and its waker.
 const LOOP: u64 = 2;
 
 /// Descriptors of a user: its connection's, and those of its exchange, one to the origin and one to a service.
-const USER: u64 = 3;
+pub const USER: u64 = 3;
 
-/// How many users there is room for, and how many there are.
+/// The descriptors that users and idle connections share.
+///
+/// A user takes three of them, for whatever its exchanges may dial, and an idle connection one. Together they never take more
+/// than there are, so who was let in finds a descriptor. Some are kept for idle connections alone.
 #[derive(Drop)]
 pub struct Room {
+    all: u64,
     most: u64,
     used: AtomicU64,
+    users: AtomicU64,
 }
 
 /// A user's place. There is room for another one once it is dropped.
@@ -30,45 +39,109 @@ pub struct Place {
 impl Drop for Place {
     fn drop(self) {
         let Place { room } = self;
-        let _ = room.used.fetch_sub(1, Ordering::SeqCst);
+        let _ = room.users.fetch_sub(1, Ordering::SeqCst);
+        room.give_back(USER);
     }
 }
 
+/// The place of an idle connection, which it has until it is used or closed.
+pub struct IdlePlace {
+    room: Arc<Room>,
+}
+
+impl Drop for IdlePlace {
+    fn drop(self) {
+        let IdlePlace { room } = self;
+        room.give_back(1);
+    }
+}
+
+/// How many users there may be on so many descriptors, of which some are kept for idle connections: one at least.
+fn most_users(all: u64, idle: u64) -> u64
+    ensures one { 1 ≤ result }
+    ensures within { idle + USER ≤ all → USER * result + idle ≤ all }
+    ensures most { all < USER * (result + 1) + idle }
+{
+    (all.saturating_sub(idle) / USER).max(1)
+}
+
+/// Whether more descriptors are there beside those that are used.
+fn fits(used: u64, more: u64, all: u64) -> bool
+    ensures { result ≡ true ↔ used + more ≤ all }
+{
+    used <= all && more <= all - used
+}
+
 impl Room {
-    /// Room for `most` users.
-    pub fn new(most: u64) -> Room {
+    /// Room for `most` users, and for `idle` idle connections beside them.
+    pub fn new(most: u64, idle: u64) -> Room {
         Room {
+            all: USER.saturating_mul(most).saturating_add(idle),
             most,
             used: AtomicU64::new(0),
+            users: AtomicU64::new(0),
         }
     }
 
-    /// Room for as many users as the limit on open descriptors allows, beside these loops and idle connections; for one at
-    /// least.
+    /// The room that the limit on open descriptors leaves beside these loops, of which so many are kept for idle connections. One
+    /// user has room at least.
     pub fn of_system(loops: u64, idle: u64) -> Room {
         let mut limit = rlimit {
             rlim_cur: u64::MAX,
             rlim_max: u64::MAX,
         };
         let _ = getrlimit(RLIMIT_NOFILE, &mut limit);
-        let others = OWN
-            .saturating_add(LOOP.saturating_mul(loops))
-            .saturating_add(idle);
-        Room::new((limit.rlim_cur.saturating_sub(others) / USER).max(1))
+        let others = OWN.saturating_add(LOOP.saturating_mul(loops));
+        let all = limit.rlim_cur.saturating_sub(others);
+        let most = most_users(all, idle);
+        Room::new(most, all.saturating_sub(USER.saturating_mul(most)))
+    }
+
+    /// Takes descriptors. False if there aren't so many.
+    fn take(&self, count: u64) -> bool {
+        let used = self.used.fetch_add(count, Ordering::SeqCst);
+        let there = fits(used, count, self.all);
+        if !there {
+            self.give_back(count);
+        }
+        there
+    }
+
+    fn give_back(&self, count: u64) {
+        let _ = self.used.fetch_sub(count, Ordering::SeqCst);
     }
 
     /// Whether there is no user.
     pub fn is_empty(&self) -> bool {
-        self.used.load(Ordering::SeqCst) == 0
+        self.users.load(Ordering::SeqCst) == 0
+    }
+
+    /// Whether only idle connections keep the next user out.
+    pub fn has_too_many_idle(&self) -> bool {
+        self.users.load(Ordering::SeqCst) < self.most
+            && !fits(self.used.load(Ordering::SeqCst), USER, self.all)
     }
 
     /// A place for one more user, if there is one.
     pub fn enter(room: &Arc<Room>) -> Option<Place> {
-        if room.used.load(Ordering::SeqCst) >= room.most {
+        if room.users.load(Ordering::SeqCst) >= room.most {
             return None;
         }
         let place = Arc::clone(room).ok()?;
-        let _ = room.used.fetch_add(1, Ordering::SeqCst);
+        if !room.take(USER) {
+            return None;
+        }
+        let _ = room.users.fetch_add(1, Ordering::SeqCst);
         Some(Place { room: place })
+    }
+
+    /// A place for one more idle connection, if there is one.
+    pub fn keep(room: &Arc<Room>) -> Option<IdlePlace> {
+        let place = Arc::clone(room).ok()?;
+        if room.take(1) {
+            Some(IdlePlace { room: place })
+        } else {
+            None
+        }
     }
 }

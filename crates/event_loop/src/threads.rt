@@ -18,6 +18,16 @@ use std::sync::{Arc, Wait};
 use std::time::{Clock, Instant};
 
 /// What a loop is made on: its poll, and the ports that it serves.
+///
+/// ```
+/// let mut inboxes = Vec::new(alloc);
+/// let room = Arc::new(alloc, Room::new(100, 16))?;
+/// let users = Entrance { listener, room, loops: 1 };
+/// let base = add_loop(rt, alloc, Some(users), Some(admin), &mut inboxes)?;
+/// // It runs until the administrator says `stop`, or another thread does by `inboxes[0].stop()`.
+/// let Ended { work, fault } = run_loop(rt, alloc, 0, base, work, &inboxes);
+/// assert_eq!(rt; fault, None);
+/// ```
 #[derive(Drop)]
 pub struct Base {
     poll: Poll,
@@ -29,7 +39,7 @@ pub struct Base {
 #[derive(Drop)]
 pub struct Entrance {
     pub listener: TcpListener,
-    pub room: Room,
+    pub room: Arc<Room>,
     pub loops: usize,
 }
 
@@ -51,7 +61,7 @@ pub fn add_loop<R: Net>(
             },
         ) => Some(Ports::new(
             Listening::new(listener, poll.registry(), LISTENER)?,
-            Arc::new(alloc, room)?,
+            room,
             loops,
         )),
         None => None,

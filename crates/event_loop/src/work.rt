@@ -44,7 +44,8 @@ pub trait Work {
         now: u64,
     ) -> Option<usize>;
 
-    /// Closes the connection of the user that can best be spared, so that another one has room. False if there is no such user.
+    /// Closes idle connections, or that of the user that can best be spared, so that another one has room. False if there is no
+    /// such connection.
     fn make_room<R: Wait + Clock>(&mut self, rt: &R) -> bool;
 
     /// Takes note of an event of a connection. False if it says nothing new, so that the exchange needn't be driven.

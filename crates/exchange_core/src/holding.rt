@@ -148,7 +148,8 @@ impl<L, S, O> Holding<L, S, O> {
         }
     }
 
-    /// The connection over. What it held has gone back.
+    /// Ends a connection that is over. Nothing that it held is left, and no other call ends one: so no lease, no reservation and no
+    /// origin's connection is lost.
     pub fn finish(self)
         requires { is_over self.exchange ≡ true }
     {

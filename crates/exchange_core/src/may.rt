@@ -91,7 +91,7 @@ impl Course {
         }
     }
 
-    /// The same, of the events with which a message moves, what is held goes back, or a connection ends.
+    /// Whether an event may come with which a message moves, what is held goes back, or a connection ends.
     fn may_go_on(self, event: Event) -> bool
         ensures { goes_on_with event ≡ true → result ≡ may_come self event }
     {
@@ -125,7 +125,7 @@ impl Course {
         }
     }
 
-    /// The same, of the events that end a connection.
+    /// Whether an event may come that ends a connection.
     fn may_end(self, event: Event) -> bool
         ensures { ends_with event ≡ true → result ≡ may_come self event }
     {

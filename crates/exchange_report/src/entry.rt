@@ -1,4 +1,4 @@
-//! The log's line of an exchange, in the native format of Squid's `access.log`, with three fields behind it.
+//! The log's line of an exchange, in the native format of Squid's `access.log`, with three fields after it.
 
 ghost use Rattle.std.specs.Prelude.{◌≡◌, ◌++◌, ◌<◌, OnOk};
 ghost use Rattle.exchange_report.specs.Entry.{address_text, user_text, origin_text, tag_text, head_text, request_text, end_text, line_text};
@@ -19,6 +19,27 @@ pub struct Address {
 }
 
 /// An exchange that is over: a user's request, and what went back.
+///
+/// ```
+/// let entry = Entry {
+///     ended: 1066036250603,
+///     elapsed: 310,
+///     user: Some(Address { first: 192, second: 0, third: 2, fourth: 7 }),
+///     refused: false,
+///     status: 200,
+///     sent: 1015,
+///     method: b"GET",
+///     target: b"http://o.test/a b",
+///     origin: None,
+///     kind: b"text/html",
+///     reqmod: Verdict::none(),
+///     respmod: Verdict { retried: false, continued: true, reply: Reply::Unchanged },
+///     why: Why::Served,
+/// };
+/// write_line(&mut out, &entry)?;
+/// // 1066036250.603 310 192.0.2.7 TCP_MISS/200 1015 GET http://o.test/a%20b - HIER_NONE/- text/html
+/// // reqmod=- respmod=100+204 why=-, in one line
+/// ```
 #[derive(Clone, Copy, Debug)]
 pub struct Entry<'a> {
     /// The moment of its end, in milliseconds since the beginning of 1970.
@@ -107,7 +128,7 @@ fn write_head(out: &mut Vec<u8>, entry: &Entry<'_>) -> Result<(), AllocError>
     write_number(out, entry.sent)
 }
 
-/// Adds the fields of the request, and the one for a login, which there is none of.
+/// Adds the fields of the request, and the one for a login, which is always `-`.
 fn write_request(out: &mut Vec<u8>, entry: &Entry<'_>) -> Result<(), AllocError>
     ensures { OnOk result (out.new.items ≡ out.old.items ++ request_text entry.now) }
 {

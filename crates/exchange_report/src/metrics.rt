@@ -44,7 +44,7 @@ fn kind_word(kind: Kind) -> &'static [u8]
     }
 }
 
-/// What stands behind the name of a number of this kind.
+/// What stands after the name of a number of this kind.
 fn ending(kind: Kind) -> &'static [u8]
     ensures { result.now ≡ ending kind }
 {
@@ -95,7 +95,7 @@ fn write_metric(out: &mut Vec<u8>, metric: &Metric) -> Result<(), AllocError>
     }
 }
 
-/// Adds all of them, one behind another.
+/// Adds all of them, one after another.
 fn write_metrics(out: &mut Vec<u8>, metrics: &[Metric]) -> Result<(), AllocError>
     ensures { OnOk result (out.new.items ≡ out.old.items ++ metrics_text metrics.now) }
 {

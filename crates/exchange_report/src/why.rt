@@ -8,7 +8,7 @@ ghost use Rattle.exchange_report.specs.Entry.{why_word};
 pub enum Why {
     /// Neither: the answer of the origin or of a service went out whole.
     Served,
-    /// The request's head is none, or one that is refused.
+    /// The request's head breaks the grammar, or is refused.
     BadRequest,
     /// The request asks for what this proxy doesn't do: CONNECT, or a coding other than chunked.
     NotServed,

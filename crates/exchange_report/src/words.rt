@@ -71,7 +71,7 @@ fn write_bytes(out: &mut Vec<u8>, bytes: &[u8]) -> Result<(), AllocError>
     Ok(())
 }
 
-/// Adds a value from outside as one word: at most so many bytes of it, or `-` where it has none.
+/// Adds the first `most` bytes of a value from outside as one word, or `-` where it is empty.
 pub(crate) fn write_word(out: &mut Vec<u8>, most: usize, value: &[u8]) -> Result<(), AllocError>
     ensures { OnOk result (out.new.items ≡ out.old.items ++ word_of (take most value.now)) }
 {

@@ -1,23 +1,12 @@
 //! The command line of the ICAP server.
 #![tactic(auto)]
 
-mod command;
-mod config;
-mod error;
-mod places;
-mod seats;
-mod sockets;
-mod standard_input;
-#[cfg(test)]
-mod tests;
 mod texts;
 
-use command::{Command, read_command};
-use config::{Config, read_config};
-use error::{Error, put_error};
-use places::Shared;
-use sockets::serve_sockets;
-use standard_input::{once, read_input};
+use icapd_commands::{
+    Command, Config, Error, Shared, once, put_error, read_command, read_config, read_input,
+    serve_sockets,
+};
 use std::alloc::Global;
 use std::env;
 use std::io::{ErrorKind, Write};

@@ -51,7 +51,7 @@ pub const THIRTY_FIELDS: &[u8] = b"ICAP/1.0 200 OK\r\n\
     X-Request-Id: 0123456789abcdef0123456789abcdef0123456789abcdef0123456789abcdef0123456789abcdef0123456789abcdef0123456789abcdef0123456789abcdef0123456789abcdef0123456789abcdef0123456789abcdef0123456789abcdef0123456789abcdef0123456789abcdef0123456789abcdef01234567\r\n\
     \r\n";
 
-/// The same text as HTTP's, which is all that `httparse` reads: `HTTP/1.1` in place of `ICAP/1.0`.
+/// The head of an answer as HTTP's, with `HTTP/1.1` in place of `ICAP/1.0`: `httparse` reads no other.
 pub fn as_http(alloc: Global, text: &[u8]) -> Result<Vec<u8>, NoMemory> {
     let mut http = b"HTTP/1.1".to_vec(alloc)?;
     http.extend_from_slice(&text[text.len().min(8)..])?;

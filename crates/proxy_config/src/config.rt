@@ -7,6 +7,14 @@ use crate::point::ServicePoint;
 use std::net::SocketAddrV4;
 
 /// The configuration of `adaptproxy serve`.
+///
+/// ```
+/// let text = b"listen = \"0.0.0.0:3128\"\nadmin = \"127.0.0.1:3129\"\nrows = 100\n";
+/// let config = read_config(alloc, text)?;
+/// // `rows` is written, `shards` has its default.
+/// assert_eq!(rt; (config.rows, config.shards), (100, 2));
+/// assert!(rt; config.respmod.is_none());
+/// ```
 #[derive(Debug, Drop)]
 pub struct Config {
     /// Where users connect.

@@ -18,7 +18,7 @@ use std::collections::BTreeSet;
 use std::net::{Ipv4Addr, SocketAddrV4};
 use toml::{Table, Value};
 
-/// The address of the first of these hosts that has the name, ASCII case ignored; the name's number is told.
+/// The address of the first of these hosts that has the name, ASCII case ignored. The caller says the name's number.
 fn among(hosts: &[Host], number: u64, name: &[u8]) -> Option<SocketAddrV4>
     requires rising { IsNonDecreasingBy (λ (host : AnyHost). host.number) hosts.now }
     requires number { number ≡ number_of_name name.now }

@@ -1,10 +1,8 @@
 //! `adaptproxy serve` over sockets.
 
-use crate::error::Error;
-use crate::run::write_out;
-use crate::serve::{audit_line, read_configuration};
-use crate::serve_error::ServeError;
+use crate::ending::{audit_line, error_of};
 use mio::net::TcpListener;
+use proxy_commands::{Error, ServeError, read_configuration, say};
 use proxy_config::Config;
 use service_pool::LEDGER_PARTS;
 use shard_loop::{Append, Stopped, serve};
@@ -54,14 +52,6 @@ fn log_fault(alloc: Global) -> ServeError {
     }
 }
 
-/// Writes a line to standard output.
-pub fn say<W: Write>(output: &mut W, line: &[u8]) -> Result<(), ServeError> {
-    match write_out(output, line) {
-        Ok(()) => Ok(()),
-        Err(error) => Err(ServeError::Ended(error)),
-    }
-}
-
 /// Serves until the administrator says `stop` or the system fails a loop, and audits. The buffer budget and each pool have
 /// ledgers of their own.
 pub fn serve_ports<G: Gate + Sync, R: Threads + Wait + Net + Dial + Append + Clock + Sync>(
@@ -87,7 +77,7 @@ pub fn serve_ports<G: Gate + Sync, R: Threads + Wait + Net + Dial + Append + Clo
     );
     match ended {
         Ok(stopped) => Ok(stopped),
-        Err(fault) => Err(ServeError::of(fault)),
+        Err(fault) => Err(error_of(fault)),
     }
 }
 
@@ -98,7 +88,7 @@ fn say_end<O: Write>(alloc: Global, output: &mut O, stopped: Stopped) -> Result<
     };
     say(output, line.as_slice())?;
     match stopped.fault {
-        Some(fault) => Err(ServeError::of(fault)),
+        Some(fault) => Err(error_of(fault)),
         None => Ok(()),
     }
 }

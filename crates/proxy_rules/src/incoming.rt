@@ -135,7 +135,7 @@ impl Incoming {
         self.side.head_fault()
     }
 
-    /// Whether a transaction of this plan may begin: the head was read, nothing of the body was told, and a length that the plan
+    /// Whether a transaction of this plan may begin: the head was read, nothing of the body was reported, and a length that the plan
     /// knows is the framing's.
     pub(crate) fn begins(&self, plan: &Plan) -> bool
         ensures { result ≡ true ↔ (self.now.side.head ≡ SourceHead.Unread → ⊥) × (self.now.side.fault ≡ None) × Agrees (seen plan.now []) self.now.side.body }

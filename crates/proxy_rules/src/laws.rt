@@ -71,8 +71,8 @@ pub fn the_wires_take_one_message<B: Ledgers, A: Wire, W: Wire, C: Wire>(
     let _ = tx.seen();
 }
 
-/// The same of a transaction that runs, wherever it stands, without a premise: there are a request and texts of which all that is so.
-/// Where it failed, the user's writer has the refusal of the cause's status, or a byte has gone out to the user.
+/// What [`the_wires_take_one_message`] says holds of a running transaction wherever it stands, for some request and some texts, and
+/// without a premise. Where it failed, the user's writer has the refusal of the cause's status, or a byte has gone out to the user.
 pub fn a_running_transaction_takes_one_message<B: Ledgers, A: Wire, W: Wire, C: Wire>(
     running: &Running<B, A, W, C>,
 )

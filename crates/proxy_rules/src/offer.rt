@@ -122,8 +122,9 @@ impl Offer {
         Offer::to(alloc, service, plan, &req, &[])
     }
 
-    /// The same of an origin's response to a user's request: before its head goes that of the user's own request, also where a service
-    /// changed what the origin got.
+    /// Plans an origin's response to a user's request by what its service says, and offers it to that service where the plan says so:
+    /// the head of the user's own request goes before its head, also where a service changed what the origin got. Without a service,
+    /// or its record, it isn't offered.
     pub fn of_response(
         alloc: Global,
         service: Option<&ServicePoint>,

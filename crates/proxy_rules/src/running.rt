@@ -26,6 +26,14 @@ pub type OwnTx<B, A, W, C> = Tx<B, SourceSide, ServiceSide, NextHop, HeadMaker, 
 /// A transaction that was begun, and each step of which kept what stood then: some request and texts stand between it and its wires; no
 /// side of an open one has a fault, but for a service whose connection broke; and where it failed, the user's writer has the refusal of
 /// the cause, or a byte has gone out to the user.
+///
+/// ```
+/// // A body of six bytes comes; its preview is offered, and the service answers 204.
+/// assert_eq!(rt; running.turn(rt, &bank, Side::Source, 101), Turned::Moved(6));
+/// running.drive(rt, &bank, &[Side::Service, Side::Service, Side::NextHop]);
+/// assert_eq!(rt; running.outcome(), Some(Outcome::Done));
+/// assert!(rt; running.seen().no_mod);
+/// ```
 #[must_use]
 pub struct Running<B: Ledgers, A: Wire, W: Wire, C: Wire> {
     pub(crate) tx: OwnTx<B, A, W, C>,

@@ -56,7 +56,11 @@ impl<'a, B: Ledgers, Q: Ledger, A: Ledger, G: Gate> Desk<'a, B, Q, A, G> {
     ) -> Result<LeasedConnection<Q, A>, Reason> {
         let (wire, lease) = match self.shared.pools.take_live(rt, point) {
             Took::Idle(spare, lease) => {
-                let Spare { wire, ready } = spare;
+                let Spare {
+                    wire,
+                    ready,
+                    place: _,
+                } = spare;
                 match self.seats.enlist(at, Side::Service, wire, ready) {
                     Ok(wire) => (Ok(wire), lease),
                     Err(_) => (Err(Reason::NoMemory), lease),
@@ -118,9 +122,10 @@ impl<'a, B: Ledgers, Q: Ledger, A: Ledger, G: Gate> Desk<'a, B, Q, A, G> {
         lease: Leased<Q, A>,
     ) {
         let mut wire = wire;
-        let lives = wire.deregister(at.registry).is_ok() && wire.unread() == Unread::Nothing;
+        let is_quiet = wire.is_read_out() || wire.unread() == Unread::Nothing;
+        let lives = wire.deregister(at.registry).is_ok() && is_quiet;
         match self.seats.dismiss(at.key) {
-            Some(ready) if lives => self.shared.pools.put(rt, Spare { wire, ready }, lease),
+            Some(ready) if lives => self.shared.pools.put(rt, wire, ready, lease),
             _ => self.drop_connection(rt, LeasedConnection { wire, lease }),
         }
     }

@@ -23,12 +23,12 @@ use std::alloc::{AllocError, Global};
 use std::fs::File;
 use std::net::Net;
 use std::sync::ledger::Ledger;
-use std::sync::{Mutex, Wait};
+use std::sync::{Arc, Mutex, Wait};
 use std::thread::{self, Threads};
 use std::time::Clock;
 use wire_kit::Gate;
 
-/// The connections to a service that may lie idle.
+/// The connections to a service that may lie idle whatever users need.
 fn idle_connections(service: &Option<ServicePoint>) -> u64 {
     match service {
         Some(service) => service.connections,
@@ -36,14 +36,10 @@ fn idle_connections(service: &Option<ServicePoint>) -> u64 {
     }
 }
 
-/// Where users connect, with room for as many of them as the proxy's descriptors serve.
-fn entrance_of(config: &Config, listener: TcpListener) -> Entrance {
+/// The descriptors that are left beside the loops': users leave as many of them to idle connections as are configured.
+fn room_of(config: &Config) -> Room {
     let idle = idle_connections(&config.reqmod).saturating_add(idle_connections(&config.respmod));
-    Entrance {
-        listener,
-        room: Room::of_system(config.shards.saturating_add(1), idle),
-        loops: config.shards as usize,
-    }
+    Room::of_system(config.shards.saturating_add(1), idle)
 }
 
 /// Makes a base for one more loop, behind the others.
@@ -130,6 +126,9 @@ trait Common {
 
     /// Those who wait for a connection to a service.
     fn queues(&self) -> &Queues;
+
+    /// The descriptors that users and idle connections share.
+    fn room(&self) -> &Arc<Room>;
 }
 
 /// The same.
@@ -139,6 +138,7 @@ struct Board {
     tallies: Vec<Tally>,
     log: Log,
     queues: Queues,
+    room: Arc<Room>,
 }
 
 impl Common for Board {
@@ -157,10 +157,15 @@ impl Common for Board {
     fn queues(&self) -> &Queues {
         &self.queues
     }
+
+    fn room(&self) -> &Arc<Room> {
+        &self.room
+    }
 }
 
-/// A board of so many threads that take users, before their inboxes are there.
-fn board_of(alloc: Global, count: u64, rows: u64, file: Option<File>) -> Result<Board, AllocError> {
+/// The board of the threads that take users, before their inboxes are there.
+fn board_of(alloc: Global, config: &Config, file: Option<File>) -> Result<Board, AllocError> {
+    let count = config.shards;
     let mut tallies = Vec::new(alloc);
     for _ in 0..count {
         let tally = Tally::new(alloc)?;
@@ -172,7 +177,8 @@ fn board_of(alloc: Global, count: u64, rows: u64, file: Option<File>) -> Result<
         inboxes: Vec::new(alloc),
         tallies,
         log: Log::new(alloc, file, count)?,
-        queues: Queues::new(alloc, rows as usize)?,
+        queues: Queues::new(alloc, config.rows as usize)?,
+        room: Arc::new(alloc, room_of(config))?,
     })
 }
 
@@ -245,12 +251,19 @@ where
     B::Slack: Send + Sync,
     B::Pages: Send + Sync,
 {
-    let Ok(board) = board_of(alloc, config.shards, config.rows, file) else {
+    let Ok(board) = board_of(alloc, config, file) else {
         return Err(ServeFault::NoMemory);
     };
     let mut board = board;
     let (users, admin) = ports;
-    let users = entrance_of(config, users);
+    let Ok(room) = Arc::clone(&board.room) else {
+        return Err(ServeFault::NoMemory);
+    };
+    let users = Entrance {
+        listener: users,
+        room,
+        loops: config.shards as usize,
+    };
     let mut bases = make_bases(rt, alloc, config.shards, users, admin, &mut board.inboxes)?;
     run_on(
         rt,
@@ -307,6 +320,7 @@ fn run_one<
         pools: Pools {
             request,
             response,
+            room: common.room(),
             waiting: Waiting {
                 queues: common.queues(),
                 inboxes: common.inboxes(),

@@ -9,6 +9,7 @@ mod apart;
 mod audit;
 mod begin;
 mod book;
+mod capacity;
 mod connections;
 mod crew;
 mod desk;

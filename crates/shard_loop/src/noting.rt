@@ -71,17 +71,37 @@ fn status_in(head: &[u8]) -> Option<u16> {
     }
 }
 
-/// Who let a deadline pass: the source owes bytes, the service an answer, or the next hop doesn't take any.
-fn late_of(seen: &Seen) -> Why {
+/// Whether bytes of the chosen message came that the next hop hasn't taken.
+fn is_next_hop_late(seen: &Seen) -> bool {
+    if seen.plan.kind.is_plain() || seen.no_mod {
+        seen.original_delivered < seen.received
+    } else {
+        seen.adapted_delivered < seen.adapted_received
+    }
+}
+
+/// Who let a deadline pass: who gets the message takes no byte, the source owes some, or the service an answer.
+fn late_of(seen: &Seen, to_user: bool) -> Why {
     let offered = !seen.plan.kind.is_plain();
     let served = !offered || seen.no_mod || seen.adapted_over;
     let source_owes = !seen.ended && (served || !seen.last_stop && seen.sent == seen.received);
+    if is_next_hop_late(seen) {
+        return taker(to_user);
+    }
     match seen.plan.point {
         Point::Reqmod if source_owes => Why::UserDeadline,
         Point::Respmod if source_owes => Why::OriginDeadline,
         _ if !served => Why::ServiceDeadline,
-        Point::Reqmod => Why::OriginDeadline,
-        Point::Respmod => Why::UserDeadline,
+        _ => taker(to_user),
+    }
+}
+
+/// That who gets the message let a deadline pass.
+fn taker(to_user: bool) -> Why {
+    if to_user {
+        Why::UserDeadline
+    } else {
+        Why::OriginDeadline
     }
 }
 
@@ -97,6 +117,17 @@ fn service_word(service: &Option<Line<ServiceSide, SocketWire>>) -> Why {
     }
 }
 
+/// Whether the service's message is a response.
+fn answers_itself(service: &Option<Line<ServiceSide, SocketWire>>) -> bool {
+    match service {
+        Some(line) => match line.side.adapted_head() {
+            Some((_, text)) => status_in(text).is_some(),
+            None => false,
+        },
+        None => false,
+    }
+}
+
 /// Whether nothing has gone over a connection.
 fn is_fresh(wire: &Option<SocketWire>) -> bool {
     match wire {
@@ -105,12 +136,14 @@ fn is_fresh(wire: &Option<SocketWire>) -> bool {
     }
 }
 
-/// What a transaction leaves behind that tells why it failed.
+/// What of a transaction tells why it failed, beside its history.
 #[derive(Clone, Copy)]
 struct Trace {
     service: Why,
     /// Whether nothing went over the connection to the next hop.
     next_is_fresh: bool,
+    /// Whether its message goes to the user: an answer, of the origin or of a service.
+    to_user: bool,
 }
 
 /// Why a transaction failed.
@@ -120,11 +153,11 @@ fn failed_word(cause: Cause, seen: &Seen, trace: Trace) -> Why {
         Cause::Source if point == Point::Reqmod => Why::RequestBroken,
         Cause::Source => Why::OriginBroken,
         Cause::Service => trace.service,
-        Cause::NextHop if point == Point::Respmod => Why::UserGone,
+        Cause::NextHop if trace.to_user => Why::UserGone,
         Cause::NextHop if trace.next_is_fresh => Why::OriginRefused,
         Cause::NextHop => Why::OriginBroken,
         Cause::Memory => Why::NoMemory,
-        Cause::Deadline => late_of(seen),
+        Cause::Deadline => late_of(seen, trace.to_user),
         Cause::Stopping => Why::Stopping,
     }
 }
@@ -240,6 +273,7 @@ impl<'a, B: Ledgers, Q: Ledger, A: Ledger, G: Gate> Desk<'a, B, Q, A, G> {
         let trace = Trace {
             service: service_word(service),
             next_is_fresh: next.counts() == (0, 0),
+            to_user: seen.plan.point == Point::Respmod || seen.modified && answers_itself(service),
         };
         self.note_outcome(at, seen, outcome, trace);
         if seen.modified
@@ -260,6 +294,7 @@ impl<'a, B: Ledgers, Q: Ledger, A: Ledger, G: Gate> Desk<'a, B, Q, A, G> {
         let trace = Trace {
             service: Why::ServiceBroken,
             next_is_fresh: false,
+            to_user: seen.plan.point == Point::Respmod,
         };
         if let Some(outcome) = outcome {
             self.note_outcome(at, seen, outcome, trace);

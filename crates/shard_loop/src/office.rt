@@ -1,5 +1,6 @@
 //! The loop of the administrator: it takes no users, so what an answer costs keeps nobody waiting.
 
+use crate::capacity::change_capacity;
 use crate::desk::Shared;
 use crate::log::{Append, Log};
 use crate::stats::stats_text;
@@ -56,7 +57,7 @@ impl<'a, B: Ledgers, Q: Ledger, A: Ledger, G: Gate, F: Append> Office<'a, B, Q, 
 
     fn set_capacity<R: Wait>(&mut self, rt: &R, n: u64) -> Result<Vec<u8>, AllocError> {
         let size = n.max(1).min(MAX_CAPACITY);
-        match self.shared.bank.set_capacity(rt, size) {
+        match change_capacity(rt, self.shared.bank, self.shared.log, size) {
             Ok(()) => b"ok\n".to_vec(self.alloc),
             Err(CapacityFault::TooLow { claimed }) => {
                 let text = format!(in self.alloc; "refused {claimed}\n")?;

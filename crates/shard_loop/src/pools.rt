@@ -4,6 +4,7 @@ ghost use Rattle.std.specs.Prelude.{◌≤◌};
 
 use crate::queues::Waiting;
 use adapt_bytes::MAX_CONNECTIONS;
+use event_loop::{IdlePlace, Room, USER};
 use service_pool::{Lease, Pool, Taken};
 use socket_wire::{Readiness, SocketWire, Unread};
 use std::alloc::{AllocError, Global};
@@ -11,11 +12,12 @@ use std::sync::ledger::Ledger;
 use std::sync::{Arc, Wait};
 use trace_core::Point;
 
-/// A connection to a service that no transaction uses, with its readiness.
+/// A connection to a service that no transaction uses, with its readiness and its place among the descriptors.
 #[derive(Drop)]
 pub struct Spare {
     pub wire: SocketWire,
     pub ready: Arc<Readiness>,
+    pub place: IdlePlace,
 }
 
 /// A lease of the pool of one point. It has no `Drop`, as the lease has none.
@@ -47,6 +49,8 @@ impl<Q: Ledger, A: Ledger> Leased<Q, A> {
 pub struct Pools<'a, Q: Ledger, A: Ledger> {
     pub request: &'a Pool<Spare, Q>,
     pub response: &'a Pool<Spare, A>,
+    /// The descriptors, which they share with users.
+    pub room: &'a Arc<Room>,
     /// Those who wait for a connection of them.
     pub waiting: Waiting<'a>,
 }
@@ -67,6 +71,7 @@ impl<'a, Q: Ledger, A: Ledger> Pools<'a, Q, A> {
         Pools {
             request: self.request,
             response: self.response,
+            room: self.room,
             waiting: self.waiting,
         }
     }
@@ -102,8 +107,21 @@ impl<'a, Q: Ledger, A: Ledger> Pools<'a, Q, A> {
         Took::Busy
     }
 
-    /// Puts a connection back, for the one that waits longest. One that is too many is closed.
-    pub fn put<R: Wait>(&self, rt: &R, spare: Spare, lease: Leased<Q, A>) {
+    /// Puts a connection back, for the one that waits longest. One that is too many, or for which users leave no descriptor, is
+    /// closed.
+    pub fn put<R: Wait>(
+        &self,
+        rt: &R,
+        wire: SocketWire,
+        ready: Arc<Readiness>,
+        lease: Leased<Q, A>,
+    ) {
+        let Some(place) = Room::keep(self.room) else {
+            drop(wire);
+            self.give_up(rt, lease);
+            return;
+        };
+        let spare = Spare { wire, ready, place };
         let point = lease.point();
         match lease {
             Leased::Request(lease) => {
@@ -124,6 +142,35 @@ impl<'a, Q: Ledger, A: Ledger> Pools<'a, Q, A> {
             Leased::Response(lease) => self.response.give_up(rt, lease),
         }
         self.waiting.call(rt, point);
+    }
+
+    /// Closes an idle connection to a point's service. False if there is none.
+    fn close_idle<R: Wait>(&self, rt: &R, point: Point) -> bool {
+        match self.take(rt, point) {
+            Took::Idle(spare, lease) => {
+                drop(spare);
+                self.give_up(rt, lease);
+                true
+            }
+            Took::Fresh(lease) => {
+                self.give_up(rt, lease);
+                false
+            }
+            Took::Busy => false,
+        }
+    }
+
+    /// Closes as many idle connections as keep the next user out. False if none is left that could be closed.
+    pub fn make_room<R: Wait>(&self, rt: &R) -> bool {
+        for _ in 0..USER {
+            if !self.room.has_too_many_idle() {
+                return true;
+            }
+            if !self.close_idle(rt, Point::Reqmod) && !self.close_idle(rt, Point::Respmod) {
+                return false;
+            }
+        }
+        true
     }
 
     /// Whether a fresh connection may be opened in place of one that broke.

@@ -353,16 +353,17 @@ impl Seats {
         side: Side,
         stream: TcpStream,
     ) -> Result<SocketWire, TcpStream> {
-        let Ok(ready) = Arc::new(self.alloc, Readiness::new()) else {
+        let ready = match side {
+            Side::User => Readiness::new(),
+            Side::Origin | Side::Service => Readiness::dialled(),
+        };
+        let Ok(ready) = Arc::new(self.alloc, ready) else {
             return Err(stream);
         };
         let Ok(told) = Arc::clone(&ready) else {
             return Err(stream);
         };
         let wire = SocketWire::new(stream, ready);
-        if wire.hurry().is_err() {
-            return Err(wire.into_stream());
-        }
         match self.enlist(at, side, wire, told) {
             Ok(wire) => Ok(wire),
             Err(wire) => Err(wire.into_stream()),

@@ -154,6 +154,23 @@ impl<'a, B: Ledgers, Q: Ledger, A: Ledger, G: Gate> Shard<'a, B, Q, A, G> {
         }
     }
 
+    /// Closes the connection of the user that can best be spared. False if there is no such user. An idle connection on which a
+    /// request has just come is spared no more: its head has begun.
+    fn spare_user<R: Wait + Clock>(&mut self, rt: &R) -> bool {
+        for _ in 0..LOOKS {
+            let Some(key) = self.desk.seats.spared() else {
+                return false;
+            };
+            if self.is_wanted(key) {
+                self.desk.seats.begin_stay(key, Stay::Head);
+            } else {
+                self.end_slot(rt, key);
+                return true;
+            }
+        }
+        false
+    }
+
     /// Whether the connection under this key lies idle, but bytes of a request have come that no event has reported yet.
     fn is_wanted(&self, key: usize) -> bool {
         if self.desk.seats.stay(key) != Stay::Idle {
@@ -186,7 +203,7 @@ impl<'a, B: Ledgers, Q: Ledger, A: Ledger, G: Gate> Work for Shard<'a, B, Q, A, 
             place,
         } = user;
         if !self.desk.seats.has_room() {
-            let _ = self.make_room(rt);
+            let _ = self.spare_user(rt);
         }
         let Some((key, purpose)) = self.desk.seats.take(number, place, now) else {
             turn_away(stream);
@@ -213,20 +230,14 @@ impl<'a, B: Ledgers, Q: Ledger, A: Ledger, G: Gate> Work for Shard<'a, B, Q, A, 
         }
     }
 
-    /// An idle connection on which a request has just come is spared no more: its head has begun.
+    /// Idle connections to services go first, where they keep the user out.
     fn make_room<R: Wait + Clock>(&mut self, rt: &R) -> bool {
-        for _ in 0..LOOKS {
-            let Some(key) = self.desk.seats.spared() else {
-                return false;
-            };
-            if self.is_wanted(key) {
-                self.desk.seats.begin_stay(key, Stay::Head);
-            } else {
-                self.end_slot(rt, key);
-                return true;
-            }
+        let pools = &self.desk.shared.pools;
+        if pools.room.has_too_many_idle() {
+            pools.make_room(rt)
+        } else {
+            self.spare_user(rt)
         }
-        false
     }
 
     fn note(&mut self, key: usize, side: Side, told: Told) -> bool {

@@ -26,6 +26,13 @@ impl Readiness {
         }
     }
 
+    /// Of a connection that was dialled just now: there is nothing to read before an event says so. The first write is tried.
+    pub fn dialled() -> Readiness {
+        let ready = Readiness::new();
+        ready.read_out();
+        ready
+    }
+
     /// Takes note of an event: there may be bytes to read, there may be room to write, the other side has ended its
     /// bytes or the connection has failed. True if that is news: a read or a write that found nothing to do may find
     /// something now.

@@ -60,6 +60,17 @@ pub enum Unread {
 
 /// A connection that never blocks, with its counts. A call that can give nothing before the next event answers Wait
 /// without asking the system.
+///
+/// ```
+/// let ready = Arc::new(alloc, Readiness::new())?;
+/// let mut wire = SocketWire::new(stream, Arc::clone(&ready)?);
+/// wire.register(poll.registry(), Token(token_of(7, Side::User)))?;
+/// assert_eq!(rt; wire.try_read(&mut buf), Got::Wait);
+/// // The other side sends five bytes. The poll reports token 28 as readable, and the loop notes it.
+/// assert!(rt; ready.note(true, false, false));
+/// assert_eq!(rt; wire.try_read(&mut buf), Got::Bytes(5));
+/// assert_eq!(rt; wire.counts(), (5, 0));
+/// ```
 #[derive(Drop)]
 pub struct SocketWire {
     stream: TcpStream,
@@ -108,7 +119,8 @@ impl SocketWire {
         registry.deregister(&mut self.stream)
     }
 
-    /// Has small writes go out at once. Without it a second write of a message may wait for 40 ms.
+    /// Has small writes go out at once. Without it a second write may wait for 40 ms, so the wire does this before its second one;
+    /// the first one goes out at once anyway.
     pub fn hurry(&self) -> io::Result<()> {
         self.stream.set_nodelay(true)
     }
@@ -129,6 +141,12 @@ impl SocketWire {
                 _ => Unread::End,
             },
         }
+    }
+
+    /// Whether the last read found the end of what was there, and no event has said since that more came. The system isn't
+    /// asked.
+    pub fn is_read_out(&self) -> bool {
+        !self.ready.can_read() && !self.ready.is_closed()
     }
 
     /// Resets the connection, so that the other side can't take the end of its bytes for the end of a message. What wasn't
@@ -210,6 +228,9 @@ impl Wire for SocketWire {
     fn try_write(&mut self, bytes: &[u8]) -> Put {
         if !self.ready.can_write() || bytes.len() as u64 > u64::MAX - self.taken {
             return self.wait_to_write();
+        }
+        if self.writes == 1 {
+            let _ = self.hurry();
         }
         match write_once(&mut self.stream, bytes) {
             Ok(0) => self.wait_to_write(),

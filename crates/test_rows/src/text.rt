@@ -56,7 +56,7 @@ fn counted(count: usize, byte: u8) -> Option<usize> {
     count.checked_mul(10)?.checked_add(usize::from(byte - b'0'))
 }
 
-/// Adds a part behind itself, so that it stands there so often.
+/// Repeats the part from `from` on, so that it stands there `count` times.
 fn repeat(said: &mut Vec<u8>, from: usize, count: usize) -> Result<(), NoMemory> {
     let end = said.len();
     for _ in 1..count {
@@ -135,7 +135,7 @@ impl Reading<'_> {
     }
 }
 
-/// Adds what a text says, with an LF behind it where it is a whole line. `false` where an escape is none, or isn't whole, or
+/// Adds what a text says, with an LF after it where it is a whole line. `false` where an escape is none, or isn't whole, or
 /// a repeated part has no end.
 pub(crate) fn put_text(
     said: &mut Vec<u8>,

@@ -1,5 +1,5 @@
 //! Judges transactions by rows of plain text: the proxy's own sides over wires in memory, turned by a script. Each file that an
-//! argument names is a table.
+//! argument names is a table. An argument that is a number stands for so many allocations, each of which is given back.
 //!
 //! It ends with status 0 once all rows are judged, whatever their answers: its output says which failed.
 #![tactic(auto)]
@@ -20,7 +20,7 @@ use std::sync::Wait;
 use std::thread::Threads;
 use std::time::Clock;
 use std::{env, fs, io};
-use test_rows::{NoMemory, Report, read_table};
+use test_rows::{NoMemory, Report, number, read_table};
 use wire_kit::Answer;
 use wire_rows::{Player, Scene, Values, put_runs};
 
@@ -77,12 +77,25 @@ fn judged<R: Threads + Wait + Clock + Sync>(
     Ok(report)
 }
 
+/// Makes so many allocations, each of which is given back, so that any of the later ones can be the one that is refused.
+fn allocate(alloc: Global, count: u64) -> Result<(), NoMemory> {
+    for _ in 0..count {
+        b"a".to_vec(alloc)?;
+    }
+    Ok(())
+}
+
 fn main(rt: HostRuntime) -> io::Result<()> {
     let mut output = rt.stdout();
     for path in env::args(&rt)?.skip(1) {
-        let text = fs::read(&rt, path.as_str())?;
-        let report = judged(&rt, rt.alloc(), &text)?;
-        output.write_all(report.lines())?;
+        match number(path.as_bytes()) {
+            Some(count) => allocate(rt.alloc(), count)?,
+            None => {
+                let text = fs::read(&rt, path.as_str())?;
+                let report = judged(&rt, rt.alloc(), &text)?;
+                output.write_all(report.lines())?;
+            }
+        }
     }
     Ok(())
 }

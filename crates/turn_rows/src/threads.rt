@@ -8,7 +8,7 @@ use crate::held::HeldWire;
 use crate::scenes::BEGIN;
 use crate::sides::{Counted, Wires, hop_wire, service_wire};
 use crate::steps::ROUND;
-use crate::told::to_service;
+use crate::told::{to_service, wants_memory};
 use adapt_turn::{Side, Turned};
 use span_bank::{Bank, Blanks, Four, Ledgers};
 use std::alloc::Global;
@@ -57,6 +57,9 @@ fn told_of<A>(
     scene: Scene<'_>,
     values: Values,
 ) -> Result<Vec<u8>, NoMemory> {
+    if wants_memory(ended.outcome, ended.next_hop.taken(), scene) {
+        return Err(NoMemory);
+    }
     let mut out = Vec::new(alloc);
     put_shown(&mut out, b"outcome", &ended.outcome)?;
     put_text(&mut out, scene, b"service", to_service(ended), values)?;

@@ -18,11 +18,10 @@ fn is_prefix(scene: Scene<'_>, bytes: &[u8]) -> bool {
     false
 }
 
-/// Whether a transaction ended for want of memory, and its user has a prefix of a message or of the proxy's own answer. A user
-/// that has nothing counts as wrong: the transaction had begun.
-fn wants_memory(ended: &Ended<Counted, Counted>, scene: Scene<'_>) -> bool {
-    ended.outcome == Outcome::Fail(Cause::Memory)
-        && (is_prefix(scene, ended.next_hop.taken()) || is_prefix(scene, ended.source.taken()))
+/// Whether a transaction that ended so did for want of memory, and its user has a prefix of a message or of the proxy's own answer. A
+/// user that has nothing counts as wrong: the transaction had begun.
+pub fn wants_memory(outcome: Outcome, user: &[u8], scene: Scene<'_>) -> bool {
+    outcome == Outcome::Fail(Cause::Memory) && is_prefix(scene, user)
 }
 
 /// Adds how often a wire was called.
@@ -95,7 +94,9 @@ pub fn put_ended(
     values: Values,
     out: &mut Vec<u8>,
 ) -> Result<(), NoMemory> {
-    if wants_memory(ended, scene) {
+    if wants_memory(ended.outcome, ended.next_hop.taken(), scene)
+        || wants_memory(ended.outcome, ended.source.taken(), scene)
+    {
         return Err(NoMemory);
     }
     put_shown(out, b"outcome", &ended.outcome)?;

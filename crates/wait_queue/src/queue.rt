@@ -24,6 +24,17 @@ pub enum JoinFault {
 }
 
 /// A bounded queue, the longest waiting first.
+///
+/// ```
+/// let first = Waiter { thread: 0, key: 7 };
+/// let second = Waiter { thread: 1, key: 4 };
+/// let mut queue = WaitQueue::new(alloc, 2)?;
+/// assert_eq!(rt; queue.join(first), Ok(()));
+/// assert_eq!(rt; queue.join(second), Ok(()));
+/// assert_eq!(rt; queue.join(Waiter { thread: 1, key: 5 }), Err(JoinFault::Full));
+/// // Once the first has left, it is the second one's turn.
+/// assert_eq!(rt; queue.leave(first), Some(second));
+/// ```
 #[derive(Debug, Drop)]
 pub struct WaitQueue {
     waiting: Vec<Waiter>,
@@ -32,7 +43,7 @@ pub struct WaitQueue {
 }
 
 impl WaitQueue {
-    /// Nobody waits, and at most so many may. `Err` where no memory was found for them.
+    /// An empty queue with room for `most` waiters. `Err` where no memory was found for them.
     pub fn new(alloc: Global, most: usize) -> Result<WaitQueue, AllocError>
         ensures empty { IfOk result (λ queue. queue.waiting.items ≡ []) }
         ensures most { IfOk result (λ queue. queue.most ≡ most) }

@@ -1,6 +1,6 @@
 //! The service's connection, given up before the transaction ends.
 
-ghost use Rattle.std.specs.Prelude.{◌≡◌, ◌⊎◌, ℕ, List, true, false, None, Some, IfSome};
+ghost use Rattle.std.specs.Prelude.{◌≡◌, ℕ, List, true, false, None, Some, IfSome};
 ghost use Rattle.adapt_hold.specs.Holding.{shows};
 ghost use Rattle.adapt_turn.specs.Made.{wire_of, without_wire};
 ghost use Rattle.adapt_turn.specs.Freeing.{MayFree};
@@ -48,8 +48,7 @@ impl<B: Ledgers, S: Source, V: Service, K: Hop, F: Forward<S, K>, A: Wire, W: Wi
         ensures yes { result ≡ true → MayFree (shows self.now.hold.history) }
         ensures no { result ≡ false → MayFree (shows self.now.hold.history) → ⊥ }
     {
-        let seen = self.hold.state().seen();
-        seen.closed || seen.no_mod || seen.adapted_over
+        self.hold.state().seen().is_service_over()
     }
 
     /// Gives up the connection to the service, and says whether it may carry another request. `None` if no connection is held, or

@@ -2,12 +2,13 @@
 
 ghost use Rattle.std.specs.Prelude.{◌≡◌, false, None};
 ghost use Rattle.adapt_hold.specs.Holding.{shows};
-ghost use Rattle.adapt_turn.specs.Made.{MakesNoneAt, wire_of, adapted_of, response_of, answers_user};
+ghost use Rattle.adapt_turn.specs.Made.{MakesNoneAt, wire_of, adapted_of, response_of};
 ghost use Rattle.adapt_turn.specs.Parts.{lending, outcome_by};
-ghost use Rattle.adapt_turn.specs.Passes.{AnyPasses, LinePasses, NextPasses, SourcePasses, writers};
+ghost use Rattle.adapt_turn.specs.Passes.{AnyPasses, LinePasses, NextPasses, SourcePasses, choice_of, writers};
 
 use crate::forward::Forward;
 use crate::parts::{Passed, outcome_by};
+use crate::pass::hop::next_pass;
 use crate::pass::service::service_pass;
 use crate::pass::source::source_pass;
 use crate::turned::Side;
@@ -42,8 +43,7 @@ impl<B: Ledgers, S: Source, V: Service, K: Hop, F: Forward<S, K>, A: Wire, W: Wi
             side self.old.hold self.new.hold self.new.service result }
         ensures source { side ≡ Side.Source → SourcePasses S.Source A.Wire (lending self.old.hold self.old.source self.old.source_wire) (lending self.new.hold self.new.source self.new.source_wire) result }
         ensures service { side ≡ Side.Service → LinePasses V.Service W.Wire self.old.pace.reused self.old.hold self.old.service self.new.hold self.new.service result }
-        ensures next { side ≡ Side.NextHop → NextPasses K.Hop A.Wire C.Wire (answers_user (shows self.old.hold.history) (response_of V.is_response self.old.service))
-            (MakesNoneAt (F.makes_none self.old.forward (S.head self.old.source)) (adapted_of V.adapted_head self.old.service) (response_of V.is_response self.old.service) (shows self.old.hold.history))
+        ensures next { side ≡ Side.NextHop → NextPasses K.Hop A.Wire C.Wire (choice_of V.Service (F.makes self.new.forward (S.head self.old.source)) (F.makes_none self.old.forward (S.head self.old.source)) (self.new.forward ≡ self.old.forward) self.old.service (shows self.old.hold.history))
             (writers self.old.hold self.old.next self.old.next_wire self.old.back self.old.source_wire) (writers self.new.hold self.new.next self.new.next_wire self.new.back self.new.source_wire) result }
         ensures apart_source { side ≡ Side.Source → (self.new.service ≡ self.old.service) × (self.new.next_wire ≡ self.old.next_wire) × (self.new.next ≡ self.old.next) × (self.new.back ≡ self.old.back) }
         ensures apart_service { side ≡ Side.Service → (self.new.source ≡ self.old.source) × (self.new.source_wire ≡ self.old.source_wire) × (self.new.next_wire ≡ self.old.next_wire) × (self.new.next ≡ self.old.next) × (self.new.back ≡ self.old.back) }
@@ -75,7 +75,23 @@ impl<B: Ledgers, S: Source, V: Service, K: Hop, F: Forward<S, K>, A: Wire, W: Wi
                 self.outcome = outcome_by(passed.failed);
                 passed
             }
-            Side::NextHop => self.next_pass(rt, bank),
+            Side::NextHop => {
+                let passed = next_pass::<B, S, V, K, F, A, W, C>(
+                    rt,
+                    bank,
+                    self.alloc,
+                    &mut self.hold,
+                    &mut self.forward,
+                    &self.source,
+                    &self.service,
+                    &mut self.next,
+                    &mut self.next_wire,
+                    &mut self.back,
+                    &mut self.source_wire,
+                );
+                self.outcome = outcome_by(passed.failed);
+                passed
+            }
         }
     }
 }

@@ -1,10 +1,11 @@
 //! `serve` over loopback: users, an origin, a service and the administrator in one thread, the proxy in threads of its own.
 
+use super::apart::three_apart;
 use super::player::{Stage, Step, gets, take_all};
 use super::shards::{many_users, one_connection};
-use crate::serve::read_configuration;
 use crate::serving::serve_ports;
 use mio::net::TcpListener as Listener;
+use proxy_commands::read_configuration;
 use proxy_config::Config;
 use shard_loop::{Append, StopAudit, Stopped};
 use socket_wire::Dial;
@@ -31,6 +32,8 @@ pub enum Scene {
     OneConnection,
     /// More users than the budget has room for, all at once.
     ManyUsers,
+    /// The worked exchange, with a user, an origin and a service in a thread each.
+    Apart,
 }
 
 /// Where the proxy listens.
@@ -150,6 +153,7 @@ fn play<R: Threads + Sync>(
         | Scene::HeldBack(steps) => take_all(host, alloc, &mut stage, steps),
         Scene::OneConnection => one_connection(host, alloc, ports, others),
         Scene::ManyUsers => many_users(rt, host, alloc, ports, others),
+        Scene::Apart => three_apart(rt, host, alloc, ports, others),
     }
 }
 

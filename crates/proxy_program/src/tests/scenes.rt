@@ -1,6 +1,6 @@
 //! What users, an origin, a service and the administrator do, in this order, and what they get.
 
-use super::loopback::{Scene, goes_well};
+use super::loopback::Scene;
 use super::player::Deed::{Ends, Gets, GetsOffer, HearsEnd, HearsNothing, Passes, Says};
 use super::player::Side::{Origin, Service, User};
 use super::player::Step::{Admin, Awaits, Closes, New, On, Releases, Stops};
@@ -12,7 +12,6 @@ use super::texts::{
     RESPONSE, RESPONSE_FRONT, RETAGGED, TIMEOUT, TO_ORIGIN, TWO_LENGTHS, UNAVAILABLE, UNMODIFIED,
     WAITING_POST,
 };
-use std::test::Fail;
 
 pub const ASKS: &[Deed] = &[Says(REQUEST)];
 
@@ -28,7 +27,7 @@ const WAITS: &[Deed] = &[Says(WAITING_POST)];
 
 const SAYS_ONE_REQUEST: &[Deed] = &[Passes(HEAD_END), Says(ONE_REQUEST)];
 
-const SAYS_PREVIEWS: &[Deed] = &[Passes(HEAD_END), Says(PREVIEWS)];
+pub const SAYS_PREVIEWS: &[Deed] = &[Passes(HEAD_END), Says(PREVIEWS)];
 
 pub const SAYS_ONE_CONNECTION: &[Deed] = &[Passes(HEAD_END), Says(ONE_CONNECTION)];
 
@@ -251,7 +250,7 @@ const STOPPED: &[Step] = &[
 
 /// The second user's shard serves it while the first one's is held back. Then the first one's shard uses the connection
 /// that the other one has opened.
-pub const HELD_BACK: &[Step] = &[
+const HELD_BACK: &[Step] = &[
     New(User, ASKS),
     New(Origin, &[]),
     New(User, ASKS),
@@ -267,74 +266,114 @@ pub const HELD_BACK: &[Step] = &[
     On(0, &[Gets(ADAPTED)]),
 ];
 
-/// Scenes with a user for whom there is no room, and lines of their configuration.
-const NO_ROOM: &[(Scene, &str)] = &[
-    (Scene::Forwarded(CROWDED), "rows = 1\nshards = 1\n"),
-    (Scene::Forwarded(WAITS_FOR_ROOM), ""),
-    (Scene::Forwarded(WAITS_FOR_A_ROW), "rows = 1\nshards = 2\n"),
-    (Scene::AllAdapted(WAITS_FOR_THE_SERVICE), "shards = 1\n"),
+/// A scene with its name, and lines of its configuration.
+pub type Named = (&'static str, Scene, &'static str);
+
+/// Exchanges that a service adapts.
+pub const ADAPTED_ONES: &[Named] = &[
+    (
+        "the worked exchange",
+        Scene::Adapted(WORKED),
+        "allow_limit = 0\n",
+    ),
+    (
+        "a changed request",
+        Scene::AllAdapted(CHANGED_REQUEST),
+        "allow_limit = 0\n",
+    ),
+    (
+        "a service that takes no connection",
+        Scene::Adapted(REFUSING),
+        "allow_limit = 0\n",
+    ),
+    (
+        "a service that closes after its options",
+        Scene::Adapted(CLOSED_OPTIONS),
+        "allow_limit = 0\n",
+    ),
 ];
 
-#[test]
-fn the_worked_exchange(rt: HostRuntime) -> Result<(), Fail> {
-    for scene in [Scene::Adapted(WORKED), Scene::AllAdapted(CHANGED_REQUEST)] {
-        assert!(rt; goes_well(&rt, &rt, scene, "allow_limit = 0\n")?);
-    }
-    Ok(())
-}
+/// Connections that were idle, or that take too long.
+pub const LATE_ONES: &[Named] = &[
+    (
+        "nobody waits for ever",
+        Scene::Adapted(DEADLINES),
+        "deadline = 1\nallow_limit = 0\n",
+    ),
+    (
+        "a silent service",
+        Scene::Adapted(SILENT_SERVICE),
+        "deadline = 1\nallow_limit = 0\n",
+    ),
+    (
+        "a request begins anew after an idle connection",
+        Scene::Adapted(RETRY),
+        "",
+    ),
+    (
+        "the options are asked anew after an idle connection",
+        Scene::Adapted(STALE_OPTIONS),
+        "",
+    ),
+];
 
-#[test]
-fn a_service_says_how_many_connections_it_takes(rt: HostRuntime) -> Result<(), Fail> {
-    for steps in [REFUSING, CLOSED_OPTIONS] {
-        assert!(rt; goes_well(&rt, &rt, Scene::Adapted(steps), "allow_limit = 0\n")?);
-    }
-    Ok(())
-}
+/// Users for whom there is no room.
+pub const CROWDED_ONES: &[Named] = &[
+    (
+        "no row beside another user",
+        Scene::Forwarded(CROWDED),
+        "rows = 1\nshards = 1\n",
+    ),
+    (
+        "no room for one that waits",
+        Scene::Forwarded(WAITS_FOR_ROOM),
+        "",
+    ),
+    (
+        "no row for one that waits",
+        Scene::Forwarded(WAITS_FOR_A_ROW),
+        "rows = 1\nshards = 2\n",
+    ),
+    (
+        "no connection for one that waits",
+        Scene::AllAdapted(WAITS_FOR_THE_SERVICE),
+        "shards = 1\n",
+    ),
+];
 
-#[test]
-fn nobody_waits_for_ever(rt: HostRuntime) -> Result<(), Fail> {
-    for steps in [DEADLINES, SILENT_SERVICE] {
-        assert!(rt;
-            goes_well(
-                &rt,
-                &rt,
-                Scene::Adapted(steps),
-                "deadline = 1\nallow_limit = 0\n"
-            )?
-        );
-    }
-    Ok(())
-}
+/// What the administrator does, and what users do wrong.
+pub const CUT_ONES: &[Named] = &[
+    ("the capacity changes", Scene::Forwarded(CAPACITY), ""),
+    (
+        "the capacity changes while bytes are held",
+        Scene::Adapted(HELD_BYTES),
+        "allow_limit = 0\n",
+    ),
+    ("the proxy stops", Scene::Adapted(STOPPED), ""),
+    ("heads that break off", Scene::Forwarded(CUT_HEADS), ""),
+    ("two lengths", Scene::Forwarded(TWO_LENGTHS_SAID), ""),
+];
 
-#[test]
-fn a_request_begins_anew_behind_an_idle_connection(rt: HostRuntime) -> Result<(), Fail> {
-    assert!(rt; goes_well(&rt, &rt, Scene::Adapted(RETRY), "")?);
-    assert!(rt; goes_well(&rt, &rt, Scene::Adapted(STALE_OPTIONS), "")?);
-    Ok(())
-}
-
-#[test]
-fn a_user_for_whom_there_is_no_room_gets_the_refusal(rt: HostRuntime) -> Result<(), Fail> {
-    for (scene, lines) in NO_ROOM {
-        assert!(rt; goes_well(&rt, &rt, *scene, *lines)?);
-    }
-    Ok(())
-}
-
-#[test]
-fn the_administrator_changes_and_stops(rt: HostRuntime) -> Result<(), Fail> {
-    assert!(rt; goes_well(&rt, &rt, Scene::Forwarded(CAPACITY), "")?);
-    assert!(rt; goes_well(&rt, &rt, Scene::Adapted(HELD_BYTES), "allow_limit = 0\n")?);
-    assert!(rt; goes_well(&rt, &rt, Scene::Adapted(STOPPED), "")?);
-    Ok(())
-}
-
-#[test]
-fn a_request_that_breaks_off_gets_no_answer_and_two_lengths_a_refusal(
-    rt: HostRuntime,
-) -> Result<(), Fail> {
-    for steps in [CUT_HEADS, TWO_LENGTHS_SAID] {
-        assert!(rt; goes_well(&rt, &rt, Scene::Forwarded(steps), "")?);
-    }
-    Ok(())
-}
+/// Several shards.
+pub const SHARDED_ONES: &[Named] = &[
+    (
+        "one pool serves all shards",
+        Scene::OneConnection,
+        "allow_limit = 0\nshards = 2\n",
+    ),
+    (
+        "one shard is held back",
+        Scene::HeldBack(HELD_BACK),
+        "allow_limit = 0\nshards = 2\n",
+    ),
+    (
+        "a user, an origin and a service in a thread each",
+        Scene::Apart,
+        "allow_limit = 0\n",
+    ),
+    (
+        "many users share a small budget",
+        Scene::ManyUsers,
+        "shards = 4\ncapacity = 20000\n",
+    ),
+];

@@ -1,14 +1,13 @@
 //! What users of several shards get: one budget and one pool for all of them.
 
-use super::loopback::{Others, Ports, Scene, goes_well};
+use super::loopback::{Others, Ports};
 use super::player::Side::{Origin, Service, User};
 use super::player::{TRIES, does_all, gets, hears, meet, say, until};
-use super::scenes::{ADAPTS, ANSWERS, ASKS, HELD_BACK, IS_REFUSED, SAYS_ONE_CONNECTION};
+use super::scenes::{ADAPTS, ANSWERS, ASKS, IS_REFUSED, SAYS_ONE_CONNECTION};
 use super::texts::{ADAPTED, FORWARDED, HEAD_END, REQUEST, RESPONSE, UNAVAILABLE};
 use std::alloc::Global;
 use std::io;
 use std::net::TcpStream;
-use std::test::Fail;
 use std::thread::{self, Threads};
 
 /// How many users there are at once.
@@ -167,19 +166,4 @@ pub fn many_users<R: Threads + Sync>(
         },
     );
     Ok(right)
-}
-
-#[test]
-fn one_pool_serves_all_shards(rt: HostRuntime) -> Result<(), Fail> {
-    let lines = "allow_limit = 0\nshards = 2\n";
-    assert!(rt; goes_well(&rt, &rt, Scene::OneConnection, lines)?);
-    assert!(rt; goes_well(&rt, &rt, Scene::HeldBack(HELD_BACK), lines)?);
-    Ok(())
-}
-
-#[test]
-fn many_users_share_a_small_budget(rt: HostRuntime) -> Result<(), Fail> {
-    let lines = "shards = 4\ncapacity = 20000\n";
-    assert!(rt; goes_well(&rt, &rt, Scene::ManyUsers, lines)?);
-    Ok(())
 }

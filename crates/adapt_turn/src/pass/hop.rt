@@ -1,0 +1,170 @@
+//! A pass of the side that the chosen message goes to.
+
+ghost use Rattle.std.specs.Prelude.{◌≡◌, true, false, IfOk, IfErr};
+ghost use Rattle.adapt_sides.specs.Turns.Gift.{nothing};
+ghost use Rattle.adapt_hold.specs.Holding.{shows, IsRoomy, IsTied};
+ghost use Rattle.adapt_turn.specs.Made.{MakesAt, MakesNoneAt, adapted_of, response_of, is_reqmod, answers_user};
+ghost use Rattle.adapt_turn.specs.Passes.{Begins, GivesOne, NextPasses, choice_of, writers};
+ghost use Rattle.adapt_turn.specs.Stands.{IsChosen};
+
+use crate::forward::Forward;
+use crate::parts::{Passed, close, give};
+use crate::pass::idle;
+use crate::start::Line;
+use adapt_hold::Hold;
+use adapt_sides::{Hop, Service, Source};
+use span_bank::{Bank, Ledgers};
+use std::alloc::Global;
+use std::sync::Wait;
+use trace_core::{Cause, Point};
+use wire_kit::Wire;
+
+/// A pass of the next hop's side: nothing is due before a message is chosen. The first pass after that begins the message, on the
+/// writer back to the user where it answers the user, else on the next hop's.
+pub(crate) fn next_pass<
+    B: Ledgers,
+    S: Source,
+    V: Service,
+    K: Hop,
+    F: Forward<S, K>,
+    A: Wire,
+    W,
+    C: Wire,
+>(
+    rt: &impl Wait,
+    bank: &Bank<B>,
+    alloc: Global,
+    hold: &mut Hold<B>,
+    forward: &mut F,
+    source: &S,
+    service: &Option<Line<V, W>>,
+    next: &mut K,
+    next_wire: &mut C,
+    back: &mut K,
+    back_wire: &mut A,
+) -> Passed
+    requires running { (shows hold.old.history).closed ≡ false }
+    requires roomy { IsRoomy hold.old }
+    ensures passes { NextPasses K.Hop A.Wire C.Wire (choice_of V.Service (F.makes forward.new (S.head source.now)) (F.makes_none forward.old (S.head source.now)) (forward.new ≡ forward.old) service.now (shows hold.old.history))
+        (writers hold.old next.old next_wire.old back.old back_wire.old) (writers hold.new next.new next_wire.new back.new back_wire.new) result }
+    ensures roomy { IsRoomy hold.new }
+{
+    let _state = hold.state();
+    if !is_chosen(hold) {
+        return idle();
+    }
+    match begin::<B, S, V, K, F, W>(alloc, hold, forward, source, service, next, back) {
+        Ok(()) => give_pass(rt, bank, hold, next, next_wire, back, back_wire),
+        Err(cause) => close(rt, bank, hold, cause),
+    }
+}
+
+/// Whether a message is chosen for the next hop.
+fn is_chosen<B: Ledgers>(hold: &Hold<B>) -> bool
+    ensures chosen { result ≡ true → IsChosen (shows hold.now.history) }
+    ensures unchosen { result ≡ false → IsChosen (shows hold.now.history) → ⊥ }
+{
+    let state = hold.state();
+    state.chooses_original() || state.seen().modified
+}
+
+/// Begins the chosen message, if no message is begun, or says why its head couldn't be made.
+fn begin<B: Ledgers, S: Source, V: Service, K: Hop, F: Forward<S, K>, W>(
+    alloc: Global,
+    hold: &Hold<B>,
+    forward: &mut F,
+    source: &S,
+    service: &Option<Line<V, W>>,
+    next: &mut K,
+    back: &mut K,
+) -> Result<(), Cause>
+    ensures begun { IfOk result (λ _. Begins K.Hop (choice_of V.Service (F.makes forward.new (S.head source.now)) (F.makes_none forward.old (S.head source.now)) (forward.new ≡ forward.old) service.now (shows hold.now.history))
+        next.old back.old next.new back.new) }
+    ensures none { IfErr result (λ cause. MakesNoneAt (F.makes_none forward.old (S.head source.now)) (adapted_of V.adapted_head service.now) (response_of V.is_response service.now) (shows hold.now.history) cause) }
+    ensures unbegun { IfErr result (λ cause. (K.gift next.old ≡ nothing) × (K.gift back.old ≡ nothing) × (next.new ≡ next.old) × (back.new ≡ back.old)) }
+{
+    if !next.is_idle() {
+        return Ok(());
+    }
+    if !back.is_idle() {
+        return Ok(());
+    }
+    let answers = answers_user(hold, service);
+    match forwarded::<B, S, V, K, F, W>(alloc, forward, hold, source, service) {
+        Ok((head, framing)) => {
+            if answers {
+                back.begin(head, framing);
+            } else {
+                next.begin(head, framing);
+            }
+            Ok(())
+        }
+        Err(cause) => Err(cause),
+    }
+}
+
+/// Whether the adapted message is an answer to the user, though a request was offered.
+fn answers_user<B: Ledgers, V: Service, W>(hold: &Hold<B>, service: &Option<Line<V, W>>) -> bool
+    ensures { result ≡ answers_user (shows hold.now.history) (response_of V.is_response service.now) }
+{
+    let seen = hold.state().seen();
+    match service {
+        Some(line) => line.side.is_response() && seen.modified && is_reqmod(seen.plan.point),
+        None => false,
+    }
+}
+
+/// Whether requests are offered here.
+fn is_reqmod(point: Point) -> bool
+    ensures { result ≡ is_reqmod point }
+{
+    matches!(point, Point::Reqmod)
+}
+
+/// The head of the chosen message, and how its body goes.
+fn forwarded<B: Ledgers, S: Source, V: Service, K: Hop, F: Forward<S, K>, W>(
+    alloc: Global,
+    forward: &mut F,
+    hold: &Hold<B>,
+    source: &S,
+    service: &Option<Line<V, W>>,
+) -> Result<(Vec<u8>, K::Framing), Cause>
+    ensures made { IfOk result (λ made. MakesAt (F.makes forward.new (S.head source.now)) (adapted_of V.adapted_head service.now) (response_of V.is_response service.now) (shows hold.now.history) made.0.items made.1) }
+    ensures none { IfErr result (λ cause. MakesNoneAt (F.makes_none forward.old (S.head source.now)) (adapted_of V.adapted_head service.now) (response_of V.is_response service.now) (shows hold.now.history) cause) }
+    ensures tied { IsTied hold.now }
+{
+    let state = hold.state();
+    match service {
+        Some(line) if state.seen().modified => forward.forward(
+            alloc,
+            state,
+            source,
+            line.side.adapted_head(),
+            line.side.is_response(),
+        ),
+        _ => forward.forward(alloc, state, source, None, false),
+    }
+}
+
+/// A pass of the message's writer, which was begun.
+fn give_pass<B: Ledgers, K: Hop, A: Wire, C: Wire>(
+    rt: &impl Wait,
+    bank: &Bank<B>,
+    hold: &mut Hold<B>,
+    next: &mut K,
+    next_wire: &mut C,
+    back: &mut K,
+    back_wire: &mut A,
+) -> Passed
+    requires running { (shows hold.old.history).closed ≡ false }
+    requires chosen { IsChosen (shows hold.old.history) }
+    requires roomy { IsRoomy hold.old }
+    ensures gives { GivesOne K.Hop A.Wire C.Wire (writers hold.old next.old next_wire.old back.old back_wire.old) (writers hold.new next.new next_wire.new back.new back_wire.new) result }
+    ensures roomy { IsRoomy hold.new }
+{
+    if back.is_idle() {
+        give(rt, bank, hold, next, next_wire)
+    } else {
+        give(rt, bank, hold, back, back_wire)
+    }
+}

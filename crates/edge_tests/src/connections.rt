@@ -1,0 +1,167 @@
+//! Connections of `icapd` over sockets on the loopback.
+
+use icapd_commands::{Settings, Shared, accept_one};
+use std::alloc::{AllocError, Global};
+use std::io::{self, Read, Write};
+use std::net::{Net, Shutdown, SocketAddr, TcpListener, TcpStream};
+use std::sync::{Arc, Wait};
+use std::test::Fail;
+use std::thread;
+use std::thread::Threads;
+use std::time::{Clock, Duration};
+
+const REQUEST: &[u8] = b"REQMOD icap://127.0.0.1:1344/reqmod/block ICAP/1.0\r\n\
+Host: 127.0.0.1:1344\r\nEncapsulated: req-hdr=0, null-body=45\r\n\r\n\
+GET http://o.test/ HTTP/1.1\r\nHost: o.test\r\n\r\n";
+
+const BLOCKED: &[u8] = b"ICAP/1.0 200 OK\r\nISTag: \"adapt-1\"\r\n\
+Encapsulated: res-hdr=0, res-body=45\r\n\r\n\
+HTTP/1.1 403 Forbidden\r\nContent-Length: 8\r\n\r\n8\r\nblocked\n\r\n0\r\n\r\n";
+
+const BAD_REQUEST: &[u8] = b"ICAP/1.0 400 Bad Request\r\nISTag: \"adapt-1\"\r\n\
+Encapsulated: null-body=0\r\n\r\n";
+
+/// What a server shares that takes one connection at a time, with this deadline.
+fn one_at_a_time(alloc: Global, deadline: u64) -> Result<Arc<Shared, Global>, AllocError> {
+    let tag = b"adapt-1".to_vec(alloc)?;
+    match Settings::new(tag, 1, 3600, 1024) {
+        Some(settings) => Shared::new(alloc, settings, deadline),
+        None => Err(AllocError),
+    }
+}
+
+/// A connection that has sent these bytes.
+fn connect<R: Net<Listener = TcpListener, Stream = TcpStream>>(
+    rt: &R,
+    address: SocketAddr,
+    bytes: &[u8],
+) -> io::Result<TcpStream> {
+    let stream = TcpStream::connect(rt, address)?;
+    let mut writer = &stream;
+    writer.write_all(bytes)?;
+    Ok(stream)
+}
+
+/// Whether these bytes come next on the connection, and then its end where that is asked for.
+fn receives(alloc: Global, stream: &TcpStream, want: &[u8], end: bool) -> io::Result<bool> {
+    let mut reader = stream;
+    let mut found = Vec::from_elem(alloc, 0u8, want.len())?;
+    reader.read_exact(&mut found)?;
+    if found.as_slice() != want {
+        return Ok(false);
+    }
+    if end {
+        let mut rest = Vec::new(alloc);
+        return Ok(reader.read_to_end(&mut rest)? == 0);
+    }
+    Ok(true)
+}
+
+/// Requests on one connection, a half-closed client, clients that are gone or wrong, each alone.
+fn serve_each<R>(rt: R, alloc: Global) -> io::Result<bool>
+where
+    R: Net<Listener = TcpListener, Stream = TcpStream>
+        + Threads
+        + Wait
+        + Clock
+        + Copy
+        + Send
+        + Sync
+        + 'static,
+{
+    let listener = TcpListener::bind(&rt, "127.0.0.1:0")?;
+    let address = listener.local_addr()?;
+    let shared = one_at_a_time(alloc, 60)?;
+    let kept = connect(&rt, address, REQUEST)?;
+    accept_one(rt, alloc, &listener, &shared);
+    let first = receives(alloc, &kept, BLOCKED, false)?;
+    let mut again = &kept;
+    again.write_all(REQUEST)?;
+    let second = receives(alloc, &kept, BLOCKED, false)?;
+    drop(kept);
+    let half = connect(&rt, address, REQUEST)?;
+    half.shutdown(Shutdown::Write)?;
+    accept_one(rt, alloc, &listener, &shared);
+    let third = receives(alloc, &half, BLOCKED, true)?;
+    drop(connect(&rt, address, &REQUEST[..20])?);
+    accept_one(rt, alloc, &listener, &shared);
+    let wrong = connect(&rt, address, b"x\r\nand more")?;
+    accept_one(rt, alloc, &listener, &shared);
+    let fourth = receives(alloc, &wrong, BAD_REQUEST, true)?;
+    Ok(first && second && third && fourth)
+}
+
+/// A second connection waits while the first is within a request. Once that is answered, and waits for a further one, it
+/// is closed, and the second served.
+fn serve_one_at_a_time<R>(rt: R, alloc: Global) -> io::Result<bool>
+where
+    R: Net<Listener = TcpListener, Stream = TcpStream>
+        + Threads
+        + Wait
+        + Clock
+        + Copy
+        + Send
+        + Sync
+        + 'static,
+{
+    let listener = TcpListener::bind(&rt, "127.0.0.1:0")?;
+    let address = listener.local_addr()?;
+    let shared = one_at_a_time(alloc, 60)?;
+    let (front, rest) = REQUEST.split_at(20);
+    let first = connect(&rt, address, front)?;
+    let second = connect(&rt, address, REQUEST)?;
+    second.set_read_timeout(Some(Duration::from_millis(600)))?;
+    accept_one(rt, alloc, &listener, &shared);
+    let lent = &listener;
+    let given = &shared;
+    thread::scope(thread::scope_env(), &rt, |scope| {
+        if scope
+            .spawn(move || accept_one(rt, alloc, lent, given))
+            .is_err()
+        {
+            return Ok(false);
+        }
+        let waits = receives(alloc, &second, BLOCKED, false).is_err();
+        second.set_read_timeout(None)?;
+        let mut writer = &first;
+        writer.write_all(rest)?;
+        let served = receives(alloc, &first, BLOCKED, true)?;
+        let later = receives(alloc, &second, BLOCKED, false)?;
+        Ok(waits && served && later)
+    })
+}
+
+/// A connection that has said nothing is closed for a further one, and one that says nothing for the deadline in any case.
+fn close_silent<R>(rt: R, alloc: Global) -> io::Result<bool>
+where
+    R: Net<Listener = TcpListener, Stream = TcpStream>
+        + Threads
+        + Wait
+        + Clock
+        + Copy
+        + Send
+        + Sync
+        + 'static,
+{
+    let listener = TcpListener::bind(&rt, "127.0.0.1:0")?;
+    let address = listener.local_addr()?;
+    let shared = one_at_a_time(alloc, 1)?;
+    let silent = connect(&rt, address, b"")?;
+    accept_one(rt, alloc, &listener, &shared);
+    let second = connect(&rt, address, REQUEST)?;
+    accept_one(rt, alloc, &listener, &shared);
+    let closed = receives(alloc, &silent, b"", true)?;
+    let served = receives(alloc, &second, BLOCKED, false)?;
+    let late = receives(alloc, &second, b"", true)?;
+    Ok(closed && served && late)
+}
+
+#[test]
+fn connections_end_alone_and_make_room(rt: HostRuntime) -> Result<(), Fail> {
+    let alloc = rt.alloc();
+    let alone = serve_each(rt, alloc)?;
+    let waits = serve_one_at_a_time(rt, alloc)?;
+    let closed = close_silent(rt, alloc)?;
+    assert_eq!(rt; [alone, waits, closed], [true; 3]);
+    Ok(())
+}

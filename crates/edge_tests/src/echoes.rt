@@ -1,0 +1,292 @@
+//! Loops in threads, over loopback: they echo.
+
+use event_loop::{
+    Base, Driven, Ended, Entrance, Handed, Inbox, Place, Request, Room, Told, Work, add_loop,
+    run_loop,
+};
+use mio::net::TcpListener;
+use mio::{Registry, Token};
+use slab::Slab;
+use socket_wire::{Dial, MAX_KEY, Readiness, Side, SocketWire, token_of};
+use std::alloc::{AllocError, Global};
+use std::io::{self, Read, Write};
+use std::net::{Ipv4Addr, SocketAddr, TcpStream as Client};
+use std::sync::{Arc, Mutex, Wait};
+use std::test::Fail;
+use std::thread;
+use std::time::Clock;
+use wire_kit::{Got, Wire};
+
+/// A connection that echoes, and its readiness.
+#[derive(Drop)]
+struct Conn {
+    ready: Arc<Readiness>,
+    wire: SocketWire,
+    place: Place,
+}
+
+/// Connections that echo.
+#[derive(Drop)]
+struct Echo {
+    alloc: Global,
+    all: Slab<Conn>,
+}
+
+fn take_in(echo: &mut Echo, registry: &Registry, user: Handed) -> Result<usize, AllocError> {
+    let Handed {
+        stream,
+        number: _,
+        place,
+    } = user;
+    let ready = Arc::new(echo.alloc, Readiness::new())?;
+    let mut wire = SocketWire::new(stream, ready.clone()?);
+    echo.all.reserve(1)?;
+    let key = echo.all.vacant_key();
+    if key > MAX_KEY
+        || wire
+            .register(registry, Token(token_of(key, Side::User)))
+            .is_err()
+    {
+        return Err(AllocError);
+    }
+    let _ = echo.all.insert_reserved(Conn { ready, wire, place });
+    Ok(key)
+}
+
+fn echo_once(wire: &mut SocketWire) -> Got {
+    let mut piece = [0u8; 64];
+    let got = wire.try_read(&mut piece);
+    if let Got::Bytes(count) = got {
+        let _ = wire.try_write(&piece[..count]);
+    }
+    got
+}
+
+impl Work for Echo {
+    fn admit<R: Wait + Dial + Clock>(
+        &mut self,
+        _rt: &R,
+        registry: &Registry,
+        user: Handed,
+        _now: u64,
+    ) -> Option<usize> {
+        take_in(self, registry, user).ok()
+    }
+
+    fn make_room<R: Wait + Clock>(&mut self, _rt: &R) -> bool {
+        for key in 0..self.bound() {
+            if self.all.try_remove(key).is_some() {
+                return true;
+            }
+        }
+        false
+    }
+
+    fn note(&mut self, key: usize, _side: Side, told: Told) -> bool {
+        match self.all.get_mut(key) {
+            Some(conn) => conn.ready.note(told.readable, told.writable, told.closed),
+            None => false,
+        }
+    }
+
+    fn drive<R: Wait + Dial + Clock>(
+        &mut self,
+        _rt: &R,
+        _registry: &Registry,
+        key: usize,
+        _now: u64,
+    ) -> Driven {
+        for _ in 0..2 {
+            let got = match self.all.get_mut(key) {
+                Some(conn) => echo_once(&mut conn.wire),
+                None => return Driven::Over,
+            };
+            match got {
+                Got::Bytes(_) => {}
+                Got::Wait => return Driven::Waiting,
+                Got::Ended | Got::Fault => {
+                    let _ = self.all.try_remove(key);
+                    return Driven::Over;
+                }
+            }
+        }
+        Driven::CutShort
+    }
+
+    fn queues(&self) -> usize {
+        0
+    }
+
+    fn first_of<R: Wait>(&self, _rt: &R, _queue: usize) -> Option<usize> {
+        None
+    }
+
+    fn bound(&self) -> usize {
+        16
+    }
+
+    fn is_idle(&self) -> bool {
+        self.all.is_empty()
+    }
+
+    fn answer<R: Wait>(
+        &mut self,
+        _rt: &R,
+        request: Request,
+        _now: u64,
+    ) -> Result<Vec<u8>, AllocError> {
+        match request {
+            Request::Book => b"a book\n".to_vec(self.alloc),
+            _ => b"ok\n".to_vec(self.alloc),
+        }
+    }
+
+    fn patience(&self) -> Option<u64> {
+        None
+    }
+
+    fn turn_over<R: Wait>(&mut self, _rt: &R) {}
+
+    fn drain(&mut self) {}
+
+    fn halt<R: Wait + Dial + Clock>(&mut self, _rt: &R, _registry: &Registry, _now: u64) {
+        self.all.clear();
+    }
+}
+
+/// Whether just this comes next.
+fn gets(client: &mut Client, want: &[u8]) -> io::Result<bool> {
+    let mut byte = [0u8; 1];
+    for wanted in want {
+        if client.read(&mut byte)? == 0 || byte[0] != *wanted {
+            return Ok(false);
+        }
+    }
+    Ok(true)
+}
+
+/// Whether a client of a port that says this gets `want` as its answer, `times` times.
+fn answers(
+    rt: &HostRuntime,
+    port: SocketAddr,
+    said: &[u8],
+    want: &[u8],
+    times: u32,
+) -> io::Result<bool> {
+    let mut client = Client::connect(rt, port)?;
+    client.write_all(said)?;
+    for _ in 0..times {
+        if !gets(&mut client, want)? {
+            return Ok(false);
+        }
+    }
+    Ok(true)
+}
+
+/// Echoes in this thread until it has to stop.
+fn run_echo<R: Wait + Dial + Clock>(
+    rt: &R,
+    alloc: Global,
+    number: usize,
+    base: &mut Option<Base>,
+    inboxes: &[Inbox],
+    ended: &Mutex<u32>,
+) {
+    let Some(base) = base.take() else {
+        return;
+    };
+    let echo = Echo {
+        alloc,
+        all: Slab::new(alloc),
+    };
+    let Ended { work: _, fault } = run_loop(rt, alloc, number, base, echo, inboxes);
+    if fault.is_none() {
+        let mut ended = ended.lock(rt);
+        *ended = ended.saturating_add(1);
+    }
+}
+
+/// Two loops, with room for one user at a time.
+fn make(
+    rt: &HostRuntime,
+    listeners: (TcpListener, TcpListener),
+    inboxes: &mut Vec<Inbox>,
+) -> io::Result<[Option<Base>; 2]> {
+    let (listener, admin) = listeners;
+    let room = Arc::new(rt.alloc(), Room::new(1, 0))?;
+    let users = Entrance {
+        listener,
+        room,
+        loops: 2,
+    };
+    let first = add_loop(rt, rt.alloc(), Some(users), None, inboxes)?;
+    let second = add_loop(rt, rt.alloc(), None, Some(admin), inboxes)?;
+    Ok([Some(first), Some(second)])
+}
+
+/// As many administrators as there are seats for, who say nothing.
+fn silent(rt: &HostRuntime, admin: SocketAddr) -> io::Result<Vec<Client>> {
+    let mut all = Vec::new(rt.alloc());
+    for _ in 0..16 {
+        all.push(Client::connect(rt, admin)?)?;
+    }
+    Ok(all)
+}
+
+/// Users, one after another, and administrators, after others that have taken all seats.
+fn users(rt: &HostRuntime, port: SocketAddr, admin: SocketAddr) -> io::Result<bool> {
+    let long =
+        b"0123456789012345678901234567890123456789012345678901234567890123456789\n".as_slice();
+    let hello = b"hello\n".as_slice();
+    let lines = [b'\n'; 70];
+    let _silent = silent(rt, admin)?;
+    let rows = [
+        (port, hello, hello, 1),
+        (port, hello, hello, 1),
+        (port, long, long, 1),
+        (port, long, long, 1),
+        (admin, b"book\n".as_slice(), b"a book\n".as_slice(), 1),
+        (admin, b"capacity 7\n".as_slice(), b"ok\n".as_slice(), 1),
+        (admin, b"capacity 0\n".as_slice(), b"bad\n".as_slice(), 1),
+        (admin, lines.as_slice(), b"bad\n".as_slice(), 70),
+    ];
+    let mut right = true;
+    for (port, said, want, times) in &rows {
+        right = right && answers(rt, *port, *said, *want, *times)?;
+    }
+    let mut client = Client::connect(rt, admin)?;
+    client.write_all(b"stop\n")?;
+    Ok(right)
+}
+
+#[test]
+fn two_loops_echo_until_they_are_stopped(rt: HostRuntime) -> Result<(), Fail> {
+    let alloc = rt.alloc();
+    let local = SocketAddr::from((Ipv4Addr::LOCALHOST, 0));
+    let listeners = (
+        TcpListener::bind(&rt, local)?,
+        TcpListener::bind(&rt, local)?,
+    );
+    let port = listeners.0.local_addr()?;
+    let admin = listeners.1.local_addr()?;
+    let mut inboxes = Vec::new(alloc);
+    let mut bases = make(&rt, listeners, &mut inboxes)?;
+    let ended = Mutex::new(0);
+    let all = inboxes.as_slice();
+    let mut right = false;
+    thread::join_mut(
+        &rt,
+        &mut || {
+            thread::for_each_mut(
+                &rt,
+                &mut bases,
+                2,
+                &|number, base| run_echo(&rt, alloc, number, base, all, &ended),
+            )
+        },
+        &mut || right = users(&rt, port, admin).unwrap_or(false),
+    );
+    assert!(rt; right);
+    assert_eq!(rt; ended.into_inner(), 2);
+    Ok(())
+}

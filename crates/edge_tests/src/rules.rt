@@ -1,4 +1,0 @@
-mod address;
-mod heads;
-mod offers;
-mod reasons;

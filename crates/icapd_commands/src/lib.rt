@@ -1,0 +1,19 @@
+//! The commands of `icapd`: what the arguments ask for, how a configuration is read and refused, one connection over standard
+//! input, and connections over sockets.
+#![tactic(auto)]
+
+mod command;
+mod config;
+mod error;
+mod places;
+mod seats;
+mod sockets;
+mod standard_input;
+
+pub use command::{Command, read_command};
+pub use config::{Config, read_config};
+pub use error::{Error, Key, put_error};
+pub use icap_services::Settings;
+pub use places::Shared;
+pub use sockets::{accept_one, serve_sockets};
+pub use standard_input::{once, read_input};

@@ -1,8 +1,0 @@
--- No connection so far is ending.
-use Rattle.std.proofs.Common.{ℕ, ◌<◌}
-use Rattle.icapd_program.specs.declared.seats.Doing.TheVariants.{Ending}
-use Rattle.icapd_program.specs.Seats.{IsAt}
-use Rattle.icapd_program.proofs.seats.Seats.is_one_ending.Given as goal
-
-abbrev pub invariant-loop-doing : goal.invariant-loop-doing
-invariant-loop-doing l = (k : ℕ) → k < l.doing-index → IsAt l.self.all.items k Ending → ⊥

@@ -1,6 +1,0 @@
--- The longest of the seats so far.
-use Rattle.icapd_program.proofs.Waiters.{LongestBelow}
-use Rattle.icapd_program.proofs.seats.Seats.longest.Given as goal
-
-abbrev pub invariant-loop-key : goal.invariant-loop-key
-invariant-loop-key l = LongestBelow l.self.all.items l.first l.key l.found

@@ -1,0 +1,52 @@
+-- What `serve` reads and says.
+use Rattle.std.proofs.Common.{◌≡◌, ℕ, ◌+◌, ◌≤◌, List, ◌++◌, length, take, Option, Some, None, IfSome, Result, Ok, Err, IfOk, IfErr, sym, ap, ◌∙◌, subst}
+use Rattle.std.proofs.lemmas.List.{append_assoc}
+use Rattle.std.specs.Io.KnownBytes.{Appends}
+use Rattle.proxy_config.specs.Config.{Refuses}
+use Rattle.proxy_config.specs.declared.config.Config.{Config as Configuration}
+use Rattle.proxy_config.specs.declared.fault.ConfigFault.TheVariants.{Text as NoDocument, Key as AtKey}
+use Rattle.adapt_bytes.specs.declared.limits.TheConstants.{MAX_INPUT}
+use Rattle.proxy_commands.specs.declared.error.Error.TheVariants.{Usage, ReadFailed, WriteFailed, InputTooLong, Line, NoMemory}
+use Rattle.proxy_commands.specs.declared.serve_error.ServeError.{ServeError}
+use Rattle.proxy_commands.specs.declared.serve_error.ServeError.TheVariants.{Ended, Config, Key, CannotListen, AuditMissing}
+use Rattle.proxy_commands.specs.Serve.{IsConfigured, IsUnconfigured}
+use Rattle.proxy_commands.proofs.Runs.{whole, more}
+
+-- three writes behind one another
+pub chain : (a b c d : Option (List ℕ)) (x y z text : List ℕ) → text ≡ (x ++ y) ++ z → Appends a b x → Appends b c y → Appends c d z → Appends a d text
+chain None b c d x y z text e h i j = tt
+chain (Some xs) None c d x y z text e h i j = absurd h
+chain (Some xs) (Some ys) None d x y z text e h i j = absurd i
+chain (Some xs) (Some ys) (Some zs) None x y z text e h i j = absurd j
+chain (Some xs) (Some ys) (Some zs) (Some ws) x y z text e h i j =
+    j ∙ ap (λ t. t ++ z) (i ∙ ap (λ t. t ++ y) h)
+    ∙ append_assoc (xs ++ x) y z
+    ∙ append_assoc xs x (y ++ z)
+    ∙ ap (λ t. xs ++ t) (sym (append_assoc x y z) ∙ sym e)
+
+-- a configuration of the input is one of all that was there to read
+pub configured : (known : Option (List ℕ)) (input : List ℕ) (r : Result Configuration ServeError) → IfSome known (λ bytes. input ≡ take (MAX_INPUT + 1) bytes)
+    → IfOk r (IsConfigured input) → IfOk r (λ config. IfSome known (λ bytes. IsConfigured bytes config))
+configured known input (Err error) read h = tt
+configured None input (Ok config) read h = tt
+configured (Some bytes) input (Ok config) read h = subst (λ (x : List ℕ). IsConfigured x config) (sym (whole bytes input read h.short)) h
+
+refused : (bytes input : List ℕ) (error : ServeError) → input ≡ take (MAX_INPUT + 1) bytes → IsUnconfigured input error → IsUnconfigured bytes error
+refused bytes input (Ended InputTooLong) read h = more bytes input read h
+refused bytes input (Ended NoMemory) read h = tt
+refused bytes input (Ended ReadFailed) read h = tt
+refused bytes input (Ended WriteFailed) read h = absurd h
+refused bytes input (Ended Usage) read h = absurd h
+refused bytes input (Ended (Line number)) read h = absurd h
+refused bytes input Config read h =
+    subst (λ (x : List ℕ). (length x ≤ MAX_INPUT) × Refuses x NoDocument) (sym (whole bytes input read h.0)) h
+refused bytes input (Key key) read h =
+    subst (λ (x : List ℕ). (length x ≤ MAX_INPUT) × Refuses x (AtKey key)) (sym (whole bytes input read h.0)) h
+refused bytes input CannotListen read h = absurd h
+refused bytes input AuditMissing read h = absurd h
+
+pub unconfigured : (known : Option (List ℕ)) (input : List ℕ) (r : Result Configuration ServeError) → IfSome known (λ bytes. input ≡ take (MAX_INPUT + 1) bytes)
+    → IfErr r (IsUnconfigured input) → IfErr r (λ error. IfSome known (λ bytes. IsUnconfigured bytes error))
+unconfigured known input (Ok config) read h = tt
+unconfigured None input (Err error) read h = tt
+unconfigured (Some bytes) input (Err error) read h = refused bytes input error read h

@@ -1,0 +1,5 @@
+use Rattle.proxy_commands.proofs.Steps.{run_printed}
+use Rattle.proxy_commands.proofs.laws.prints_the_answers_of_a_run.Goals as goal
+
+pub returns : goal.returns
+returns c = run_printed

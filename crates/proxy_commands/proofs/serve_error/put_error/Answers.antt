@@ -1,0 +1,24 @@
+use Rattle.std.proofs.Common.{◌≡◌, ◌∙◌, ◌++◌, List, ℕ, codes, sym, ap, subst}
+use Rattle.std.specs.Io.KnownBytes.{Appends}
+use Rattle.proxy_commands.specs.ServeErrors.{serve_error_text}
+use Rattle.proxy_commands.proofs.Runs.{on_ok}
+use Rattle.proxy_commands.proofs.ServeForms.{chain}
+use Rattle.proxy_commands.proofs.serve_error.put_error.Goals as goal
+
+pub returns-in_ok-write_all-in-Key-2 : goal.returns-in_ok-write_all-in-Key-2
+returns-in_ok-write_all-in-Key-2 g c =
+    let text : serve_error_text c.args.error.now ≡ (codes "adaptproxy: config " ++ c.as_bytes.result.now) ++ codes "\n" =
+    ap serve_error_text c.in-Key.is ∙ ap (λ (t : List ℕ). (codes "adaptproxy: config " ++ t) ++ codes "\n") (sym c.as_bytes.ensures.value) in
+    on_ok _ _ c.write_all-in-Key-3.result (λ last. chain _ _ _ _ _ _ _ _ text c.in_ok-write_all-in-Key.ensures.bytes c.in_ok-write_all-in-Key-2.ensures.bytes last) c.write_all-in-Key-3.ensures.bytes
+
+pub returns-in-CannotListen : goal.returns-in-CannotListen
+returns-in-CannotListen g c =
+    on_ok _ _ c.write_all-in-CannotListen.result
+    (λ h. subst (λ (t : List ℕ). Appends (g.W.Write.contents c.args.errors.now) (g.W.Write.contents c.write_all-in-CannotListen.new.self) t) (sym (ap serve_error_text c.in-CannotListen.is)) h)
+    c.write_all-in-CannotListen.ensures.bytes
+
+pub returns-in-AuditMissing : goal.returns-in-AuditMissing
+returns-in-AuditMissing g c =
+    on_ok _ _ c.write_all-in-AuditMissing.result
+    (λ h. subst (λ (t : List ℕ). Appends (g.W.Write.contents c.args.errors.now) (g.W.Write.contents c.write_all-in-AuditMissing.new.self) t) (sym (ap serve_error_text c.in-AuditMissing.is)) h)
+    c.write_all-in-AuditMissing.ensures.bytes

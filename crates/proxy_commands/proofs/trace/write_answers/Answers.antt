@@ -1,0 +1,13 @@
+use Rattle.std.proofs.Common.{◌∙◌, ◌++◌, [], ap, sym, rules}
+use Rattle.std.proofs.lemmas.List.{append-nil, at_drop_all}
+use Rattle.trace_core.specs.History.{shows}
+use Rattle.proxy_commands.specs.Answers.{output_from}
+use Rattle.proxy_commands.proofs.Steps.{output_same}
+use Rattle.proxy_commands.proofs.trace.write_answers.Goals as goal
+
+pub returns : goal.returns
+returns c =
+    let lines = c.args.script.now.lines.items in
+    let plan = c.args.script.now.plan in
+    let done = at_drop_all (output_from (shows c.loop-line.state)) lines c.loop-line.line-index (search rules) in
+    sym (ap (λ t. c.loop-line.out.items ++ t) done ∙ append-nil c.loop-line.out.items) ∙ c.loop-line.invariant ∙ output_same plan [] lines

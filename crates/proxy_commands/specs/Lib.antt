@@ -1,0 +1,13 @@
+pub mod Lines
+pub mod Words
+pub mod Reading
+pub mod Script
+pub mod Answers
+pub mod Chunks
+pub mod Command
+pub mod Errors
+pub mod Run
+pub mod ServeErrors
+pub mod Serve
+pub mod Task
+pub mod Descriptors

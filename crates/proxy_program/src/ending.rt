@@ -1,0 +1,33 @@
+//! What `adaptproxy serve` says at its end, and what it ends with if it failed.
+
+ghost use Rattle.std.specs.Prelude.{◌≡◌, IfOk};
+ghost use Rattle.proxy_program.specs.Endings.{audit_text, serve_error_of};
+
+use proxy_commands::{Error, ServeError, write_number};
+use shard_loop::{ServeFault, StopAudit};
+use std::alloc::{AllocError as NoMemory, Global};
+
+/// The error that a fault of the proxy's ends the program with.
+pub fn error_of(fault: ServeFault) -> ServeError
+    ensures { result ≡ serve_error_of fault }
+{
+    match fault {
+        ServeFault::System | ServeFault::Loop => ServeError::CannotListen,
+        ServeFault::Missing => ServeError::AuditMissing,
+        ServeFault::NoMemory => ServeError::Ended(Error::NoMemory),
+    }
+}
+
+/// The line that is printed at the end: how many reservations were still out, the bytes that they held, and the leases.
+pub fn audit_line(alloc: Global, audit: StopAudit) -> Result<Vec<u8>, NoMemory>
+    ensures { IfOk result (λ line. line.items ≡ audit_text audit) }
+{
+    let mut line = b"audit rows ".to_vec(alloc)?;
+    write_number(&mut line, audit.rows)?;
+    line.extend_from_slice(b" held ")?;
+    write_number(&mut line, audit.held)?;
+    line.extend_from_slice(b" leased ")?;
+    write_number(&mut line, audit.leased)?;
+    line.extend_from_slice(b"\n")?;
+    Ok(line)
+}

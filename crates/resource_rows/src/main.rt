@@ -1,0 +1,91 @@
+//! Judges what transactions share or hold by rows of plain text: pools, one call after another, tapes on a bank's store, and both
+//! shared by threads. Each file that an argument names is a table. An argument that is a number stands for so many allocations,
+//! each of which is given back.
+//!
+//! It ends with status 0 once all rows are judged, whatever their answers: its output says which failed.
+#![tactic(auto)]
+
+mod calls;
+mod pools;
+mod sharing;
+mod states;
+mod tapes;
+#[cfg(test)]
+mod tests;
+mod threads;
+mod words;
+
+use std::alloc::Global;
+use std::io::Write;
+use std::sync::Wait;
+use std::thread::Threads;
+use std::{env, fs, io};
+use test_rows::{NoMemory, Report, Row, call_of, number, read_table, says};
+
+/// Adds the answer to a row of a table with this head. For a call that there isn't it adds nothing.
+fn put_answer<R: Threads + Wait + Sync>(
+    rt: &R,
+    alloc: Global,
+    head: &Row<'_>,
+    row: &Row<'_>,
+    out: &mut Vec<u8>,
+) -> Result<(), NoMemory> {
+    let call = call_of(head, row);
+    if says(call, b"pool") {
+        pools::put_pool(rt, alloc, row, out)
+    } else if says(call, b"state") {
+        states::put_state(alloc, row, out)
+    } else if says(call, b"texts") {
+        words::put_texts(alloc, out)
+    } else if says(call, b"tape") {
+        tapes::put_tape(rt, alloc, out)
+    } else if says(call, b"threads") {
+        threads::put_pool(rt, alloc, out)
+    } else if says(call, b"threads of both") {
+        sharing::put_both(rt, alloc, out)
+    } else {
+        Ok(())
+    }
+}
+
+/// The report on a file's rows.
+fn judged<R: Threads + Wait + Sync>(
+    rt: &R,
+    alloc: Global,
+    text: &[u8],
+) -> Result<Report, NoMemory> {
+    let table = read_table(alloc, text)?;
+    let head = table.head();
+    let mut report = Report::new(alloc);
+    for at in 1..table.len() {
+        let row = table.row(at);
+        let mut answer = Vec::new(alloc);
+        put_answer(rt, alloc, &head, &row, &mut answer)?;
+        report.judge(&head, &row, &answer)?;
+    }
+    report.finish(&head)?;
+    Ok(report)
+}
+
+/// Makes so many allocations, each of which is given back, so that any of the later ones can be the one that is refused.
+fn allocate(alloc: Global, count: u64) -> Result<(), NoMemory> {
+    for _ in 0..count {
+        b"a".to_vec(alloc)?;
+    }
+    Ok(())
+}
+
+fn main(rt: HostRuntime) -> io::Result<()> {
+    let mut output = rt.stdout();
+    for path in env::args(&rt)?.skip(1) {
+        match number(path.as_bytes()) {
+            Some(count) => allocate(rt.alloc(), count)?,
+            None => {
+                let text = fs::read(&rt, path.as_str())?;
+                let report = judged(&rt, rt.alloc(), &text)?;
+                output.write_all(report.lines())?;
+            }
+        }
+    }
+    Ok(())
+}

@@ -1,0 +1,92 @@
+//! One step a call, on both forms of the journal, and how a full one makes room.
+use crate::words::{asked, number_after, put_back, put_closed, put_numbers};
+use adapt_bytes::MAX_CONNECTIONS;
+use service_pool::{Journal, PoolState, RebasingJournal, Window};
+use std::alloc::Global;
+use test_rows::{NoMemory, Row, put_line, put_shown, says};
+
+/// Adds the steps that the journal has.
+fn put_journal<J: Journal>(out: &mut Vec<u8>, state: &PoolState<u32, J>) -> Result<(), NoMemory> {
+    for index in 0..16 {
+        if let Some(step) = state.journal_at(index) {
+            put_shown(out, b"then", &step)?;
+        }
+    }
+    put_line(out, b"and no more")
+}
+
+/// Adds what a step answers that needs a lease.
+fn put_leased<J: Journal>(
+    out: &mut Vec<u8>,
+    state: &mut PoolState<u32, J>,
+    step: &[u8],
+) -> Result<(), NoMemory> {
+    if state.numbers().leased == 0 {
+        return put_line(out, b"nothing is leased");
+    }
+    if let Some(connection) = number_after(step, b"put") {
+        return put_back(out, state.put(connection.min(1000) as u32));
+    }
+    if says(step, b"replace") {
+        return match state.replace() {
+            Ok(()) => put_line(out, b"fresh"),
+            Err(_) => put_line(out, b"over"),
+        };
+    }
+    if says(step, b"give up") {
+        state.give_up();
+        return put_line(out, b"closed");
+    }
+    put_line(out, b"no step")
+}
+
+/// Adds what a step answers, or what a question is.
+fn put_step<J: Journal>(
+    alloc: Global,
+    out: &mut Vec<u8>,
+    state: &mut PoolState<u32, J>,
+    step: &[u8],
+) -> Result<(), NoMemory> {
+    if says(step, b"take") {
+        let found = state.take();
+        return put_shown(out, b"found", &found);
+    }
+    if let Some(maximum) = number_after(step, b"limit") {
+        let closed = state.set_max(alloc, maximum.min(MAX_CONNECTIONS))?;
+        return put_closed(out, &closed);
+    }
+    if says(step, b"base") {
+        put_numbers(out, state.base())
+    } else if says(step, b"numbers") {
+        put_numbers(out, state.numbers())
+    } else if says(step, b"journal") {
+        put_journal(out, state)
+    } else {
+        put_leased(out, state, step)
+    }
+}
+
+/// Adds what the row's steps answer on a new pool with such a journal.
+fn put_on<J: Journal>(alloc: Global, row: &Row<'_>, out: &mut Vec<u8>) -> Result<(), NoMemory> {
+    let maximum = row.number(b"maximum").unwrap_or(0).min(MAX_CONNECTIONS);
+    let journal = row.number(b"steps").unwrap_or(16).max(1).min(16) as usize;
+    let mut state: PoolState<u32, J> = PoolState::new(alloc, maximum, journal)?;
+    for line in row.get(b"want").split(|byte| *byte == b'\n') {
+        let step = asked(line);
+        if step.len() < line.len() {
+            out.extend_from_slice(step)?;
+            out.extend_from_slice(b" = ")?;
+            put_step(alloc, out, &mut state, step)?;
+        }
+    }
+    Ok(())
+}
+
+/// Adds what the row's steps answer with the row's journal.
+pub fn put_state(alloc: Global, row: &Row<'_>, out: &mut Vec<u8>) -> Result<(), NoMemory> {
+    if row.has(b"rebasing") {
+        put_on::<RebasingJournal>(alloc, row, out)
+    } else {
+        put_on::<Window>(alloc, row, out)
+    }
+}

@@ -1,0 +1,63 @@
+//! What an administrator's lines ask, and how a connection carries them.
+use event_loop::{Asker, Heard, read_request};
+use std::alloc::Global;
+use test_rows::{NoMemory, put_shown};
+use wire_kit::{Answer, MemoryWire};
+use wire_rows::{Scene, Values, put_flag, wire};
+
+/// No letter stands for a number here.
+const VALUES: Values = Values {
+    n: 0,
+    m: 0,
+    s: 0,
+    e: Answer::Wait,
+};
+
+/// Adds what is heard until the connection is over, or `calls` times.
+fn put_heard(
+    asker: &mut Asker<MemoryWire>,
+    calls: usize,
+    out: &mut Vec<u8>,
+) -> Result<(), NoMemory> {
+    for _ in 0..calls {
+        let heard = asker.hear()?;
+        put_shown(out, b"heard", &heard)?;
+        if matches!(heard, Heard::Over | Heard::Http | Heard::TooLong) {
+            return Ok(());
+        }
+    }
+    Ok(())
+}
+
+/// Adds whether an answer can be said, and the rest of it be written by two more calls.
+fn put_said(
+    asker: &mut Asker<MemoryWire>,
+    answer: &[u8],
+    out: &mut Vec<u8>,
+) -> Result<(), NoMemory> {
+    put_flag(out, b"said", asker.say(answer)?)?;
+    put_flag(out, b"written", asker.flush())?;
+    put_flag(out, b"written", asker.flush())
+}
+
+/// Adds what the row's connection carries.
+fn put_connection(alloc: Global, scene: Scene<'_>, out: &mut Vec<u8>) -> Result<(), NoMemory> {
+    let wire = wire(alloc, scene, b"input", b"reads", b"writes", VALUES)?;
+    let mut asker = Asker::new(alloc, wire);
+    put_heard(&mut asker, scene.number_or(b"calls", VALUES, 1), out)?;
+    if scene.has(b"answer") {
+        put_said(&mut asker, scene.get(b"answer"), out)?;
+    }
+    Ok(())
+}
+
+/// Adds the answer to a row of these calls; nothing for another one.
+pub fn put_answer(alloc: Global, scene: Scene<'_>, out: &mut Vec<u8>) -> Result<(), NoMemory> {
+    if scene.is(b"call", b"line") {
+        put_shown(out, b"asks", &read_request(scene.get(b"line")))
+    } else if scene.is(b"call", b"connection") {
+        put_connection(alloc, scene, out)
+    } else {
+        Ok(())
+    }
+}

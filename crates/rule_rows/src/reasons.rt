@@ -1,0 +1,117 @@
+//! The statuses of the proxy's own responses.
+use adapt_sides::{ClientFault, RelayFault};
+use http_side::{HttpFault, own_refusal};
+use options_book::OptFault;
+use proxy_rules::{
+    Reason, open_reason, options_reason, origin_head_reason, record_reason, user_head_reason,
+};
+use span_bank::OpenFault;
+use test_rows::{NoMemory, put_line, put_number, put_shown};
+use wire_rows::{Scene, place_of};
+
+const HEAD_FAULTS: [HttpFault; 10] = [
+    HttpFault::More,
+    HttpFault::Bad,
+    HttpFault::TooLong,
+    HttpFault::TooMany,
+    HttpFault::BothLengths,
+    HttpFault::Lengths,
+    HttpFault::Coding,
+    HttpFault::Target,
+    HttpFault::Connect,
+    HttpFault::NoMemory,
+];
+
+const HEAD_WORDS: &[u8] =
+    b"More Bad TooLong TooMany BothLengths Lengths Coding Target Connect NoMemory";
+
+/// The fault of a head that the row names.
+fn head_fault(scene: Scene<'_>) -> Option<HttpFault> {
+    HEAD_FAULTS
+        .get(place_of(HEAD_WORDS, scene.get(b"head"))?)
+        .copied()
+}
+
+const SIDE_FAULTS: [RelayFault; 6] = [
+    RelayFault::Head,
+    RelayFault::Chunk,
+    RelayFault::Closed,
+    RelayFault::Device,
+    RelayFault::Length,
+    RelayFault::NoMemory,
+];
+
+/// The fault of a source's side that the row names.
+fn side_fault(scene: Scene<'_>) -> Option<RelayFault> {
+    SIDE_FAULTS
+        .get(place_of(
+            b"Head Chunk Closed Device Length NoMemory",
+            scene.get(b"side"),
+        )?)
+        .copied()
+}
+
+const REASONS: [Reason; 10] = [
+    Reason::UnknownHost,
+    Reason::NoOrigin,
+    Reason::OriginHead,
+    Reason::Service,
+    Reason::Busy,
+    Reason::Full,
+    Reason::NoRow,
+    Reason::NoMemory,
+    Reason::Stopping,
+    Reason::Deadline,
+];
+
+const REASON_WORDS: &[u8] =
+    b"UnknownHost NoOrigin OriginHead Service Busy Full NoRow NoMemory Stopping Deadline";
+
+/// The reason that the row names: a word, or else the fault of a request's head.
+fn reason_of(scene: Scene<'_>) -> Option<Reason> {
+    match place_of(REASON_WORDS, scene.get(b"reason")) {
+        Some(place) => REASONS.get(place).copied(),
+        None => Some(Reason::Request(head_fault(scene)?)),
+    }
+}
+
+/// The reason by the fault of the row's OPTIONS exchange, record or reservation.
+fn reason_by_fault(scene: Scene<'_>) -> Option<Reason> {
+    Some(
+        match place_of(b"Closed Number Full NoRow", scene.get(b"fault"))? {
+            0 => options_reason(ClientFault::Closed),
+            1 => record_reason(OptFault::Number),
+            2 => open_reason(OpenFault::Full { claimed: 100 }),
+            _ => open_reason(OpenFault::NoRow),
+        },
+    )
+}
+
+/// The reason that the row's call gives; none where the user gets no answer.
+fn reason(scene: Scene<'_>) -> Option<Reason> {
+    if scene.is(b"call", b"reason") {
+        reason_of(scene)
+    } else if scene.is(b"call", b"head of a user") {
+        user_head_reason(side_fault(scene)?, head_fault(scene))
+    } else if scene.is(b"call", b"head of an origin") {
+        Some(origin_head_reason(side_fault(scene)?, head_fault(scene)))
+    } else {
+        reason_by_fault(scene)
+    }
+}
+
+/// Adds the answer to a row of these calls; nothing for another one.
+pub fn put_answer(scene: Scene<'_>, out: &mut Vec<u8>) -> Result<(), NoMemory> {
+    if !scene.is(b"table", b"reasons") {
+        return Ok(());
+    }
+    let Some(reason) = reason(scene) else {
+        return put_line(out, b"no answer");
+    };
+    put_shown(out, b"reason", &reason)?;
+    put_number(out, b"status", u64::from(reason.status()))?;
+    if scene.has(b"text") {
+        out.extend_from_slice(own_refusal(reason.status()))?;
+    }
+    Ok(())
+}
