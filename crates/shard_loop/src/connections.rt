@@ -46,7 +46,7 @@ impl<'a, B: Ledgers, Q: Ledger, A: Ledger, G: Gate> Desk<'a, B, Q, A, G> {
         self.lend_now(rt, at, point, address)
     }
 
-    /// The same, whoever waits.
+    /// Leases a connection to a point's service, an idle one first, whoever waits for one.
     pub fn lend_now<R: Wait + Dial>(
         &mut self,
         rt: &R,

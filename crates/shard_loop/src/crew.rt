@@ -42,7 +42,7 @@ fn room_of(config: &Config) -> Room {
     Room::of_system(config.shards.saturating_add(1), idle)
 }
 
-/// Makes a base for one more loop, behind the others.
+/// Makes a base for one more loop, after the others.
 fn add_base<R: Net>(
     rt: &R,
     alloc: Global,
@@ -122,6 +122,7 @@ trait Common {
     /// What each thread counts that takes users.
     fn tallies(&self) -> &[Tally];
 
+    /// The lines of the log that wait to be written, and their file.
     fn log(&self) -> &Log;
 
     /// Those who wait for a connection to a service.
@@ -131,7 +132,7 @@ trait Common {
     fn room(&self) -> &Arc<Room>;
 }
 
-/// The same.
+/// The board on which the threads find what they have in common.
 #[derive(Drop)]
 struct Board {
     inboxes: Vec<Inbox>,

@@ -48,7 +48,7 @@ struct Output {
     file: File,
     /// The room that is written, while its loop has another one.
     lines: Vec<u8>,
-    /// Whether a line was written in part, for want of room: the next one begins behind a line's end.
+    /// Whether a line was written in part, for want of room: the next one begins after a line's end.
     torn: bool,
 }
 

@@ -43,7 +43,7 @@ pub struct Note {
     pub blamed: Option<Why>,
 }
 
-/// Texts from outside: the method, the target and the answer's media type, one behind another.
+/// Texts from outside: the method, the target and the answer's media type, one after another.
 #[derive(Drop)]
 struct Words {
     text: Vec<u8>,

@@ -54,6 +54,25 @@ fn make_pool<L: Ledger>(
 ///
 /// Each blank of the budget has a part for each transaction that there may be, and one more; those of the pools have
 /// `LEDGER_PARTS`.
+///
+/// ```
+/// let users = TcpListener::bind(rt, SocketAddr::V4(config.listen))?;
+/// let admin = TcpListener::bind(rt, SocketAddr::V4(config.admin))?;
+/// // No log is kept. It returns once the administrator has said `stop`.
+/// let stopped = serve::<Brand, Brand, Brand, Brand, Brand, Brand, OpenGate, R>(
+///     rt,
+///     alloc,
+///     &config,
+///     users,
+///     admin,
+///     None,
+///     &OpenGate,
+///     Blanks::new(config.rows + 1),
+///     Blank::new(LEDGER_PARTS),
+///     Blank::new(LEDGER_PARTS),
+/// )?;
+/// assert_eq!(rt; stopped.fault, None);
+/// ```
 pub fn serve<
     'x,
     H: Ledger + Send + Sync,
