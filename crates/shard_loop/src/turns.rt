@@ -13,6 +13,7 @@ use std::boxed::Box;
 use std::sync::Wait;
 use std::sync::ledger::Ledger;
 use std::time::Clock;
+use trace_core::Cause;
 use wire_kit::Gate;
 
 /// What a round of turns did, one of each side.
@@ -70,8 +71,8 @@ impl<'a, B: Ledgers, Q: Ledger, A: Ledger, G: Gate> Desk<'a, B, Q, A, G> {
         round
     }
 
-    /// Begins a request anew on a fresh connection, or fails it without one. What is left of the broken connection,
-    /// which its service has ended or which failed, is closed at once after that.
+    /// Begins a request anew on a fresh connection, or fails it without one. The broken one is closed first: its descriptor is the
+    /// one that the fresh one finds.
     fn again<R: Wait + Dial>(
         &mut self,
         rt: &R,
@@ -83,13 +84,15 @@ impl<'a, B: Ledgers, Q: Ledger, A: Ledger, G: Gate> Desk<'a, B, Q, A, G> {
             return;
         }
         let bank = self.shared.bank;
+        drop(tx.take_broken());
         let fresh = match lease {
             Some(lease) => self.fresh(rt, at, lease),
             None => Err(Reason::Service),
         };
         match fresh {
             Ok(wire) => drop(tx.retry(rt, bank, wire)),
-            Err(_) => tx.no_retry(rt, bank),
+            Err(Reason::NoMemory) => tx.no_retry(rt, bank, Cause::Memory),
+            Err(_) => tx.no_retry(rt, bank, Cause::Service),
         }
     }
 
