@@ -1,12 +1,11 @@
 //! Taking the loops apart.
 
 use crate::connections::LeasedConnection;
-use crate::halting::{Remains, end_of};
+use crate::halting::user_of;
 use crate::left::Left;
 use crate::phase::Phase;
 use crate::pools::Pools;
 use span_bank::{Bank, Ledgers};
-use std::boxed::Box;
 use std::sync::Wait;
 use std::sync::ledger::Ledger;
 
@@ -29,7 +28,7 @@ impl<B: Ledgers, Q: Ledger, A: Ledger> Left<B, Q, A> {
                 self.keep_lease(rt, pools, lease);
             }
             Phase::Moving { tx, lease } => {
-                let Remains { stake, user } = end_of(rt, bank, Box::into_inner(tx).into_tx());
+                let (stake, user) = user_of(rt, bank, tx);
                 drop(user);
                 self.keep_stake(rt, bank, stake);
                 if let Some(lease) = lease {

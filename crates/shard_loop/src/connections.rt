@@ -4,7 +4,7 @@ use crate::desk::Desk;
 use crate::pools::{Leased, Spare, Took};
 use crate::seats::At;
 use proxy_rules::Reason;
-use socket_wire::{Dial, Side, SocketWire, Unread};
+use socket_wire::{Dial, ServiceWire, Unread};
 use span_bank::Ledgers;
 use std::net::SocketAddrV4;
 use std::sync::Wait;
@@ -14,7 +14,7 @@ use wire_kit::Gate;
 
 /// A leased connection to a service.
 pub struct LeasedConnection<Q: Ledger, A: Ledger> {
-    pub wire: SocketWire,
+    pub wire: ServiceWire,
     pub lease: Leased<Q, A>,
 }
 
@@ -25,9 +25,9 @@ impl<'a, B: Ledgers, Q: Ledger, A: Ledger, G: Gate> Desk<'a, B, Q, A, G> {
         rt: &R,
         at: At<'_>,
         point: Point,
-    ) -> Result<SocketWire, Reason> {
+    ) -> Result<ServiceWire, Reason> {
         match self.service(point) {
-            Some(service) => self.dial(rt, at, Side::Service, service.address, Reason::Service),
+            Some(service) => self.dial(rt, at, service.address, Reason::Service),
             None => Err(Reason::Service),
         }
     }
@@ -61,13 +61,13 @@ impl<'a, B: Ledgers, Q: Ledger, A: Ledger, G: Gate> Desk<'a, B, Q, A, G> {
                     ready,
                     place: _,
                 } = spare;
-                match self.seats.enlist(at, Side::Service, wire, ready) {
+                match self.seats.enlist(at, wire, ready) {
                     Ok(wire) => (Ok(wire), lease),
                     Err(_) => (Err(Reason::NoMemory), lease),
                 }
             }
             Took::Fresh(lease) => {
-                let wire = self.dial(rt, at, Side::Service, address, Reason::Service);
+                let wire = self.dial(rt, at, address, Reason::Service);
                 (wire, lease)
             }
             Took::Busy => return Err(Reason::Busy),
@@ -79,7 +79,7 @@ impl<'a, B: Ledgers, Q: Ledger, A: Ledger, G: Gate> Desk<'a, B, Q, A, G> {
     fn connection_of<R: Wait>(
         &mut self,
         rt: &R,
-        wire: Result<SocketWire, Reason>,
+        wire: Result<ServiceWire, Reason>,
         lease: Leased<Q, A>,
     ) -> Result<LeasedConnection<Q, A>, Reason> {
         match wire {
@@ -118,7 +118,7 @@ impl<'a, B: Ledgers, Q: Ledger, A: Ledger, G: Gate> Desk<'a, B, Q, A, G> {
         &mut self,
         rt: &R,
         at: At<'_>,
-        wire: SocketWire,
+        wire: ServiceWire,
         lease: Leased<Q, A>,
     ) {
         let mut wire = wire;
@@ -136,7 +136,7 @@ impl<'a, B: Ledgers, Q: Ledger, A: Ledger, G: Gate> Desk<'a, B, Q, A, G> {
         rt: &R,
         at: At<'_>,
         lease: &mut Leased<Q, A>,
-    ) -> Result<SocketWire, Reason> {
+    ) -> Result<ServiceWire, Reason> {
         if self.shared.pools.replace(rt, lease) {
             self.dial_service(rt, at, lease.point())
         } else {

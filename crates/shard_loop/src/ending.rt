@@ -8,8 +8,8 @@ use crate::seats::{At, Stay};
 use adapt_turn::{Line, Outcome, Parts};
 use http_relay::{NextHop, SourceSide};
 use icap_client::ServiceSide;
-use proxy_rules::{HeadMaker, Incoming, Reason, keeps_user};
-use socket_wire::SocketWire;
+use proxy_rules::{HeadMaker, Incoming, Reason, Running, keeps_user};
+use socket_wire::{OriginWire, ServiceWire, UserWire};
 use span_bank::{Ledgers, Pages};
 use std::alloc::AllocFailed;
 use std::boxed::Box;
@@ -24,37 +24,69 @@ impl<'a, B: Ledgers, Q: Ledger, A: Ledger, G: Gate> Desk<'a, B, Q, A, G> {
         &mut self,
         rt: &R,
         at: At<'_>,
-        tx: Box<Moving<B>>,
+        tx: Moving<B>,
+        lease: Option<Leased<Q, A>>,
+    ) -> Step<B, Q, A> {
+        match tx {
+            Moving::Request(tx) => self.settle_request(rt, at, tx, lease),
+            Moving::Response(tx) => self.settle_response(rt, at, tx, lease),
+        }
+    }
+
+    /// Takes a finished request's transaction apart: the origin's response comes next, unless the user has got an answer.
+    fn settle_request<R: Wait>(
+        &mut self,
+        rt: &R,
+        at: At<'_>,
+        tx: Box<Running<B, UserWire, ServiceWire, OriginWire>>,
         lease: Option<Leased<Q, A>>,
     ) -> Step<B, Q, A> {
         let Parts {
             stake,
             source,
-            source_wire,
+            source_wire: user,
             service,
             next: _,
-            next_wire,
+            next_wire: origin,
             back,
             outcome,
             forward,
             seen,
         } = parts_of(rt, self.shared.bank, Box::into_inner(tx).into_tx());
         self.shared.bank.close(rt, stake, Pages::none());
-        let user = match seen.plan.point {
-            Point::Reqmod => &source_wire,
-            Point::Respmod => &next_wire,
-        };
-        self.note_end(at, &seen, outcome, &service, &next_wire, user);
+        self.note_end(at, &seen, outcome, &service, &origin, &user);
         self.give_back(rt, at, lease, service, &seen);
-        match seen.plan.point {
-            Point::Reqmod if outcome == Outcome::Done && back.is_idle() => {
-                self.await_answer(at, source, source_wire, next_wire)
-            }
-            Point::Reqmod => {
-                self.answer_over(at, source_wire, source, forward.closes(), outcome)
-            }
-            Point::Respmod => self.response_over(at, next_wire, forward, outcome),
+        if outcome == Outcome::Done && back.is_idle() {
+            self.await_answer(at, source, user, origin)
+        } else {
+            self.answer_over(at, user, source, forward.closes(), outcome)
         }
+    }
+
+    /// Takes a finished response's transaction apart: the user has got an answer.
+    fn settle_response<R: Wait>(
+        &mut self,
+        rt: &R,
+        at: At<'_>,
+        tx: Box<Running<B, OriginWire, ServiceWire, UserWire>>,
+        lease: Option<Leased<Q, A>>,
+    ) -> Step<B, Q, A> {
+        let Parts {
+            stake,
+            source: _,
+            source_wire: _,
+            service,
+            next: _,
+            next_wire: user,
+            back: _,
+            outcome,
+            forward,
+            seen,
+        } = parts_of(rt, self.shared.bank, Box::into_inner(tx).into_tx());
+        self.shared.bank.close(rt, stake, Pages::none());
+        self.note_end(at, &seen, outcome, &service, &user, &user);
+        self.give_back(rt, at, lease, service, &seen);
+        self.response_over(at, user, forward, outcome)
     }
 
     /// Puts the service's connection back where it may serve again.
@@ -63,7 +95,7 @@ impl<'a, B: Ledgers, Q: Ledger, A: Ledger, G: Gate> Desk<'a, B, Q, A, G> {
         rt: &R,
         at: At<'_>,
         lease: Option<Leased<Q, A>>,
-        service: Option<Line<ServiceSide, SocketWire>>,
+        service: Option<Line<ServiceSide, ServiceWire>>,
         seen: &Seen,
     ) {
         let reusable = match &service {
@@ -95,8 +127,8 @@ impl<'a, B: Ledgers, Q: Ledger, A: Ledger, G: Gate> Desk<'a, B, Q, A, G> {
         &mut self,
         at: At<'_>,
         request: SourceSide,
-        user: SocketWire,
-        wire: SocketWire,
+        user: UserWire,
+        origin: OriginWire,
     ) -> Step<B, Q, A> {
         if self.stopping {
             return self.refuse(at, user, Reason::Stopping);
@@ -104,7 +136,7 @@ impl<'a, B: Ledgers, Q: Ledger, A: Ledger, G: Gate> Desk<'a, B, Q, A, G> {
         let ends = Ends {
             user,
             message: Incoming::response(self.alloc, request),
-            origin: Some(wire),
+            origin: Some(origin),
             told: false,
         };
         match Box::new(self.alloc, ends) {
@@ -114,7 +146,7 @@ impl<'a, B: Ledgers, Q: Ledger, A: Ledger, G: Gate> Desk<'a, B, Q, A, G> {
     }
 
     /// The user's next request comes on the same connection.
-    fn next_request(&mut self, at: At<'_>, request: SourceSide, user: SocketWire) -> Step<B, Q, A> {
+    fn next_request(&mut self, at: At<'_>, request: SourceSide, user: UserWire) -> Step<B, Q, A> {
         let message = match Incoming::next(request) {
             Some(message) if !self.stopping => message,
             _ => return self.close(at, user),
@@ -131,7 +163,7 @@ impl<'a, B: Ledgers, Q: Ledger, A: Ledger, G: Gate> Desk<'a, B, Q, A, G> {
     fn answer_over(
         &mut self,
         at: At<'_>,
-        user: SocketWire,
+        user: UserWire,
         request: SourceSide,
         closes: bool,
         outcome: Outcome,
@@ -150,7 +182,7 @@ impl<'a, B: Ledgers, Q: Ledger, A: Ledger, G: Gate> Desk<'a, B, Q, A, G> {
     fn response_over(
         &mut self,
         at: At<'_>,
-        user: SocketWire,
+        user: UserWire,
         heads: HeadMaker,
         outcome: Outcome,
     ) -> Step<B, Q, A> {

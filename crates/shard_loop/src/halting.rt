@@ -9,26 +9,32 @@ use crate::seats::At;
 use adapt_sides::{Hop, Service, Source};
 use adapt_turn::{Forward, Line, Parts, Tx};
 use proxy_rules::{Beginning, Reason};
-use socket_wire::SocketWire;
+use socket_wire::UserWire;
 use span_bank::{Bank, Ledgers, Pages, Stake};
 use std::boxed::Box;
 use std::sync::Wait;
 use std::sync::ledger::Ledger;
-use trace_core::Point;
 use wire_kit::{Gate, Wire};
 
-/// What is left of a transaction that is ended: its reservation, and its user's connection.
-pub struct Remains<B: Ledgers, X> {
+/// What is left of a transaction that is ended: its reservation, and the connections of its source and its next hop.
+pub struct Remains<B: Ledgers, X, Z> {
     pub stake: Stake<B>,
-    pub user: X,
+    pub source_wire: X,
+    pub next_wire: Z,
 }
 
 /// What is left of a transaction, which fails where it isn't closed yet.
-pub fn parts_of<B: Ledgers, S: Source, V: Service, K: Hop, F: Forward<S, K>, X: Wire, R: Wait>(
-    rt: &R,
-    bank: &Bank<B>,
-    tx: Tx<B, S, V, K, F, X, X, X>,
-) -> Parts<B, S, V, K, F, X, X, X>
+pub fn parts_of<
+    B: Ledgers,
+    S: Source,
+    V: Service,
+    K: Hop,
+    F: Forward<S, K>,
+    X: Wire,
+    Y: Wire,
+    Z: Wire,
+    R: Wait,
+>(rt: &R, bank: &Bank<B>, tx: Tx<B, S, V, K, F, X, Y, Z>) -> Parts<B, S, V, K, F, X, Y, Z>
     ensures { (result.stake.held ≡ 0) × (result.stake.pages ≡ 0) }
 {
     let mut tx = tx;
@@ -46,9 +52,11 @@ pub fn end_of<
     V: Service + Drop,
     K: Hop + Drop,
     F: Forward<S, K> + Drop,
-    X: Wire + Drop,
+    X: Wire,
+    Y: Wire + Drop,
+    Z: Wire,
     R: Wait,
->(rt: &R, bank: &Bank<B>, tx: Tx<B, S, V, K, F, X, X, X>) -> Remains<B, X>
+>(rt: &R, bank: &Bank<B>, tx: Tx<B, S, V, K, F, X, Y, Z>) -> Remains<B, X, Z>
     ensures { (result.stake.held ≡ 0) × (result.stake.pages ≡ 0) }
 {
     let Parts {
@@ -61,14 +69,38 @@ pub fn end_of<
         back: _,
         forward: _,
         outcome: _,
-        seen,
+        seen: _,
     } = parts_of(rt, bank, tx);
     drop(wire_of(service));
-    let user = match seen.plan.point {
-        Point::Reqmod => source_wire,
-        Point::Respmod => next_wire,
-    };
-    Remains { stake, user }
+    Remains {
+        stake,
+        source_wire,
+        next_wire,
+    }
+}
+
+/// Ends a transaction, which fails where it isn't closed yet: its reservation and its user's connection are left.
+pub fn user_of<B: Ledgers, R: Wait>(rt: &R, bank: &Bank<B>, tx: Moving<B>) -> (Stake<B>, UserWire)
+    ensures { (result.0.held ≡ 0) × (result.0.pages ≡ 0) }
+{
+    match tx {
+        Moving::Request(tx) => {
+            let Remains {
+                stake,
+                source_wire,
+                next_wire: _,
+            } = end_of(rt, bank, Box::into_inner(tx).into_tx());
+            (stake, source_wire)
+        }
+        Moving::Response(tx) => {
+            let Remains {
+                stake,
+                source_wire: _,
+                next_wire,
+            } = end_of(rt, bank, Box::into_inner(tx).into_tx());
+            (stake, next_wire)
+        }
+    }
 }
 
 /// The connection of a service's side that has ended. None where it was given up before.
@@ -83,7 +115,7 @@ pub fn wire_of<V: Drop, W>(service: Option<Line<V, W>>) -> Option<W> {
 }
 
 /// The reservation of a transaction that didn't begin. All its connections are closed.
-pub fn unused<B: Ledgers, X: Drop>(beginning: Beginning<B, X, X, X>) -> Stake<B>
+pub fn unused<B: Ledgers, X: Drop, Y: Drop, Z: Drop>(beginning: Beginning<B, X, Y, Z>) -> Stake<B>
     ensures { result ≡ beginning.stake }
 {
     let Beginning {
@@ -112,7 +144,7 @@ impl<'a, B: Ledgers, Q: Ledger, A: Ledger, G: Gate> Desk<'a, B, Q, A, G> {
                 side: _,
             } => self.drop_connection(rt, connection),
             Phase::Moving { tx, lease } => {
-                self.end_moving(rt, Box::into_inner(tx), lease);
+                self.end_moving(rt, tx, lease);
             }
             Phase::Head(_) | Phase::Answer(_) | Phase::Closing(_) => {}
             Phase::Queued { ends, waiter } => self.stop_waiting(rt, &ends, waiter),
@@ -154,9 +186,10 @@ impl<'a, B: Ledgers, Q: Ledger, A: Ledger, G: Gate> Desk<'a, B, Q, A, G> {
         rt: &R,
         tx: Moving<B>,
         lease: Option<Leased<Q, A>>,
-    ) -> SocketWire {
-        let Remains { stake, user } = end_of(rt, self.shared.bank, tx.into_tx());
-        self.shared.bank.close(rt, stake, Pages::none());
+    ) -> UserWire {
+        let bank = self.shared.bank;
+        let (stake, user) = user_of(rt, bank, tx);
+        bank.close(rt, stake, Pages::none());
         self.give_up(rt, lease);
         user
     }

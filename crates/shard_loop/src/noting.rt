@@ -12,7 +12,7 @@ use http_side::Values;
 use icap_client::ServiceSide;
 use mio::net::TcpStream;
 use proxy_rules::{Incoming, Reason};
-use socket_wire::SocketWire;
+use socket_wire::{ServiceWire, UserWire};
 use span_bank::Ledgers;
 use std::net::{SocketAddr, SocketAddrV4};
 use std::sync::Wait;
@@ -106,7 +106,7 @@ fn taker(to_user: bool) -> Why {
 }
 
 /// Why a service failed a transaction.
-fn service_word(service: &Option<Line<ServiceSide, SocketWire>>) -> Why {
+fn service_word(service: &Option<Line<ServiceSide, ServiceWire>>) -> Why {
     let Some(line) = service else {
         return Why::ServiceBroken;
     };
@@ -118,7 +118,7 @@ fn service_word(service: &Option<Line<ServiceSide, SocketWire>>) -> Why {
 }
 
 /// Whether the service's message is a response.
-fn answers_itself(service: &Option<Line<ServiceSide, SocketWire>>) -> bool {
+fn answers_itself(service: &Option<Line<ServiceSide, ServiceWire>>) -> bool {
     match service {
         Some(line) => match line.side.adapted_head() {
             Some((_, text)) => status_in(text).is_some(),
@@ -129,7 +129,7 @@ fn answers_itself(service: &Option<Line<ServiceSide, SocketWire>>) -> bool {
 }
 
 /// Whether nothing has gone over a connection.
-fn is_fresh(wire: &Option<SocketWire>) -> bool {
+fn is_fresh(wire: &Option<ServiceWire>) -> bool {
     match wire {
         Some(wire) => wire.counts() == (0, 0),
         None => false,
@@ -237,7 +237,7 @@ impl<'a, B: Ledgers, Q: Ledger, A: Ledger, G: Gate> Desk<'a, B, Q, A, G> {
     }
 
     /// Counts what was read of a user, of whose connection so many bytes were read in all.
-    fn note_read(&mut self, key: usize, user: &SocketWire) {
+    fn note_read(&mut self, key: usize, user: &UserWire) {
         let (read, _) = user.counts();
         if let Some(note) = self.notes.get_mut(key) {
             let more = read.saturating_sub(note.read);
@@ -247,7 +247,7 @@ impl<'a, B: Ledgers, Q: Ledger, A: Ledger, G: Gate> Desk<'a, B, Q, A, G> {
     }
 
     /// The proxy's own refusal is the answer.
-    pub fn note_refusal(&mut self, at: At<'_>, user: &SocketWire, reason: Reason) {
+    pub fn note_refusal(&mut self, at: At<'_>, user: &UserWire, reason: Reason) {
         self.note_read(at.key, user);
         if !self.notes.is_open(at.key) {
             let taken = self.seats.taken(at.key);
@@ -260,14 +260,14 @@ impl<'a, B: Ledgers, Q: Ledger, A: Ledger, G: Gate> Desk<'a, B, Q, A, G> {
     }
 
     /// A transaction is over: what became of its message, and of the answer.
-    pub fn note_end(
+    pub fn note_end<Z: Wire>(
         &mut self,
         at: At<'_>,
         seen: &Seen,
         outcome: Outcome,
-        service: &Option<Line<ServiceSide, SocketWire>>,
-        next: &SocketWire,
-        user: &SocketWire,
+        service: &Option<Line<ServiceSide, ServiceWire>>,
+        next: &Z,
+        user: &UserWire,
     ) {
         self.note_read(at.key, user);
         let trace = Trace {

@@ -13,7 +13,7 @@ use proxy_config::ServicePoint;
 use proxy_rules::{
     Reason, ask_options, is_reusable_after_options, options_reason, pool_maximum, record_reason,
 };
-use socket_wire::{Dial, Side, SocketWire};
+use socket_wire::{Dial, Readiness, Role, SocketWire};
 use span_bank::Ledgers;
 use std::alloc::{AllocError, Global};
 use std::boxed::Box;
@@ -66,18 +66,17 @@ fn is_want_of_room(error: &io::Error) -> bool {
 }
 
 impl<'a, B: Ledgers, Q: Ledger, A: Ledger, G: Gate> Desk<'a, B, Q, A, G> {
-    /// A connection that is opened now. Want of memory, of a descriptor or of a port is another answer than a host that
-    /// can't be reached.
-    pub fn dial<R: Dial>(
+    /// A connection that is opened now, to a peer of the role `P`. Want of memory, of a descriptor or of a port is another answer
+    /// than a host that can't be reached.
+    pub fn dial<P: Role, R: Dial>(
         &mut self,
         rt: &R,
         at: At<'_>,
-        side: Side,
         address: SocketAddrV4,
         unreached: Reason,
-    ) -> Result<SocketWire, Reason> {
+    ) -> Result<SocketWire<P>, Reason> {
         match rt.dial(SocketAddr::V4(address)) {
-            Ok(stream) => match self.seats.wire(at, side, stream) {
+            Ok(stream) => match self.seats.wire(at, Readiness::dialled(), stream) {
                 Ok(wire) => Ok(wire),
                 Err(_) => Err(Reason::NoMemory),
             },

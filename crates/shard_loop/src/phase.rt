@@ -2,32 +2,62 @@
 
 use crate::connections::LeasedConnection;
 use crate::pools::Leased;
+use adapt_turn::Outcome;
 use http_relay::RelayFault;
 use http_side::own_refusal;
 use icap_client::OptionsSide;
-use proxy_rules::{Beginning, Incoming, Running};
-use socket_wire::SocketWire;
-use span_bank::Ledgers;
+use proxy_rules::{Incoming, Running};
+use socket_wire::{OriginWire, ServiceWire, UserWire};
+use span_bank::{Bank, Ledgers};
 use std::boxed::Box;
+use std::sync::Wait;
 use std::sync::ledger::Ledger;
-use trace_core::Point;
+use trace_core::{Point, Seen};
 use wait_queue::Waiter;
 use wire_kit::Wire;
 
-/// A transaction over sockets.
-pub type Moving<B> = Running<B, SocketWire, SocketWire, SocketWire>;
-
-/// What a transaction over sockets begins with.
-pub type Starting<B> = Beginning<B, SocketWire, SocketWire, SocketWire>;
+/// A message on its way over the connections of its exchange.
+pub enum Moving<B: Ledgers> {
+    /// A request, from the user to the origin.
+    Request(Box<Running<B, UserWire, ServiceWire, OriginWire>>),
+    /// A response, from the origin to the user.
+    Response(Box<Running<B, OriginWire, ServiceWire, UserWire>>),
+}
 
 /// The user's connection, the message that waits to be adapted, and the origin's connection once the request is with it.
 #[derive(Drop)]
 pub struct Ends {
-    pub user: SocketWire,
+    pub user: UserWire,
     pub message: Incoming,
-    pub origin: Option<SocketWire>,
+    pub origin: Option<OriginWire>,
     /// Whether the user got `100 Continue`.
     pub told: bool,
+}
+
+impl<B: Ledgers> Moving<B> {
+    /// Fails it because the proxy stops, where it isn't closed.
+    pub fn halt<R: Wait>(&mut self, rt: &R, bank: &Bank<B>) {
+        match self {
+            Moving::Request(tx) => tx.halt(rt, bank),
+            Moving::Response(tx) => tx.halt(rt, bank),
+        }
+    }
+
+    /// How it ended, once it is closed.
+    pub fn outcome(&self) -> Option<Outcome> {
+        match self {
+            Moving::Request(tx) => tx.outcome(),
+            Moving::Response(tx) => tx.outcome(),
+        }
+    }
+
+    /// What its history shows.
+    pub fn seen(&self) -> Seen {
+        match self {
+            Moving::Request(tx) => tx.seen(),
+            Moving::Response(tx) => tx.seen(),
+        }
+    }
 }
 
 /// A turn at a message's head over this wire, and whether a byte came over it.
@@ -40,7 +70,7 @@ fn read_on<W: Wire>(message: &mut Incoming, wire: &mut W) -> (Result<bool, Relay
 
 impl Ends {
     /// A user's end, with its request's head or before it.
-    pub fn of_user(user: SocketWire, message: Incoming) -> Ends {
+    pub fn of_user(user: UserWire, message: Incoming) -> Ends {
         Ends {
             user,
             message,
@@ -50,7 +80,7 @@ impl Ends {
     }
 
     /// The user's connection alone. All else goes.
-    pub fn into_user(self) -> SocketWire {
+    pub fn into_user(self) -> UserWire {
         let Ends {
             user,
             message: _,
@@ -97,23 +127,23 @@ pub enum Phase<B: Ledgers, Q: Ledger, A: Ledger> {
     },
     /// A message goes on.
     Moving {
-        tx: Box<Moving<B>>,
+        tx: Moving<B>,
         lease: Option<Leased<Q, A>>,
     },
     /// The head of the origin's response comes.
     Answer(Box<Ends>),
     /// The proxy's own refusal goes to the user.
     Refusing {
-        user: SocketWire,
+        user: UserWire,
         rest: &'static [u8],
     },
     /// All is said, and what the user still sends is dropped.
-    Closing(SocketWire),
+    Closing(UserWire),
 }
 
 impl<B: Ledgers, Q: Ledger, A: Ledger> Phase<B, Q, A> {
     /// The refusal of a user for whom there is no room.
-    pub fn busy(user: SocketWire) -> Phase<B, Q, A> {
+    pub fn busy(user: UserWire) -> Phase<B, Q, A> {
         Phase::Refusing {
             user,
             rest: own_refusal(503),

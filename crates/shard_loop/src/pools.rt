@@ -6,7 +6,7 @@ use crate::queues::Waiting;
 use adapt_bytes::MAX_CONNECTIONS;
 use event_loop::{IdlePlace, Room, USER};
 use service_pool::{Lease, Pool, Taken};
-use socket_wire::{Readiness, SocketWire, Unread};
+use socket_wire::{Readiness, ServiceWire, Unread};
 use std::alloc::{AllocError, Global};
 use std::sync::ledger::Ledger;
 use std::sync::{Arc, Wait};
@@ -15,7 +15,7 @@ use trace_core::Point;
 /// A connection to a service that no transaction uses, with its readiness and its place among the descriptors.
 #[derive(Drop)]
 pub struct Spare {
-    pub wire: SocketWire,
+    pub wire: ServiceWire,
     pub ready: Arc<Readiness>,
     pub place: IdlePlace,
 }
@@ -112,7 +112,7 @@ impl<'a, Q: Ledger, A: Ledger> Pools<'a, Q, A> {
     pub fn put<R: Wait>(
         &self,
         rt: &R,
-        wire: SocketWire,
+        wire: ServiceWire,
         ready: Arc<Readiness>,
         lease: Leased<Q, A>,
     ) {

@@ -4,7 +4,7 @@ use event_loop::{Place, Told};
 use mio::net::TcpStream;
 use mio::{Registry, Token};
 use slab::Slab;
-use socket_wire::{MAX_KEY, Readiness, Side, SocketWire, token_of};
+use socket_wire::{MAX_KEY, Readiness, Role, Side, SocketWire, token_of};
 use std::alloc::{AllocError, Global};
 use std::sync::Arc;
 
@@ -345,18 +345,14 @@ impl Seats {
         }
     }
 
-    /// A wire over a stream, which the poll reports. The stream comes back if the system refuses, or no memory was
-    /// found.
-    pub fn wire(
+    /// A wire over a stream to a peer of the role `P`, which the poll reports. The stream comes back if the system refuses, or no
+    /// memory was found.
+    pub fn wire<P: Role>(
         &mut self,
         at: At<'_>,
-        side: Side,
+        ready: Readiness,
         stream: TcpStream,
-    ) -> Result<SocketWire, TcpStream> {
-        let ready = match side {
-            Side::User => Readiness::new(),
-            Side::Origin | Side::Service => Readiness::dialled(),
-        };
+    ) -> Result<SocketWire<P>, TcpStream> {
         let Ok(ready) = Arc::new(self.alloc, ready) else {
             return Err(stream);
         };
@@ -364,29 +360,28 @@ impl Seats {
             return Err(stream);
         };
         let wire = SocketWire::new(stream, ready);
-        match self.enlist(at, side, wire, told) {
+        match self.enlist(at, wire, told) {
             Ok(wire) => Ok(wire),
             Err(wire) => Err(wire.into_stream()),
         }
     }
 
     /// Has the poll report a wire. It comes back if the system refuses.
-    pub fn enlist(
+    pub fn enlist<P: Role>(
         &mut self,
         at: At<'_>,
-        side: Side,
-        wire: SocketWire,
+        wire: SocketWire<P>,
         ready: Arc<Readiness>,
-    ) -> Result<SocketWire, SocketWire> {
+    ) -> Result<SocketWire<P>, SocketWire<P>> {
         let mut wire = wire;
         if at.key > MAX_KEY
             || wire
-                .register(at.registry, Token(token_of(at.key, side)))
+                .register(at.registry, Token(token_of(at.key, P::SIDE)))
                 .is_err()
         {
             return Err(wire);
         }
-        let _ = self.keep(at.key, side, Some(ready));
+        let _ = self.keep(at.key, P::SIDE, Some(ready));
         Ok(wire)
     }
 

@@ -15,7 +15,7 @@ use http_side::own_refusal;
 use mio::Registry;
 use mio::net::TcpStream;
 use proxy_rules::Incoming;
-use socket_wire::{Dial, Side, SocketWire, Unread};
+use socket_wire::{Dial, Readiness, Side, Unread, UserWire};
 use span_bank::Ledgers;
 use std::alloc::{AllocError, AllocFailed, Global};
 use std::boxed::Box;
@@ -57,7 +57,7 @@ impl<'a, B: Ledgers, Q: Ledger, A: Ledger, G: Gate> Shard<'a, B, Q, A, G> {
     }
 
     /// What a user's connection begins with: its first request, or the refusal where there is no room for it, or no memory.
-    fn first_phase(&self, user: SocketWire, purpose: Purpose) -> Phase<B, Q, A> {
+    fn first_phase(&self, user: UserWire, purpose: Purpose) -> Phase<B, Q, A> {
         match purpose {
             Purpose::Requests => {
                 let ends = Ends::of_user(user, Incoming::request(self.desk.alloc));
@@ -216,7 +216,7 @@ impl<'a, B: Ledgers, Q: Ledger, A: Ledger, G: Gate> Work for Shard<'a, B, Q, A, 
             self.desk.notes.refuse(key, Why::NoSeat, 503);
         }
         let at = At { registry, key, now };
-        match self.desk.seats.wire(at, Side::User, stream) {
+        match self.desk.seats.wire(at, Readiness::new(), stream) {
             Ok(user) => {
                 let phase = self.first_phase(user, purpose);
                 self.keep(rt, key, phase);

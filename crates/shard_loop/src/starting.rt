@@ -7,14 +7,14 @@ ghost use Rattle.plan_rules.specs.Claims.{claim_of};
 use crate::begin::Planned;
 use crate::connections::LeasedConnection;
 use crate::desk::Desk;
-use crate::halting::unused;
-use crate::phase::{Ends, Moving, Phase, Starting, Step};
+use crate::halting::{Remains, end_of, unused};
+use crate::phase::{Ends, Moving, Phase, Step};
 use crate::pools::Leased;
 use crate::seats::At;
 use crate::telling::go_ahead;
 use plan_rules::Limits;
-use proxy_rules::{Beginning, Incoming, Reason, begin, interim_continue};
-use socket_wire::{Dial, Side, SocketWire};
+use proxy_rules::{Beginning, Incoming, Offer, Reason, Running, begin, interim_continue};
+use socket_wire::{Dial, OriginWire, ServiceWire, UserWire};
 use span_bank::{Ledgers, Pages, Stake};
 use std::alloc::AllocFailed;
 use std::boxed::Box;
@@ -26,14 +26,21 @@ use wire_kit::{Gate, Wire};
 
 /// What a transaction stands over: its message, and the connections of its source and its next hop.
 #[derive(Drop)]
-struct Sides {
+struct Sides<X, Z> {
     message: Incoming,
-    source_wire: SocketWire,
-    next_wire: SocketWire,
+    source_wire: X,
+    next_wire: Z,
+}
+
+/// What the transaction of a message stands over.
+#[derive(Drop)]
+enum Joined {
+    Request(Sides<UserWire, OriginWire>),
+    Response(Sides<OriginWire, UserWire>),
 }
 
 /// What the transaction of a message stands over: that of a request over the origin's connection, which was opened now.
-fn sides_of(ends: Ends, opened: Option<SocketWire>) -> Option<Sides> {
+fn joined(ends: Ends, opened: Option<OriginWire>) -> Option<Joined> {
     let Ends {
         user,
         message,
@@ -41,23 +48,71 @@ fn sides_of(ends: Ends, opened: Option<SocketWire>) -> Option<Sides> {
         told: _,
     } = ends;
     match (origin, opened) {
-        (Some(source_wire), _) => Some(Sides {
+        (Some(origin), _) => Some(Joined::Response(Sides {
             message,
-            source_wire,
+            source_wire: origin,
             next_wire: user,
-        }),
-        (None, Some(next_wire)) => Some(Sides {
+        })),
+        (None, Some(origin)) => Some(Joined::Request(Sides {
             message,
             source_wire: user,
-            next_wire,
-        }),
+            next_wire: origin,
+        })),
         (None, None) => None,
     }
 }
 
+/// What a transaction begins with beside its message and its connections to the user and the origin.
+struct Terms<B: Ledgers> {
+    offer: Offer,
+    limits: Limits,
+    stake: Stake<B>,
+    service_wire: Option<ServiceWire>,
+    /// Whether the service's connection was used before.
+    reused: bool,
+}
+
 /// Whether anything went over a connection, as a request for options does before the first message: its service may be about to close it.
-fn has_served(wire: &SocketWire) -> bool {
+fn has_served(wire: &ServiceWire) -> bool {
     wire.counts() != (0, 0)
+}
+
+/// What a transaction begins with.
+fn beginning_of<B: Ledgers, X, Z>(
+    sides: Sides<X, Z>,
+    terms: Terms<B>,
+    deadline: u64,
+    now: u64,
+    last: bool,
+) -> Beginning<B, X, ServiceWire, Z>
+    ensures terms { (result.stake ≡ terms.stake) × (result.offer ≡ terms.offer) × (result.limits ≡ terms.limits) }
+    ensures wires { (result.source_wire ≡ sides.source_wire) × (result.next_wire ≡ sides.next_wire) × (result.service_wire ≡ terms.service_wire) }
+{
+    let Sides {
+        message,
+        source_wire,
+        next_wire,
+    } = sides;
+    let Terms {
+        offer,
+        limits,
+        stake,
+        service_wire,
+        reused,
+    } = terms;
+    Beginning {
+        offer,
+        limits,
+        stake,
+        message,
+        source_wire,
+        service_wire,
+        next_wire,
+        deadline,
+        now,
+        reused,
+        last,
+    }
 }
 
 impl<'a, B: Ledgers, Q: Ledger, A: Ledger, G: Gate> Desk<'a, B, Q, A, G> {
@@ -67,9 +122,9 @@ impl<'a, B: Ledgers, Q: Ledger, A: Ledger, G: Gate> Desk<'a, B, Q, A, G> {
         rt: &R,
         at: At<'_>,
         address: Option<SocketAddrV4>,
-    ) -> Result<Option<SocketWire>, Reason> {
+    ) -> Result<Option<OriginWire>, Reason> {
         match address {
-            Some(address) => match self.dial(rt, at, Side::Origin, address, Reason::NoOrigin) {
+            Some(address) => match self.dial(rt, at, address, Reason::NoOrigin) {
                 Ok(wire) => {
                     self.note_origin(at, address);
                     Ok(Some(wire))
@@ -124,7 +179,7 @@ impl<'a, B: Ledgers, Q: Ledger, A: Ledger, G: Gate> Desk<'a, B, Q, A, G> {
         rt: &R,
         at: At<'_>,
         ends: Box<Ends>,
-        opened: Option<SocketWire>,
+        opened: Option<OriginWire>,
         planned: Planned,
         limits: Limits,
         connection: Option<LeasedConnection<Q, A>>,
@@ -141,7 +196,7 @@ impl<'a, B: Ledgers, Q: Ledger, A: Ledger, G: Gate> Desk<'a, B, Q, A, G> {
         };
         let mut ends = ends;
         match go_ahead(&mut ends.user, text) {
-            Some([]) => match sides_of(Box::into_inner(ends), opened) {
+            Some([]) => match joined(Box::into_inner(ends), opened) {
                 Some(sides) => self.launch(rt, at, sides, planned, limits, connection, stake),
                 None => {
                     self.forgo(rt, at, connection, stake);
@@ -167,7 +222,7 @@ impl<'a, B: Ledgers, Q: Ledger, A: Ledger, G: Gate> Desk<'a, B, Q, A, G> {
         at: At<'_>,
         is_offered: bool,
         connection: Option<LeasedConnection<Q, A>>,
-    ) -> (Option<SocketWire>, Option<Leased<Q, A>>) {
+    ) -> (Option<ServiceWire>, Option<Leased<Q, A>>) {
         match connection {
             Some(LeasedConnection { wire, lease }) if is_offered => (Some(wire), Some(lease)),
             connection => {
@@ -182,7 +237,7 @@ impl<'a, B: Ledgers, Q: Ledger, A: Ledger, G: Gate> Desk<'a, B, Q, A, G> {
         &mut self,
         rt: &R,
         at: At<'_>,
-        sides: Sides,
+        sides: Joined,
         planned: Planned,
         limits: Limits,
         connection: Option<LeasedConnection<Q, A>>,
@@ -201,75 +256,91 @@ impl<'a, B: Ledgers, Q: Ledger, A: Ledger, G: Gate> Desk<'a, B, Q, A, G> {
         };
         self.seats.touch(at);
         self.seats.begin_answer(at.key);
-        let Sides {
-            message,
-            source_wire,
-            next_wire,
-        } = sides;
-        let beginning = Beginning {
+        let terms = Terms {
             offer,
             limits,
             stake,
-            message,
-            source_wire,
             service_wire,
-            next_wire,
-            deadline: self.shared.config.deadline.saturating_add(1),
-            now: at.now,
             reused,
-            last: self.draining,
         };
-        self.set_out(rt, at, beginning, lease)
+        match sides {
+            Joined::Request(sides) => match self.set_out(rt, at, sides, terms) {
+                Ok(tx) => Step::On(Phase::Moving {
+                    tx: Moving::Request(tx),
+                    lease,
+                }),
+                Err(left) => {
+                    self.give_up(rt, lease);
+                    match left {
+                        Some((user, _)) => self.refuse(at, user, Reason::NoMemory),
+                        None => Step::Over,
+                    }
+                }
+            },
+            Joined::Response(sides) => match self.set_out(rt, at, sides, terms) {
+                Ok(tx) => Step::On(Phase::Moving {
+                    tx: Moving::Response(tx),
+                    lease,
+                }),
+                Err(left) => {
+                    self.give_up(rt, lease);
+                    match left {
+                        Some((_, user)) => self.refuse(at, user, Reason::NoMemory),
+                        None => Step::Over,
+                    }
+                }
+            },
+        }
     }
 
-    /// Has the transaction begin. What it was to begin with goes where it can't.
-    fn set_out<R: Wait + Clock>(
+    /// Has the transaction begin. Its connections to the user and the origin come back where no memory is found for it; where it
+    /// can't begin, they are closed.
+    fn set_out<X: Wire + Drop, Z: Wire + Drop, R: Wait + Clock>(
         &mut self,
         rt: &R,
         at: At<'_>,
-        beginning: Starting<B>,
-        lease: Option<Leased<Q, A>>,
-    ) -> Step<B, Q, A>
-        requires empty { (beginning.stake.held ≡ 0) × (beginning.stake.pages ≡ 0) }
-        requires claim { beginning.stake.claim ≡ claim_of beginning.offer.plan beginning.limits.window }
-        requires small { beginning.stake.claim ≤ MAX_CAPACITY }
+        sides: Sides<X, Z>,
+        terms: Terms<B>,
+    ) -> Result<Box<Running<B, X, ServiceWire, Z>>, Option<(X, Z)>>
+        requires empty { (terms.stake.held ≡ 0) × (terms.stake.pages ≡ 0) }
+        requires claim { terms.stake.claim ≡ claim_of terms.offer.plan terms.limits.window }
+        requires small { terms.stake.claim ≤ MAX_CAPACITY }
     {
+        let deadline = self.shared.config.deadline.saturating_add(1);
+        let beginning = beginning_of(sides, terms, deadline, at.now, self.draining);
         match begin(self.alloc, beginning) {
             Ok(tx) => match Box::new(self.alloc, tx) {
-                Ok(tx) => Step::On(self.pass_gate(rt, at, tx, lease)),
+                Ok(tx) => Ok(self.pass_gate(rt, at, tx)),
                 Err(AllocFailed { value }) => {
-                    let user = self.end_tx(rt, value, lease);
-                    self.refuse(at, user, Reason::NoMemory)
+                    let bank = self.shared.bank;
+                    let Remains {
+                        stake,
+                        source_wire,
+                        next_wire,
+                    } = end_of(rt, bank, value.into_tx());
+                    bank.close(rt, stake, Pages::none());
+                    Err(Some((source_wire, next_wire)))
                 }
             },
             Err(beginning) => {
-                self.undo(rt, beginning, lease);
-                Step::Over
+                self.shared.bank.close(rt, unused(beginning), Pages::none());
+                Err(None)
             }
         }
     }
 
-    /// Takes apart what no transaction began with.
-    fn undo<R: Wait>(&mut self, rt: &R, beginning: Starting<B>, lease: Option<Leased<Q, A>>)
-        requires { (beginning.stake.held ≡ 0) × (beginning.stake.pages ≡ 0) }
-    {
-        self.shared.bank.close(rt, unused(beginning), Pages::none());
-        self.give_up(rt, lease);
-    }
-
     /// Asks the gate before anything of the message is written.
-    fn pass_gate<R: Wait + Clock>(
+    fn pass_gate<X: Wire, Z: Wire, R: Wait + Clock>(
         &mut self,
         rt: &R,
         at: At<'_>,
-        tx: Box<Moving<B>>,
-        lease: Option<Leased<Q, A>>,
-    ) -> Phase<B, Q, A> {
+        tx: Box<Running<B, X, ServiceWire, Z>>,
+    ) -> Box<Running<B, X, ServiceWire, Z>> {
         let mut tx = tx;
         let number = self.seats.number(at.key);
         if !self.shared.gate.may_pass(rt, number) {
             tx.halt(rt, self.shared.bank);
         }
-        Phase::Moving { tx, lease }
+        tx
     }
 }

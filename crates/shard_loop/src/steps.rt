@@ -7,7 +7,7 @@ use adapt_bytes::behind;
 use event_loop::{Closing, close_turn};
 use http_side::own_refusal;
 use proxy_rules::{Reason, origin_address, origin_head_reason, user_head_reason};
-use socket_wire::{Dial, SocketWire};
+use socket_wire::{Dial, UserWire};
 use span_bank::Ledgers;
 use std::boxed::Box;
 use std::net::SocketAddrV4;
@@ -139,7 +139,7 @@ impl<'a, B: Ledgers, Q: Ledger, A: Ledger, G: Gate> Desk<'a, B, Q, A, G> {
     }
 
     /// Has the proxy's own refusal written. It is written, and the connection closed after it, within one deadline.
-    pub fn refuse(&mut self, at: At<'_>, user: SocketWire, reason: Reason) -> Step<B, Q, A> {
+    pub fn refuse(&mut self, at: At<'_>, user: UserWire, reason: Reason) -> Step<B, Q, A> {
         self.note_refusal(at, &user, reason);
         self.seats.touch(at);
         self.seats.begin_stay(at.key, Stay::End);
@@ -155,19 +155,14 @@ impl<'a, B: Ledgers, Q: Ledger, A: Ledger, G: Gate> Desk<'a, B, Q, A, G> {
     }
 
     /// Has a connection closed after all that was said.
-    pub fn close(&mut self, at: At<'_>, user: SocketWire) -> Step<B, Q, A> {
+    pub fn close(&mut self, at: At<'_>, user: UserWire) -> Step<B, Q, A> {
         let _ = user.finish();
         self.seats.begin_stay(at.key, Stay::End);
         Step::On(Phase::Closing(user))
     }
 
     /// Writes the proxy's own refusal.
-    fn refusing_step(
-        &mut self,
-        at: At<'_>,
-        user: SocketWire,
-        rest: &'static [u8],
-    ) -> Step<B, Q, A> {
+    fn refusing_step(&mut self, at: At<'_>, user: UserWire, rest: &'static [u8]) -> Step<B, Q, A> {
         if rest.is_empty() {
             return self.close(at, user);
         }
@@ -184,7 +179,7 @@ impl<'a, B: Ledgers, Q: Ledger, A: Ledger, G: Gate> Desk<'a, B, Q, A, G> {
     }
 
     /// Drops what the user still sends.
-    fn closing_step(&mut self, at: At<'_>, user: SocketWire) -> Step<B, Q, A> {
+    fn closing_step(&mut self, at: At<'_>, user: UserWire) -> Step<B, Q, A> {
         let mut user = user;
         if self.is_late(at) {
             return Step::Over;

@@ -4,7 +4,7 @@ use crate::desk::Desk;
 use crate::phase::{Ends, Phase, Step};
 use crate::seats::At;
 use adapt_bytes::behind;
-use socket_wire::{Dial, SocketWire};
+use socket_wire::{Dial, UserWire};
 use span_bank::Ledgers;
 use std::boxed::Box;
 use std::sync::Wait;
@@ -14,7 +14,7 @@ use trace_core::Point;
 use wire_kit::{Gate, Put, Wire};
 
 /// Says the text to a user, or as much of it as it takes now. What is left of it; none where the connection has failed.
-pub fn go_ahead(user: &mut SocketWire, text: &'static [u8]) -> Option<&'static [u8]> {
+pub fn go_ahead(user: &mut UserWire, text: &'static [u8]) -> Option<&'static [u8]> {
     if text.is_empty() {
         return Some(text);
     }

@@ -6,15 +6,14 @@ use crate::phase::{Moving, Phase, Step};
 use crate::pools::Leased;
 use crate::seats::At;
 use adapt_turn::{FreeLine, Side as Turning, Turned};
-use proxy_rules::Reason;
-use socket_wire::{Dial, SocketWire};
+use proxy_rules::{Reason, Running};
+use socket_wire::{Dial, ServiceWire};
 use span_bank::{Bank, Ledgers};
-use std::boxed::Box;
 use std::sync::Wait;
 use std::sync::ledger::Ledger;
 use std::time::Clock;
 use trace_core::Cause;
-use wire_kit::Gate;
+use wire_kit::{Gate, Wire};
 
 /// What a round of turns did, one of each side.
 #[derive(Clone, Copy, PartialEq, Eq)]
@@ -42,7 +41,12 @@ impl Round {
 }
 
 /// A turn of each side.
-fn turn_each<B: Ledgers, R: Wait>(rt: &R, bank: &Bank<B>, tx: &mut Moving<B>, now: u64) -> Round {
+fn turn_each<B: Ledgers, X: Wire, Z: Wire, R: Wait>(
+    rt: &R,
+    bank: &Bank<B>,
+    tx: &mut Running<B, X, ServiceWire, Z>,
+    now: u64,
+) -> Round {
     let source = tx.turn(rt, bank, Turning::Source, now);
     let service = tx.turn(rt, bank, Turning::Service, now);
     let next = tx.turn(rt, bank, Turning::NextHop, now);
@@ -51,11 +55,11 @@ fn turn_each<B: Ledgers, R: Wait>(rt: &R, bank: &Bank<B>, tx: &mut Moving<B>, no
 
 impl<'a, B: Ledgers, Q: Ledger, A: Ledger, G: Gate> Desk<'a, B, Q, A, G> {
     /// A round of turns.
-    fn round<R: Wait + Dial>(
+    fn round<X: Wire, Z: Wire, R: Wait + Dial>(
         &mut self,
         rt: &R,
         at: At<'_>,
-        tx: &mut Moving<B>,
+        tx: &mut Running<B, X, ServiceWire, Z>,
         lease: &mut Option<Leased<Q, A>>,
     ) -> Round {
         let round = turn_each(rt, self.shared.bank, tx, at.now);
@@ -73,11 +77,11 @@ impl<'a, B: Ledgers, Q: Ledger, A: Ledger, G: Gate> Desk<'a, B, Q, A, G> {
 
     /// Begins a request anew on a fresh connection, or fails it without one. The broken one is closed first: its descriptor is the
     /// one that the fresh one finds.
-    fn again<R: Wait + Dial>(
+    fn again<X: Wire, Z: Wire, R: Wait + Dial>(
         &mut self,
         rt: &R,
         at: At<'_>,
-        tx: &mut Moving<B>,
+        tx: &mut Running<B, X, ServiceWire, Z>,
         lease: &mut Option<Leased<Q, A>>,
     ) {
         if !tx.is_broken() {
@@ -97,11 +101,11 @@ impl<'a, B: Ledgers, Q: Ledger, A: Ledger, G: Gate> Desk<'a, B, Q, A, G> {
     }
 
     /// Gives the service's connection back as soon as the service has said all: others may have it while the message goes on.
-    fn free<R: Wait>(
+    fn free<X: Wire, Z: Wire, R: Wait>(
         &mut self,
         rt: &R,
         at: At<'_>,
-        tx: &mut Moving<B>,
+        tx: &mut Running<B, X, ServiceWire, Z>,
         lease: &mut Option<Leased<Q, A>>,
     ) {
         let Some(FreeLine { wire, is_reusable }) = tx.free_line() else {
@@ -119,12 +123,16 @@ impl<'a, B: Ledgers, Q: Ledger, A: Ledger, G: Gate> Desk<'a, B, Q, A, G> {
         &mut self,
         rt: &R,
         at: At<'_>,
-        tx: Box<Moving<B>>,
+        tx: Moving<B>,
         lease: Option<Leased<Q, A>>,
     ) -> Step<B, Q, A> {
         let mut tx = tx;
         let mut lease = lease;
-        match self.round(rt, at, &mut tx, &mut lease) {
+        let round = match &mut tx {
+            Moving::Request(tx) => self.round(rt, at, tx, &mut lease),
+            Moving::Response(tx) => self.round(rt, at, tx, &mut lease),
+        };
+        match round {
             Round::Moved | Round::Broken => Step::On(Phase::Moving { tx, lease }),
             Round::Finished => self.settle(rt, at, tx, lease),
             Round::Waiting if tx.outcome().is_some() && self.is_late(at) => {
