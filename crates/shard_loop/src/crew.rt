@@ -2,21 +2,19 @@
 
 ghost use Rattle.std.specs.Prelude.{◌≡◌};
 
-use crate::audit::ServeFault;
 use crate::desk::Shared;
 use crate::left::Left;
-use crate::log::{Append, Log};
 use crate::office::Office;
 use crate::pools::{Pools, Spare};
 use crate::queues::{Queues, Waiting};
 use crate::shard::Shard;
-use crate::tally::Tally;
 use event_loop::{
     Base, Ended, Entrance, Inbox, LoopFault, Room, Work, add_loop, name_thread, run_loop, stop_all,
 };
 use mio::net::TcpListener;
 use proxy_config::{Config, MAX_SHARDS, ServicePoint};
 use service_pool::Pool;
+use shard_report::{Append, Log, ServeFault, Tally};
 use socket_wire::Dial;
 use span_bank::{Bank, Ledgers};
 use std::alloc::{AllocError, Global};

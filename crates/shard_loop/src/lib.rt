@@ -6,18 +6,14 @@
 #![tactic(auto)]
 
 mod apart;
-mod audit;
 mod begin;
 mod book;
-mod capacity;
 mod connections;
 mod crew;
 mod desk;
 mod ending;
 mod halting;
 mod left;
-mod log;
-mod notes;
 mod noting;
 mod office;
 mod options;
@@ -28,13 +24,10 @@ mod running;
 mod seats;
 mod shard;
 mod starting;
-mod stats;
 mod steps;
-mod tally;
 mod telling;
 mod turns;
 mod waits;
 
-pub use audit::{ServeFault, StopAudit, Stopped};
-pub use log::Append;
 pub use running::serve;
+pub use shard_report::{Append, ServeFault, StopAudit, Stopped};

@@ -4,14 +4,13 @@ ghost use Rattle.std.specs.Prelude.{◌≡◌, ◌+◌, ◌≤◌};
 ghost use Rattle.adapt_bytes.specs.declared.limits.TheConstants.{MAX_CONNECTIONS};
 ghost use Rattle.service_pool.specs.declared.step.TheConstants.{LEDGER_PARTS};
 
-use crate::audit::{ServeFault, Stopped};
 use crate::crew::run_crew;
 use crate::left::Left;
-use crate::log::Append;
 use crate::pools::Spare;
 use mio::net::TcpListener;
 use proxy_config::{Config, ServicePoint};
 use service_pool::Pool;
+use shard_report::{Append, ServeFault, Stopped};
 use socket_wire::Dial;
 use span_bank::{Bank, Blanks, Four};
 use std::alloc::Global;

@@ -1,15 +1,10 @@
 //! What is noted of an exchange while it goes on: what its line in the log says, and what is counted.
 
-use crate::phase::Phase;
 use adapt_bytes::front;
-use exchange_report::{Address, Entry, MAX_KIND, MAX_METHOD, MAX_TARGET, Reply, Verdict, Why};
-use http_side::HttpFault;
-use proxy_rules::Reason;
-use span_bank::Ledgers;
+use exchange_report::{Address, Entry, MAX_KIND, MAX_METHOD, MAX_TARGET, Verdict, Why};
 use std::alloc::{AllocError, Global};
 use std::net::SocketAddrV4;
-use std::sync::ledger::Ledger;
-use trace_core::{Point, Seen};
+use trace_core::Point;
 
 /// Where an exchange stands, as far as a reason's word depends on it.
 #[derive(Clone, Copy, Debug, PartialEq, Eq)]
@@ -86,23 +81,6 @@ pub fn address_of(address: SocketAddrV4) -> Address {
         second,
         third,
         fourth,
-    }
-}
-
-/// What became of a message, as its history shows.
-pub fn verdict_of(seen: &Seen) -> Verdict {
-    Verdict {
-        retried: seen.retried,
-        continued: seen.continued,
-        reply: if seen.plan.kind.is_plain() {
-            Reply::Plain
-        } else if seen.no_mod {
-            Reply::Unchanged
-        } else if seen.modified {
-            Reply::Changed
-        } else {
-            Reply::Missing
-        },
     }
 }
 
@@ -290,37 +268,5 @@ pub fn why_of(note: &Note) -> Why {
     match note.why {
         Some(why) => why,
         None => Why::UserGone,
-    }
-}
-
-/// Where an exchange stands.
-pub fn stage_of<B: Ledgers, Q: Ledger, A: Ledger>(phase: &Phase<B, Q, A>) -> Stage {
-    match phase {
-        Phase::Asking { .. } | Phase::Queued { .. } => Stage::Asking,
-        _ => Stage::Elsewhere,
-    }
-}
-
-/// Whether no exchange is under way.
-pub fn is_between<B: Ledgers, Q: Ledger, A: Ledger>(phase: &Phase<B, Q, A>) -> bool {
-    matches!(phase, Phase::Head(_) | Phase::Closing(_))
-}
-
-/// The word for a reason.
-pub fn word_of(reason: Reason, note: &Note) -> Why {
-    match reason {
-        Reason::Request(HttpFault::Coding | HttpFault::Connect) => Why::NotServed,
-        Reason::Request(HttpFault::NoMemory) | Reason::NoMemory => Why::NoMemory,
-        Reason::Request(_) => Why::BadRequest,
-        Reason::UnknownHost => Why::UnknownHost,
-        Reason::NoOrigin => Why::OriginRefused,
-        Reason::OriginHead => Why::OriginBroken,
-        Reason::Service => note.blamed.unwrap_or(Why::ServiceRefused),
-        Reason::Busy => Why::Busy,
-        Reason::Full => Why::Full,
-        Reason::NoRow => Why::NoRow,
-        Reason::Deadline if note.stage == Stage::Asking => Why::ServiceDeadline,
-        Reason::Deadline => Why::OriginDeadline,
-        Reason::Stopping => Why::Stopping,
     }
 }

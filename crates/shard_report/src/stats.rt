@@ -1,17 +1,32 @@
 //! The answer to `stats`: the sums of what the loops count, and the numbers of what they share.
 
-use crate::desk::Shared;
 use crate::tally::{
     READ, REQUESTS, RETRIES, SENT, Tally, USERS, class_place, offer_place, refusal_place, total,
 };
 use exchange_report::{Family, Kind, Metric, Reply, Why, metrics_text};
 use service_pool::Numbers;
-use span_bank::Ledgers;
+use span_bank::Book;
 use std::alloc::{AllocError, Global};
-use std::sync::Wait;
-use std::sync::ledger::Ledger;
 use trace_core::Point;
-use wire_kit::Gate;
+
+/// What the loops share, at one moment.
+#[derive(Clone, Copy)]
+pub struct Figures {
+    /// How many users can be served at once.
+    pub seats: u64,
+    /// The connections to the service of requests, and how many exchanges wait for one.
+    pub reqmod: Numbers,
+    pub reqmod_waiting: u64,
+    /// The same of responses.
+    pub respmod: Numbers,
+    pub respmod_waiting: u64,
+    /// The buffer budget.
+    pub book: Book,
+    /// Lines of the log that are lost.
+    pub lost: u64,
+    /// Seconds since the start.
+    pub uptime: u64,
+}
 
 /// A family of counters.
 const fn counter(name: &'static [u8], help: &'static [u8]) -> Family {
@@ -231,76 +246,76 @@ impl<'a> Sheet<'a> {
         self.put(Metric::Sample(waiting, b"{point=\"reqmod\"}", reqmod))?;
         self.put(Metric::Sample(waiting, b"{point=\"respmod\"}", respmod))
     }
+
+    /// The buffer budget.
+    fn put_book(&mut self, book: Book) -> Result<(), AllocError> {
+        self.one(
+            gauge(b"adaptproxy_budget_rows", b"Transactions that are open."),
+            book.rows,
+        )?;
+        self.one(
+            gauge(
+                b"adaptproxy_budget_held_bytes",
+                b"Body bytes that they hold.",
+            ),
+            book.held,
+        )?;
+        self.one(
+            gauge(
+                b"adaptproxy_budget_claimed_bytes",
+                b"Body bytes that they have reserved.",
+            ),
+            book.claimed,
+        )?;
+        self.one(
+            gauge(
+                b"adaptproxy_budget_capacity_bytes",
+                b"Body bytes that may be reserved.",
+            ),
+            book.capacity,
+        )
+    }
+
+    /// The users, and the seats for them.
+    fn put_users(&mut self, seats: u64) -> Result<(), AllocError> {
+        let users = self.sum(USERS);
+        self.one(
+            gauge(b"adaptproxy_users", b"Users that are connected."),
+            users,
+        )?;
+        self.one(
+            gauge(b"adaptproxy_seats", b"Users that can be served at once."),
+            seats,
+        )
+    }
 }
 
-/// The counters as OpenMetrics text, so many seconds after the start.
-pub fn stats_text<B: Ledgers, Q: Ledger, A: Ledger, G: Gate, R: Wait>(
-    rt: &R,
+/// The counters of all loops, and the numbers of what they share, as OpenMetrics text.
+pub fn stats_text(
     alloc: Global,
-    shared: &Shared<'_, B, Q, A, G>,
     tallies: &[Tally],
-    now: u64,
+    figures: &Figures,
 ) -> Result<Vec<u8>, AllocError> {
-    let book = shared.bank.book(rt, None);
     let mut sheet = Sheet {
         metrics: Vec::new(alloc),
         tallies,
     };
     sheet.put_counts()?;
     sheet.put_messages()?;
-    let users = sheet.sum(USERS);
-    let seats = shared.config.shards.saturating_mul(shared.config.rows);
-    sheet.one(
-        gauge(b"adaptproxy_users", b"Users that are connected."),
-        users,
-    )?;
-    sheet.one(
-        gauge(b"adaptproxy_seats", b"Users that can be served at once."),
-        seats,
-    )?;
-    let reqmod = shared.pools.request.numbers(rt);
-    let respmod = shared.pools.response.numbers(rt);
-    sheet.put_pools(reqmod, respmod)?;
-    let waiting = shared.pools.waiting;
-    sheet.put_waiting(
-        waiting.len(rt, Point::Reqmod),
-        waiting.len(rt, Point::Respmod),
-    )?;
-    sheet.one(
-        gauge(b"adaptproxy_budget_rows", b"Transactions that are open."),
-        book.rows,
-    )?;
-    sheet.one(
-        gauge(
-            b"adaptproxy_budget_held_bytes",
-            b"Body bytes that they hold.",
-        ),
-        book.held,
-    )?;
-    sheet.one(
-        gauge(
-            b"adaptproxy_budget_claimed_bytes",
-            b"Body bytes that they have reserved.",
-        ),
-        book.claimed,
-    )?;
-    sheet.one(
-        gauge(
-            b"adaptproxy_budget_capacity_bytes",
-            b"Body bytes that may be reserved.",
-        ),
-        book.capacity,
-    )?;
+    sheet.put_users(figures.seats)?;
+    sheet.put_pools(figures.reqmod, figures.respmod)?;
+    sheet.put_waiting(figures.reqmod_waiting, figures.respmod_waiting)?;
+    sheet.put_book(figures.book)?;
     sheet.one(
         counter(
             b"adaptproxy_log_lines_lost",
             b"Lines of the log that could not be written.",
         ),
-        shared.log.lost(),
+        figures.lost,
     )?;
     sheet.one(
         gauge(b"adaptproxy_uptime_seconds", b"Seconds since the start."),
-        now,
+        figures.uptime,
     )?;
     metrics_text(alloc, sheet.metrics.as_slice())
 }
