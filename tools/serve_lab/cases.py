@@ -50,9 +50,9 @@ class Bench:
         same("icapd", program.first, b"listening\n")
         return port
 
-    def proxy(self, origin, text="", services=(), hosts="", descriptors=None, logged=LOGGED):
+    def proxy(self, origin, text="", services=(), hosts="", descriptors=None, logged=LOGGED, before=()):
         lines = Lines() if logged and "log =" not in text else None
-        proxy = self.keep(Proxy(ADAPTPROXY, origin.port, (lines.key if lines else "") + text, services, hosts, descriptors))
+        proxy = self.keep(Proxy(ADAPTPROXY, origin.port, (lines.key if lines else "") + text, services, hosts, descriptors, before))
         if lines:
             self.logs.append((proxy, lines))
         return proxy

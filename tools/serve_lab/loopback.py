@@ -400,14 +400,14 @@ class Proxy(Program):
     """adaptproxy: `text` is its configuration without its addresses; a service is (point, port, path), and the number of
     its connections where it isn't the default."""
 
-    def __init__(self, path, origin, text="", services=(), hosts="", descriptors=None):
+    def __init__(self, path, origin, text="", services=(), hosts="", descriptors=None, before=()):
         self.port, self.admin = free_port(), free_port()
         lines = 'listen = "127.0.0.1:%d"\nadmin = "127.0.0.1:%d"\n%s\n[hosts]\n"o.test" = "127.0.0.1:%d"\n%s\n' % (
             self.port, self.admin, text, origin, hosts)
         for point, port, where, *connections in services:
             lines += '[%s]\nhost = "127.0.0.1"\nport = %d\npath = "%s"\n' % (point, port, where)
             lines += "".join("connections = %d\n" % n for n in connections)
-        super().__init__(path, lines, descriptors)
+        super().__init__(path, lines, descriptors, before)
         if self.first != b"listening\n":
             raise AssertionError("not listening: %r" % (self.ended(),))
 

@@ -291,6 +291,32 @@ def idle_connections_take_no_descriptor_of_a_user(bench):
 
 
 @case
+def a_head_that_goes_on_is_not_cut(bench):
+    """A byte of a head now and then: where seats are free, it goes on for longer than the deadline, and is answered."""
+    proxy = bench.proxy(bench.origin(), "deadline = 2\nrows = 4")
+    user, text = User(proxy.port), get("/bytes/3")
+    for at in range(12):
+        user.send(text[at:at + 1])
+        time.sleep(0.4)
+    same("answered", user.ask(text[12:]).body, b"the")
+    same("audit", proxy.stop(), IDLE)
+
+
+class Oversleeping:
+    """How much later than it asks for a thread of this machine runs on, at most."""
+
+    def __init__(self):
+        self.most, self.ends = 0, False
+        threading.Thread(target=self.run, daemon=True).start()
+
+    def run(self):
+        while not self.ends:
+            before = time.time()
+            time.sleep(0.02)
+            self.most = max(self.most, time.time() - before - 0.02)
+
+
+@case
 def deadlines_come_never_early(bench):
     def exchange(conn, _number):
         head = Reader(conn).head()
@@ -298,7 +324,7 @@ def deadlines_come_never_early(bench):
         conn.sendall(b"HTTP/1.1 200 OK\r\nContent-Length: 3\r\n\r\nabc")
     origin = bench.keep(Server(exchange))
     proxy = bench.proxy(origin, "deadline = 1\nshards = 1")
-    late = []
+    late, others = [], Oversleeping()
 
     def one(number):
         time.sleep(number * 0.07)
@@ -313,8 +339,9 @@ def deadlines_come_never_early(bench):
         same("a head", user.reader.to_end(), b"")
         late.append(time.time() - before)
     at_once(15, one)
-    print("      deadlines of 1 s came after %.2f to %.2f s" % (min(late), max(late)))
-    same("never early, and a second late at most", (min(late) >= 1, max(late) < 2.3), (True, True))
+    others.ends = True
+    print("      deadlines of 1 s came after %.2f to %.2f s; a sleep came up to %.2f s late" % (min(late), max(late), others.most))
+    same("never early, and a second late at most", (min(late) >= 1, max(late) < 2.2 + 3 * others.most), (True, True))
     same("audit", proxy.stop(), IDLE)
 
 
@@ -354,22 +381,6 @@ def a_stop_reaches_users_that_are_sending(bench):
     for thread in threads:
         thread.join()
     same("refused", found, [refusal(503)] * 8)
-
-
-@case
-def many_accepts_in_a_row_are_no_pause(bench):
-    origin = bench.origin()
-    proxy = bench.proxy(origin, "shards = 1\nrows = 4096")
-    os.kill(proxy.process.pid, 19)
-    users = [User(proxy.port) for _ in range(600)]
-    users[-1].send(get("/bytes/3"))
-    before = time.time()
-    os.kill(proxy.process.pid, 18)
-    same("the last", users[-1].answer().body, b"the")
-    print("      the 600th of 600 is answered after %.0f ms" % (1000 * (time.time() - before)))
-    for user in users:
-        user.close()
-    same("audit", proxy.stop(), IDLE)
 
 
 @case
