@@ -97,7 +97,7 @@ fn lines_in(text: &[u8]) -> u64 {
     count
 }
 
-/// How often a write that a signal breaks off is begun again.
+/// How often a write that a signal breaks off is made again.
 const CALLS: u32 = 16;
 
 /// Writes once: how many bytes were taken.

@@ -47,10 +47,23 @@ struct Words {
 }
 
 /// The notes of a loop, one for each key.
+///
+/// ```
+/// let mut notes = Notes::new(alloc, 2, true)?;
+/// notes.enter(0, None);
+/// notes.begin(0, 1_000, 0, b"GET", b"http://o.test/");
+/// notes.answer(0, 200, b"text/html");
+/// if let Some(note) = notes.close(0) {
+///     let entry = notes.entry(0, &note, 1_004, 258);
+///     assert_eq!(rt; (entry.status, entry.elapsed, entry.sent), (200, 4, 258));
+/// }
+/// // It is closed, so it gives no second line.
+/// assert!(rt; !notes.is_open(0));
+/// ```
 #[derive(Drop)]
 pub struct Notes {
     notes: Vec<Note>,
-    /// None where no log is kept.
+    /// Empty where no log is kept.
     words: Vec<Words>,
 }
 
@@ -126,7 +139,7 @@ impl Words {
 }
 
 impl Notes {
-    /// Of so many keys. `Err` where no memory was found.
+    /// A note for each of these keys. Words are noted where a log is kept. `Err` where no memory was found.
     pub fn new(alloc: Global, keys: usize, is_kept: bool) -> Result<Notes, AllocError> {
         let mut notes = Vec::with_capacity(alloc, keys)?;
         let mut words = Vec::with_capacity(alloc, if is_kept { keys } else { 0 })?;

@@ -17,7 +17,7 @@ pub struct Figures {
     /// The connections to the service of requests, and how many exchanges wait for one.
     pub reqmod: Numbers,
     pub reqmod_waiting: u64,
-    /// The same of responses.
+    /// The connections to the service of responses, and how many exchanges wait for one.
     pub respmod: Numbers,
     pub respmod_waiting: u64,
     /// The buffer budget.
@@ -120,7 +120,7 @@ const REFUSALS: [(Why, &[u8]); 18] = [
     (Why::Stopping, b"{why=\"stopping\"}"),
 ];
 
-/// The numbers, in the order in which they are told.
+/// The numbers, in the order of the text.
 #[derive(Drop)]
 struct Sheet<'a> {
     metrics: Vec<Metric>,
