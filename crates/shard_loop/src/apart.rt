@@ -1,10 +1,9 @@
 //! Taking the loops apart.
 
-use crate::connections::LeasedConnection;
 use crate::halting::user_of;
 use crate::left::Left;
 use crate::phase::Phase;
-use crate::pools::Pools;
+use crate::pools::{LeasedConnection, Pools};
 use span_bank::{Bank, Ledgers};
 use std::sync::Wait;
 use std::sync::ledger::Ledger;

@@ -1,8 +1,8 @@
 //! The beginning of a transaction: its plan, its service's connection, and its reservation.
 
-use crate::connections::LeasedConnection;
 use crate::desk::Desk;
 use crate::phase::{Ends, Step};
+use crate::pools::LeasedConnection;
 use crate::seats::At;
 use plan_rules::claim;
 use proxy_rules::{Offer, Reason, awaits_continue, open_reason};
@@ -117,7 +117,7 @@ impl<'a, B: Ledgers, Q: Ledger, A: Ledger, G: Gate> Desk<'a, B, Q, A, G> {
         };
         let found = match connection {
             Some(connection) => Ok(connection),
-            None => self.lend(rt, at, point, service.address),
+            None => self.lend(rt, at, point),
         };
         match found {
             Ok(connection) => self.reserve(rt, at, ends, planned, Some(connection)),

@@ -5,14 +5,14 @@ ghost use Rattle.std.specs.Prelude.{◌≡◌};
 use crate::desk::Shared;
 use crate::left::Left;
 use crate::office::Office;
-use crate::pools::{Pools, Spare};
-use crate::queues::{Queues, Waiting};
+use crate::pools::{Loops, Pools, Spare};
 use crate::shard::Shard;
 use event_loop::{
     Base, Ended, Entrance, Inbox, LoopFault, Room, Work, add_loop, name_thread, run_loop, stop_all,
 };
 use mio::net::TcpListener;
 use proxy_config::{Config, MAX_SHARDS, ServicePoint};
+use service_lines::{Queues, Waiting};
 use service_pool::Pool;
 use shard_report::{Append, Log, ServeFault, Tally};
 use socket_wire::Dial;
@@ -319,10 +319,12 @@ fn run_one<
         pools: Pools {
             request,
             response,
-            room: common.room(),
             waiting: Waiting {
                 queues: common.queues(),
-                inboxes: common.inboxes(),
+                edge: Loops {
+                    inboxes: common.inboxes(),
+                    room: common.room(),
+                },
                 seconds: config.wait,
             },
         },

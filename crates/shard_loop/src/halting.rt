@@ -4,7 +4,7 @@ ghost use Rattle.std.specs.Prelude.{◌≡◌};
 
 use crate::desk::Desk;
 use crate::phase::{Moving, Phase, Step};
-use crate::pools::Leased;
+use crate::pools::{Leased, LeasedConnection};
 use crate::seats::At;
 use adapt_sides::{Hop, Service, Source};
 use adapt_turn::{Forward, Line, Parts, Tx};

@@ -7,7 +7,6 @@
 
 mod apart;
 mod begin;
-mod book;
 mod connections;
 mod crew;
 mod desk;
@@ -19,7 +18,6 @@ mod office;
 mod options;
 mod phase;
 mod pools;
-mod queues;
 mod running;
 mod seats;
 mod shard;

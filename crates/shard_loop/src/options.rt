@@ -1,8 +1,8 @@
 //! Asking a service for its options.
 
-use crate::connections::LeasedConnection;
 use crate::desk::Desk;
 use crate::phase::{Ends, Phase, Step};
+use crate::pools::LeasedConnection;
 use crate::seats::At;
 use adapt_sides::ClientFault;
 use exchange_report::Why;
@@ -13,12 +13,10 @@ use proxy_config::ServicePoint;
 use proxy_rules::{
     Reason, ask_options, is_reusable_after_options, options_reason, pool_maximum, record_reason,
 };
-use socket_wire::{Dial, Readiness, Role, SocketWire};
+use socket_wire::Dial;
 use span_bank::Ledgers;
 use std::alloc::{AllocError, Global};
 use std::boxed::Box;
-use std::io;
-use std::net::{SocketAddr, SocketAddrV4};
 use std::sync::Wait;
 use std::sync::ledger::Ledger;
 use std::time::Clock;
@@ -43,48 +41,7 @@ fn asked_word(fault: ClientFault, untouched: bool) -> Why {
     }
 }
 
-/// What the system answers where it has no room for a further connection: no port, no memory, or no descriptor, of the
-/// process or of the machine.
-const EAGAIN: i32 = 11;
-
-const ENOMEM: i32 = 12;
-
-const ENFILE: i32 = 23;
-
-const EMFILE: i32 = 24;
-
-const EADDRNOTAVAIL: i32 = 99;
-
-const ENOBUFS: i32 = 105;
-
-/// Whether an error says that the system has no room.
-fn is_want_of_room(error: &io::Error) -> bool {
-    matches!(
-        error.raw_os_error(),
-        Some(EAGAIN | ENOMEM | ENFILE | EMFILE | EADDRNOTAVAIL | ENOBUFS)
-    )
-}
-
 impl<'a, B: Ledgers, Q: Ledger, A: Ledger, G: Gate> Desk<'a, B, Q, A, G> {
-    /// A connection that is opened now, to a peer of the role `P`. Want of memory, of a descriptor or of a port is another answer
-    /// than a host that can't be reached.
-    pub fn dial<P: Role, R: Dial>(
-        &mut self,
-        rt: &R,
-        at: At<'_>,
-        address: SocketAddrV4,
-        unreached: Reason,
-    ) -> Result<SocketWire<P>, Reason> {
-        match rt.dial(SocketAddr::V4(address)) {
-            Ok(stream) => match self.seats.wire(at, Readiness::dialled(), stream) {
-                Ok(wire) => Ok(wire),
-                Err(_) => Err(Reason::NoMemory),
-            },
-            Err(error) if is_want_of_room(&error) => Err(Reason::NoMemory),
-            Err(_) => Err(unreached),
-        }
-    }
-
     /// Begins to ask.
     pub fn ask<R: Wait + Dial>(
         &mut self,
@@ -94,7 +51,7 @@ impl<'a, B: Ledgers, Q: Ledger, A: Ledger, G: Gate> Desk<'a, B, Q, A, G> {
         point: Point,
         service: &ServicePoint,
     ) -> Step<B, Q, A> {
-        match self.lend(rt, at, point, service.address) {
+        match self.lend(rt, at, point) {
             Ok(connection) => self.ask_on(rt, at, ends, service, connection),
             Err(reason) => self.wait_or_refuse(rt, at, ends, reason),
         }
@@ -232,15 +189,11 @@ impl<'a, B: Ledgers, Q: Ledger, A: Ledger, G: Gate> Desk<'a, B, Q, A, G> {
             Err(fault) => return Err(record_reason(fault)),
         };
         let maximum = pool_maximum(Some(&record), service);
-        if self
-            .shared
-            .pools
-            .set_max(rt, self.alloc, point, maximum)
-            .is_err()
-        {
-            return Err(Reason::NoMemory);
+        let pools = self.shared.pools.again();
+        let alloc = self.alloc;
+        match pools.keep(rt, alloc, point, maximum, self.book_mut(point), record) {
+            Ok(()) => Ok(()),
+            Err(_) => Err(Reason::NoMemory),
         }
-        self.book_mut(point).keep(record);
-        Ok(())
     }
 }

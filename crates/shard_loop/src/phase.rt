@@ -1,7 +1,6 @@
 //! What a user's connection is in the midst of.
 
-use crate::connections::LeasedConnection;
-use crate::pools::Leased;
+use crate::pools::{Leased, LeasedConnection};
 use adapt_turn::Outcome;
 use http_relay::RelayFault;
 use http_side::own_refusal;

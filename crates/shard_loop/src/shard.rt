@@ -6,14 +6,14 @@ ghost use Rattle.shard_loop.specs.Slots.{ChangesOnly};
 use crate::desk::{Desk, Shared};
 use crate::noting::{is_between, stage_of};
 use crate::phase::{Ends, Phase, Step};
-use crate::queues::POINTS;
 use crate::seats::{At, Purpose, Stay};
-use event_loop::{Driven, Handed, Request, Slots, Told, Work};
+use event_loop::{Driven, Handed, Request, Slots, Told, USER, Work};
 use exchange_report::Why;
 use http_side::own_refusal;
 use mio::Registry;
 use mio::net::TcpStream;
 use proxy_rules::Incoming;
+use service_lines::{Edge, POINTS};
 use shard_report::USERS;
 use socket_wire::{Dial, Readiness, Side, Unread, UserWire};
 use span_bank::Ledgers;
@@ -233,8 +233,8 @@ impl<'a, B: Ledgers, Q: Ledger, A: Ledger, G: Gate> Work for Shard<'a, B, Q, A, 
     /// Idle connections to services go first, where they keep the user out.
     fn make_room<R: Wait + Clock>(&mut self, rt: &R) -> bool {
         let pools = &self.desk.shared.pools;
-        if pools.room.has_too_many_idle() {
-            pools.make_room(rt)
+        if pools.waiting.edge.is_crowded() {
+            pools.make_room(rt, USER)
         } else {
             self.spare_user(rt)
         }

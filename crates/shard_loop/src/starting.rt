@@ -5,11 +5,10 @@ ghost use Rattle.adapt_bytes.specs.declared.limits.TheConstants.{MAX_CAPACITY};
 ghost use Rattle.plan_rules.specs.Claims.{claim_of};
 
 use crate::begin::Planned;
-use crate::connections::LeasedConnection;
 use crate::desk::Desk;
 use crate::halting::{Remains, end_of, unused};
 use crate::phase::{Ends, Moving, Phase, Step};
-use crate::pools::Leased;
+use crate::pools::{Leased, LeasedConnection};
 use crate::seats::At;
 use crate::telling::go_ahead;
 use plan_rules::Limits;
@@ -124,7 +123,7 @@ impl<'a, B: Ledgers, Q: Ledger, A: Ledger, G: Gate> Desk<'a, B, Q, A, G> {
         address: Option<SocketAddrV4>,
     ) -> Result<Option<OriginWire>, Reason> {
         match address {
-            Some(address) => match self.dial(rt, at, address, Reason::NoOrigin) {
+            Some(address) => match self.dial_origin(rt, at, address) {
                 Ok(wire) => {
                     self.note_origin(at, address);
                     Ok(Some(wire))

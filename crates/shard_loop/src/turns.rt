@@ -1,12 +1,12 @@
 //! The turns of a transaction.
 
-use crate::connections::LeasedConnection;
 use crate::desk::Desk;
 use crate::phase::{Moving, Phase, Step};
-use crate::pools::Leased;
+use crate::pools::{Leased, LeasedConnection};
 use crate::seats::At;
 use adapt_turn::{FreeLine, Side as Turning, Turned};
-use proxy_rules::{Reason, Running};
+use proxy_rules::Running;
+use service_lines::LendFault;
 use socket_wire::{Dial, ServiceWire};
 use span_bank::{Bank, Ledgers};
 use std::sync::Wait;
@@ -91,11 +91,11 @@ impl<'a, B: Ledgers, Q: Ledger, A: Ledger, G: Gate> Desk<'a, B, Q, A, G> {
         drop(tx.take_broken());
         let fresh = match lease {
             Some(lease) => self.fresh(rt, at, lease),
-            None => Err(Reason::Service),
+            None => Err(LendFault::Unreached),
         };
         match fresh {
             Ok(wire) => drop(tx.retry(rt, bank, wire)),
-            Err(Reason::NoMemory) => tx.no_retry(rt, bank, Cause::Memory),
+            Err(LendFault::NoMemory) => tx.no_retry(rt, bank, Cause::Memory),
             Err(_) => tx.no_retry(rt, bank, Cause::Service),
         }
     }

@@ -1,8 +1,8 @@
 //! Messages that wait for a connection to their service.
 
-use crate::connections::LeasedConnection;
 use crate::desk::Desk;
 use crate::phase::{Ends, Phase, Step};
+use crate::pools::LeasedConnection;
 use crate::seats::At;
 use proxy_rules::Reason;
 use socket_wire::Dial;
@@ -41,24 +41,6 @@ impl<'a, B: Ledgers, Q: Ledger, A: Ledger, G: Gate> Desk<'a, B, Q, A, G> {
         self.shared.pools.waiting.leave(rt, ends.point(), waiter);
     }
 
-    /// Takes a connection where it is this message's turn, and there is one.
-    fn lend_in_turn<R: Wait + Dial>(
-        &mut self,
-        rt: &R,
-        at: At<'_>,
-        ends: &Ends,
-        waiter: Waiter,
-    ) -> Result<LeasedConnection<Q, A>, Reason> {
-        let point = ends.point();
-        if !self.shared.pools.waiting.is_first(rt, point, waiter) {
-            return Err(Reason::Busy);
-        }
-        match self.service(point) {
-            Some(service) => self.lend_now(rt, at, point, service.address),
-            None => Err(Reason::Service),
-        }
-    }
-
     /// Why a message that got no connection waits no longer; none where it goes on waiting.
     fn waited_reason(&self, at: At<'_>, reason: Reason) -> Option<Reason> {
         if reason != Reason::Busy || self.seats.has_waited(at, self.shared.config.wait) {
@@ -78,11 +60,8 @@ impl<'a, B: Ledgers, Q: Ledger, A: Ledger, G: Gate> Desk<'a, B, Q, A, G> {
         ends: Box<Ends>,
         waiter: Waiter,
     ) -> Step<B, Q, A> {
-        match self.lend_in_turn(rt, at, &ends, waiter) {
-            Ok(connection) => {
-                self.stop_waiting(rt, &ends, waiter);
-                self.offer_on(rt, at, ends, connection)
-            }
+        match self.lend_in_turn(rt, at, ends.point(), waiter) {
+            Ok(connection) => self.offer_on(rt, at, ends, connection),
             Err(reason) => match self.waited_reason(at, reason) {
                 Some(reason) => {
                     self.stop_waiting(rt, &ends, waiter);

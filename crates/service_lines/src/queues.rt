@@ -1,10 +1,10 @@
 //! Exchanges of all threads that wait for a connection to a service, and whose turn it is.
 //!
 //! An exchange that may wait joins the queue of its point. Only the one that is first there may take a connection. Whatever may
-//! make one free calls the first one, and the first one calls the next when it leaves: so none is called in vain for long,
-//! and no connection lies idle while somebody waits.
+//! make one free calls the first one, and who leaves the front calls the next: so none is called in vain for long, and no
+//! connection lies idle while somebody waits.
 
-use event_loop::Inbox;
+use crate::connector::Edge;
 use std::alloc::{AllocError, Global};
 use std::sync::{Mutex, Wait};
 use trace_core::Point;
@@ -21,7 +21,7 @@ pub struct Queues {
 }
 
 impl Queues {
-    /// Empty ones, of at most so many exchanges each. `Err` where no memory was found for them.
+    /// Empty ones, of at most `most` exchanges each. `Err` where no memory was found for them.
     pub fn new(alloc: Global, most: usize) -> Result<Queues, AllocError> {
         Ok(Queues {
             request: Mutex::new(WaitQueue::new(alloc, most)?),
@@ -32,14 +32,14 @@ impl Queues {
 
 /// How exchanges wait: the queues, what wakes the threads, and for how long.
 #[derive(Clone, Copy, Drop)]
-pub struct Waiting<'a> {
+pub struct Waiting<'a, E: Edge> {
     pub queues: &'a Queues,
-    pub inboxes: &'a [Inbox],
+    pub edge: E,
     /// The most seconds that an exchange waits. None waits where it is 0, and no queue is looked at.
     pub seconds: u64,
 }
 
-impl<'a> Waiting<'a> {
+impl<'a, E: Edge> Waiting<'a, E> {
     /// The queue of a point.
     fn queue(&self, point: Point) -> &'a Mutex<WaitQueue> {
         match point {
@@ -50,10 +50,8 @@ impl<'a> Waiting<'a> {
 
     /// Ends the wait of the thread of an exchange, if there is one.
     fn wake(&self, waiter: Option<Waiter>) {
-        if let Some(waiter) = waiter
-            && let Some(inbox) = self.inboxes.get(waiter.thread)
-        {
-            inbox.wake();
+        if let Some(waiter) = waiter {
+            self.edge.wake(waiter.thread);
         }
     }
 
