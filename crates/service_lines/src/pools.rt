@@ -15,6 +15,13 @@ use std::sync::ledger::Ledger;
 use trace_core::Point;
 
 /// The connections to the services of both points, which all threads share, and those who wait for one.
+///
+/// ```
+/// // An exchange takes a connection, and puts it back once its service has said all.
+/// let connection = pools.lend(rt, &mut connector, Point::Reqmod)?;
+/// assert!(rt; !connection.lease.reused());
+/// pools.put(rt, &mut connector, connection);
+/// ```
 #[derive(Drop)]
 pub struct Pools<'a, E: Edge, Q: Ledger, A: Ledger> {
     pub request: &'a Pool<E::Idle, Q>,

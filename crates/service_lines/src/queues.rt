@@ -1,8 +1,8 @@
 //! Exchanges of all threads that wait for a connection to a service, and whose turn it is.
 //!
 //! An exchange that may wait joins the queue of its point. Only the one that is first there may take a connection. Whatever may
-//! make one free calls the first one, and who leaves the front calls the next: so none is called in vain for long, and no
-//! connection lies idle while somebody waits.
+//! make one free calls the first one, and the first one calls the next when it leaves: so none is called in vain for long,
+//! and no connection lies idle while somebody waits.
 
 use crate::connector::Edge;
 use std::alloc::{AllocError, Global};
