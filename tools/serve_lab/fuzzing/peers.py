@@ -163,89 +163,126 @@ class FuzzService(Peer):
         fields = fields_of(head)
         names = [part.strip().split(b"=") for part in fields[b"encapsulated"].split(b",")]
         heads = await wire.exactly(int(names[-1][1]))
-        body, last = bytearray(), None
-        if names[-1][0] != b"null-body":
-            last = await wire.chunked(body)
-        is_request = fields[b""].startswith(b"REQMOD")
         plan, _mark = plan_of_target(self.seed, heads.split(b"\r\n")[0])
         if plan is None:
             self.found.count("service: messages without an identity")
-            wire.write(b"ICAP/1.0 500 No\r\nISTag: \"f-1\"\r\nEncapsulated: null-body=0\r\n\r\n")
             return False
-        verdict = plan.reqmod if is_request else plan.respmod
-        turn = self.asked[plan.mark, is_request] = self.asked.get((plan.mark, is_request), 0) + 1
-        own = self.own(plan, "service %s %d" % (is_request, turn))
-        previewed = b"preview" in fields and last is not None and b"ieof" not in last
-        self.judge(plan, is_request, heads, bytes(body), not previewed)
-        wire.breaks = verdict.fault in ("closes", "cut", "changed")
-        if verdict.fault == "closes" and turn == 1:
+        offer = Offer(self, plan, fields, names, heads)
+        if offer.has_body and not offer.is_preview and offer.may_be_hasty():
+            return await self.answer_first(own, wire, offer)
+        if offer.has_body:
+            await offer.read(wire)
+        turn = self.asked[plan.mark, offer.is_request] = self.asked.get((plan.mark, offer.is_request), 0) + 1
+        own = self.own(plan, "service %s %d" % (offer.is_request, turn))
+        fault = offer.verdict.fault
+        wire.breaks = fault in ("closes", "cut", "changed")
+        if fault == "closes" and turn == 1:
             return False
-        return await self.answer(own, wire, plan, verdict, fields, names, heads, body, last, previewed)
-
-    async def answer(self, own, wire, plan, verdict, fields, names, heads, body, last, previewed):
-        is_request = verdict is plan.reqmod
-        word = plan.verdict(True, is_request)
-        is_allowed = b"204" in fields.get(b"allow", b"")
-        may_204 = b"preview" in fields or is_allowed
-        if previewed and (verdict.continues or word == "same" and own.random() < 0.3):
+        if offer.is_open and (offer.verdict.continues or offer.word == "same" and own.random() < 0.3):
             wire.write(b"ICAP/1.0 100 Continue\r\n" + own.choice((b"", b"X: y\r\n")) + b"\r\n")
-            last = await wire.chunked(body)
-            previewed = False
-            may_204 = is_allowed
-            self.judge(plan, is_request, heads, bytes(body), True)
-        if word == "same" and (may_204 and own.random() < 0.8 or previewed):
-            text = b"ICAP/1.0 204 No Modifications\r\nISTag: \"f-1\"\r\nEncapsulated: null-body=0\r\n\r\n"
-        else:
-            text = self.adapted(own, plan, verdict, word, names, heads, bytes(body), last)
-        if verdict.fault == "changed":
+            offer.is_preview = False
+            if offer.may_be_hasty():
+                return await self.answer_first(own, wire, offer)
+            await offer.read(wire)
+        text = offer.answer(own)
+        if fault == "changed":
             text = changed(own, text)
-        elif verdict.fault == "cut":
+        elif fault == "cut":
             text = text[:own.randrange(len(text))]
-        elif verdict.fault == "trailing":
+        elif fault == "trailing":
             text += own.choice((b"x", b"\r\n", b"ICAP/1.0 "))
         await wire.write_in_pieces(own, text)
-        return verdict.fault not in ("changed", "cut", "leaves")
+        return fault not in ("changed", "cut", "leaves")
 
-    def judge(self, plan, is_request, heads, body, is_whole):
+    async def answer_first(self, own, wire, offer):
+        """Answers before the rest of the message has come. What comes then is that rest, and nothing else, or the connection ends."""
+        self.found.count("service: answers before the message was read")
+        wire.write(offer.answer(own))
+        await asyncio.sleep(own.choice((0, 0, 0.002)))
+        try:
+            await offer.read(wire)
+        except ValueError:
+            self.wrong("%r is followed by other bytes before its end: %r", offer.plan.mark, bytes(wire.raw[:200]))
+        return True
+
+
+class Offer:
+    """A message that a service is offered."""
+
+    def __init__(self, service, plan, fields, names, heads):
+        self.service, self.plan, self.names, self.heads = service, plan, names, heads
+        self.is_request = fields[b""].startswith(b"REQMOD")
+        self.verdict = plan.reqmod if self.is_request else plan.respmod
+        self.word = plan.verdict(True, self.is_request)
+        self.is_allowed = b"204" in fields.get(b"allow", b"")
+        self.is_preview = b"preview" in fields
+        self.has_body = names[-1][0] != b"null-body"
+        self.body = bytearray()
+        # Whether there may be more after a preview.
+        self.is_open = False
+
+    def may_be_hasty(self):
+        return self.verdict.is_hasty and not self.verdict.fault and (self.word != "same" or self.is_allowed)
+
+    async def read(self, wire):
+        """Reads a body up to its last chunk, or that of its preview, and judges it."""
+        try:
+            last = await wire.chunked(self.body)
+        finally:
+            self.judge(False)
+        self.is_open = self.is_preview and b"ieof" not in last
+        self.judge(not self.is_open)
+
+    def wrong(self, text, *values):
+        point = "REQMOD" if self.is_request else "RESPMOD"
+        self.service.wrong("%r, %s, " + text, self.plan.mark, point, *values)
+
+    def judge(self, is_whole):
         """What was offered has to be of one exchange; where its sides are sound, just their bytes."""
-        self.found.count("service: messages")
-        others = aliens(self.seed, heads, plan.mark)
+        plan, body = self.plan, bytes(self.body)
+        self.service.found.count("service: messages")
+        others = aliens(self.service.seed, self.heads, plan.mark)
         if others:
-            self.wrong("%r has heads with %r: %r", plan.mark, others, heads)
-        if not plan.is_sound() or not is_request and (plan.origin in ("changed", "garbage") or plan.reqmod.fault == "changed"):
-            if body and aliens(self.seed, body, plan.mark):
-                self.wrong("%r has a body with %r", plan.mark, aliens(self.seed, body, plan.mark))
+            self.wrong("has heads with %r: %r", others, self.heads)
+        if not plan.is_sound() or not self.is_request and (plan.origin in ("changed", "garbage") or plan.reqmod.fault == "changed"):
+            others = aliens(self.service.seed, body, plan.mark)
+            if others:
+                self.wrong("has a body with %r", others)
             return
-        wanted = plan.request_body(False) if is_request else plan.answer_body(False)
+        wanted = plan.request_body(False) if self.is_request else plan.answer_body(False)
         if is_whole and body != wanted or not wanted.startswith(body):
-            self.wrong("%r, %s, has another body: %s", plan.mark, "REQMOD" if is_request else "RESPMOD", shown(body, wanted))
-        tokens = set(TOKEN.findall(heads))
-        kinds = {b"q"} if is_request else {b"q", b"r"}
-        if set(token[0] for token in tokens) != kinds:
-            self.wrong("%r, %s, has other heads: %r", plan.mark, "REQMOD" if is_request else "RESPMOD", heads)
+            self.wrong("has another body: %s", shown(body, wanted))
+        kinds = set(token[0] for token in TOKEN.findall(self.heads))
+        if kinds != ({b"q"} if self.is_request else {b"q", b"r"}):
+            self.wrong("has other heads: %r", self.heads)
 
-    @staticmethod
-    def adapted(own, plan, verdict, word, names, heads, body, last):
-        """A 200 with the message as it came, with another one, or with an answer of the service's own."""
-        is_request = verdict is plan.reqmod
-        kind = b"req" if is_request else b"res"
-        if not is_request and names[0][0] == b"req-hdr":
-            heads = heads[int(names[1][1]):]
-        has_body = last is not None
-        if word == "page":
-            kind, has_body = b"res", plan.method != "HEAD"
-            body = filled(b"p", plan.mark, verdict.size)
-            heads = b"HTTP/1.1 403 No\r\nX-Mark: <p%s>\r\n\r\n" % plan.mark
-        elif word == "adapted":
-            letter = b"Q" if is_request else b"R"
-            has_body = has_body or not is_request and not plan.bodiless()
-            body = filled(letter, plan.mark, verdict.size) if has_body else b""
-            lines = [line for line in heads.split(b"\r\n")[:-2] if not line.lower().startswith(b"content-length:")]
-            lines.append(b"X-Adapted: <%s%s>" % (letter, plan.mark))
-            if has_body and own.random() < 0.5:
-                lines.append(b"Content-Length: %d" % len(body))
-            heads = b"\r\n".join(lines) + b"\r\n\r\n"
+    def answer(self, own):
+        """A 204 where it may be; else a 200 with the message as it came, with another one, or with an answer of the service's own."""
+        if self.word == "same" and (self.is_open or (self.is_preview or self.is_allowed) and own.random() < 0.8):
+            return b"ICAP/1.0 204 No Modifications\r\nISTag: \"f-1\"\r\nEncapsulated: null-body=0\r\n\r\n"
+        if self.word == "same" and self.verdict.is_hasty and self.is_allowed:
+            return b"ICAP/1.0 204 No Modifications\r\nISTag: \"f-1\"\r\nEncapsulated: null-body=0\r\n\r\n"
+        kind, heads, has_body, body = self.message(own)
         part = kind if has_body else b"null"
         comma = own.choice((b", ", b",", b" ,\t"))
         text = b"ICAP/1.0 200 OK\r\nISTag: \"f-1\"\r\nEncapsulated: %s-hdr=0%s%s-body=%d\r\n\r\n" % (kind, comma, part, len(heads))
         return text + heads + (chunks(own, body) if has_body else b"")
+
+    def message(self, own):
+        """The message of a 200: which kind, its head, whether it has a body, and the body."""
+        plan, heads = self.plan, self.heads
+        if self.word == "page":
+            heads = b"HTTP/1.1 403 No\r\nX-Mark: <p%s>\r\n\r\n" % plan.mark
+            return b"res", heads, plan.method != "HEAD", filled(b"p", plan.mark, self.verdict.size)
+        kind, letter = (b"req", b"Q") if self.is_request else (b"res", b"R")
+        if not self.is_request and self.names[0][0] == b"req-hdr":
+            heads = heads[int(self.names[1][1]):]
+        if self.word == "same":
+            return kind, heads, self.has_body, bytes(self.body)
+        has_body = self.has_body or not self.is_request and not plan.bodiless()
+        body = filled(letter, plan.mark, self.verdict.size) if has_body else b""
+        lines = [line for line in heads.split(b"\r\n")[:-2] if not line.lower().startswith(b"content-length:")]
+        lines.append(b"X-Adapted: <%s%s>" % (letter, plan.mark))
+        if has_body and own.random() < 0.5:
+            lines.append(b"Content-Length: %d" % len(body))
+        return kind, b"\r\n".join(lines) + b"\r\n\r\n", has_body, body

@@ -90,6 +90,8 @@ class Verdict:
         self.size = some_size(own)
         # Whether it asks for the rest of a preview first.
         self.continues = own.random() < 0.5
+        # Whether it answers before it has read the rest of a message.
+        self.is_hasty = own.random() < 0.08
 
 
 class Plan:

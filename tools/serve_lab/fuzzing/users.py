@@ -44,8 +44,8 @@ def request(own, plan):
 class FuzzUser:
     """The exchanges of one connection."""
 
-    def __init__(self, seed, number, port, points, found):
-        self.seed, self.number, self.port, self.points, self.found = seed, number, port, points, found
+    def __init__(self, seed, number, port, points, seats, found):
+        self.seed, self.number, self.port, self.points, self.seats, self.found = seed, number, port, points, seats, found
         self.own = random.Random("%s user %d" % (seed, number))
         self.wire = Wire()
         self.made = 0
@@ -127,11 +127,11 @@ class FuzzUser:
                 return await self.read(plan, strength)
         except (Ended, Reset, Cut) as error:
             word = "cut within an answer" if isinstance(error, Cut) else "closed before an answer"
-            if strength == 3 and (isinstance(error, Cut) or is_first and not any(self.points)):
-                self.found.count("sound, and " + word)
-                if isinstance(error, Cut):
-                    self.wrong("%r was %s: %s", plan.mark, word, error)
-            self.found.count(word)
+            if strength == 3 and isinstance(error, Cut):
+                self.wrong("%r was %s: %s", plan.mark, word, error)
+            self.found.count("%s %s%s" % ("sound ones" if strength == 3 else "others", word, "" if is_first else " to a later request"))
+            if strength == 3 and is_first and self.seats:
+                self.wrong("%r is sound, and %s: %s", plan.mark, word, type(error).__name__)
         except (ValueError, KeyError, IndexError) as error:
             if strength > 1:
                 self.wrong("%r has no answer: %s, before %r", plan.mark, error, bytes(self.wire.raw[:100]))
@@ -168,7 +168,8 @@ class FuzzUser:
         is_refusal = status in STATUSES and head == refusal(status)
         if is_refusal:
             self.found.count("%s refused by %d" % ("sound ones" if strength == 3 else "others", status))
-            if strength == 3 and not any(self.points) and status not in (503, {"refuses": 502, "mute": 504}.get(plan.origin)):
+            others = (502, 504) if any(self.points) else ({"refuses": 502, "mute": 504}.get(plan.origin),)
+            if strength == 3 and status != 503 and status not in others:
                 self.wrong("%r is sound, and refused by %d", plan.mark, status)
         elif strength == 1:
             self.judge_bytes(plan, head, body)

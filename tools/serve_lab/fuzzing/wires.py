@@ -77,8 +77,10 @@ class Wire(asyncio.Protocol):
 
     def end_writing(self):
         self.said_all = True
-        if not self.transport.is_closing():
+        try:
             self.transport.write_eof()
+        except OSError:
+            pass  # The other side has gone.
 
     def close(self):
         self.transport.close()
