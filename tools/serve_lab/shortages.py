@@ -75,6 +75,56 @@ def seats_are_taken_from_unfinished_heads_next(bench):
 
 
 @case
+def a_user_is_spared_where_many_have_just_sent(bench):
+    origin = bench.origin()
+    proxy = bench.proxy(origin, "shards = 1\nrows = 600\ndeadline = 600", descriptors=4096)
+    users = [User(proxy.port) for _ in range(600)]
+    for user in users:
+        same("kept", user.ask(get("/bytes/3")).body, b"the")
+    # The loop sees the further user first, and then 255 of the 300 requests: 45 lie unread on those that have been idle longest.
+    os.kill(proxy.process.pid, 19)
+    further = User(proxy.port)
+    further.send(get("/bytes/5"))
+    time.sleep(0.1)
+    for user in reversed(users[:300]):
+        user.send(get("/bytes/4"))
+    os.kill(proxy.process.pid, 18)
+    same("the further one", further.answer().body, body_of(5))
+    same("those that have just sent", {user.answer().body for user in users[:300]}, {b"the "})
+    same("closed is the one that waited longest", [is_open(user) for user in users[300:304]], [False, True, True, True])
+    for user in users + [further]:
+        user.close()
+    same("audit", proxy.stop(), IDLE)
+
+
+@case
+def a_crowd_on_a_slow_line_is_served(bench):
+    origin = bench.origin()
+    proxy = bench.proxy(origin, "shards = 1\nrows = 4\ndeadline = 600")
+    idle = [User(proxy.port) for _ in range(3)]
+    for user in idle:
+        same("kept", user.ask(get("/bytes/3")).body, b"the")
+    # Seven users are taken in before a byte of their heads comes: three idle ones go for them, none of them for another.
+    crowd = [User(proxy.port) for _ in range(7)]
+    time.sleep(0.1)
+    for user in crowd:
+        user.send(get("/bytes/5"))
+    same("the crowd", [user.answer().status for user in crowd], [200] * 4 + [503] * 3)
+    same("closed are the idle ones", [is_open(user) for user in idle], [False] * 3)
+    # Later they are spared as any other is that hasn't sent its head.
+    for user in crowd:
+        user.close()
+    comes("free seats", lambda: ask(proxy.port, get("/bytes/5")).status == 200)
+    silent = [User(proxy.port) for _ in range(4)]
+    time.sleep(0.4)
+    same("a further one", ask(proxy.port, get("/bytes/5")).body, body_of(5))
+    same("closed is the oldest", [is_open(user) for user in silent], [False, True, True, True])
+    for user in silent:
+        user.close()
+    same("audit", proxy.stop(), IDLE)
+
+
+@case
 def a_user_that_resets_ends_its_exchange(bench):
     origin = bench.origin()
     service = bench.icap(never)

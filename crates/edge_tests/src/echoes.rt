@@ -68,12 +68,12 @@ impl Work for Echo {
         _rt: &R,
         registry: &Registry,
         user: Handed,
-        _now: u64,
+        _millis: u64,
     ) -> Option<usize> {
         take_in(self, registry, user).ok()
     }
 
-    fn make_room<R: Wait + Clock>(&mut self, _rt: &R) -> bool {
+    fn make_room<R: Wait + Clock>(&mut self, _rt: &R, _millis: u64) -> bool {
         for key in 0..self.bound() {
             if self.all.try_remove(key).is_some() {
                 return true;

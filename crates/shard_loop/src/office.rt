@@ -107,12 +107,12 @@ impl<'a, B: Ledgers, Q: Ledger, A: Ledger, G: Gate, F: Append> Work for Office<'
         _rt: &R,
         _registry: &Registry,
         _user: Handed,
-        _now: u64,
+        _millis: u64,
     ) -> Option<usize> {
         None
     }
 
-    fn make_room<R: Wait + Clock>(&mut self, _rt: &R) -> bool {
+    fn make_room<R: Wait + Clock>(&mut self, _rt: &R, _millis: u64) -> bool {
         false
     }
 

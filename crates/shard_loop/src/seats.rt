@@ -1,5 +1,7 @@
 //! Users' connections by their keys: their readiness, when they last moved, and which can best be spared.
 
+ghost use Rattle.std.specs.Prelude.{◌≡◌, ◌<◌, ◌≤◌, ◌↔◌, ◌⊎◌, true, Some, None};
+
 use event_loop::{Place, Told};
 use mio::net::TcpStream;
 use mio::{Registry, Token};
@@ -15,6 +17,9 @@ pub struct At<'r> {
     pub key: usize,
     pub now: u64,
 }
+
+/// The milliseconds of a second.
+pub const SECOND: u64 = 1000;
 
 /// How many seats there are beyond those of the users that are served.
 const SPARE: usize = 16;
@@ -41,9 +46,42 @@ pub enum Stay {
     End,
 }
 
-/// Those that are spared, first come the first of this order (RFC 9112, section 9.5, lets an idle connection be closed at any
-/// moment).
-const SPARED: [Stay; 3] = [Stay::Idle, Stay::Head, Stay::End];
+/// How many milliseconds a user that was just taken in has for its first head: it isn't spared within them.
+pub const YOUNG: u64 = 200;
+
+/// How early a user's connection is spared that came so many milliseconds ago: those of the lowest number first (RFC 9112, section
+/// 9.5, lets an idle connection be closed at any moment). None where it isn't spared.
+fn rank_of(stay: Stay, age: u64) -> Option<u8>
+    ensures idle { stay ≡ Stay.Idle → result ≡ Some 0 }
+    ensures head { stay ≡ Stay.Head → YOUNG ≤ age → result ≡ Some 1 }
+    ensures young { stay ≡ Stay.Head → age < YOUNG → result ≡ None }
+    ensures end { stay ≡ Stay.End → result ≡ Some 2 }
+    ensures exchange { stay ≡ Stay.Exchange → result ≡ None }
+{
+    match stay {
+        Stay::Idle => Some(0),
+        Stay::Head if age >= YOUNG => Some(1),
+        Stay::End => Some(2),
+        Stay::Head | Stay::Exchange => None,
+    }
+}
+
+/// A user's connection in the order in which they are spared.
+#[derive(Clone, Copy)]
+pub struct Spared {
+    pub key: usize,
+    rank: u8,
+    since: u64,
+}
+
+impl Spared {
+    /// Whether it is spared rather than the other one.
+    fn comes_before(&self, other: &Spared) -> bool
+        ensures { result ≡ true ↔ (self.now.rank < other.now.rank) ⊎ ((self.now.rank ≡ other.now.rank) × (self.now.since < other.now.since)) }
+    {
+        self.rank < other.rank || self.rank == other.rank && self.since < other.since
+    }
+}
 
 /// What is known of the connections of an exchange.
 #[derive(Drop)]
@@ -51,6 +89,8 @@ struct Seat {
     purpose: Purpose,
     number: u64,
     place: Place,
+    /// When the user was taken in, in milliseconds.
+    came: u64,
     moved: u64,
     stay: Stay,
     /// When the stay began, in the order of all stays.
@@ -134,8 +174,9 @@ impl Seats {
         self.all.is_empty()
     }
 
-    /// Takes a seat for a user's connection of this number, and says what it is for. `None` if no seat is free.
-    pub fn take(&mut self, number: u64, place: Place, now: u64) -> Option<(usize, Purpose)> {
+    /// Takes a seat for a user's connection of this number at this moment, in milliseconds, and says what it is for. `None` if no
+    /// seat is free.
+    pub fn take(&mut self, number: u64, place: Place, millis: u64) -> Option<(usize, Purpose)> {
         let purpose = self.next_purpose()?;
         let since = self.next_stay();
         if self.all.reserve(1).is_err() || self.all.vacant_key() >= self.bound() {
@@ -145,7 +186,8 @@ impl Seats {
             purpose,
             number,
             place,
-            moved: now,
+            came: millis,
+            moved: millis / SECOND,
             stay: match purpose {
                 Purpose::Requests => Stay::Head,
                 Purpose::Refusal => Stay::Exchange,
@@ -200,38 +242,33 @@ impl Seats {
         }
     }
 
-    /// What a user's connection is in the midst of.
-    pub fn stay(&self, key: usize) -> Stay {
-        match self.all.get(key) {
-            Some(seat) => seat.stay,
-            None => Stay::Exchange,
+    /// A request comes on a user's connection, of which nothing was read yet: it isn't spared before it is driven.
+    pub fn await_head(&mut self, key: usize) {
+        self.begin_stay(key, Stay::Exchange);
+    }
+
+    /// A user's connection was driven, and has no byte of a request.
+    pub fn lie_idle(&mut self, key: usize) {
+        if let Some(seat) = self.all.get(key)
+            && seat.stay == Stay::Exchange
+        {
+            self.begin_stay(key, Stay::Idle);
         }
     }
 
-    /// The connection that is longest in the midst of this.
-    fn longest(&self, stay: Stay) -> Option<usize> {
-        let mut found = None;
-        let mut since = u64::MAX;
-        for key in 0..self.bound() {
-            if let Some(seat) = self.all.get(key)
-                && seat.stay == stay
-                && seat.since < since
-            {
-                found = Some(key);
-                since = seat.since;
-            }
+    /// The connection under a key at this moment, in milliseconds, where it is spared rather than the best one so far.
+    pub fn better(&self, key: usize, millis: u64, best: Option<Spared>) -> Option<Spared> {
+        let seat = self.all.get(key)?;
+        let rank = rank_of(seat.stay, millis.saturating_sub(seat.came))?;
+        let this = Spared {
+            key,
+            rank,
+            since: seat.since,
+        };
+        match best {
+            Some(best) if !this.comes_before(&best) => None,
+            _ => Some(this),
         }
-        found
-    }
-
-    /// The connection that can best be spared.
-    pub fn spared(&self) -> Option<usize> {
-        for stay in SPARED {
-            if let Some(key) = self.longest(stay) {
-                return Some(key);
-            }
-        }
-        None
     }
 
     /// Whether the user's connection is gone both ways.

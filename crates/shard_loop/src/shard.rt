@@ -6,7 +6,7 @@ ghost use Rattle.shard_loop.specs.Slots.{ChangesOnly};
 use crate::desk::{Desk, Shared};
 use crate::noting::{is_between, stage_of};
 use crate::phase::{Ends, Phase, Step};
-use crate::seats::{At, Purpose, Stay};
+use crate::seats::{At, Purpose, SECOND};
 use event_loop::{Driven, Handed, Request, Slots, Told, USER, Work};
 use exchange_report::Why;
 use http_side::own_refusal;
@@ -27,9 +27,6 @@ use wire_kit::Gate;
 
 /// The most steps of an exchange before others get their turn. Each is one round of a transaction's turns at most.
 const STEPS: u32 = 8;
-
-/// The most connections that are looked at for one that can be spared.
-const LOOKS: u32 = 16;
 
 /// The exchanges of one thread, each in the slot of its key. What is in a slot may have a reservation or a lease, so it has
 /// no `Drop`, and nothing is lost.
@@ -154,30 +151,41 @@ impl<'a, B: Ledgers, Q: Ledger, A: Ledger, G: Gate> Shard<'a, B, Q, A, G> {
         }
     }
 
-    /// Closes the connection of the user that can best be spared. False if there is no such user. An idle connection on which a
-    /// request has just come is spared no more: its head has begun.
-    fn spare_user<R: Wait + Clock>(&mut self, rt: &R) -> bool {
-        for _ in 0..LOOKS {
-            let Some(key) = self.desk.seats.spared() else {
-                return false;
-            };
-            if self.is_wanted(key) {
-                self.desk.seats.begin_stay(key, Stay::Head);
-            } else {
-                self.end_slot(rt, key);
-                return true;
+    /// The key of the user that can best be spared. One whose request has just come isn't.
+    fn best_spared(&mut self, millis: u64) -> Option<usize> {
+        let mut best = None;
+        for key in 0..self.desk.seats.bound() {
+            if let Some(better) = self.desk.seats.better(key, millis, best) {
+                if self.is_wanted(key) {
+                    self.desk.seats.await_head(key);
+                } else {
+                    best = Some(better);
+                }
             }
         }
-        false
+        match best {
+            Some(best) => Some(best.key),
+            None => None,
+        }
     }
 
-    /// Whether the connection under this key lies idle, but bytes of a request have come that no event has reported yet.
-    fn is_wanted(&self, key: usize) -> bool {
-        if self.desk.seats.stay(key) != Stay::Idle {
-            return false;
+    /// Closes the connection of the user that can best be spared. False if there is no such user.
+    fn spare_user<R: Wait + Clock>(&mut self, rt: &R, millis: u64) -> bool {
+        match self.best_spared(millis) {
+            Some(key) => {
+                self.end_slot(rt, key);
+                true
+            }
+            None => false,
         }
+    }
+
+    /// Whether no byte of a request was read on the connection under this key, but some have come that no event has reported yet.
+    fn is_wanted(&self, key: usize) -> bool {
         match self.slots.get(key) {
-            Some(Phase::Head(ends)) => ends.user.unread() == Unread::Bytes,
+            Some(Phase::Head(ends)) if !ends.message.has_begun() => {
+                ends.user.unread() == Unread::Bytes
+            }
             _ => false,
         }
     }
@@ -195,7 +203,7 @@ impl<'a, B: Ledgers, Q: Ledger, A: Ledger, G: Gate> Work for Shard<'a, B, Q, A, 
         rt: &R,
         registry: &Registry,
         user: Handed,
-        now: u64,
+        millis: u64,
     ) -> Option<usize> {
         let Handed {
             stream,
@@ -203,9 +211,9 @@ impl<'a, B: Ledgers, Q: Ledger, A: Ledger, G: Gate> Work for Shard<'a, B, Q, A, 
             place,
         } = user;
         if !self.desk.seats.has_room() {
-            let _ = self.spare_user(rt);
+            let _ = self.spare_user(rt, millis);
         }
-        let Some((key, purpose)) = self.desk.seats.take(number, place, now) else {
+        let Some((key, purpose)) = self.desk.seats.take(number, place, millis) else {
             turn_away(stream);
             return None;
         };
@@ -215,7 +223,11 @@ impl<'a, B: Ledgers, Q: Ledger, A: Ledger, G: Gate> Work for Shard<'a, B, Q, A, 
         if purpose == Purpose::Refusal {
             self.desk.notes.refuse(key, Why::NoSeat, 503);
         }
-        let at = At { registry, key, now };
+        let at = At {
+            registry,
+            key,
+            now: millis / SECOND,
+        };
         match self.desk.seats.wire(at, Readiness::new(), stream) {
             Ok(user) => {
                 let phase = self.first_phase(user, purpose);
@@ -231,12 +243,12 @@ impl<'a, B: Ledgers, Q: Ledger, A: Ledger, G: Gate> Work for Shard<'a, B, Q, A, 
     }
 
     /// Idle connections to services go first, where they keep the user out.
-    fn make_room<R: Wait + Clock>(&mut self, rt: &R) -> bool {
+    fn make_room<R: Wait + Clock>(&mut self, rt: &R, millis: u64) -> bool {
         let pools = &self.desk.shared.pools;
         if pools.waiting.edge.is_crowded() {
             pools.make_room(rt, USER)
         } else {
-            self.spare_user(rt)
+            self.spare_user(rt, millis)
         }
     }
 

@@ -68,6 +68,8 @@ impl<'a, B: Ledgers, Q: Ledger, A: Ledger, G: Gate> Desk<'a, B, Q, A, G> {
         }
         if ends.message.has_begun() {
             self.seats.begin_stay(at.key, Stay::Head);
+        } else {
+            self.seats.lie_idle(at.key);
         }
         match read {
             Ok(true) => {
