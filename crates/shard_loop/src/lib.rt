@@ -21,6 +21,7 @@ mod pools;
 mod running;
 mod seats;
 mod shard;
+mod sparing;
 mod starting;
 mod steps;
 mod telling;

@@ -1,7 +1,6 @@
 //! Users' connections by their keys: their readiness, when they last moved, and which can best be spared.
 
-ghost use Rattle.std.specs.Prelude.{◌≡◌, ◌<◌, ◌≤◌, ◌↔◌, ◌⊎◌, true, Some, None};
-
+use crate::sparing::{Spared, Stay, spared};
 use event_loop::{Place, Told};
 use mio::net::TcpStream;
 use mio::{Registry, Token};
@@ -31,56 +30,6 @@ pub enum Purpose {
     Requests,
     /// The refusal of a user for whom there is no room.
     Refusal,
-}
-
-/// What a user's connection is in the midst of, as far as it may be spared for another one.
-#[derive(Clone, Copy, Debug, PartialEq, Eq)]
-pub enum Stay {
-    /// An exchange: it isn't spared.
-    Exchange,
-    /// Between two requests, with no byte of the next one's head.
-    Idle,
-    /// A head that isn't whole.
-    Head,
-    /// Its end: the last answer is being written, or is out.
-    End,
-}
-
-/// How many milliseconds a user that was just taken in has for its first head: it isn't spared within them.
-pub const YOUNG: u64 = 200;
-
-/// How early a user's connection is spared that came so many milliseconds ago: those of the lowest number first (RFC 9112, section
-/// 9.5, lets an idle connection be closed at any moment). None where it isn't spared.
-fn rank_of(stay: Stay, age: u64) -> Option<u8>
-    ensures idle { stay ≡ Stay.Idle → result ≡ Some 0 }
-    ensures head { stay ≡ Stay.Head → YOUNG ≤ age → result ≡ Some 1 }
-    ensures young { stay ≡ Stay.Head → age < YOUNG → result ≡ None }
-    ensures end { stay ≡ Stay.End → result ≡ Some 2 }
-    ensures exchange { stay ≡ Stay.Exchange → result ≡ None }
-{
-    match stay {
-        Stay::Idle => Some(0),
-        Stay::Head if age >= YOUNG => Some(1),
-        Stay::End => Some(2),
-        Stay::Head | Stay::Exchange => None,
-    }
-}
-
-/// A user's connection in the order in which they are spared.
-#[derive(Clone, Copy)]
-pub struct Spared {
-    pub key: usize,
-    rank: u8,
-    since: u64,
-}
-
-impl Spared {
-    /// Whether it is spared rather than the other one.
-    fn comes_before(&self, other: &Spared) -> bool
-        ensures { result ≡ true ↔ (self.now.rank < other.now.rank) ⊎ ((self.now.rank ≡ other.now.rank) × (self.now.since < other.now.since)) }
-    {
-        self.rank < other.rank || self.rank == other.rank && self.since < other.since
-    }
 }
 
 /// What is known of the connections of an exchange.
@@ -259,12 +208,7 @@ impl Seats {
     /// The connection under a key at this moment, in milliseconds, where it is spared rather than the best one so far.
     pub fn better(&self, key: usize, millis: u64, best: Option<Spared>) -> Option<Spared> {
         let seat = self.all.get(key)?;
-        let rank = rank_of(seat.stay, millis.saturating_sub(seat.came))?;
-        let this = Spared {
-            key,
-            rank,
-            since: seat.since,
-        };
+        let this = spared(key, seat.stay, millis.saturating_sub(seat.came), seat.since)?;
         match best {
             Some(best) if !this.comes_before(&best) => None,
             _ => Some(this),

@@ -2,7 +2,8 @@
 
 use crate::desk::Desk;
 use crate::phase::{Ends, Phase, Step};
-use crate::seats::{At, Stay};
+use crate::seats::At;
+use crate::sparing::Stay;
 use adapt_bytes::behind;
 use event_loop::{Closing, close_turn};
 use http_side::own_refusal;
