@@ -57,6 +57,8 @@ def seats_are_taken_from_unfinished_heads_next(bench):
         user.send(get("/bytes/3")[:10 + number])
         slow.append(user)
         time.sleep(0.05)
+    # None is spared within 200 ms after it was taken in.
+    time.sleep(0.4)
     for number in range(3):
         same("served", ask(proxy.port, get("/bytes/5")).body, body_of(5))
     comes("a free seat", lambda: not is_open(slow[0]))
