@@ -1,5 +1,6 @@
 -- What a transaction that runs keeps.
-use Rattle.std.proofs.Common.{◌≡◌, ℕ, Bool, true, false, not, List, [], refl, sym, ap, subst, ◌∙◌}
+use Rattle.std.proofs.Common.{◌≡◌, ℕ, ◌-◌, ◌<◌, ◌≤◌, Bool, true, false, not, List, [], ◌∷◌, length, take, drop, get_or, Option, Some, None, MatchOption, is_some, arith, refl, sym, ap, subst, ◌∙◌}
+use Rattle.std.proofs.Math.Seq.{take-length}
 use Rattle.trace_core.specs.declared.history.Seen.{Seen}
 use Rattle.trace_core.specs.declared.history.Cause.{Cause}
 use Rattle.trace_core.specs.declared.history.Event.TheVariants.{Retry}
@@ -7,12 +8,16 @@ use Rattle.trace_core.specs.Legal.{MayFollow}
 use Rattle.wire_kit.specs.Past.{Past}
 use Rattle.adapt_hold.specs.Holding.{Holding, IsTied, shows, history_then, moved}
 use Rattle.adapt_hold.proofs.Closes.{then_shows}
+use Rattle.adapt_turn.specs.declared.turned.Side.{Side}
 use Rattle.adapt_turn.specs.declared.turned.Outcome.{Outcome}
 use Rattle.adapt_turn.specs.declared.turned.Outcome.TheVariants as outcomes
+use Rattle.adapt_turn.specs.Made.{on_held}
 use Rattle.adapt_turn.specs.Refusals.{refusal_status, user_untouched, HasRefusal}
 use Rattle.adapt_turn.specs.Stands.{Texts, Goes, joined, user_gift}
 use Rattle.http_relay.specs.Giving.{Hop, gift_of}
-use Rattle.proxy_rules.specs.Running.{Runs}
+use Rattle.icap_client.specs.Turns.{Service}
+use Rattle.proxy_rules.specs.Beginnings.{line_with}
+use Rattle.proxy_rules.specs.Running.{Runs, TakesTurns}
 
 pub not_both : {P : Type 0} (b : Bool) → b ≡ true → b ≡ false → P
 not_both b t f = let e : true ≡ false = sym t ∙ f in cc
@@ -76,3 +81,23 @@ refuses_by cause h k due still next_old next_new back_old back_new e d n b r =
     (subst (λ (f : Bool). refuses h f next_new back_new) (sym d)
     (subst (λ (x : Hop). refuses h due x back_new) (sym n)
     (subst (λ (x : Hop). refuses h due next_old x) (sym b) r)))
+
+-- Turns in a row.
+
+pub takes_none : {T : Type 0} (turns : T → Side → ℕ → T → Type 0) (old : T) (list : List (Side × ℕ)) → length list < 1 → TakesTurns turns old list old
+takes_none turns old [] l = refl
+takes_none turns old (turn ∷ later) l = absurd (omega (arith, l))
+
+later_is : (turn : Side × ℕ) (later : List (Side × ℕ)) → take (length (turn ∷ later) - 1) (drop 1 (turn ∷ later)) ≡ later
+later_is turn later = let n : length (turn ∷ later) - 1 ≡ length later = omega arith in ap (λ (k : ℕ). take k later) n ∙ take-length later
+
+pub takes_more : {T : Type 0} (turns : T → Side → ℕ → T → Type 0) (old mid new : T) (list : List (Side × ℕ)) (none : Side × ℕ) → 1 ≤ length list → turns old (get_or list 0 none).0 (get_or list 0 none).1 mid
+    → TakesTurns turns mid (take (length list - 1) (drop 1 list)) new → TakesTurns turns old list new
+takes_more turns old mid new [] none l first others = absurd (omega (arith, l))
+takes_more turns old mid new (turn ∷ later) none l first others = (mid, first, subst (λ (ts : List (Side × ℕ)). TakesTurns turns mid ts new) (later_is turn later) others)
+
+-- a connection to the service that is there at the beginning is held
+pub line_held : {W : Type 0} (side : Option Service) (wire : Option W) (past : W → Type 0) → is_some side ≡ is_some wire → MatchOption wire ⊥ past → on_held (line_with side wire) ⊥ past
+line_held side None past e h = absurd h
+line_held None (Some w) past e h = let d : false ≡ true = e in absurd cc
+line_held (Some s) (Some w) past e h = h

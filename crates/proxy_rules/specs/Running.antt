@@ -1,9 +1,10 @@
 -- A transaction of the proxy's own sides that runs.
-use Rattle.std.specs.Prelude.{◌≡◌, ℕ, Bool, true, false, not, List, [], Option, None, MatchOption}
+use Rattle.std.specs.Prelude.{◌≡◌, ℕ, Bool, true, false, not, List, [], ◌∷◌, Option, None, MatchOption}
 use Rattle.trace_core.specs.declared.history.Cause.{Cause}
 use Rattle.trace_core.specs.declared.history.Seen.{Seen}
 use Rattle.adapt_hold.specs.Holding.{Holding, shows}
 use Rattle.adapt_turn.specs.declared.start.Line.{Line}
+use Rattle.adapt_turn.specs.declared.turned.Side.{Side}
 use Rattle.adapt_turn.specs.declared.turned.Outcome.{Outcome}
 use Rattle.adapt_turn.specs.declared.turned.Outcome.TheVariants.{Fail}
 use Rattle.adapt_turn.specs.Made.{IsMade, OfHead, WholeOf, adapted_of, response_of}
@@ -55,3 +56,12 @@ pub record Runs (stands : List ℕ → Texts → Type 0) (closed : Bool) (faultl
   pub stands_is : stands request texts
   pub faultless_is : closed ≡ false → faultless
   pub refused_is : closed ≡ true → (cause : Cause) → outcome ≡ Fail cause → refuses cause
+
+-- these turns, each of a side at a moment, in their order, and no other
+abbrev pub TakesTurns : {T : Type 0} → (T → Side → ℕ → T → Type 0) → T → List (Side × ℕ) → T → Type 0
+TakesTurns turns old [] new = new ≡ old
+TakesTurns {T} turns old (turn ∷ later) new = (mid : T) × turns old turn.0 turn.1 mid × TakesTurns turns mid later new
+
+-- the same from a beginning of which this is so
+abbrev pub TakesFrom : {T : Type 0} → (T → Type 0) → (T → Side → ℕ → T → Type 0) → List (Side × ℕ) → T → Type 0
+TakesFrom {T} begins turns list new = (begun : T) × begins begun × TakesTurns turns begun list new

@@ -1,6 +1,9 @@
-//! What holds of every head that goes on: each law is the contract of a function that does nothing.
+//! What holds of every head that goes on, and of every transaction. Each law is the contract of a function that does nothing, but for the
+//! one from the beginning on: it begins a transaction, and takes its turns.
 
-ghost use Rattle.std.specs.Prelude.{◌≡◌, ◌≤◌, ◌↔◌, ℕ, Bool, List, [], length, Option, true, false, codes, MatchOption};
+ghost use Rattle.std.specs.Prelude.{◌≡◌, ◌≤◌, ◌+◌, ◌↔◌, ℕ, Bool, List, [], length, Option, is_some, true, false, codes, MatchOption, IsOk, IfOk, IfErr};
+ghost use Rattle.adapt_bytes.specs.declared.limits.TheConstants.{MAX_CAPACITY};
+ghost use Rattle.plan_rules.specs.Claims.{claim_of};
 ghost use Rattle.trace_core.specs.declared.history.Cause.{Cause as Why};
 ghost use Rattle.trace_core.specs.declared.history.Cause.TheVariants.{Deadline, Stopping};
 ghost use Rattle.trace_core.specs.declared.history.Seen.{Seen};
@@ -10,7 +13,8 @@ ghost use Rattle.need_witness.specs.Script.{IsScript};
 ghost use Rattle.need_witness.specs.Table.{script_of};
 ghost use Rattle.need_witness.specs.declared.scripts.TheConstants.{MAX_SCRIPT};
 ghost use Rattle.adapt_hold.specs.Holding.{IsTied, interval, shows};
-ghost use Rattle.adapt_turn.specs.Made.{IsMade, adapted_of, response_of};
+ghost use Rattle.adapt_turn.specs.Made.{IsMade, adapted_of, response_of, on_held};
+ghost use Rattle.adapt_turn.specs.declared.turned.Turned.{Turned as TurnAnswer};
 ghost use Rattle.adapt_turn.specs.declared.turned.Outcome.TheVariants as outcomes;
 ghost use Rattle.adapt_turn.specs.Stands.{Texts};
 ghost use Rattle.http_relay.specs.declared.side.SourceHead.{SourceHead};
@@ -21,15 +25,21 @@ ghost use Rattle.http_side.specs.declared.forward.Forward.{Forward as Sent};
 ghost use Rattle.http_side.specs.Forward.{is_response, is_named_by, closes};
 ghost use Rattle.http_side.specs.Laws.{forwarded_fields};
 ghost use Rattle.proxy_rules.specs.Heads.{MakesNone};
-ghost use Rattle.proxy_rules.specs.Wires.{WiresTook};
+ghost use Rattle.proxy_rules.specs.Wires.{WiresTook, TookSince};
+ghost use Rattle.proxy_rules.specs.Offers.{text_of};
+ghost use Rattle.proxy_rules.specs.Beginnings.{MayBegin};
+ghost use Rattle.proxy_rules.specs.Running.{TakesFrom};
 
 use crate::head_maker::HeadMaker;
 use crate::running::Running;
+use crate::starting::{Beginning, begin};
 use adapt_sides::{Service, Source};
-use adapt_turn::{Forward, Refusing, Standing, Tx};
+use adapt_turn::{Answering, Forward, Refusing, Side, Standing, Tx};
 use http_relay::{NextHop, SourceSide};
 use icap_client::ServiceSide;
-use span_bank::Ledgers;
+use span_bank::{Bank, Ledgers};
+use std::alloc::Global;
+use std::sync::Wait;
 use wire_kit::Wire;
 
 /// An answer's head says `close` exactly if the user's connection ends after it; a request's head says it always, for each
@@ -88,6 +98,49 @@ pub fn a_running_transaction_takes_one_message<B: Ledgers, A: Wire, W: Wire, C: 
         → ∥ ⟦<Tx<B, SourceSide, ServiceSide, NextHop, HeadMaker, A, W, C> as Refusing>⟧.refuses running.now.tx cause ∥₁ }
 {
     the_wires_take_one_message(&running.tx);
+}
+
+/// Begins a transaction, takes turns of it, and says what its wires gave and took since then: after all that each had given and taken
+/// before, just the texts of [`the_wires_take_one_message`]. Only the bytes that the head was found in had come before. It holds of all
+/// turns, each of a side at a moment, and of wires of any kind; a wire in memory shows its bytes.
+///
+/// Everything comes back where [`begin`] gives it back.
+pub fn from_the_beginning_the_wires_take_one_message<B: Ledgers, A: Wire, W: Wire, C: Wire>(
+    rt: &impl Wait,
+    alloc: Global,
+    bank: &Bank<B>,
+    beginning: Beginning<B, A, W, C>,
+    turns: &[(Side, u64)],
+) -> Result<Running<B, A, W, C>, Beginning<B, A, W, C>>
+    requires empty { (beginning.stake.held ≡ 0) × (beginning.stake.pages ≡ 0) }
+    requires claim { beginning.stake.claim ≡ claim_of beginning.offer.plan beginning.limits.window }
+    requires small { beginning.stake.claim ≤ MAX_CAPACITY }
+    ensures accepts { IsOk result ↔ MayBegin beginning.message beginning.offer (is_some beginning.service_wire) }
+    ensures took { IfOk result (λ running. TookSince (A.past beginning.source_wire) (A.past running.tx.source_wire)
+        (λ p. MatchOption beginning.service_wire ⊥ (λ wire. W.past wire p)) (λ p. on_held running.tx.service ⊥ (λ wire. W.past wire p))
+        (C.past beginning.next_wire) (C.past running.tx.next_wire)
+        (WiresTook (λ x body read. SideRead x body read.bytes read.ended running.tx.source)
+        (λ x adapted read. MatchOption running.tx.service ((adapted ≡ []) × (read ≡ [])) (λ line. ServiceHeard x adapted read line.side)) running.tx.service
+        (λ head. IsMade (⟦<HeadMaker as Forward<SourceSide, NextHop>>⟧.makes running.tx.forward (⟦<SourceSide as Source>⟧.head running.tx.source))
+        (adapted_of ⟦<ServiceSide as Service>⟧.adapted_head running.tx.service) (response_of ⟦<ServiceSide as Service>⟧.is_response running.tx.service) running.tx.next.framing (shows running.tx.hold.history) head)
+        (λ head. IsMade (⟦<HeadMaker as Forward<SourceSide, NextHop>>⟧.makes running.tx.forward (⟦<SourceSide as Source>⟧.head running.tx.source))
+        (adapted_of ⟦<ServiceSide as Service>⟧.adapted_head running.tx.service) (response_of ⟦<ServiceSide as Service>⟧.is_response running.tx.service) running.tx.back.framing (shows running.tx.hold.history) head)
+        running.tx.next.framing running.tx.back.framing running.tx.hold (text_of beginning.offer.side))) }
+    ensures turns { IfOk result (λ running. TakesFrom (λ begun. (begun.hold.history ≡ record { plan = beginning.offer.plan; events = [] })
+        × (begun.pace.last_moved ≡ beginning.now) × (begun.pace.deadline ≡ beginning.deadline))
+        (λ old side now new. (said : TurnAnswer) × ⟦<Tx<B, SourceSide, ServiceSide, NextHop, HeadMaker, A, W, C> as Answering>⟧.answers old side new said
+        × ⟦<Tx<B, SourceSide, ServiceSide, NextHop, HeadMaker, A, W, C> as Answering>⟧.keeps old side new
+        × ((shows old.hold.history).closed ≡ false → old.pace.last_moved + old.pace.deadline ≤ now → new.outcome ≡ outcomes.Fail Deadline)) turns.now running.tx) }
+    ensures back { IfErr result (λ back. back ≡ beginning) }
+{
+    match begin(alloc, beginning) {
+        Ok(mut running) => {
+            running.take_turns(rt, bank, turns);
+            the_wires_take_one_message(&running.tx);
+            Ok(running)
+        }
+        Err(beginning) => Err(beginning),
+    }
 }
 
 /// Of a transaction, wherever it stands, each byte that is held is one that some legal continuation still sends, and each byte that a

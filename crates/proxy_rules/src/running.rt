@@ -7,9 +7,10 @@ ghost use Rattle.trace_core.specs.declared.history.Event.TheVariants.{Fail, Retr
 ghost use Rattle.trace_core.specs.Legal.{MayFollow};
 ghost use Rattle.adapt_hold.specs.Holding.{IsTied, shows, moved};
 ghost use Rattle.adapt_turn.specs.declared.turned.Outcome.TheVariants as outcomes;
+ghost use Rattle.adapt_turn.specs.declared.turned.Turned.{Turned as TurnAnswer};
 ghost use Rattle.adapt_turn.specs.Made.{wire_of};
 ghost use Rattle.adapt_turn.specs.Freeing.{MayFree};
-ghost use Rattle.proxy_rules.specs.Running.{Runs, StandsOver, IsFaultless, RefusesFor};
+ghost use Rattle.proxy_rules.specs.Running.{Runs, StandsOver, IsFaultless, RefusesFor, TakesTurns};
 
 use crate::head_maker::HeadMaker;
 use adapt_turn::{Answering, FreeLine, Going, Outcome, Side, Turned, Tx};
@@ -52,6 +53,22 @@ impl<B: Ledgers, A: Wire, W: Wire, C: Wire> Running<B, A, W, C> {
         ensures deadline { (shows self.old.tx.hold.history).closed ≡ false → self.old.tx.pace.last_moved + self.old.tx.pace.deadline ≤ now → self.new.tx.outcome ≡ outcomes.Fail Deadline }
     {
         self.tx.turn(rt, bank, side, now)
+    }
+
+    /// Turns in order, each of a side at a moment in seconds.
+    pub fn take_turns(&mut self, rt: &impl Wait, bank: &Bank<B>, turns: &[(Side, u64)])
+        ensures goes { ⟦<Tx<B, SourceSide, ServiceSide, NextHop, HeadMaker, A, W, C> as Going>⟧.goes self.old.tx self.new.tx }
+        ensures turns { TakesTurns (λ old side now new. (said : TurnAnswer) × ⟦<Tx<B, SourceSide, ServiceSide, NextHop, HeadMaker, A, W, C> as Answering>⟧.answers old side new said
+            × ⟦<Tx<B, SourceSide, ServiceSide, NextHop, HeadMaker, A, W, C> as Answering>⟧.keeps old side new
+            × ((shows old.hold.history).closed ≡ false → old.pace.last_moved + old.pace.deadline ≤ now → new.outcome ≡ outcomes.Fail Deadline)) self.old.tx turns.now self.new.tx }
+    {
+        match turns {
+            [] => {}
+            [turn, later @ ..] => {
+                self.turn(rt, bank, turn.0, turn.1);
+                self.take_turns(rt, bank, later);
+            }
+        }
     }
 
     /// Turns by a schedule, each at the moment of the last moved byte.
