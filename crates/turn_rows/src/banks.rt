@@ -5,7 +5,7 @@ use crate::beside::put_beside;
 use crate::game::{Lines, end};
 use crate::scenes::{Moving, begin};
 use crate::sides::{Counted, Wires, hop_wire, make_sides, service_wire, source_wire};
-use crate::steps::put_steps;
+use crate::steps::{first_turns, put_steps};
 use crate::told::put_ended;
 use span_bank::{Bank, Blanks, Four, Ledgers};
 use std::alloc::Global;
@@ -51,7 +51,7 @@ pub fn wires_of(
     })
 }
 
-/// Begins the row's transaction by this plan, over these wires. `None` where it can't begin.
+/// Begins the row's transaction by this plan, over these wires, with the turns that the row says come first. `None` where it can't begin.
 pub fn begun_on<B: Ledgers, A: Wire + Drop>(
     rt: &impl Wait,
     alloc: Global,
@@ -62,8 +62,9 @@ pub fn begun_on<B: Ledgers, A: Wire + Drop>(
 ) -> Result<Option<Moving<B, A>>, NoMemory> {
     let mut wires = wires;
     let sides = make_sides(alloc, scene, &plan, &mut wires.source)?;
+    let first = first_turns(alloc, scene)?;
     Ok(match sides {
-        Some(sides) => begin(rt, alloc, bank, sides, wires),
+        Some(sides) => begin(rt, alloc, bank, sides, wires, &first),
         None => None,
     })
 }

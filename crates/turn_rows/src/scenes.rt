@@ -6,8 +6,9 @@ ghost use Rattle.plan_rules.specs.Claims.{claim_of};
 
 use crate::game::undo;
 use crate::sides::{Counted, Sides, Wires};
+use adapt_turn::Side;
 use plan_rules::{Limits, claim};
-use proxy_rules::{Beginning, Running};
+use proxy_rules::{Beginning, Running, laws};
 use span_bank::{Bank, Ledgers, Stake};
 use std::alloc::Global;
 use std::sync::Wait;
@@ -33,13 +34,14 @@ fn limits_of(plan: &Plan) -> Limits {
     }
 }
 
-/// Begins a transaction on a reservation of its own. `None` where it can't begin.
+/// Begins a transaction on a reservation of its own, and takes these turns. `None` where it can't begin.
 pub fn begin<B: Ledgers, A: Wire + Drop>(
     rt: &impl Wait,
     alloc: Global,
     bank: &Bank<B>,
     sides: Sides,
     wires: Wires<A>,
+    first: &[(Side, u64)],
 ) -> Option<Moving<B, A>> {
     let limits = limits_of(sides.offer.plan());
     let bytes = claim(sides.offer.plan(), &limits);
@@ -47,12 +49,12 @@ pub fn begin<B: Ledgers, A: Wire + Drop>(
         return None;
     }
     match bank.open(rt, bytes) {
-        Ok(stake) => start(rt, alloc, bank, limits, stake, sides, wires),
+        Ok(stake) => start(rt, alloc, bank, limits, stake, sides, wires, first),
         Err(_) => None,
     }
 }
 
-/// Begins a transaction of this plan on this reservation.
+/// Begins a transaction of this plan on this reservation, and takes these turns.
 fn start<B: Ledgers, A: Wire + Drop>(
     rt: &impl Wait,
     alloc: Global,
@@ -61,6 +63,7 @@ fn start<B: Ledgers, A: Wire + Drop>(
     stake: Stake<B>,
     sides: Sides,
     wires: Wires<A>,
+    first: &[(Side, u64)],
 ) -> Option<Moving<B, A>>
     requires empty { (stake.held ≡ 0) × (stake.pages ≡ 0) }
     requires claim { stake.claim ≡ claim_of sides.offer.plan limits.window }
@@ -90,7 +93,10 @@ fn start<B: Ledgers, A: Wire + Drop>(
         reused: limits.retry,
         last: false,
     };
-    match proxy_rules::begin(alloc, beginning) {
+    let begun = laws::from_the_beginning_the_wires_take_one_message(
+        rt, alloc, bank, beginning, first,
+    );
+    match begun {
         Ok(tx) => Some(tx),
         Err(beginning) => {
             undo(rt, bank, beginning);

@@ -32,6 +32,21 @@ fn order_of(alloc: Global, words: &[u8]) -> Result<Vec<Side>, NoMemory> {
     Ok(order)
 }
 
+/// The turns that the key `first` lists, each of a side at a moment: `source@101`.
+pub fn first_turns(alloc: Global, scene: Scene<'_>) -> Result<Vec<(Side, u64)>, NoMemory> {
+    let mut turns = Vec::new(alloc);
+    for word in scene.get(b"first").split(|byte| *byte == b' ') {
+        if let Some((name, moment)) = parts(word, b'@')
+            && let Some(place) = place_of(b"source service hop", name)
+            && let Some(side) = ROUND.get(place)
+            && let Some(now) = test_rows::number(moment)
+        {
+            turns.push((*side, now))?;
+        }
+    }
+    Ok(turns)
+}
+
 /// Whether the transaction is over, and nothing of a refusal is due any more.
 fn is_finished<B: Ledgers, G: Game<B>, R: Wait>(rt: &R, bank: &Bank<B>, game: &mut G) -> bool {
     game.ending().is_some()
