@@ -5,7 +5,7 @@ import random
 from serve_lab.fuzzing.plans import TOKEN, aliens, changed, chosen, chunks, filled, garbage, plan_by
 from serve_lab.fuzzing.wires import Ended, Reset, Wire, fields_of
 
-PATIENCE = 12.0
+PATIENCE = 25.0
 
 
 def plan_of_target(seed, line):

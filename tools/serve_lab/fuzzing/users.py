@@ -6,7 +6,7 @@ from serve_lab.fuzzing.peers import shown
 from serve_lab.fuzzing.plans import aliens, changed, chunks, garbage, length_of, plan_of, refusal
 from serve_lab.fuzzing.wires import Ended, Reset, Wire, fields_of
 
-PATIENCE = 20.0
+PATIENCE = 30.0
 STATUSES = (400, 501, 502, 503, 504)
 
 
@@ -76,7 +76,7 @@ class FuzzUser:
         return self.made
 
     async def converse(self, plans):
-        """Asks for all, at once or one after another. Whether the last answer was read."""
+        """Asks for all, at once or one after another. Whether the last answer was read, and no further one is due."""
         texts = [request(self.own, plan) for plan in plans]
         piped = self.own.random() < 0.4
         sender = None
@@ -98,7 +98,8 @@ class FuzzUser:
                 return False
         if sender:
             await sender
-        return True
+        # A request that was changed may be two of them.
+        return plans[-1].is_sound()
 
     async def send(self, plan, head, body):
         if plan.expects and not plan.fault and self.own.random() < 0.7:
@@ -130,14 +131,14 @@ class FuzzUser:
             if strength == 3 and isinstance(error, Cut):
                 self.wrong("%r was %s: %s", plan.mark, word, error)
             self.found.count("%s %s%s" % ("sound ones" if strength == 3 else "others", word, "" if is_first else " to a later request"))
-            if strength == 3 and is_first and self.seats:
+            if strength == 3 and is_first and self.seats and not self.found.is_late():
                 self.wrong("%r is sound, and %s: %s", plan.mark, word, type(error).__name__)
         except (ValueError, KeyError, IndexError) as error:
             if strength > 1:
                 self.wrong("%r has no answer: %s, before %r", plan.mark, error, bytes(self.wire.raw[:100]))
             self.found.count("an answer that can't be read")
         except TimeoutError:
-            if plan.is_sound():
+            if plan.is_sound() and not self.found.is_late():
                 self.wrong("%r hangs, in state %s", plan.mark, self.wire.ended)
             self.found.count("broken, and not ended by the proxy within 3 s")
         return False
@@ -169,7 +170,7 @@ class FuzzUser:
         if is_refusal:
             self.found.count("%s refused by %d" % ("sound ones" if strength == 3 else "others", status))
             others = (502, 504) if any(self.points) else ({"refuses": 502, "mute": 504}.get(plan.origin),)
-            if strength == 3 and status != 503 and status not in others:
+            if strength == 3 and status != 503 and status not in others and not (status == 504 and self.found.is_late()):
                 self.wrong("%r is sound, and refused by %d", plan.mark, status)
         elif strength == 1:
             self.judge_bytes(plan, head, body)
