@@ -2,7 +2,7 @@
 
 use crate::halting::user_of;
 use crate::left::Left;
-use crate::phase::Phase;
+use crate::phase::{Asking, Phase};
 use crate::pools::{LeasedConnection, Pools};
 use span_bank::{Bank, Ledgers};
 use std::sync::Wait;
@@ -17,12 +17,8 @@ impl<B: Ledgers, Q: Ledger, A: Ledger> Left<B, Q, A> {
         phase: Phase<B, Q, A>,
     ) {
         match phase {
-            Phase::Asking {
-                ends: _,
-                connection,
-                side: _,
-            } => {
-                let LeasedConnection { wire, lease } = connection;
+            Phase::Asking { ends: _, asking } => {
+                let LeasedConnection { wire, lease } = Asking::connection_of(asking);
                 drop(wire);
                 self.keep_lease(rt, pools, lease);
             }

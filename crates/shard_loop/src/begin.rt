@@ -1,7 +1,7 @@
 //! The beginning of a transaction: its plan, its service's connection, and its reservation.
 
 use crate::desk::Desk;
-use crate::phase::{Ends, Step};
+use crate::phase::{Ends, Phase, Step};
 use crate::pools::LeasedConnection;
 use crate::seats::At;
 use plan_rules::claim;
@@ -84,7 +84,7 @@ impl<'a, B: Ledgers, Q: Ledger, A: Ledger, G: Gate> Desk<'a, B, Q, A, G> {
         ends: Box<Ends>,
         point: Point,
         connection: Option<LeasedConnection<Q, A>>,
-    ) -> Step<B, Q, A> {
+    ) -> Step<Phase<B, Q, A>> {
         let planned = match point {
             Point::Reqmod => self.plan_request(&ends),
             Point::Respmod => self.plan_response(&ends),
@@ -106,7 +106,7 @@ impl<'a, B: Ledgers, Q: Ledger, A: Ledger, G: Gate> Desk<'a, B, Q, A, G> {
         ends: Box<Ends>,
         planned: Planned,
         connection: Option<LeasedConnection<Q, A>>,
-    ) -> Step<B, Q, A> {
+    ) -> Step<Phase<B, Q, A>> {
         let point = planned.offer.plan().point;
         let service = match self.service(point) {
             Some(service) if planned.offer.is_offered() => service,
@@ -133,7 +133,7 @@ impl<'a, B: Ledgers, Q: Ledger, A: Ledger, G: Gate> Desk<'a, B, Q, A, G> {
         ends: Box<Ends>,
         planned: Planned,
         connection: Option<LeasedConnection<Q, A>>,
-    ) -> Step<B, Q, A> {
+    ) -> Step<Phase<B, Q, A>> {
         let bytes = claim(planned.offer.plan(), &self.limits);
         if bytes == 0 {
             self.spare(rt, at, connection);

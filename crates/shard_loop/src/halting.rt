@@ -3,12 +3,11 @@
 ghost use Rattle.std.specs.Prelude.{◌≡◌};
 
 use crate::desk::Desk;
-use crate::phase::{Moving, Phase, Step};
+use crate::phase::Moving;
 use crate::pools::{Leased, LeasedConnection};
-use crate::seats::At;
 use adapt_sides::{Hop, Service, Source};
 use adapt_turn::{Forward, Line, Parts, Tx};
-use proxy_rules::{Beginning, Reason};
+use proxy_rules::Beginning;
 use socket_wire::UserWire;
 use span_bank::{Bank, Ledgers, Pages, Stake};
 use std::boxed::Box;
@@ -135,51 +134,6 @@ pub fn unused<B: Ledgers, X: Drop, Y: Drop, Z: Drop>(beginning: Beginning<B, X, 
 }
 
 impl<'a, B: Ledgers, Q: Ledger, A: Ledger, G: Gate> Desk<'a, B, Q, A, G> {
-    /// Ends whatever it is: a reservation is closed, a lease given up, and all connections are closed.
-    pub fn end<R: Wait>(&mut self, rt: &R, phase: Phase<B, Q, A>) {
-        match phase {
-            Phase::Asking {
-                ends: _,
-                connection,
-                side: _,
-            } => self.drop_connection(rt, connection),
-            Phase::Moving { tx, lease } => {
-                self.end_moving(rt, tx, lease);
-            }
-            Phase::Head(_) | Phase::Answer(_) | Phase::Closing(_) => {}
-            Phase::Queued { ends, waiter } => self.stop_waiting(rt, &ends, waiter),
-            Phase::Telling { ends: _, rest: _ } => {}
-            Phase::Refusing { user: _, rest: _ } => {}
-        }
-    }
-
-    /// Ends an exchange because the proxy stops. Its user is refused where no byte of an answer is out.
-    pub fn halt<R: Wait>(&mut self, rt: &R, at: At<'_>, phase: Phase<B, Q, A>) -> Step<B, Q, A> {
-        match phase {
-            Phase::Moving { tx, lease } => {
-                let mut tx = tx;
-                tx.halt(rt, self.shared.bank);
-                Step::On(Phase::Moving { tx, lease })
-            }
-            Phase::Asking {
-                ends,
-                connection,
-                side: _,
-            } => {
-                self.drop_connection(rt, connection);
-                self.refuse_user(at, ends, Reason::Stopping)
-            }
-            Phase::Queued { ends, waiter } => {
-                self.stop_waiting(rt, &ends, waiter);
-                self.refuse_user(at, ends, Reason::Stopping)
-            }
-            Phase::Answer(ends) => self.refuse_user(at, ends, Reason::Stopping),
-            Phase::Refusing { user, rest } => Step::On(Phase::Refusing { user, rest }),
-            Phase::Head(_) | Phase::Closing(_) => Step::Over,
-            Phase::Telling { ends: _, rest: _ } => Step::Over,
-        }
-    }
-
     /// Ends a transaction: its reservation is closed, and its lease given up. Its user's connection is left.
     pub fn end_tx<R: Wait>(
         &mut self,

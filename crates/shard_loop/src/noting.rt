@@ -3,11 +3,11 @@
 use crate::desk::Desk;
 use crate::phase::Phase;
 use crate::seats::At;
+use crate::sides::Served;
 use adapt_sides::ClientFault;
 use adapt_turn::{Line, Outcome};
 use exchange_report::Why;
 use http_side::{HttpFault, Values};
-use icap_client::ServiceSide;
 use mio::net::TcpStream;
 use proxy_rules::{Incoming, Reason};
 use shard_report::{
@@ -32,11 +32,6 @@ pub fn stage_of<B: Ledgers, Q: Ledger, A: Ledger>(phase: &Phase<B, Q, A>) -> Sta
     }
 }
 
-/// Whether no exchange is under way.
-pub fn is_between<B: Ledgers, Q: Ledger, A: Ledger>(phase: &Phase<B, Q, A>) -> bool {
-    matches!(phase, Phase::Head(_) | Phase::Closing(_))
-}
-
 /// The word for a reason.
 fn word_of(reason: Reason, note: &Note) -> Why {
     match reason {
@@ -57,7 +52,7 @@ fn word_of(reason: Reason, note: &Note) -> Why {
 }
 
 /// Why a service failed a transaction.
-fn service_word(service: &Option<Line<ServiceSide, ServiceWire>>) -> Why {
+fn service_word<V: Served>(service: &Option<Line<V, ServiceWire>>) -> Why {
     let Some(line) = service else {
         return Why::ServiceBroken;
     };
@@ -69,10 +64,10 @@ fn service_word(service: &Option<Line<ServiceSide, ServiceWire>>) -> Why {
 }
 
 /// Whether the service's message is a response.
-fn answers_itself(service: &Option<Line<ServiceSide, ServiceWire>>) -> bool {
+fn answers_itself<V: Served>(service: &Option<Line<V, ServiceWire>>) -> bool {
     match service {
         Some(line) => match line.side.adapted_head() {
-            Some((_, text)) => status_in(text).is_some(),
+            Some(text) => status_in(text).is_some(),
             None => false,
         },
         None => false,
@@ -175,12 +170,12 @@ impl<'a, B: Ledgers, Q: Ledger, A: Ledger, G: Gate> Desk<'a, B, Q, A, G> {
     }
 
     /// A transaction is over: what became of its message, and of the answer.
-    pub fn note_end<Z: Wire>(
+    pub fn note_end<V: Served, Z: Wire>(
         &mut self,
         at: At<'_>,
         seen: &Seen,
         outcome: Outcome,
-        service: &Option<Line<ServiceSide, ServiceWire>>,
+        service: &Option<Line<V, ServiceWire>>,
         next: &Z,
         user: &UserWire,
     ) {
@@ -193,7 +188,7 @@ impl<'a, B: Ledgers, Q: Ledger, A: Ledger, G: Gate> Desk<'a, B, Q, A, G> {
         self.note_outcome(at, seen, outcome, evidence);
         if seen.modified
             && let Some(line) = service
-            && let Some((_, text)) = line.side.adapted_head()
+            && let Some(text) = line.side.adapted_head()
             && let Some(status) = status_in(text)
             && (outcome == Outcome::Done || self.seats.has_answered(at.key))
         {

@@ -8,6 +8,7 @@ use icap_client::OptionsSide;
 use proxy_rules::{Incoming, Running};
 use socket_wire::{OriginWire, ServiceWire, UserWire};
 use span_bank::{Bank, Ledgers};
+use std::alloc::{AllocFailed, Global};
 use std::boxed::Box;
 use std::sync::Wait;
 use std::sync::ledger::Ledger;
@@ -25,9 +26,9 @@ pub enum Moving<B: Ledgers> {
 
 /// The user's connection, the message that waits to be adapted, and the origin's connection once the request is with it.
 #[derive(Drop)]
-pub struct Ends {
+pub struct EndsOf<M> {
     pub user: UserWire,
-    pub message: Incoming,
+    pub message: M,
     pub origin: Option<OriginWire>,
     /// Whether the user got `100 Continue`.
     pub told: bool,
@@ -59,6 +60,9 @@ impl<B: Ledgers> Moving<B> {
     }
 }
 
+/// The ends of an exchange, with its message.
+pub type Ends = EndsOf<Incoming>;
+
 /// A turn at a message's head over this wire, and whether a byte came over it.
 fn read_on<W: Wire>(message: &mut Incoming, wire: &mut W) -> (Result<bool, RelayFault>, bool) {
     let (before, _) = wire.counts();
@@ -67,20 +71,30 @@ fn read_on<W: Wire>(message: &mut Incoming, wire: &mut W) -> (Result<bool, Relay
     (read, after != before)
 }
 
-impl Ends {
-    /// A user's end, with its request's head or before it.
-    pub fn of_user(user: UserWire, message: Incoming) -> Ends {
-        Ends {
+impl<M: Drop> EndsOf<M> {
+    /// The ends of a message, on the heap: with the origin's connection where it is an answer of it. Where no memory is found for
+    /// them, the user's connection is left.
+    pub fn boxed(
+        alloc: Global,
+        user: UserWire,
+        message: M,
+        origin: Option<OriginWire>,
+    ) -> Result<Box<EndsOf<M>>, UserWire> {
+        let ends = EndsOf {
             user,
             message,
-            origin: None,
+            origin,
             told: false,
+        };
+        match Box::new(alloc, ends) {
+            Ok(ends) => Ok(ends),
+            Err(AllocFailed { value }) => Err(value.into_user()),
         }
     }
 
     /// The user's connection alone. All else goes.
-    pub fn into_user(self) -> UserWire {
-        let Ends {
+    fn into_user(self) -> UserWire {
+        let EndsOf {
             user,
             message: _,
             origin: _,
@@ -89,6 +103,13 @@ impl Ends {
         user
     }
 
+    /// The user's connection alone. All else goes.
+    pub fn user_of(ends: Box<EndsOf<M>>) -> UserWire {
+        Box::into_inner(ends).into_user()
+    }
+}
+
+impl EndsOf<Incoming> {
     /// A turn at the head of the message, and whether a byte of it came.
     pub fn read_head(&mut self) -> (Result<bool, RelayFault>, bool) {
         match &mut self.origin {
@@ -103,6 +124,37 @@ impl Ends {
     }
 }
 
+/// Who asks a service for its options, and over which connection.
+pub struct Asking<C, S> {
+    pub connection: C,
+    pub side: S,
+}
+
+impl<C, S: Drop> Asking<C, S> {
+    /// On the heap. Where no memory is found for it, the connection is left.
+    pub fn boxed(alloc: Global, connection: C, side: S) -> Result<Box<Asking<C, S>>, C> {
+        match Box::new(alloc, Asking { connection, side }) {
+            Ok(asking) => Ok(asking),
+            Err(AllocFailed { value }) => {
+                let Asking {
+                    connection,
+                    side: _,
+                } = value;
+                Err(connection)
+            }
+        }
+    }
+
+    /// The connection alone. The side goes.
+    pub fn connection_of(asking: Box<Asking<C, S>>) -> C {
+        let Asking {
+            connection,
+            side: _,
+        } = Box::into_inner(asking);
+        connection
+    }
+}
+
 /// What a user's connection is in the midst of. What is large lies on the heap, so that an exchange goes from step to step as
 /// a few words.
 pub enum Phase<B: Ledgers, Q: Ledger, A: Ledger> {
@@ -111,8 +163,7 @@ pub enum Phase<B: Ledgers, Q: Ledger, A: Ledger> {
     /// A message waits for the answer of its service to an OPTIONS request.
     Asking {
         ends: Box<Ends>,
-        connection: LeasedConnection<Q, A>,
-        side: Box<OptionsSide>,
+        asking: Box<Asking<LeasedConnection<Q, A>, OptionsSide>>,
     },
     /// A message waits for a connection to its service, in the queue of its point.
     Queued {
@@ -151,11 +202,11 @@ impl<B: Ledgers, Q: Ledger, A: Ledger> Phase<B, Q, A> {
 }
 
 /// How far a step came.
-pub enum Step<B: Ledgers, Q: Ledger, A: Ledger> {
+pub enum Step<P> {
     /// There may be more to do.
-    On(Phase<B, Q, A>),
+    On(P),
     /// Each connection waits for an event.
-    Waits(Phase<B, Q, A>),
+    Waits(P),
     /// The user's connection is over.
     Over,
 }

@@ -1,74 +1,50 @@
-//! The work of one thread: its exchanges.
+//! The work of one thread: its exchanges, each in a slot.
 
 ghost use Rattle.std.specs.Prelude.{◌≡◌};
 ghost use Rattle.shard_loop.specs.Slots.{ChangesOnly};
 
-use crate::desk::{Desk, Shared};
-use crate::noting::{is_between, stage_of};
-use crate::phase::{Ends, Phase, Step};
-use crate::seats::{At, Purpose, SECOND};
-use event_loop::{Driven, Handed, Request, Slots, Told, USER, Work};
-use exchange_report::Why;
+use crate::exchanges::Exchanges;
+use crate::phase::Step;
+use crate::seats::{At, SECOND};
+use event_loop::{Driven, Handed, Request, Slots, Told, Work};
 use http_side::own_refusal;
 use mio::Registry;
 use mio::net::TcpStream;
-use proxy_rules::Incoming;
-use service_lines::{Edge, POINTS};
-use shard_report::USERS;
-use socket_wire::{Dial, Readiness, Side, Unread, UserWire};
-use span_bank::Ledgers;
-use std::alloc::{AllocError, AllocFailed, Global};
-use std::boxed::Box;
+use socket_wire::{Dial, Readiness, Side};
+use std::alloc::{AllocError, Global};
 use std::io::Write;
 use std::sync::Wait;
-use std::sync::ledger::Ledger;
 use std::time::Clock;
-use wire_kit::Gate;
 
 /// The most steps of an exchange before others get their turn. Each is one round of a transaction's turns at most.
 const STEPS: u32 = 8;
 
 /// The exchanges of one thread, each in the slot of its key. What is in a slot may have a reservation or a lease, so it has
 /// no `Drop`, and nothing is lost.
-pub struct Shard<'a, B: Ledgers, Q: Ledger, A: Ledger, G: Gate> {
-    desk: Desk<'a, B, Q, A, G>,
-    slots: Slots<Phase<B, Q, A>>,
+pub struct Shard<D, P> {
+    desk: D,
+    slots: Slots<P>,
 }
 
-impl<'a, B: Ledgers, Q: Ledger, A: Ledger, G: Gate> Shard<'a, B, Q, A, G> {
+impl<P, D: Exchanges<Exchange = P> + Drop> Shard<D, P> {
     /// A thread's work before the first user. `Err` where no memory was found.
-    pub fn new(
-        alloc: Global,
-        shared: Shared<'a, B, Q, A, G>,
-    ) -> Result<Shard<'a, B, Q, A, G>, AllocError> {
-        let rows = shared.config.rows as usize;
-        let desk = Desk::new(alloc, shared, rows)?;
-        let slots = Slots::new(alloc, desk.seats.bound())?;
+    pub fn new(alloc: Global, desk: D) -> Result<Shard<D, P>, AllocError> {
+        let slots = Slots::new(alloc, desk.seats().bound())?;
         Ok(Shard { desk, slots })
     }
 
-    /// The slots. All else goes.
-    pub fn into_slots(self) -> Vec<Option<Phase<B, Q, A>>> {
-        let Shard { desk: _, slots } = self;
+    /// The slots, once the exchanges that are still open are reported. All else goes.
+    pub fn into_slots<R: Wait + Clock>(self, rt: &R) -> Vec<Option<P>> {
+        let Shard { desk, slots } = self;
+        let mut desk = desk;
+        for key in 0..slots.count() {
+            desk.over(rt, key);
+        }
         slots.into_all()
     }
 
-    /// What a user's connection begins with: its first request, or the refusal where there is no room for it, or no memory.
-    fn first_phase(&self, user: UserWire, purpose: Purpose) -> Phase<B, Q, A> {
-        match purpose {
-            Purpose::Requests => {
-                let ends = Ends::of_user(user, Incoming::request(self.desk.alloc));
-                match Box::new(self.desk.alloc, ends) {
-                    Ok(ends) => Phase::Head(ends),
-                    Err(AllocFailed { value }) => Phase::busy(value.into_user()),
-                }
-            }
-            Purpose::Refusal => Phase::busy(user),
-        }
-    }
-
     /// Puts an exchange into the slot of its key. What was there, which is nothing, ends.
-    fn keep<R: Wait>(&mut self, rt: &R, key: usize, phase: Phase<B, Q, A>)
+    fn keep<R: Wait>(&mut self, rt: &R, key: usize, phase: P)
         ensures { ChangesOnly key self.old.slots.all.items self.new.slots.all.items }
     {
         if let Some(old) = self.slots.place(key, phase) {
@@ -83,9 +59,6 @@ impl<'a, B: Ledgers, Q: Ledger, A: Ledger, G: Gate> Shard<'a, B, Q, A, G> {
         let Some(phase) = self.slots.take(at.key) else {
             return Driven::Over;
         };
-        if let Some(note) = self.desk.notes.get_mut(at.key) {
-            note.stage = stage_of(&phase);
-        }
         match self.desk.step(rt, at, phase) {
             Step::On(phase) => {
                 self.note_phase(rt, at.key, &phase);
@@ -105,11 +78,11 @@ impl<'a, B: Ledgers, Q: Ledger, A: Ledger, G: Gate> Shard<'a, B, Q, A, G> {
     }
 
     /// Where no exchange is under way in this phase, the one before is over.
-    fn note_phase<R: Wait + Clock>(&mut self, rt: &R, key: usize, phase: &Phase<B, Q, A>)
+    fn note_phase<R: Wait + Clock>(&mut self, rt: &R, key: usize, phase: &P)
         ensures { self.new.slots ≡ self.old.slots }
     {
-        if is_between(phase) {
-            self.desk.report(rt, key);
+        if self.desk.is_between(phase) {
+            self.desk.over(rt, key);
         }
     }
 
@@ -117,16 +90,7 @@ impl<'a, B: Ledgers, Q: Ledger, A: Ledger, G: Gate> Shard<'a, B, Q, A, G> {
     fn leave<R: Wait + Clock>(&mut self, rt: &R, key: usize)
         ensures { self.new.slots ≡ self.old.slots }
     {
-        self.desk.report(rt, key);
-        self.desk.seats.leave(key);
-        self.desk.shared.tally.take(USERS, 1);
-    }
-
-    /// Reports the exchanges that are still open.
-    pub fn report_all<R: Wait + Clock>(&mut self, rt: &R) {
-        for key in 0..self.slots.count() {
-            self.desk.report(rt, key);
-        }
+        self.desk.leave(rt, key);
     }
 
     /// Ends the exchange under this key, and all of its connections.
@@ -145,7 +109,7 @@ impl<'a, B: Ledgers, Q: Ledger, A: Ledger, G: Gate> Shard<'a, B, Q, A, G> {
         match self.desk.halt(rt, at, phase) {
             Step::On(phase) | Step::Waits(phase) => self.keep(rt, at.key, phase),
             Step::Over => {
-                self.desk.note_stop(at.key);
+                self.desk.stopped(at.key);
                 self.leave(rt, at.key);
             }
         }
@@ -154,10 +118,10 @@ impl<'a, B: Ledgers, Q: Ledger, A: Ledger, G: Gate> Shard<'a, B, Q, A, G> {
     /// The key of the user that can best be spared. One whose request has just come isn't.
     fn best_spared(&mut self, millis: u64) -> Option<usize> {
         let mut best = None;
-        for key in 0..self.desk.seats.bound() {
-            if let Some(better) = self.desk.seats.better(key, millis, best) {
+        for key in 0..self.slots.count() {
+            if let Some(better) = self.desk.seats().better(key, millis, best) {
                 if self.is_wanted(key) {
-                    self.desk.seats.await_head(key);
+                    self.desk.seats_mut().await_head(key);
                 } else {
                     best = Some(better);
                 }
@@ -183,10 +147,8 @@ impl<'a, B: Ledgers, Q: Ledger, A: Ledger, G: Gate> Shard<'a, B, Q, A, G> {
     /// Whether no byte of a request was read on the connection under this key, but some have come that no event has reported yet.
     fn is_wanted(&self, key: usize) -> bool {
         match self.slots.get(key) {
-            Some(Phase::Head(ends)) if !ends.message.has_begun() => {
-                ends.user.unread() == Unread::Bytes
-            }
-            _ => false,
+            Some(exchange) => self.desk.is_wanted(exchange),
+            None => false,
         }
     }
 }
@@ -197,7 +159,7 @@ fn turn_away(stream: TcpStream) {
     let _ = stream.write(own_refusal(503));
 }
 
-impl<'a, B: Ledgers, Q: Ledger, A: Ledger, G: Gate> Work for Shard<'a, B, Q, A, G> {
+impl<P, D: Exchanges<Exchange = P> + Drop> Work for Shard<D, P> {
     fn admit<R: Wait + Dial + Clock>(
         &mut self,
         rt: &R,
@@ -210,27 +172,22 @@ impl<'a, B: Ledgers, Q: Ledger, A: Ledger, G: Gate> Work for Shard<'a, B, Q, A, 
             number,
             place,
         } = user;
-        if !self.desk.seats.has_room() {
+        if !self.desk.seats().has_room() {
             let _ = self.spare_user(rt, millis);
         }
-        let Some((key, purpose)) = self.desk.seats.take(number, place, millis) else {
+        let Some((key, purpose)) = self.desk.seats_mut().take(number, place, millis) else {
             turn_away(stream);
             return None;
         };
-        let address = self.desk.origin_of_user(&stream);
-        self.desk.note_user(key, address);
-        self.desk.shared.tally.add(USERS, 1);
-        if purpose == Purpose::Refusal {
-            self.desk.notes.refuse(key, Why::NoSeat, 503);
-        }
+        self.desk.enter(key, purpose, &stream);
         let at = At {
             registry,
             key,
             now: millis / SECOND,
         };
-        match self.desk.seats.wire(at, Readiness::new(), stream) {
+        match self.desk.seats_mut().wire(at, Readiness::new(), stream) {
             Ok(user) => {
-                let phase = self.first_phase(user, purpose);
+                let phase = self.desk.first(user, purpose);
                 self.keep(rt, key, phase);
                 Some(key)
             }
@@ -244,16 +201,14 @@ impl<'a, B: Ledgers, Q: Ledger, A: Ledger, G: Gate> Work for Shard<'a, B, Q, A, 
 
     /// Idle connections to services go first, where they keep the user out.
     fn make_room<R: Wait + Clock>(&mut self, rt: &R, millis: u64) -> bool {
-        let pools = &self.desk.shared.pools;
-        if pools.waiting.edge.is_crowded() {
-            pools.make_room(rt, USER)
-        } else {
-            self.spare_user(rt, millis)
+        match self.desk.close_idle(rt) {
+            Some(has_room) => has_room,
+            None => self.spare_user(rt, millis),
         }
     }
 
     fn note(&mut self, key: usize, side: Side, told: Told) -> bool {
-        self.desk.seats.note(key, side, told)
+        self.desk.seats().note(key, side, told)
     }
 
     fn drive<R: Wait + Dial + Clock>(
@@ -265,7 +220,7 @@ impl<'a, B: Ledgers, Q: Ledger, A: Ledger, G: Gate> Work for Shard<'a, B, Q, A, 
     ) -> Driven {
         let at = At { registry, key, now };
         for _ in 0..STEPS {
-            if self.desk.seats.is_gone(key) {
+            if self.desk.seats().is_gone(key) {
                 self.end_slot(rt, key);
                 return Driven::Over;
             }
@@ -278,13 +233,11 @@ impl<'a, B: Ledgers, Q: Ledger, A: Ledger, G: Gate> Work for Shard<'a, B, Q, A, 
     }
 
     fn queues(&self) -> usize {
-        POINTS.len()
+        self.desk.queues()
     }
 
     fn first_of<R: Wait>(&self, rt: &R, queue: usize) -> Option<usize> {
-        let point = *POINTS.get(queue)?;
-        let shared = &self.desk.shared;
-        shared.pools.waiting.first_of(rt, point, shared.number)
+        self.desk.first_of(rt, queue)
     }
 
     fn bound(&self) -> usize {
@@ -292,7 +245,7 @@ impl<'a, B: Ledgers, Q: Ledger, A: Ledger, G: Gate> Work for Shard<'a, B, Q, A, 
     }
 
     fn is_idle(&self) -> bool {
-        self.desk.seats.is_empty()
+        self.desk.seats().is_empty()
     }
 
     /// None comes here: the administrator has a loop of its own.
@@ -302,7 +255,7 @@ impl<'a, B: Ledgers, Q: Ledger, A: Ledger, G: Gate> Work for Shard<'a, B, Q, A, 
         _request: Request,
         _now: u64,
     ) -> Result<Vec<u8>, AllocError> {
-        b"bad\n".to_vec(self.desk.alloc)
+        b"bad\n".to_vec(self.desk.alloc())
     }
 
     fn patience(&self) -> Option<u64> {
@@ -312,11 +265,11 @@ impl<'a, B: Ledgers, Q: Ledger, A: Ledger, G: Gate> Work for Shard<'a, B, Q, A, 
     fn turn_over<R: Wait>(&mut self, _rt: &R) {}
 
     fn drain(&mut self) {
-        self.desk.draining = true;
+        self.desk.drain();
     }
 
     fn halt<R: Wait + Dial + Clock>(&mut self, rt: &R, registry: &Registry, now: u64) {
-        self.desk.stopping = true;
+        self.desk.stop();
         for key in 0..self.slots.count() {
             self.halt_slot(rt, At { registry, key, now });
         }

@@ -7,7 +7,7 @@ ghost use Rattle.plan_rules.specs.Claims.{claim_of};
 use crate::begin::Planned;
 use crate::desk::Desk;
 use crate::halting::{Remains, end_of, unused};
-use crate::phase::{Ends, Moving, Phase, Step};
+use crate::phase::{Ends, EndsOf, Moving, Phase, Step};
 use crate::pools::{Leased, LeasedConnection};
 use crate::seats::At;
 use crate::telling::go_ahead;
@@ -25,22 +25,22 @@ use wire_kit::{Gate, Wire};
 
 /// What a transaction stands over: its message, and the connections of its source and its next hop.
 #[derive(Drop)]
-struct Sides<X, Z> {
-    message: Incoming,
+struct Sides<M, X, Z> {
+    message: M,
     source_wire: X,
     next_wire: Z,
 }
 
 /// What the transaction of a message stands over.
 #[derive(Drop)]
-enum Joined {
-    Request(Sides<UserWire, OriginWire>),
-    Response(Sides<OriginWire, UserWire>),
+enum Joined<M> {
+    Request(Sides<M, UserWire, OriginWire>),
+    Response(Sides<M, OriginWire, UserWire>),
 }
 
 /// What the transaction of a message stands over: that of a request over the origin's connection, which was opened now.
-fn joined(ends: Ends, opened: Option<OriginWire>) -> Option<Joined> {
-    let Ends {
+fn joined<M: Drop>(ends: EndsOf<M>, opened: Option<OriginWire>) -> Option<Joined<M>> {
+    let EndsOf {
         user,
         message,
         origin,
@@ -78,7 +78,7 @@ fn has_served(wire: &ServiceWire) -> bool {
 
 /// What a transaction begins with.
 fn beginning_of<B: Ledgers, X, Z>(
-    sides: Sides<X, Z>,
+    sides: Sides<Incoming, X, Z>,
     terms: Terms<B>,
     deadline: u64,
     now: u64,
@@ -157,7 +157,7 @@ impl<'a, B: Ledgers, Q: Ledger, A: Ledger, G: Gate> Desk<'a, B, Q, A, G> {
         planned: Planned,
         connection: Option<LeasedConnection<Q, A>>,
         stake: Stake<B>,
-    ) -> Step<B, Q, A>
+    ) -> Step<Phase<B, Q, A>>
         requires empty { (stake.held ≡ 0) × (stake.pages ≡ 0) }
         requires claim { stake.claim ≡ claim_of planned.offer.value.plan self.old.limits.window }
         requires small { stake.claim ≤ MAX_CAPACITY }
@@ -183,7 +183,7 @@ impl<'a, B: Ledgers, Q: Ledger, A: Ledger, G: Gate> Desk<'a, B, Q, A, G> {
         limits: Limits,
         connection: Option<LeasedConnection<Q, A>>,
         stake: Stake<B>,
-    ) -> Step<B, Q, A>
+    ) -> Step<Phase<B, Q, A>>
         requires empty { (stake.held ≡ 0) × (stake.pages ≡ 0) }
         requires claim { stake.claim ≡ claim_of planned.offer.value.plan limits.window }
         requires small { stake.claim ≤ MAX_CAPACITY }
@@ -236,12 +236,12 @@ impl<'a, B: Ledgers, Q: Ledger, A: Ledger, G: Gate> Desk<'a, B, Q, A, G> {
         &mut self,
         rt: &R,
         at: At<'_>,
-        sides: Joined,
+        sides: Joined<Incoming>,
         planned: Planned,
         limits: Limits,
         connection: Option<LeasedConnection<Q, A>>,
         stake: Stake<B>,
-    ) -> Step<B, Q, A>
+    ) -> Step<Phase<B, Q, A>>
         requires empty { (stake.held ≡ 0) × (stake.pages ≡ 0) }
         requires claim { stake.claim ≡ claim_of planned.offer.value.plan limits.window }
         requires small { stake.claim ≤ MAX_CAPACITY }
@@ -298,7 +298,7 @@ impl<'a, B: Ledgers, Q: Ledger, A: Ledger, G: Gate> Desk<'a, B, Q, A, G> {
         &mut self,
         rt: &R,
         at: At<'_>,
-        sides: Sides<X, Z>,
+        sides: Sides<Incoming, X, Z>,
         terms: Terms<B>,
     ) -> Result<Box<Running<B, X, ServiceWire, Z>>, Option<(X, Z)>>
         requires empty { (terms.stake.held ≡ 0) × (terms.stake.pages ≡ 0) }

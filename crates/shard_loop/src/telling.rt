@@ -33,7 +33,7 @@ impl<'a, B: Ledgers, Q: Ledger, A: Ledger, G: Gate> Desk<'a, B, Q, A, G> {
         at: At<'_>,
         ends: Box<Ends>,
         rest: &'static [u8],
-    ) -> Step<B, Q, A> {
+    ) -> Step<Phase<B, Q, A>> {
         let mut ends = ends;
         match go_ahead(&mut ends.user, rest) {
             Some([]) => {

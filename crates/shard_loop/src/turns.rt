@@ -125,7 +125,7 @@ impl<'a, B: Ledgers, Q: Ledger, A: Ledger, G: Gate> Desk<'a, B, Q, A, G> {
         at: At<'_>,
         tx: Moving<B>,
         lease: Option<Leased<Q, A>>,
-    ) -> Step<B, Q, A> {
+    ) -> Step<Phase<B, Q, A>> {
         let mut tx = tx;
         let mut lease = lease;
         let round = match &mut tx {
@@ -137,7 +137,7 @@ impl<'a, B: Ledgers, Q: Ledger, A: Ledger, G: Gate> Desk<'a, B, Q, A, G> {
             Round::Finished => self.settle(rt, at, tx, lease),
             Round::Waiting if tx.outcome().is_some() && self.is_late(at) => {
                 self.note_failed(at, &tx.seen(), tx.outcome());
-                self.end(rt, Phase::Moving { tx, lease });
+                self.end_moving(rt, tx, lease);
                 Step::Over
             }
             Round::Waiting => Step::Waits(Phase::Moving { tx, lease }),

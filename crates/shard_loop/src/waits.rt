@@ -23,7 +23,7 @@ impl<'a, B: Ledgers, Q: Ledger, A: Ledger, G: Gate> Desk<'a, B, Q, A, G> {
         at: At<'_>,
         ends: Box<Ends>,
         reason: Reason,
-    ) -> Step<B, Q, A> {
+    ) -> Step<Phase<B, Q, A>> {
         let waiter = Waiter {
             thread: self.shared.number,
             key: at.key,
@@ -59,7 +59,7 @@ impl<'a, B: Ledgers, Q: Ledger, A: Ledger, G: Gate> Desk<'a, B, Q, A, G> {
         at: At<'_>,
         ends: Box<Ends>,
         waiter: Waiter,
-    ) -> Step<B, Q, A> {
+    ) -> Step<Phase<B, Q, A>> {
         match self.lend_in_turn(rt, at, ends.point(), waiter) {
             Ok(connection) => self.offer_on(rt, at, ends, connection),
             Err(reason) => match self.waited_reason(at, reason) {
@@ -80,7 +80,7 @@ impl<'a, B: Ledgers, Q: Ledger, A: Ledger, G: Gate> Desk<'a, B, Q, A, G> {
         at: At<'_>,
         ends: Box<Ends>,
         connection: LeasedConnection<Q, A>,
-    ) -> Step<B, Q, A> {
+    ) -> Step<Phase<B, Q, A>> {
         let point = ends.point();
         match self.service(point) {
             Some(service) if !self.book(point).is_fresh(at.now) => {
