@@ -128,7 +128,7 @@ class FuzzUser:
                 return await self.read(plan, strength)
         except (Ended, Reset, Cut) as error:
             word = "cut within an answer" if isinstance(error, Cut) else "closed before an answer"
-            if strength == 3 and isinstance(error, Cut):
+            if strength == 3 and isinstance(error, Cut) and not self.found.is_late():
                 self.wrong("%r was %s: %s", plan.mark, word, error)
             self.found.count("%s %s%s" % ("sound ones" if strength == 3 else "others", word, "" if is_first else " to a later request"))
             if strength == 3 and is_first and self.seats and not self.found.is_late():
