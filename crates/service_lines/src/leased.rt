@@ -1,5 +1,8 @@
 //! Leases of the pools of both points, and connections with theirs.
 
+ghost use Rattle.std.specs.Prelude.{◌≡◌};
+ghost use Rattle.service_lines.specs.Lending.{point_of, is_reused};
+
 use service_pool::Lease;
 use std::sync::ledger::Ledger;
 use trace_core::Point;
@@ -13,7 +16,9 @@ pub enum Leased<Q: Ledger, A: Ledger> {
 
 impl<Q: Ledger, A: Ledger> Leased<Q, A> {
     /// The point whose service it is of.
-    pub fn point(&self) -> Point {
+    pub fn point(&self) -> Point
+        ensures { result ≡ point_of self.now }
+    {
         match self {
             Leased::Request(_) => Point::Reqmod,
             Leased::Response(_) => Point::Respmod,
@@ -21,7 +26,9 @@ impl<Q: Ledger, A: Ledger> Leased<Q, A> {
     }
 
     /// Whether the connection was idle when it was taken, and hasn't been replaced since.
-    pub fn reused(&self) -> bool {
+    pub fn reused(&self) -> bool
+        ensures { result ≡ is_reused self.now }
+    {
         match self {
             Leased::Request(lease) => lease.reused(),
             Leased::Response(lease) => lease.reused(),

@@ -1,6 +1,10 @@
 //! How connections are lent, renewed and put back.
 
-use crate::connector::{Connector, Edge, Keeper, LendFault};
+ghost use Rattle.std.specs.Prelude.{◌≡◌, ◌↔◌, false, List, Err, Ok, IfOk, IfSome, OnOk, ◌∷◌};
+ghost use Rattle.service_lines.specs.declared.connector.Act.{Act as AnyAct};
+ghost use Rattle.service_lines.specs.Lending.{point_of, is_reused, fault_in, Tells, HasLease, IsOf, after_take, after_lend, TakesLive, Lends, Reopens, LaysDown, PutsBack};
+
+use crate::connector::{Act, Connector, Edge, Keeper, LendFault};
 use crate::leased::{Found, Leased, LeasedConnection};
 use crate::pools::Pools;
 use adapt_bytes::MAX_CONNECTIONS;
@@ -10,7 +14,9 @@ use trace_core::Point;
 use wait_queue::Waiter;
 
 /// Takes a connection out of use, if it may lie idle. `None` where it is closed.
-fn lay_down<E: Edge, C: Keeper<E>>(connector: &mut C, used: C::Used) -> Option<E::Idle> {
+fn lay_down<E: Edge, C: Keeper<E>>(connector: &mut C, used: C::Used) -> Option<E::Idle>
+    ensures { LaysDown (C.past connector.old) (C.past connector.new) result }
+{
     if connector.may_rest(&used) {
         connector.rest(used)
     } else {
@@ -26,7 +32,10 @@ impl<'a, E: Edge, Q: Ledger, A: Ledger> Pools<'a, E, Q, A> {
         rt: &R,
         connector: &mut C,
         point: Point,
-    ) -> Option<Found<E::Idle, Q, A>> {
+    ) -> Option<Found<E::Idle, Q, A>>
+        ensures tells { IfSome result (Tells point) }
+        ensures looks { (p : List AnyAct) → C.past connector.old p → C.past connector.new (after_take result p) }
+    {
         match self.take(rt, point) {
             Found::Idle(idle, lease) => {
                 if connector.is_fit(&idle) {
@@ -48,7 +57,10 @@ impl<'a, E: Edge, Q: Ledger, A: Ledger> Pools<'a, E, Q, A> {
         rt: &R,
         connector: &mut C,
         point: Point,
-    ) -> Found<E::Idle, Q, A> {
+    ) -> Found<E::Idle, Q, A>
+        ensures tells { Tells point result }
+        ensures takes { TakesLive (C.past connector.old) (C.past connector.new) result }
+    {
         for _ in 0..MAX_CONNECTIONS {
             if let Some(found) = self.take_fit(rt, connector, point) {
                 return found;
@@ -63,7 +75,10 @@ impl<'a, E: Edge, Q: Ledger, A: Ledger> Pools<'a, E, Q, A> {
         rt: &R,
         used: Result<U, LendFault>,
         lease: Leased<Q, A>,
-    ) -> Result<LeasedConnection<U, Q, A>, LendFault> {
+    ) -> Result<LeasedConnection<U, Q, A>, LendFault>
+        ensures connection { IfOk result (λ connection. (connection.lease ≡ lease) × (used ≡ Ok connection.wire)) }
+        ensures fault { fault_in result ≡ fault_in used }
+    {
         match used {
             Ok(wire) => Ok(LeasedConnection { wire, lease }),
             Err(fault) => {
@@ -79,7 +94,11 @@ impl<'a, E: Edge, Q: Ledger, A: Ledger> Pools<'a, E, Q, A> {
         rt: &R,
         connector: &mut C,
         found: Found<E::Idle, Q, A>,
-    ) -> Result<LeasedConnection<C::Used, Q, A>, LendFault> {
+    ) -> Result<LeasedConnection<C::Used, Q, A>, LendFault>
+        ensures busy { (result ≡ Err LendFault.Busy) ↔ (found ≡ Found.Busy) }
+        ensures lease { IfOk result (λ connection. HasLease found connection.lease) }
+        ensures asked { (p : List AnyAct) → C.past connector.old p → C.past connector.new (after_lend found (fault_in result) p) }
+    {
         match found {
             Found::Idle(idle, lease) => {
                 let used = connector.resume(idle);
@@ -99,7 +118,10 @@ impl<'a, E: Edge, Q: Ledger, A: Ledger> Pools<'a, E, Q, A> {
         rt: &R,
         connector: &mut C,
         point: Point,
-    ) -> Result<LeasedConnection<C::Used, Q, A>, LendFault> {
+    ) -> Result<LeasedConnection<C::Used, Q, A>, LendFault>
+        ensures point { IsOf point result }
+        ensures lends { Lends (C.past connector.old) (C.past connector.new) result }
+    {
         let found = self.take_live(rt, connector, point);
         self.lend_found(rt, connector, found)
     }
@@ -110,7 +132,10 @@ impl<'a, E: Edge, Q: Ledger, A: Ledger> Pools<'a, E, Q, A> {
         rt: &R,
         connector: &mut C,
         point: Point,
-    ) -> Result<LeasedConnection<C::Used, Q, A>, LendFault> {
+    ) -> Result<LeasedConnection<C::Used, Q, A>, LendFault>
+        ensures point { IsOf point result }
+        ensures lends { Lends (C.past connector.old) (C.past connector.new) result }
+    {
         if self.waiting.is_awaited(rt, point) {
             return Err(LendFault::Busy);
         }
@@ -124,7 +149,10 @@ impl<'a, E: Edge, Q: Ledger, A: Ledger> Pools<'a, E, Q, A> {
         connector: &mut C,
         point: Point,
         waiter: Waiter,
-    ) -> Result<LeasedConnection<C::Used, Q, A>, LendFault> {
+    ) -> Result<LeasedConnection<C::Used, Q, A>, LendFault>
+        ensures point { IsOf point result }
+        ensures lends { Lends (C.past connector.old) (C.past connector.new) result }
+    {
         if !self.waiting.is_first(rt, point, waiter) {
             return Err(LendFault::Busy);
         }
@@ -141,7 +169,11 @@ impl<'a, E: Edge, Q: Ledger, A: Ledger> Pools<'a, E, Q, A> {
         rt: &R,
         connector: &mut C,
         lease: &mut Leased<Q, A>,
-    ) -> Result<C::Used, LendFault> {
+    ) -> Result<C::Used, LendFault>
+        ensures asked { Reopens (C.past connector.old) (C.past connector.new) result }
+        ensures point { point_of lease.new ≡ point_of lease.old }
+        ensures fresh { OnOk result (is_reused lease.new ≡ false) }
+    {
         if self.replace(rt, lease) {
             connector.open(lease.point())
         } else {
@@ -155,7 +187,13 @@ impl<'a, E: Edge, Q: Ledger, A: Ledger> Pools<'a, E, Q, A> {
         rt: &R,
         connector: &mut C,
         connection: LeasedConnection<C::Used, Q, A>,
-    ) -> Result<LeasedConnection<C::Used, Q, A>, LendFault> {
+    ) -> Result<LeasedConnection<C::Used, Q, A>, LendFault>
+        ensures point { IsOf (point_of connection.lease) result }
+        ensures fresh { IfOk result (λ renewed. is_reused renewed.lease ≡ false) }
+
+        // The broken one is closed before another one is opened.
+        ensures closes { Reopens (λ p. (q : List AnyAct) × (p ≡ Act.Closed ∷ q) × C.past connector.old q) (C.past connector.new) result }
+    {
         let LeasedConnection { wire, lease } = connection;
         connector.close(wire);
         let mut lease = lease;
@@ -170,7 +208,9 @@ impl<'a, E: Edge, Q: Ledger, A: Ledger> Pools<'a, E, Q, A> {
         rt: &R,
         connector: &mut C,
         connection: LeasedConnection<C::Used, Q, A>,
-    ) {
+    )
+        ensures { PutsBack (C.past connector.old) (C.past connector.new) }
+    {
         let LeasedConnection { wire, lease } = connection;
         match lay_down(connector, wire) {
             Some(idle) => self.put_idle(rt, idle, lease),
@@ -184,7 +224,9 @@ impl<'a, E: Edge, Q: Ledger, A: Ledger> Pools<'a, E, Q, A> {
         rt: &R,
         connector: &mut C,
         connection: LeasedConnection<C::Used, Q, A>,
-    ) {
+    )
+        ensures { (p : List AnyAct) → C.past connector.old p → C.past connector.new (Act.Closed ∷ p) }
+    {
         let LeasedConnection { wire, lease } = connection;
         connector.close(wire);
         self.give_up(rt, lease);

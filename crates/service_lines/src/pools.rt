@@ -1,6 +1,7 @@
 //! The pools of both points.
 
-ghost use Rattle.std.specs.Prelude.{◌≤◌};
+ghost use Rattle.std.specs.Prelude.{◌≡◌, ◌≤◌, true, false, Some, OnOk, OnErr};
+ghost use Rattle.service_lines.specs.Lending.{Tells, point_of, is_reused};
 
 use crate::book::PointBook;
 use crate::connector::Edge;
@@ -36,12 +37,14 @@ impl<'a, E: Edge, Q: Ledger, A: Ledger> Pools<'a, E, Q, A> {
         Pools {
             request: self.request,
             response: self.response,
-            waiting: self.waiting,
+            waiting: self.waiting.again(),
         }
     }
 
     /// Leases a connection of a point's service, an idle one first.
-    pub(crate) fn take<R: Wait>(&self, rt: &R, point: Point) -> Found<E::Idle, Q, A> {
+    pub(crate) fn take<R: Wait>(&self, rt: &R, point: Point) -> Found<E::Idle, Q, A>
+        ensures { Tells point result }
+    {
         match point {
             Point::Reqmod => match self.request.take(rt) {
                 Taken::Idle(idle, lease) => Found::Idle(idle, Leased::Request(lease)),
@@ -77,7 +80,11 @@ impl<'a, E: Edge, Q: Ledger, A: Ledger> Pools<'a, E, Q, A> {
     }
 
     /// Whether a fresh connection may be opened in place of one that broke.
-    pub(crate) fn replace<R: Wait>(&self, rt: &R, lease: &mut Leased<Q, A>) -> bool {
+    pub(crate) fn replace<R: Wait>(&self, rt: &R, lease: &mut Leased<Q, A>) -> bool
+        ensures point { point_of lease.new ≡ point_of lease.old }
+        ensures fresh { result ≡ true → is_reused lease.new ≡ false }
+        ensures same { result ≡ false → lease.new ≡ lease.old }
+    {
         match lease {
             Leased::Request(lease) => self.request.replace(rt, lease).is_ok(),
             Leased::Response(lease) => self.response.replace(rt, lease).is_ok(),
@@ -140,12 +147,14 @@ impl<'a, E: Edge, Q: Ledger, A: Ledger> Pools<'a, E, Q, A> {
         point: Point,
         maximum: u64,
         book: &mut PointBook,
-        record: Record,
+        said: Record,
     ) -> Result<(), AllocError>
         requires { maximum ≤ MAX_CONNECTIONS }
+        ensures kept { OnOk result (book.new.said ≡ Some said) }
+        ensures same { OnErr result (book.new ≡ book.old) }
     {
         self.set_max(rt, alloc, point, maximum)?;
-        book.keep(record);
+        book.keep(said);
         Ok(())
     }
 }

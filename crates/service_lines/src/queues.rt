@@ -4,6 +4,8 @@
 //! make one free calls the first one, and the first one calls the next when it leaves: so none is called in vain for long,
 //! and no connection lies idle while somebody waits.
 
+ghost use Rattle.std.specs.Prelude.{◌≡◌, false, None};
+
 use crate::connector::Edge;
 use std::alloc::{AllocError, Global};
 use std::sync::{Mutex, Wait};
@@ -40,6 +42,17 @@ pub struct Waiting<'a, E: Edge> {
 }
 
 impl<'a, E: Edge> Waiting<'a, E> {
+    /// How they wait, for another thread.
+    pub(crate) fn again(&self) -> Waiting<'a, E>
+        ensures { (result.queues ≡ self.now.queues) × (result.edge ≡ self.now.edge) × (result.seconds ≡ self.now.seconds) }
+    {
+        Waiting {
+            queues: self.queues,
+            edge: self.edge,
+            seconds: self.seconds,
+        }
+    }
+
     /// The queue of a point.
     fn queue(&self, point: Point) -> &'a Mutex<WaitQueue> {
         match point {
@@ -61,12 +74,16 @@ impl<'a, E: Edge> Waiting<'a, E> {
     }
 
     /// Whether somebody waits, so that one who comes now has to join.
-    pub fn is_awaited<R: Wait>(&self, rt: &R, point: Point) -> bool {
+    pub fn is_awaited<R: Wait>(&self, rt: &R, point: Point) -> bool
+        ensures off { self.now.seconds ≡ 0 → result ≡ false }
+    {
         self.seconds > 0 && !self.queue(point).lock(rt).is_empty()
     }
 
     /// Joins a queue. False where exchanges don't wait, or too many do already.
-    pub fn join<R: Wait>(&self, rt: &R, point: Point, waiter: Waiter) -> bool {
+    pub fn join<R: Wait>(&self, rt: &R, point: Point, waiter: Waiter) -> bool
+        ensures off { self.now.seconds ≡ 0 → result ≡ false }
+    {
         self.seconds > 0 && self.queue(point).lock(rt).join(waiter).is_ok()
     }
 
@@ -76,7 +93,9 @@ impl<'a, E: Edge> Waiting<'a, E> {
     }
 
     /// The key of the one whose turn it is, where it is of this thread.
-    pub fn first_of<R: Wait>(&self, rt: &R, point: Point, thread: usize) -> Option<usize> {
+    pub fn first_of<R: Wait>(&self, rt: &R, point: Point, thread: usize) -> Option<usize>
+        ensures off { self.now.seconds ≡ 0 → result ≡ None }
+    {
         if self.seconds == 0 {
             return None;
         }

@@ -1,5 +1,7 @@
 //! Connections to services over sockets: how they lie idle, and what their lending asks of a thread's loop.
 
+ghost use Rattle.std.specs.Prelude.{◌≡◌, ⊤, Err};
+
 use crate::seats::{At, Seats};
 use event_loop::{IdlePlace, Inbox, Room};
 use proxy_rules::Reason;
@@ -76,7 +78,9 @@ pub fn dial<P: Role, R: Dial>(
     seats: &mut Seats,
     at: At<'_>,
     address: SocketAddrV4,
-) -> Result<SocketWire<P>, LendFault> {
+) -> Result<SocketWire<P>, LendFault>
+    ensures { result ≡ Err LendFault.Busy → ⊥ }
+{
     match rt.dial(SocketAddr::V4(address)) {
         Ok(stream) => match seats.wire(at, Readiness::dialled(), stream) {
             Ok(wire) => Ok(wire),
@@ -126,6 +130,8 @@ fn is_quiet(wire: &ServiceWire) -> bool {
 impl<'s, 'r, 'a> Keeper<Loops<'a>> for Berth<'s, 'r, 'a> {
     type Used = ServiceWire;
 
+    ghost past = { λ keeper p. ⊤ };
+
     fn may_rest(&mut self, used: &ServiceWire) -> bool {
         is_quiet(used)
     }
@@ -150,6 +156,8 @@ pub struct Port<'s, 'r, 'a, R> {
 
 impl<'s, 'r, 'a, R: Dial> Keeper<Loops<'a>> for Port<'s, 'r, 'a, R> {
     type Used = ServiceWire;
+
+    ghost past = { λ keeper p. ⊤ };
 
     fn may_rest(&mut self, used: &ServiceWire) -> bool {
         is_quiet(used)
