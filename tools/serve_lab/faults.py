@@ -11,8 +11,9 @@ import threading
 import time
 
 from serve_lab.cases import IDLE, at_once, case, comes, get, lent, post, refusal, same, settled
-from serve_lab.loopback import Closed, User, ask, body_of
+from serve_lab.loopback import Closed, Icap, User, ask, body_of
 from serve_lab.memory import Refusals, has_compiler
+from serve_lab.operators import stats
 
 
 class Strace:
@@ -65,6 +66,41 @@ def a_dial_for_which_there_is_no_room_is_503(bench):
         same("the call failed", any("INJECTED" in line for line in trace.close()), True)
     same("after them", ask(proxy.port, get("/bytes/3")).body, b"the")
     same("audit", proxy.stop(), IDLE)
+
+
+@case
+def a_retry_closes_the_broken_connection_first(bench):
+    """So it needs no descriptor beside those that were counted for its user; where the system has no room for a fresh connection, that
+    is 503."""
+    if not has_strace():
+        return
+    origin = bench.origin()
+
+    def reply(conn, reader, head, count):
+        if count % 3 == 2:
+            Icap.rest(reader, head)
+            return False
+        return service.no_modification(conn, reader, head, count)
+    for point in ("reqmod", "respmod"):
+        service = bench.icap(reply)
+        proxy = bench.proxy(origin, "shards = 1", [(point, service.port, "/%s/x" % point)])
+        same("before it", ask(proxy.port, get("/bytes/3")).body, b"the")
+        trace = Strace(proxy, "-e", "trace=socket,close")
+        same("retried", ask(proxy.port, get("/bytes/3")).body, b"the")
+        calls = [re.search(r"(socket|close)\(", line) for line in trace.close()]
+        names = [call.group(1) for call in calls if call]
+        same(point, names[:3], ["socket", "close", "socket"])
+        same("between them", ask(proxy.port, get("/bytes/3")).body, b"the")
+        trace = Strace(proxy, "-e", "trace=socket", "-e", "inject=socket:error=EMFILE:when=2+")
+        user = User(proxy.port)
+        user.send(get("/bytes/3"))
+        same("without room", user.reader.to_end(), refusal(503))
+        user.close()
+        same("the call failed", any("INJECTED" in line for line in trace.close()), True)
+        comes("counted", lambda: stats(proxy)['adaptproxy_refusals_total{why="no-memory"}'] == 1)
+        same("after it", ask(proxy.port, get("/bytes/3")).body, b"the")
+        same("requests", len(service.requests), 6)
+        same("audit", proxy.stop(), IDLE)
 
 
 def waits_after_accepts(lines):
