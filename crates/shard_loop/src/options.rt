@@ -60,6 +60,13 @@ fn asked_word(fault: ClientFault, untouched: bool) -> Why {
 }
 
 impl<'a, B: Ledgers, Q: Ledger, A: Ledger, G: Gate> Desk<'a, B, Q, A, G> {
+    /// Whether what its service said of its options serves for a message: it is fresh, or was said when it was asked for this very
+    /// message, once.
+    pub fn knows_options(&self, ends: &Ends, now: u64) -> bool {
+        let book = self.book(ends.point());
+        book.is_fresh(now) || ends.asked && book.record().is_some()
+    }
+
     /// Begins to ask.
     pub fn ask<R: Wait + Dial>(
         &mut self,
@@ -198,6 +205,8 @@ impl<'a, B: Ledgers, Q: Ledger, A: Ledger, G: Gate> Desk<'a, B, Q, A, G> {
         is_reusable: bool,
     ) -> Step<Phase<B, Q, A>> {
         let point = ends.point();
+        let mut ends = ends;
+        ends.asked = true;
         if is_reusable {
             self.begin(rt, at, ends, point, Some(connection))
         } else {

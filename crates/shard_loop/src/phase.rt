@@ -32,6 +32,8 @@ pub struct EndsOf<M> {
     pub origin: Option<OriginWire>,
     /// Whether the user got `100 Continue`.
     pub told: bool,
+    /// Whether the service was asked for its options for this message.
+    pub asked: bool,
 }
 
 impl<B: Ledgers> Moving<B> {
@@ -85,6 +87,7 @@ impl<M: Drop> EndsOf<M> {
             message,
             origin,
             told: false,
+            asked: false,
         };
         match Box::new(alloc, ends) {
             Ok(ends) => Ok(ends),
@@ -99,6 +102,7 @@ impl<M: Drop> EndsOf<M> {
             message: _,
             origin: _,
             told: _,
+            asked: _,
         } = self;
         user
     }

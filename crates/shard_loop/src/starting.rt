@@ -45,6 +45,7 @@ fn joined<M: Drop>(ends: EndsOf<M>, opened: Option<OriginWire>) -> Option<Joined
         message,
         origin,
         told: _,
+        asked: _,
     } = ends;
     match (origin, opened) {
         (Some(origin), _) => Some(Joined::Response(Sides {

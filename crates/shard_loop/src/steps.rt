@@ -108,7 +108,7 @@ impl<'a, B: Ledgers, Q: Ledger, A: Ledger, G: Gate> Desk<'a, B, Q, A, G> {
         point: Point,
     ) -> Step<Phase<B, Q, A>> {
         match self.service(point) {
-            Some(service) if !self.book(point).is_fresh(at.now) => {
+            Some(service) if !self.knows_options(&ends, at.now) => {
                 if ends.point() == Point::Reqmod && self.origin_of(&ends).is_none() {
                     return self.refuse_user(at, ends, Reason::UnknownHost);
                 }

@@ -83,7 +83,7 @@ impl<'a, B: Ledgers, Q: Ledger, A: Ledger, G: Gate> Desk<'a, B, Q, A, G> {
     ) -> Step<Phase<B, Q, A>> {
         let point = ends.point();
         match self.service(point) {
-            Some(service) if !self.book(point).is_fresh(at.now) => {
+            Some(service) if !self.knows_options(&ends, at.now) => {
                 self.ask_on(rt, at, ends, service, connection)
             }
             _ => self.begin(rt, at, ends, point, Some(connection)),
