@@ -18,6 +18,11 @@ def no_target_is_the_proxy_itself(bench):
             target = "http://%s:%d/" % (host, port)
             request = "POST %s HTTP/1.1\r\nHost: x\r\nContent-Length: 5\r\n\r\nstop\n" % target
             is_refused(target, proxy.port, request.encode(), 502)
+        # Other spellings of the address, as some resolvers take them, are names that nobody knows.
+        for host in ("127.1", "2130706433", "0x7f000001", "0x7f.0.0.1", "0177.0.0.1", "127.000.000.001", "127.0.0.1.", "localhost", "0",
+                     "[::1]", "[::ffff:127.0.0.1]", "[::]", "[127.0.0.1]", "255.255.255.255"):
+            request = "POST http://%s:%d/ HTTP/1.1\r\nHost: x\r\nContent-Length: 5\r\n\r\nstop\n" % (host, port)
+            is_refused(host, proxy.port, request.encode(), 502)
     port, admin = free_port(), free_port()
     everywhere = bench.keep(Program(ADAPTPROXY, 'listen = "127.0.0.1:%d"\nadmin = "0.0.0.0:%d"\n[hosts]\n"a.test" = "127.0.0.1:%d"\n'
                                     '"o.test" = "127.0.0.1:%d"\n' % (port, admin, admin, origin.port)))
