@@ -507,41 +507,6 @@ def a_log_that_cant_be_opened_ends_the_program(bench):
     same("ended", (program.first, program.ended()), (b"", (b"", b"adaptproxy: config log\n", 2)))
 
 
-@case
-def a_full_disk_loses_lines_and_no_exchange(bench):
-    if os.geteuid() != 0 or shutil.which("mount") is None:
-        print("      needs root and mount: left out")
-        return
-    origin = bench.origin()
-    with tempfile.TemporaryDirectory() as folder:
-        if subprocess.run(["mount", "-t", "tmpfs", "-o", "size=16k", "tmpfs", folder], stderr=subprocess.DEVNULL).returncode:
-            print("      no tmpfs can be mounted: left out")
-            return
-        try:
-            path = os.path.join(folder, "access.log")
-            proxy = bench.proxy(origin, 'log = "%s"\n' % path)
-            user = User(proxy.port)
-            for number in range(400):
-                same("served %d" % number, user.ask(get("/bytes/3/" + "y" * 100)).body, b"the")
-            user.close()
-            time.sleep(0.3)
-            with open(path, "rb") as text:
-                lines = text.read().split(b"\n")
-            whole = [line for line in lines if LINE.fullmatch(line.decode("ascii"))]
-            lost = stats(proxy)["adaptproxy_log_lines_lost_total"]
-            same("written and lost", (len(whole) + lost, lost > 300), (400, True))
-            same("at most one torn", len(lines) - 1 - len(whole) <= 1, True)
-            with open(path, "wb"):
-                pass
-            ask(proxy.port, get("/bytes/5"))
-            time.sleep(0.3)
-            with open(path, "rb") as text:
-                same("it goes on", text.read().count(b"bytes/5"), 1)
-            same("audit", proxy.stop(), IDLE)
-        finally:
-            subprocess.run(["umount", "-l", folder], check=False)
-
-
 def stats(proxy):
     """The numbers of `stats` by their names and labels, and that the text is OpenMetrics."""
     with socket.create_connection(("127.0.0.1", proxy.admin), PATIENCE) as sock:

@@ -9,7 +9,7 @@ use exchange_report::Why;
 use mio::net::TcpStream;
 use proxy_rules::{Incoming, Reason};
 use service_lines::{Edge, POINTS};
-use shard_report::USERS;
+use shard_report::Count;
 use socket_wire::{Dial, Unread, UserWire};
 use span_bank::Ledgers;
 use std::alloc::Global;
@@ -62,6 +62,12 @@ pub trait Exchanges {
     /// Whether no byte of a request was read, but some have come that no event has reported yet.
     fn is_wanted(&self, exchange: &Self::Exchange) -> bool;
 
+    /// An exchange ends in its midst, since its user is gone: what became of its message is noted.
+    fn broken(&mut self, key: usize, exchange: &Self::Exchange);
+
+    /// The loop ends with an exchange in its midst: what became of its message is noted, and that it was stopped.
+    fn left(&mut self, key: usize, exchange: &Self::Exchange);
+
     /// The exchange under this key is over, if one was open: it is counted, and its line added to the log.
     fn over<R: Wait + Clock>(&mut self, rt: &R, key: usize);
 
@@ -106,7 +112,7 @@ impl<'a, B: Ledgers, Q: Ledger, A: Ledger, G: Gate> Exchanges for Desk<'a, B, Q,
     fn enter(&mut self, key: usize, purpose: Purpose, stream: &TcpStream) {
         let address = self.origin_of_user(stream);
         self.note_user(key, address);
-        self.shared.tally.add(USERS, 1);
+        self.shared.tally.add(Count::Users, 1);
         if purpose == Purpose::Refusal {
             self.notes.refuse(key, Why::NoSeat, 503);
         }
@@ -196,6 +202,14 @@ impl<'a, B: Ledgers, Q: Ledger, A: Ledger, G: Gate> Exchanges for Desk<'a, B, Q,
         }
     }
 
+    fn broken(&mut self, key: usize, exchange: &Phase<B, Q, A>) {
+        self.note_broken(key, exchange);
+    }
+
+    fn left(&mut self, key: usize, exchange: &Phase<B, Q, A>) {
+        self.note_left(key, exchange);
+    }
+
     fn over<R: Wait + Clock>(&mut self, rt: &R, key: usize) {
         self.report(rt, key);
     }
@@ -207,7 +221,7 @@ impl<'a, B: Ledgers, Q: Ledger, A: Ledger, G: Gate> Exchanges for Desk<'a, B, Q,
     fn leave<R: Wait + Clock>(&mut self, rt: &R, key: usize) {
         self.report(rt, key);
         self.seats.leave(key);
-        self.shared.tally.take(USERS, 1);
+        self.shared.tally.take(Count::Users, 1);
     }
 
     fn close_idle<R: Wait>(&mut self, rt: &R) -> Option<bool> {

@@ -11,9 +11,8 @@ use http_side::{HttpFault, Values};
 use mio::net::TcpStream;
 use proxy_rules::{Incoming, Reason};
 use shard_report::{
-    Evidence, Note, READ, REQUESTS, RETRIES, SENT, Stage, address_of, class_place, failed_status,
-    failed_word, kind_in, kind_of, moment, offer_place, refusal_place, status_in, status_of,
-    verdict_of, why_of,
+    Class, Count, Evidence, Note, Stage, address_of, failed_status, failed_word, kind_in, kind_of,
+    moment, status_in, status_of, verdict_of, why_of,
 };
 use socket_wire::{ServiceWire, UserWire};
 use span_bank::Ledgers;
@@ -152,7 +151,7 @@ impl<'a, B: Ledgers, Q: Ledger, A: Ledger, G: Gate> Desk<'a, B, Q, A, G> {
         if let Some(note) = self.notes.get_mut(key) {
             let more = read.saturating_sub(note.read);
             note.read = read;
-            self.shared.tally.add(READ, more);
+            self.shared.tally.add(Count::Read, more);
         }
     }
 
@@ -185,7 +184,7 @@ impl<'a, B: Ledgers, Q: Ledger, A: Ledger, G: Gate> Desk<'a, B, Q, A, G> {
             next_is_fresh: next.counts() == (0, 0),
             to_user: seen.plan.point == Point::Respmod || seen.modified && answers_itself(service),
         };
-        self.note_outcome(at, seen, outcome, evidence);
+        self.note_outcome(at.key, seen, outcome, evidence);
         if seen.modified
             && let Some(line) = service
             && let Some(text) = line.side.adapted_head()
@@ -199,36 +198,62 @@ impl<'a, B: Ledgers, Q: Ledger, A: Ledger, G: Gate> Desk<'a, B, Q, A, G> {
         }
     }
 
+    /// An exchange ends in the midst of this phase, since its user is gone: what became of its message is noted.
+    pub fn note_broken(&mut self, key: usize, phase: &Phase<B, Q, A>) {
+        if let Phase::Moving { tx, lease: _ } = phase {
+            match tx.outcome() {
+                None => self.note_message(key, &tx.seen()),
+                outcome => self.note_failed(key, &tx.seen(), outcome),
+            }
+        }
+    }
+
+    /// A loop ends with an exchange in this phase: what became of its message is noted, and that it was stopped.
+    pub fn note_left(&mut self, key: usize, phase: &Phase<B, Q, A>) {
+        self.note_broken(key, phase);
+        if let Some(note) = self.notes.get_mut(key) {
+            note.why = Some(note.why.unwrap_or(Why::Stopping));
+        }
+    }
+
     /// A transaction ends whose user doesn't take its refusal.
-    pub fn note_failed(&mut self, at: At<'_>, seen: &Seen, outcome: Option<Outcome>) {
+    pub fn note_failed(&mut self, key: usize, seen: &Seen, outcome: Option<Outcome>) {
         let evidence = Evidence {
             service: Why::ServiceBroken,
             next_is_fresh: false,
             to_user: seen.plan.point == Point::Respmod,
         };
         if let Some(outcome) = outcome {
-            self.note_outcome(at, seen, outcome, evidence);
+            self.note_outcome(key, seen, outcome, evidence);
+        }
+    }
+
+    /// What became of a message.
+    fn note_message(&mut self, key: usize, seen: &Seen) {
+        let point = seen.plan.point;
+        let verdict = verdict_of(seen);
+        self.notes.judge(key, point, verdict);
+        self.shared
+            .tally
+            .add(Count::Messages(point, verdict.reply), 1);
+        if verdict.retried {
+            self.shared.tally.add(Count::Retries, 1);
         }
     }
 
     /// What became of a message, and of the answer.
-    fn note_outcome(&mut self, at: At<'_>, seen: &Seen, outcome: Outcome, evidence: Evidence) {
+    fn note_outcome(&mut self, key: usize, seen: &Seen, outcome: Outcome, evidence: Evidence) {
         let point = seen.plan.point;
-        let verdict = verdict_of(seen);
-        self.notes.judge(at.key, point, verdict);
-        self.shared.tally.add(offer_place(point, verdict.reply), 1);
-        if verdict.retried {
-            self.shared.tally.add(RETRIES, 1);
-        }
+        self.note_message(key, seen);
         match outcome {
-            Outcome::Done if point == Point::Respmod => self.note_whole(at.key),
+            Outcome::Done if point == Point::Respmod => self.note_whole(key),
             Outcome::Done => {}
             Outcome::Fail(cause) => {
                 let why = failed_word(cause, seen, evidence);
-                if self.seats.has_answered(at.key) {
-                    self.note_cut(at.key, why);
+                if self.seats.has_answered(key) {
+                    self.note_cut(key, why);
                 } else {
-                    self.notes.refuse(at.key, why, failed_status(cause, point));
+                    self.notes.refuse(key, why, failed_status(cause, point));
                 }
             }
         }
@@ -258,11 +283,11 @@ impl<'a, B: Ledgers, Q: Ledger, A: Ledger, G: Gate> Desk<'a, B, Q, A, G> {
         };
         let sent = self.seats.taken(key).saturating_sub(note.taken);
         let tally = self.shared.tally;
-        tally.add(REQUESTS, 1);
-        tally.add(SENT, sent);
-        tally.add(class_place(status_of(&note)), 1);
+        tally.add(Count::Requests, 1);
+        tally.add(Count::Sent, sent);
+        tally.add(Count::Answers(Class::of(status_of(&note))), 1);
         if note.refused {
-            tally.add(refusal_place(why_of(&note)), 1);
+            tally.add(Count::Refusals(why_of(&note)), 1);
         }
         if self.shared.log.is_kept() {
             let entry = self.notes.entry(key, &note, moment(rt), sent);

@@ -38,6 +38,9 @@ impl<P, D: Exchanges<Exchange = P> + Drop> Shard<D, P> {
         let Shard { desk, slots } = self;
         let mut desk = desk;
         for key in 0..slots.count() {
+            if let Some(exchange) = slots.get(key) {
+                desk.left(key, exchange);
+            }
             desk.over(rt, key);
         }
         slots.into_all()
@@ -96,6 +99,7 @@ impl<P, D: Exchanges<Exchange = P> + Drop> Shard<D, P> {
     /// Ends the exchange under this key, and all of its connections.
     fn end_slot<R: Wait + Clock>(&mut self, rt: &R, key: usize) {
         if let Some(phase) = self.slots.take(key) {
+            self.desk.broken(key, &phase);
             self.desk.end(rt, phase);
         }
         self.leave(rt, key);

@@ -136,7 +136,7 @@ impl<'a, B: Ledgers, Q: Ledger, A: Ledger, G: Gate> Desk<'a, B, Q, A, G> {
             Round::Moved | Round::Broken => Step::On(Phase::Moving { tx, lease }),
             Round::Finished => self.settle(rt, at, tx, lease),
             Round::Waiting if tx.outcome().is_some() && self.is_late(at) => {
-                self.note_failed(at, &tx.seen(), tx.outcome());
+                self.note_failed(at.key, &tx.seen(), tx.outcome());
                 self.end_moving(rt, tx, lease);
                 Step::Over
             }

@@ -1,5 +1,7 @@
 //! What the log says of an answer's head.
 
+ghost use Rattle.std.specs.Prelude.{◌<◌, IfSome};
+
 use adapt_bytes::{front, is_blank, read_decimal, same_ascii, trim};
 
 /// A media type without its parameters (RFC 9110, section 8.3.1).
@@ -30,7 +32,9 @@ pub fn kind_in(head: &[u8]) -> &[u8] {
 }
 
 /// The status in a response's text; none where it is no response's.
-pub fn status_in(head: &[u8]) -> Option<u16> {
+pub fn status_in(head: &[u8]) -> Option<u16>
+    ensures { IfSome result (λ status. status < 1000) }
+{
     let digits = head.get(9..12)?;
     match read_decimal(digits) {
         Some(status) if head.starts_with(b"HTTP/") && status < 1000 => Some(status as u16),

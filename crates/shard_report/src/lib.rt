@@ -4,24 +4,27 @@
 //! numbers up. Nothing here knows a socket or the engine of a protocol.
 #![tactic(auto)]
 
+mod append;
 mod audit;
 mod capacity;
+mod clock;
 mod heads;
+pub mod laws;
+mod lines;
 mod log;
-mod moment;
 mod notes;
+mod output;
 mod reasons;
 mod stats;
 mod tally;
 
+pub use append::Append;
 pub use audit::{ServeFault, StopAudit, Stopped};
 pub use capacity::change_capacity;
+pub use clock::moment;
 pub use heads::{kind_in, kind_of, status_in};
-pub use log::{Append, Log};
-pub use moment::moment;
+pub use log::Log;
 pub use notes::{Note, Notes, Stage, address_of, status_of, why_of};
 pub use reasons::{Evidence, failed_status, failed_word, verdict_of};
 pub use stats::{Figures, stats_text};
-pub use tally::{
-    READ, REQUESTS, RETRIES, SENT, Tally, USERS, class_place, offer_place, refusal_place,
-};
+pub use tally::{Class, Count, Tally};

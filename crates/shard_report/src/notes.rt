@@ -1,5 +1,10 @@
 //! What is noted of an exchange while it goes on: what its line in the log says, and what is counted.
 
+ghost use Rattle.std.specs.Prelude.{◌≡◌, ◌↔◌, ◌<◌, None, Some, IsSome, IsTrue};
+ghost use Rattle.exchange_report.specs.declared.why.Why.{Why};
+ghost use Rattle.exchange_report.specs.declared.why.Why.TheVariants.{UserGone};
+ghost use Rattle.shard_report.specs.Notes.{IsOpen};
+
 use adapt_bytes::front;
 use exchange_report::{Address, Entry, MAX_KIND, MAX_METHOD, MAX_TARGET, Verdict, Why};
 use std::alloc::{AllocError, Global};
@@ -164,7 +169,9 @@ impl Notes {
     }
 
     /// Whether an exchange goes on under this key: a request was read, or refused, and its answer isn't over.
-    pub fn is_open(&self, key: usize) -> bool {
+    pub fn is_open(&self, key: usize) -> bool
+        ensures { IsTrue result ↔ IsOpen self.now.notes.items key }
+    {
         match self.notes.get(key) {
             Some(note) => note.is_open,
             None => false,
@@ -230,7 +237,10 @@ impl Notes {
     }
 
     /// Closes an exchange that is open, and gives its note.
-    pub fn close(&mut self, key: usize) -> Option<Note> {
+    pub fn close(&mut self, key: usize) -> Option<Note>
+        ensures some { IsSome result ↔ IsOpen self.old.notes.items key }
+        ensures closed { IsOpen self.new.notes.items key → ⊥ }
+    {
         let note = self.notes.get_mut(key)?;
         if !note.is_open {
             return None;
@@ -268,7 +278,10 @@ impl Notes {
 const CLOSED_REQUEST: u16 = 499;
 
 /// The status of an exchange.
-pub fn status_of(note: &Note) -> u16 {
+pub fn status_of(note: &Note) -> u16
+    ensures known { 0 < note.now.status → result ≡ note.now.status }
+    ensures gone { note.now.status ≡ 0 → result ≡ 499 }
+{
     if note.status == 0 {
         CLOSED_REQUEST
     } else {
@@ -277,7 +290,10 @@ pub fn status_of(note: &Note) -> u16 {
 }
 
 /// Why an exchange ended as it did.
-pub fn why_of(note: &Note) -> Why {
+pub fn why_of(note: &Note) -> Why
+    ensures known { (why : Why) → note.now.why ≡ Some why → result ≡ why }
+    ensures gone { note.now.why ≡ None → result ≡ UserGone }
+{
     match note.why {
         Some(why) => why,
         None => Why::UserGone,

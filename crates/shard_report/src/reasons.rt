@@ -1,10 +1,15 @@
 //! Why a message didn't come through, and what became of it, as its history shows.
 
+ghost use Rattle.std.specs.Prelude.{◌≡◌};
+ghost use Rattle.shard_report.specs.Reasons.{verdict_of, next_hop_owes, late_of, taker, failed_word, failed_status};
+
 use exchange_report::{Reply, Verdict, Why};
 use trace_core::{Cause, Point, Seen};
 
 /// What became of a message, as its history shows.
-pub fn verdict_of(seen: &Seen) -> Verdict {
+pub fn verdict_of(seen: &Seen) -> Verdict
+    ensures { result ≡ verdict_of seen.now }
+{
     Verdict {
         retried: seen.retried,
         continued: seen.continued,
@@ -21,7 +26,9 @@ pub fn verdict_of(seen: &Seen) -> Verdict {
 }
 
 /// Whether bytes of the chosen message came that the next hop hasn't taken.
-fn is_next_hop_late(seen: &Seen) -> bool {
+fn is_next_hop_late(seen: &Seen) -> bool
+    ensures { result ≡ next_hop_owes seen.now }
+{
     if seen.plan.kind.is_plain() || seen.no_mod {
         seen.original_delivered < seen.received
     } else {
@@ -30,7 +37,9 @@ fn is_next_hop_late(seen: &Seen) -> bool {
 }
 
 /// Who let a deadline pass: who gets the message takes no byte, the source owes some, or the service an answer.
-fn late_of(seen: &Seen, to_user: bool) -> Why {
+fn late_of(seen: &Seen, to_user: bool) -> Why
+    ensures { result ≡ late_of seen.now to_user }
+{
     let offered = !seen.plan.kind.is_plain();
     let served = !offered || seen.no_mod || seen.adapted_over;
     let source_owes = !seen.ended && (served || !seen.last_stop && seen.sent == seen.received);
@@ -46,7 +55,9 @@ fn late_of(seen: &Seen, to_user: bool) -> Why {
 }
 
 /// That who gets the message let a deadline pass.
-fn taker(to_user: bool) -> Why {
+fn taker(to_user: bool) -> Why
+    ensures { result ≡ taker to_user }
+{
     if to_user {
         Why::UserDeadline
     } else {
@@ -66,7 +77,9 @@ pub struct Evidence {
 }
 
 /// Why a transaction failed.
-pub fn failed_word(cause: Cause, seen: &Seen, evidence: Evidence) -> Why {
+pub fn failed_word(cause: Cause, seen: &Seen, evidence: Evidence) -> Why
+    ensures { result ≡ failed_word cause seen.now evidence }
+{
     let point = seen.plan.point;
     match cause {
         Cause::Source if point == Point::Reqmod => Why::RequestBroken,
@@ -82,7 +95,9 @@ pub fn failed_word(cause: Cause, seen: &Seen, evidence: Evidence) -> Why {
 }
 
 /// The status of the refusal that a failed transaction has.
-pub fn failed_status(cause: Cause, point: Point) -> u16 {
+pub fn failed_status(cause: Cause, point: Point) -> u16
+    ensures { result ≡ failed_status cause point }
+{
     match cause {
         Cause::Source if point == Point::Reqmod => 400,
         Cause::Source | Cause::Service | Cause::NextHop => 502,

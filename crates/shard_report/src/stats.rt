@@ -1,8 +1,6 @@
 //! The answer to `stats`: the sums of what the loops count, and the numbers of what they share.
 
-use crate::tally::{
-    READ, REQUESTS, RETRIES, SENT, Tally, USERS, class_place, offer_place, refusal_place, total,
-};
+use crate::tally::{Class, Count, Tally, total};
 use exchange_report::{Family, Kind, Metric, Reply, Why, metrics_text};
 use service_pool::Numbers;
 use span_bank::Book;
@@ -47,11 +45,13 @@ const fn gauge(name: &'static [u8], help: &'static [u8]) -> Family {
 }
 
 /// The labels of answers, by the class of their status.
-const CLASSES: [(u16, &[u8]); 4] = [
-    (200, b"{class=\"2xx\"}"),
-    (300, b"{class=\"3xx\"}"),
-    (400, b"{class=\"4xx\"}"),
-    (500, b"{class=\"5xx\"}"),
+const CLASSES: [(Class, &[u8]); 6] = [
+    (Class::Informational, b"{class=\"1xx\"}"),
+    (Class::Successful, b"{class=\"2xx\"}"),
+    (Class::Redirection, b"{class=\"3xx\"}"),
+    (Class::ClientError, b"{class=\"4xx\"}"),
+    (Class::ServerError, b"{class=\"5xx\"}"),
+    (Class::Other, b"{class=\"other\"}"),
 ];
 
 /// The labels of what became of messages.
@@ -142,13 +142,13 @@ impl<'a> Sheet<'a> {
     }
 
     /// The sum of what the loops count.
-    fn sum(&self, place: usize) -> u64 {
-        total(self.tallies, place)
+    fn sum(&self, count: Count) -> u64 {
+        total(self.tallies, count)
     }
 
     /// What the loops count of requests and answers.
     fn put_counts(&mut self) -> Result<(), AllocError> {
-        let requests = self.sum(REQUESTS);
+        let requests = self.sum(Count::Requests);
         self.one(
             counter(
                 b"adaptproxy_requests",
@@ -161,8 +161,8 @@ impl<'a> Sheet<'a> {
             b"Answers by the class of their status.",
         );
         self.put(Metric::Family(answers))?;
-        for (status, label) in CLASSES {
-            let value = self.sum(class_place(status));
+        for (class, label) in CLASSES {
+            let value = self.sum(Count::Answers(class));
             self.put(Metric::Sample(answers, label, value))?;
         }
         let refusals = counter(
@@ -171,7 +171,7 @@ impl<'a> Sheet<'a> {
         );
         self.put(Metric::Family(refusals))?;
         for (why, label) in REFUSALS {
-            let value = self.sum(refusal_place(why));
+            let value = self.sum(Count::Refusals(why));
             self.put(Metric::Sample(refusals, label, value))?;
         }
         Ok(())
@@ -185,10 +185,10 @@ impl<'a> Sheet<'a> {
         );
         self.put(Metric::Family(messages))?;
         for (point, reply, label) in OFFERS {
-            let value = self.sum(offer_place(point, reply));
+            let value = self.sum(Count::Messages(point, reply));
             self.put(Metric::Sample(messages, label, value))?;
         }
-        let retries = self.sum(RETRIES);
+        let retries = self.sum(Count::Retries);
         self.one(
             counter(
                 b"adaptproxy_retries",
@@ -197,7 +197,7 @@ impl<'a> Sheet<'a> {
             retries,
         )?;
         let bytes = counter(b"adaptproxy_user_bytes", b"Bytes from and to users.");
-        let (read, sent) = (self.sum(READ), self.sum(SENT));
+        let (read, sent) = (self.sum(Count::Read), self.sum(Count::Sent));
         self.put(Metric::Family(bytes))?;
         self.put(Metric::Sample(bytes, b"{direction=\"in\"}", read))?;
         self.put(Metric::Sample(bytes, b"{direction=\"out\"}", sent))
@@ -278,7 +278,7 @@ impl<'a> Sheet<'a> {
 
     /// The users, and the seats for them.
     fn put_users(&mut self, seats: u64) -> Result<(), AllocError> {
-        let users = self.sum(USERS);
+        let users = self.sum(Count::Users);
         self.one(
             gauge(b"adaptproxy_users", b"Users that are connected."),
             users,

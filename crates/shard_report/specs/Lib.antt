@@ -1,0 +1,4 @@
+pub mod Lines
+pub mod Notes
+pub mod Places
+pub mod Reasons
