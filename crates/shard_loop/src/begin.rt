@@ -27,13 +27,13 @@ pub struct Planned {
     pub waits: bool,
 }
 
-/// An offer that was made, on the heap.
-fn placed(alloc: Global, offer: Result<Offer, AllocError>) -> Result<Box<Offer>, Reason> {
-    let Ok(offer) = offer else {
+/// What was made, on the heap.
+fn placed<T: Drop>(alloc: Global, made: Result<T, AllocError>) -> Result<Box<T>, Reason> {
+    let Ok(made) = made else {
         return Err(Reason::NoMemory);
     };
-    match Box::new(alloc, offer) {
-        Ok(offer) => Ok(offer),
+    match Box::new(alloc, made) {
+        Ok(made) => Ok(made),
         Err(_) => Err(Reason::NoMemory),
     }
 }

@@ -1,15 +1,16 @@
 //! The end of exchanges that don't go on.
 
-ghost use Rattle.std.specs.Prelude.{◌≡◌};
+ghost use Rattle.std.specs.Prelude.{◌≡◌, Unit, IfOk, IfErr};
 
 use crate::desk::Desk;
 use crate::phase::Moving;
 use crate::pools::{Leased, LeasedConnection};
 use adapt_sides::{Hop, Service, Source};
 use adapt_turn::{Forward, Line, Parts, Tx};
-use proxy_rules::Beginning;
+use proxy_rules::{Beginning, Running};
 use socket_wire::UserWire;
 use span_bank::{Bank, Ledgers, Pages, Stake};
+use std::alloc::{AllocFailed, Global};
 use std::boxed::Box;
 use std::sync::Wait;
 use std::sync::ledger::Ledger;
@@ -113,8 +114,61 @@ pub fn wire_of<V: Drop, W>(service: Option<Line<V, W>>) -> Option<W> {
     }
 }
 
+/// What a transaction comes to that doesn't go on.
+pub trait Ending<B: Ledgers, X, Z> {
+    // its reservation holds nothing
+    ghost is_empty: { Self → Type 0 };
+
+    /// Closes its reservation and its service's connection. The connections of its source and its next hop are left, unless it is one
+    /// that couldn't begin.
+    fn end<R: Wait>(self, rt: &R, bank: &Bank<B>) -> Option<(X, Z)>
+        requires { is_empty self };
+}
+
+impl<B: Ledgers, X: Wire, Y: Wire + Drop, Z: Wire> Ending<B, X, Z> for Running<B, X, Y, Z> {
+    ghost is_empty = { λ _. Unit {0} };
+
+    fn end<R: Wait>(self, rt: &R, bank: &Bank<B>) -> Option<(X, Z)> {
+        let Remains {
+            stake,
+            source_wire,
+            next_wire,
+        } = end_of(rt, bank, self.into_tx());
+        bank.close(rt, stake, Pages::none());
+        Some((source_wire, next_wire))
+    }
+}
+
+impl<B: Ledgers, X: Drop, Y: Drop, Z: Drop> Ending<B, X, Z> for Beginning<B, X, Y, Z> {
+    ghost is_empty = { λ beginning. (beginning.stake.held ≡ 0) × (beginning.stake.pages ≡ 0) };
+
+    fn end<R: Wait>(self, rt: &R, bank: &Bank<B>) -> Option<(X, Z)> {
+        bank.close(rt, unused(self), Pages::none());
+        None
+    }
+}
+
+/// A transaction on the heap. What is left of it comes back where no memory is found for it, or where it couldn't begin.
+pub fn placed_or_ended<B: Ledgers, X, Z, T: Ending<B, X, Z>, U: Ending<B, X, Z>, R: Wait>(
+    rt: &R,
+    bank: &Bank<B>,
+    alloc: Global,
+    begun: Result<T, U>,
+) -> Result<Box<T>, Option<(X, Z)>>
+    requires begun { IfOk begun T.is_empty }
+    requires not { IfErr begun U.is_empty }
+{
+    match begun {
+        Ok(tx) => match Box::new(alloc, tx) {
+            Ok(tx) => Ok(tx),
+            Err(AllocFailed { value }) => Err(value.end(rt, bank)),
+        },
+        Err(beginning) => Err(beginning.end(rt, bank)),
+    }
+}
+
 /// The reservation of a transaction that didn't begin. All its connections are closed.
-pub fn unused<B: Ledgers, X: Drop, Y: Drop, Z: Drop>(beginning: Beginning<B, X, Y, Z>) -> Stake<B>
+fn unused<B: Ledgers, X: Drop, Y: Drop, Z: Drop>(beginning: Beginning<B, X, Y, Z>) -> Stake<B>
     ensures { result ≡ beginning.stake }
 {
     let Beginning {

@@ -107,6 +107,18 @@ impl<M: Drop> EndsOf<M> {
         user
     }
 
+    /// The user's connection, the message, and the origin's connection where there is one.
+    pub fn parts_of(ends: Box<EndsOf<M>>) -> (UserWire, M, Option<OriginWire>) {
+        let EndsOf {
+            user,
+            message,
+            origin,
+            told: _,
+            asked: _,
+        } = Box::into_inner(ends);
+        (user, message, origin)
+    }
+
     /// The user's connection alone. All else goes.
     pub fn user_of(ends: Box<EndsOf<M>>) -> UserWire {
         Box::into_inner(ends).into_user()

@@ -1,6 +1,6 @@
 //! Users' connections by their keys: their readiness, when they last moved, and which can best be spared.
 
-use crate::sparing::{Spared, Stay, spared};
+use crate::sparing::{Spared, Stay, spared_of};
 use event_loop::{Place, Told};
 use mio::net::TcpStream;
 use mio::{Registry, Token};
@@ -208,7 +208,7 @@ impl Seats {
     /// The connection under a key at this moment, in milliseconds, where it is spared rather than the best one so far.
     pub fn better(&self, key: usize, millis: u64, best: Option<Spared>) -> Option<Spared> {
         let seat = self.all.get(key)?;
-        let this = spared(key, seat.stay, millis.saturating_sub(seat.came), seat.since)?;
+        let this = spared_of(key, seat.stay, millis.saturating_sub(seat.came), seat.since)?;
         match best {
             Some(best) if !this.comes_before(&best) => None,
             _ => Some(this),

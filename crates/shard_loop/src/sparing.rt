@@ -29,7 +29,7 @@ pub struct Spared {
 
 /// The connection under this key, where it is spared: it came so many milliseconds ago, and its stay has this number in the order of
 /// all. Idle ones come first (RFC 9112, section 9.5, lets an idle connection be closed at any moment).
-pub fn spared(key: usize, stay: Stay, age: u64, since: u64) -> Option<Spared>
+pub fn spared_of(key: usize, stay: Stay, age: u64, since: u64) -> Option<Spared>
     ensures some { IfSome result (λ spared. (spared.key ≡ key) × (spared.since ≡ since) × IsRank stay age spared.rank) }
     ensures none { result ≡ None → (rank : ℕ) → IsRank stay age rank → ⊥ }
 {

@@ -6,7 +6,7 @@ ghost use Rattle.plan_rules.specs.Claims.{claim_of};
 
 use crate::begin::Planned;
 use crate::desk::Desk;
-use crate::halting::{Remains, end_of, unused};
+use crate::halting::placed_or_ended;
 use crate::phase::{Ends, EndsOf, Moving, Phase, Step};
 use crate::pools::{Leased, LeasedConnection};
 use crate::seats::At;
@@ -15,7 +15,6 @@ use plan_rules::Limits;
 use proxy_rules::{Beginning, Incoming, Offer, Reason, Running, begin, interim_continue};
 use socket_wire::{Dial, OriginWire, ServiceWire, UserWire};
 use span_bank::{Ledgers, Pages, Stake};
-use std::alloc::AllocFailed;
 use std::boxed::Box;
 use std::net::SocketAddrV4;
 use std::sync::Wait;
@@ -23,53 +22,27 @@ use std::sync::ledger::Ledger;
 use std::time::Clock;
 use wire_kit::{Gate, Wire};
 
-/// What a transaction stands over: its message, and the connections of its source and its next hop.
-#[derive(Drop)]
-struct Sides<M, X, Z> {
-    message: M,
-    source_wire: X,
-    next_wire: Z,
-}
-
-/// What the transaction of a message stands over.
-#[derive(Drop)]
-enum Joined<M> {
-    Request(Sides<M, UserWire, OriginWire>),
-    Response(Sides<M, OriginWire, UserWire>),
-}
-
-/// What the transaction of a message stands over: that of a request over the origin's connection, which was opened now.
-fn joined<M: Drop>(ends: EndsOf<M>, opened: Option<OriginWire>) -> Option<Joined<M>> {
-    let EndsOf {
-        user,
-        message,
-        origin,
-        told: _,
-        asked: _,
-    } = ends;
-    match (origin, opened) {
-        (Some(origin), _) => Some(Joined::Response(Sides {
-            message,
-            source_wire: origin,
-            next_wire: user,
-        })),
-        (None, Some(origin)) => Some(Joined::Request(Sides {
-            message,
-            source_wire: user,
-            next_wire: origin,
-        })),
-        (None, None) => None,
-    }
-}
-
 /// What a transaction begins with beside its message and its connections to the user and the origin.
 struct Terms<B: Ledgers> {
-    offer: Offer,
+    offer: Box<Offer>,
     limits: Limits,
     stake: Stake<B>,
     service_wire: Option<ServiceWire>,
     /// Whether the service's connection was used before.
     reused: bool,
+    deadline: u64,
+    now: u64,
+    last: bool,
+}
+
+/// How the transaction of a message begins.
+enum Begun<B: Ledgers> {
+    /// It goes on.
+    Moving(Moving<B>),
+    /// No memory was found for it: its user's connection is left.
+    NoMemory(UserWire),
+    /// It can't.
+    Over,
 }
 
 /// Whether anything went over a connection, as a request for options does before the first message: its service may be about to close it.
@@ -77,31 +50,28 @@ fn has_served(wire: &ServiceWire) -> bool {
     wire.counts() != (0, 0)
 }
 
-/// What a transaction begins with.
+/// What a transaction of this message begins with.
 fn beginning_of<B: Ledgers, X, Z>(
-    sides: Sides<Incoming, X, Z>,
+    message: Incoming,
+    source_wire: X,
+    next_wire: Z,
     terms: Terms<B>,
-    deadline: u64,
-    now: u64,
-    last: bool,
 ) -> Beginning<B, X, ServiceWire, Z>
-    ensures terms { (result.stake ≡ terms.stake) × (result.offer ≡ terms.offer) × (result.limits ≡ terms.limits) }
-    ensures wires { (result.source_wire ≡ sides.source_wire) × (result.next_wire ≡ sides.next_wire) × (result.service_wire ≡ terms.service_wire) }
+    ensures terms { (result.stake ≡ terms.stake) × (result.offer ≡ terms.offer.value) × (result.limits ≡ terms.limits) }
+    ensures wires { (result.source_wire ≡ source_wire) × (result.next_wire ≡ next_wire) × (result.service_wire ≡ terms.service_wire) }
 {
-    let Sides {
-        message,
-        source_wire,
-        next_wire,
-    } = sides;
     let Terms {
         offer,
         limits,
         stake,
         service_wire,
         reused,
+        deadline,
+        now,
+        last,
     } = terms;
     Beginning {
-        offer,
+        offer: Box::into_inner(offer),
         limits,
         stake,
         message,
@@ -196,13 +166,7 @@ impl<'a, B: Ledgers, Q: Ledger, A: Ledger, G: Gate> Desk<'a, B, Q, A, G> {
         };
         let mut ends = ends;
         match go_ahead(&mut ends.user, text) {
-            Some([]) => match joined(Box::into_inner(ends), opened) {
-                Some(sides) => self.launch(rt, at, sides, planned, limits, connection, stake),
-                None => {
-                    self.forgo(rt, at, connection, stake);
-                    Step::Over
-                }
-            },
+            Some([]) => { self.launch(rt, at, ends, opened, planned, limits, connection, stake) }
             Some(rest) => {
                 self.forgo(rt, at, connection, stake);
                 self.seats.touch(at);
@@ -232,12 +196,13 @@ impl<'a, B: Ledgers, Q: Ledger, A: Ledger, G: Gate> Desk<'a, B, Q, A, G> {
         }
     }
 
-    /// Starts the transaction.
+    /// Starts the transaction: that of a request over the origin's connection, which was opened now.
     fn launch<R: Wait + Clock>(
         &mut self,
         rt: &R,
         at: At<'_>,
-        sides: Joined<Incoming>,
+        ends: Box<Ends>,
+        opened: Option<OriginWire>,
         planned: Planned,
         limits: Limits,
         connection: Option<LeasedConnection<Q, A>>,
@@ -248,7 +213,6 @@ impl<'a, B: Ledgers, Q: Ledger, A: Ledger, G: Gate> Desk<'a, B, Q, A, G> {
         requires small { stake.claim ≤ MAX_CAPACITY }
     {
         let Planned { offer, .. } = planned;
-        let offer = Box::into_inner(offer);
         let (service_wire, lease) = self.engage(rt, at, offer.is_offered(), connection);
         let reused = match (&lease, &service_wire) {
             (Some(lease), Some(wire)) => lease.reused() || has_served(wire),
@@ -262,70 +226,98 @@ impl<'a, B: Ledgers, Q: Ledger, A: Ledger, G: Gate> Desk<'a, B, Q, A, G> {
             stake,
             service_wire,
             reused,
+            deadline: self.shared.config.deadline.saturating_add(1),
+            now: at.now,
+            last: self.draining,
         };
-        match sides {
-            Joined::Request(sides) => match self.set_out(rt, at, sides, terms) {
-                Ok(tx) => Step::On(Phase::Moving {
-                    tx: Moving::Request(tx),
-                    lease,
-                }),
-                Err(left) => {
-                    self.give_up(rt, lease);
-                    match left {
-                        Some((user, _)) => self.refuse(at, user, Reason::NoMemory),
-                        None => Step::Over,
-                    }
-                }
-            },
-            Joined::Response(sides) => match self.set_out(rt, at, sides, terms) {
-                Ok(tx) => Step::On(Phase::Moving {
-                    tx: Moving::Response(tx),
-                    lease,
-                }),
-                Err(left) => {
-                    self.give_up(rt, lease);
-                    match left {
-                        Some((_, user)) => self.refuse(at, user, Reason::NoMemory),
-                        None => Step::Over,
-                    }
-                }
-            },
+        let begun = match opened {
+            Some(origin) => self.begin_request(rt, at, ends, origin, terms),
+            None => self.begin_response(rt, at, ends, terms),
+        };
+        match begun {
+            Begun::Moving(tx) => Step::On(Phase::Moving { tx, lease }),
+            Begun::NoMemory(user) => {
+                self.give_up(rt, lease);
+                self.refuse(at, user, Reason::NoMemory)
+            }
+            Begun::Over => {
+                self.give_up(rt, lease);
+                Step::Over
+            }
         }
     }
 
-    /// Has the transaction begin. Its connections to the user and the origin come back where no memory is found for it; where it
+    /// Has the transaction of a request begin, from the user to the origin.
+    fn begin_request<R: Wait + Clock>(
+        &mut self,
+        rt: &R,
+        at: At<'_>,
+        ends: Box<Ends>,
+        origin: OriginWire,
+        terms: Terms<B>,
+    ) -> Begun<B>
+        requires empty { (terms.stake.held ≡ 0) × (terms.stake.pages ≡ 0) }
+        requires claim { terms.stake.claim ≡ claim_of terms.offer.value.plan terms.limits.window }
+        requires small { terms.stake.claim ≤ MAX_CAPACITY }
+    {
+        let (user, message, _) = EndsOf::parts_of(ends);
+        match self.set_out(rt, at, beginning_of(message, user, origin, terms)) {
+            Ok(tx) => Begun::Moving(Moving::Request(tx)),
+            Err(Some((user, _))) => Begun::NoMemory(user),
+            Err(None) => Begun::Over,
+        }
+    }
+
+    /// Has the transaction of a response begin, from the origin to the user. Where there is no connection to an origin, none begins.
+    fn begin_response<R: Wait + Clock>(
+        &mut self,
+        rt: &R,
+        at: At<'_>,
+        ends: Box<Ends>,
+        terms: Terms<B>,
+    ) -> Begun<B>
+        requires empty { (terms.stake.held ≡ 0) × (terms.stake.pages ≡ 0) }
+        requires claim { terms.stake.claim ≡ claim_of terms.offer.value.plan terms.limits.window }
+        requires small { terms.stake.claim ≤ MAX_CAPACITY }
+    {
+        let (user, message, origin) = EndsOf::parts_of(ends);
+        let Some(origin) = origin else {
+            let Terms {
+                offer: _,
+                limits: _,
+                stake,
+                service_wire: _,
+                reused: _,
+                deadline: _,
+                now: _,
+                last: _,
+            } = terms;
+            self.shared.bank.close(rt, stake, Pages::none());
+            return Begun::Over;
+        };
+        match self.set_out(rt, at, beginning_of(message, origin, user, terms)) {
+            Ok(tx) => Begun::Moving(Moving::Response(tx)),
+            Err(Some((_, user))) => Begun::NoMemory(user),
+            Err(None) => Begun::Over,
+        }
+    }
+
+    /// Has a transaction begin. Its connections to the user and the origin come back where no memory is found for it; where it
     /// can't begin, they are closed.
     fn set_out<X: Wire + Drop, Z: Wire + Drop, R: Wait + Clock>(
         &mut self,
         rt: &R,
         at: At<'_>,
-        sides: Sides<Incoming, X, Z>,
-        terms: Terms<B>,
+        beginning: Beginning<B, X, ServiceWire, Z>,
     ) -> Result<Box<Running<B, X, ServiceWire, Z>>, Option<(X, Z)>>
-        requires empty { (terms.stake.held ≡ 0) × (terms.stake.pages ≡ 0) }
-        requires claim { terms.stake.claim ≡ claim_of terms.offer.plan terms.limits.window }
-        requires small { terms.stake.claim ≤ MAX_CAPACITY }
+        requires empty { (beginning.stake.held ≡ 0) × (beginning.stake.pages ≡ 0) }
+        requires claim { beginning.stake.claim ≡ claim_of beginning.offer.plan beginning.limits.window }
+        requires small { beginning.stake.claim ≤ MAX_CAPACITY }
     {
-        let deadline = self.shared.config.deadline.saturating_add(1);
-        let beginning = beginning_of(sides, terms, deadline, at.now, self.draining);
-        match begin(self.alloc, beginning) {
-            Ok(tx) => match Box::new(self.alloc, tx) {
-                Ok(tx) => Ok(self.pass_gate(rt, at, tx)),
-                Err(AllocFailed { value }) => {
-                    let bank = self.shared.bank;
-                    let Remains {
-                        stake,
-                        source_wire,
-                        next_wire,
-                    } = end_of(rt, bank, value.into_tx());
-                    bank.close(rt, stake, Pages::none());
-                    Err(Some((source_wire, next_wire)))
-                }
-            },
-            Err(beginning) => {
-                self.shared.bank.close(rt, unused(beginning), Pages::none());
-                Err(None)
-            }
+        let bank = self.shared.bank;
+        match placed_or_ended(rt, bank, self.alloc, begin(self.alloc, beginning)) {
+            Ok(tx) => Ok(self.pass_gate(rt, at, tx)),
+            Err(left) => Err(left),
         }
     }
 
