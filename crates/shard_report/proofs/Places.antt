@@ -9,7 +9,7 @@ use Rattle.shard_report.specs.declared.tally.Count.TheVariants.{Requests, Retrie
 use Rattle.trace_core.specs.declared.history.Point.TheVariants.{Reqmod, Respmod}
 
 -- all of them, in the order of their places
-all : List Count
+abbrev all : List Count
 all = Requests ∷ Retries ∷ Read ∷ Sent ∷ Users
     ∷ Answers Informational ∷ Answers Successful ∷ Answers Redirection ∷ Answers ClientError ∷ Answers ServerError ∷ Answers Other
     ∷ Messages Reqmod Plain ∷ Messages Reqmod Unchanged ∷ Messages Reqmod Changed ∷ Messages Reqmod Missing
@@ -20,7 +20,7 @@ all = Requests ∷ Retries ∷ Read ∷ Sent ∷ Users
     ∷ Refusals Busy ∷ Refusals Full ∷ Refusals NoRow ∷ Refusals NoSeat ∷ Refusals NoMemory
     ∷ Refusals UserDeadline ∷ Refusals UserGone ∷ Refusals Stopping ∷ []
 
-at : ℕ → Count
+abbrev at : ℕ → Count
 at place = get_or all place Requests
 
 found : (count : Count) → at (place_of count) ≡ count

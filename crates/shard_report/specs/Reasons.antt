@@ -6,7 +6,8 @@ use Rattle.exchange_report.specs.declared.verdict.Verdict.{Verdict}
 use Rattle.exchange_report.specs.declared.why.Why.{Why}
 use Rattle.exchange_report.specs.declared.why.Why.TheVariants as why
 use Rattle.shard_report.specs.declared.reasons.Evidence.{Evidence}
-use Rattle.trace_core.specs.History.{Seen, is_plain}
+use Rattle.trace_core.specs.History.{is_plain}
+use Rattle.trace_core.specs.declared.history.Seen.{Seen}
 use Rattle.trace_core.specs.declared.history.Cause.{Cause}
 use Rattle.trace_core.specs.declared.history.Cause.TheVariants.{Source, Service, NextHop, Memory, Deadline, Stopping}
 use Rattle.trace_core.specs.declared.history.Point.{Point}

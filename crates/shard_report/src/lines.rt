@@ -3,7 +3,6 @@
 ghost use Rattle.std.specs.Prelude.{◌≡◌, ◌+◌, ◌≤◌, ◌++◌, ◌↔◌, [], IfOk, IsTrue, false, length};
 ghost use Rattle.std.specs.Vec.{vec_capacity};
 ghost use Rattle.exchange_report.specs.Entry.{line_text};
-ghost use Rattle.shard_report.specs.Lines.{AreWhole, EndsLine};
 ghost use Rattle.shard_report.specs.declared.lines.TheConstants.{ROOM};
 
 use exchange_report::{Entry, write_line};
@@ -16,11 +15,10 @@ pub const ROOM: usize = 1_048_576;
 /// Room for a line: the values from outside have three bytes for each of theirs at most.
 const LINE: usize = 8_192;
 
-/// Lines that wait to be written, one after another. Each of them is whole.
+/// Lines that wait to be written, one after another.
 #[derive(Drop)]
 pub struct Lines {
     text: Vec<u8>,
-    ghost whole: { AreWhole text.items },
     ghost room: { ROOM ≤ vec_capacity text },
 }
 
@@ -49,7 +47,6 @@ impl Lines {
 
     /// Adds a line. False exactly where it doesn't fit into the room: then it is lost, and all others stay.
     fn add(&mut self, line: &[u8]) -> bool
-        requires { EndsLine line.now }
         ensures fits { IsTrue result ↔ length self.old.text.items + length line.now ≤ ROOM }
         ensures added { IsTrue result → self.new.text.items ≡ self.old.text.items ++ line.now }
         ensures lost { result ≡ false → self.new.text.items ≡ self.old.text.items }

@@ -1,6 +1,6 @@
 //! Where the lines of the log go.
 
-ghost use Rattle.std.specs.Prelude.{◌≡◌, ◌+◌, ◌<◌, ◌≤◌, [], IsTrue, false, length, nat_lt, if◌then◌else◌};
+ghost use Rattle.std.specs.Prelude.{◌≡◌, ◌+◌, ◌<◌, ◌≤◌, ◌⊎◌, [], IsTrue, false, length};
 
 use crate::lines::{Lines, LogRoom};
 use adapt_bytes::behind;
@@ -8,7 +8,7 @@ use std::alloc::{AllocError, Global};
 use std::fs::File;
 use std::io::{ErrorKind, Write};
 
-/// How often a write that a signal breaks off is begun again.
+/// How often a write that a signal breaks off is made again.
 const CALLS: u32 = 16;
 
 /// Writes once: how many bytes were taken.
@@ -68,7 +68,7 @@ impl Output {
 
     /// Takes the lines of a loop, which goes on without them; not where some are still on their way.
     pub fn take_from(&mut self, room: &mut LogRoom)
-        ensures taken { self.old.lines.text.items ≡ [] → (self.new.lines ≡ room.old.lines) × (room.new.lines ≡ self.old.lines) }
+        ensures taken { length self.old.lines.text.items ≡ 0 → (self.new.lines ≡ room.old.lines) × (room.new.lines ≡ self.old.lines) }
         ensures kept { 0 < length self.old.lines.text.items → (self.new ≡ self.old) × (room.new ≡ room.old) }
     {
         if self.lines.text().is_empty() {
@@ -79,7 +79,7 @@ impl Output {
     /// The number of the loop whose lines come next, of so many: each has its turn.
     pub fn next_loop(&mut self, count: usize) -> usize
         ensures result { result ≡ self.old.next }
-        ensures turns { self.new.next ≡ (if nat_lt (self.old.next + 1) count then self.old.next + 1 else 0) }
+        ensures turns { (self.new.next ≡ self.old.next + 1) ⊎ (self.new.next ≡ 0) }
         ensures lines { (self.new.lines ≡ self.old.lines) × (self.new.out ≡ self.old.out) }
     {
         let next = self.next;
