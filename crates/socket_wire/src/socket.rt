@@ -232,6 +232,14 @@ impl<R> Wire for SocketWire<R> {
         }
     }
 
+    fn may_give(&mut self) -> bool {
+        if self.ready.can_read() {
+            return true;
+        }
+        let _ = self.wait_to_read();
+        false
+    }
+
     fn try_write(&mut self, bytes: &[u8]) -> Put {
         if !self.ready.can_write() || bytes.len() as u64 > u64::MAX - self.taken {
             return self.wait_to_write();
