@@ -197,7 +197,7 @@ class Lab:
                               "http://127.0.0.1:%d/" % port], capture_output=True, text=True, check=True).stdout
         took, after = time.time() - start, times(pid)
         count = int(re.search(r"(\d+) requests in", out).group(1))
-        slow, unit = re.search(r"99% +([\d.]+)(us|ms|s)\n", out).groups()
+        slow, unit = re.search(r"99% +([\d.]+)(us|ms|s)\b", out).groups() if count else ("0", "s")
         errors = [line.strip() for line in out.splitlines() if "Non-2xx" in line or "Socket errors" in line]
         each = max(count, 1) / 1e6
         return Loaded(count / took, (after[0] - before[0]) / each, (after[1] - before[1]) / each,
@@ -250,7 +250,8 @@ class Lab:
         tracer.wait()
         out = subprocess.run(["perf", "report", "-i", data, "--no-children", "--stdio", "--sort", "symbol"], capture_output=True,
                              text=True).stdout
-        return [line.strip() for line in out.splitlines() if "%" in line and not line.startswith("#")][:count]
+        rows = re.findall(r"^ +([\d.]+%) +\[.\] ([^\s<]+)", out, re.M)
+        return ["%s %s" % (part, name.rstrip(":")) for part, name in rows[:count]]
 
 
 def icap_request(port, path):
