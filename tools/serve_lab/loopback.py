@@ -8,7 +8,8 @@ import threading
 import time
 
 TOP = os.path.dirname(os.path.dirname(os.path.dirname(os.path.abspath(__file__))))
-PATIENCE = 20.0
+# Seconds that an answer may take; a machine with much else to do may need more.
+PATIENCE = float(os.environ.get("PATIENCE", "20"))
 # The statuses of the answers that users have read, by the port.
 SEEN = collections.defaultdict(collections.Counter)
 

@@ -162,7 +162,7 @@ def capacity_keeps_nobody_waiting(bench):
         worst = 0
         for size in (1 << 30, 1 << 24):
             answers = []
-            asker = threading.Thread(target=lambda: answers.append(proxy.say("capacity %d" % size, patience=120)))
+            asker = threading.Thread(target=lambda: answers.append(proxy.say("capacity %d" % size, patience=10 * PATIENCE)))
             begun = time.time()
             asker.start()
             waits = waits_beside(proxy, user, lambda: not asker.is_alive())
