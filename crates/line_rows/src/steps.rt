@@ -1,5 +1,7 @@
 //! The steps of a row.
 
+ghost use Rattle.std.specs.Prelude.{◌≡◌, []};
+
 use crate::stage::{Hand, Memory, Stage, bit_of};
 use crate::words::{fault_name, first_number, first_word, put_lent, put_numbers, put_woken};
 use adapt_bytes::MAX_CONNECTIONS;
@@ -43,6 +45,16 @@ fn waiter_of(text: &[u8]) -> Waiter {
 }
 
 impl<'a, 's, Q: Ledger, A: Ledger> Play<'a, 's, Q, A> {
+    /// Closes the connections that are lent.
+    pub fn close_all<R: Wait>(&mut self, rt: &R)
+        ensures { self.new.held.items ≡ [] }
+    {
+        while let Some(connection) = self.held.pop() {
+            let LeasedConnection { wire: _, lease } = connection;
+            self.pools.give_up(rt, lease);
+        }
+    }
+
     /// The connection of this number, if it is lent.
     fn take_held(&mut self, number: u64) -> Option<LeasedConnection<u64, Q, A>> {
         for at in 0..self.held.len() {
