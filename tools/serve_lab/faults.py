@@ -11,6 +11,7 @@ import threading
 import time
 
 from serve_lab.cases import IDLE, at_once, case, comes, get, lent, post, refusal, same, settled
+from serve_lab.descriptors import connections_of
 from serve_lab.loopback import Closed, Icap, User, ask, body_of
 from serve_lab.memory import Refusals, has_compiler
 from serve_lab.operators import stats
@@ -85,6 +86,7 @@ def a_retry_closes_the_broken_connection_first(bench):
         service = bench.icap(reply)
         proxy = bench.proxy(origin, "shards = 1", [(point, service.port, "/%s/x" % point)])
         same("before it", ask(proxy.port, get("/bytes/3")).body, b"the")
+        comes("its end", lambda: set(connections_of(proxy, {service.port: "service"})) <= {"service"})
         trace = Strace(proxy, "-e", "trace=socket,close")
         same("retried", ask(proxy.port, get("/bytes/3")).body, b"the")
         calls = [re.search(r"(socket|close)\(", line) for line in trace.close()]
