@@ -244,10 +244,12 @@ class Lab:
     def profile(self, program, path, connections, seconds, count=5):
         """The first rows of a profile of a program's user time."""
         data = os.path.join(self.dir, "perf")
+        # All of its threads run then, so that each is seen.
+        self.load(program, path, connections, 1)
         tracer = subprocess.Popen(["perf", "record", "-q", "-e", "cpu-clock:u", "-o", data, "-p", str(program[1]), "--", "sleep",
                                    str(seconds)], stderr=subprocess.DEVNULL)
-        self.load(program, path, connections, seconds + 1)
-        tracer.wait()
+        while tracer.poll() is None:
+            self.load(program, path, connections, 1)
         out = subprocess.run(["perf", "report", "-i", data, "--no-children", "--stdio", "--sort", "symbol"], capture_output=True,
                              text=True).stdout
         rows = re.findall(r"^ +([\d.]+%) +\[.\] ([^\s<]+)", out, re.M)
