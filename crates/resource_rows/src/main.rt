@@ -1,12 +1,16 @@
-//! Judges what transactions share or hold by rows of plain text: pools, one call after another, tapes on a bank's store, and both
-//! shared by threads. Each file that an argument names is a table. An argument that is a number stands for so many allocations,
+//! Judges what transactions share or hold by rows of plain text: budgets and pools, one call after another, tapes on a bank's store,
+//! and budgets and pools shared by threads. Each file that an argument names is a table. An argument that is a number stands for so many allocations,
 //! each of which is given back.
 //!
 //! It ends with status 0 once all rows are judged, whatever their answers: its output says which failed.
 #![tactic(auto)]
 
+mod budget_states;
+mod budget_threads;
+mod budgets;
 mod calls;
 mod pools;
+mod reserved;
 mod sharing;
 mod states;
 mod tapes;
@@ -35,12 +39,18 @@ fn put_answer<R: Threads + Wait + Sync>(
         pools::put_pool(rt, alloc, row, out)
     } else if says(call, b"state") {
         states::put_state(alloc, row, out)
+    } else if says(call, b"budget") {
+        budgets::put_budget(rt, alloc, row, out)
+    } else if says(call, b"budget state") {
+        budget_states::put_state(alloc, row, out)
     } else if says(call, b"texts") {
         words::put_texts(alloc, out)
     } else if says(call, b"tape") {
         tapes::put_tape(rt, alloc, out)
     } else if says(call, b"threads") {
         threads::put_pool(rt, alloc, out)
+    } else if says(call, b"threads of a budget") {
+        budget_threads::put_budget(rt, alloc, out)
     } else if says(call, b"threads of both") {
         sharing::put_both(rt, alloc, out)
     } else {

@@ -1,17 +1,19 @@
 //! Four threads on one bank and one pool: each reserves, and takes a connection while bytes are in use.
 ghost use Rattle.std.specs.Prelude.{◌≡◌};
 
+use crate::budgets::sums;
 use crate::calls::{audited, put_audit};
 use crate::threads::{keep_taken, lease_of, rounds};
+use crate::words::put_sums;
 use service_pool::{LEDGER_PARTS, Lease, Pool};
-use span_bank::{Audit, Bank, Blanks, Four, Ledgers, Pages};
+use span_bank::{Bank, Blanks, Four, Ledgers, Pages};
 use std::alloc::Global;
 use std::marker::Brand;
 use std::sync::Wait;
 use std::sync::ledger::{Blank, Ledger};
 use std::thread;
 use std::thread::Threads;
-use test_rows::{NoMemory, put_line, put_number};
+use test_rows::{NoMemory, put_number};
 
 /// A thread's rounds, each with a reservation, which may be refused; at last it takes a lease that it keeps.
 fn turns<B: Ledgers, L: Ledger, R: Wait>(
@@ -49,37 +51,6 @@ where
     )
 }
 
-/// The sums of a budget of which nothing is reserved any more; none where something is.
-fn sums<B: Ledgers>(alloc: Global, bank: Bank<B>) -> Option<Audit> {
-    match bank.audit(Vec::new(alloc)) {
-        Ok(audit) => Some(audit),
-        Err((_, stakes, _)) => {
-            stakes.destroy_empty();
-            None
-        }
-    }
-}
-
-/// Adds the sums of the budget, how many leases were taken at last, and how many the pool counts.
-fn put_sums(
-    out: &mut Vec<u8>,
-    audit: Option<Audit>,
-    leases: usize,
-    count: Option<u64>,
-) -> Result<(), NoMemory> {
-    match audit {
-        Some(audit) => {
-            put_number(out, b"rows", audit.rows)?;
-            put_number(out, b"held", audit.held)?;
-            put_number(out, b"claimed", audit.claimed)?;
-            put_number(out, b"pages", audit.pages)?;
-        }
-        None => put_line(out, b"a reservation is out")?,
-    }
-    put_number(out, b"leases", leases as u64)?;
-    put_audit(out, count)
-}
-
 /// Four threads make their rounds on a bank and on a pool of at most three connections.
 fn share<B: Ledgers + Send + Sync, L: Ledger + Send + Sync, R: Threads + Wait + Sync>(
     rt: &R,
@@ -107,7 +78,9 @@ where
     keep_taken(rt, &pool, &mut leases, back.1);
     let got = leases.len();
     let count = audited(rt, pool, leases);
-    put_sums(out, sums(alloc, bank), got, count)
+    put_sums(out, sums(alloc, bank))?;
+    put_number(out, b"leases", got as u64)?;
+    put_audit(out, count)
 }
 
 /// Adds what four threads leave of a bank of four rows and of a pool.

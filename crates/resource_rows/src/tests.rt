@@ -1,14 +1,18 @@
-//! A lease that an audit doesn't get: no value may stand in its place, so the case is code.
-ghost use Rattle.std.specs.Prelude.{◌≡◌};
+//! A lease or a reservation that an audit doesn't get: no value may stand in its place, so the cases are code.
+ghost use Rattle.std.specs.Prelude.{◌≡◌, ◌≤◌};
 
+use crate::budget_threads::{Made, share};
 use crate::calls::{audited, take_one};
+use crate::reserved::Reserved;
 use service_pool::{AuditFault, Found, LEDGER_PARTS, NoMemory, Pool, Taken};
+use span_bank::{Audit, Bank, Blanks, Four, Ledgers, Stake};
 use std::alloc::Global;
 use std::marker::Brand;
 use std::process::Abort;
 use std::sync::Wait;
 use std::sync::ledger::{Blank, Ledger};
 use std::test::*;
+use std::thread::Threads;
 
 // What came back from an audit without one lease of two, and what one with all leases gave.
 #[derive(Debug, Drop, PartialEq, Eq)]
@@ -75,5 +79,150 @@ fn audit_with_a_missing_lease_hands_all_back(rt: HostRuntime) -> Result<(), Fail
         count: Some(1),
     };
     assert_eq!(rt; seen, wanted);
+    Ok(())
+}
+
+// What came back from an audit of a budget without one reservation, and the sums of one with all.
+#[derive(Clone, Copy, Debug, PartialEq, Eq)]
+struct StakesBack {
+    stakes_back: usize,
+    fault: span_bank::AuditFault,
+    sums: Audit,
+}
+
+// An audit without the last reservation, and one with it.
+fn audit_twice<B: Ledgers, R: Abort>(
+    rt: &R,
+    bank: Bank<B>,
+    stakes: Vec<Stake<B>>,
+    last: Made<B>,
+) -> StakesBack {
+    match bank.audit(stakes) {
+        Ok(_) => panic!(rt; "an audit passed without a reservation"),
+        Err((bank, mut stakes, fault)) => {
+            let stakes_back = stakes.len();
+            add(rt, &mut stakes, last);
+            match bank.audit(stakes) {
+                Ok(sums) => StakesBack {
+                    stakes_back,
+                    fault,
+                    sums,
+                },
+                Err(_) => panic!(rt; "an audit failed with all reservations"),
+            }
+        }
+    }
+}
+
+// Puts a reservation with the others.
+fn add<B: Ledgers, R: Abort>(rt: &R, stakes: &mut Vec<Stake<B>>, made: Made<B>) {
+    match made {
+        Some(reserved) => {
+            if stakes.len() == stakes.capacity() {
+                panic!(rt; "no room for a reservation");
+            }
+            stakes.push_reserved(reserved.for_audit());
+        }
+        None => panic!(rt; "no reservation was made"),
+    }
+}
+
+// Reserves bytes, of which so many are in use, on one page if any are.
+fn reserve<B: Ledgers, R: Wait>(rt: &R, bank: &Bank<B>, claim: u64, held: u64) -> Made<B>
+    requires { 1 ≤ claim }
+{
+    match bank.open(rt, claim) {
+        Ok(stake) => {
+            let mut reserved = Reserved::new(stake);
+            let _grown = reserved.grow(rt, bank, held, 1);
+            Some(reserved)
+        }
+        Err(_) => None,
+    }
+}
+
+// Reservations of 10 and 20 bytes, of which 3 are in use, and an audit without the second.
+fn audit_without_second<B: Ledgers, R: Wait + Abort>(
+    rt: &R,
+    alloc: Global,
+    bank: Bank<B>,
+) -> Result<StakesBack, NoMemory> {
+    let mut stakes = Vec::with_capacity(alloc, 2)?;
+    add(rt, &mut stakes, reserve(rt, &bank, 10, 0));
+    let last = reserve(rt, &bank, 20, 3);
+    Ok(audit_twice(rt, bank, stakes, last))
+}
+
+// Four threads share a bank, and an audit lacks the reservation of the last.
+fn audit_without_fourth<B: Ledgers + Send + Sync, R: Threads + Wait + Abort + Sync>(
+    rt: &R,
+    alloc: Global,
+    bank: Bank<B>,
+) -> Result<StakesBack, NoMemory>
+where
+    B::Held: Send + Sync,
+    B::Free: Send + Sync,
+    B::Slack: Send + Sync,
+    B::Pages: Send + Sync,
+{
+    let mut stakes = Vec::with_capacity(alloc, 4)?;
+    let (front, back) = share(rt, &bank);
+    add(rt, &mut stakes, front.0);
+    add(rt, &mut stakes, front.1);
+    add(rt, &mut stakes, back.0);
+    Ok(audit_twice(rt, bank, stakes, back.1))
+}
+
+// Both, on a bank each.
+fn audit_without_one_of<
+    H: Ledger + Send + Sync,
+    F: Ledger + Send + Sync,
+    S: Ledger + Send + Sync,
+    P: Ledger + Send + Sync,
+    R: Threads + Wait + Abort + Sync,
+>(rt: &R, alloc: Global, blanks: Blanks, is_shared: bool) -> Result<StakesBack, NoMemory>
+    requires held { (blanks.held.name ≡ H.name) × (blanks.held.parts ≡ H.parts) × (blanks.held.parts ≡ 5) }
+    requires free { (blanks.free.name ≡ F.name) × (blanks.free.parts ≡ F.parts) × (blanks.free.parts ≡ 5) }
+    requires slack { (blanks.slack.name ≡ S.name) × (blanks.slack.parts ≡ S.parts) × (blanks.slack.parts ≡ 5) }
+    requires pages { (blanks.pages.name ≡ P.name) × (blanks.pages.parts ≡ P.parts) × (blanks.pages.parts ≡ 5) }
+{
+    let bank: Bank<Four<H, F, S, P>> = Bank::new(alloc, blanks, 100, 4, 16)?;
+    if is_shared {
+        audit_without_fourth(rt, alloc, bank)
+    } else {
+        audit_without_second(rt, alloc, bank)
+    }
+}
+
+// What came back on a new bank.
+fn stakes_back<R: Threads + Wait + Abort + Sync>(
+    rt: &R,
+    alloc: Global,
+    is_shared: bool,
+) -> Result<StakesBack, NoMemory> {
+    let blanks = Blanks::new(5);
+    audit_without_one_of::<Brand, Brand, Brand, Brand, R>(rt, alloc, blanks, is_shared)
+}
+
+// What is wanted of an audit without one reservation, where all of them have so many of each.
+fn wanted_back(stakes_back: usize, rows: u64, held: u64, claimed: u64, pages: u64) -> StakesBack {
+    StakesBack {
+        stakes_back,
+        fault: span_bank::AuditFault::Missing,
+        sums: Audit {
+            rows,
+            held,
+            claimed,
+            pages,
+        },
+    }
+}
+
+#[test]
+fn audit_without_a_stake_hands_all_back(rt: HostRuntime) -> Result<(), Fail> {
+    let seen = stakes_back(&rt, rt.alloc(), false)?;
+    assert_eq!(rt; seen, wanted_back(1, 2, 3, 30, 1));
+    let seen = stakes_back(&rt, rt.alloc(), true)?;
+    assert_eq!(rt; seen, wanted_back(3, 4, 100, 100, 4));
     Ok(())
 }

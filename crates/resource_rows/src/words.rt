@@ -1,11 +1,24 @@
 //! Words of steps and answers.
 use service_pool::{AuditFault, Numbers, Over};
+use span_bank::{Audit, Book, CapacityFault, OpenFault};
 use std::alloc::Global;
+use std::fmt::Display;
 use test_rows::{NoMemory, number, put_decimal, put_line, put_number};
 
 /// The number after a word, as in `put 11`.
 pub fn number_after(text: &[u8], word: &[u8]) -> Option<u64> {
     number(text.strip_prefix(word)?.strip_prefix(b" ")?)
+}
+
+/// The two numbers after a word, as in `grow 100 1`.
+pub fn pair_after(text: &[u8], word: &[u8]) -> Option<(u64, u64)> {
+    let numbers = text.strip_prefix(word)?.strip_prefix(b" ")?;
+    for at in 0..numbers.len() {
+        if numbers[at] == b' ' {
+            return Some((number(&numbers[..at])?, number(&numbers[at + 1..])?));
+        }
+    }
+    None
 }
 
 /// What a line of the wanted answers asks: what stands before ` = `.
@@ -48,10 +61,52 @@ pub fn put_numbers(out: &mut Vec<u8>, numbers: Numbers) -> Result<(), NoMemory> 
     put_number(out, b" maximum", numbers.maximum)
 }
 
+/// Adds the totals of a budget.
+pub fn put_book(out: &mut Vec<u8>, book: Book) -> Result<(), NoMemory> {
+    out.extend_from_slice(b"rows ")?;
+    put_decimal(out, book.rows)?;
+    out.extend_from_slice(b" held ")?;
+    put_decimal(out, book.held)?;
+    out.extend_from_slice(b" claimed ")?;
+    put_decimal(out, book.claimed)?;
+    put_number(out, b" capacity", book.capacity)
+}
+
+/// Adds what a reservation has.
+pub fn put_pages(out: &mut Vec<u8>, held: u64, claim: u64, pages: u64) -> Result<(), NoMemory> {
+    out.extend_from_slice(b"held ")?;
+    put_decimal(out, held)?;
+    out.extend_from_slice(b" claim ")?;
+    put_decimal(out, claim)?;
+    put_number(out, b" pages", pages)
+}
+
+/// Adds the sums of a budget's audit.
+pub fn put_sums(out: &mut Vec<u8>, audit: Option<Audit>) -> Result<(), NoMemory> {
+    match audit {
+        Some(audit) => {
+            put_number(out, b"rows", audit.rows)?;
+            put_number(out, b"held", audit.held)?;
+            put_number(out, b"claimed", audit.claimed)?;
+            put_number(out, b"pages", audit.pages)
+        }
+        None => put_line(out, b"a reservation is out"),
+    }
+}
+
+/// Adds what a programmer is told of a fault.
+fn put_text(alloc: Global, out: &mut Vec<u8>, fault: &impl Display) -> Result<(), NoMemory> {
+    let text = format!(in alloc; "{fault}")?;
+    put_line(out, text.as_bytes())
+}
+
 /// Adds what a programmer is told of each fault.
 pub fn put_texts(alloc: Global, out: &mut Vec<u8>) -> Result<(), NoMemory> {
-    let text = format!(in alloc; "{}", AuditFault::Missing)?;
-    put_line(out, text.as_bytes())?;
-    let text = format!(in alloc; "{Over}")?;
-    put_line(out, text.as_bytes())
+    put_text(alloc, out, &AuditFault::Missing)?;
+    put_text(alloc, out, &Over)?;
+    put_text(alloc, out, &OpenFault::Full { claimed: 60 })?;
+    put_text(alloc, out, &OpenFault::NoRow)?;
+    put_text(alloc, out, &span_bank::AuditFault::Missing)?;
+    put_text(alloc, out, &CapacityFault::TooLow { claimed: 60 })?;
+    put_text(alloc, out, &CapacityFault::NoMemory)
 }
