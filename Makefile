@@ -88,4 +88,4 @@ bench-bank: ## the buffer budget: nanoseconds for a pair of calls, for turns of 
 	@bin/layer_bench bank 1000000
 
 refuse-allocations: ## refuses each allocation in turn, and compares how each run ends
-	tools/refuse_allocations && tools/refuse_allocations_in_tests && tools/refuse_allocations_in_rows
+	tools/refuse_allocations && tools/refuse_allocations_in_rows

@@ -12,8 +12,6 @@ mod rebasing;
 mod stake;
 mod state;
 mod step;
-#[cfg(test)]
-mod tests;
 mod window;
 
 pub use crate::bank::{Bank, Book};
