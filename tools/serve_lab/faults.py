@@ -262,7 +262,7 @@ def want_of_memory_ends_no_thread(bench):
         same("statuses", set(found) <= {200, 503, "closed"}, True)
         same("book", settled(proxy)[:24], "rows 0 held 0 claimed 0 ")
         same("after it", ask(proxy.port, get("/chunked/100000")).body, body_of(100000))
-    same("memory was short", refused > 100, True)
+    same("memory was short", refused > 0, True)
     same("audit", proxy.stop(), IDLE)
 
 
