@@ -47,13 +47,17 @@ impl<'a, B: Ledgers, Q: Ledger, A: Ledger, G: Gate> Desk<'a, B, Q, A, G> {
     ) -> Result<LeasedConnection<Q, A>, Reason> {
         let address = self.service_address(point);
         let room = self.shared.pools.waiting.edge.room;
-        let berth = Berth {
+        let seats = self.seats.lend();
+        let mut port = Port {
+            rt,
             at,
-            seats: &mut self.seats,
+            seats,
             room,
+            address,
         };
-        let mut port = Port { rt, berth, address };
-        match self.shared.pools.lend(rt, &mut port, point) {
+        let lent = self.shared.pools.lend(rt, &mut port, point);
+        self.seats = port.seats;
+        match lent {
             Ok(connection) => Ok(connection),
             Err(fault) => Err(lend_reason(fault)),
         }
@@ -69,13 +73,17 @@ impl<'a, B: Ledgers, Q: Ledger, A: Ledger, G: Gate> Desk<'a, B, Q, A, G> {
     ) -> Result<LeasedConnection<Q, A>, Reason> {
         let address = self.service_address(point);
         let room = self.shared.pools.waiting.edge.room;
-        let berth = Berth {
+        let seats = self.seats.lend();
+        let mut port = Port {
+            rt,
             at,
-            seats: &mut self.seats,
+            seats,
             room,
+            address,
         };
-        let mut port = Port { rt, berth, address };
-        match self.shared.pools.lend_in_turn(rt, &mut port, point, waiter) {
+        let lent = self.shared.pools.lend_in_turn(rt, &mut port, point, waiter);
+        self.seats = port.seats;
+        match lent {
             Ok(connection) => Ok(connection),
             Err(fault) => Err(lend_reason(fault)),
         }
@@ -90,13 +98,17 @@ impl<'a, B: Ledgers, Q: Ledger, A: Ledger, G: Gate> Desk<'a, B, Q, A, G> {
     ) -> Result<LeasedConnection<Q, A>, Reason> {
         let address = self.service_address(connection.lease.point());
         let room = self.shared.pools.waiting.edge.room;
-        let berth = Berth {
+        let seats = self.seats.lend();
+        let mut port = Port {
+            rt,
             at,
-            seats: &mut self.seats,
+            seats,
             room,
+            address,
         };
-        let mut port = Port { rt, berth, address };
-        match self.shared.pools.renew(rt, &mut port, connection) {
+        let lent = self.shared.pools.renew(rt, &mut port, connection);
+        self.seats = port.seats;
+        match lent {
             Ok(connection) => Ok(connection),
             Err(fault) => Err(lend_reason(fault)),
         }
@@ -111,13 +123,17 @@ impl<'a, B: Ledgers, Q: Ledger, A: Ledger, G: Gate> Desk<'a, B, Q, A, G> {
     ) -> Result<ServiceWire, LendFault> {
         let address = self.service_address(lease.point());
         let room = self.shared.pools.waiting.edge.room;
-        let berth = Berth {
+        let seats = self.seats.lend();
+        let mut port = Port {
+            rt,
             at,
-            seats: &mut self.seats,
+            seats,
             room,
+            address,
         };
-        let mut port = Port { rt, berth, address };
-        self.shared.pools.reopen(rt, &mut port, lease)
+        let wire = self.shared.pools.reopen(rt, &mut port, lease);
+        self.seats = port.seats;
+        wire
     }
 
     /// Closes a connection, and gives up its lease after that: others may open one in its place.
@@ -137,13 +153,11 @@ impl<'a, B: Ledgers, Q: Ledger, A: Ledger, G: Gate> Desk<'a, B, Q, A, G> {
         lease: Leased<Q, A>,
     ) {
         let room = self.shared.pools.waiting.edge.room;
-        let mut berth = Berth {
-            at,
-            seats: &mut self.seats,
-            room,
-        };
+        let seats = self.seats.lend();
+        let mut berth = Berth { at, seats, room };
         let connection = LeasedConnection { wire, lease };
         self.shared.pools.put(rt, &mut berth, connection);
+        self.seats = berth.seats;
     }
 
     /// Gives back a connection that was asked for options and isn't used.

@@ -1,10 +1,10 @@
 //! The end of exchanges that don't go on.
 
-ghost use Rattle.std.specs.Prelude.{◌≡◌, Unit, IfOk, IfErr};
+ghost use Rattle.std.specs.Prelude.{◌≡◌, Err};
 
 use crate::desk::Desk;
 use crate::phase::Moving;
-use crate::pools::{Leased, LeasedConnection};
+use crate::pools::Leased;
 use adapt_sides::{Hop, Service, Source};
 use adapt_turn::{Forward, Line, Parts, Tx};
 use proxy_rules::{Beginning, Running};
@@ -114,56 +114,61 @@ pub fn wire_of<V: Drop, W>(service: Option<Line<V, W>>) -> Option<W> {
     }
 }
 
-/// What a transaction comes to that doesn't go on.
-pub trait Ending<B: Ledgers, X, Z> {
-    // its reservation holds nothing
-    ghost is_empty: { Self → Type 0 };
-
-    /// Closes its reservation and its service's connection. The connections of its source and its next hop are left, unless it is one
-    /// that couldn't begin.
-    fn end<R: Wait>(self, rt: &R, bank: &Bank<B>) -> Option<(X, Z)>
-        requires { is_empty self };
+/// A transaction that doesn't go on.
+pub trait Ended<B: Ledgers, X, Z> {
+    /// Closes its reservation and its service's connection. The connections of its source and its next hop are left.
+    fn end<R: Wait>(self, rt: &R, bank: &Bank<B>) -> (X, Z);
 }
 
-impl<B: Ledgers, X: Wire, Y: Wire + Drop, Z: Wire> Ending<B, X, Z> for Running<B, X, Y, Z> {
-    ghost is_empty = { λ _. Unit {0} };
-
-    fn end<R: Wait>(self, rt: &R, bank: &Bank<B>) -> Option<(X, Z)> {
+impl<B: Ledgers, X: Wire, Y: Wire + Drop, Z: Wire> Ended<B, X, Z> for Running<B, X, Y, Z> {
+    fn end<R: Wait>(self, rt: &R, bank: &Bank<B>) -> (X, Z) {
         let Remains {
             stake,
             source_wire,
             next_wire,
         } = end_of(rt, bank, self.into_tx());
         bank.close(rt, stake, Pages::none());
-        Some((source_wire, next_wire))
+        (source_wire, next_wire)
     }
 }
 
-impl<B: Ledgers, X: Drop, Y: Drop, Z: Drop> Ending<B, X, Z> for Beginning<B, X, Y, Z> {
+/// What no transaction began with.
+pub trait Unbegun<B: Ledgers> {
+    // its reservation holds nothing
+    ghost is_empty: { Self → Type 0 };
+
+    /// Closes its reservation and all its connections.
+    fn close<R: Wait>(self, rt: &R, bank: &Bank<B>)
+        requires { is_empty self };
+}
+
+impl<B: Ledgers, X: Drop, Y: Drop, Z: Drop> Unbegun<B> for Beginning<B, X, Y, Z> {
     ghost is_empty = { λ beginning. (beginning.stake.held ≡ 0) × (beginning.stake.pages ≡ 0) };
 
-    fn end<R: Wait>(self, rt: &R, bank: &Bank<B>) -> Option<(X, Z)> {
+    fn close<R: Wait>(self, rt: &R, bank: &Bank<B>) {
         bank.close(rt, unused(self), Pages::none());
-        None
     }
 }
 
-/// A transaction on the heap. What is left of it comes back where no memory is found for it, or where it couldn't begin.
-pub fn placed_or_ended<B: Ledgers, X, Z, T: Ending<B, X, Z>, U: Ending<B, X, Z>, R: Wait>(
+/// A transaction on the heap. Its connections to source and next hop come back where no memory is found for it. Where it couldn't
+/// begin, all is closed.
+pub fn placed_or_ended<B: Ledgers, X, Z, T: Ended<B, X, Z>, U: Unbegun<B>, R: Wait>(
     rt: &R,
     bank: &Bank<B>,
     alloc: Global,
     begun: Result<T, U>,
 ) -> Result<Box<T>, Option<(X, Z)>>
-    requires begun { IfOk begun T.is_empty }
-    requires not { IfErr begun U.is_empty }
+    requires { (beginning : U) → begun ≡ Err beginning → U.is_empty beginning }
 {
     match begun {
         Ok(tx) => match Box::new(alloc, tx) {
             Ok(tx) => Ok(tx),
-            Err(AllocFailed { value }) => Err(value.end(rt, bank)),
+            Err(AllocFailed { value }) => Err(Some(value.end(rt, bank))),
         },
-        Err(beginning) => Err(beginning.end(rt, bank)),
+        Err(beginning) => {
+            beginning.close(rt, bank);
+            Err(None)
+        }
     }
 }
 

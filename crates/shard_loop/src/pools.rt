@@ -100,26 +100,24 @@ pub fn lend_reason(fault: LendFault) -> Reason {
     }
 }
 
-/// The seat of an exchange, from which its service's connection is taken.
+/// The seat of an exchange, from which its service's connection is taken: the seats of its thread are lent to it meanwhile.
 #[derive(Drop)]
-pub struct Berth<'s, 'r, 'a> {
+pub struct Berth<'r, 'a> {
     pub at: At<'r>,
-    pub seats: &'s mut Seats,
+    pub seats: Seats,
     pub room: &'a Arc<Room>,
 }
 
-impl<'s, 'r, 'a> Berth<'s, 'r, 'a> {
-    /// Takes a connection out of the poll, and gives it a place among the descriptors of idle ones.
-    fn lay_idle(&mut self, used: ServiceWire) -> Option<Spare> {
-        let mut wire = used;
-        let is_out = wire.deregister(self.at.registry).is_ok();
-        let ready = self.seats.dismiss(self.at.key)?;
-        if !is_out {
-            return None;
-        }
-        let place = Room::keep(self.room)?;
-        Some(Spare { wire, ready, place })
+/// Takes a connection out of the poll, and gives it a place among the descriptors of idle ones.
+fn lay_idle(at: At<'_>, seats: &mut Seats, room: &Arc<Room>, used: ServiceWire) -> Option<Spare> {
+    let mut wire = used;
+    let is_out = wire.deregister(at.registry).is_ok();
+    let ready = seats.dismiss(at.key)?;
+    if !is_out {
+        return None;
     }
+    let place = Room::keep(room)?;
+    Some(Spare { wire, ready, place })
 }
 
 /// Whether a connection still lives, and nothing lies unread on it.
@@ -127,7 +125,7 @@ fn is_quiet(wire: &ServiceWire) -> bool {
     wire.is_read_out() || wire.unread() == Unread::Nothing
 }
 
-impl<'s, 'r, 'a> Keeper<Loops<'a>> for Berth<'s, 'r, 'a> {
+impl<'r, 'a> Keeper<Loops<'a>> for Berth<'r, 'a> {
     type Used = ServiceWire;
 
     ghost past = { λ keeper p. ⊤ };
@@ -137,7 +135,9 @@ impl<'s, 'r, 'a> Keeper<Loops<'a>> for Berth<'s, 'r, 'a> {
     }
 
     fn rest(&mut self, used: ServiceWire) -> Option<Spare> {
-        self.lay_idle(used)
+        let at = self.at;
+        let room = self.room;
+        lay_idle(at, &mut self.seats, room, used)
     }
 
     fn close(&mut self, used: ServiceWire) {
@@ -149,7 +149,9 @@ impl<'s, 'r, 'a> Keeper<Loops<'a>> for Berth<'s, 'r, 'a> {
 #[derive(Drop)]
 pub struct Port<'s, 'r, 'a, R> {
     pub rt: &'s R,
-    pub berth: Berth<'s, 'r, 'a>,
+    pub at: At<'r>,
+    pub seats: Seats,
+    pub room: &'a Arc<Room>,
     /// The address of its service, if there is one.
     pub address: Option<SocketAddrV4>,
 }
@@ -164,7 +166,9 @@ impl<'s, 'r, 'a, R: Dial> Keeper<Loops<'a>> for Port<'s, 'r, 'a, R> {
     }
 
     fn rest(&mut self, used: ServiceWire) -> Option<Spare> {
-        self.berth.lay_idle(used)
+        let at = self.at;
+        let room = self.room;
+        lay_idle(at, &mut self.seats, room, used)
     }
 
     fn close(&mut self, used: ServiceWire) {
@@ -174,8 +178,10 @@ impl<'s, 'r, 'a, R: Dial> Keeper<Loops<'a>> for Port<'s, 'r, 'a, R> {
 
 impl<'s, 'r, 'a, R: Dial> Connector<Loops<'a>> for Port<'s, 'r, 'a, R> {
     fn open(&mut self, _point: Point) -> Result<ServiceWire, LendFault> {
+        let rt = self.rt;
+        let at = self.at;
         match self.address {
-            Some(address) => dial(self.rt, self.berth.seats, self.berth.at, address),
+            Some(address) => dial(rt, &mut self.seats, at, address),
             None => Err(LendFault::Unreached),
         }
     }
@@ -190,7 +196,8 @@ impl<'s, 'r, 'a, R: Dial> Connector<Loops<'a>> for Port<'s, 'r, 'a, R> {
             ready,
             place: _,
         } = idle;
-        match self.berth.seats.enlist(self.berth.at, wire, ready) {
+        let at = self.at;
+        match self.seats.enlist(at, wire, ready) {
             Ok(wire) => Ok(wire),
             Err(_) => Err(LendFault::NoMemory),
         }

@@ -7,6 +7,7 @@ use mio::{Registry, Token};
 use slab::Slab;
 use socket_wire::{MAX_KEY, Readiness, Role, Side, SocketWire, token_of};
 use std::alloc::{AllocError, Global};
+use std::mem;
 use std::sync::Arc;
 
 /// A place in a thread's loop: the poll, the key of an exchange, and the moment in seconds.
@@ -87,6 +88,18 @@ impl Seats {
         let bound = seats.bound();
         seats.all.reserve(bound)?;
         Ok(seats)
+    }
+
+    /// All seats, which come back after the call that they are lent for. Until then there is none here, which takes no memory.
+    pub fn lend(&mut self) -> Seats {
+        let none = Seats {
+            alloc: self.alloc,
+            all: Slab::new(self.alloc),
+            most: 0,
+            refused: 0,
+            stays: 0,
+        };
+        mem::replace(self, none)
     }
 
     /// How many there may be: those of the users that are served, and those of some that are refused.
@@ -320,9 +333,9 @@ impl Seats {
     ) -> Option<Arc<Readiness>> {
         let seat = self.all.get_mut(key)?;
         match side {
-            Side::User => std::mem::replace(&mut seat.user, ready),
-            Side::Origin => std::mem::replace(&mut seat.origin, ready),
-            Side::Service => std::mem::replace(&mut seat.service, ready),
+            Side::User => mem::replace(&mut seat.user, ready),
+            Side::Origin => mem::replace(&mut seat.origin, ready),
+            Side::Service => mem::replace(&mut seat.service, ready),
         }
     }
 
