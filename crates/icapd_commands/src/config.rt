@@ -32,6 +32,13 @@ pub(crate) const MAX_DEADLINE: u64 = 3600;
 
 /// Where `icapd serve` listens, what its answers say of it, and after how many seconds it closes a connection that says
 /// nothing.
+///
+/// ```
+/// let text = b"listen = \"127.0.0.1:1344\"\nistag = \"v1\"\nmax = 4\n";
+/// let config = read_config(alloc, text)?;
+/// // `max` is written, `deadline` has its default.
+/// assert_eq!(rt; (config.settings.max, config.deadline), (4, 60));
+/// ```
 #[derive(Debug, Drop)]
 pub struct Config {
     pub listen: SocketAddrV4,

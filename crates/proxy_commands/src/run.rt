@@ -87,6 +87,15 @@ fn perform<R: Read + Drop, W: Write>(
 ///
 /// The exit status: 0; 1 for `read failed`, `write failed` and `out of memory`; 2 for `usage`,
 /// `input too long` and `line N`.
+///
+/// ```
+/// // The word is `trace`, and the script that standard input has is `plan plain\nin 6\n`.
+/// let mut output = rt.stdout();
+/// let mut errors = rt.stderr();
+/// let status = run(rt.alloc(), &args, rt.stdin(), &mut output, &mut errors);
+/// // It printed `held 0..6`.
+/// assert_eq!(rt; status, 0);
+/// ```
 pub fn run<R: Read + Drop, W: Write, E: Write>(
     alloc: Global,
     args: &[String],
