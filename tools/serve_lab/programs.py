@@ -123,9 +123,12 @@ def icapd_serves_whoever_has_something_to_say(bench):
     first, second = User(port), User(port)
     for user in (first, second, first):
         offers(user)
+        # A connection waits from the moment when its thread does, which may come after the answer.
+        time.sleep(0.1)
     third = User(port)
     late = offers(third)
-    same("a third at once, after %.3f s" % late, late < 0.5, True)
+    print("      max = 2, two idle: a third is answered after %.3f s" % late)
+    same("a third at once", late < 0.5, True)
     same("the second was closed", second.is_ended(), True)
     offers(first)
     third.send(OPTIONS[:20])
@@ -140,7 +143,8 @@ def icapd_serves_whoever_has_something_to_say(bench):
     silent = [User(port) for _ in range(16)]
     time.sleep(0.1)
     late = offers(User(port))
-    same("past sixteen silent ones, after %.3f s" % late, late < 1.0, True)
+    print("      max = 16, sixteen silent: a further one is answered after %.3f s" % late)
+    same("past sixteen silent ones", late < 1.0, True)
     same("the first of them was closed", silent[0].is_ended(), True)
 
 
