@@ -8,7 +8,7 @@ import time
 
 from serve_lab.cases import IDLE, case, comes, get, post, same
 from serve_lab.lines import LINE
-from serve_lab.loopback import Icap, Reader, Server, User, ask, body_of
+from serve_lab.loopback import Icap, Reader, Server, User, ask, body_of, fields_of
 from serve_lab.operators import Log, stats, told
 
 # A target that fills a line: 2,048 bytes of it are written.
@@ -147,6 +147,40 @@ def a_message_whose_user_has_gone_is_in_its_line(bench):
     found = stats(proxy)
     same("counted", [found['adaptproxy_messages_total{point="%s",outcome="%s"}' % words] for words in (
         ("reqmod", "plain"), ("respmod", "200"), ("respmod", "failed"))], [1, 1, 0])
+    same("audit", proxy.stop(), IDLE)
+
+
+@case
+def what_a_service_said_is_in_the_line(bench):
+    """Sent anew, asked for more than the preview, and the reply; and the media type of the answer."""
+    def page(conn, _number):
+        reader = Reader(conn)
+        while True:
+            reader.head()
+            conn.sendall(b"HTTP/1.1 200 OK\r\nContent-Type: text/html; charset=utf-8\r\nContent-Length: 100\r\n\r\n" + body_of(100))
+
+    def reply(conn, reader, head, count):
+        heads, body, _last = Icap.rest(reader, head)
+        if count == 2:
+            return False
+        if count == 4:
+            conn.sendall(b"ICAP/1.0 100 Continue\r\n\r\n")
+            body += reader.chunked()[0]
+        if count in (1, 3):
+            conn.sendall(Icap.NO_MODIFICATION)
+        else:
+            Icap.same(conn, fields_of(head), heads, body, b"0")
+        return True
+    log = bench.keep(Log())
+    service = bench.icap(reply, options=(b"Preview: 4", b"Transfer-Preview: *"))
+    proxy = bench.proxy(bench.keep(Server(page)), log.key + "shards = 1\n", [("respmod", service.port, "/respmod")])
+    for wanted in ("204", "retry+204", "100+200"):
+        same(wanted, ask(proxy.port, get("/page")).body, body_of(100))
+        row = log.next()[0]
+        same(wanted, (row[4], row[9], row[10], row[11], row[12]), ("200", "text/html", "plain", wanted, "-"))
+    found = stats(proxy)
+    same("counted", [found["adaptproxy_retries_total"]] + [found['adaptproxy_messages_total{point="respmod",outcome="%s"}' % word]
+                                                           for word in ("204", "200", "failed")], [1, 2, 1, 0])
     same("audit", proxy.stop(), IDLE)
 
 
