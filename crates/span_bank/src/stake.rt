@@ -231,15 +231,4 @@ impl<B: Ledgers> Stake<B> {
         } = self;
         all.merge(parts);
     }
-
-    // Loses the reservation, as no user can.
-    #[cfg(test)]
-    pub(crate) fn lose(self) {
-        let Stake {
-            held: _,
-            claim: _,
-            pages: _,
-            parts: _,
-        } = self;
-    }
 }
