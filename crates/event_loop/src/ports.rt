@@ -1,6 +1,6 @@
 //! The users' port, of the one loop that serves it: users that connect are handed out in rotation.
 
-ghost use Rattle.std.specs.Prelude.{◌≡◌, ◌<◌, ◌%◌, true};
+ghost use Rattle.std.specs.Prelude.{◌≡◌, ◌<◌, ◌%◌, ◌↔◌, true};
 
 use crate::inbox::{Handed, Inbox};
 use crate::listening::{Accepted, Listening};
@@ -53,7 +53,7 @@ fn inbox_of(number: u64, loops: usize, inboxes: &[Inbox]) -> Option<&Inbox> {
 
 /// Whether it is the turn of the loop with this number.
 fn is_turn_of(own: usize, number: u64, loops: usize) -> bool
-    ensures { result ≡ true → own ≡ number % loops }
+    ensures { result ≡ true ↔ (0 < loops) × (own ≡ number % loops) }
 {
     loops > 0 && loop_of(number, loops) == own
 }

@@ -21,8 +21,9 @@ pub const USER: u64 = 3;
 
 /// The descriptors that users and idle connections share.
 ///
-/// A user takes three of them, for whatever its exchanges may dial, and an idle connection one. Together they never take more
-/// than there are, so who was let in finds a descriptor. Some are kept for idle connections alone.
+/// A user takes three of them, for its connection, its origin's and its service's, and an idle connection one. Together they
+/// never take more than there are, so the first connections of an exchange find descriptors. Some are kept for idle connections
+/// alone.
 #[derive(Drop)]
 pub struct Room {
     all: u64,
