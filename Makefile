@@ -34,7 +34,8 @@ try-scale: build ## three proxies behind HAProxy and two services behind it: eac
 try-serve: build ## tries `adaptproxy serve` over loopback: with users, origins and services that misbehave
 	@tools/try_serve
 
-bench-serve: build ## requests/s and CPU of `adaptproxy serve` beside Squid's, where squid, wrk, nginx and c-icap are installed
+bench-serve: build ## the table of speed beside Squid, c-icap and nginx, in six minutes, where squid, wrk, nginx, c-icap and strace are installed
+	@tools/prove_programs layer_bench
 	@tools/bench_serve
 
 icapd: ## answers examples/blocked.icap by the ICAP server

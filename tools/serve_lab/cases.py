@@ -5,7 +5,7 @@ import threading
 import time
 
 from serve_lab.lines import Lines
-from serve_lab.loopback import TOP, Icap, Origin, Program, Proxy, User, free_port
+from serve_lab.loopback import PATIENCE, TOP, Icap, Origin, Program, Proxy, User, free_port
 
 ADAPTPROXY = os.environ.get("ADAPTPROXY", os.path.join(TOP, "bin", "adaptproxy"))
 ICAPD = os.environ.get("ICAPD", os.path.join(TOP, "bin", "icapd"))
@@ -50,9 +50,9 @@ class Bench:
         same("icapd", program.first, b"listening\n")
         return port
 
-    def proxy(self, origin, text="", services=(), hosts="", descriptors=None, logged=LOGGED):
+    def proxy(self, origin, text="", services=(), hosts="", descriptors=None, logged=LOGGED, before=()):
         lines = Lines() if logged and "log =" not in text else None
-        proxy = self.keep(Proxy(ADAPTPROXY, origin.port, (lines.key if lines else "") + text, services, hosts, descriptors))
+        proxy = self.keep(Proxy(ADAPTPROXY, origin.port, (lines.key if lines else "") + text, services, hosts, descriptors, before))
         if lines:
             self.logs.append((proxy, lines))
         return proxy
@@ -128,7 +128,7 @@ def at_once(count, one):
     same("users that failed", wrong, [])
 
 
-def comes(what, true, patience=5.0):
+def comes(what, true, patience=PATIENCE / 4):
     """It becomes true in time."""
     end = time.time() + patience
     while not true():
@@ -150,7 +150,7 @@ def statuses_of(proxy, users, paths):
     return found
 
 
-def settled(proxy, patience=5.0):
+def settled(proxy, patience=PATIENCE / 4):
     """What `book` says once no transaction is open: a thread may be on its way from the last byte to the end."""
     end = time.time() + patience
     while True:

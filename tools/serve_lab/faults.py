@@ -1,4 +1,5 @@
-"""What the system does to the proxy: calls that it refuses or answers late, by strace, and memory that it doesn't give."""
+"""What the system does to the proxy: calls that it refuses or answers late, by strace, and memory that it doesn't give: by a bound
+of it, or call by call."""
 import os
 import re
 import resource
@@ -9,8 +10,11 @@ import tempfile
 import threading
 import time
 
-from serve_lab.cases import IDLE, at_once, case, get, lent, refusal, same, settled
-from serve_lab.loopback import Closed, User, ask, body_of
+from serve_lab.cases import IDLE, at_once, case, comes, get, lent, post, refusal, same, settled
+from serve_lab.descriptors import connections_of
+from serve_lab.loopback import Closed, Icap, User, ask, body_of
+from serve_lab.memory import Refusals, has_compiler
+from serve_lab.operators import stats
 
 
 class Strace:
@@ -65,6 +69,42 @@ def a_dial_for_which_there_is_no_room_is_503(bench):
     same("audit", proxy.stop(), IDLE)
 
 
+@case
+def a_retry_closes_the_broken_connection_first(bench):
+    """So it needs no descriptor beside those that were counted for its user; where the system has no room for a fresh connection, that
+    is 503."""
+    if not has_strace():
+        return
+    origin = bench.origin()
+
+    def reply(conn, reader, head, count):
+        if count % 3 == 2:
+            Icap.rest(reader, head)
+            return False
+        return service.no_modification(conn, reader, head, count)
+    for point in ("reqmod", "respmod"):
+        service = bench.icap(reply)
+        proxy = bench.proxy(origin, "shards = 1", [(point, service.port, "/%s/x" % point)])
+        same("before it", ask(proxy.port, get("/bytes/3")).body, b"the")
+        comes("its end", lambda: set(connections_of(proxy, {service.port: "service"})) <= {"service"})
+        trace = Strace(proxy, "-e", "trace=socket,close")
+        same("retried", ask(proxy.port, get("/bytes/3")).body, b"the")
+        calls = [re.search(r"(socket|close)\(", line) for line in trace.close()]
+        names = [call.group(1) for call in calls if call]
+        same(point, names[:3], ["socket", "close", "socket"])
+        same("between them", ask(proxy.port, get("/bytes/3")).body, b"the")
+        trace = Strace(proxy, "-e", "trace=socket", "-e", "inject=socket:error=EMFILE:when=2+")
+        user = User(proxy.port)
+        user.send(get("/bytes/3"))
+        same("without room", user.reader.to_end(), refusal(503))
+        user.close()
+        same("the call failed", any("INJECTED" in line for line in trace.close()), True)
+        comes("counted", lambda: stats(proxy)['adaptproxy_refusals_total{why="no-memory"}'] == 1)
+        same("after it", ask(proxy.port, get("/bytes/3")).body, b"the")
+        same("requests", len(service.requests), 6)
+        same("audit", proxy.stop(), IDLE)
+
+
 def waits_after_accepts(lines):
     """The milliseconds that each wait right after an accepted connection may last. A call may end on a line of its own."""
     found, accepted = [], {}
@@ -78,8 +118,8 @@ def waits_after_accepts(lines):
 
 
 @case
-def a_loop_that_accepts_many_does_not_rest(bench):
-    """256 connections are accepted in a turn, and the loop does not wait after that."""
+def many_accepts_in_a_row_are_no_pause(bench):
+    """256 connections are accepted in a turn, and the loop does not wait after that: it asks its poll with no patience."""
     if not has_strace():
         return
     if resource.getrlimit(resource.RLIMIT_NOFILE)[1] < 4096:
@@ -113,6 +153,33 @@ def a_connection_that_is_gone_before_it_is_taken_is_no_pause(bench):
     gone = next(at for at, line in enumerate(calls) if "ECONNABORTED" in line)
     same("the next call", " accept4(" in calls[gone + 1], True)
     same("audit", proxy.stop(), IDLE)
+
+
+@case
+def a_refusal_at_the_stop_is_tried_again(bench):
+    """A connection that takes nothing when the proxy stops gets its refusal a little later, when an event says so."""
+    if not has_strace():
+        return
+    origin = bench.origin()
+    proxy = bench.proxy(origin, "shards = 1")
+    user = User(proxy.port)
+    user.send(get("/mute"))
+    comes("the exchange", lambda: origin.heads)
+    trace = Strace(proxy, "-e", "trace=sendto", "-e", "inject=sendto:error=EAGAIN:when=1..3")
+    stop = threading.Thread(target=lambda: audits.append(proxy.stop()))
+    audits = []
+    stop.start()
+    while stop.is_alive():
+        time.sleep(0.05)
+        try:
+            user.send(b"x")
+        except OSError:
+            break
+    stop.join()
+    tried = sum("sendto" in line and " = " in line for line in trace.close())
+    print("      it was tried %d times" % tried)
+    same("the refusal", user.reader.to_end(), refusal(503))
+    same("audit", audits, [IDLE])
 
 
 @case
@@ -195,5 +262,136 @@ def want_of_memory_ends_no_thread(bench):
         same("statuses", set(found) <= {200, 503, "closed"}, True)
         same("book", settled(proxy)[:24], "rows 0 held 0 claimed 0 ")
         same("after it", ask(proxy.port, get("/chunked/100000")).body, body_of(100000))
-    same("memory was short", refused > 100, True)
+    same("memory was short", refused > 0, True)
+    same("audit", proxy.stop(), IDLE)
+
+
+def outcome_of(user, wanted):
+    """What a user gets, in a word: the whole answer (its body, or all of it), the refusal, or an answer that is cut after its head."""
+    text = user.reader.to_end()
+    head, _, rest = text.partition(b"\r\n\r\n")
+    if text in (wanted, refusal(503)):
+        return "whole" if text == wanted else "503"
+    if head.startswith(b"HTTP/1.1 200 ") and rest == wanted:
+        return "whole"
+    return "cut" if head.startswith(b"HTTP/1.1 200 ") and wanted.startswith(rest) else repr(text[:100])
+
+
+def outcome_but(refusals, calls, proxy, request, wanted):
+    """What a user gets where the call for memory after so many ones is refused, counted from its request on, which lies there whole
+    when it is read."""
+    user, asked = User(proxy.port), -1
+    while asked != refusals.asked():
+        asked = refusals.asked()
+        time.sleep(0.01)
+    proxy.process.send_signal(signal.SIGSTOP)
+    refusals.next_but(calls)
+    user.send(request)
+    proxy.process.send_signal(signal.SIGCONT)
+    outcome = outcome_of(user, wanted)
+    refusals.none()
+    user.close()
+    return outcome
+
+
+@case
+def each_call_for_memory_may_be_refused(bench):
+    """Of each kind of exchange each call for memory is refused in its turn: the user gets the answer, the proxy's 503, or a beginning
+    of the answer. No thread ends, and nothing is held after it."""
+    if not has_compiler():
+        return
+    origin, refusals = bench.origin(), bench.keep(Refusals())
+    service = bench.icap(options=[b"Options-TTL: 0", b"Preview: 4", b"Transfer-Preview: *"])
+    respmod, reqmod = [("respmod", service.port, "/respmod/x")], [("reqmod", service.port, "/reqmod/x")]
+    ends = "Connection: close\r\n"
+    rows = [("bulk", [], get("/close/400000", ends, version="1.0"), body_of(400000)), ("plain", [], get("/bytes/300", ends), body_of(300)),
+            ("REQMOD", reqmod, post("/echo", body_of(3000), ends), body_of(3000)),
+            ("RESPMOD", respmod, get("/bytes/30000", ends), body_of(30000)), ("both", reqmod + respmod, post("/echo", b"abc", ends), b"abc"),
+            ("much after a fault", [], b"what is this\r\n\r\n" + bytes(300000), refusal(400))]
+    for word, services, request, wanted in rows:
+        proxy = bench.proxy(origin, "shards = 1", services, logged=False, before=refusals.before)
+        usual = ask(proxy.port, request).status
+        same("before it", usual, 400 if wanted == refusal(400) else 200)
+        found, at, beyond = {}, 0, 0
+        while beyond < 5:
+            before = refusals.refused()
+            outcome = outcome_but(refusals, at, proxy, request, wanted)
+            if outcome == "b''" and at < 3:
+                # A user that has no seat yet may be closed: once more, then.
+                outcome = outcome_but(refusals, at, proxy, request, wanted)
+            found[outcome] = found.get(outcome, 0) + 1
+            beyond = 0 if refusals.refused() > before else beyond + 1
+            at += 1
+            same("it goes on after call %d of %s" % (at, word), proxy.process.poll(), None)
+        print("      %s: of %d calls: %s" % (word, at - 5, found))
+        same(word, (set(found) <= {"whole", "503", "cut"}, found.get("503", 0) > 0), (True, True))
+        same("book", settled(proxy)[:24], "rows 0 held 0 claimed 0 ")
+        same("after it", ask(proxy.port, request).status, usual)
+        same("audit", proxy.stop(), IDLE)
+
+
+@case
+def a_loop_needs_no_memory_to_go_on(bench):
+    """Users that were refused send so much that their turns are cut short: that takes no memory, and there is none."""
+    if not has_compiler():
+        return
+    refusals = bench.keep(Refusals())
+    proxy = bench.proxy(bench.origin(), "shards = 1", logged=False, before=refusals.before)
+    users = [User(proxy.port) for _ in range(16)]
+    for user in users:
+        user.send(b"what is this\r\n\r\n")
+        same("refused", user.answer().status, 400)
+    time.sleep(0.1)
+    before = refusals.asked()
+    refusals.one_of(1)
+
+    def one(number):
+        try:
+            users[number].send(bytes(32 << 20))
+        except OSError:
+            pass  # That is seen below.
+    at_once(4, one)
+    refusals.none()
+    print("      %d calls for memory in turns over 128 MiB" % (refusals.asked() - before))
+    same("it goes on", (proxy.process.poll(), refusals.asked() - before), (None, 0))
+    same("after it", ask(proxy.port, get("/bytes/3")).body, b"the")
+    for user in users:
+        user.close()
+    same("audit", proxy.stop(), IDLE)
+
+
+@case
+def refused_memory_ends_no_thread(bench):
+    """Sixty-four users ask for answers that take many turns, while one of so many calls for memory is refused, and then each one."""
+    if not has_compiler():
+        return
+    origin, refusals = bench.origin(), bench.keep(Refusals())
+    service = bench.icap(options=[b"Options-TTL: 0", b"Preview: 4", b"Transfer-Preview: *"])
+    proxy = bench.proxy(origin, "shards = 2", [("respmod", service.port, "/respmod/x", 64)], logged=False, before=refusals.before)
+    same("before it", ask(proxy.port, get("/bytes/3")).body, b"the")
+
+    def one(number):
+        for _ in range(4):
+            try:
+                user = User(proxy.port)
+                size = 3 + number % 4 * 300000
+                user.send(get("/close/%d" % size, "Connection: close\r\n", version="1.0"))
+                word = outcome_of(user, body_of(size))
+                user.close()
+            except OSError:
+                word = "closed"
+            with lock:
+                found[word] = found.get(word, 0) + 1
+    lock = threading.Lock()
+    for one_of in (500, 50, 5, 1):
+        found, before = {}, refusals.refused()
+        refusals.one_of(one_of)
+        at_once(64, one)
+        refusals.none()
+        print("      one of %d refused, %d in all: %s" % (one_of, refusals.refused() - before, found))
+        same("it goes on", proxy.process.poll(), None)
+        same("answers", set(found) <= {"whole", "503", "cut", "closed", "b''"}, True)
+        same("refused", refusals.refused() > before, True)
+        same("book", settled(proxy)[:24], "rows 0 held 0 claimed 0 ")
+        same("after it", ask(proxy.port, get("/chunked/100000")).body, body_of(100000))
     same("audit", proxy.stop(), IDLE)

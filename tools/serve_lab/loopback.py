@@ -8,7 +8,8 @@ import threading
 import time
 
 TOP = os.path.dirname(os.path.dirname(os.path.dirname(os.path.abspath(__file__))))
-PATIENCE = 20.0
+# Seconds that an answer may take; a machine with much else to do may need more.
+PATIENCE = float(os.environ.get("PATIENCE", "20"))
 # The statuses of the answers that users have read, by the port.
 SEEN = collections.defaultdict(collections.Counter)
 
@@ -400,14 +401,14 @@ class Proxy(Program):
     """adaptproxy: `text` is its configuration without its addresses; a service is (point, port, path), and the number of
     its connections where it isn't the default."""
 
-    def __init__(self, path, origin, text="", services=(), hosts="", descriptors=None):
+    def __init__(self, path, origin, text="", services=(), hosts="", descriptors=None, before=()):
         self.port, self.admin = free_port(), free_port()
         lines = 'listen = "127.0.0.1:%d"\nadmin = "127.0.0.1:%d"\n%s\n[hosts]\n"o.test" = "127.0.0.1:%d"\n%s\n' % (
             self.port, self.admin, text, origin, hosts)
         for point, port, where, *connections in services:
             lines += '[%s]\nhost = "127.0.0.1"\nport = %d\npath = "%s"\n' % (point, port, where)
             lines += "".join("connections = %d\n" % n for n in connections)
-        super().__init__(path, lines, descriptors)
+        super().__init__(path, lines, descriptors, before)
         if self.first != b"listening\n":
             raise AssertionError("not listening: %r" % (self.ended(),))
 

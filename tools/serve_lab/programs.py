@@ -18,6 +18,11 @@ def no_target_is_the_proxy_itself(bench):
             target = "http://%s:%d/" % (host, port)
             request = "POST %s HTTP/1.1\r\nHost: x\r\nContent-Length: 5\r\n\r\nstop\n" % target
             is_refused(target, proxy.port, request.encode(), 502)
+        # Other spellings of the address, as some resolvers take them, are names that nobody knows.
+        for host in ("127.1", "2130706433", "0x7f000001", "0x7f.0.0.1", "0177.0.0.1", "127.000.000.001", "127.0.0.1.", "localhost", "0",
+                     "[::1]", "[::ffff:127.0.0.1]", "[::]", "[127.0.0.1]", "255.255.255.255"):
+            request = "POST http://%s:%d/ HTTP/1.1\r\nHost: x\r\nContent-Length: 5\r\n\r\nstop\n" % (host, port)
+            is_refused(host, proxy.port, request.encode(), 502)
     port, admin = free_port(), free_port()
     everywhere = bench.keep(Program(ADAPTPROXY, 'listen = "127.0.0.1:%d"\nadmin = "0.0.0.0:%d"\n[hosts]\n"a.test" = "127.0.0.1:%d"\n'
                                     '"o.test" = "127.0.0.1:%d"\n' % (port, admin, admin, origin.port)))
@@ -78,7 +83,7 @@ def configurations_are_checked_without_a_port(bench):
     few = subprocess.run(["prlimit", "--nofile=100", ADAPTPROXY, "check"], input=least.replace("rows = 4", "rows = 40").encode(),
                          stdout=subprocess.PIPE, stderr=subprocess.PIPE, timeout=20)
     same("a warning", (few.stdout, few.stderr, few.returncode),
-         (b"ok\n", b"adaptproxy: 220 descriptors may be needed, and the limit is 100\n", 0))
+         (b"ok\n", b"adaptproxy: 300 descriptors may be needed, and the limit is 100\n", 0))
 
 
 @case
@@ -118,9 +123,12 @@ def icapd_serves_whoever_has_something_to_say(bench):
     first, second = User(port), User(port)
     for user in (first, second, first):
         offers(user)
+        # A connection waits from the moment when its thread does, which may come after the answer.
+        time.sleep(0.1)
     third = User(port)
     late = offers(third)
-    same("a third at once, after %.3f s" % late, late < 0.5, True)
+    print("      max = 2, two idle: a third is answered after %.3f s" % late)
+    same("a third at once", late < 0.5, True)
     same("the second was closed", second.is_ended(), True)
     offers(first)
     third.send(OPTIONS[:20])
@@ -135,7 +143,8 @@ def icapd_serves_whoever_has_something_to_say(bench):
     silent = [User(port) for _ in range(16)]
     time.sleep(0.1)
     late = offers(User(port))
-    same("past sixteen silent ones, after %.3f s" % late, late < 1.0, True)
+    print("      max = 16, sixteen silent: a further one is answered after %.3f s" % late)
+    same("past sixteen silent ones", late < 1.0, True)
     same("the first of them was closed", silent[0].is_ended(), True)
 
 

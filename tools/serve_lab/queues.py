@@ -140,6 +140,32 @@ def exchanges_wait_in_the_order_of_arrival(bench):
 
 
 @case
+def options_that_never_stay_fresh_are_asked_once_a_message(bench):
+    """Also where the connection that was asked can't be used for the message, and others wait: each would ask until its wait ends."""
+    def slowly(conn, reader, head, count):
+        time.sleep(0.1)
+        return service.no_modification(conn, reader, head, count)
+    origin = bench.origin()
+    for more in ([], [b"Connection: close"]):
+        service = bench.icap(slowly, [b"Max-Connections: 1", b"Options-TTL: 0", *more])
+        proxy = bench.proxy(origin, "shards = 2\nwait = 10", [("reqmod", service.port, "/reqmod/x", 1)])
+        found = []
+
+        def one(_number):
+            found.append(ask(proxy.port, get("/bytes/3")).status)
+        at_once(6, one)
+        same("all are served", found, [200] * 6)
+        same("asked", service.asked, 6)
+        user = User(proxy.port)
+        user.send(post("/echo", b"abc", "Expect: 100-continue\r\n"))
+        same("interim", user.reader.head(), b"HTTP/1.1 100 Continue\r\n\r\n")
+        same("served", user.answer().status, 200)
+        same("asked", service.asked, 7)
+        user.close()
+        same("audit", proxy.stop(), IDLE)
+
+
+@case
 def a_wait_ends_with_a_refusal(bench):
     """By its own seconds, by the deadline, by the bound of the queue, and by a stop."""
     _service, proxy, _first, held = one_held(bench, "wait = 1\nshards = 2\nrows = 3")

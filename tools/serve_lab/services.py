@@ -167,6 +167,32 @@ def a_connection_that_broke_after_its_options_is_replaced(bench):
 
 
 @case
+def options_on_a_connection_that_ends_are_asked_anew_where_a_retry_may_be(bench):
+    """Its service reads the second OPTIONS on a connection, and closes it."""
+    def once(conn, _number):
+        reader, asked = Reader(conn), 0
+        while True:
+            head = reader.head()
+            if not head.startswith(b"OPTIONS"):
+                Icap.rest(reader, head)
+                conn.sendall(Icap.NO_MODIFICATION)
+                continue
+            asked += 1
+            if asked == 2:
+                return
+            conn.sendall(b"ICAP/1.0 200 OK\r\nMethods: RESPMOD\r\nISTag: \"t-1\"\r\nAllow: 204\r\nOptions-TTL: 0\r\n"
+                         b"Encapsulated: null-body=0\r\n\r\n")
+    for retry, wanted, connections in (("true", 200, 2), ("false", 502, 1)):
+        service = bench.keep(Server(once))
+        proxy = bench.proxy(bench.origin(), "shards = 1\nretry = %s" % retry, [("respmod", service.port, "/respmod/x")])
+        same("the first", ask(proxy.port, get("/bytes/3")).status, 200)
+        same("book", settled(proxy)[:24], "rows 0 held 0 claimed 0 ")
+        same("retry = %s" % retry, ask(proxy.port, get("/bytes/3")).status, wanted)
+        same("connections", service.count, connections)
+        same("audit", proxy.stop(), IDLE)
+
+
+@case
 def a_stop_refuses_what_is_under_way(bench):
     origin = bench.origin()
 

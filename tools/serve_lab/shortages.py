@@ -57,6 +57,8 @@ def seats_are_taken_from_unfinished_heads_next(bench):
         user.send(get("/bytes/3")[:10 + number])
         slow.append(user)
         time.sleep(0.05)
+    # None is spared within 200 ms after it was taken in.
+    time.sleep(0.4)
     for number in range(3):
         same("served", ask(proxy.port, get("/bytes/5")).body, body_of(5))
     comes("a free seat", lambda: not is_open(slow[0]))
@@ -71,6 +73,56 @@ def seats_are_taken_from_unfinished_heads_next(bench):
     origin.release.set()
     for user in busy:
         user.reader.to_end()
+    same("audit", proxy.stop(), IDLE)
+
+
+@case
+def a_user_is_spared_where_many_have_just_sent(bench):
+    origin = bench.origin()
+    proxy = bench.proxy(origin, "shards = 1\nrows = 600\ndeadline = 600", descriptors=4096)
+    users = [User(proxy.port) for _ in range(600)]
+    for user in users:
+        same("kept", user.ask(get("/bytes/3")).body, b"the")
+    # The loop sees the further user first, and then 255 of the 300 requests: 45 lie unread on those that have been idle longest.
+    os.kill(proxy.process.pid, 19)
+    further = User(proxy.port)
+    further.send(get("/bytes/5"))
+    time.sleep(0.1)
+    for user in reversed(users[:300]):
+        user.send(get("/bytes/4"))
+    os.kill(proxy.process.pid, 18)
+    same("the further one", further.answer().body, body_of(5))
+    same("those that have just sent", {user.answer().body for user in users[:300]}, {b"the "})
+    same("closed is the one that waited longest", [is_open(user) for user in users[300:304]], [False, True, True, True])
+    for user in users + [further]:
+        user.close()
+    same("audit", proxy.stop(), IDLE)
+
+
+@case
+def a_crowd_on_a_slow_line_is_served(bench):
+    origin = bench.origin()
+    proxy = bench.proxy(origin, "shards = 1\nrows = 4\ndeadline = 600")
+    idle = [User(proxy.port) for _ in range(3)]
+    for user in idle:
+        same("kept", user.ask(get("/bytes/3")).body, b"the")
+    # Seven users are taken in before a byte of their heads comes: three idle ones go for them, none of them for another.
+    crowd = [User(proxy.port) for _ in range(7)]
+    time.sleep(0.1)
+    for user in crowd:
+        user.send(get("/bytes/5"))
+    same("the crowd", [user.answer().status for user in crowd], [200] * 4 + [503] * 3)
+    same("closed are the idle ones", [is_open(user) for user in idle], [False] * 3)
+    # Later they are spared as any other is that hasn't sent its head.
+    for user in crowd:
+        user.close()
+    comes("free seats", lambda: ask(proxy.port, get("/bytes/5")).status == 200)
+    silent = [User(proxy.port) for _ in range(4)]
+    time.sleep(0.4)
+    same("a further one", ask(proxy.port, get("/bytes/5")).body, body_of(5))
+    same("closed is the oldest", [is_open(user) for user in silent], [False, True, True, True])
+    for user in silent:
+        user.close()
     same("audit", proxy.stop(), IDLE)
 
 
@@ -291,6 +343,32 @@ def idle_connections_take_no_descriptor_of_a_user(bench):
 
 
 @case
+def a_head_that_goes_on_is_not_cut(bench):
+    """A byte of a head now and then: where seats are free, it goes on for longer than the deadline, and is answered."""
+    proxy = bench.proxy(bench.origin(), "deadline = 2\nrows = 4")
+    user, text = User(proxy.port), get("/bytes/3")
+    for at in range(12):
+        user.send(text[at:at + 1])
+        time.sleep(0.4)
+    same("answered", user.ask(text[12:]).body, b"the")
+    same("audit", proxy.stop(), IDLE)
+
+
+class Oversleeping:
+    """How much later than it asks for a thread of this machine runs on, at most."""
+
+    def __init__(self):
+        self.most, self.ends = 0, False
+        threading.Thread(target=self.run, daemon=True).start()
+
+    def run(self):
+        while not self.ends:
+            before = time.time()
+            time.sleep(0.02)
+            self.most = max(self.most, time.time() - before - 0.02)
+
+
+@case
 def deadlines_come_never_early(bench):
     def exchange(conn, _number):
         head = Reader(conn).head()
@@ -298,7 +376,7 @@ def deadlines_come_never_early(bench):
         conn.sendall(b"HTTP/1.1 200 OK\r\nContent-Length: 3\r\n\r\nabc")
     origin = bench.keep(Server(exchange))
     proxy = bench.proxy(origin, "deadline = 1\nshards = 1")
-    late = []
+    late, others = [], Oversleeping()
 
     def one(number):
         time.sleep(number * 0.07)
@@ -313,8 +391,9 @@ def deadlines_come_never_early(bench):
         same("a head", user.reader.to_end(), b"")
         late.append(time.time() - before)
     at_once(15, one)
-    print("      deadlines of 1 s came after %.2f to %.2f s" % (min(late), max(late)))
-    same("never early, and a second late at most", (min(late) >= 1, max(late) < 2.3), (True, True))
+    others.ends = True
+    print("      deadlines of 1 s came after %.2f to %.2f s; a sleep came up to %.2f s late" % (min(late), max(late), others.most))
+    same("never early, and a second late at most", (min(late) >= 1, max(late) < 2.2 + 3 * others.most), (True, True))
     same("audit", proxy.stop(), IDLE)
 
 
@@ -354,22 +433,6 @@ def a_stop_reaches_users_that_are_sending(bench):
     for thread in threads:
         thread.join()
     same("refused", found, [refusal(503)] * 8)
-
-
-@case
-def many_accepts_in_a_row_are_no_pause(bench):
-    origin = bench.origin()
-    proxy = bench.proxy(origin, "shards = 1\nrows = 4096")
-    os.kill(proxy.process.pid, 19)
-    users = [User(proxy.port) for _ in range(600)]
-    users[-1].send(get("/bytes/3"))
-    before = time.time()
-    os.kill(proxy.process.pid, 18)
-    same("the last", users[-1].answer().body, b"the")
-    print("      the 600th of 600 is answered after %.0f ms" % (1000 * (time.time() - before)))
-    for user in users:
-        user.close()
-    same("audit", proxy.stop(), IDLE)
 
 
 @case

@@ -1,4 +1,5 @@
 pub mod FaultNames
 pub mod Filling
+pub mod Raw
 pub mod Tapes
 pub mod Turns

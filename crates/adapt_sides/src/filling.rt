@@ -5,8 +5,8 @@ ghost use Rattle.adapt_bytes.specs.declared.limits.TheConstants.{MAX_HEAD};
 ghost use Rattle.adapt_sides.specs.declared.filling.TheConstants.{MAX_READ};
 ghost use Rattle.adapt_sides.specs.Filling.{IsFilled};
 
+use crate::raw::RawBytes;
 use adapt_bytes::MAX_HEAD;
-use bytes::BytesMut;
 use wire_kit::{Got, Wire};
 
 /// The most bytes of one read.
@@ -28,12 +28,15 @@ pub enum Filled {
 }
 
 /// Reads once, and appends to the raw bytes, which are never more than a head may have.
-pub fn fill<W: Wire>(raw: &mut BytesMut, wire: &mut W) -> Filled
+pub fn fill<W: Wire>(raw: &mut RawBytes, wire: &mut W) -> Filled
     requires { length raw.old.items < MAX_HEAD }
     ensures filled { IsFilled (W.past wire.old) (W.past wire.new) raw.old.items raw.new.items result }
     ensures fits { length raw.new.items ≤ MAX_HEAD }
     ensures few { length raw.new.items ≤ length raw.old.items + MAX_READ }
 {
+    if !wire.may_give() {
+        return Filled::Wait;
+    }
     let most = (MAX_HEAD - raw.len()).min(MAX_READ);
     if raw.reserve(most).is_err() {
         return Filled::NoMemory;

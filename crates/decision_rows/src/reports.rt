@@ -70,7 +70,7 @@ fn entry_of<'a>(row: &Row<'a>) -> Entry<'a> {
         elapsed: row.number(b"elapsed").unwrap_or(0),
         user: address(row.get(b"user")),
         refused: row.has(b"refused"),
-        status: row.number(b"status").unwrap_or(200).min(999) as u16,
+        status: row.number(b"status").unwrap_or(200).min(65_535) as u16,
         sent: row.number(b"sent").unwrap_or(0),
         method: row.get(b"method"),
         target: row.get(b"target"),

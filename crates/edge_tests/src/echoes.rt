@@ -7,7 +7,7 @@ use event_loop::{
 use mio::net::TcpListener;
 use mio::{Registry, Token};
 use slab::Slab;
-use socket_wire::{Dial, MAX_KEY, Readiness, Side, SocketWire, token_of};
+use socket_wire::{Dial, MAX_KEY, Readiness, Side, SocketWire, UserWire, token_of};
 use std::alloc::{AllocError, Global};
 use std::io::{self, Read, Write};
 use std::net::{Ipv4Addr, SocketAddr, TcpStream as Client};
@@ -21,7 +21,7 @@ use wire_kit::{Got, Wire};
 #[derive(Drop)]
 struct Conn {
     ready: Arc<Readiness>,
-    wire: SocketWire,
+    wire: UserWire,
     place: Place,
 }
 
@@ -53,7 +53,7 @@ fn take_in(echo: &mut Echo, registry: &Registry, user: Handed) -> Result<usize, 
     Ok(key)
 }
 
-fn echo_once(wire: &mut SocketWire) -> Got {
+fn echo_once(wire: &mut UserWire) -> Got {
     let mut piece = [0u8; 64];
     let got = wire.try_read(&mut piece);
     if let Got::Bytes(count) = got {
@@ -68,12 +68,12 @@ impl Work for Echo {
         _rt: &R,
         registry: &Registry,
         user: Handed,
-        _now: u64,
+        _millis: u64,
     ) -> Option<usize> {
         take_in(self, registry, user).ok()
     }
 
-    fn make_room<R: Wait + Clock>(&mut self, _rt: &R) -> bool {
+    fn make_room<R: Wait + Clock>(&mut self, _rt: &R, _millis: u64) -> bool {
         for key in 0..self.bound() {
             if self.all.try_remove(key).is_some() {
                 return true;

@@ -1,6 +1,6 @@
 use mio::net::{TcpListener, TcpStream};
 use mio::{Events, Interest, Poll, Token};
-use socket_wire::{Readiness, SocketWire};
+use socket_wire::{OriginWire, Readiness, SocketWire, UserWire};
 use std::net::{Ipv4Addr, SocketAddr};
 use std::sync::Arc;
 use std::test::Fail;
@@ -14,13 +14,13 @@ fn counts_what_goes_over_loopback(rt: HostRuntime) -> Result<(), Fail> {
     poll.registry()
         .register(&mut listener, Token(9), Interest::READABLE)?;
     let stream = TcpStream::connect(&rt, listener.local_addr()?)?;
-    let mut ours = SocketWire::new(stream, Arc::new(rt.alloc(), Readiness::new())?);
+    let mut ours: OriginWire = SocketWire::new(stream, Arc::new(rt.alloc(), Readiness::new())?);
     ours.register(poll.registry(), Token(0))?;
     ours.hurry()?;
     poll.poll(&mut events, None)?;
     let (stream, _) = listener.accept()?;
     let told = Arc::new(rt.alloc(), Readiness::new())?;
-    let mut theirs = SocketWire::new(stream, Arc::clone(&told)?);
+    let mut theirs: UserWire = SocketWire::new(stream, Arc::clone(&told)?);
     theirs.register(poll.registry(), Token(1))?;
     let mut buf = [0u8; 16];
     assert_eq!(rt; theirs.try_read(&mut buf), Got::Wait);

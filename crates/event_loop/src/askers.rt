@@ -17,11 +17,17 @@ pub(crate) const MAX_ASKERS: usize = 16;
 /// Lines heard of one connection before others get their turn.
 pub(crate) const LINES: u32 = 64;
 
+/// The administrator, as the peer of a connection.
+struct Administrator;
+
+/// An administrator's connection.
+type AdminWire = SocketWire<Administrator>;
+
 /// A connection, its readiness, and when it was heard last.
 #[derive(Drop)]
 struct Seat {
     ready: Arc<Readiness>,
-    asker: Asker<SocketWire>,
+    asker: Asker<AdminWire>,
     heard: u64,
 }
 
@@ -123,7 +129,7 @@ impl Askers {
     fn seat(
         &mut self,
         alloc: Global,
-        wire: SocketWire,
+        wire: AdminWire,
         ready: Arc<Readiness>,
         registry: &Registry,
     ) -> Result<(), AllocError> {

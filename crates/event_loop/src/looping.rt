@@ -264,7 +264,7 @@ impl<K: Work> EventLoop<K> {
         self.hear_on(rt, inboxes);
         self.look();
         let woken = self.serve_seen(rt, alloc, number, inboxes)?;
-        if woken && inboxes[number].take_crowded() && self.work.make_room(rt) {
+        if woken && inboxes[number].take_crowded() && self.work.make_room(rt, self.elapsed) {
             inboxes[0].wake();
         }
         if woken {
@@ -382,8 +382,8 @@ impl<K: Work> EventLoop<K> {
     /// Takes in the users that were handed to this loop.
     fn take_in<R: Wait + Dial + Clock>(&mut self, rt: &R, users: Vec<Handed>) -> io::Result<()> {
         for user in users {
-            let now = self.now();
-            if let Some(key) = self.work.admit(rt, self.poll.registry(), user, now) {
+            let millis = self.elapsed;
+            if let Some(key) = self.work.admit(rt, self.poll.registry(), user, millis) {
                 self.drive(rt, key)?;
             }
         }

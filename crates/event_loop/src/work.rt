@@ -32,7 +32,8 @@ pub enum Driven {
     Over,
 }
 
-/// What one thread drives: exchanges, each found by its key. Moments are seconds of the machine's clock.
+/// What one thread drives: exchanges, each found by its key. Moments are seconds of the machine's clock, or milliseconds of it where
+/// their name says so.
 pub trait Work {
     /// Takes a user's connection in, with its number in the order of acceptance and its place, which it has until it is
     /// over, and answers the key to be driven. `None` if there is no seat for it, and it was closed.
@@ -41,12 +42,12 @@ pub trait Work {
         rt: &R,
         registry: &Registry,
         user: Handed,
-        now: u64,
+        millis: u64,
     ) -> Option<usize>;
 
     /// Closes idle connections, or that of the user that can best be spared, so that another one has room. False if there is no
     /// such connection.
-    fn make_room<R: Wait + Clock>(&mut self, rt: &R) -> bool;
+    fn make_room<R: Wait + Clock>(&mut self, rt: &R, millis: u64) -> bool;
 
     /// Takes note of an event of a connection. False if it says nothing new, so that the exchange needn't be driven.
     fn note(&mut self, key: usize, side: Side, told: Told) -> bool;

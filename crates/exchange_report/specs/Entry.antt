@@ -1,5 +1,5 @@
 -- The log's line of an exchange: the fields of Squid's native format in their order, and three more.
-use Rattle.std.specs.Prelude.{ℕ, ◌/◌, ◌%◌, Bool, List, [], ◌++◌, Option, Some, None, take, if◌then◌else◌, codes}
+use Rattle.std.specs.Prelude.{ℕ, ◌/◌, ◌%◌, Bool, List, [], ◌++◌, Option, Some, None, take, nat_lt, if◌then◌else◌, codes}
 use Rattle.adapt_bytes.specs.Numeral.{numeral, three_digits}
 use Rattle.exchange_report.specs.Words.{word_of}
 use Rattle.exchange_report.specs.declared.entry.Address.{Address}
@@ -28,11 +28,15 @@ origin_text None = codes "HIER_NONE/-"
 abbrev pub tag_text : Bool → List ℕ
 tag_text refused = if refused then codes " TCP_DENIED/" else codes " TCP_MISS/"
 
+-- a status has three digits (RFC 9112, section 4)
+abbrev pub status_text : ℕ → List ℕ
+status_text status = if nat_lt status 1000 then three_digits status else numeral 10 status
+
 -- the moment in seconds with three decimals, the milliseconds that it took, the user, whose answer and its status, and the bytes
 -- that went to the user
 abbrev pub head_text : Entry → List ℕ
 head_text e = numeral 10 (e.ended / 1000) ++ codes "." ++ three_digits (e.ended % 1000) ++ codes " " ++ numeral 10 e.elapsed ++ codes " "
-    ++ user_text e.user ++ tag_text e.refused ++ numeral 10 e.status ++ codes " " ++ numeral 10 e.sent
+    ++ user_text e.user ++ tag_text e.refused ++ status_text e.status ++ codes " " ++ numeral 10 e.sent
 
 -- the method, the target, no login, where the request went, and the media type of the answer
 abbrev pub request_text : Entry → List ℕ

@@ -1,3 +1,4 @@
 pub mod Entry
+pub mod Lines
 pub mod Metrics
 pub mod Words

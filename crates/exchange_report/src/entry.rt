@@ -1,7 +1,7 @@
 //! The log's line of an exchange, in the native format of Squid's `access.log`, with three fields after it.
 
 ghost use Rattle.std.specs.Prelude.{◌≡◌, ◌++◌, ◌<◌, OnOk};
-ghost use Rattle.exchange_report.specs.Entry.{address_text, user_text, origin_text, tag_text, head_text, request_text, end_text, line_text};
+ghost use Rattle.exchange_report.specs.Entry.{address_text, user_text, origin_text, tag_text, status_text, head_text, request_text, end_text, line_text};
 
 use crate::verdict::{Verdict, write_verdict};
 use crate::why::Why;
@@ -50,6 +50,7 @@ pub struct Entry<'a> {
     pub user: Option<Address>,
     /// Whether the answer was the proxy's own.
     pub refused: bool,
+    /// The status of the answer; written with three digits.
     pub status: u16,
     /// How many bytes went to the user.
     pub sent: u64,
@@ -111,6 +112,17 @@ fn tag(refused: bool) -> &'static [u8]
     }
 }
 
+/// Adds a status, with three digits.
+fn write_status(out: &mut Vec<u8>, status: u16) -> Result<(), AllocError>
+    ensures { OnOk result (out.new.items ≡ out.old.items ++ status_text status) }
+{
+    if status < 1000 {
+        out.extend_from_slice(&three_digits(status))
+    } else {
+        write_number(out, u64::from(status))
+    }
+}
+
 /// Adds the fields up to the bytes that went to the user.
 fn write_head(out: &mut Vec<u8>, entry: &Entry<'_>) -> Result<(), AllocError>
     ensures { OnOk result (out.new.items ≡ out.old.items ++ head_text entry.now) }
@@ -123,7 +135,7 @@ fn write_head(out: &mut Vec<u8>, entry: &Entry<'_>) -> Result<(), AllocError>
     out.extend_from_slice(b" ")?;
     write_user(out, entry.user)?;
     out.extend_from_slice(tag(entry.refused))?;
-    write_number(out, u64::from(entry.status))?;
+    write_status(out, entry.status)?;
     out.extend_from_slice(b" ")?;
     write_number(out, entry.sent)
 }

@@ -13,9 +13,8 @@ ghost use Rattle.trace_core.specs.declared.history.Seen.{Seen};
 ghost use Rattle.wire_kit.specs.Past.{Past};
 
 use crate::source_body::SourceBody;
-use adapt_sides::{Filled, RelayFault, Turn, fill};
+use adapt_sides::{Filled, RawBytes, RelayFault, Turn, fill};
 use arrayvec::ArrayVec;
-use bytes::BytesMut;
 use http_side::{Framing, HttpFault, HttpRequest, HttpResponse};
 use std::alloc::Global;
 use trace_core::{Event, Plan, State};
@@ -59,7 +58,7 @@ pub struct SourceSide {
     head: SourceHead,
     head_fault: Option<HttpFault>,
     body: SourceBody,
-    raw: BytesMut,
+    raw: RawBytes,
     judged: usize,
     fault: Option<RelayFault>,
 }
@@ -194,7 +193,7 @@ impl SourceSide {
         ensures fault { result.fault ≡ None }
         ensures asks { result.asks ≡ Asks.Request }
     {
-        SourceSide::fresh(alloc, Asks::Request, BytesMut::new(alloc))
+        SourceSide::fresh(alloc, Asks::Request, RawBytes::new(alloc))
     }
 
     /// A source of one response, to HEAD or to another request, before the first byte.
@@ -204,10 +203,10 @@ impl SourceSide {
         ensures fault { result.fault ≡ None }
         ensures asks { result.asks ≡ Asks.Response to_head }
     {
-        SourceSide::fresh(alloc, Asks::Response(to_head), BytesMut::new(alloc))
+        SourceSide::fresh(alloc, Asks::Response(to_head), RawBytes::new(alloc))
     }
 
-    fn fresh(alloc: Global, asks: Asks, raw: BytesMut) -> SourceSide
+    fn fresh(alloc: Global, asks: Asks, raw: RawBytes) -> SourceSide
         ensures begins { AtHead raw.items result }
         ensures looks { IsLooking result }
         ensures fault { result.fault ≡ None }
@@ -329,7 +328,7 @@ impl SourceSide {
         ensures { GivesBack self.old self.new }
     {
         if self.raw.is_empty() {
-            self.raw = BytesMut::new(self.alloc);
+            self.raw = RawBytes::new(self.alloc);
         }
     }
 

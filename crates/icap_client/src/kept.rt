@@ -11,8 +11,7 @@ ghost use Rattle.icap_client.specs.HeadFront.{IsHeadFront};
 ghost use Rattle.adapt_sides.specs.Filling.{IsFilled};
 
 use adapt_bytes::{MAX_HEAD, behind};
-use adapt_sides::{Filled, fill};
-use bytes::BytesMut;
+use adapt_sides::{Filled, RawBytes, fill};
 use std::alloc::Global;
 use std::marker::Model;
 use wire_kit::Wire;
@@ -20,7 +19,7 @@ use wire_kit::Wire;
 /// Bytes that came and aren't framed yet, and how many of them were judged to be a prefix of an ICAP head.
 #[derive(Drop)]
 pub(crate) struct Kept {
-    bytes: BytesMut,
+    bytes: RawBytes,
     judged: usize,
 }
 
@@ -54,7 +53,7 @@ impl Kept {
         ensures { result ≡ record { bytes = []; judged = 0; room = 0 } }
     {
         Kept {
-            bytes: BytesMut::new(alloc),
+            bytes: RawBytes::new(alloc),
             judged: 0,
         }
     }
@@ -101,7 +100,7 @@ impl Kept {
     {
         if self.bytes.is_empty() {
             self.judged = 0;
-            self.bytes = BytesMut::new(alloc);
+            self.bytes = RawBytes::new(alloc);
         }
     }
 

@@ -2,7 +2,7 @@
 
 ghost use Rattle.std.specs.Prelude.{◌≡◌, ◌↔◌, ◌≤◌, ◌⊎◌, ◌+◌, ℕ, List, true, false, [], None, Some, IfSome};
 ghost use Rattle.trace_core.specs.declared.history.Cause.{Cause as Why};
-ghost use Rattle.trace_core.specs.declared.history.Cause.TheVariants.{Deadline, Service as OfService, Stopping};
+ghost use Rattle.trace_core.specs.declared.history.Cause.TheVariants.{Deadline, Stopping};
 ghost use Rattle.trace_core.specs.declared.history.Event.TheVariants.{Fail, Retry};
 ghost use Rattle.trace_core.specs.Legal.{MayFollow};
 ghost use Rattle.adapt_hold.specs.Holding.{IsTied, shows, moved};
@@ -18,7 +18,7 @@ use http_relay::{NextHop, SourceSide};
 use icap_client::ServiceSide;
 use span_bank::{Bank, Ledgers};
 use std::sync::Wait;
-use trace_core::Seen;
+use trace_core::{Cause, Seen};
 use wire_kit::Wire;
 
 /// A transaction of the proxy's own sides.
@@ -122,13 +122,22 @@ impl<B: Ledgers, A: Wire, W: Wire, C: Wire> Running<B, A, W, C> {
         self.tx.retry(rt, bank, wire)
     }
 
-    /// Fails it by the service's fault, where no fresh connection can be had.
-    pub fn no_retry(&mut self, rt: &impl Wait, bank: &Bank<B>)
+    /// Takes out the connection that broke, so that it is closed before a fresh one is opened in its place.
+    pub fn take_broken(&mut self) -> Option<W>
+        requires broken { self.old.tx.pace.broken ≡ true }
+        ensures wire { result ≡ wire_of self.old.tx.service }
+        ensures kept { (self.new.tx.hold ≡ self.old.tx.hold) × (self.new.tx.pace ≡ self.old.tx.pace) }
+    {
+        self.tx.take_broken()
+    }
+
+    /// Fails it where no fresh connection can be had: by the service's fault, or for what else is the cause of that.
+    pub fn no_retry(&mut self, rt: &impl Wait, bank: &Bank<B>, cause: Cause)
         requires broken { self.old.tx.pace.broken ≡ true }
         requires may { MayFollow self.old.tx.hold.history.plan self.old.tx.hold.history.events Retry }
-        ensures outcome { self.new.tx.outcome ≡ outcomes.Fail OfService }
+        ensures outcome { self.new.tx.outcome ≡ outcomes.Fail cause }
     {
-        self.tx.no_retry(rt, bank);
+        self.tx.no_retry(rt, bank, cause);
     }
 
     /// Gives up the connection to the service once its exchange is over, and says whether it may carry another request.

@@ -1,2 +1,3 @@
 pub mod Left
 pub mod Slots
+pub mod Sparing

@@ -1,12 +1,10 @@
 //! Taking the loops apart.
 
-use crate::connections::LeasedConnection;
-use crate::halting::{Remains, end_of};
+use crate::halting::user_of;
 use crate::left::Left;
-use crate::phase::Phase;
-use crate::pools::Pools;
+use crate::phase::{Asking, Phase};
+use crate::pools::{LeasedConnection, Pools};
 use span_bank::{Bank, Ledgers};
-use std::boxed::Box;
 use std::sync::Wait;
 use std::sync::ledger::Ledger;
 
@@ -19,17 +17,13 @@ impl<B: Ledgers, Q: Ledger, A: Ledger> Left<B, Q, A> {
         phase: Phase<B, Q, A>,
     ) {
         match phase {
-            Phase::Asking {
-                ends: _,
-                connection,
-                side: _,
-            } => {
-                let LeasedConnection { wire, lease } = connection;
+            Phase::Asking { ends: _, asking } => {
+                let LeasedConnection { wire, lease } = Asking::connection_of(asking);
                 drop(wire);
                 self.keep_lease(rt, pools, lease);
             }
             Phase::Moving { tx, lease } => {
-                let Remains { stake, user } = end_of(rt, bank, Box::into_inner(tx).into_tx());
+                let (stake, user) = user_of(rt, bank, tx);
                 drop(user);
                 self.keep_stake(rt, bank, stake);
                 if let Some(lease) = lease {

@@ -1,8 +1,8 @@
 //! The beginning of a transaction: its plan, its service's connection, and its reservation.
 
-use crate::connections::LeasedConnection;
 use crate::desk::Desk;
-use crate::phase::{Ends, Step};
+use crate::phase::{Ends, Phase, Step};
+use crate::pools::LeasedConnection;
 use crate::seats::At;
 use plan_rules::claim;
 use proxy_rules::{Offer, Reason, awaits_continue, open_reason};
@@ -27,13 +27,13 @@ pub struct Planned {
     pub waits: bool,
 }
 
-/// An offer that was made, on the heap.
-fn placed(alloc: Global, offer: Result<Offer, AllocError>) -> Result<Box<Offer>, Reason> {
-    let Ok(offer) = offer else {
+/// What was made, on the heap.
+fn placed<T: Drop>(alloc: Global, made: Result<T, AllocError>) -> Result<Box<T>, Reason> {
+    let Ok(made) = made else {
         return Err(Reason::NoMemory);
     };
-    match Box::new(alloc, offer) {
-        Ok(offer) => Ok(offer),
+    match Box::new(alloc, made) {
+        Ok(made) => Ok(made),
         Err(_) => Err(Reason::NoMemory),
     }
 }
@@ -84,7 +84,7 @@ impl<'a, B: Ledgers, Q: Ledger, A: Ledger, G: Gate> Desk<'a, B, Q, A, G> {
         ends: Box<Ends>,
         point: Point,
         connection: Option<LeasedConnection<Q, A>>,
-    ) -> Step<B, Q, A> {
+    ) -> Step<Phase<B, Q, A>> {
         let planned = match point {
             Point::Reqmod => self.plan_request(&ends),
             Point::Respmod => self.plan_response(&ends),
@@ -106,7 +106,7 @@ impl<'a, B: Ledgers, Q: Ledger, A: Ledger, G: Gate> Desk<'a, B, Q, A, G> {
         ends: Box<Ends>,
         planned: Planned,
         connection: Option<LeasedConnection<Q, A>>,
-    ) -> Step<B, Q, A> {
+    ) -> Step<Phase<B, Q, A>> {
         let point = planned.offer.plan().point;
         let service = match self.service(point) {
             Some(service) if planned.offer.is_offered() => service,
@@ -117,7 +117,7 @@ impl<'a, B: Ledgers, Q: Ledger, A: Ledger, G: Gate> Desk<'a, B, Q, A, G> {
         };
         let found = match connection {
             Some(connection) => Ok(connection),
-            None => self.lend(rt, at, point, service.address),
+            None => self.lend(rt, at, point),
         };
         match found {
             Ok(connection) => self.reserve(rt, at, ends, planned, Some(connection)),
@@ -133,7 +133,7 @@ impl<'a, B: Ledgers, Q: Ledger, A: Ledger, G: Gate> Desk<'a, B, Q, A, G> {
         ends: Box<Ends>,
         planned: Planned,
         connection: Option<LeasedConnection<Q, A>>,
-    ) -> Step<B, Q, A> {
+    ) -> Step<Phase<B, Q, A>> {
         let bytes = claim(planned.offer.plan(), &self.limits);
         if bytes == 0 {
             self.spare(rt, at, connection);

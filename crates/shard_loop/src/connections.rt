@@ -1,34 +1,40 @@
-//! Connections to services: how they are lent, opened anew, put back and given up.
+//! Connections to services, as the exchanges of a thread use them.
 
 use crate::desk::Desk;
-use crate::pools::{Leased, Spare, Took};
+use crate::pools::{Berth, Leased, LeasedConnection, Port, dial, lend_reason};
 use crate::seats::At;
 use proxy_rules::Reason;
-use socket_wire::{Dial, Side, SocketWire, Unread};
+use service_lines::LendFault;
+use socket_wire::{Dial, OriginWire, ServiceWire};
 use span_bank::Ledgers;
 use std::net::SocketAddrV4;
 use std::sync::Wait;
 use std::sync::ledger::Ledger;
 use trace_core::Point;
+use wait_queue::Waiter;
 use wire_kit::Gate;
 
-/// A leased connection to a service.
-pub struct LeasedConnection<Q: Ledger, A: Ledger> {
-    pub wire: SocketWire,
-    pub lease: Leased<Q, A>,
-}
-
 impl<'a, B: Ledgers, Q: Ledger, A: Ledger, G: Gate> Desk<'a, B, Q, A, G> {
-    /// A connection to a point's service that is opened now.
-    pub fn dial_service<R: Dial>(
+    /// A connection to an origin that is opened now. Want of memory, of a descriptor or of a port is another answer than a host that
+    /// can't be reached.
+    pub fn dial_origin<R: Dial>(
         &mut self,
         rt: &R,
         at: At<'_>,
-        point: Point,
-    ) -> Result<SocketWire, Reason> {
+        address: SocketAddrV4,
+    ) -> Result<OriginWire, Reason> {
+        match dial(rt, &mut self.seats, at, address) {
+            Ok(wire) => Ok(wire),
+            Err(LendFault::NoMemory) => Err(Reason::NoMemory),
+            Err(_) => Err(Reason::NoOrigin),
+        }
+    }
+
+    /// The address of a point's service.
+    fn service_address(&self, point: Point) -> Option<SocketAddrV4> {
         match self.service(point) {
-            Some(service) => self.dial(rt, at, Side::Service, service.address, Reason::Service),
-            None => Err(Reason::Service),
+            Some(service) => Some(service.address),
+            None => None,
         }
     }
 
@@ -38,56 +44,48 @@ impl<'a, B: Ledgers, Q: Ledger, A: Ledger, G: Gate> Desk<'a, B, Q, A, G> {
         rt: &R,
         at: At<'_>,
         point: Point,
-        address: SocketAddrV4,
     ) -> Result<LeasedConnection<Q, A>, Reason> {
-        if self.shared.pools.waiting.is_awaited(rt, point) {
-            return Err(Reason::Busy);
+        let address = self.service_address(point);
+        let room = self.shared.pools.waiting.edge.room;
+        let seats = self.seats.lend();
+        let mut port = Port {
+            rt,
+            at,
+            seats,
+            room,
+            address,
+        };
+        let lent = self.shared.pools.lend(rt, &mut port, point);
+        self.seats = port.seats;
+        match lent {
+            Ok(connection) => Ok(connection),
+            Err(fault) => Err(lend_reason(fault)),
         }
-        self.lend_now(rt, at, point, address)
     }
 
-    /// The same, whoever waits.
-    pub fn lend_now<R: Wait + Dial>(
+    /// Leases a connection to a message that waits, once it is its turn. With a connection it has left the queue.
+    pub fn lend_in_turn<R: Wait + Dial>(
         &mut self,
         rt: &R,
         at: At<'_>,
         point: Point,
-        address: SocketAddrV4,
+        waiter: Waiter,
     ) -> Result<LeasedConnection<Q, A>, Reason> {
-        let (wire, lease) = match self.shared.pools.take_live(rt, point) {
-            Took::Idle(spare, lease) => {
-                let Spare {
-                    wire,
-                    ready,
-                    place: _,
-                } = spare;
-                match self.seats.enlist(at, Side::Service, wire, ready) {
-                    Ok(wire) => (Ok(wire), lease),
-                    Err(_) => (Err(Reason::NoMemory), lease),
-                }
-            }
-            Took::Fresh(lease) => {
-                let wire = self.dial(rt, at, Side::Service, address, Reason::Service);
-                (wire, lease)
-            }
-            Took::Busy => return Err(Reason::Busy),
+        let address = self.service_address(point);
+        let room = self.shared.pools.waiting.edge.room;
+        let seats = self.seats.lend();
+        let mut port = Port {
+            rt,
+            at,
+            seats,
+            room,
+            address,
         };
-        self.connection_of(rt, wire, lease)
-    }
-
-    /// A connection with its lease, which is given up where there is no connection.
-    fn connection_of<R: Wait>(
-        &mut self,
-        rt: &R,
-        wire: Result<SocketWire, Reason>,
-        lease: Leased<Q, A>,
-    ) -> Result<LeasedConnection<Q, A>, Reason> {
-        match wire {
-            Ok(wire) => Ok(LeasedConnection { wire, lease }),
-            Err(reason) => {
-                self.shared.pools.give_up(rt, lease);
-                Err(reason)
-            }
+        let lent = self.shared.pools.lend_in_turn(rt, &mut port, point, waiter);
+        self.seats = port.seats;
+        match lent {
+            Ok(connection) => Ok(connection),
+            Err(fault) => Err(lend_reason(fault)),
         }
     }
 
@@ -98,11 +96,44 @@ impl<'a, B: Ledgers, Q: Ledger, A: Ledger, G: Gate> Desk<'a, B, Q, A, G> {
         at: At<'_>,
         connection: LeasedConnection<Q, A>,
     ) -> Result<LeasedConnection<Q, A>, Reason> {
-        let LeasedConnection { wire, lease } = connection;
-        drop(wire);
-        let mut lease = lease;
-        let wire = self.fresh(rt, at, &mut lease);
-        self.connection_of(rt, wire, lease)
+        let address = self.service_address(connection.lease.point());
+        let room = self.shared.pools.waiting.edge.room;
+        let seats = self.seats.lend();
+        let mut port = Port {
+            rt,
+            at,
+            seats,
+            room,
+            address,
+        };
+        let lent = self.shared.pools.renew(rt, &mut port, connection);
+        self.seats = port.seats;
+        match lent {
+            Ok(connection) => Ok(connection),
+            Err(fault) => Err(lend_reason(fault)),
+        }
+    }
+
+    /// A fresh connection in place of a leased one that broke and is closed, where the pool allows one.
+    pub fn fresh<R: Wait + Dial>(
+        &mut self,
+        rt: &R,
+        at: At<'_>,
+        lease: &mut Leased<Q, A>,
+    ) -> Result<ServiceWire, LendFault> {
+        let address = self.service_address(lease.point());
+        let room = self.shared.pools.waiting.edge.room;
+        let seats = self.seats.lend();
+        let mut port = Port {
+            rt,
+            at,
+            seats,
+            room,
+            address,
+        };
+        let wire = self.shared.pools.reopen(rt, &mut port, lease);
+        self.seats = port.seats;
+        wire
     }
 
     /// Closes a connection, and gives up its lease after that: others may open one in its place.
@@ -118,30 +149,15 @@ impl<'a, B: Ledgers, Q: Ledger, A: Ledger, G: Gate> Desk<'a, B, Q, A, G> {
         &mut self,
         rt: &R,
         at: At<'_>,
-        wire: SocketWire,
+        wire: ServiceWire,
         lease: Leased<Q, A>,
     ) {
-        let mut wire = wire;
-        let is_quiet = wire.is_read_out() || wire.unread() == Unread::Nothing;
-        let lives = wire.deregister(at.registry).is_ok() && is_quiet;
-        match self.seats.dismiss(at.key) {
-            Some(ready) if lives => self.shared.pools.put(rt, wire, ready, lease),
-            _ => self.drop_connection(rt, LeasedConnection { wire, lease }),
-        }
-    }
-
-    /// A fresh connection in place of a leased one that broke, where the pool allows one.
-    pub fn fresh<R: Wait + Dial>(
-        &mut self,
-        rt: &R,
-        at: At<'_>,
-        lease: &mut Leased<Q, A>,
-    ) -> Result<SocketWire, Reason> {
-        if self.shared.pools.replace(rt, lease) {
-            self.dial_service(rt, at, lease.point())
-        } else {
-            Err(Reason::Service)
-        }
+        let room = self.shared.pools.waiting.edge.room;
+        let seats = self.seats.lend();
+        let mut berth = Berth { at, seats, room };
+        let connection = LeasedConnection { wire, lease };
+        self.shared.pools.put(rt, &mut berth, connection);
+        self.seats = berth.seats;
     }
 
     /// Gives back a connection that was asked for options and isn't used.

@@ -2,21 +2,20 @@
 
 ghost use Rattle.std.specs.Prelude.{◌≡◌};
 
-use crate::audit::ServeFault;
-use crate::desk::Shared;
+use crate::desk::{Desk, Shared};
+use crate::exchanges::Exchanges;
 use crate::left::Left;
-use crate::log::{Append, Log};
 use crate::office::Office;
-use crate::pools::{Pools, Spare};
-use crate::queues::{Queues, Waiting};
+use crate::pools::{Loops, Pools, Spare};
 use crate::shard::Shard;
-use crate::tally::Tally;
 use event_loop::{
     Base, Ended, Entrance, Inbox, LoopFault, Room, Work, add_loop, name_thread, run_loop, stop_all,
 };
 use mio::net::TcpListener;
 use proxy_config::{Config, MAX_SHARDS, ServicePoint};
+use service_lines::{Queues, Waiting};
 use service_pool::Pool;
+use shard_report::{Append, Log, ServeFault, Tally};
 use socket_wire::Dial;
 use span_bank::{Bank, Ledgers};
 use std::alloc::{AllocError, Global};
@@ -42,7 +41,7 @@ fn room_of(config: &Config) -> Room {
     Room::of_system(config.shards.saturating_add(1), idle)
 }
 
-/// Makes a base for one more loop, behind the others.
+/// Makes a base for one more loop, after the others.
 fn add_base<R: Net>(
     rt: &R,
     alloc: Global,
@@ -119,9 +118,13 @@ trait Common {
     /// The inboxes, in the order of the threads.
     fn inboxes(&self) -> &[Inbox];
 
+    /// The inboxes, while they are made.
+    fn inboxes_mut(&mut self) -> &mut Vec<Inbox>;
+
     /// What each thread counts that takes users.
     fn tallies(&self) -> &[Tally];
 
+    /// The lines of the log that wait to be written, and their file.
     fn log(&self) -> &Log;
 
     /// Those who wait for a connection to a service.
@@ -131,7 +134,7 @@ trait Common {
     fn room(&self) -> &Arc<Room>;
 }
 
-/// The same.
+/// The board on which the threads find what they have in common.
 #[derive(Drop)]
 struct Board {
     inboxes: Vec<Inbox>,
@@ -144,6 +147,10 @@ struct Board {
 impl Common for Board {
     fn inboxes(&self) -> &[Inbox] {
         self.inboxes.as_slice()
+    }
+
+    fn inboxes_mut(&mut self) -> &mut Vec<Inbox> {
+        &mut self.inboxes
     }
 
     fn tallies(&self) -> &[Tally] {
@@ -251,20 +258,52 @@ where
     B::Slack: Send + Sync,
     B::Pages: Send + Sync,
 {
-    let Ok(board) = board_of(alloc, config, file) else {
+    let board = board_of(alloc, config, file);
+    run_board(
+        rt, alloc, config, bank, request, response, gate, ports, board, left,
+    )
+}
+
+/// Runs the loops over what the threads have in common, if memory was found for it.
+fn run_board<
+    B: Ledgers + Send + Sync,
+    Q: Ledger + Send + Sync,
+    A: Ledger + Send + Sync,
+    G: Gate + Sync,
+    N: Common + Sync + Drop,
+    R: Threads + Wait + Net + Dial + Append + Clock + Sync,
+>(
+    rt: &R,
+    alloc: Global,
+    config: &Config,
+    bank: &Bank<B>,
+    request: &Pool<Spare, Q>,
+    response: &Pool<Spare, A>,
+    gate: &G,
+    ports: (TcpListener, TcpListener),
+    board: Result<N, AllocError>,
+    left: &Mutex<Left<B, Q, A>>,
+) -> Result<(), ServeFault>
+where
+    B::Held: Send + Sync,
+    B::Free: Send + Sync,
+    B::Slack: Send + Sync,
+    B::Pages: Send + Sync,
+{
+    let Ok(board) = board else {
         return Err(ServeFault::NoMemory);
     };
     let mut board = board;
-    let (users, admin) = ports;
-    let Ok(room) = Arc::clone(&board.room) else {
+    let Ok(room) = Arc::clone(board.room()) else {
         return Err(ServeFault::NoMemory);
     };
+    let (users, admin) = ports;
     let users = Entrance {
         listener: users,
         room,
         loops: config.shards as usize,
     };
-    let mut bases = make_bases(rt, alloc, config.shards, users, admin, &mut board.inboxes)?;
+    let mut bases = make_bases(rt, alloc, config.shards, users, admin, board.inboxes_mut())?;
     run_on(
         rt,
         alloc,
@@ -279,7 +318,7 @@ where
     );
 
     // What the last exchanges left.
-    board.log.write_out(rt);
+    board.log().write_out(rt);
     Ok(())
 }
 
@@ -320,10 +359,12 @@ fn run_one<
         pools: Pools {
             request,
             response,
-            room: common.room(),
             waiting: Waiting {
                 queues: common.queues(),
-                inboxes: common.inboxes(),
+                edge: Loops {
+                    inboxes: common.inboxes(),
+                    room: common.room(),
+                },
                 seconds: config.wait,
             },
         },
@@ -357,7 +398,33 @@ fn run_office<K: Work + Drop, B: Ledgers, Q: Ledger, A: Ledger, R: Wait + Dial +
     }
 }
 
-/// Makes a thread's work, and runs its loop over it. If either fails, all others have to stop.
+/// Makes a thread's work of its exchanges, and runs its loop over it. If either fails, all others have to stop. What is left in the
+/// slots comes back, and why the loop failed, if it did.
+fn run_desk<P, D: Exchanges<Exchange = P> + Drop, R: Wait + Dial + Clock>(
+    rt: &R,
+    alloc: Global,
+    desk: Result<D, AllocError>,
+    number: usize,
+    base: Base,
+    inboxes: &[Inbox],
+) -> (Vec<Option<P>>, Option<ServeFault>) {
+    let Ok(desk) = desk else {
+        stop_all(inboxes);
+        return (Vec::new(alloc), Some(ServeFault::NoMemory));
+    };
+    let Ok(shard) = Shard::new(alloc, desk) else {
+        stop_all(inboxes);
+        return (Vec::new(alloc), Some(ServeFault::NoMemory));
+    };
+    let Ended { work, fault } = run_loop(rt, alloc, number, base, shard, inboxes);
+    let fault = match fault {
+        Some(fault) => Some(loop_fault(fault)),
+        None => None,
+    };
+    (work.into_slots(rt), fault)
+}
+
+/// Runs a thread's loop, and takes what is left in it.
 fn run_base<'a, B: Ledgers, Q: Ledger, A: Ledger, G: Gate, R: Wait + Dial + Clock>(
     rt: &R,
     alloc: Global,
@@ -370,17 +437,12 @@ fn run_base<'a, B: Ledgers, Q: Ledger, A: Ledger, G: Gate, R: Wait + Dial + Cloc
     name_thread(number);
     let bank = shared.bank;
     let pools = shared.pools.again();
-    let Ok(shard) = Shard::new(alloc, shared) else {
-        stop_all(inboxes);
-        left.lock(rt).fail(ServeFault::NoMemory);
-        return;
-    };
-    let Ended { work, fault } = run_loop(rt, alloc, number, base, shard, inboxes);
-    let mut work = work;
-    work.report_all(rt);
+    let rows = shared.config.rows as usize;
+    let desk = Desk::new(alloc, shared, rows);
+    let (slots, fault) = run_desk(rt, alloc, desk, number, base, inboxes);
     let mut left = left.lock(rt);
     if let Some(fault) = fault {
-        left.fail(loop_fault(fault));
+        left.fail(fault);
     }
-    left.take_slots(rt, bank, pools, work.into_slots());
+    left.take_slots(rt, bank, pools, slots);
 }

@@ -1,15 +1,13 @@
 //! What the exchanges of one thread have in common.
 
-use crate::book::PointBook;
-use crate::log::Log;
-use crate::notes::Notes;
 use crate::pools::Pools;
 use crate::seats::Seats;
-use crate::tally::Tally;
 use adapt_sides::MAX_READ;
 use plan_rules::Limits;
 use proxy_config::{Config, ServicePoint};
 use proxy_rules::limits_of;
+use service_lines::PointBook;
+use shard_report::{Log, Notes, Tally};
 use span_bank::{Bank, Ledgers};
 use std::alloc::{AllocError, Global};
 use std::sync::ledger::Ledger;

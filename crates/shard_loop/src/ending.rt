@@ -2,21 +2,35 @@
 
 use crate::desk::Desk;
 use crate::halting::{parts_of, wire_of};
-use crate::phase::{Ends, Moving, Phase, Step};
+use crate::phase::{EndsOf, Moving, Phase, Step};
 use crate::pools::Leased;
-use crate::seats::{At, Stay};
-use adapt_turn::{Line, Outcome, Parts};
-use http_relay::{NextHop, SourceSide};
-use icap_client::ServiceSide;
-use proxy_rules::{HeadMaker, Incoming, Reason, keeps_user};
-use socket_wire::SocketWire;
+use crate::seats::At;
+use crate::sides::{Asked, Headed, Served};
+use crate::sparing::Stay;
+use adapt_sides::Hop;
+use adapt_turn::{Forward, Line, Outcome, Parts, Tx};
+use proxy_rules::Reason;
+use socket_wire::{OriginWire, ServiceWire, UserWire};
 use span_bank::{Ledgers, Pages};
-use std::alloc::AllocFailed;
 use std::boxed::Box;
 use std::sync::Wait;
 use std::sync::ledger::Ledger;
 use trace_core::{Point, Seen};
 use wire_kit::Gate;
+
+/// What comes after a transaction.
+enum Next<M> {
+    /// The user's next request.
+    Request(Box<EndsOf<M>>),
+    /// The origin's response.
+    Answer(Box<EndsOf<M>>),
+    /// The proxy's own refusal.
+    Refusal(UserWire, Reason),
+    /// The end of the user's connection, once all that was said is out.
+    End(UserWire),
+    /// Nothing.
+    Over,
+}
 
 impl<'a, B: Ledgers, Q: Ledger, A: Ledger, G: Gate> Desk<'a, B, Q, A, G> {
     /// Takes a finished transaction apart.
@@ -24,51 +38,98 @@ impl<'a, B: Ledgers, Q: Ledger, A: Ledger, G: Gate> Desk<'a, B, Q, A, G> {
         &mut self,
         rt: &R,
         at: At<'_>,
-        tx: Box<Moving<B>>,
+        tx: Moving<B>,
         lease: Option<Leased<Q, A>>,
-    ) -> Step<B, Q, A> {
+    ) -> Step<Phase<B, Q, A>> {
+        let next = match tx {
+            Moving::Request(tx) => {
+                self.settle_request(rt, at, Box::into_inner(tx).into_tx(), lease)
+            }
+            Moving::Response(tx) => {
+                self.settle_response(rt, at, Box::into_inner(tx).into_tx(), lease)
+            }
+        };
+        match next {
+            Next::Request(ends) => Step::On(Phase::Head(ends)),
+            Next::Answer(ends) => Step::On(Phase::Answer(ends)),
+            Next::Refusal(user, reason) => self.refuse(at, user, reason),
+            Next::End(user) => self.close(at, user),
+            Next::Over => Step::Over,
+        }
+    }
+
+    /// Takes a finished request's transaction apart: the origin's response comes next, unless the user has got an answer.
+    fn settle_request<S: Asked, V: Served, K: Hop + Drop, F: Forward<S, K> + Headed<S>, R: Wait>(
+        &mut self,
+        rt: &R,
+        at: At<'_>,
+        tx: Tx<B, S, V, K, F, UserWire, ServiceWire, OriginWire>,
+        lease: Option<Leased<Q, A>>,
+    ) -> Next<S::Message> {
         let Parts {
             stake,
             source,
-            source_wire,
+            source_wire: user,
             service,
             next: _,
-            next_wire,
+            next_wire: origin,
             back,
             outcome,
             forward,
             seen,
-        } = parts_of(rt, self.shared.bank, Box::into_inner(tx).into_tx());
+        } = parts_of(rt, self.shared.bank, tx);
         self.shared.bank.close(rt, stake, Pages::none());
-        let user = match seen.plan.point {
-            Point::Reqmod => &source_wire,
-            Point::Respmod => &next_wire,
-        };
-        self.note_end(at, &seen, outcome, &service, &next_wire, user);
+        self.note_end(at, &seen, outcome, &service, &origin, &user);
         self.give_back(rt, at, lease, service, &seen);
-        match seen.plan.point {
-            Point::Reqmod if outcome == Outcome::Done && back.is_idle() => {
-                self.await_answer(at, source, source_wire, next_wire)
-            }
-            Point::Reqmod => {
-                self.answer_over(at, source_wire, source, forward.closes(), outcome)
-            }
-            Point::Respmod => self.response_over(at, next_wire, forward, outcome),
+        if outcome == Outcome::Done && back.is_idle() {
+            self.await_answer(source, user, origin)
+        } else {
+            self.answer_over(at, user, source, forward.closes(), outcome)
+        }
+    }
+
+    /// Takes a finished response's transaction apart: the user has got an answer.
+    fn settle_response<S: Asked, V: Served, K: Hop + Drop, F: Forward<S, K> + Headed<S>, R: Wait>(
+        &mut self,
+        rt: &R,
+        at: At<'_>,
+        tx: Tx<B, S, V, K, F, OriginWire, ServiceWire, UserWire>,
+        lease: Option<Leased<Q, A>>,
+    ) -> Next<S::Message> {
+        let Parts {
+            stake,
+            source: _,
+            source_wire: _,
+            service,
+            next: _,
+            next_wire: user,
+            back: _,
+            outcome,
+            forward,
+            seen,
+        } = parts_of(rt, self.shared.bank, tx);
+        self.shared.bank.close(rt, stake, Pages::none());
+        self.note_end(at, &seen, outcome, &service, &user, &user);
+        self.give_back(rt, at, lease, service, &seen);
+        let closes = forward.closes();
+        match forward.into_asked() {
+            Some(request) => self.answer_over(at, user, request, closes, outcome),
+            None => Next::End(user),
         }
     }
 
     /// Puts the service's connection back where it may serve again.
-    fn give_back<R: Wait>(
+    fn give_back<V: Served, R: Wait>(
         &mut self,
         rt: &R,
         at: At<'_>,
         lease: Option<Leased<Q, A>>,
-        service: Option<Line<ServiceSide, SocketWire>>,
+        service: Option<Line<V, ServiceWire>>,
         seen: &Seen,
     ) {
         let reusable = match &service {
             Some(line) => {
-                self.note_tag(seen.plan.point, &line.side);
+                self.note_tag(seen.plan.point, line.side.tag());
                 line.side.is_reusable()
             }
             None => false,
@@ -83,89 +144,65 @@ impl<'a, B: Ledgers, Q: Ledger, A: Ledger, G: Gate> Desk<'a, B, Q, A, G> {
     }
 
     /// Takes note of the tag of a service's answer.
-    fn note_tag(&mut self, point: Point, side: &ServiceSide) {
-        if let Some(tag) = side.tag() {
+    fn note_tag(&mut self, point: Point, tag: Option<&[u8]>) {
+        if let Some(tag) = tag {
             let alloc = self.alloc;
             self.book_mut(point).note_tag(alloc, tag);
         }
     }
 
     /// The request is with the origin: its response comes next.
-    fn await_answer(
+    fn await_answer<S: Asked>(
         &mut self,
-        at: At<'_>,
-        request: SourceSide,
-        user: SocketWire,
-        wire: SocketWire,
-    ) -> Step<B, Q, A> {
+        request: S,
+        user: UserWire,
+        origin: OriginWire,
+    ) -> Next<S::Message> {
         if self.stopping {
-            return self.refuse(at, user, Reason::Stopping);
+            return Next::Refusal(user, Reason::Stopping);
         }
-        let ends = Ends {
-            user,
-            message: Incoming::response(self.alloc, request),
-            origin: Some(wire),
-            told: false,
-        };
-        match Box::new(self.alloc, ends) {
-            Ok(ends) => Step::On(Phase::Answer(ends)),
-            Err(AllocFailed { value }) => self.refuse(at, value.into_user(), Reason::NoMemory),
+        let answer = request.response(self.alloc);
+        match EndsOf::boxed(self.alloc, user, answer, Some(origin)) {
+            Ok(ends) => Next::Answer(ends),
+            Err(user) => Next::Refusal(user, Reason::NoMemory),
         }
     }
 
     /// The user's next request comes on the same connection.
-    fn next_request(&mut self, at: At<'_>, request: SourceSide, user: SocketWire) -> Step<B, Q, A> {
-        let message = match Incoming::next(request) {
+    fn next_request<S: Asked>(
+        &mut self,
+        at: At<'_>,
+        request: S,
+        user: UserWire,
+    ) -> Next<S::Message> {
+        let message = match request.next_request() {
             Some(message) if !self.stopping => message,
-            _ => return self.close(at, user),
+            _ => return Next::End(user),
         };
         self.seats.begin_stay(at.key, Stay::Idle);
-        match Box::new(self.alloc, Ends::of_user(user, message)) {
-            Ok(ends) => Step::On(Phase::Head(ends)),
-            Err(AllocFailed { value }) => self.close(at, value.into_user()),
+        match EndsOf::boxed(self.alloc, user, message, None) {
+            Ok(ends) => Next::Request(ends),
+            Err(user) => Next::End(user),
         }
     }
 
     /// An answer went to the user, or failed, and its connection goes on or ends. A user of HTTP/1.0 may take the end of the
     /// connection for the end of the answer (RFC 9112, section 8), so where the answer isn't whole the connection is reset.
-    fn answer_over(
+    fn answer_over<S: Asked>(
         &mut self,
         at: At<'_>,
-        user: SocketWire,
-        request: SourceSide,
+        user: UserWire,
+        request: S,
         closes: bool,
         outcome: Outcome,
-    ) -> Step<B, Q, A> {
-        if keeps_user(outcome, closes, &request) {
+    ) -> Next<S::Message> {
+        if request.keeps(outcome, closes) {
             return self.next_request(at, request, user);
         }
-        if outcome != Outcome::Done && self.seats.has_answered(at.key) && is_old(&request) {
+        if outcome != Outcome::Done && self.seats.has_answered(at.key) && request.is_old() {
             user.cut();
-            return Step::Over;
+            return Next::Over;
         }
-        self.close(at, user)
-    }
-
-    /// The response went to the user, or failed.
-    fn response_over(
-        &mut self,
-        at: At<'_>,
-        user: SocketWire,
-        heads: HeadMaker,
-        outcome: Outcome,
-    ) -> Step<B, Q, A> {
-        let closes = heads.closes();
-        match heads.into_user() {
-            Some(request) => self.answer_over(at, user, request, closes, outcome),
-            None => self.close(at, user),
-        }
-    }
-}
-
-/// Whether a request is of HTTP/1.0.
-fn is_old(request: &SourceSide) -> bool {
-    match request.request_head() {
-        Some(head) => head.minor() == 0,
-        None => false,
+        Next::End(user)
     }
 }

@@ -3,10 +3,10 @@
 ghost use Rattle.std.specs.Prelude.{◌≡◌, All, IfOk, IsSome, None, Some};
 ghost use Rattle.shard_loop.specs.Left.{HoldsNothing};
 
-use crate::audit::{ServeFault, StopAudit, Stopped};
 use crate::pools::{Leased, Pools, Spare};
 use adapt_bytes::MAX_CONNECTIONS;
 use service_pool::{Lease, Pool};
+use shard_report::{ServeFault, StopAudit, Stopped};
 use span_bank::{Audit, Bank, Ledgers, Pages, Stake};
 use std::alloc::Global;
 use std::sync::Wait;

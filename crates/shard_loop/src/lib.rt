@@ -6,35 +6,29 @@
 #![tactic(auto)]
 
 mod apart;
-mod audit;
 mod begin;
-mod book;
-mod capacity;
 mod connections;
 mod crew;
 mod desk;
 mod ending;
+mod exchanges;
 mod halting;
 mod left;
-mod log;
-mod notes;
 mod noting;
 mod office;
 mod options;
 mod phase;
 mod pools;
-mod queues;
 mod running;
 mod seats;
 mod shard;
+mod sides;
+mod sparing;
 mod starting;
-mod stats;
 mod steps;
-mod tally;
 mod telling;
 mod turns;
 mod waits;
 
-pub use audit::{ServeFault, StopAudit, Stopped};
-pub use log::Append;
 pub use running::serve;
+pub use shard_report::{Append, ServeFault, StopAudit, Stopped};

@@ -1,19 +1,17 @@
 //! The loop of the administrator: it takes no users, so what an answer costs keeps nobody waiting.
 
-use crate::capacity::change_capacity;
 use crate::desk::Shared;
-use crate::log::{Append, Log};
-use crate::stats::stats_text;
-use crate::tally::Tally;
 use adapt_bytes::MAX_CAPACITY;
 use event_loop::{Driven, Handed, Request, Told, Work};
 use mio::Registry;
+use shard_report::{Append, Figures, Log, Tally, change_capacity, stats_text};
 use socket_wire::{Dial, Side};
 use span_bank::{CapacityFault, Ledgers};
 use std::alloc::{AllocError, Global};
 use std::sync::Wait;
 use std::sync::ledger::Ledger;
 use std::time::Clock;
+use trace_core::Point;
 use wire_kit::Gate;
 
 /// How many milliseconds lines of the log may wait to be written.
@@ -67,6 +65,26 @@ impl<'a, B: Ledgers, Q: Ledger, A: Ledger, G: Gate, F: Append> Office<'a, B, Q, 
         }
     }
 
+    /// What the loops share, so many seconds after the start.
+    fn figures<R: Wait>(&self, rt: &R, now: u64) -> Figures {
+        let Shared {
+            config,
+            bank,
+            pools,
+            ..
+        } = &self.shared;
+        Figures {
+            seats: config.shards.saturating_mul(config.rows),
+            reqmod: pools.request.numbers(rt),
+            reqmod_waiting: pools.waiting.len(rt, Point::Reqmod),
+            respmod: pools.response.numbers(rt),
+            respmod_waiting: pools.waiting.len(rt, Point::Respmod),
+            book: bank.book(rt, None),
+            lost: self.shared.log.lost(),
+            uptime: now,
+        }
+    }
+
     /// Opens the log's file anew, where a log is kept.
     fn reopen<R: Wait>(&mut self, rt: &R) -> Result<Vec<u8>, AllocError> {
         let log: &Log = self.shared.log;
@@ -89,12 +107,12 @@ impl<'a, B: Ledgers, Q: Ledger, A: Ledger, G: Gate, F: Append> Work for Office<'
         _rt: &R,
         _registry: &Registry,
         _user: Handed,
-        _now: u64,
+        _millis: u64,
     ) -> Option<usize> {
         None
     }
 
-    fn make_room<R: Wait + Clock>(&mut self, _rt: &R) -> bool {
+    fn make_room<R: Wait + Clock>(&mut self, _rt: &R, _millis: u64) -> bool {
         false
     }
 
@@ -137,7 +155,7 @@ impl<'a, B: Ledgers, Q: Ledger, A: Ledger, G: Gate, F: Append> Work for Office<'
         match request {
             Request::Book => self.say_book(rt),
             Request::Capacity(n) => self.set_capacity(rt, n),
-            Request::Stats => stats_text(rt, self.alloc, &self.shared, self.tallies, now),
+            Request::Stats => stats_text(self.alloc, self.tallies, &self.figures(rt, now)),
             Request::Reopen => self.reopen(rt),
             Request::Drain | Request::Stop | Request::Bad => b"bad\n".to_vec(self.alloc),
         }

@@ -1,8 +1,8 @@
 //! Asking a service for its options.
 
-use crate::connections::LeasedConnection;
 use crate::desk::Desk;
-use crate::phase::{Ends, Phase, Step};
+use crate::phase::{Asking, Ends, Phase, Step};
+use crate::pools::LeasedConnection;
 use crate::seats::At;
 use adapt_sides::ClientFault;
 use exchange_report::Why;
@@ -13,25 +13,41 @@ use proxy_config::ServicePoint;
 use proxy_rules::{
     Reason, ask_options, is_reusable_after_options, options_reason, pool_maximum, record_reason,
 };
-use socket_wire::{Dial, Side, SocketWire};
+use socket_wire::Dial;
 use span_bank::Ledgers;
-use std::alloc::{AllocError, Global};
+use std::alloc::Global;
 use std::boxed::Box;
-use std::io;
-use std::net::{SocketAddr, SocketAddrV4};
 use std::sync::Wait;
 use std::sync::ledger::Ledger;
 use std::time::Clock;
 use trace_core::Point;
 use wire_kit::{Gate, Wire};
 
-/// What asks a service for its options, on the heap.
-fn asker(alloc: Global, service: &ServicePoint) -> Result<Box<OptionsSide>, AllocError> {
-    let side = ask_options(alloc, service)?;
-    match Box::new(alloc, side) {
-        Ok(side) => Ok(side),
-        Err(_) => Err(AllocError),
+/// Who asks a service for its options over this connection, which comes back where no memory is found for that.
+fn asking_of<C>(
+    alloc: Global,
+    service: &ServicePoint,
+    connection: C,
+) -> Result<Box<Asking<C, OptionsSide>>, C> {
+    match ask_options(alloc, service) {
+        Ok(side) => Asking::boxed(alloc, connection, side),
+        Err(_) => Err(connection),
     }
+}
+
+/// What a turn at asking heard.
+#[derive(Clone, Copy)]
+enum Heard {
+    /// What the service says was noted. Its connection may serve on or not.
+    Told { is_reusable: bool },
+    /// What the service says serves nothing.
+    Refused(Reason),
+    /// Something moved.
+    Moved,
+    /// Nothing yet.
+    Nothing,
+    /// No answer comes.
+    Failed(ClientFault),
 }
 
 /// Why a service that was asked can't serve.
@@ -43,47 +59,12 @@ fn asked_word(fault: ClientFault, untouched: bool) -> Why {
     }
 }
 
-/// What the system answers where it has no room for a further connection: no port, no memory, or no descriptor, of the
-/// process or of the machine.
-const EAGAIN: i32 = 11;
-
-const ENOMEM: i32 = 12;
-
-const ENFILE: i32 = 23;
-
-const EMFILE: i32 = 24;
-
-const EADDRNOTAVAIL: i32 = 99;
-
-const ENOBUFS: i32 = 105;
-
-/// Whether an error says that the system has no room.
-fn is_want_of_room(error: &io::Error) -> bool {
-    matches!(
-        error.raw_os_error(),
-        Some(EAGAIN | ENOMEM | ENFILE | EMFILE | EADDRNOTAVAIL | ENOBUFS)
-    )
-}
-
 impl<'a, B: Ledgers, Q: Ledger, A: Ledger, G: Gate> Desk<'a, B, Q, A, G> {
-    /// A connection that is opened now. Want of memory, of a descriptor or of a port is another answer than a host that
-    /// can't be reached.
-    pub fn dial<R: Dial>(
-        &mut self,
-        rt: &R,
-        at: At<'_>,
-        side: Side,
-        address: SocketAddrV4,
-        unreached: Reason,
-    ) -> Result<SocketWire, Reason> {
-        match rt.dial(SocketAddr::V4(address)) {
-            Ok(stream) => match self.seats.wire(at, side, stream) {
-                Ok(wire) => Ok(wire),
-                Err(_) => Err(Reason::NoMemory),
-            },
-            Err(error) if is_want_of_room(&error) => Err(Reason::NoMemory),
-            Err(_) => Err(unreached),
-        }
+    /// Whether what its service said of its options serves for a message: it is fresh, or was said when it was asked for this very
+    /// message, once.
+    pub fn knows_options(&self, ends: &Ends, now: u64) -> bool {
+        let book = self.book(ends.point());
+        book.is_fresh(now) || ends.asked && book.record().is_some()
     }
 
     /// Begins to ask.
@@ -94,8 +75,8 @@ impl<'a, B: Ledgers, Q: Ledger, A: Ledger, G: Gate> Desk<'a, B, Q, A, G> {
         ends: Box<Ends>,
         point: Point,
         service: &ServicePoint,
-    ) -> Step<B, Q, A> {
-        match self.lend(rt, at, point, service.address) {
+    ) -> Step<Phase<B, Q, A>> {
+        match self.lend(rt, at, point) {
             Ok(connection) => self.ask_on(rt, at, ends, service, connection),
             Err(reason) => self.wait_or_refuse(rt, at, ends, reason),
         }
@@ -109,19 +90,14 @@ impl<'a, B: Ledgers, Q: Ledger, A: Ledger, G: Gate> Desk<'a, B, Q, A, G> {
         ends: Box<Ends>,
         service: &ServicePoint,
         connection: LeasedConnection<Q, A>,
-    ) -> Step<B, Q, A> {
-        match asker(self.alloc, service) {
-            Ok(side) => {
+    ) -> Step<Phase<B, Q, A>> {
+        match asking_of(self.alloc, service, connection) {
+            Ok(asking) => {
                 self.seats.touch(at);
-                Step::On(Phase::Asking {
-                    ends,
-                    connection,
-                    side,
-                })
+                Step::On(Phase::Asking { ends, asking })
             }
-            Err(_) => {
-                let LeasedConnection { wire, lease } = connection;
-                self.put_connection(rt, at, wire, lease);
+            Err(connection) => {
+                self.spare(rt, at, Some(connection));
                 self.refuse_user(at, ends, Reason::NoMemory)
             }
         }
@@ -133,37 +109,63 @@ impl<'a, B: Ledgers, Q: Ledger, A: Ledger, G: Gate> Desk<'a, B, Q, A, G> {
         rt: &R,
         at: At<'_>,
         ends: Box<Ends>,
-        connection: LeasedConnection<Q, A>,
-        side: Box<OptionsSide>,
-    ) -> Step<B, Q, A> {
-        let LeasedConnection { wire, lease } = connection;
-        let mut wire = wire;
-        let mut side = side;
-        let before = wire.counts();
-        let heard = side.turn(&mut wire);
-        let moved = wire.counts() != before;
+        asking: Box<Asking<LeasedConnection<Q, A>, OptionsSide>>,
+    ) -> Step<Phase<B, Q, A>> {
+        let mut asking = asking;
+        match self.hear(rt, at, ends.point(), &mut asking) {
+            Heard::Moved => Step::On(Phase::Asking { ends, asking }),
+            Heard::Nothing if !self.is_late(at) => Step::Waits(Phase::Asking { ends, asking }),
+            Heard::Nothing => self.asked_in_vain(rt, at, ends, asking, Reason::Deadline),
+            Heard::Refused(reason) => {
+                self.blame(at, Why::ServiceStatus);
+                self.asked_in_vain(rt, at, ends, asking, reason)
+            }
+            Heard::Failed(fault) => self.options_failed(rt, at, ends, asking, fault),
+            Heard::Told { is_reusable } => {
+                let connection = Asking::connection_of(asking);
+                self.options_heard(rt, at, ends, connection, is_reusable)
+            }
+        }
+    }
+
+    /// A turn at asking, and what it heard. Of what the service says note is taken.
+    fn hear<R: Wait>(
+        &mut self,
+        rt: &R,
+        at: At<'_>,
+        point: Point,
+        asking: &mut Asking<LeasedConnection<Q, A>, OptionsSide>,
+    ) -> Heard {
+        let before = asking.connection.wire.counts();
+        let heard = asking.side.turn(&mut asking.connection.wire);
+        let moved = asking.connection.wire.counts() != before;
         if moved {
             self.seats.touch(at);
         }
-        let connection = LeasedConnection { wire, lease };
         match heard {
-            Ok(Some(answer)) => self.options_heard(rt, at, ends, connection, &side, &answer),
-            Ok(None) if moved => Step::On(Phase::Asking {
-                ends,
-                connection,
-                side,
-            }),
-            Ok(None) if !self.is_late(at) => Step::Waits(Phase::Asking {
-                ends,
-                connection,
-                side,
-            }),
-            Ok(None) => {
-                self.drop_connection(rt, connection);
-                self.refuse_user(at, ends, Reason::Deadline)
-            }
-            Err(fault) => self.options_failed(rt, at, ends, connection, fault),
+            Ok(Some(answer)) => match self.keep_record(rt, at, point, &answer) {
+                Ok(()) => Heard::Told {
+                    is_reusable: is_reusable_after_options(&asking.side, &answer),
+                },
+                Err(reason) => Heard::Refused(reason),
+            },
+            Ok(None) if moved => Heard::Moved,
+            Ok(None) => Heard::Nothing,
+            Err(fault) => Heard::Failed(fault),
         }
+    }
+
+    /// Refuses the user of a message whose service says nothing that serves. The service's connection is closed.
+    fn asked_in_vain<R: Wait>(
+        &mut self,
+        rt: &R,
+        at: At<'_>,
+        ends: Box<Ends>,
+        asking: Box<Asking<LeasedConnection<Q, A>, OptionsSide>>,
+        reason: Reason,
+    ) -> Step<Phase<B, Q, A>> {
+        self.drop_connection(rt, Asking::connection_of(asking));
+        self.refuse_user(at, ends, reason)
     }
 
     /// A connection that was idle before may be closed just now: then a fresh one is asked, once, where a retry is allowed.
@@ -172,44 +174,40 @@ impl<'a, B: Ledgers, Q: Ledger, A: Ledger, G: Gate> Desk<'a, B, Q, A, G> {
         rt: &R,
         at: At<'_>,
         ends: Box<Ends>,
-        connection: LeasedConnection<Q, A>,
+        asking: Box<Asking<LeasedConnection<Q, A>, OptionsSide>>,
         fault: ClientFault,
-    ) -> Step<B, Q, A> {
-        let point = ends.point();
+    ) -> Step<Phase<B, Q, A>> {
         let stale = self.shared.config.retry
-            && connection.lease.reused()
+            && asking.connection.lease.reused()
             && matches!(fault, ClientFault::Closed | ClientFault::Device);
-        match self.service(point) {
-            Some(service) if stale => match self.renew(rt, at, connection) {
-                Ok(connection) => self.ask_on(rt, at, ends, service, connection),
-                Err(reason) => self.refuse_user(at, ends, reason),
-            },
+        match self.service(ends.point()) {
+            Some(service) if stale => {
+                match self.renew(rt, at, Asking::connection_of(asking)) {
+                    Ok(connection) => self.ask_on(rt, at, ends, service, connection),
+                    Err(reason) => self.refuse_user(at, ends, reason),
+                }
+            }
             _ => {
-                let untouched = connection.wire.counts() == (0, 0);
+                let untouched = asking.connection.wire.counts() == (0, 0);
                 self.blame(at, asked_word(fault, untouched));
-                self.drop_connection(rt, connection);
-                self.refuse_user(at, ends, options_reason(fault))
+                self.asked_in_vain(rt, at, ends, asking, options_reason(fault))
             }
         }
     }
 
-    /// Takes note of what the service says. A record that was just read serves the message that waits.
+    /// Offers the message once the service has said its options. A record that was just read serves the message that waits.
     fn options_heard<R: Wait + Dial + Clock>(
         &mut self,
         rt: &R,
         at: At<'_>,
         ends: Box<Ends>,
         connection: LeasedConnection<Q, A>,
-        side: &OptionsSide,
-        answer: &IcapResponse,
-    ) -> Step<B, Q, A> {
+        is_reusable: bool,
+    ) -> Step<Phase<B, Q, A>> {
         let point = ends.point();
-        if let Err(reason) = self.keep_record(rt, at, point, answer) {
-            self.blame(at, Why::ServiceStatus);
-            self.drop_connection(rt, connection);
-            return self.refuse_user(at, ends, reason);
-        }
-        if is_reusable_after_options(side, answer) {
+        let mut ends = ends;
+        ends.asked = true;
+        if is_reusable {
             self.begin(rt, at, ends, point, Some(connection))
         } else {
             self.drop_connection(rt, connection);
@@ -233,15 +231,11 @@ impl<'a, B: Ledgers, Q: Ledger, A: Ledger, G: Gate> Desk<'a, B, Q, A, G> {
             Err(fault) => return Err(record_reason(fault)),
         };
         let maximum = pool_maximum(Some(&record), service);
-        if self
-            .shared
-            .pools
-            .set_max(rt, self.alloc, point, maximum)
-            .is_err()
-        {
-            return Err(Reason::NoMemory);
+        let pools = self.shared.pools.again();
+        let alloc = self.alloc;
+        match pools.keep(rt, alloc, point, maximum, self.book_mut(point), record) {
+            Ok(()) => Ok(()),
+            Err(_) => Err(Reason::NoMemory),
         }
-        self.book_mut(point).keep(record);
-        Ok(())
     }
 }

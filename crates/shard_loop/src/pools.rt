@@ -1,201 +1,205 @@
-//! The pools of both points.
+//! Connections to services over sockets: how they lie idle, and what their lending asks of a thread's loop.
 
-ghost use Rattle.std.specs.Prelude.{◌≤◌};
+ghost use Rattle.std.specs.Prelude.{◌≡◌, ⊤, Err};
 
-use crate::queues::Waiting;
-use adapt_bytes::MAX_CONNECTIONS;
-use event_loop::{IdlePlace, Room, USER};
-use service_pool::{Lease, Pool, Taken};
-use socket_wire::{Readiness, SocketWire, Unread};
-use std::alloc::{AllocError, Global};
-use std::sync::ledger::Ledger;
-use std::sync::{Arc, Wait};
+use crate::seats::{At, Seats};
+use event_loop::{IdlePlace, Inbox, Room};
+use proxy_rules::Reason;
+pub use service_lines::Leased;
+use service_lines::{Connector, Edge, Keeper, LendFault};
+use socket_wire::{Dial, Readiness, Role, ServiceWire, SocketWire, Unread};
+use std::io;
+use std::net::{SocketAddr, SocketAddrV4};
+use std::sync::Arc;
 use trace_core::Point;
 
 /// A connection to a service that no transaction uses, with its readiness and its place among the descriptors.
 #[derive(Drop)]
 pub struct Spare {
-    pub wire: SocketWire,
+    pub wire: ServiceWire,
     pub ready: Arc<Readiness>,
     pub place: IdlePlace,
 }
 
-/// A lease of the pool of one point. It has no `Drop`, as the lease has none.
-pub enum Leased<Q: Ledger, A: Ledger> {
-    Request(Lease<Q>),
-    Response(Lease<A>),
-}
-
-impl<Q: Ledger, A: Ledger> Leased<Q, A> {
-    /// The point whose service it is of.
-    pub fn point(&self) -> Point {
-        match self {
-            Leased::Request(_) => Point::Reqmod,
-            Leased::Response(_) => Point::Respmod,
-        }
-    }
-
-    /// Whether the connection was idle when it was taken.
-    pub fn reused(&self) -> bool {
-        match self {
-            Leased::Request(lease) => lease.reused(),
-            Leased::Response(lease) => lease.reused(),
-        }
-    }
-}
-
-/// The pools of connections to the services, which all threads share.
-#[derive(Drop)]
-pub struct Pools<'a, Q: Ledger, A: Ledger> {
-    pub request: &'a Pool<Spare, Q>,
-    pub response: &'a Pool<Spare, A>,
-    /// The descriptors, which they share with users.
+/// What all threads share: their inboxes, and the descriptors.
+#[derive(Clone, Copy, Drop)]
+pub struct Loops<'a> {
+    pub inboxes: &'a [Inbox],
+    /// The descriptors, which users and idle connections share.
     pub room: &'a Arc<Room>,
-    /// Those who wait for a connection of them.
-    pub waiting: Waiting<'a>,
 }
 
-/// What was found in a pool.
-pub enum Took<Q: Ledger, A: Ledger> {
-    /// An idle connection.
-    Idle(Spare, Leased<Q, A>),
-    /// The right to open one.
-    Fresh(Leased<Q, A>),
-    /// Neither.
-    Busy,
+impl<'a> Edge for Loops<'a> {
+    type Idle = Spare;
+
+    fn wake(&self, thread: usize) {
+        if let Some(inbox) = self.inboxes.get(thread) {
+            inbox.wake();
+        }
+    }
+
+    fn is_crowded(&self) -> bool {
+        self.room.has_too_many_idle()
+    }
 }
 
-impl<'a, Q: Ledger, A: Ledger> Pools<'a, Q, A> {
-    /// These pools, for another thread.
-    pub fn again(&self) -> Pools<'a, Q, A> {
-        Pools {
-            request: self.request,
-            response: self.response,
-            room: self.room,
-            waiting: self.waiting,
+/// The connections to services of both points, which all threads share.
+pub type Pools<'a, Q, A> = service_lines::Pools<'a, Loops<'a>, Q, A>;
+
+/// A leased connection to a service.
+pub type LeasedConnection<Q, A> = service_lines::LeasedConnection<ServiceWire, Q, A>;
+
+/// What the system answers where it has no room for a further connection: no port, no memory, or no descriptor, of the
+/// process or of the machine.
+const EAGAIN: i32 = 11;
+
+const ENOMEM: i32 = 12;
+
+const ENFILE: i32 = 23;
+
+const EMFILE: i32 = 24;
+
+const EADDRNOTAVAIL: i32 = 99;
+
+const ENOBUFS: i32 = 105;
+
+/// Whether an error says that the system has no room.
+fn is_want_of_room(error: &io::Error) -> bool {
+    matches!(
+        error.raw_os_error(),
+        Some(EAGAIN | ENOMEM | ENFILE | EMFILE | EADDRNOTAVAIL | ENOBUFS)
+    )
+}
+
+/// A connection that is opened now, to a peer of the role `P`. Want of memory, of a descriptor or of a port is another answer than
+/// a host that can't be reached. It is never `Busy`.
+pub fn dial<P: Role, R: Dial>(
+    rt: &R,
+    seats: &mut Seats,
+    at: At<'_>,
+    address: SocketAddrV4,
+) -> Result<SocketWire<P>, LendFault>
+    ensures { result ≡ Err LendFault.Busy → ⊥ }
+{
+    match rt.dial(SocketAddr::V4(address)) {
+        Ok(stream) => match seats.wire(at, Readiness::dialled(), stream) {
+            Ok(wire) => Ok(wire),
+            Err(_) => Err(LendFault::NoMemory),
+        },
+        Err(error) if is_want_of_room(&error) => Err(LendFault::NoMemory),
+        Err(_) => Err(LendFault::Unreached),
+    }
+}
+
+/// Why a user is refused for whose message no connection to its service can be lent.
+pub fn lend_reason(fault: LendFault) -> Reason {
+    match fault {
+        LendFault::Busy => Reason::Busy,
+        LendFault::Unreached => Reason::Service,
+        LendFault::NoMemory => Reason::NoMemory,
+    }
+}
+
+/// The seat of an exchange, from which its service's connection is taken: the seats of its thread are lent to it meanwhile.
+#[derive(Drop)]
+pub struct Berth<'r, 'a> {
+    pub at: At<'r>,
+    pub seats: Seats,
+    pub room: &'a Arc<Room>,
+}
+
+/// Takes a connection out of the poll, and gives it a place among the descriptors of idle ones.
+fn lay_idle(at: At<'_>, seats: &mut Seats, room: &Arc<Room>, used: ServiceWire) -> Option<Spare> {
+    let mut wire = used;
+    let is_out = wire.deregister(at.registry).is_ok();
+    let ready = seats.dismiss(at.key)?;
+    if !is_out {
+        return None;
+    }
+    let place = Room::keep(room)?;
+    Some(Spare { wire, ready, place })
+}
+
+/// Whether a connection still lives, and nothing lies unread on it.
+fn is_quiet(wire: &ServiceWire) -> bool {
+    wire.is_read_out() || wire.unread() == Unread::Nothing
+}
+
+impl<'r, 'a> Keeper<Loops<'a>> for Berth<'r, 'a> {
+    type Used = ServiceWire;
+
+    ghost past = { λ keeper p. ⊤ };
+
+    fn may_rest(&mut self, used: &ServiceWire) -> bool {
+        is_quiet(used)
+    }
+
+    fn rest(&mut self, used: ServiceWire) -> Option<Spare> {
+        let at = self.at;
+        let room = self.room;
+        lay_idle(at, &mut self.seats, room, used)
+    }
+
+    fn close(&mut self, used: ServiceWire) {
+        drop(used);
+    }
+}
+
+/// The seat of an exchange that may dial.
+#[derive(Drop)]
+pub struct Port<'s, 'r, 'a, R> {
+    pub rt: &'s R,
+    pub at: At<'r>,
+    pub seats: Seats,
+    pub room: &'a Arc<Room>,
+    /// The address of its service, if there is one.
+    pub address: Option<SocketAddrV4>,
+}
+
+impl<'s, 'r, 'a, R: Dial> Keeper<Loops<'a>> for Port<'s, 'r, 'a, R> {
+    type Used = ServiceWire;
+
+    ghost past = { λ keeper p. ⊤ };
+
+    fn may_rest(&mut self, used: &ServiceWire) -> bool {
+        is_quiet(used)
+    }
+
+    fn rest(&mut self, used: ServiceWire) -> Option<Spare> {
+        let at = self.at;
+        let room = self.room;
+        lay_idle(at, &mut self.seats, room, used)
+    }
+
+    fn close(&mut self, used: ServiceWire) {
+        drop(used);
+    }
+}
+
+impl<'s, 'r, 'a, R: Dial> Connector<Loops<'a>> for Port<'s, 'r, 'a, R> {
+    fn open(&mut self, _point: Point) -> Result<ServiceWire, LendFault> {
+        let rt = self.rt;
+        let at = self.at;
+        match self.address {
+            Some(address) => dial(rt, &mut self.seats, at, address),
+            None => Err(LendFault::Unreached),
         }
     }
 
-    /// Leases a connection of a point's service, an idle one first.
-    pub fn take<R: Wait>(&self, rt: &R, point: Point) -> Took<Q, A> {
-        match point {
-            Point::Reqmod => match self.request.take(rt) {
-                Taken::Idle(spare, lease) => Took::Idle(spare, Leased::Request(lease)),
-                Taken::Fresh(lease) => Took::Fresh(Leased::Request(lease)),
-                Taken::Busy => Took::Busy,
-            },
-            Point::Respmod => match self.response.take(rt) {
-                Taken::Idle(spare, lease) => Took::Idle(spare, Leased::Response(lease)),
-                Taken::Fresh(lease) => Took::Fresh(Leased::Response(lease)),
-                Taken::Busy => Took::Busy,
-            },
-        }
+    fn is_fit(&mut self, idle: &Spare) -> bool {
+        idle.wire.unread() == Unread::Nothing
     }
 
-    /// Takes a connection, but never one that its service has ended meanwhile, or on which it has said what nobody asked for:
-    /// those are closed, and their leases given up.
-    pub fn take_live<R: Wait>(&self, rt: &R, point: Point) -> Took<Q, A> {
-        for _ in 0..MAX_CONNECTIONS {
-            match self.take(rt, point) {
-                Took::Idle(spare, lease) if spare.wire.unread() != Unread::Nothing => {
-                    drop(spare);
-                    self.give_up(rt, lease);
-                }
-                took => return took,
-            }
+    fn resume(&mut self, idle: Spare) -> Result<ServiceWire, LendFault> {
+        let Spare {
+            wire,
+            ready,
+            place: _,
+        } = idle;
+        let at = self.at;
+        match self.seats.enlist(at, wire, ready) {
+            Ok(wire) => Ok(wire),
+            Err(_) => Err(LendFault::NoMemory),
         }
-        Took::Busy
-    }
-
-    /// Puts a connection back, for the one that waits longest. One that is too many, or for which users leave no descriptor, is
-    /// closed.
-    pub fn put<R: Wait>(
-        &self,
-        rt: &R,
-        wire: SocketWire,
-        ready: Arc<Readiness>,
-        lease: Leased<Q, A>,
-    ) {
-        let Some(place) = Room::keep(self.room) else {
-            drop(wire);
-            self.give_up(rt, lease);
-            return;
-        };
-        let spare = Spare { wire, ready, place };
-        let point = lease.point();
-        match lease {
-            Leased::Request(lease) => {
-                let _ = self.request.put(rt, spare, lease);
-            }
-            Leased::Response(lease) => {
-                let _ = self.response.put(rt, spare, lease);
-            }
-        }
-        self.waiting.call(rt, point);
-    }
-
-    /// Gives up the lease of a connection that is closed: the one that waits longest may open another.
-    pub fn give_up<R: Wait>(&self, rt: &R, lease: Leased<Q, A>) {
-        let point = lease.point();
-        match lease {
-            Leased::Request(lease) => self.request.give_up(rt, lease),
-            Leased::Response(lease) => self.response.give_up(rt, lease),
-        }
-        self.waiting.call(rt, point);
-    }
-
-    /// Closes an idle connection to a point's service. False if there is none.
-    fn close_idle<R: Wait>(&self, rt: &R, point: Point) -> bool {
-        match self.take(rt, point) {
-            Took::Idle(spare, lease) => {
-                drop(spare);
-                self.give_up(rt, lease);
-                true
-            }
-            Took::Fresh(lease) => {
-                self.give_up(rt, lease);
-                false
-            }
-            Took::Busy => false,
-        }
-    }
-
-    /// Closes as many idle connections as keep the next user out. False if none is left that could be closed.
-    pub fn make_room<R: Wait>(&self, rt: &R) -> bool {
-        for _ in 0..USER {
-            if !self.room.has_too_many_idle() {
-                return true;
-            }
-            if !self.close_idle(rt, Point::Reqmod) && !self.close_idle(rt, Point::Respmod) {
-                return false;
-            }
-        }
-        true
-    }
-
-    /// Whether a fresh connection may be opened in place of one that broke.
-    pub fn replace<R: Wait>(&self, rt: &R, lease: &mut Leased<Q, A>) -> bool {
-        match lease {
-            Leased::Request(lease) => self.request.replace(rt, lease).is_ok(),
-            Leased::Response(lease) => self.response.replace(rt, lease).is_ok(),
-        }
-    }
-
-    /// Sets how many connections may be open, and closes idle ones that are too many.
-    pub fn set_max<R: Wait>(
-        &self,
-        rt: &R,
-        alloc: Global,
-        point: Point,
-        maximum: u64,
-    ) -> Result<(), AllocError>
-        requires { maximum ≤ MAX_CONNECTIONS }
-    {
-        let _closed = match point {
-            Point::Reqmod => self.request.set_max(rt, alloc, maximum)?,
-            Point::Respmod => self.response.set_max(rt, alloc, maximum)?,
-        };
-        self.waiting.call(rt, point);
-        Ok(())
     }
 }

@@ -4,16 +4,15 @@ ghost use Rattle.std.specs.Prelude.{◌≡◌, ◌+◌, ◌≤◌};
 ghost use Rattle.adapt_bytes.specs.declared.limits.TheConstants.{MAX_CONNECTIONS};
 ghost use Rattle.service_pool.specs.declared.step.TheConstants.{LEDGER_PARTS};
 
-use crate::audit::{ServeFault, Stopped};
 use crate::crew::run_crew;
 use crate::left::Left;
-use crate::log::Append;
 use crate::pools::Spare;
 use mio::net::TcpListener;
 use proxy_config::{Config, ServicePoint};
 use service_pool::Pool;
+use shard_report::{Append, ServeFault, Stopped};
 use socket_wire::Dial;
-use span_bank::{Bank, Blanks, Four};
+use span_bank::{Bank, Blanks, Four, Ledgers};
 use std::alloc::Global;
 use std::fs::File;
 use std::net::Net;
@@ -54,6 +53,25 @@ fn make_pool<L: Ledger>(
 ///
 /// Each blank of the budget has a part for each transaction that there may be, and one more; those of the pools have
 /// `LEDGER_PARTS`.
+///
+/// ```
+/// let users = TcpListener::bind(rt, SocketAddr::V4(config.listen))?;
+/// let admin = TcpListener::bind(rt, SocketAddr::V4(config.admin))?;
+/// // No log is kept. It returns once the administrator has said `stop`.
+/// let stopped = serve::<Brand, Brand, Brand, Brand, Brand, Brand, OpenGate, R>(
+///     rt,
+///     alloc,
+///     &config,
+///     users,
+///     admin,
+///     None,
+///     &OpenGate,
+///     Blanks::new(config.rows + 1),
+///     Blank::new(LEDGER_PARTS),
+///     Blank::new(LEDGER_PARTS),
+/// )?;
+/// assert_eq!(rt; stopped.fault, None);
+/// ```
 pub fn serve<
     'x,
     H: Ledger + Send + Sync,
@@ -98,21 +116,49 @@ pub fn serve<
     };
     let request: Pool<Spare, Q> = make_pool(alloc, reqmod, &config.reqmod, journal)?;
     let response: Pool<Spare, A> = make_pool(alloc, respmod, &config.respmod, journal)?;
+    serve_on(
+        rt,
+        alloc,
+        config,
+        (users, admin),
+        log,
+        gate,
+        bank,
+        request,
+        response,
+    )
+}
+
+/// Runs the proxy on this budget and these pools, and audits them.
+fn serve_on<
+    B: Ledgers + Send + Sync,
+    Q: Ledger + Send + Sync,
+    A: Ledger + Send + Sync,
+    G: Gate + Sync,
+    R: Threads + Wait + Net + Dial + Append + Clock + Sync,
+>(
+    rt: &R,
+    alloc: Global,
+    config: &Config,
+    ports: (TcpListener, TcpListener),
+    log: Option<File>,
+    gate: &G,
+    bank: Bank<B>,
+    request: Pool<Spare, Q>,
+    response: Pool<Spare, A>,
+) -> Result<Stopped, ServeFault>
+where
+    B::Held: Send + Sync,
+    B::Free: Send + Sync,
+    B::Slack: Send + Sync,
+    B::Pages: Send + Sync,
+{
     let mut left = Left::new(alloc);
     let has_room = left.reserve(config.rows as usize);
     let left = Mutex::new(left);
     let made = if has_room {
         run_crew(
-            rt,
-            alloc,
-            config,
-            &bank,
-            &request,
-            &response,
-            gate,
-            (users, admin),
-            log,
-            &left,
+            rt, alloc, config, &bank, &request, &response, gate, ports, log, &left,
         )
     } else {
         Err(ServeFault::NoMemory)

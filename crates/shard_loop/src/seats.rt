@@ -1,11 +1,13 @@
 //! Users' connections by their keys: their readiness, when they last moved, and which can best be spared.
 
+use crate::sparing::{Spared, Stay, spared_of};
 use event_loop::{Place, Told};
 use mio::net::TcpStream;
 use mio::{Registry, Token};
 use slab::Slab;
-use socket_wire::{MAX_KEY, Readiness, Side, SocketWire, token_of};
+use socket_wire::{MAX_KEY, Readiness, Role, Side, SocketWire, token_of};
 use std::alloc::{AllocError, Global};
+use std::mem;
 use std::sync::Arc;
 
 /// A place in a thread's loop: the poll, the key of an exchange, and the moment in seconds.
@@ -15,6 +17,9 @@ pub struct At<'r> {
     pub key: usize,
     pub now: u64,
 }
+
+/// The milliseconds of a second.
+pub const SECOND: u64 = 1000;
 
 /// How many seats there are beyond those of the users that are served.
 const SPARE: usize = 16;
@@ -28,29 +33,14 @@ pub enum Purpose {
     Refusal,
 }
 
-/// What a user's connection is in the midst of, as far as it may be spared for another one.
-#[derive(Clone, Copy, Debug, PartialEq, Eq)]
-pub enum Stay {
-    /// An exchange: it isn't spared.
-    Exchange,
-    /// Between two requests, with no byte of the next one's head.
-    Idle,
-    /// A head that isn't whole.
-    Head,
-    /// Its end: the last answer is being written, or is out.
-    End,
-}
-
-/// Those that are spared, first come the first of this order (RFC 9112, section 9.5, lets an idle connection be closed at any
-/// moment).
-const SPARED: [Stay; 3] = [Stay::Idle, Stay::Head, Stay::End];
-
 /// What is known of the connections of an exchange.
 #[derive(Drop)]
 struct Seat {
     purpose: Purpose,
     number: u64,
     place: Place,
+    /// When the user was taken in, in milliseconds.
+    came: u64,
     moved: u64,
     stay: Stay,
     /// When the stay began, in the order of all stays.
@@ -100,6 +90,18 @@ impl Seats {
         Ok(seats)
     }
 
+    /// All seats, which come back after the call that they are lent for. Until then there is none here, which takes no memory.
+    pub fn lend(&mut self) -> Seats {
+        let none = Seats {
+            alloc: self.alloc,
+            all: Slab::new(self.alloc),
+            most: 0,
+            refused: 0,
+            stays: 0,
+        };
+        mem::replace(self, none)
+    }
+
     /// How many there may be: those of the users that are served, and those of some that are refused.
     pub fn bound(&self) -> usize {
         self.most.saturating_add(SPARE)
@@ -134,8 +136,9 @@ impl Seats {
         self.all.is_empty()
     }
 
-    /// Takes a seat for a user's connection of this number, and says what it is for. `None` if no seat is free.
-    pub fn take(&mut self, number: u64, place: Place, now: u64) -> Option<(usize, Purpose)> {
+    /// Takes a seat for a user's connection of this number at this moment, in milliseconds, and says what it is for. `None` if no
+    /// seat is free.
+    pub fn take(&mut self, number: u64, place: Place, millis: u64) -> Option<(usize, Purpose)> {
         let purpose = self.next_purpose()?;
         let since = self.next_stay();
         if self.all.reserve(1).is_err() || self.all.vacant_key() >= self.bound() {
@@ -145,7 +148,8 @@ impl Seats {
             purpose,
             number,
             place,
-            moved: now,
+            came: millis,
+            moved: millis / SECOND,
             stay: match purpose {
                 Purpose::Requests => Stay::Head,
                 Purpose::Refusal => Stay::Exchange,
@@ -200,38 +204,28 @@ impl Seats {
         }
     }
 
-    /// What a user's connection is in the midst of.
-    pub fn stay(&self, key: usize) -> Stay {
-        match self.all.get(key) {
-            Some(seat) => seat.stay,
-            None => Stay::Exchange,
+    /// A request comes on a user's connection, of which nothing was read yet: it isn't spared before it is driven.
+    pub fn await_head(&mut self, key: usize) {
+        self.begin_stay(key, Stay::Exchange);
+    }
+
+    /// A user's connection was driven, and has no byte of a request.
+    pub fn lie_idle(&mut self, key: usize) {
+        if let Some(seat) = self.all.get(key)
+            && seat.stay == Stay::Exchange
+        {
+            self.begin_stay(key, Stay::Idle);
         }
     }
 
-    /// The connection that is longest in the midst of this.
-    fn longest(&self, stay: Stay) -> Option<usize> {
-        let mut found = None;
-        let mut since = u64::MAX;
-        for key in 0..self.bound() {
-            if let Some(seat) = self.all.get(key)
-                && seat.stay == stay
-                && seat.since < since
-            {
-                found = Some(key);
-                since = seat.since;
-            }
+    /// The connection under a key at this moment, in milliseconds, where it is spared rather than the best one so far.
+    pub fn better(&self, key: usize, millis: u64, best: Option<Spared>) -> Option<Spared> {
+        let seat = self.all.get(key)?;
+        let this = spared_of(key, seat.stay, millis.saturating_sub(seat.came), seat.since)?;
+        match best {
+            Some(best) if !this.comes_before(&best) => None,
+            _ => Some(this),
         }
-        found
-    }
-
-    /// The connection that can best be spared.
-    pub fn spared(&self) -> Option<usize> {
-        for stay in SPARED {
-            if let Some(key) = self.longest(stay) {
-                return Some(key);
-            }
-        }
-        None
     }
 
     /// Whether the user's connection is gone both ways.
@@ -339,24 +333,20 @@ impl Seats {
     ) -> Option<Arc<Readiness>> {
         let seat = self.all.get_mut(key)?;
         match side {
-            Side::User => std::mem::replace(&mut seat.user, ready),
-            Side::Origin => std::mem::replace(&mut seat.origin, ready),
-            Side::Service => std::mem::replace(&mut seat.service, ready),
+            Side::User => mem::replace(&mut seat.user, ready),
+            Side::Origin => mem::replace(&mut seat.origin, ready),
+            Side::Service => mem::replace(&mut seat.service, ready),
         }
     }
 
-    /// A wire over a stream, which the poll reports. The stream comes back if the system refuses, or no memory was
-    /// found.
-    pub fn wire(
+    /// A wire over a stream to a peer of the role `P`, which the poll reports. The stream comes back if the system refuses, or no
+    /// memory was found.
+    pub fn wire<P: Role>(
         &mut self,
         at: At<'_>,
-        side: Side,
+        ready: Readiness,
         stream: TcpStream,
-    ) -> Result<SocketWire, TcpStream> {
-        let ready = match side {
-            Side::User => Readiness::new(),
-            Side::Origin | Side::Service => Readiness::dialled(),
-        };
+    ) -> Result<SocketWire<P>, TcpStream> {
         let Ok(ready) = Arc::new(self.alloc, ready) else {
             return Err(stream);
         };
@@ -364,29 +354,28 @@ impl Seats {
             return Err(stream);
         };
         let wire = SocketWire::new(stream, ready);
-        match self.enlist(at, side, wire, told) {
+        match self.enlist(at, wire, told) {
             Ok(wire) => Ok(wire),
             Err(wire) => Err(wire.into_stream()),
         }
     }
 
     /// Has the poll report a wire. It comes back if the system refuses.
-    pub fn enlist(
+    pub fn enlist<P: Role>(
         &mut self,
         at: At<'_>,
-        side: Side,
-        wire: SocketWire,
+        wire: SocketWire<P>,
         ready: Arc<Readiness>,
-    ) -> Result<SocketWire, SocketWire> {
+    ) -> Result<SocketWire<P>, SocketWire<P>> {
         let mut wire = wire;
         if at.key > MAX_KEY
             || wire
-                .register(at.registry, Token(token_of(at.key, side)))
+                .register(at.registry, Token(token_of(at.key, P::SIDE)))
                 .is_err()
         {
             return Err(wire);
         }
-        let _ = self.keep(at.key, side, Some(ready));
+        let _ = self.keep(at.key, P::SIDE, Some(ready));
         Ok(wire)
     }
 

@@ -1,77 +1,53 @@
-//! The work of one thread: its exchanges.
+//! The work of one thread: its exchanges, each in a slot.
 
 ghost use Rattle.std.specs.Prelude.{◌≡◌};
 ghost use Rattle.shard_loop.specs.Slots.{ChangesOnly};
 
-use crate::desk::{Desk, Shared};
-use crate::notes::{is_between, stage_of};
-use crate::phase::{Ends, Phase, Step};
-use crate::queues::POINTS;
-use crate::seats::{At, Purpose, Stay};
-use crate::tally::USERS;
+use crate::exchanges::Exchanges;
+use crate::phase::Step;
+use crate::seats::{At, SECOND};
 use event_loop::{Driven, Handed, Request, Slots, Told, Work};
-use exchange_report::Why;
 use http_side::own_refusal;
 use mio::Registry;
 use mio::net::TcpStream;
-use proxy_rules::Incoming;
-use socket_wire::{Dial, Side, SocketWire, Unread};
-use span_bank::Ledgers;
-use std::alloc::{AllocError, AllocFailed, Global};
-use std::boxed::Box;
+use socket_wire::{Dial, Readiness, Side};
+use std::alloc::{AllocError, Global};
 use std::io::Write;
 use std::sync::Wait;
-use std::sync::ledger::Ledger;
 use std::time::Clock;
-use wire_kit::Gate;
 
 /// The most steps of an exchange before others get their turn. Each is one round of a transaction's turns at most.
 const STEPS: u32 = 8;
 
-/// The most connections that are looked at for one that can be spared.
-const LOOKS: u32 = 16;
-
 /// The exchanges of one thread, each in the slot of its key. What is in a slot may have a reservation or a lease, so it has
 /// no `Drop`, and nothing is lost.
-pub struct Shard<'a, B: Ledgers, Q: Ledger, A: Ledger, G: Gate> {
-    desk: Desk<'a, B, Q, A, G>,
-    slots: Slots<Phase<B, Q, A>>,
+pub struct Shard<D, P> {
+    desk: D,
+    slots: Slots<P>,
 }
 
-impl<'a, B: Ledgers, Q: Ledger, A: Ledger, G: Gate> Shard<'a, B, Q, A, G> {
+impl<P, D: Exchanges<Exchange = P> + Drop> Shard<D, P> {
     /// A thread's work before the first user. `Err` where no memory was found.
-    pub fn new(
-        alloc: Global,
-        shared: Shared<'a, B, Q, A, G>,
-    ) -> Result<Shard<'a, B, Q, A, G>, AllocError> {
-        let rows = shared.config.rows as usize;
-        let desk = Desk::new(alloc, shared, rows)?;
-        let slots = Slots::new(alloc, desk.seats.bound())?;
+    pub fn new(alloc: Global, desk: D) -> Result<Shard<D, P>, AllocError> {
+        let slots = Slots::new(alloc, desk.seats().bound())?;
         Ok(Shard { desk, slots })
     }
 
-    /// The slots. All else goes.
-    pub fn into_slots(self) -> Vec<Option<Phase<B, Q, A>>> {
-        let Shard { desk: _, slots } = self;
+    /// The slots, once the exchanges that are still open are reported. All else goes.
+    pub fn into_slots<R: Wait + Clock>(self, rt: &R) -> Vec<Option<P>> {
+        let Shard { desk, slots } = self;
+        let mut desk = desk;
+        for key in 0..slots.count() {
+            if let Some(exchange) = slots.get(key) {
+                desk.left(key, exchange);
+            }
+            desk.over(rt, key);
+        }
         slots.into_all()
     }
 
-    /// What a user's connection begins with: its first request, or the refusal where there is no room for it, or no memory.
-    fn first_phase(&self, user: SocketWire, purpose: Purpose) -> Phase<B, Q, A> {
-        match purpose {
-            Purpose::Requests => {
-                let ends = Ends::of_user(user, Incoming::request(self.desk.alloc));
-                match Box::new(self.desk.alloc, ends) {
-                    Ok(ends) => Phase::Head(ends),
-                    Err(AllocFailed { value }) => Phase::busy(value.into_user()),
-                }
-            }
-            Purpose::Refusal => Phase::busy(user),
-        }
-    }
-
     /// Puts an exchange into the slot of its key. What was there, which is nothing, ends.
-    fn keep<R: Wait>(&mut self, rt: &R, key: usize, phase: Phase<B, Q, A>)
+    fn keep<R: Wait>(&mut self, rt: &R, key: usize, phase: P)
         ensures { ChangesOnly key self.old.slots.all.items self.new.slots.all.items }
     {
         if let Some(old) = self.slots.place(key, phase) {
@@ -86,9 +62,6 @@ impl<'a, B: Ledgers, Q: Ledger, A: Ledger, G: Gate> Shard<'a, B, Q, A, G> {
         let Some(phase) = self.slots.take(at.key) else {
             return Driven::Over;
         };
-        if let Some(note) = self.desk.notes.get_mut(at.key) {
-            note.stage = stage_of(&phase);
-        }
         match self.desk.step(rt, at, phase) {
             Step::On(phase) => {
                 self.note_phase(rt, at.key, &phase);
@@ -108,11 +81,11 @@ impl<'a, B: Ledgers, Q: Ledger, A: Ledger, G: Gate> Shard<'a, B, Q, A, G> {
     }
 
     /// Where no exchange is under way in this phase, the one before is over.
-    fn note_phase<R: Wait + Clock>(&mut self, rt: &R, key: usize, phase: &Phase<B, Q, A>)
+    fn note_phase<R: Wait + Clock>(&mut self, rt: &R, key: usize, phase: &P)
         ensures { self.new.slots ≡ self.old.slots }
     {
-        if is_between(phase) {
-            self.desk.report(rt, key);
+        if self.desk.is_between(phase) {
+            self.desk.over(rt, key);
         }
     }
 
@@ -120,21 +93,13 @@ impl<'a, B: Ledgers, Q: Ledger, A: Ledger, G: Gate> Shard<'a, B, Q, A, G> {
     fn leave<R: Wait + Clock>(&mut self, rt: &R, key: usize)
         ensures { self.new.slots ≡ self.old.slots }
     {
-        self.desk.report(rt, key);
-        self.desk.seats.leave(key);
-        self.desk.shared.tally.take(USERS, 1);
-    }
-
-    /// Reports the exchanges that are still open.
-    pub fn report_all<R: Wait + Clock>(&mut self, rt: &R) {
-        for key in 0..self.slots.count() {
-            self.desk.report(rt, key);
-        }
+        self.desk.leave(rt, key);
     }
 
     /// Ends the exchange under this key, and all of its connections.
     fn end_slot<R: Wait + Clock>(&mut self, rt: &R, key: usize) {
         if let Some(phase) = self.slots.take(key) {
+            self.desk.broken(key, &phase);
             self.desk.end(rt, phase);
         }
         self.leave(rt, key);
@@ -148,37 +113,46 @@ impl<'a, B: Ledgers, Q: Ledger, A: Ledger, G: Gate> Shard<'a, B, Q, A, G> {
         match self.desk.halt(rt, at, phase) {
             Step::On(phase) | Step::Waits(phase) => self.keep(rt, at.key, phase),
             Step::Over => {
-                self.desk.note_stop(at.key);
+                self.desk.stopped(at.key);
                 self.leave(rt, at.key);
             }
         }
     }
 
-    /// Closes the connection of the user that can best be spared. False if there is no such user. An idle connection on which a
-    /// request has just come is spared no more: its head has begun.
-    fn spare_user<R: Wait + Clock>(&mut self, rt: &R) -> bool {
-        for _ in 0..LOOKS {
-            let Some(key) = self.desk.seats.spared() else {
-                return false;
-            };
-            if self.is_wanted(key) {
-                self.desk.seats.begin_stay(key, Stay::Head);
-            } else {
-                self.end_slot(rt, key);
-                return true;
+    /// The key of the user that can best be spared. One whose request has just come isn't.
+    fn best_spared(&mut self, millis: u64) -> Option<usize> {
+        let mut best = None;
+        for key in 0..self.slots.count() {
+            if let Some(better) = self.desk.seats().better(key, millis, best) {
+                if self.is_wanted(key) {
+                    self.desk.seats_mut().await_head(key);
+                } else {
+                    best = Some(better);
+                }
             }
         }
-        false
+        match best {
+            Some(best) => Some(best.key),
+            None => None,
+        }
     }
 
-    /// Whether the connection under this key lies idle, but bytes of a request have come that no event has reported yet.
-    fn is_wanted(&self, key: usize) -> bool {
-        if self.desk.seats.stay(key) != Stay::Idle {
-            return false;
+    /// Closes the connection of the user that can best be spared. False if there is no such user.
+    fn spare_user<R: Wait + Clock>(&mut self, rt: &R, millis: u64) -> bool {
+        match self.best_spared(millis) {
+            Some(key) => {
+                self.end_slot(rt, key);
+                true
+            }
+            None => false,
         }
+    }
+
+    /// Whether no byte of a request was read on the connection under this key, but some have come that no event has reported yet.
+    fn is_wanted(&self, key: usize) -> bool {
         match self.slots.get(key) {
-            Some(Phase::Head(ends)) => ends.user.unread() == Unread::Bytes,
-            _ => false,
+            Some(exchange) => self.desk.is_wanted(exchange),
+            None => false,
         }
     }
 }
@@ -189,36 +163,35 @@ fn turn_away(stream: TcpStream) {
     let _ = stream.write(own_refusal(503));
 }
 
-impl<'a, B: Ledgers, Q: Ledger, A: Ledger, G: Gate> Work for Shard<'a, B, Q, A, G> {
+impl<P, D: Exchanges<Exchange = P> + Drop> Work for Shard<D, P> {
     fn admit<R: Wait + Dial + Clock>(
         &mut self,
         rt: &R,
         registry: &Registry,
         user: Handed,
-        now: u64,
+        millis: u64,
     ) -> Option<usize> {
         let Handed {
             stream,
             number,
             place,
         } = user;
-        if !self.desk.seats.has_room() {
-            let _ = self.spare_user(rt);
+        if !self.desk.seats().has_room() {
+            let _ = self.spare_user(rt, millis);
         }
-        let Some((key, purpose)) = self.desk.seats.take(number, place, now) else {
+        let Some((key, purpose)) = self.desk.seats_mut().take(number, place, millis) else {
             turn_away(stream);
             return None;
         };
-        let address = self.desk.origin_of_user(&stream);
-        self.desk.note_user(key, address);
-        self.desk.shared.tally.add(USERS, 1);
-        if purpose == Purpose::Refusal {
-            self.desk.notes.refuse(key, Why::NoSeat, 503);
-        }
-        let at = At { registry, key, now };
-        match self.desk.seats.wire(at, Side::User, stream) {
+        self.desk.enter(key, purpose, &stream);
+        let at = At {
+            registry,
+            key,
+            now: millis / SECOND,
+        };
+        match self.desk.seats_mut().wire(at, Readiness::new(), stream) {
             Ok(user) => {
-                let phase = self.first_phase(user, purpose);
+                let phase = self.desk.first(user, purpose);
                 self.keep(rt, key, phase);
                 Some(key)
             }
@@ -231,17 +204,15 @@ impl<'a, B: Ledgers, Q: Ledger, A: Ledger, G: Gate> Work for Shard<'a, B, Q, A, 
     }
 
     /// Idle connections to services go first, where they keep the user out.
-    fn make_room<R: Wait + Clock>(&mut self, rt: &R) -> bool {
-        let pools = &self.desk.shared.pools;
-        if pools.room.has_too_many_idle() {
-            pools.make_room(rt)
-        } else {
-            self.spare_user(rt)
+    fn make_room<R: Wait + Clock>(&mut self, rt: &R, millis: u64) -> bool {
+        match self.desk.close_idle(rt) {
+            Some(has_room) => has_room,
+            None => self.spare_user(rt, millis),
         }
     }
 
     fn note(&mut self, key: usize, side: Side, told: Told) -> bool {
-        self.desk.seats.note(key, side, told)
+        self.desk.seats().note(key, side, told)
     }
 
     fn drive<R: Wait + Dial + Clock>(
@@ -253,7 +224,7 @@ impl<'a, B: Ledgers, Q: Ledger, A: Ledger, G: Gate> Work for Shard<'a, B, Q, A, 
     ) -> Driven {
         let at = At { registry, key, now };
         for _ in 0..STEPS {
-            if self.desk.seats.is_gone(key) {
+            if self.desk.seats().is_gone(key) {
                 self.end_slot(rt, key);
                 return Driven::Over;
             }
@@ -266,13 +237,11 @@ impl<'a, B: Ledgers, Q: Ledger, A: Ledger, G: Gate> Work for Shard<'a, B, Q, A, 
     }
 
     fn queues(&self) -> usize {
-        POINTS.len()
+        self.desk.queues()
     }
 
     fn first_of<R: Wait>(&self, rt: &R, queue: usize) -> Option<usize> {
-        let point = *POINTS.get(queue)?;
-        let shared = &self.desk.shared;
-        shared.pools.waiting.first_of(rt, point, shared.number)
+        self.desk.first_of(rt, queue)
     }
 
     fn bound(&self) -> usize {
@@ -280,7 +249,7 @@ impl<'a, B: Ledgers, Q: Ledger, A: Ledger, G: Gate> Work for Shard<'a, B, Q, A, 
     }
 
     fn is_idle(&self) -> bool {
-        self.desk.seats.is_empty()
+        self.desk.seats().is_empty()
     }
 
     /// None comes here: the administrator has a loop of its own.
@@ -290,7 +259,7 @@ impl<'a, B: Ledgers, Q: Ledger, A: Ledger, G: Gate> Work for Shard<'a, B, Q, A, 
         _request: Request,
         _now: u64,
     ) -> Result<Vec<u8>, AllocError> {
-        b"bad\n".to_vec(self.desk.alloc)
+        b"bad\n".to_vec(self.desk.alloc())
     }
 
     fn patience(&self) -> Option<u64> {
@@ -300,11 +269,11 @@ impl<'a, B: Ledgers, Q: Ledger, A: Ledger, G: Gate> Work for Shard<'a, B, Q, A, 
     fn turn_over<R: Wait>(&mut self, _rt: &R) {}
 
     fn drain(&mut self) {
-        self.desk.draining = true;
+        self.desk.drain();
     }
 
     fn halt<R: Wait + Dial + Clock>(&mut self, rt: &R, registry: &Registry, now: u64) {
-        self.desk.stopping = true;
+        self.desk.stop();
         for key in 0..self.slots.count() {
             self.halt_slot(rt, At { registry, key, now });
         }

@@ -5,18 +5,16 @@ ghost use Rattle.adapt_bytes.specs.declared.limits.TheConstants.{MAX_CAPACITY};
 ghost use Rattle.plan_rules.specs.Claims.{claim_of};
 
 use crate::begin::Planned;
-use crate::connections::LeasedConnection;
 use crate::desk::Desk;
-use crate::halting::unused;
-use crate::phase::{Ends, Moving, Phase, Starting, Step};
-use crate::pools::Leased;
+use crate::halting::placed_or_ended;
+use crate::phase::{Ends, EndsOf, Moving, Phase, Step};
+use crate::pools::{Leased, LeasedConnection};
 use crate::seats::At;
 use crate::telling::go_ahead;
 use plan_rules::Limits;
-use proxy_rules::{Beginning, Incoming, Reason, begin, interim_continue};
-use socket_wire::{Dial, Side, SocketWire};
+use proxy_rules::{Beginning, Incoming, Offer, Reason, Running, begin, interim_continue};
+use socket_wire::{Dial, OriginWire, ServiceWire, UserWire};
 use span_bank::{Ledgers, Pages, Stake};
-use std::alloc::AllocFailed;
 use std::boxed::Box;
 use std::net::SocketAddrV4;
 use std::sync::Wait;
@@ -24,40 +22,67 @@ use std::sync::ledger::Ledger;
 use std::time::Clock;
 use wire_kit::{Gate, Wire};
 
-/// What a transaction stands over: its message, and the connections of its source and its next hop.
-#[derive(Drop)]
-struct Sides {
-    message: Incoming,
-    source_wire: SocketWire,
-    next_wire: SocketWire,
+/// What a transaction begins with beside its message and its connections to the user and the origin.
+struct Terms<B: Ledgers> {
+    offer: Box<Offer>,
+    limits: Limits,
+    stake: Stake<B>,
+    service_wire: Option<ServiceWire>,
+    /// Whether the service's connection was used before.
+    reused: bool,
+    deadline: u64,
+    now: u64,
+    last: bool,
 }
 
-/// What the transaction of a message stands over: that of a request over the origin's connection, which was opened now.
-fn sides_of(ends: Ends, opened: Option<SocketWire>) -> Option<Sides> {
-    let Ends {
-        user,
-        message,
-        origin,
-        told: _,
-    } = ends;
-    match (origin, opened) {
-        (Some(source_wire), _) => Some(Sides {
-            message,
-            source_wire,
-            next_wire: user,
-        }),
-        (None, Some(next_wire)) => Some(Sides {
-            message,
-            source_wire: user,
-            next_wire,
-        }),
-        (None, None) => None,
-    }
+/// How the transaction of a message begins.
+enum Begun<B: Ledgers> {
+    /// It goes on.
+    Moving(Moving<B>),
+    /// No memory was found for it: its user's connection is left.
+    NoMemory(UserWire),
+    /// It can't.
+    Over,
 }
 
 /// Whether anything went over a connection, as a request for options does before the first message: its service may be about to close it.
-fn has_served(wire: &SocketWire) -> bool {
+fn has_served(wire: &ServiceWire) -> bool {
     wire.counts() != (0, 0)
+}
+
+/// What a transaction of this message begins with.
+fn beginning_of<B: Ledgers, X, Z>(
+    message: Incoming,
+    source_wire: X,
+    next_wire: Z,
+    terms: Terms<B>,
+) -> Beginning<B, X, ServiceWire, Z>
+    ensures terms { (result.stake ≡ terms.stake) × (result.offer ≡ terms.offer.value) × (result.limits ≡ terms.limits) }
+    ensures wires { (result.source_wire ≡ source_wire) × (result.next_wire ≡ next_wire) × (result.service_wire ≡ terms.service_wire) }
+{
+    let Terms {
+        offer,
+        limits,
+        stake,
+        service_wire,
+        reused,
+        deadline,
+        now,
+        last,
+    } = terms;
+    Beginning {
+        offer: Box::into_inner(offer),
+        limits,
+        stake,
+        message,
+        source_wire,
+        service_wire,
+        next_wire,
+        deadline,
+        now,
+        reused,
+        last,
+    }
 }
 
 impl<'a, B: Ledgers, Q: Ledger, A: Ledger, G: Gate> Desk<'a, B, Q, A, G> {
@@ -67,9 +92,9 @@ impl<'a, B: Ledgers, Q: Ledger, A: Ledger, G: Gate> Desk<'a, B, Q, A, G> {
         rt: &R,
         at: At<'_>,
         address: Option<SocketAddrV4>,
-    ) -> Result<Option<SocketWire>, Reason> {
+    ) -> Result<Option<OriginWire>, Reason> {
         match address {
-            Some(address) => match self.dial(rt, at, Side::Origin, address, Reason::NoOrigin) {
+            Some(address) => match self.dial_origin(rt, at, address) {
                 Ok(wire) => {
                     self.note_origin(at, address);
                     Ok(Some(wire))
@@ -103,7 +128,7 @@ impl<'a, B: Ledgers, Q: Ledger, A: Ledger, G: Gate> Desk<'a, B, Q, A, G> {
         planned: Planned,
         connection: Option<LeasedConnection<Q, A>>,
         stake: Stake<B>,
-    ) -> Step<B, Q, A>
+    ) -> Step<Phase<B, Q, A>>
         requires empty { (stake.held ≡ 0) × (stake.pages ≡ 0) }
         requires claim { stake.claim ≡ claim_of planned.offer.value.plan self.old.limits.window }
         requires small { stake.claim ≤ MAX_CAPACITY }
@@ -124,12 +149,12 @@ impl<'a, B: Ledgers, Q: Ledger, A: Ledger, G: Gate> Desk<'a, B, Q, A, G> {
         rt: &R,
         at: At<'_>,
         ends: Box<Ends>,
-        opened: Option<SocketWire>,
+        opened: Option<OriginWire>,
         planned: Planned,
         limits: Limits,
         connection: Option<LeasedConnection<Q, A>>,
         stake: Stake<B>,
-    ) -> Step<B, Q, A>
+    ) -> Step<Phase<B, Q, A>>
         requires empty { (stake.held ≡ 0) × (stake.pages ≡ 0) }
         requires claim { stake.claim ≡ claim_of planned.offer.value.plan limits.window }
         requires small { stake.claim ≤ MAX_CAPACITY }
@@ -141,13 +166,7 @@ impl<'a, B: Ledgers, Q: Ledger, A: Ledger, G: Gate> Desk<'a, B, Q, A, G> {
         };
         let mut ends = ends;
         match go_ahead(&mut ends.user, text) {
-            Some([]) => match sides_of(Box::into_inner(ends), opened) {
-                Some(sides) => self.launch(rt, at, sides, planned, limits, connection, stake),
-                None => {
-                    self.forgo(rt, at, connection, stake);
-                    Step::Over
-                }
-            },
+            Some([]) => { self.launch(rt, at, ends, opened, planned, limits, connection, stake) }
             Some(rest) => {
                 self.forgo(rt, at, connection, stake);
                 self.seats.touch(at);
@@ -167,7 +186,7 @@ impl<'a, B: Ledgers, Q: Ledger, A: Ledger, G: Gate> Desk<'a, B, Q, A, G> {
         at: At<'_>,
         is_offered: bool,
         connection: Option<LeasedConnection<Q, A>>,
-    ) -> (Option<SocketWire>, Option<Leased<Q, A>>) {
+    ) -> (Option<ServiceWire>, Option<Leased<Q, A>>) {
         match connection {
             Some(LeasedConnection { wire, lease }) if is_offered => (Some(wire), Some(lease)),
             connection => {
@@ -177,23 +196,23 @@ impl<'a, B: Ledgers, Q: Ledger, A: Ledger, G: Gate> Desk<'a, B, Q, A, G> {
         }
     }
 
-    /// Starts the transaction.
+    /// Starts the transaction: that of a request over the origin's connection, which was opened now.
     fn launch<R: Wait + Clock>(
         &mut self,
         rt: &R,
         at: At<'_>,
-        sides: Sides,
+        ends: Box<Ends>,
+        opened: Option<OriginWire>,
         planned: Planned,
         limits: Limits,
         connection: Option<LeasedConnection<Q, A>>,
         stake: Stake<B>,
-    ) -> Step<B, Q, A>
+    ) -> Step<Phase<B, Q, A>>
         requires empty { (stake.held ≡ 0) × (stake.pages ≡ 0) }
         requires claim { stake.claim ≡ claim_of planned.offer.value.plan limits.window }
         requires small { stake.claim ≤ MAX_CAPACITY }
     {
         let Planned { offer, .. } = planned;
-        let offer = Box::into_inner(offer);
         let (service_wire, lease) = self.engage(rt, at, offer.is_offered(), connection);
         let reused = match (&lease, &service_wire) {
             (Some(lease), Some(wire)) => lease.reused() || has_served(wire),
@@ -201,75 +220,119 @@ impl<'a, B: Ledgers, Q: Ledger, A: Ledger, G: Gate> Desk<'a, B, Q, A, G> {
         };
         self.seats.touch(at);
         self.seats.begin_answer(at.key);
-        let Sides {
-            message,
-            source_wire,
-            next_wire,
-        } = sides;
-        let beginning = Beginning {
+        let terms = Terms {
             offer,
             limits,
             stake,
-            message,
-            source_wire,
             service_wire,
-            next_wire,
+            reused,
             deadline: self.shared.config.deadline.saturating_add(1),
             now: at.now,
-            reused,
             last: self.draining,
         };
-        self.set_out(rt, at, beginning, lease)
-    }
-
-    /// Has the transaction begin. What it was to begin with goes where it can't.
-    fn set_out<R: Wait + Clock>(
-        &mut self,
-        rt: &R,
-        at: At<'_>,
-        beginning: Starting<B>,
-        lease: Option<Leased<Q, A>>,
-    ) -> Step<B, Q, A>
-        requires empty { (beginning.stake.held ≡ 0) × (beginning.stake.pages ≡ 0) }
-        requires claim { beginning.stake.claim ≡ claim_of beginning.offer.plan beginning.limits.window }
-        requires small { beginning.stake.claim ≤ MAX_CAPACITY }
-    {
-        match begin(self.alloc, beginning) {
-            Ok(tx) => match Box::new(self.alloc, tx) {
-                Ok(tx) => Step::On(self.pass_gate(rt, at, tx, lease)),
-                Err(AllocFailed { value }) => {
-                    let user = self.end_tx(rt, value, lease);
-                    self.refuse(at, user, Reason::NoMemory)
-                }
-            },
-            Err(beginning) => {
-                self.undo(rt, beginning, lease);
+        let begun = match opened {
+            Some(origin) => self.begin_request(rt, at, ends, origin, terms),
+            None => self.begin_response(rt, at, ends, terms),
+        };
+        match begun {
+            Begun::Moving(tx) => Step::On(Phase::Moving { tx, lease }),
+            Begun::NoMemory(user) => {
+                self.give_up(rt, lease);
+                self.refuse(at, user, Reason::NoMemory)
+            }
+            Begun::Over => {
+                self.give_up(rt, lease);
                 Step::Over
             }
         }
     }
 
-    /// Takes apart what no transaction began with.
-    fn undo<R: Wait>(&mut self, rt: &R, beginning: Starting<B>, lease: Option<Leased<Q, A>>)
-        requires { (beginning.stake.held ≡ 0) × (beginning.stake.pages ≡ 0) }
-    {
-        self.shared.bank.close(rt, unused(beginning), Pages::none());
-        self.give_up(rt, lease);
-    }
-
-    /// Asks the gate before anything of the message is written.
-    fn pass_gate<R: Wait + Clock>(
+    /// Has the transaction of a request begin, from the user to the origin.
+    fn begin_request<R: Wait + Clock>(
         &mut self,
         rt: &R,
         at: At<'_>,
-        tx: Box<Moving<B>>,
-        lease: Option<Leased<Q, A>>,
-    ) -> Phase<B, Q, A> {
+        ends: Box<Ends>,
+        origin: OriginWire,
+        terms: Terms<B>,
+    ) -> Begun<B>
+        requires empty { (terms.stake.held ≡ 0) × (terms.stake.pages ≡ 0) }
+        requires claim { terms.stake.claim ≡ claim_of terms.offer.value.plan terms.limits.window }
+        requires small { terms.stake.claim ≤ MAX_CAPACITY }
+    {
+        let (user, message, _) = EndsOf::parts_of(ends);
+        match self.set_out(rt, at, beginning_of(message, user, origin, terms)) {
+            Ok(tx) => Begun::Moving(Moving::Request(tx)),
+            Err(Some((user, _))) => Begun::NoMemory(user),
+            Err(None) => Begun::Over,
+        }
+    }
+
+    /// Has the transaction of a response begin, from the origin to the user. Where there is no connection to an origin, none begins.
+    fn begin_response<R: Wait + Clock>(
+        &mut self,
+        rt: &R,
+        at: At<'_>,
+        ends: Box<Ends>,
+        terms: Terms<B>,
+    ) -> Begun<B>
+        requires empty { (terms.stake.held ≡ 0) × (terms.stake.pages ≡ 0) }
+        requires claim { terms.stake.claim ≡ claim_of terms.offer.value.plan terms.limits.window }
+        requires small { terms.stake.claim ≤ MAX_CAPACITY }
+    {
+        let (user, message, origin) = EndsOf::parts_of(ends);
+        let Some(origin) = origin else {
+            let Terms {
+                offer: _,
+                limits: _,
+                stake,
+                service_wire: _,
+                reused: _,
+                deadline: _,
+                now: _,
+                last: _,
+            } = terms;
+            self.shared.bank.close(rt, stake, Pages::none());
+            return Begun::Over;
+        };
+        match self.set_out(rt, at, beginning_of(message, origin, user, terms)) {
+            Ok(tx) => Begun::Moving(Moving::Response(tx)),
+            Err(Some((_, user))) => Begun::NoMemory(user),
+            Err(None) => Begun::Over,
+        }
+    }
+
+    /// Has a transaction begin. Its connections to the user and the origin come back where no memory is found for it; where it
+    /// can't begin, they are closed.
+    fn set_out<X: Wire + Drop, Z: Wire + Drop, R: Wait + Clock>(
+        &mut self,
+        rt: &R,
+        at: At<'_>,
+        beginning: Beginning<B, X, ServiceWire, Z>,
+    ) -> Result<Box<Running<B, X, ServiceWire, Z>>, Option<(X, Z)>>
+        requires empty { (beginning.stake.held ≡ 0) × (beginning.stake.pages ≡ 0) }
+        requires claim { beginning.stake.claim ≡ claim_of beginning.offer.plan beginning.limits.window }
+        requires small { beginning.stake.claim ≤ MAX_CAPACITY }
+    {
+        let bank = self.shared.bank;
+        match placed_or_ended(rt, bank, self.alloc, begin(self.alloc, beginning)) {
+            Ok(tx) => Ok(self.pass_gate(rt, at, tx)),
+            Err(left) => Err(left),
+        }
+    }
+
+    /// Asks the gate before anything of the message is written.
+    fn pass_gate<X: Wire, Z: Wire, R: Wait + Clock>(
+        &mut self,
+        rt: &R,
+        at: At<'_>,
+        tx: Box<Running<B, X, ServiceWire, Z>>,
+    ) -> Box<Running<B, X, ServiceWire, Z>> {
         let mut tx = tx;
         let number = self.seats.number(at.key);
         if !self.shared.gate.may_pass(rt, number) {
             tx.halt(rt, self.shared.bank);
         }
-        Phase::Moving { tx, lease }
+        tx
     }
 }

@@ -1,13 +1,14 @@
 //! The steps of an exchange, by its phase.
 
 use crate::desk::Desk;
-use crate::phase::{Ends, Phase, Step};
-use crate::seats::{At, Stay};
+use crate::phase::{Ends, EndsOf, Phase, Step};
+use crate::seats::At;
+use crate::sparing::Stay;
 use adapt_bytes::behind;
 use event_loop::{Closing, close_turn};
 use http_side::own_refusal;
 use proxy_rules::{Reason, origin_address, origin_head_reason, user_head_reason};
-use socket_wire::{Dial, SocketWire};
+use socket_wire::{Dial, UserWire};
 use span_bank::Ledgers;
 use std::boxed::Box;
 use std::net::SocketAddrV4;
@@ -21,29 +22,6 @@ use wire_kit::{Gate, Put, Wire};
 const GRACE: u64 = 1;
 
 impl<'a, B: Ledgers, Q: Ledger, A: Ledger, G: Gate> Desk<'a, B, Q, A, G> {
-    /// A step of an exchange.
-    pub fn step<R: Wait + Dial + Clock>(
-        &mut self,
-        rt: &R,
-        at: At<'_>,
-        phase: Phase<B, Q, A>,
-    ) -> Step<B, Q, A> {
-        match phase {
-            Phase::Head(ends) => self.head_step(rt, at, ends),
-            Phase::Asking {
-                ends,
-                connection,
-                side,
-            } => self.asking_step(rt, at, ends, connection, side),
-            Phase::Queued { ends, waiter } => self.queued_step(rt, at, ends, waiter),
-            Phase::Telling { ends, rest } => self.telling_step(rt, at, ends, rest),
-            Phase::Moving { tx, lease } => self.moving_step(rt, at, tx, lease),
-            Phase::Answer(ends) => self.answer_step(rt, at, ends),
-            Phase::Refusing { user, rest } => self.refusing_step(at, user, rest),
-            Phase::Closing(user) => self.closing_step(at, user),
-        }
-    }
-
     /// Whether the deadline has passed.
     pub fn is_late(&self, at: At<'_>) -> bool {
         self.seats.is_late(at, self.shared.config.deadline)
@@ -55,12 +33,12 @@ impl<'a, B: Ledgers, Q: Ledger, A: Ledger, G: Gate> Desk<'a, B, Q, A, G> {
     }
 
     /// Reads the head of the next request.
-    fn head_step<R: Wait + Dial + Clock>(
+    pub fn head_step<R: Wait + Dial + Clock>(
         &mut self,
         rt: &R,
         at: At<'_>,
         ends: Box<Ends>,
-    ) -> Step<B, Q, A> {
+    ) -> Step<Phase<B, Q, A>> {
         let mut ends = ends;
         let (read, moved) = ends.read_head();
         if moved {
@@ -68,6 +46,8 @@ impl<'a, B: Ledgers, Q: Ledger, A: Ledger, G: Gate> Desk<'a, B, Q, A, G> {
         }
         if ends.message.has_begun() {
             self.seats.begin_stay(at.key, Stay::Head);
+        } else {
+            self.seats.lie_idle(at.key);
         }
         match read {
             Ok(true) => {
@@ -86,12 +66,12 @@ impl<'a, B: Ledgers, Q: Ledger, A: Ledger, G: Gate> Desk<'a, B, Q, A, G> {
     }
 
     /// Reads the head of the origin's response.
-    fn answer_step<R: Wait + Dial + Clock>(
+    pub fn answer_step<R: Wait + Dial + Clock>(
         &mut self,
         rt: &R,
         at: At<'_>,
         ends: Box<Ends>,
-    ) -> Step<B, Q, A> {
+    ) -> Step<Phase<B, Q, A>> {
         let mut ends = ends;
         let (read, moved) = ends.read_head();
         if moved {
@@ -126,9 +106,9 @@ impl<'a, B: Ledgers, Q: Ledger, A: Ledger, G: Gate> Desk<'a, B, Q, A, G> {
         at: At<'_>,
         ends: Box<Ends>,
         point: Point,
-    ) -> Step<B, Q, A> {
+    ) -> Step<Phase<B, Q, A>> {
         match self.service(point) {
-            Some(service) if !self.book(point).is_fresh(at.now) => {
+            Some(service) if !self.knows_options(&ends, at.now) => {
                 if ends.point() == Point::Reqmod && self.origin_of(&ends).is_none() {
                     return self.refuse_user(at, ends, Reason::UnknownHost);
                 }
@@ -139,7 +119,7 @@ impl<'a, B: Ledgers, Q: Ledger, A: Ledger, G: Gate> Desk<'a, B, Q, A, G> {
     }
 
     /// Has the proxy's own refusal written. It is written, and the connection closed after it, within one deadline.
-    pub fn refuse(&mut self, at: At<'_>, user: SocketWire, reason: Reason) -> Step<B, Q, A> {
+    pub fn refuse(&mut self, at: At<'_>, user: UserWire, reason: Reason) -> Step<Phase<B, Q, A>> {
         self.note_refusal(at, &user, reason);
         self.seats.touch(at);
         self.seats.begin_stay(at.key, Stay::End);
@@ -150,24 +130,29 @@ impl<'a, B: Ledgers, Q: Ledger, A: Ledger, G: Gate> Desk<'a, B, Q, A, G> {
     }
 
     /// Refuses a user whose message goes no further. All else of the exchange goes.
-    pub fn refuse_user(&mut self, at: At<'_>, ends: Box<Ends>, reason: Reason) -> Step<B, Q, A> {
-        self.refuse(at, Box::into_inner(ends).into_user(), reason)
+    pub fn refuse_user(
+        &mut self,
+        at: At<'_>,
+        ends: Box<Ends>,
+        reason: Reason,
+    ) -> Step<Phase<B, Q, A>> {
+        self.refuse(at, EndsOf::user_of(ends), reason)
     }
 
     /// Has a connection closed after all that was said.
-    pub fn close(&mut self, at: At<'_>, user: SocketWire) -> Step<B, Q, A> {
+    pub fn close(&mut self, at: At<'_>, user: UserWire) -> Step<Phase<B, Q, A>> {
         let _ = user.finish();
         self.seats.begin_stay(at.key, Stay::End);
         Step::On(Phase::Closing(user))
     }
 
     /// Writes the proxy's own refusal.
-    fn refusing_step(
+    pub fn refusing_step(
         &mut self,
         at: At<'_>,
-        user: SocketWire,
+        user: UserWire,
         rest: &'static [u8],
-    ) -> Step<B, Q, A> {
+    ) -> Step<Phase<B, Q, A>> {
         if rest.is_empty() {
             return self.close(at, user);
         }
@@ -184,7 +169,7 @@ impl<'a, B: Ledgers, Q: Ledger, A: Ledger, G: Gate> Desk<'a, B, Q, A, G> {
     }
 
     /// Drops what the user still sends.
-    fn closing_step(&mut self, at: At<'_>, user: SocketWire) -> Step<B, Q, A> {
+    pub fn closing_step(&mut self, at: At<'_>, user: UserWire) -> Step<Phase<B, Q, A>> {
         let mut user = user;
         if self.is_late(at) {
             return Step::Over;

@@ -4,7 +4,7 @@ use crate::desk::Desk;
 use crate::phase::{Ends, Phase, Step};
 use crate::seats::At;
 use adapt_bytes::behind;
-use socket_wire::{Dial, SocketWire};
+use socket_wire::{Dial, UserWire};
 use span_bank::Ledgers;
 use std::boxed::Box;
 use std::sync::Wait;
@@ -14,7 +14,7 @@ use trace_core::Point;
 use wire_kit::{Gate, Put, Wire};
 
 /// Says the text to a user, or as much of it as it takes now. What is left of it; none where the connection has failed.
-pub fn go_ahead(user: &mut SocketWire, text: &'static [u8]) -> Option<&'static [u8]> {
+pub fn go_ahead(user: &mut UserWire, text: &'static [u8]) -> Option<&'static [u8]> {
     if text.is_empty() {
         return Some(text);
     }
@@ -33,7 +33,7 @@ impl<'a, B: Ledgers, Q: Ledger, A: Ledger, G: Gate> Desk<'a, B, Q, A, G> {
         at: At<'_>,
         ends: Box<Ends>,
         rest: &'static [u8],
-    ) -> Step<B, Q, A> {
+    ) -> Step<Phase<B, Q, A>> {
         let mut ends = ends;
         match go_ahead(&mut ends.user, rest) {
             Some([]) => {

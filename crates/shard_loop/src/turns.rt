@@ -1,19 +1,19 @@
 //! The turns of a transaction.
 
-use crate::connections::LeasedConnection;
 use crate::desk::Desk;
 use crate::phase::{Moving, Phase, Step};
-use crate::pools::Leased;
+use crate::pools::{Leased, LeasedConnection};
 use crate::seats::At;
 use adapt_turn::{FreeLine, Side as Turning, Turned};
-use proxy_rules::Reason;
-use socket_wire::{Dial, SocketWire};
+use proxy_rules::Running;
+use service_lines::LendFault;
+use socket_wire::{Dial, ServiceWire};
 use span_bank::{Bank, Ledgers};
-use std::boxed::Box;
 use std::sync::Wait;
 use std::sync::ledger::Ledger;
 use std::time::Clock;
-use wire_kit::Gate;
+use trace_core::Cause;
+use wire_kit::{Gate, Wire};
 
 /// What a round of turns did, one of each side.
 #[derive(Clone, Copy, PartialEq, Eq)]
@@ -41,7 +41,12 @@ impl Round {
 }
 
 /// A turn of each side.
-fn turn_each<B: Ledgers, R: Wait>(rt: &R, bank: &Bank<B>, tx: &mut Moving<B>, now: u64) -> Round {
+fn turn_each<B: Ledgers, X: Wire, Z: Wire, R: Wait>(
+    rt: &R,
+    bank: &Bank<B>,
+    tx: &mut Running<B, X, ServiceWire, Z>,
+    now: u64,
+) -> Round {
     let source = tx.turn(rt, bank, Turning::Source, now);
     let service = tx.turn(rt, bank, Turning::Service, now);
     let next = tx.turn(rt, bank, Turning::NextHop, now);
@@ -50,11 +55,11 @@ fn turn_each<B: Ledgers, R: Wait>(rt: &R, bank: &Bank<B>, tx: &mut Moving<B>, no
 
 impl<'a, B: Ledgers, Q: Ledger, A: Ledger, G: Gate> Desk<'a, B, Q, A, G> {
     /// A round of turns.
-    fn round<R: Wait + Dial>(
+    fn round<X: Wire, Z: Wire, R: Wait + Dial>(
         &mut self,
         rt: &R,
         at: At<'_>,
-        tx: &mut Moving<B>,
+        tx: &mut Running<B, X, ServiceWire, Z>,
         lease: &mut Option<Leased<Q, A>>,
     ) -> Round {
         let round = turn_each(rt, self.shared.bank, tx, at.now);
@@ -70,35 +75,37 @@ impl<'a, B: Ledgers, Q: Ledger, A: Ledger, G: Gate> Desk<'a, B, Q, A, G> {
         round
     }
 
-    /// Begins a request anew on a fresh connection, or fails it without one. What is left of the broken connection,
-    /// which its service has ended or which failed, is closed at once after that.
-    fn again<R: Wait + Dial>(
+    /// Begins a request anew on a fresh connection, or fails it without one. The broken one is closed first: its descriptor is the
+    /// one that the fresh one finds.
+    fn again<X: Wire, Z: Wire, R: Wait + Dial>(
         &mut self,
         rt: &R,
         at: At<'_>,
-        tx: &mut Moving<B>,
+        tx: &mut Running<B, X, ServiceWire, Z>,
         lease: &mut Option<Leased<Q, A>>,
     ) {
         if !tx.is_broken() {
             return;
         }
         let bank = self.shared.bank;
+        drop(tx.take_broken());
         let fresh = match lease {
             Some(lease) => self.fresh(rt, at, lease),
-            None => Err(Reason::Service),
+            None => Err(LendFault::Unreached),
         };
         match fresh {
             Ok(wire) => drop(tx.retry(rt, bank, wire)),
-            Err(_) => tx.no_retry(rt, bank),
+            Err(LendFault::NoMemory) => tx.no_retry(rt, bank, Cause::Memory),
+            Err(_) => tx.no_retry(rt, bank, Cause::Service),
         }
     }
 
     /// Gives the service's connection back as soon as the service has said all: others may have it while the message goes on.
-    fn free<R: Wait>(
+    fn free<X: Wire, Z: Wire, R: Wait>(
         &mut self,
         rt: &R,
         at: At<'_>,
-        tx: &mut Moving<B>,
+        tx: &mut Running<B, X, ServiceWire, Z>,
         lease: &mut Option<Leased<Q, A>>,
     ) {
         let Some(FreeLine { wire, is_reusable }) = tx.free_line() else {
@@ -116,17 +123,21 @@ impl<'a, B: Ledgers, Q: Ledger, A: Ledger, G: Gate> Desk<'a, B, Q, A, G> {
         &mut self,
         rt: &R,
         at: At<'_>,
-        tx: Box<Moving<B>>,
+        tx: Moving<B>,
         lease: Option<Leased<Q, A>>,
-    ) -> Step<B, Q, A> {
+    ) -> Step<Phase<B, Q, A>> {
         let mut tx = tx;
         let mut lease = lease;
-        match self.round(rt, at, &mut tx, &mut lease) {
+        let round = match &mut tx {
+            Moving::Request(tx) => self.round(rt, at, tx, &mut lease),
+            Moving::Response(tx) => self.round(rt, at, tx, &mut lease),
+        };
+        match round {
             Round::Moved | Round::Broken => Step::On(Phase::Moving { tx, lease }),
             Round::Finished => self.settle(rt, at, tx, lease),
             Round::Waiting if tx.outcome().is_some() && self.is_late(at) => {
-                self.note_failed(at, &tx.seen(), tx.outcome());
-                self.end(rt, Phase::Moving { tx, lease });
+                self.note_failed(at.key, &tx.seen(), tx.outcome());
+                self.end_moving(rt, tx, lease);
                 Step::Over
             }
             Round::Waiting => Step::Waits(Phase::Moving { tx, lease }),

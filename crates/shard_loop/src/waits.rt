@@ -1,8 +1,8 @@
 //! Messages that wait for a connection to their service.
 
-use crate::connections::LeasedConnection;
 use crate::desk::Desk;
 use crate::phase::{Ends, Phase, Step};
+use crate::pools::LeasedConnection;
 use crate::seats::At;
 use proxy_rules::Reason;
 use socket_wire::Dial;
@@ -23,7 +23,7 @@ impl<'a, B: Ledgers, Q: Ledger, A: Ledger, G: Gate> Desk<'a, B, Q, A, G> {
         at: At<'_>,
         ends: Box<Ends>,
         reason: Reason,
-    ) -> Step<B, Q, A> {
+    ) -> Step<Phase<B, Q, A>> {
         let waiter = Waiter {
             thread: self.shared.number,
             key: at.key,
@@ -39,24 +39,6 @@ impl<'a, B: Ledgers, Q: Ledger, A: Ledger, G: Gate> Desk<'a, B, Q, A, G> {
     /// Has a message wait no more.
     pub fn stop_waiting<R: Wait>(&mut self, rt: &R, ends: &Ends, waiter: Waiter) {
         self.shared.pools.waiting.leave(rt, ends.point(), waiter);
-    }
-
-    /// Takes a connection where it is this message's turn, and there is one.
-    fn lend_in_turn<R: Wait + Dial>(
-        &mut self,
-        rt: &R,
-        at: At<'_>,
-        ends: &Ends,
-        waiter: Waiter,
-    ) -> Result<LeasedConnection<Q, A>, Reason> {
-        let point = ends.point();
-        if !self.shared.pools.waiting.is_first(rt, point, waiter) {
-            return Err(Reason::Busy);
-        }
-        match self.service(point) {
-            Some(service) => self.lend_now(rt, at, point, service.address),
-            None => Err(Reason::Service),
-        }
     }
 
     /// Why a message that got no connection waits no longer; none where it goes on waiting.
@@ -77,12 +59,9 @@ impl<'a, B: Ledgers, Q: Ledger, A: Ledger, G: Gate> Desk<'a, B, Q, A, G> {
         at: At<'_>,
         ends: Box<Ends>,
         waiter: Waiter,
-    ) -> Step<B, Q, A> {
-        match self.lend_in_turn(rt, at, &ends, waiter) {
-            Ok(connection) => {
-                self.stop_waiting(rt, &ends, waiter);
-                self.offer_on(rt, at, ends, connection)
-            }
+    ) -> Step<Phase<B, Q, A>> {
+        match self.lend_in_turn(rt, at, ends.point(), waiter) {
+            Ok(connection) => self.offer_on(rt, at, ends, connection),
             Err(reason) => match self.waited_reason(at, reason) {
                 Some(reason) => {
                     self.stop_waiting(rt, &ends, waiter);
@@ -101,10 +80,10 @@ impl<'a, B: Ledgers, Q: Ledger, A: Ledger, G: Gate> Desk<'a, B, Q, A, G> {
         at: At<'_>,
         ends: Box<Ends>,
         connection: LeasedConnection<Q, A>,
-    ) -> Step<B, Q, A> {
+    ) -> Step<Phase<B, Q, A>> {
         let point = ends.point();
         match self.service(point) {
-            Some(service) if !self.book(point).is_fresh(at.now) => {
+            Some(service) if !self.knows_options(&ends, at.now) => {
                 self.ask_on(rt, at, ends, service, connection)
             }
             _ => self.begin(rt, at, ends, point, Some(connection)),

@@ -4,7 +4,7 @@ use Rattle.wire_kit.specs.Past.{Past}
 use Rattle.wire_kit.specs.Memory.{Counts}
 use Rattle.socket_wire.specs.declared.socket.SocketWire.{SocketWire}
 
-pub record IsPast (wire : SocketWire) (p : Past) : Type 0 where
+pub record IsPast {R : Type 0} (wire : SocketWire R) (p : Past) : Type 0 where
   pub read : length p.read ≡ wire.read
   pub taken : length p.taken ≡ wire.taken
   pub ends : Counts wire.ends p.ends

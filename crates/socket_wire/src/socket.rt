@@ -10,6 +10,7 @@ use libc::net::{_SS_SIZE, connect};
 use mio::net::TcpStream;
 use mio::{Interest, Registry, Token};
 use std::io::{self, ErrorKind, Read, Write};
+use std::marker::PhantomData;
 use std::net::Shutdown;
 use std::os::fd::AsRawFd;
 use std::sync::Arc;
@@ -58,12 +59,15 @@ pub enum Unread {
     End,
 }
 
-/// A connection that never blocks, with its counts. A call that can give nothing before the next event answers Wait
-/// without asking the system.
+/// A connection that never blocks, with its counts, to a peer of the role `R`. A call that can give nothing before the next event
+/// answers Wait without asking the system.
+///
+/// A connection to a peer of one role is another type than one of another role, and nothing makes the one of the other: a wire that
+/// is handed for another doesn't compile.
 ///
 /// ```
 /// let ready = Arc::new(alloc, Readiness::new())?;
-/// let mut wire = SocketWire::new(stream, Arc::clone(&ready)?);
+/// let mut wire: UserWire = SocketWire::new(stream, Arc::clone(&ready)?);
 /// wire.register(poll.registry(), Token(token_of(7, Side::User)))?;
 /// assert_eq!(rt; wire.try_read(&mut buf), Got::Wait);
 /// // The other side sends five bytes. The poll reports token 28 as readable, and the loop notes it.
@@ -72,7 +76,7 @@ pub enum Unread {
 /// assert_eq!(rt; wire.counts(), (5, 0));
 /// ```
 #[derive(Drop)]
-pub struct SocketWire {
+pub struct SocketWire<R> {
     stream: TcpStream,
     ready: Arc<Readiness>,
     read: u64,
@@ -83,11 +87,12 @@ pub struct SocketWire {
     faults: u64,
     reads: u64,
     writes: u64,
+    role: PhantomData<R>,
 }
 
-impl SocketWire {
+impl<R> SocketWire<R> {
     /// A connection of which nothing was read and on which nothing was written.
-    pub fn new(stream: TcpStream, ready: Arc<Readiness>) -> SocketWire
+    pub fn new(stream: TcpStream, ready: Arc<Readiness>) -> SocketWire<R>
         ensures { IsPast result nothing_yet }
     {
         SocketWire {
@@ -101,6 +106,7 @@ impl SocketWire {
             faults: 0,
             reads: 0,
             writes: 0,
+            role: PhantomData,
         }
     }
 
@@ -169,6 +175,7 @@ impl SocketWire {
             faults: _,
             reads: _,
             writes: _,
+            role: _,
         } = self;
         stream
     }
@@ -190,7 +197,7 @@ impl SocketWire {
     }
 }
 
-impl Wire for SocketWire {
+impl<R> Wire for SocketWire<R> {
     ghost past = { IsPast };
 
     fn try_read(&mut self, buf: &mut [u8]) -> Got {
@@ -223,6 +230,14 @@ impl Wire for SocketWire {
                 }
             },
         }
+    }
+
+    fn may_give(&mut self) -> bool {
+        if self.ready.can_read() {
+            return true;
+        }
+        let _ = self.wait_to_read();
+        false
     }
 
     fn try_write(&mut self, bytes: &[u8]) -> Put {

@@ -8,6 +8,7 @@ use adapt_turn::{Forward, FreeLine, Line, Outcome, Parts, Side, Turned, Tx};
 use proxy_rules::{Beginning, Running};
 use span_bank::{Bank, Ledgers, Pages};
 use std::sync::Wait;
+use trace_core::Cause;
 use wire_kit::Wire;
 
 /// The connections of a service beside the one in use.
@@ -65,9 +66,12 @@ impl<B: Ledgers, A: Wire, C: Wire> Game<B> for Running<B, A, Counted, C> {
     fn mend<R: Wait>(&mut self, rt: &R, bank: &Bank<B>, lines: &mut Lines) {
         if self.is_broken() {
             match lines.fresh.take() {
-                Some(fresh) => lines.broken = self.retry(rt, bank, fresh),
+                Some(fresh) => {
+                    lines.broken = self.take_broken();
+                    drop(self.retry(rt, bank, fresh));
+                }
                 None => {
-                    self.no_retry(rt, bank);
+                    self.no_retry(rt, bank, Cause::Service);
                     lines.failed = lines.failed.saturating_add(1);
                 }
             }

@@ -1,6 +1,6 @@
 //! Non-blocking connections, by the answers of their reads and writes.
 
-ghost use Rattle.std.specs.Prelude.{◌≡◌, ℕ, ◌<◌, length};
+ghost use Rattle.std.specs.Prelude.{◌≡◌, ℕ, ◌<◌, [], length, true, false};
 ghost use Rattle.wire_kit.specs.Past.{Past, FitsRoom, FitsPut, after_read, after_write};
 
 /// The result of a read.
@@ -41,6 +41,15 @@ pub trait Wire {
         ensures fits { FitsRoom (length buf.old) result }
         ensures keeps { length buf.new ≡ length buf.old }
         ensures past { (p : Past) → past self.old p → past self.new (after_read p buf.new result) };
+
+    /// Whether a read may find something now, by what the wire knows itself: no call is made. If not, this counts as a read
+    /// that answered `Wait`; whoever asks first needs no buffer for it.
+    fn may_give(&mut self) -> bool
+        ensures waits { result ≡ false → (p : Past) → past self.old p → past self.new (after_read p [] Got.Wait) }
+        ensures still { result ≡ true → (p : Past) → past self.old p → past self.new p }
+    {
+        true
+    }
 
     /// Offers the bytes, at least one.
     fn try_write(&mut self, bytes: &[u8]) -> Put

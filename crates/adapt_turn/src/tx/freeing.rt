@@ -32,6 +32,17 @@ fn take_wire<V: Service, W>(service: &mut Option<Line<V, W>>) -> Option<FreeLine
     }
 }
 
+/// Takes the wire alone.
+fn take_held<V: Service, W>(service: &mut Option<Line<V, W>>) -> Option<W>
+    ensures left { service.new ≡ without_wire service.old }
+    ensures taken { result ≡ wire_of service.old }
+{
+    match service {
+        Some(line) => line.wire.take(),
+        None => None,
+    }
+}
+
 impl<B: Ledgers, S: Source, V: Service, K: Hop, F: Forward<S, K>, A: Wire, W: Wire, C: Wire> Tx<
     B,
     S,
@@ -71,5 +82,20 @@ impl<B: Ledgers, S: Source, V: Service, K: Hop, F: Forward<S, K>, A: Wire, W: Wi
             return None;
         }
         take_wire(&mut self.service)
+    }
+
+    /// Takes out the connection that broke, so that it is closed before a fresh one is opened in its place. What its wire took and
+    /// gave stays what it was.
+    pub fn take_broken(&mut self) -> Option<W>
+        requires broken { self.old.pace.broken ≡ true }
+        ensures wire { result ≡ wire_of self.old.service }
+        ensures taken { self.new.service ≡ without_wire self.old.service }
+        ensures stands { (request : List ℕ) (t : Texts) → ⟦<Self as Standing>⟧.stands self.old request t → ⟦<Self as Standing>⟧.stands self.new request t }
+        ensures faultless { ⟦<Self as Answering>⟧.faultless self.old → ⟦<Self as Answering>⟧.faultless self.new }
+        ensures kept { (self.new.hold ≡ self.old.hold) × (self.new.outcome ≡ self.old.outcome) × (self.new.refusing ≡ self.old.refusing) × (self.new.source ≡ self.old.source) × (self.new.source_wire ≡ self.old.source_wire)
+            × (self.new.next ≡ self.old.next) × (self.new.next_wire ≡ self.old.next_wire) × (self.new.back ≡ self.old.back) }
+        ensures pace { self.new.pace ≡ self.old.pace }
+    {
+        take_held(&mut self.service)
     }
 }

@@ -2,7 +2,6 @@
 
 ghost use Rattle.std.specs.Prelude.{is_some, ◌≡◌, ℕ, List, true, false, [], Some, IfSome};
 ghost use Rattle.trace_core.specs.declared.history.Event.TheVariants.{Fail, Retry};
-ghost use Rattle.trace_core.specs.declared.history.Cause.TheVariants.{Service};
 ghost use Rattle.trace_core.specs.Legal.{MayFollow};
 ghost use Rattle.adapt_hold.specs.Holding.{shows, moved};
 ghost use Rattle.adapt_turn.specs.Stands.{Texts};
@@ -57,18 +56,18 @@ impl<B: Ledgers, S: Source, V: Service, K: Hop, F: Forward<S, K>, A: Wire, W: Wi
         }
     }
 
-    /// Fails the transaction by the service's fault, where no fresh connection can be had.
-    pub fn no_retry(&mut self, rt: &impl Wait, bank: &Bank<B>)
+    /// Fails the transaction where no fresh connection can be had: by the service's fault, or for what else is the cause of that.
+    pub fn no_retry(&mut self, rt: &impl Wait, bank: &Bank<B>, cause: Cause)
         requires broken { self.old.pace.broken ≡ true }
         requires may { MayFollow self.old.hold.history.plan self.old.hold.history.events Retry }
         ensures goes { ⟦<Self as Going>⟧.goes self.old self.new }
         ensures pace { self.new.pace ≡ self.old.pace }
-        ensures hold { self.new.hold ≡ moved self.old.hold (Fail Service) [] }
-        ensures outcome { self.new.outcome ≡ Outcome.Fail Service }
-        ensures refuses { ⟦<Self as Refusing>⟧.refuses self.new Service }
+        ensures hold { self.new.hold ≡ moved self.old.hold (Fail cause) [] }
+        ensures outcome { self.new.outcome ≡ Outcome.Fail cause }
+        ensures refuses { ⟦<Self as Refusing>⟧.refuses self.new cause }
         ensures kept { (self.new.source_wire ≡ self.old.source_wire) × (self.new.service ≡ self.old.service) × (self.new.next_wire ≡ self.old.next_wire) × (self.new.source ≡ self.old.source) }
         ensures over { (shows self.new.hold.history).closed ≡ true }
     {
-        self.fail_by(rt, bank, Cause::Service);
+        self.fail_by(rt, bank, cause);
     }
 }

@@ -13,4 +13,4 @@ invariant_of-self c =
     let rest : length bytes ≡ length (drop c.args.used c.self.inside.bytes.items) = ap (λ (t : List ℕ). length t) c.advance.ensures.items in
     let few : length bytes ≤ 16384 = omega (arith, rest, length-drop c.args.used c.self.inside.bytes.items, c.self.invariant.0) in
     let front : RefusesIcapHead StatusForm More bytes = subst (λ (t : List ℕ). RefusesIcapHead StatusForm More t) (sym text) (c.requires.front c.if-judged.true) in
-    (few, omega (arith, c.len-self-inside.ensures.value), subst (λ (n : ℕ). IsJudged n bytes) (sym c.len-self-inside.ensures.value) (all_judged bytes front))
+    (few, omega (arith, c.len-self-inside.ensures), subst (λ (n : ℕ). IsJudged n bytes) (sym c.len-self-inside.ensures) (all_judged bytes front))

@@ -3,7 +3,7 @@
 ghost use Rattle.std.specs.Prelude.{◌≡◌, ◌≤◌, ◌<◌, ◌+◌, ℕ, Err, IfErr};
 ghost use Rattle.adapt_bytes.specs.declared.limits.TheConstants.{MAX_CAPACITY};
 ghost use Rattle.span_bank.specs.declared.step.CapacityFault.TheVariants.{TooLow};
-ghost use Rattle.shard_loop.specs.declared.capacity.TheConstants.{STRIDE};
+ghost use Rattle.shard_report.specs.declared.capacity.TheConstants.{STRIDE};
 
 use crate::log::Log;
 use adapt_bytes::MAX_CAPACITY;

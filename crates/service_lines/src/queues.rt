@@ -1,10 +1,12 @@
 //! Exchanges of all threads that wait for a connection to a service, and whose turn it is.
 //!
 //! An exchange that may wait joins the queue of its point. Only the one that is first there may take a connection. Whatever may
-//! make one free calls the first one, and who leaves the front calls the next: so none is called in vain for long, and no
-//! connection lies idle while somebody waits.
+//! make one free calls the first one, and the first one calls the next when it leaves: so none is called in vain for long,
+//! and no connection lies idle while somebody waits.
 
-use event_loop::Inbox;
+ghost use Rattle.std.specs.Prelude.{◌≡◌, false, None};
+
+use crate::connector::Edge;
 use std::alloc::{AllocError, Global};
 use std::sync::{Mutex, Wait};
 use trace_core::Point;
@@ -21,7 +23,7 @@ pub struct Queues {
 }
 
 impl Queues {
-    /// Empty ones, of at most so many exchanges each. `Err` where no memory was found for them.
+    /// Empty ones, of at most `most` exchanges each. `Err` where no memory was found for them.
     pub fn new(alloc: Global, most: usize) -> Result<Queues, AllocError> {
         Ok(Queues {
             request: Mutex::new(WaitQueue::new(alloc, most)?),
@@ -32,14 +34,25 @@ impl Queues {
 
 /// How exchanges wait: the queues, what wakes the threads, and for how long.
 #[derive(Clone, Copy, Drop)]
-pub struct Waiting<'a> {
+pub struct Waiting<'a, E: Edge> {
     pub queues: &'a Queues,
-    pub inboxes: &'a [Inbox],
+    pub edge: E,
     /// The most seconds that an exchange waits. None waits where it is 0, and no queue is looked at.
     pub seconds: u64,
 }
 
-impl<'a> Waiting<'a> {
+impl<'a, E: Edge> Waiting<'a, E> {
+    /// How they wait, for another thread.
+    pub(crate) fn again(&self) -> Waiting<'a, E>
+        ensures { (result.queues ≡ self.now.queues) × (result.edge ≡ self.now.edge) × (result.seconds ≡ self.now.seconds) }
+    {
+        Waiting {
+            queues: self.queues,
+            edge: self.edge,
+            seconds: self.seconds,
+        }
+    }
+
     /// The queue of a point.
     fn queue(&self, point: Point) -> &'a Mutex<WaitQueue> {
         match point {
@@ -50,10 +63,8 @@ impl<'a> Waiting<'a> {
 
     /// Ends the wait of the thread of an exchange, if there is one.
     fn wake(&self, waiter: Option<Waiter>) {
-        if let Some(waiter) = waiter
-            && let Some(inbox) = self.inboxes.get(waiter.thread)
-        {
-            inbox.wake();
+        if let Some(waiter) = waiter {
+            self.edge.wake(waiter.thread);
         }
     }
 
@@ -63,12 +74,16 @@ impl<'a> Waiting<'a> {
     }
 
     /// Whether somebody waits, so that one who comes now has to join.
-    pub fn is_awaited<R: Wait>(&self, rt: &R, point: Point) -> bool {
+    pub fn is_awaited<R: Wait>(&self, rt: &R, point: Point) -> bool
+        ensures off { self.now.seconds ≡ 0 → result ≡ false }
+    {
         self.seconds > 0 && !self.queue(point).lock(rt).is_empty()
     }
 
     /// Joins a queue. False where exchanges don't wait, or too many do already.
-    pub fn join<R: Wait>(&self, rt: &R, point: Point, waiter: Waiter) -> bool {
+    pub fn join<R: Wait>(&self, rt: &R, point: Point, waiter: Waiter) -> bool
+        ensures off { self.now.seconds ≡ 0 → result ≡ false }
+    {
         self.seconds > 0 && self.queue(point).lock(rt).join(waiter).is_ok()
     }
 
@@ -78,7 +93,9 @@ impl<'a> Waiting<'a> {
     }
 
     /// The key of the one whose turn it is, where it is of this thread.
-    pub fn first_of<R: Wait>(&self, rt: &R, point: Point, thread: usize) -> Option<usize> {
+    pub fn first_of<R: Wait>(&self, rt: &R, point: Point, thread: usize) -> Option<usize>
+        ensures off { self.now.seconds ≡ 0 → result ≡ None }
+    {
         if self.seconds == 0 {
             return None;
         }

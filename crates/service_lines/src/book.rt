@@ -1,52 +1,63 @@
 //! What the services said, as one thread knows it.
 
+ghost use Rattle.std.specs.Prelude.{◌≡◌, ◌↔◌, IsTrue, Some, None, ◌⊎◌, MatchOption, option_map};
+ghost use Rattle.options_book.specs.Options.{IsFresh};
+
 use options_book::Record;
 use std::alloc::Global;
 
 /// What the service of one point said last.
 #[derive(Drop)]
 pub struct PointBook {
-    record: Option<Record>,
+    said: Option<Record>,
     tag: Option<Vec<u8>>,
 }
 
 impl PointBook {
     /// Before the service said anything.
-    pub fn new() -> PointBook {
+    pub fn new() -> PointBook
+        ensures { (result.said ≡ None) × (result.tag ≡ None) }
+    {
         PointBook {
-            record: None,
+            said: None,
             tag: None,
         }
     }
 
     /// The record.
     pub fn record(&self) -> Option<&Record> {
-        match &self.record {
+        match &self.said {
             Some(record) => Some(record),
             None => None,
         }
     }
 
     /// Keeps a record.
-    pub fn keep(&mut self, record: Record) {
-        self.record = Some(record);
+    pub fn keep(&mut self, said: Record)
+        ensures { (self.new.said ≡ Some said) × (self.new.tag ≡ None) }
+    {
+        self.said = Some(said);
         self.tag = None;
     }
 
     /// Whether there is a record that serves at this moment.
-    pub fn is_fresh(&self, now: u64) -> bool {
+    pub fn is_fresh(&self, now: u64) -> bool
+        ensures { IsTrue result ↔ MatchOption self.now.said ⊥ (λ said. IsFresh said now (option_map (λ tag. tag.items) self.now.tag)) }
+    {
         let tag = match &self.tag {
             Some(tag) => Some(tag.as_slice()),
             None => None,
         };
-        match &self.record {
+        match &self.said {
             Some(record) => record.is_fresh(now, tag),
             None => false,
         }
     }
 
     /// Takes note of the tag of an answer. Where no memory is found for it the record goes.
-    pub fn note_tag(&mut self, alloc: Global, tag: &[u8]) {
+    pub fn note_tag(&mut self, alloc: Global, tag: &[u8])
+        ensures { ((option_map (λ tag. tag.items) self.new.tag ≡ Some tag.now) × (self.new.said ≡ self.old.said)) ⊎ (self.new.said ≡ None) }
+    {
         let known = match &self.tag {
             Some(old) => old.as_slice() == tag,
             None => false,
@@ -56,7 +67,7 @@ impl PointBook {
         }
         match tag.to_vec(alloc) {
             Ok(tag) => self.tag = Some(tag),
-            Err(_) => self.record = None,
+            Err(_) => self.said = None,
         }
     }
 }

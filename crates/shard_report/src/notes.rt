@@ -1,15 +1,15 @@
 //! What is noted of an exchange while it goes on: what its line in the log says, and what is counted.
 
-use crate::phase::Phase;
+ghost use Rattle.std.specs.Prelude.{◌≡◌, ◌↔◌, ◌<◌, None, Some, IsSome, IsTrue};
+ghost use Rattle.exchange_report.specs.declared.why.Why.{Why};
+ghost use Rattle.exchange_report.specs.declared.why.Why.TheVariants.{UserGone};
+ghost use Rattle.shard_report.specs.Notes.{IsOpen};
+
 use adapt_bytes::front;
-use exchange_report::{Address, Entry, MAX_KIND, MAX_METHOD, MAX_TARGET, Reply, Verdict, Why};
-use http_side::HttpFault;
-use proxy_rules::Reason;
-use span_bank::Ledgers;
+use exchange_report::{Address, Entry, MAX_KIND, MAX_METHOD, MAX_TARGET, Verdict, Why};
 use std::alloc::{AllocError, Global};
 use std::net::SocketAddrV4;
-use std::sync::ledger::Ledger;
-use trace_core::{Point, Seen};
+use trace_core::Point;
 
 /// Where an exchange stands, as far as a reason's word depends on it.
 #[derive(Clone, Copy, Debug, PartialEq, Eq)]
@@ -43,7 +43,7 @@ pub struct Note {
     pub blamed: Option<Why>,
 }
 
-/// Texts from outside: the method, the target and the answer's media type, one behind another.
+/// Texts from outside: the method, the target and the answer's media type, one after another.
 #[derive(Drop)]
 struct Words {
     text: Vec<u8>,
@@ -52,10 +52,23 @@ struct Words {
 }
 
 /// The notes of a loop, one for each key.
+///
+/// ```
+/// let mut notes = Notes::new(alloc, 2, true)?;
+/// notes.enter(0, None);
+/// notes.begin(0, 1_000, 0, b"GET", b"http://o.test/");
+/// notes.answer(0, 200, b"text/html");
+/// if let Some(note) = notes.close(0) {
+///     let entry = notes.entry(0, &note, 1_004, 258);
+///     assert_eq!(rt; (entry.status, entry.elapsed, entry.sent), (200, 4, 258));
+/// }
+/// // It is closed, so it gives no second line.
+/// assert!(rt; !notes.is_open(0));
+/// ```
 #[derive(Drop)]
 pub struct Notes {
     notes: Vec<Note>,
-    /// None where no log is kept.
+    /// Empty where no log is kept.
     words: Vec<Words>,
 }
 
@@ -86,23 +99,6 @@ pub fn address_of(address: SocketAddrV4) -> Address {
         second,
         third,
         fourth,
-    }
-}
-
-/// What became of a message, as its history shows.
-pub fn verdict_of(seen: &Seen) -> Verdict {
-    Verdict {
-        retried: seen.retried,
-        continued: seen.continued,
-        reply: if seen.plan.kind.is_plain() {
-            Reply::Plain
-        } else if seen.no_mod {
-            Reply::Unchanged
-        } else if seen.modified {
-            Reply::Changed
-        } else {
-            Reply::Missing
-        },
     }
 }
 
@@ -148,7 +144,7 @@ impl Words {
 }
 
 impl Notes {
-    /// Of so many keys. `Err` where no memory was found.
+    /// A note for each of these keys. Words are noted where a log is kept. `Err` where no memory was found.
     pub fn new(alloc: Global, keys: usize, is_kept: bool) -> Result<Notes, AllocError> {
         let mut notes = Vec::with_capacity(alloc, keys)?;
         let mut words = Vec::with_capacity(alloc, if is_kept { keys } else { 0 })?;
@@ -173,7 +169,9 @@ impl Notes {
     }
 
     /// Whether an exchange goes on under this key: a request was read, or refused, and its answer isn't over.
-    pub fn is_open(&self, key: usize) -> bool {
+    pub fn is_open(&self, key: usize) -> bool
+        ensures { IsTrue result ↔ IsOpen self.now.notes.items key }
+    {
         match self.notes.get(key) {
             Some(note) => note.is_open,
             None => false,
@@ -239,7 +237,10 @@ impl Notes {
     }
 
     /// Closes an exchange that is open, and gives its note.
-    pub fn close(&mut self, key: usize) -> Option<Note> {
+    pub fn close(&mut self, key: usize) -> Option<Note>
+        ensures some { IsSome result ↔ IsOpen self.old.notes.items key }
+        ensures closed { IsOpen self.new.notes.items key → ⊥ }
+    {
         let note = self.notes.get_mut(key)?;
         if !note.is_open {
             return None;
@@ -277,7 +278,10 @@ impl Notes {
 const CLOSED_REQUEST: u16 = 499;
 
 /// The status of an exchange.
-pub fn status_of(note: &Note) -> u16 {
+pub fn status_of(note: &Note) -> u16
+    ensures known { 0 < note.now.status → result ≡ note.now.status }
+    ensures gone { note.now.status ≡ 0 → result ≡ 499 }
+{
     if note.status == 0 {
         CLOSED_REQUEST
     } else {
@@ -286,41 +290,12 @@ pub fn status_of(note: &Note) -> u16 {
 }
 
 /// Why an exchange ended as it did.
-pub fn why_of(note: &Note) -> Why {
+pub fn why_of(note: &Note) -> Why
+    ensures known { (why : Why) → note.now.why ≡ Some why → result ≡ why }
+    ensures gone { note.now.why ≡ None → result ≡ UserGone }
+{
     match note.why {
         Some(why) => why,
         None => Why::UserGone,
-    }
-}
-
-/// Where an exchange stands.
-pub fn stage_of<B: Ledgers, Q: Ledger, A: Ledger>(phase: &Phase<B, Q, A>) -> Stage {
-    match phase {
-        Phase::Asking { .. } | Phase::Queued { .. } => Stage::Asking,
-        _ => Stage::Elsewhere,
-    }
-}
-
-/// Whether no exchange is under way.
-pub fn is_between<B: Ledgers, Q: Ledger, A: Ledger>(phase: &Phase<B, Q, A>) -> bool {
-    matches!(phase, Phase::Head(_) | Phase::Closing(_))
-}
-
-/// The word for a reason.
-pub fn word_of(reason: Reason, note: &Note) -> Why {
-    match reason {
-        Reason::Request(HttpFault::Coding | HttpFault::Connect) => Why::NotServed,
-        Reason::Request(HttpFault::NoMemory) | Reason::NoMemory => Why::NoMemory,
-        Reason::Request(_) => Why::BadRequest,
-        Reason::UnknownHost => Why::UnknownHost,
-        Reason::NoOrigin => Why::OriginRefused,
-        Reason::OriginHead => Why::OriginBroken,
-        Reason::Service => note.blamed.unwrap_or(Why::ServiceRefused),
-        Reason::Busy => Why::Busy,
-        Reason::Full => Why::Full,
-        Reason::NoRow => Why::NoRow,
-        Reason::Deadline if note.stage == Stage::Asking => Why::ServiceDeadline,
-        Reason::Deadline => Why::OriginDeadline,
-        Reason::Stopping => Why::Stopping,
     }
 }

@@ -1,17 +1,30 @@
 //! The answer to `stats`: the sums of what the loops count, and the numbers of what they share.
 
-use crate::desk::Shared;
-use crate::tally::{
-    READ, REQUESTS, RETRIES, SENT, Tally, USERS, class_place, offer_place, refusal_place, total,
-};
+use crate::tally::{Class, Count, Tally, total};
 use exchange_report::{Family, Kind, Metric, Reply, Why, metrics_text};
 use service_pool::Numbers;
-use span_bank::Ledgers;
+use span_bank::Book;
 use std::alloc::{AllocError, Global};
-use std::sync::Wait;
-use std::sync::ledger::Ledger;
 use trace_core::Point;
-use wire_kit::Gate;
+
+/// What the loops share, at one moment.
+#[derive(Clone, Copy)]
+pub struct Figures {
+    /// How many users can be served at once.
+    pub seats: u64,
+    /// The connections to the service of requests, and how many exchanges wait for one.
+    pub reqmod: Numbers,
+    pub reqmod_waiting: u64,
+    /// The connections to the service of responses, and how many exchanges wait for one.
+    pub respmod: Numbers,
+    pub respmod_waiting: u64,
+    /// The buffer budget.
+    pub book: Book,
+    /// Lines of the log that are lost.
+    pub lost: u64,
+    /// Seconds since the start.
+    pub uptime: u64,
+}
 
 /// A family of counters.
 const fn counter(name: &'static [u8], help: &'static [u8]) -> Family {
@@ -32,11 +45,13 @@ const fn gauge(name: &'static [u8], help: &'static [u8]) -> Family {
 }
 
 /// The labels of answers, by the class of their status.
-const CLASSES: [(u16, &[u8]); 4] = [
-    (200, b"{class=\"2xx\"}"),
-    (300, b"{class=\"3xx\"}"),
-    (400, b"{class=\"4xx\"}"),
-    (500, b"{class=\"5xx\"}"),
+const CLASSES: [(Class, &[u8]); 6] = [
+    (Class::Informational, b"{class=\"1xx\"}"),
+    (Class::Successful, b"{class=\"2xx\"}"),
+    (Class::Redirection, b"{class=\"3xx\"}"),
+    (Class::ClientError, b"{class=\"4xx\"}"),
+    (Class::ServerError, b"{class=\"5xx\"}"),
+    (Class::Other, b"{class=\"other\"}"),
 ];
 
 /// The labels of what became of messages.
@@ -105,7 +120,7 @@ const REFUSALS: [(Why, &[u8]); 18] = [
     (Why::Stopping, b"{why=\"stopping\"}"),
 ];
 
-/// The numbers, in the order in which they are told.
+/// The numbers, in the order of the text.
 #[derive(Drop)]
 struct Sheet<'a> {
     metrics: Vec<Metric>,
@@ -127,13 +142,13 @@ impl<'a> Sheet<'a> {
     }
 
     /// The sum of what the loops count.
-    fn sum(&self, place: usize) -> u64 {
-        total(self.tallies, place)
+    fn sum(&self, count: Count) -> u64 {
+        total(self.tallies, count)
     }
 
     /// What the loops count of requests and answers.
     fn put_counts(&mut self) -> Result<(), AllocError> {
-        let requests = self.sum(REQUESTS);
+        let requests = self.sum(Count::Requests);
         self.one(
             counter(
                 b"adaptproxy_requests",
@@ -146,8 +161,8 @@ impl<'a> Sheet<'a> {
             b"Answers by the class of their status.",
         );
         self.put(Metric::Family(answers))?;
-        for (status, label) in CLASSES {
-            let value = self.sum(class_place(status));
+        for (class, label) in CLASSES {
+            let value = self.sum(Count::Answers(class));
             self.put(Metric::Sample(answers, label, value))?;
         }
         let refusals = counter(
@@ -156,7 +171,7 @@ impl<'a> Sheet<'a> {
         );
         self.put(Metric::Family(refusals))?;
         for (why, label) in REFUSALS {
-            let value = self.sum(refusal_place(why));
+            let value = self.sum(Count::Refusals(why));
             self.put(Metric::Sample(refusals, label, value))?;
         }
         Ok(())
@@ -170,10 +185,10 @@ impl<'a> Sheet<'a> {
         );
         self.put(Metric::Family(messages))?;
         for (point, reply, label) in OFFERS {
-            let value = self.sum(offer_place(point, reply));
+            let value = self.sum(Count::Messages(point, reply));
             self.put(Metric::Sample(messages, label, value))?;
         }
-        let retries = self.sum(RETRIES);
+        let retries = self.sum(Count::Retries);
         self.one(
             counter(
                 b"adaptproxy_retries",
@@ -182,7 +197,7 @@ impl<'a> Sheet<'a> {
             retries,
         )?;
         let bytes = counter(b"adaptproxy_user_bytes", b"Bytes from and to users.");
-        let (read, sent) = (self.sum(READ), self.sum(SENT));
+        let (read, sent) = (self.sum(Count::Read), self.sum(Count::Sent));
         self.put(Metric::Family(bytes))?;
         self.put(Metric::Sample(bytes, b"{direction=\"in\"}", read))?;
         self.put(Metric::Sample(bytes, b"{direction=\"out\"}", sent))
@@ -231,76 +246,76 @@ impl<'a> Sheet<'a> {
         self.put(Metric::Sample(waiting, b"{point=\"reqmod\"}", reqmod))?;
         self.put(Metric::Sample(waiting, b"{point=\"respmod\"}", respmod))
     }
+
+    /// The buffer budget.
+    fn put_book(&mut self, book: Book) -> Result<(), AllocError> {
+        self.one(
+            gauge(b"adaptproxy_budget_rows", b"Transactions that are open."),
+            book.rows,
+        )?;
+        self.one(
+            gauge(
+                b"adaptproxy_budget_held_bytes",
+                b"Body bytes that they hold.",
+            ),
+            book.held,
+        )?;
+        self.one(
+            gauge(
+                b"adaptproxy_budget_claimed_bytes",
+                b"Body bytes that they have reserved.",
+            ),
+            book.claimed,
+        )?;
+        self.one(
+            gauge(
+                b"adaptproxy_budget_capacity_bytes",
+                b"Body bytes that may be reserved.",
+            ),
+            book.capacity,
+        )
+    }
+
+    /// The users, and the seats for them.
+    fn put_users(&mut self, seats: u64) -> Result<(), AllocError> {
+        let users = self.sum(Count::Users);
+        self.one(
+            gauge(b"adaptproxy_users", b"Users that are connected."),
+            users,
+        )?;
+        self.one(
+            gauge(b"adaptproxy_seats", b"Users that can be served at once."),
+            seats,
+        )
+    }
 }
 
-/// The counters as OpenMetrics text, so many seconds after the start.
-pub fn stats_text<B: Ledgers, Q: Ledger, A: Ledger, G: Gate, R: Wait>(
-    rt: &R,
+/// The counters of all loops, and the numbers of what they share, as OpenMetrics text.
+pub fn stats_text(
     alloc: Global,
-    shared: &Shared<'_, B, Q, A, G>,
     tallies: &[Tally],
-    now: u64,
+    figures: &Figures,
 ) -> Result<Vec<u8>, AllocError> {
-    let book = shared.bank.book(rt, None);
     let mut sheet = Sheet {
         metrics: Vec::new(alloc),
         tallies,
     };
     sheet.put_counts()?;
     sheet.put_messages()?;
-    let users = sheet.sum(USERS);
-    let seats = shared.config.shards.saturating_mul(shared.config.rows);
-    sheet.one(
-        gauge(b"adaptproxy_users", b"Users that are connected."),
-        users,
-    )?;
-    sheet.one(
-        gauge(b"adaptproxy_seats", b"Users that can be served at once."),
-        seats,
-    )?;
-    let reqmod = shared.pools.request.numbers(rt);
-    let respmod = shared.pools.response.numbers(rt);
-    sheet.put_pools(reqmod, respmod)?;
-    let waiting = shared.pools.waiting;
-    sheet.put_waiting(
-        waiting.len(rt, Point::Reqmod),
-        waiting.len(rt, Point::Respmod),
-    )?;
-    sheet.one(
-        gauge(b"adaptproxy_budget_rows", b"Transactions that are open."),
-        book.rows,
-    )?;
-    sheet.one(
-        gauge(
-            b"adaptproxy_budget_held_bytes",
-            b"Body bytes that they hold.",
-        ),
-        book.held,
-    )?;
-    sheet.one(
-        gauge(
-            b"adaptproxy_budget_claimed_bytes",
-            b"Body bytes that they have reserved.",
-        ),
-        book.claimed,
-    )?;
-    sheet.one(
-        gauge(
-            b"adaptproxy_budget_capacity_bytes",
-            b"Body bytes that may be reserved.",
-        ),
-        book.capacity,
-    )?;
+    sheet.put_users(figures.seats)?;
+    sheet.put_pools(figures.reqmod, figures.respmod)?;
+    sheet.put_waiting(figures.reqmod_waiting, figures.respmod_waiting)?;
+    sheet.put_book(figures.book)?;
     sheet.one(
         counter(
             b"adaptproxy_log_lines_lost",
             b"Lines of the log that could not be written.",
         ),
-        shared.log.lost(),
+        figures.lost,
     )?;
     sheet.one(
         gauge(b"adaptproxy_uptime_seconds", b"Seconds since the start."),
-        now,
+        figures.uptime,
     )?;
     metrics_text(alloc, sheet.metrics.as_slice())
 }

@@ -1,6 +1,6 @@
 use Rattle.std.proofs.Common.{◌≤◌}
 use Rattle.adapt_bytes.specs.declared.limits.TheConstants.{MAX_CAPACITY}
-use Rattle.shard_loop.proofs.capacity.walk.Given as goal
+use Rattle.shard_report.proofs.capacity.walk.Given as goal
 
 abbrev pub invariant-loop : goal.invariant-loop
 invariant-loop g l = (1 ≤ l.at) × (l.at ≤ MAX_CAPACITY)

@@ -1,0 +1,154 @@
+-- The line of an exchange has one end, whatever its record says.
+use Rattle.std.proofs.Common.{◌≢◌, ℕ, ◌/◌, ◌%◌, ◌<◌, Bool, true, false, not, eqb, List, [], ◌∷◌, ◌++◌, All, IsTrue, Option, Some, None, nat_lt, take, codes, arith, rules, refl, sym, inl, inr, if◌then◌else◌, subst}
+use Rattle.std.specs.List.{list_all}
+use Rattle.std.specs.Char.{digit_value}
+use Rattle.std.specs.Str.Parse.{AllDigits}
+use Rattle.std.proofs.lemmas.Bool.{cases_Bool}
+use Rattle.std.proofs.lemmas.List.{append_assoc}
+use Rattle.std.proofs.lemmas.List.Elements.{All-cons, All-nil, All-append, All-take}
+use Rattle.adapt_bytes.specs.Numeral.{numeral, three_digits}
+use Rattle.adapt_bytes.proofs.Written.{Writes-numeral}
+use Rattle.exchange_report.specs.Words.{word_of}
+use Rattle.exchange_report.specs.Lines.{HasNoEnd, IsOneLine}
+use Rattle.exchange_report.specs.Entry.{address_text, user_text, origin_text, tag_text, status_text, head_text, request_text, reply_word, verdict_text, why_word, line_text}
+use Rattle.exchange_report.specs.declared.entry.Address.{Address}
+use Rattle.exchange_report.specs.declared.entry.Entry.{Entry}
+use Rattle.exchange_report.specs.declared.verdict.Reply.{Reply}
+use Rattle.exchange_report.specs.declared.verdict.Reply.TheVariants.{Missing, Plain, Unchanged, Changed}
+use Rattle.exchange_report.specs.declared.verdict.Verdict.{Verdict}
+use Rattle.exchange_report.specs.declared.why.Why.{Why}
+use Rattle.exchange_report.specs.declared.why.Why.TheVariants.{Served, BadRequest, NotServed, RequestBroken, UnknownHost, OriginRefused, OriginBroken, OriginDeadline, ServiceRefused, ServiceStatus, ServiceBroken, ServiceDeadline, Busy, Full, NoRow, NoSeat, NoMemory, UserDeadline, UserGone, Stopping}
+use Rattle.exchange_report.specs.declared.words.TheConstants.{MAX_TARGET, MAX_METHOD, MAX_KIND}
+use Rattle.exchange_report.proofs.OneWord.{IsPlain, plain_word}
+
+-- a text that is written out ends no line: this computes
+const : (text : List ℕ) → IsTrue (list_all (λ b. not (eqb b 10)) text) → HasNoEnd text
+const [] h = All-nil (λ b. b ≢ 10)
+const (b ∷ text) h = grind (rules, h, const text)
+
+joined : (x y : List ℕ) → HasNoEnd x → HasNoEnd y → HasNoEnd (x ++ y)
+joined x y = All-append (λ b. b ≢ 10) x y
+
+digits : (text : List ℕ) → AllDigits 10 text → HasNoEnd text
+digits [] h = All-nil (λ b. b ≢ 10)
+digits (c ∷ text) h = All-cons (λ b. b ≢ 10) c text (no_digit c h.0) (digits text h.1)
+  where
+    no_digit : (c : ℕ) → digit_value c < 10 → c ≢ 10
+    no_digit c h e = let bad : digit_value 10 < 10 = subst (λ x. digit_value x < 10) e h in omega (arith, bad)
+
+number : (n : ℕ) → HasNoEnd (numeral 10 n)
+number n = digits (numeral 10 n) (Writes-numeral 10 n (omega arith) (omega arith)).digits.1
+
+three : (n : ℕ) → HasNoEnd (three_digits n)
+three n = grind (arith, rules)
+
+plain : (text : List ℕ) → All IsPlain text → HasNoEnd text
+plain [] h = All-nil (λ b. b ≢ 10)
+plain (b ∷ text) h = grind (rules, h, plain text)
+
+word : (most : ℕ) (value : List ℕ) → All (λ b. b < 256) value → HasNoEnd (word_of (take most value))
+word most value h = plain (word_of (take most value)) (plain_word (take most value) (All-take (λ b. b < 256) most value h))
+
+address : (a : Address) → HasNoEnd (address_text a)
+address a =
+    let dot : HasNoEnd (codes ".") = const (codes ".") refl in
+    joined _ (numeral 10 a.fourth) (joined _ (codes ".") (joined _ (numeral 10 a.third) (joined _ (codes ".") (joined _ (numeral 10 a.second)
+    (joined (numeral 10 a.first) (codes ".") (number a.first) dot) (number a.second)) dot) (number a.third)) dot) (number a.fourth)
+
+user : (a : Option Address) → HasNoEnd (user_text a)
+user (Some a) = address a
+user None = const (codes "-") refl
+
+origin : (a : Option Address) → HasNoEnd (origin_text a)
+origin (Some a) = joined (codes "HIER_DIRECT/") (address_text a) (const (codes "HIER_DIRECT/") refl) (address a)
+origin None = const (codes "HIER_NONE/-") refl
+
+tag : (refused : Bool) → HasNoEnd (tag_text refused)
+tag true = const (codes " TCP_DENIED/") refl
+tag false = const (codes " TCP_MISS/") refl
+
+status : (n : ℕ) → HasNoEnd (status_text n)
+status n = elim (cases_Bool (nat_lt n 1000)) as (λ _. HasNoEnd (status_text n)) [
+  | inl e ↦ rw e (three n)
+  | inr e ↦ rw e (number n)
+]
+
+reply : (r : Reply) → HasNoEnd (reply_word r)
+reply Missing = const (codes "-") refl
+reply Plain = const (codes "plain") refl
+reply Unchanged = const (codes "204") refl
+reply Changed = const (codes "200") refl
+
+option : (b : Bool) (text : List ℕ) → HasNoEnd text → HasNoEnd (if b then text else [])
+option true text h = h
+option false text h = All-nil (λ b. b ≢ 10)
+
+verdict : (v : Verdict) → HasNoEnd (verdict_text v)
+verdict v = joined _ (reply_word v.reply) (joined _ _ (option v.retried (codes "retry+") (const (codes "retry+") refl))
+    (option v.continued (codes "100+") (const (codes "100+") refl))) (reply v.reply)
+
+why : (w : Why) → HasNoEnd (why_word w)
+why Served = const (codes "-") refl
+why BadRequest = const (codes "bad-request") refl
+why NotServed = const (codes "not-served") refl
+why RequestBroken = const (codes "request-broken") refl
+why UnknownHost = const (codes "unknown-host") refl
+why OriginRefused = const (codes "origin-refused") refl
+why OriginBroken = const (codes "origin-broken") refl
+why OriginDeadline = const (codes "origin-deadline") refl
+why ServiceRefused = const (codes "service-refused") refl
+why ServiceStatus = const (codes "service-status") refl
+why ServiceBroken = const (codes "service-broken") refl
+why ServiceDeadline = const (codes "service-deadline") refl
+why Busy = const (codes "busy") refl
+why Full = const (codes "full") refl
+why NoRow = const (codes "no-row") refl
+why NoSeat = const (codes "no-seat") refl
+why NoMemory = const (codes "no-memory") refl
+why UserDeadline = const (codes "user-deadline") refl
+why UserGone = const (codes "user-gone") refl
+why Stopping = const (codes "stopping") refl
+
+head : (e : Entry) → HasNoEnd (head_text e)
+head e =
+    let blank : HasNoEnd (codes " ") = const (codes " ") refl in
+    joined _ (numeral 10 e.sent) (joined _ (codes " ") (joined _ (status_text e.status) (joined _ (tag_text e.refused) (joined _ (user_text e.user)
+    (joined _ (codes " ") (joined _ (numeral 10 e.elapsed) (joined _ (codes " ") (joined _ (three_digits (e.ended % 1000))
+    (joined (numeral 10 (e.ended / 1000)) (codes ".") (number (e.ended / 1000)) (const (codes ".") refl))
+    (three (e.ended % 1000))) blank) (number e.elapsed)) blank) (user e.user)) (tag e.refused)) (status e.status)) blank) (number e.sent)
+
+-- texts with a text that ends no line before each
+pairs : (a m b t c o d k : List ℕ) → HasNoEnd a → HasNoEnd m → HasNoEnd b → HasNoEnd t → HasNoEnd c → HasNoEnd o → HasNoEnd d → HasNoEnd k
+    → HasNoEnd (a ++ m ++ b ++ t ++ c ++ o ++ d ++ k)
+pairs a m b t c o d k ha hm hb ht hc ho hd hk =
+    joined (a ++ m ++ b ++ t ++ c ++ o ++ d) k (joined (a ++ m ++ b ++ t ++ c ++ o) d (joined (a ++ m ++ b ++ t ++ c) o
+    (joined (a ++ m ++ b ++ t) c (joined (a ++ m ++ b) t (joined (a ++ m) b (joined a m ha hm) hb) ht) hc) ho) hd) hk
+
+request : (e : Entry) → All (λ b. b < 256) e.method.now → All (λ b. b < 256) e.target.now → All (λ b. b < 256) e.kind.now
+    → HasNoEnd (request_text e)
+request e method target kind =
+    let blank : HasNoEnd (codes " ") = const (codes " ") refl in
+    pairs (codes " ") (word_of (take MAX_METHOD e.method.now)) (codes " ") (word_of (take MAX_TARGET e.target.now)) (codes " - ")
+    (origin_text e.origin) (codes " ") (word_of (take MAX_KIND e.kind.now)) blank (word MAX_METHOD e.method.now method) blank
+    (word MAX_TARGET e.target.now target) (const (codes " - ") refl) (origin e.origin) blank (word MAX_KIND e.kind.now kind)
+
+-- the end's fields, before the byte that ends the line
+abbrev fields : Entry → List ℕ
+fields e = codes " reqmod=" ++ verdict_text e.reqmod ++ codes " respmod=" ++ verdict_text e.respmod ++ codes " why=" ++ why_word e.why
+
+threes : (a m b t c o : List ℕ) → HasNoEnd a → HasNoEnd m → HasNoEnd b → HasNoEnd t → HasNoEnd c → HasNoEnd o
+    → HasNoEnd (a ++ m ++ b ++ t ++ c ++ o)
+threes a m b t c o ha hm hb ht hc ho =
+    joined (a ++ m ++ b ++ t ++ c) o (joined (a ++ m ++ b ++ t) c (joined (a ++ m ++ b) t (joined (a ++ m) b (joined a m ha hm) hb) ht) hc) ho
+
+last : (e : Entry) → HasNoEnd (fields e)
+last e = threes (codes " reqmod=") (verdict_text e.reqmod) (codes " respmod=") (verdict_text e.respmod) (codes " why=") (why_word e.why)
+    (const (codes " reqmod=") refl) (verdict e.reqmod) (const (codes " respmod=") refl) (verdict e.respmod) (const (codes " why=") refl) (why e.why)
+
+pub ends_once : (e : Entry) → All (λ b. b < 256) e.method.now → All (λ b. b < 256) e.target.now → All (λ b. b < 256) e.kind.now
+    → IsOneLine (line_text e)
+ends_once e method target kind = (
+  head_text e ++ request_text e ++ fields e,
+  sym (append_assoc (head_text e ++ request_text e) (fields e) (codes "\n")),
+  joined _ (fields e) (joined (head_text e) (request_text e) (head e) (request e method target kind)) (last e),
+)

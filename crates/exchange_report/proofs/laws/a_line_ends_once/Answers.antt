@@ -1,0 +1,5 @@
+use Rattle.exchange_report.proofs.OneLine.{ends_once}
+use Rattle.exchange_report.proofs.laws.a_line_ends_once.Goals as goal
+
+pub returns : goal.returns
+returns c = ends_once

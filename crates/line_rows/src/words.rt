@@ -1,0 +1,68 @@
+//! Words of steps and of answers.
+
+use service_lines::LendFault;
+use service_pool::Numbers;
+use test_rows::{NoMemory, number, put_decimal, put_line, put_number};
+
+/// What a line of the wanted answers asks: what stands before ` = `.
+pub fn asked(line: &[u8]) -> &[u8] {
+    for at in 0..line.len() {
+        if line[at..].starts_with(b" = ") {
+            return &line[..at];
+        }
+    }
+    line
+}
+
+/// The first word of a text, and what comes after it.
+pub fn first_word(text: &[u8]) -> (&[u8], &[u8]) {
+    for at in 0..text.len() {
+        if text[at] == b' ' {
+            return (&text[..at], &text[at + 1..]);
+        }
+    }
+    (text, &[])
+}
+
+/// The number that a text begins with, or 0, and what comes after it.
+pub fn first_number(text: &[u8]) -> (u64, &[u8]) {
+    let (word, rest) = first_word(text);
+    match number(word) {
+        Some(count) => (count, rest),
+        None => (0, rest),
+    }
+}
+
+/// What a fault is called.
+pub fn fault_name(fault: LendFault) -> &'static [u8] {
+    match fault {
+        LendFault::Busy => b"busy",
+        LendFault::Unreached => b"unreached",
+        LendFault::NoMemory => b"no memory",
+    }
+}
+
+/// Adds what was lent.
+pub fn put_lent(out: &mut Vec<u8>, used: u64, reused: bool) -> Result<(), NoMemory> {
+    let word: &[u8] = if reused { b"reused" } else { b"fresh" };
+    put_number(out, word, used)
+}
+
+/// Adds the numbers of a pool.
+pub fn put_numbers(out: &mut Vec<u8>, numbers: Numbers) -> Result<(), NoMemory> {
+    out.extend_from_slice(b"idle ")?;
+    put_decimal(out, numbers.idle)?;
+    out.extend_from_slice(b" leased ")?;
+    put_decimal(out, numbers.leased)?;
+    put_number(out, b" maximum", numbers.maximum)
+}
+
+/// Adds the threads that were woken, in their order.
+pub fn put_woken(out: &mut Vec<u8>, woken: u64) -> Result<(), NoMemory> {
+    if woken == 0 {
+        put_line(out, b"none")
+    } else {
+        put_decimal(out, woken)?;
+        out.extend_from_slice(b"\n")
+    }
+}

@@ -1,0 +1,99 @@
+-- What was asked of a connector, the newest answer first, where connections are lent, renewed and put back.
+use Rattle.std.specs.Prelude.{◌≡◌, ℕ, zero, suc, ◌⊎◌, Bool, true, false, List, ◌∷◌, Option, Some, None, Result, Ok, Err, if◌then◌else◌}
+use Rattle.trace_core.specs.declared.history.Point.{Point}
+use Rattle.trace_core.specs.declared.history.Point.TheVariants.{Reqmod, Respmod}
+use Rattle.service_lines.specs.declared.connector.Act.{Act}
+use Rattle.service_lines.specs.declared.connector.Act.TheVariants.{Opened, Looked, Resumed, Checked, Rested, Closed}
+use Rattle.service_lines.specs.declared.connector.LendFault.{LendFault}
+use Rattle.service_lines.specs.declared.connector.LendFault.TheVariants.{Busy, Unreached}
+use Rattle.service_lines.specs.declared.leased.Leased.{Leased}
+use Rattle.service_lines.specs.declared.leased.Leased.TheVariants as leased
+use Rattle.service_lines.specs.declared.leased.LeasedConnection.{LeasedConnection}
+use Rattle.service_lines.specs.declared.leased.Found.{Found}
+use Rattle.service_lines.specs.declared.leased.Found.TheVariants as found
+
+-- the fault that an answer names
+abbrev pub fault_in : {A : Type 0} → Result A LendFault → Option LendFault
+fault_in (Ok x) = None
+fault_in (Err fault) = Some fault
+
+-- the point whose pool the lease is of
+abbrev pub point_of : {Q A : Type 0} → Leased Q A → Point
+point_of (leased.Request lease) = Reqmod
+point_of (leased.Response lease) = Respmod
+
+-- whether its connection was idle when it was taken, and hasn't been replaced since
+abbrev pub is_reused : {Q A : Type 0} → Leased Q A → Bool
+is_reused (leased.Request lease) = lease.reused
+is_reused (leased.Response lease) = lease.reused
+
+-- it has a lease of this point, which tells whether the connection was idle
+abbrev pub Tells : {I Q A : Type 0} → Point → Found I Q A → Type 0
+Tells point (found.Idle idle lease) = (point_of lease ≡ point) × (is_reused lease ≡ true)
+Tells point (found.Fresh lease) = (point_of lease ≡ point) × (is_reused lease ≡ false)
+Tells point found.Busy = point ≡ point
+
+-- the lease that was found
+abbrev pub HasLease : {I Q A : Type 0} → Found I Q A → Leased Q A → Type 0
+HasLease (found.Idle idle lease) other = other ≡ lease
+HasLease (found.Fresh lease) other = other ≡ lease
+HasLease found.Busy other = ⊥
+
+-- what was asked to take what was found: an idle connection was looked at, and is fit for use
+abbrev pub after_take : {I Q A : Type 0} → Option (Found I Q A) → List Act → List Act
+after_take None p = Looked false ∷ p
+after_take (Some (found.Idle idle lease)) p = Looked true ∷ p
+after_take (Some (found.Fresh lease)) p = p
+after_take (Some found.Busy) p = p
+
+-- what was asked to lend it: an idle connection is brought into use, and a fresh one is opened; and this was the fault
+abbrev pub after_lend : {I Q A : Type 0} → Found I Q A → Option LendFault → List Act → List Act
+after_lend (found.Idle idle lease) fault p = Resumed fault ∷ p
+after_lend (found.Fresh lease) fault p = Opened fault ∷ p
+after_lend found.Busy fault p = p
+
+-- this many idle connections were looked at that aren't fit for use
+abbrev pub after_dead : ℕ → List Act → List Act
+after_dead zero p = p
+after_dead (suc n) p = Looked false ∷ after_dead n p
+
+-- A connection was taken: each idle one that isn't fit for use was passed over.
+pub record TakesLive {I Q A : Type 0} (before after : List Act → Type 0) (result : Found I Q A) : Type 0 where
+  pub dead : ℕ
+  pub each : (p : List Act) → before p → after (after_take (Some result) (after_dead dead p))
+
+-- What lending came to, where this had happened before it. A connection that was idle was looked at and brought into use; another one
+-- was opened.
+abbrev pub LendsTo : {U Q A : Type 0} → (before after : List Act → Type 0) → (ℕ → List Act → List Act) → Result (LeasedConnection U Q A) LendFault → Type 0
+LendsTo before after passed (Ok connection) = (n : ℕ) × ((p : List Act) → before p
+    → after (if is_reused connection.lease then Resumed None ∷ Looked true ∷ passed n p else Opened None ∷ passed n p))
+LendsTo before after passed (Err Busy) = (n : ℕ) × ((p : List Act) → before p → after (passed n p))
+LendsTo before after passed (Err fault) = (n : ℕ) × (((p : List Act) → before p → after (Resumed (Some fault) ∷ Looked true ∷ passed n p))
+    ⊎ ((p : List Act) → before p → after (Opened (Some fault) ∷ passed n p)))
+
+-- Lending: idle connections that aren't fit for use were passed over.
+abbrev pub Lends : {U Q A : Type 0} → (before after : List Act → Type 0) → Result (LeasedConnection U Q A) LendFault → Type 0
+Lends before after result = LendsTo before after after_dead result
+
+-- A connection with a lease of this point was lent, if any was.
+abbrev pub IsOf : {U Q A : Type 0} → Point → Result (LeasedConnection U Q A) LendFault → Type 0
+IsOf point (Ok connection) = point_of connection.lease ≡ point
+IsOf point (Err fault) = point ≡ point
+
+-- What was asked to open a connection in place of one that is closed. Nothing was where the pool doesn't allow one.
+abbrev pub Reopens : {U : Type 0} → (before after : List Act → Type 0) → Result U LendFault → Type 0
+Reopens before after (Ok used) = (p : List Act) → before p → after (Opened None ∷ p)
+Reopens before after (Err fault) = ((p : List Act) → before p → after (Opened (Some fault) ∷ p))
+    ⊎ ((fault ≡ Unreached) × ((p : List Act) → before p → after p))
+
+-- What was asked to put a connection back that lies idle then: it lives, and nothing lies unread on it. Otherwise it was closed.
+abbrev pub LaysDown : {I : Type 0} → (before after : List Act → Type 0) → Option I → Type 0
+LaysDown before after (Some idle) = (p : List Act) → before p → after (Rested true ∷ Checked true ∷ p)
+LaysDown before after None = ((p : List Act) → before p → after (Rested false ∷ Checked true ∷ p))
+    ⊎ ((p : List Act) → before p → after (Closed ∷ Checked false ∷ p))
+
+-- What was asked to put a connection back: one that lies idle then lives, and has nothing unread on it.
+abbrev pub PutsBack : (before after : List Act → Type 0) → Type 0
+PutsBack before after = ((p : List Act) → before p → after (Rested true ∷ Checked true ∷ p))
+    ⊎ ((p : List Act) → before p → after (Rested false ∷ Checked true ∷ p))
+    ⊎ ((p : List Act) → before p → after (Closed ∷ Checked false ∷ p))

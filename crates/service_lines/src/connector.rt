@@ -1,0 +1,87 @@
+//! What opens connections and wakes threads, as traits.
+
+ghost use Rattle.std.specs.Prelude.{◌≡◌, List, ◌∷◌, Err, is_some};
+ghost use Rattle.service_lines.specs.declared.connector.Act.{Act as AnyAct};
+ghost use Rattle.service_lines.specs.Lending.{fault_in};
+
+use trace_core::Point;
+
+/// Why no connection to a service can be lent.
+#[derive(Clone, Copy, Debug, PartialEq, Eq, Drop)]
+pub enum LendFault {
+    /// As many are leased as may be, or others wait for theirs.
+    Busy,
+    /// The service can't be reached, or no connection may be opened in place of one that broke.
+    Unreached,
+    /// No memory, no descriptor or no port was found.
+    NoMemory,
+}
+
+/// What a connector was asked, with its answer.
+#[derive(Clone, Copy, Debug, PartialEq, Eq, Drop)]
+pub enum Act {
+    /// It opened a connection, or failed for this.
+    Opened(Option<LendFault>),
+    /// Whether an idle connection is fit for use.
+    Looked(bool),
+    /// It brought an idle connection into use, or failed for this.
+    Resumed(Option<LendFault>),
+    /// Whether a used connection may lie idle.
+    Checked(bool),
+    /// Whether it took a connection out of use, to lie idle. Otherwise it closed it.
+    Rested(bool),
+    /// It closed a used connection.
+    Closed,
+}
+
+/// What threads share of the edge.
+pub trait Edge: Copy + Drop {
+    /// A connection that lies idle in a pool, with its place among the descriptors.
+    type Idle: Drop;
+
+    /// Ends the wait of a thread, so that its first waiter is driven.
+    fn wake(&self, thread: usize);
+
+    /// Whether only idle connections keep the next user out.
+    fn is_crowded(&self) -> bool;
+}
+
+/// What takes an exchange's connections to services out of use.
+///
+/// Contracts see it as its possible pasts: what it was asked so far, with its answers, the newest first. One that keeps no list of
+/// them may have had any past.
+pub trait Keeper<E: Edge> {
+    /// A connection that an exchange uses.
+    type Used;
+
+    ghost past: { Self → List AnyAct → Type 0 };
+
+    /// Whether a used connection may lie idle: its service hasn't ended it, and nothing lies unread on it.
+    fn may_rest(&mut self, used: &Self::Used) -> bool
+        ensures { (p : List AnyAct) → past self.old p → past self.new (Act.Checked result ∷ p) };
+
+    /// Takes a connection out of use. `None` where it can't lie idle, as without a descriptor for it: then it is closed.
+    fn rest(&mut self, used: Self::Used) -> Option<E::Idle>
+        ensures { (p : List AnyAct) → past self.old p → past self.new (Act.Rested (is_some result) ∷ p) };
+
+    /// Closes a connection.
+    fn close(&mut self, used: Self::Used)
+        ensures { (p : List AnyAct) → past self.old p → past self.new (Act.Closed ∷ p) };
+}
+
+/// What opens connections to services for an exchange, and brings idle ones into use.
+pub trait Connector<E: Edge>: Keeper<E> {
+    /// Opens a connection to the service of a point. It may still be on its way. It is never `Busy`.
+    fn open(&mut self, point: Point) -> Result<Self::Used, LendFault>
+        ensures free { result ≡ Err LendFault.Busy → ⊥ }
+        ensures asked { (p : List AnyAct) → Self.past self.old p → Self.past self.new (Act.Opened (fault_in result) ∷ p) };
+
+    /// Whether an idle connection is fit for use: its service hasn't ended it, and has said nothing on it that nobody asked for.
+    fn is_fit(&mut self, idle: &E::Idle) -> bool
+        ensures { (p : List AnyAct) → Self.past self.old p → Self.past self.new (Act.Looked result ∷ p) };
+
+    /// Brings an idle connection into use. Where it fails, the connection is closed. It is never `Busy`.
+    fn resume(&mut self, idle: E::Idle) -> Result<Self::Used, LendFault>
+        ensures free { result ≡ Err LendFault.Busy → ⊥ }
+        ensures asked { (p : List AnyAct) → Self.past self.old p → Self.past self.new (Act.Resumed (fault_in result) ∷ p) };
+}

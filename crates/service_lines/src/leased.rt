@@ -1,0 +1,55 @@
+//! Leases of the pools of both points, and connections with theirs.
+
+ghost use Rattle.std.specs.Prelude.{◌≡◌};
+ghost use Rattle.service_lines.specs.Lending.{point_of, is_reused};
+
+use service_pool::Lease;
+use std::sync::ledger::Ledger;
+use trace_core::Point;
+
+/// A lease of the pool of one point. It has no `Drop`, as a pool's lease has none.
+#[must_use]
+pub enum Leased<Q: Ledger, A: Ledger> {
+    Request(Lease<Q>),
+    Response(Lease<A>),
+}
+
+impl<Q: Ledger, A: Ledger> Leased<Q, A> {
+    /// The point whose service it is of.
+    pub fn point(&self) -> Point
+        ensures { result ≡ point_of self.now }
+    {
+        match self {
+            Leased::Request(_) => Point::Reqmod,
+            Leased::Response(_) => Point::Respmod,
+        }
+    }
+
+    /// Whether the connection was idle when it was taken, and hasn't been replaced since.
+    pub fn reused(&self) -> bool
+        ensures { result ≡ is_reused self.now }
+    {
+        match self {
+            Leased::Request(lease) => lease.reused(),
+            Leased::Response(lease) => lease.reused(),
+        }
+    }
+}
+
+/// A connection to a service, with its lease.
+#[must_use]
+pub struct LeasedConnection<U, Q: Ledger, A: Ledger> {
+    pub wire: U,
+    pub lease: Leased<Q, A>,
+}
+
+/// What was found in a pool.
+#[must_use]
+pub enum Found<I, Q: Ledger, A: Ledger> {
+    /// An idle connection.
+    Idle(I, Leased<Q, A>),
+    /// The right to open one.
+    Fresh(Leased<Q, A>),
+    /// Neither.
+    Busy,
+}

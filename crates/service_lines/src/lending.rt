@@ -1,0 +1,234 @@
+//! How connections are lent, renewed and put back.
+
+ghost use Rattle.std.specs.Prelude.{◌≡◌, ◌↔◌, false, List, Err, Ok, IfOk, IfSome, OnOk, ◌∷◌};
+ghost use Rattle.service_lines.specs.declared.connector.Act.{Act as AnyAct};
+ghost use Rattle.service_lines.specs.Lending.{point_of, is_reused, fault_in, Tells, HasLease, IsOf, after_take, after_lend, TakesLive, Lends, Reopens, LaysDown, PutsBack};
+
+use crate::connector::{Act, Connector, Edge, Keeper, LendFault};
+use crate::leased::{Found, Leased, LeasedConnection};
+use crate::pools::Pools;
+use adapt_bytes::MAX_CONNECTIONS;
+use std::sync::Wait;
+use std::sync::ledger::Ledger;
+use trace_core::Point;
+use wait_queue::Waiter;
+
+/// Takes a connection out of use, if it may lie idle. `None` where it is closed.
+fn lay_down<E: Edge, C: Keeper<E>>(connector: &mut C, used: C::Used) -> Option<E::Idle>
+    ensures { LaysDown (C.past connector.old) (C.past connector.new) result }
+{
+    if connector.may_rest(&used) {
+        connector.rest(used)
+    } else {
+        connector.close(used);
+        None
+    }
+}
+
+impl<'a, E: Edge, Q: Ledger, A: Ledger> Pools<'a, E, Q, A> {
+    /// Takes a connection. `None` where it is an idle one that isn't fit for use: it is closed, and its lease given up.
+    fn take_fit<R: Wait, C: Connector<E>>(
+        &self,
+        rt: &R,
+        connector: &mut C,
+        point: Point,
+    ) -> Option<Found<E::Idle, Q, A>>
+        ensures tells { IfSome result (Tells point) }
+        ensures looks { (p : List AnyAct) → C.past connector.old p → C.past connector.new (after_take result p) }
+    {
+        match self.take(rt, point) {
+            Found::Idle(idle, lease) => {
+                if connector.is_fit(&idle) {
+                    Some(Found::Idle(idle, lease))
+                } else {
+                    drop(idle);
+                    self.give_up(rt, lease);
+                    None
+                }
+            }
+            Found::Fresh(lease) => Some(Found::Fresh(lease)),
+            Found::Busy => Some(Found::Busy),
+        }
+    }
+
+    /// Takes a connection, but never one that its service has ended meanwhile, or on which it has said what nobody asked for.
+    fn take_live<R: Wait, C: Connector<E>>(
+        &self,
+        rt: &R,
+        connector: &mut C,
+        point: Point,
+    ) -> Found<E::Idle, Q, A>
+        ensures tells { Tells point result }
+        ensures takes { TakesLive (C.past connector.old) (C.past connector.new) result }
+    {
+        for _ in 0..MAX_CONNECTIONS {
+            if let Some(found) = self.take_fit(rt, connector, point) {
+                return found;
+            }
+        }
+        Found::Busy
+    }
+
+    /// A connection with its lease, which is given up where there is no connection.
+    fn connection_of<R: Wait, U>(
+        &self,
+        rt: &R,
+        used: Result<U, LendFault>,
+        lease: Leased<Q, A>,
+    ) -> Result<LeasedConnection<U, Q, A>, LendFault>
+        ensures connection { IfOk result (λ connection. (connection.lease ≡ lease) × (used ≡ Ok connection.wire)) }
+        ensures fault { fault_in result ≡ fault_in used }
+    {
+        match used {
+            Ok(wire) => Ok(LeasedConnection { wire, lease }),
+            Err(fault) => {
+                self.give_up(rt, lease);
+                Err(fault)
+            }
+        }
+    }
+
+    /// Lends what was found: an idle connection once it is brought into use, or one that is opened now.
+    fn lend_found<R: Wait, C: Connector<E>>(
+        &self,
+        rt: &R,
+        connector: &mut C,
+        found: Found<E::Idle, Q, A>,
+    ) -> Result<LeasedConnection<C::Used, Q, A>, LendFault>
+        ensures busy { (result ≡ Err LendFault.Busy) ↔ (found ≡ Found.Busy) }
+        ensures lease { IfOk result (λ connection. HasLease found connection.lease) }
+        ensures asked { (p : List AnyAct) → C.past connector.old p → C.past connector.new (after_lend found (fault_in result) p) }
+    {
+        match found {
+            Found::Idle(idle, lease) => {
+                let used = connector.resume(idle);
+                self.connection_of(rt, used, lease)
+            }
+            Found::Fresh(lease) => {
+                let used = connector.open(lease.point());
+                self.connection_of(rt, used, lease)
+            }
+            Found::Busy => Err(LendFault::Busy),
+        }
+    }
+
+    /// Lends a connection to a point's service, an idle one first, whoever waits.
+    fn lend_now<R: Wait, C: Connector<E>>(
+        &self,
+        rt: &R,
+        connector: &mut C,
+        point: Point,
+    ) -> Result<LeasedConnection<C::Used, Q, A>, LendFault>
+        ensures point { IsOf point result }
+        ensures lends { Lends (C.past connector.old) (C.past connector.new) result }
+    {
+        let found = self.take_live(rt, connector, point);
+        self.lend_found(rt, connector, found)
+    }
+
+    /// Lends a connection to a point's service, an idle one first. One who comes while others wait for theirs gets none.
+    pub fn lend<R: Wait, C: Connector<E>>(
+        &self,
+        rt: &R,
+        connector: &mut C,
+        point: Point,
+    ) -> Result<LeasedConnection<C::Used, Q, A>, LendFault>
+        ensures point { IsOf point result }
+        ensures lends { Lends (C.past connector.old) (C.past connector.new) result }
+    {
+        if self.waiting.is_awaited(rt, point) {
+            return Err(LendFault::Busy);
+        }
+        self.lend_now(rt, connector, point)
+    }
+
+    /// Lends a connection to one who waits, once it is its turn. With a connection it has left the queue, and the next one is called.
+    pub fn lend_in_turn<R: Wait, C: Connector<E>>(
+        &self,
+        rt: &R,
+        connector: &mut C,
+        point: Point,
+        waiter: Waiter,
+    ) -> Result<LeasedConnection<C::Used, Q, A>, LendFault>
+        ensures point { IsOf point result }
+        ensures lends { Lends (C.past connector.old) (C.past connector.new) result }
+    {
+        if !self.waiting.is_first(rt, point, waiter) {
+            return Err(LendFault::Busy);
+        }
+        let lent = self.lend_now(rt, connector, point);
+        if lent.is_ok() {
+            self.waiting.leave(rt, point, waiter);
+        }
+        lent
+    }
+
+    /// Opens a fresh connection in place of a leased one that broke, and that is closed.
+    pub fn reopen<R: Wait, C: Connector<E>>(
+        &self,
+        rt: &R,
+        connector: &mut C,
+        lease: &mut Leased<Q, A>,
+    ) -> Result<C::Used, LendFault>
+        ensures asked { Reopens (C.past connector.old) (C.past connector.new) result }
+        ensures point { point_of lease.new ≡ point_of lease.old }
+        ensures fresh { OnOk result (is_reused lease.new ≡ false) }
+    {
+        if self.replace(rt, lease) {
+            connector.open(lease.point())
+        } else {
+            Err(LendFault::Unreached)
+        }
+    }
+
+    /// Closes a connection that broke, and opens a fresh one in its place. Where there is none, its lease is given up.
+    pub fn renew<R: Wait, C: Connector<E>>(
+        &self,
+        rt: &R,
+        connector: &mut C,
+        connection: LeasedConnection<C::Used, Q, A>,
+    ) -> Result<LeasedConnection<C::Used, Q, A>, LendFault>
+        ensures point { IsOf (point_of connection.lease) result }
+        ensures fresh { IfOk result (λ renewed. is_reused renewed.lease ≡ false) }
+
+        // The broken one is closed before another one is opened.
+        ensures closes { Reopens (λ p. (q : List AnyAct) × (p ≡ Act.Closed ∷ q) × C.past connector.old q) (C.past connector.new) result }
+    {
+        let LeasedConnection { wire, lease } = connection;
+        connector.close(wire);
+        let mut lease = lease;
+        let used = self.reopen(rt, connector, &mut lease);
+        self.connection_of(rt, used, lease)
+    }
+
+    /// Puts a connection back that may serve again. One that its service has ended, or on which it says what nobody asked for, is
+    /// closed, and its lease given up.
+    pub fn put<R: Wait, C: Keeper<E>>(
+        &self,
+        rt: &R,
+        connector: &mut C,
+        connection: LeasedConnection<C::Used, Q, A>,
+    )
+        ensures { PutsBack (C.past connector.old) (C.past connector.new) }
+    {
+        let LeasedConnection { wire, lease } = connection;
+        match lay_down(connector, wire) {
+            Some(idle) => self.put_idle(rt, idle, lease),
+            None => self.give_up(rt, lease),
+        }
+    }
+
+    /// Closes a connection, and gives up its lease after that: others may open one in its place.
+    pub fn close<R: Wait, C: Keeper<E>>(
+        &self,
+        rt: &R,
+        connector: &mut C,
+        connection: LeasedConnection<C::Used, Q, A>,
+    )
+        ensures { (p : List AnyAct) → C.past connector.old p → C.past connector.new (Act.Closed ∷ p) }
+    {
+        let LeasedConnection { wire, lease } = connection;
+        connector.close(wire);
+        self.give_up(rt, lease);
+    }
+}

@@ -1,0 +1,19 @@
+//! Connections to services: how threads share, lend, put back, renew and wait for them, and what each service said last.
+//!
+//! The pools and the queues of both points are shared by all threads. What opens a connection, brings it into use and takes it
+//! out again is a `Connector`, and what wakes a thread is an `Edge`: both are traits, and no socket is here.
+#![tactic(auto)]
+
+mod book;
+mod connector;
+mod leased;
+mod lending;
+mod pools;
+mod queues;
+
+pub use book::PointBook;
+pub use connector::{Act, Connector, Edge, Keeper, LendFault};
+pub use leased::{Found, Leased, LeasedConnection};
+pub use pools::Pools;
+pub use queues::{POINTS, Queues, Waiting};
+pub use std::alloc::AllocError as NoMemory;

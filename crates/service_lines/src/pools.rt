@@ -1,0 +1,160 @@
+//! The pools of both points.
+
+ghost use Rattle.std.specs.Prelude.{◌≡◌, ◌≤◌, true, false, Some, OnOk, OnErr};
+ghost use Rattle.service_lines.specs.Lending.{Tells, point_of, is_reused};
+
+use crate::book::PointBook;
+use crate::connector::Edge;
+use crate::leased::{Found, Leased};
+use crate::queues::Waiting;
+use adapt_bytes::MAX_CONNECTIONS;
+use options_book::Record;
+use service_pool::{Pool, Taken};
+use std::alloc::{AllocError, Global};
+use std::sync::Wait;
+use std::sync::ledger::Ledger;
+use trace_core::Point;
+
+/// The connections to the services of both points, which all threads share, and those who wait for one.
+///
+/// ```
+/// // An exchange takes a connection, and puts it back once its service has said all.
+/// let connection = pools.lend(rt, &mut connector, Point::Reqmod)?;
+/// assert!(rt; !connection.lease.reused());
+/// pools.put(rt, &mut connector, connection);
+/// ```
+#[derive(Drop)]
+pub struct Pools<'a, E: Edge, Q: Ledger, A: Ledger> {
+    pub request: &'a Pool<E::Idle, Q>,
+    pub response: &'a Pool<E::Idle, A>,
+    /// Those who wait for a connection of them.
+    pub waiting: Waiting<'a, E>,
+}
+
+impl<'a, E: Edge, Q: Ledger, A: Ledger> Pools<'a, E, Q, A> {
+    /// These pools, for another thread.
+    pub fn again(&self) -> Pools<'a, E, Q, A> {
+        Pools {
+            request: self.request,
+            response: self.response,
+            waiting: self.waiting.again(),
+        }
+    }
+
+    /// Leases a connection of a point's service, an idle one first.
+    pub(crate) fn take<R: Wait>(&self, rt: &R, point: Point) -> Found<E::Idle, Q, A>
+        ensures { Tells point result }
+    {
+        match point {
+            Point::Reqmod => match self.request.take(rt) {
+                Taken::Idle(idle, lease) => Found::Idle(idle, Leased::Request(lease)),
+                Taken::Fresh(lease) => Found::Fresh(Leased::Request(lease)),
+                Taken::Busy => Found::Busy,
+            },
+            Point::Respmod => match self.response.take(rt) {
+                Taken::Idle(idle, lease) => Found::Idle(idle, Leased::Response(lease)),
+                Taken::Fresh(lease) => Found::Fresh(Leased::Response(lease)),
+                Taken::Busy => Found::Busy,
+            },
+        }
+    }
+
+    /// Puts a connection that lies idle back, for the one that waits longest. One that is too many is closed.
+    pub(crate) fn put_idle<R: Wait>(&self, rt: &R, idle: E::Idle, lease: Leased<Q, A>) {
+        let point = lease.point();
+        match lease {
+            Leased::Request(lease) => drop(self.request.put(rt, idle, lease)),
+            Leased::Response(lease) => drop(self.response.put(rt, idle, lease)),
+        }
+        self.waiting.call(rt, point);
+    }
+
+    /// Gives up the lease of a connection that is closed: the one that waits longest may open another.
+    pub fn give_up<R: Wait>(&self, rt: &R, lease: Leased<Q, A>) {
+        let point = lease.point();
+        match lease {
+            Leased::Request(lease) => self.request.give_up(rt, lease),
+            Leased::Response(lease) => self.response.give_up(rt, lease),
+        }
+        self.waiting.call(rt, point);
+    }
+
+    /// Whether a fresh connection may be opened in place of one that broke.
+    pub(crate) fn replace<R: Wait>(&self, rt: &R, lease: &mut Leased<Q, A>) -> bool
+        ensures point { point_of lease.new ≡ point_of lease.old }
+        ensures fresh { result ≡ true → is_reused lease.new ≡ false }
+        ensures same { result ≡ false → lease.new ≡ lease.old }
+    {
+        match lease {
+            Leased::Request(lease) => self.request.replace(rt, lease).is_ok(),
+            Leased::Response(lease) => self.response.replace(rt, lease).is_ok(),
+        }
+    }
+
+    /// Closes an idle connection to a point's service. False if there is none.
+    fn close_idle<R: Wait>(&self, rt: &R, point: Point) -> bool {
+        match self.take(rt, point) {
+            Found::Idle(idle, lease) => {
+                drop(idle);
+                self.give_up(rt, lease);
+                true
+            }
+            Found::Fresh(lease) => {
+                self.give_up(rt, lease);
+                false
+            }
+            Found::Busy => false,
+        }
+    }
+
+    /// Closes as many idle connections as keep the next user out, and at most this many. False if none is left that could be closed.
+    pub fn make_room<R: Wait>(&self, rt: &R, most: u64) -> bool {
+        for _ in 0..most {
+            if !self.waiting.edge.is_crowded() {
+                return true;
+            }
+            if !self.close_idle(rt, Point::Reqmod) && !self.close_idle(rt, Point::Respmod) {
+                return false;
+            }
+        }
+        true
+    }
+
+    /// Sets how many connections may be open, and closes idle ones that are too many.
+    pub fn set_max<R: Wait>(
+        &self,
+        rt: &R,
+        alloc: Global,
+        point: Point,
+        maximum: u64,
+    ) -> Result<(), AllocError>
+        requires { maximum ≤ MAX_CONNECTIONS }
+    {
+        let _closed = match point {
+            Point::Reqmod => self.request.set_max(rt, alloc, maximum)?,
+            Point::Respmod => self.response.set_max(rt, alloc, maximum)?,
+        };
+        self.waiting.call(rt, point);
+        Ok(())
+    }
+
+    /// Keeps what a service said, once its pool has the maximum that it says. `Err` where no memory was found: then nothing has
+    /// changed.
+    pub fn keep<R: Wait>(
+        &self,
+        rt: &R,
+        alloc: Global,
+        point: Point,
+        maximum: u64,
+        book: &mut PointBook,
+        said: Record,
+    ) -> Result<(), AllocError>
+        requires { maximum ≤ MAX_CONNECTIONS }
+        ensures kept { OnOk result (book.new.said ≡ Some said) }
+        ensures same { OnErr result (book.new ≡ book.old) }
+    {
+        self.set_max(rt, alloc, point, maximum)?;
+        book.keep(said);
+        Ok(())
+    }
+}

@@ -1,0 +1,201 @@
+//! What a loop counts. It alone adds; the administrator's loop reads.
+
+ghost use Rattle.std.specs.Prelude.{◌≡◌, ◌<◌};
+ghost use Rattle.shard_report.specs.Places.{class_of, class_number, point_number, reply_number, why_number, place_of};
+ghost use Rattle.shard_report.specs.declared.tally.TheConstants.{COUNTS};
+
+use exchange_report::{Reply, Why};
+use std::alloc::{AllocError, Global};
+use std::sync::atomic::{AtomicU64, Ordering};
+use trace_core::Point;
+
+/// The class of a status (RFC 9110, section 15).
+#[derive(Clone, Copy, Debug, PartialEq, Eq)]
+pub enum Class {
+    /// 100 to 199.
+    Informational,
+    /// 200 to 299.
+    Successful,
+    /// 300 to 399.
+    Redirection,
+    /// 400 to 499.
+    ClientError,
+    /// 500 to 599.
+    ServerError,
+    /// HTTP has no such class.
+    Other,
+}
+
+/// What is counted.
+#[derive(Clone, Copy, Debug, PartialEq, Eq)]
+pub enum Count {
+    /// Requests that were answered, refused or cut.
+    Requests,
+    /// Messages that were sent to their service anew.
+    Retries,
+    /// Bytes from users.
+    Read,
+    /// Bytes to users.
+    Sent,
+    /// Users that are connected.
+    Users,
+    /// Answers with a status of this class.
+    Answers(Class),
+    /// Messages of a point with this reply of their service.
+    Messages(Point, Reply),
+    /// The proxy's own refusals for this reason.
+    Refusals(Why),
+}
+
+/// How many numbers a loop has: five, one for each class, four for each point, and one for each reason.
+const COUNTS: usize = 5 + 6 + 2 * 4 + 20;
+
+impl Class {
+    /// The class of a status.
+    pub fn of(status: u16) -> Class
+        ensures { result ≡ class_of status }
+    {
+        match status / 100 {
+            1 => Class::Informational,
+            2 => Class::Successful,
+            3 => Class::Redirection,
+            4 => Class::ClientError,
+            5 => Class::ServerError,
+            _ => Class::Other,
+        }
+    }
+
+    fn number(self) -> usize
+        ensures { result ≡ class_number self }
+    {
+        match self {
+            Class::Informational => 0,
+            Class::Successful => 1,
+            Class::Redirection => 2,
+            Class::ClientError => 3,
+            Class::ServerError => 4,
+            Class::Other => 5,
+        }
+    }
+}
+
+fn point_number(point: Point) -> usize
+    ensures { result ≡ point_number point }
+{
+    match point {
+        Point::Reqmod => 0,
+        Point::Respmod => 1,
+    }
+}
+
+fn reply_number(reply: Reply) -> usize
+    ensures { result ≡ reply_number reply }
+{
+    match reply {
+        Reply::Plain => 0,
+        Reply::Unchanged => 1,
+        Reply::Changed => 2,
+        Reply::Missing => 3,
+    }
+}
+
+fn why_number(why: Why) -> usize
+    ensures { result ≡ why_number why }
+{
+    match why {
+        Why::Served => 0,
+        Why::BadRequest => 1,
+        Why::NotServed => 2,
+        Why::RequestBroken => 3,
+        Why::UnknownHost => 4,
+        Why::OriginRefused => 5,
+        Why::OriginBroken => 6,
+        Why::OriginDeadline => 7,
+        Why::ServiceRefused => 8,
+        Why::ServiceStatus => 9,
+        Why::ServiceBroken => 10,
+        Why::ServiceDeadline => 11,
+        Why::Busy => 12,
+        Why::Full => 13,
+        Why::NoRow => 14,
+        Why::NoSeat => 15,
+        Why::NoMemory => 16,
+        Why::UserDeadline => 17,
+        Why::UserGone => 18,
+        Why::Stopping => 19,
+    }
+}
+
+/// The place of a number among all of a loop. No two share one.
+fn place(count: Count) -> usize
+    ensures place { result ≡ place_of count }
+    ensures within { result < COUNTS }
+{
+    match count {
+        Count::Requests => 0,
+        Count::Retries => 1,
+        Count::Read => 2,
+        Count::Sent => 3,
+        Count::Users => 4,
+        Count::Answers(class) => 5 + class.number(),
+        Count::Messages(point, reply) => 11 + 4 * point_number(point) + reply_number(reply),
+        Count::Refusals(why) => 19 + why_number(why),
+    }
+}
+
+/// The numbers of one loop.
+///
+/// ```
+/// let tally = Tally::new(alloc)?;
+/// tally.add(Count::Answers(Class::of(204)), 1);
+/// assert_eq!(rt; tally.get(Count::Answers(Class::Successful)), 1);
+/// assert_eq!(rt; tally.get(Count::Requests), 0);
+/// ```
+#[derive(Drop)]
+pub struct Tally {
+    all: Vec<AtomicU64>,
+}
+
+impl Tally {
+    /// All are 0. `Err` where no memory was found.
+    pub fn new(alloc: Global) -> Result<Tally, AllocError> {
+        let mut all = Vec::with_capacity(alloc, COUNTS)?;
+        for _ in 0..COUNTS {
+            if all.len() < all.capacity() {
+                all.push_reserved(AtomicU64::new(0));
+            }
+        }
+        Ok(Tally { all })
+    }
+
+    /// Adds to a number.
+    pub fn add(&self, count: Count, more: u64) {
+        if let Some(number) = self.all.get(place(count)) {
+            let _ = number.fetch_add(more, Ordering::SeqCst);
+        }
+    }
+
+    /// Takes from a number.
+    pub fn take(&self, count: Count, fewer: u64) {
+        if let Some(number) = self.all.get(place(count)) {
+            let _ = number.fetch_sub(fewer, Ordering::SeqCst);
+        }
+    }
+
+    /// A number.
+    pub fn get(&self, count: Count) -> u64 {
+        match self.all.get(place(count)) {
+            Some(number) => number.load(Ordering::SeqCst),
+            None => 0,
+        }
+    }
+}
+
+/// The sum of a number over all loops.
+pub fn total(tallies: &[Tally], count: Count) -> u64 {
+    let mut sum = 0u64;
+    for tally in tallies {
+        sum = sum.wrapping_add(tally.get(count));
+    }
+    sum
+}

@@ -1,0 +1,40 @@
+//! Whose connection of an exchange it is.
+
+use crate::socket::SocketWire;
+use crate::token::Side;
+
+/// A peer of an exchange.
+pub trait Role {
+    /// The connection to it, as tokens name it.
+    const SIDE: Side;
+}
+
+/// The user, who sends requests.
+pub struct User;
+
+impl Role for User {
+    const SIDE: Side = Side::User;
+}
+
+/// The origin server, which answers them.
+pub struct Origin;
+
+impl Role for Origin {
+    const SIDE: Side = Side::Origin;
+}
+
+/// A service, which messages are offered to.
+pub struct Service;
+
+impl Role for Service {
+    const SIDE: Side = Side::Service;
+}
+
+/// A user's connection.
+pub type UserWire = SocketWire<User>;
+
+/// A connection to an origin server.
+pub type OriginWire = SocketWire<Origin>;
+
+/// A connection to a service.
+pub type ServiceWire = SocketWire<Service>;

@@ -1,0 +1,288 @@
+"""The origin and the service of the fuzz: what they read has to be of one exchange, and what they answer is that one's."""
+import asyncio
+import random
+
+from serve_lab.fuzzing.plans import TOKEN, aliens, changed, chosen, chunks, filled, garbage, plan_by
+from serve_lab.fuzzing.wires import Ended, Reset, Wire, fields_of
+
+PATIENCE = 25.0
+
+
+def plan_of_target(seed, line):
+    """The plan that the target of a request line names, and its identity. None for each that isn't there."""
+    words = line.split(b" ")
+    parts = words[1].split(b"/") if len(words) == 3 else []
+    mark = next((part for part in parts if part.count(b".") == 2 and part[:1].isdigit()), None)
+    return (plan_by(seed, mark) if mark else None), mark
+
+
+class Peer:
+    """A server whose connections are tasks."""
+
+    def __init__(self, seed, found):
+        self.seed, self.found = seed, found
+        self.count = 0
+        self.port = None
+
+    async def listen(self):
+        server = await asyncio.get_running_loop().create_server(lambda: Wire(self.one), "127.0.0.1", 0, backlog=4096)
+        self.port = server.sockets[0].getsockname()[1]
+        return self
+
+    async def one(self, wire):
+        self.count += 1
+        own = random.Random("%s %s %d" % (self.seed, type(self).__name__, self.count))
+        try:
+            await self.serve(own, wire)
+        except (Ended, Reset, TimeoutError, ValueError, KeyError, IndexError):
+            pass  # A message that breaks is no fault of this side.
+        if wire.breaks and own.random() < 0.4:
+            wire.reset()
+        else:
+            wire.close()
+
+    def wrong(self, text, *values):
+        self.found.wrong("%s: %s" % (type(self).__name__, text % values))
+
+    def own(self, plan, word):
+        return random.Random("%s %s %s" % (self.seed, plan.mark, word))
+
+
+class FuzzOrigin(Peer):
+    """Answers what the target's identity asks for, whole or broken."""
+
+    async def serve(self, own, wire):
+        async with asyncio.timeout(PATIENCE):
+            await self.exchange(own, wire)
+
+    async def exchange(self, own, wire):
+        head = await wire.head()
+        fields = fields_of(head)
+        plan, _mark = plan_of_target(self.seed, fields[b""])
+        if plan is None:
+            self.found.count("origin: requests without an identity")
+            wire.write(b"HTTP/1.1 200 OK\r\nContent-Length: 0\r\n\r\n")
+            return
+        own = self.own(plan, "origin")
+        wire.breaks = plan.origin in ("refuses", "cut", "early", "changed", "garbage")
+        if plan.origin == "refuses":
+            return
+        if plan.origin != "early":
+            body = bytearray()
+            await wire.message(body, fields, False)
+            self.judge(plan, head, fields, bytes(body))
+        if plan.origin == "mute":
+            await asyncio.sleep(PATIENCE)
+        text = self.answer(own, plan)
+        if plan.origin == "changed":
+            text = changed(own, text)
+        elif plan.origin == "cut":
+            text = text[:own.randrange(len(text))]
+        elif plan.origin == "trailing":
+            text += own.choice((b"x", text, b"\r\n", b"HTTP/1.1 200 OK\r\nContent-Length: 3\r\n\r\nabc"))
+        elif plan.origin == "garbage":
+            text = garbage(own)
+        await wire.write_in_pieces(own, text)
+        if plan.origin == "early":
+            await asyncio.sleep(own.choice((0, 0, 0.01)))
+        elif wire.raw:
+            self.wrong("%r has %d bytes after its request: %r", plan.mark, len(wire.raw), bytes(wire.raw[:200]))
+
+    def judge(self, plan, head, fields, body):
+        """A whole request that was read has to be the user's, or the one that the service made of it."""
+        others = aliens(self.seed, head, plan.mark)
+        self.found.count("origin: whole requests")
+        if others:
+            self.wrong("%r has a head with %r: %r", plan.mark, others, head)
+        if not plan.is_sound() or plan.reqmod.fault == "changed":
+            if body and aliens(self.seed, body, plan.mark):
+                self.wrong("%r has a body with %r", plan.mark, aliens(self.seed, body, plan.mark))
+            return
+        adapted = fields.get(b"x-adapted")
+        if fields.get(b"x-mark") != b"<q%s>" % plan.mark or adapted not in (None, b"<Q%s>" % plan.mark):
+            self.wrong("%r has other fields: %r", plan.mark, head)
+        if body != plan.request_body(adapted is not None):
+            self.wrong("%r has another body: %s", plan.mark, shown(body, plan.request_body(adapted is not None)))
+
+    @staticmethod
+    def answer(own, plan):
+        interim = b"HTTP/1.1 103 Hints\r\nLink: x\r\n\r\n" if plan.interim else b""
+        extra = b"X-Mark: <r%s>\r\n" % plan.mark + own.choice((b"", b"", b"Server:  x \r\n", b"Connection: keep-alive\r\n"))
+        body = filled(b"r", plan.mark, plan.answer_size)
+        has_body = not plan.bodiless()
+        if plan.framing == "chunked":
+            text = b"HTTP/1.1 %d Fine\r\n%sTransfer-Encoding: chunked\r\n\r\n" % (plan.status, extra)
+            return interim + text + (chunks(own, body) if has_body else b"")
+        length = b"" if plan.framing == "close" else b"Content-Length: %d\r\n" % len(body)
+        text = b"HTTP/1.%d %d Fine\r\n%s%s\r\n" % (own.choice((0, 1, 1)), plan.status, extra, length)
+        return interim + text + (body if has_body else b"")
+
+
+def shown(found, wanted):
+    """How two bodies differ."""
+    at = next((at for at, (a, b) in enumerate(zip(found, wanted)) if a != b), min(len(found), len(wanted)))
+    near = slice(max(0, at - 30), at + 60)
+    return "%d bytes of %d, the first other one at %d: %r, not %r" % (len(found), len(wanted), at, found[near], wanted[near])
+
+
+# Answers to OPTIONS that are faults.
+BROKEN_OPTIONS = (b"ICAP/1.0 404 No\r\nISTag: \"f-1\"\r\nEncapsulated: null-body=0\r\n\r\n",
+                  b"ICAP/1.0 200 OK\r\nMethods: FOO\r\nISTag: \"f-1\"\r\nEncapsulated: null-body=0\r\n\r\n",
+                  b"ICAP/1.0 200 OK\r\nMethods: REQMOD, RESPMOD\r\nEncapsulated: null-body=0\r\n\r\n", b"ICAP/1.0 200 O", b"what\r\n\r\n")
+
+
+class FuzzService(Peer):
+    """An ICAP service for both points: gives messages back, adapts them, answers 204 or by itself, or breaks."""
+
+    def __init__(self, seed, found):
+        super().__init__(seed, found)
+        self.asked = {}
+
+    async def serve(self, own, wire):
+        while True:
+            head = await wire.head()
+            if head.startswith(b"OPTIONS"):
+                wire.write(self.options(own, head))
+                continue
+            async with asyncio.timeout(PATIENCE):
+                if not await self.reply(own, wire, head):
+                    return
+
+    @staticmethod
+    def options(own, head):
+        method = b"REQMOD" if b"/reqmod" in head.split(b"\r\n")[0] else b"RESPMOD"
+        if own.random() < 0.01:
+            return own.choice(BROKEN_OPTIONS)
+        return (b"ICAP/1.0 200 OK\r\nMethods: %s\r\nISTag: \"f-1\"\r\n%sMax-Connections: %d\r\nPreview: %d\r\nTransfer-Preview: *\r\n"
+                b"Transfer-Ignore: gif\r\nTransfer-Complete: exe\r\nOptions-TTL: %d\r\nEncapsulated: null-body=0\r\n\r\n"
+                % (method, own.choice((b"", b"Allow: 204\r\n")), 2 if b"/few" in head else 200, own.choice((0, 4, 1024)),
+                   own.choice((0, 2, 3600))))
+
+    async def reply(self, own, wire, head):
+        """Reads a message and answers it. False where the connection has to end."""
+        fields = fields_of(head)
+        names = [part.strip().split(b"=") for part in fields[b"encapsulated"].split(b",")]
+        heads = await wire.exactly(int(names[-1][1]))
+        plan, _mark = plan_of_target(self.seed, heads.split(b"\r\n")[0])
+        if plan is None:
+            self.found.count("service: messages without an identity")
+            return False
+        offer = Offer(self, plan, fields, names, heads)
+        if offer.has_body and not offer.is_preview and offer.may_be_hasty():
+            return await self.answer_first(own, wire, offer)
+        if offer.has_body:
+            await offer.read(wire)
+        turn = self.asked[plan.mark, offer.is_request] = self.asked.get((plan.mark, offer.is_request), 0) + 1
+        own = self.own(plan, "service %s %d" % (offer.is_request, turn))
+        fault = offer.verdict.fault
+        wire.breaks = fault in ("closes", "cut", "changed")
+        if fault == "closes" and turn == 1:
+            return False
+        if offer.is_open and (offer.verdict.continues or offer.word == "same" and own.random() < 0.3):
+            wire.write(b"ICAP/1.0 100 Continue\r\n" + own.choice((b"", b"X: y\r\n")) + b"\r\n")
+            offer.is_preview = False
+            if offer.may_be_hasty():
+                return await self.answer_first(own, wire, offer)
+            await offer.read(wire)
+        text = offer.answer(own)
+        if fault == "changed":
+            text = changed(own, text)
+        elif fault == "cut":
+            text = text[:own.randrange(len(text))]
+        elif fault == "trailing":
+            text += own.choice((b"x", b"\r\n", b"ICAP/1.0 "))
+        await wire.write_in_pieces(own, text)
+        return fault not in ("changed", "cut", "leaves")
+
+    async def answer_first(self, own, wire, offer):
+        """Answers before the rest of the message has come. What comes then is that rest, and nothing else, or the connection ends."""
+        self.found.count("service: answers before the message was read")
+        wire.write(offer.answer(own))
+        await asyncio.sleep(own.choice((0, 0, 0.002)))
+        try:
+            await offer.read(wire)
+        except ValueError:
+            self.wrong("%r is followed by other bytes before its end: %r", offer.plan.mark, bytes(wire.raw[:200]))
+        return True
+
+
+class Offer:
+    """A message that a service is offered."""
+
+    def __init__(self, service, plan, fields, names, heads):
+        self.service, self.plan, self.names, self.heads = service, plan, names, heads
+        self.is_request = fields[b""].startswith(b"REQMOD")
+        self.verdict = plan.reqmod if self.is_request else plan.respmod
+        self.word = plan.verdict(True, self.is_request)
+        self.is_allowed = b"204" in fields.get(b"allow", b"")
+        self.is_preview = b"preview" in fields
+        self.has_body = names[-1][0] != b"null-body"
+        self.body = bytearray()
+        # Whether there may be more after a preview.
+        self.is_open = False
+
+    def may_be_hasty(self):
+        return self.verdict.is_hasty and not self.verdict.fault and (self.word != "same" or self.is_allowed)
+
+    async def read(self, wire):
+        """Reads a body up to its last chunk, or that of its preview, and judges it."""
+        try:
+            last = await wire.chunked(self.body)
+        finally:
+            self.judge(False)
+        self.is_open = self.is_preview and b"ieof" not in last
+        self.judge(not self.is_open)
+
+    def wrong(self, text, *values):
+        point = "REQMOD" if self.is_request else "RESPMOD"
+        self.service.wrong("%r, %s, " + text, self.plan.mark, point, *values)
+
+    def judge(self, is_whole):
+        """What was offered has to be of one exchange; where its sides are sound, just their bytes."""
+        plan, body = self.plan, bytes(self.body)
+        self.service.found.count("service: messages")
+        others = aliens(self.service.seed, self.heads, plan.mark)
+        if others:
+            self.wrong("has heads with %r: %r", others, self.heads)
+        if not plan.is_sound() or not self.is_request and (plan.origin in ("changed", "garbage") or plan.reqmod.fault == "changed"):
+            others = aliens(self.service.seed, body, plan.mark)
+            if others:
+                self.wrong("has a body with %r", others)
+            return
+        wanted = plan.request_body(False) if self.is_request else plan.answer_body(False)
+        if is_whole and body != wanted or not wanted.startswith(body):
+            self.wrong("has another body: %s", shown(body, wanted))
+        kinds = set(token[0] for token in TOKEN.findall(self.heads))
+        if kinds != ({b"q"} if self.is_request else {b"q", b"r"}):
+            self.wrong("has other heads: %r", self.heads)
+
+    def answer(self, own):
+        """A 204 where it may be; else a 200 with the message as it came, with another one, or with an answer of the service's own."""
+        if self.word == "same" and (self.is_open or (self.is_preview or self.is_allowed) and own.random() < 0.8):
+            return b"ICAP/1.0 204 No Modifications\r\nISTag: \"f-1\"\r\nEncapsulated: null-body=0\r\n\r\n"
+        if self.word == "same" and self.verdict.is_hasty and self.is_allowed:
+            return b"ICAP/1.0 204 No Modifications\r\nISTag: \"f-1\"\r\nEncapsulated: null-body=0\r\n\r\n"
+        kind, heads, has_body, body = self.message(own)
+        part = kind if has_body else b"null"
+        comma = own.choice((b", ", b",", b" ,\t"))
+        text = b"ICAP/1.0 200 OK\r\nISTag: \"f-1\"\r\nEncapsulated: %s-hdr=0%s%s-body=%d\r\n\r\n" % (kind, comma, part, len(heads))
+        return text + heads + (chunks(own, body) if has_body else b"")
+
+    def message(self, own):
+        """The message of a 200: which kind, its head, whether it has a body, and the body."""
+        plan, heads = self.plan, self.heads
+        if self.word == "page":
+            heads = b"HTTP/1.1 403 No\r\nX-Mark: <p%s>\r\n\r\n" % plan.mark
+            return b"res", heads, plan.method != "HEAD", filled(b"p", plan.mark, self.verdict.size)
+        kind, letter = (b"req", b"Q") if self.is_request else (b"res", b"R")
+        if not self.is_request and self.names[0][0] == b"req-hdr":
+            heads = heads[int(self.names[1][1]):]
+        if self.word == "same":
+            return kind, heads, self.has_body, bytes(self.body)
+        has_body = self.has_body or not self.is_request and not plan.bodiless()
+        body = filled(letter, plan.mark, self.verdict.size) if has_body else b""
+        lines = [line for line in heads.split(b"\r\n")[:-2] if not line.lower().startswith(b"content-length:")]
+        lines.append(b"X-Adapted: <%s%s>" % (letter, plan.mark))
+        if has_body and own.random() < 0.5:
+            lines.append(b"Content-Length: %d" % len(body))
+        return kind, b"\r\n".join(lines) + b"\r\n\r\n", has_body, body
