@@ -51,7 +51,7 @@ trace: ## runs examples/$(SCRIPT).trace, and prints its answers
 check: ## proves every crate, over what earlier runs kept
 	rt all check
 
-ci: ## the merge gate: every proof from nothing, the must-fail edits, the tests, the programs
+ci: ## the merge gate: every proof, the must-fail edits, the tests, the programs
 	rt ci
 
 gate-cost: ## the gate's minutes of processor time by crate, as last measured; ANEW=1 runs the whole gate from nothing, and measures it
