@@ -92,7 +92,7 @@ def programs_say_what_they_are(bench):
         out, errors, status = run(program, "--help")
         same("help", (all(line.startswith(name + b" ") for line in out.splitlines()), errors, status), (True, b"", 0))
         out, errors, status = run(program, "--version")
-        same("version", (out.startswith(name + b" 0."), b"(rattle-kit-13f logic dac8208d650f15bf)\n" in out, errors, status),
+        same("version", (out.startswith(name + b" 0."), b"(rattle-kit-13b logic dac8208d650f15bf)\n" in out, errors, status),
              (True, True, b"", 0))
         for word in ("help", "-h", "--Help", "Check", ""):
             same(word, run(program, word), (b"", name + b": usage\n", 2))
