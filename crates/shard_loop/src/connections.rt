@@ -38,6 +38,23 @@ impl<'a, B: Ledgers, Q: Ledger, A: Ledger, G: Gate> Desk<'a, B, Q, A, G> {
         }
     }
 
+    /// The seat of an exchange that may dial its service. The seats of its thread are in it, and come back after the call.
+    fn port<'s, 'r, R: Dial>(
+        &mut self,
+        rt: &'s R,
+        at: At<'r>,
+        point: Point,
+    ) -> Port<'s, 'r, 'a, R> {
+        let address = self.service_address(point);
+        Port {
+            rt,
+            at,
+            seats: self.seats.lend(),
+            room: self.shared.pools.waiting.edge.room,
+            address,
+        }
+    }
+
     /// Leases a connection to a point's service, an idle one first. One that comes while others wait for theirs gets none.
     pub fn lend<R: Wait + Dial>(
         &mut self,
@@ -45,16 +62,7 @@ impl<'a, B: Ledgers, Q: Ledger, A: Ledger, G: Gate> Desk<'a, B, Q, A, G> {
         at: At<'_>,
         point: Point,
     ) -> Result<LeasedConnection<Q, A>, Reason> {
-        let address = self.service_address(point);
-        let room = self.shared.pools.waiting.edge.room;
-        let seats = self.seats.lend();
-        let mut port = Port {
-            rt,
-            at,
-            seats,
-            room,
-            address,
-        };
+        let mut port = self.port(rt, at, point);
         let lent = self.shared.pools.lend(rt, &mut port, point);
         self.seats = port.seats;
         match lent {
@@ -71,16 +79,7 @@ impl<'a, B: Ledgers, Q: Ledger, A: Ledger, G: Gate> Desk<'a, B, Q, A, G> {
         point: Point,
         waiter: Waiter,
     ) -> Result<LeasedConnection<Q, A>, Reason> {
-        let address = self.service_address(point);
-        let room = self.shared.pools.waiting.edge.room;
-        let seats = self.seats.lend();
-        let mut port = Port {
-            rt,
-            at,
-            seats,
-            room,
-            address,
-        };
+        let mut port = self.port(rt, at, point);
         let lent = self.shared.pools.lend_in_turn(rt, &mut port, point, waiter);
         self.seats = port.seats;
         match lent {
@@ -96,16 +95,7 @@ impl<'a, B: Ledgers, Q: Ledger, A: Ledger, G: Gate> Desk<'a, B, Q, A, G> {
         at: At<'_>,
         connection: LeasedConnection<Q, A>,
     ) -> Result<LeasedConnection<Q, A>, Reason> {
-        let address = self.service_address(connection.lease.point());
-        let room = self.shared.pools.waiting.edge.room;
-        let seats = self.seats.lend();
-        let mut port = Port {
-            rt,
-            at,
-            seats,
-            room,
-            address,
-        };
+        let mut port = self.port(rt, at, connection.lease.point());
         let lent = self.shared.pools.renew(rt, &mut port, connection);
         self.seats = port.seats;
         match lent {
@@ -121,16 +111,7 @@ impl<'a, B: Ledgers, Q: Ledger, A: Ledger, G: Gate> Desk<'a, B, Q, A, G> {
         at: At<'_>,
         lease: &mut Leased<Q, A>,
     ) -> Result<ServiceWire, LendFault> {
-        let address = self.service_address(lease.point());
-        let room = self.shared.pools.waiting.edge.room;
-        let seats = self.seats.lend();
-        let mut port = Port {
-            rt,
-            at,
-            seats,
-            room,
-            address,
-        };
+        let mut port = self.port(rt, at, lease.point());
         let wire = self.shared.pools.reopen(rt, &mut port, lease);
         self.seats = port.seats;
         wire

@@ -2,6 +2,7 @@
 
 ghost use Rattle.std.specs.Prelude.{◌≡◌};
 
+use crate::board::{Common, board_of};
 use crate::desk::{Desk, Shared};
 use crate::exchanges::Exchanges;
 use crate::left::Left;
@@ -9,13 +10,13 @@ use crate::office::Office;
 use crate::pools::{Loops, Pools, Spare};
 use crate::shard::Shard;
 use event_loop::{
-    Base, Ended, Entrance, Inbox, LoopFault, Room, Work, add_loop, name_thread, run_loop, stop_all,
+    Base, Ended, Entrance, Inbox, LoopFault, Work, add_loop, name_thread, run_loop, stop_all,
 };
 use mio::net::TcpListener;
-use proxy_config::{Config, MAX_SHARDS, ServicePoint};
-use service_lines::{Queues, Waiting};
+use proxy_config::{Config, MAX_SHARDS};
+use service_lines::Waiting;
 use service_pool::Pool;
-use shard_report::{Append, Log, ServeFault, Tally};
+use shard_report::{Append, ServeFault};
 use socket_wire::Dial;
 use span_bank::{Bank, Ledgers};
 use std::alloc::{AllocError, Global};
@@ -26,20 +27,6 @@ use std::sync::{Arc, Mutex, Wait};
 use std::thread::{self, Threads};
 use std::time::Clock;
 use wire_kit::Gate;
-
-/// The connections to a service that may lie idle whatever users need.
-fn idle_connections(service: &Option<ServicePoint>) -> u64 {
-    match service {
-        Some(service) => service.connections,
-        None => 0,
-    }
-}
-
-/// The descriptors that are left beside the loops': users leave as many of them to idle connections as are configured.
-fn room_of(config: &Config) -> Room {
-    let idle = idle_connections(&config.reqmod).saturating_add(idle_connections(&config.respmod));
-    Room::of_system(config.shards.saturating_add(1), idle)
-}
 
 /// Makes a base for one more loop, after the others.
 fn add_base<R: Net>(
@@ -111,82 +98,6 @@ impl Place for Option<Base> {
     fn take_base(&mut self) -> Option<Base> {
         self.take()
     }
-}
-
-/// What all threads have: their inboxes, what they count, and the log.
-trait Common {
-    /// The inboxes, in the order of the threads.
-    fn inboxes(&self) -> &[Inbox];
-
-    /// The inboxes, while they are made.
-    fn inboxes_mut(&mut self) -> &mut Vec<Inbox>;
-
-    /// What each thread counts that takes users.
-    fn tallies(&self) -> &[Tally];
-
-    /// The lines of the log that wait to be written, and their file.
-    fn log(&self) -> &Log;
-
-    /// Those who wait for a connection to a service.
-    fn queues(&self) -> &Queues;
-
-    /// The descriptors that users and idle connections share.
-    fn room(&self) -> &Arc<Room>;
-}
-
-/// The board on which the threads find what they have in common.
-#[derive(Drop)]
-struct Board {
-    inboxes: Vec<Inbox>,
-    tallies: Vec<Tally>,
-    log: Log,
-    queues: Queues,
-    room: Arc<Room>,
-}
-
-impl Common for Board {
-    fn inboxes(&self) -> &[Inbox] {
-        self.inboxes.as_slice()
-    }
-
-    fn inboxes_mut(&mut self) -> &mut Vec<Inbox> {
-        &mut self.inboxes
-    }
-
-    fn tallies(&self) -> &[Tally] {
-        self.tallies.as_slice()
-    }
-
-    fn log(&self) -> &Log {
-        &self.log
-    }
-
-    fn queues(&self) -> &Queues {
-        &self.queues
-    }
-
-    fn room(&self) -> &Arc<Room> {
-        &self.room
-    }
-}
-
-/// The board of the threads that take users, before their inboxes are there.
-fn board_of(alloc: Global, config: &Config, file: Option<File>) -> Result<Board, AllocError> {
-    let count = config.shards;
-    let mut tallies = Vec::new(alloc);
-    for _ in 0..count {
-        let tally = Tally::new(alloc)?;
-        if tallies.push(tally).is_err() {
-            return Err(AllocError);
-        }
-    }
-    Ok(Board {
-        inboxes: Vec::new(alloc),
-        tallies,
-        log: Log::new(alloc, file, count)?,
-        queues: Queues::new(alloc, config.rows as usize)?,
-        room: Arc::new(alloc, room_of(config))?,
-    })
 }
 
 /// Runs a loop on each base, in a thread of its own, until one has to stop or fails: then all end. What is left comes

@@ -7,6 +7,7 @@
 
 mod apart;
 mod begin;
+mod board;
 mod connections;
 mod crew;
 mod desk;

@@ -1,0 +1,99 @@
+//! What the threads have in common: their inboxes, what they count, the log, the queues and the descriptors.
+
+use event_loop::{Inbox, Room};
+use proxy_config::{Config, ServicePoint};
+use service_lines::Queues;
+use shard_report::{Log, Tally};
+use std::alloc::{AllocError, Global};
+use std::fs::File;
+use std::sync::Arc;
+
+/// The connections to a service that may lie idle whatever users need.
+fn idle_connections(service: &Option<ServicePoint>) -> u64 {
+    match service {
+        Some(service) => service.connections,
+        None => 0,
+    }
+}
+
+/// The descriptors that are left beside the loops': users leave as many of them to idle connections as are configured.
+fn room_of(config: &Config) -> Room {
+    let idle = idle_connections(&config.reqmod).saturating_add(idle_connections(&config.respmod));
+    Room::of_system(config.shards.saturating_add(1), idle)
+}
+
+/// What all threads have: their inboxes, what they count, and the log.
+pub trait Common {
+    /// The inboxes, in the order of the threads.
+    fn inboxes(&self) -> &[Inbox];
+
+    /// The inboxes, while they are made.
+    fn inboxes_mut(&mut self) -> &mut Vec<Inbox>;
+
+    /// What each thread counts that takes users.
+    fn tallies(&self) -> &[Tally];
+
+    /// The lines of the log that wait to be written, and their file.
+    fn log(&self) -> &Log;
+
+    /// Those who wait for a connection to a service.
+    fn queues(&self) -> &Queues;
+
+    /// The descriptors that users and idle connections share.
+    fn room(&self) -> &Arc<Room>;
+}
+
+/// The board on which the threads find what they have in common.
+#[derive(Drop)]
+pub struct Board {
+    inboxes: Vec<Inbox>,
+    tallies: Vec<Tally>,
+    log: Log,
+    queues: Queues,
+    room: Arc<Room>,
+}
+
+impl Common for Board {
+    fn inboxes(&self) -> &[Inbox] {
+        self.inboxes.as_slice()
+    }
+
+    fn inboxes_mut(&mut self) -> &mut Vec<Inbox> {
+        &mut self.inboxes
+    }
+
+    fn tallies(&self) -> &[Tally] {
+        self.tallies.as_slice()
+    }
+
+    fn log(&self) -> &Log {
+        &self.log
+    }
+
+    fn queues(&self) -> &Queues {
+        &self.queues
+    }
+
+    fn room(&self) -> &Arc<Room> {
+        &self.room
+    }
+}
+
+/// The board of the threads that take users, before their inboxes are there.
+pub fn board_of(alloc: Global, config: &Config, file: Option<File>) -> Result<Board, AllocError> {
+    let count = config.shards;
+    let mut tallies = Vec::new(alloc);
+    for _ in 0..count {
+        let tally = Tally::new(alloc)?;
+        if tallies.push(tally).is_err() {
+            return Err(AllocError);
+        }
+    }
+    Ok(Board {
+        inboxes: Vec::new(alloc),
+        tallies,
+        log: Log::new(alloc, file, count)?,
+        queues: Queues::new(alloc, config.rows as usize)?,
+        room: Arc::new(alloc, room_of(config))?,
+    })
+}
