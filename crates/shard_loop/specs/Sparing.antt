@@ -5,7 +5,7 @@ use Rattle.shard_loop.specs.declared.sparing.Stay.TheVariants.{Exchange, Idle, H
 use Rattle.shard_loop.specs.declared.sparing.Spared.{Spared}
 use Rattle.shard_loop.specs.declared.sparing.TheConstants.{YOUNG}
 
--- a connection whose stay is this, and whose user came so many milliseconds ago, has this rank: idle ones come first, then those whose
+-- a connection whose stay is this, and whose user came this number of milliseconds ago, has this rank: idle ones come first, then those whose
 -- head isn't whole, and last those at their end; an exchange, and a user that has just come, has none
 abbrev pub IsRank : Stay → ℕ → ℕ → Type 0
 IsRank Exchange age rank = ⊥

@@ -145,7 +145,7 @@ impl<'a, B: Ledgers, Q: Ledger, A: Ledger, G: Gate> Desk<'a, B, Q, A, G> {
         }
     }
 
-    /// Counts what was read of a user, of whose connection so many bytes were read in all.
+    /// Counts what was read of a user since the last time.
     fn note_read(&mut self, key: usize, user: &UserWire) {
         let (read, _) = user.counts();
         if let Some(note) = self.notes.get_mut(key) {

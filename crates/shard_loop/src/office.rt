@@ -65,7 +65,7 @@ impl<'a, B: Ledgers, Q: Ledger, A: Ledger, G: Gate, F: Append> Office<'a, B, Q, 
         }
     }
 
-    /// What the loops share, so many seconds after the start.
+    /// What the loops share, at this number of seconds after the start.
     fn figures<R: Wait>(&self, rt: &R, now: u64) -> Figures {
         let Shared {
             config,

@@ -250,7 +250,7 @@ impl Seats {
         }
     }
 
-    /// Whether it has waited for more than so many seconds: that is never early, and a second late at most.
+    /// Whether it has waited for more than this number of seconds: that is never early, and a second late at most.
     pub fn has_waited(&self, at: At<'_>, seconds: u64) -> bool {
         match self.all.get(at.key) {
             Some(

@@ -27,7 +27,7 @@ pub struct Spared {
     since: u64,
 }
 
-/// The connection under this key, where it is spared: it came so many milliseconds ago, and its stay has this number in the order of
+/// The connection under this key, where it is spared: its user came `age` milliseconds ago, and its stay has this number in the order of
 /// all. Idle ones come first (RFC 9112, section 9.5, lets an idle connection be closed at any moment).
 pub fn spared_of(key: usize, stay: Stay, age: u64, since: u64) -> Option<Spared>
     ensures some { IfSome result (λ spared. (spared.key ≡ key) × (spared.since ≡ since) × IsRank stay age spared.rank) }
