@@ -32,6 +32,12 @@ pub(crate) const MAX_DEADLINE: u64 = 3600;
 
 /// Where `icapd serve` listens, what its answers say of it, and after how many seconds it closes a connection that says
 /// nothing.
+///
+/// ```
+/// let config = read_config(alloc, b"listen = \"127.0.0.1:1344\"\nmax = 64\n")?;
+/// // `max` is written, `deadline` has its default.
+/// assert_eq!(rt; (config.settings.max, config.deadline), (64, 60));
+/// ```
 #[derive(Debug, Drop)]
 pub struct Config {
     pub listen: SocketAddrV4,

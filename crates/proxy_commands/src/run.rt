@@ -87,6 +87,14 @@ fn perform<R: Read + Drop, W: Write>(
 ///
 /// The exit status: 0; 1 for `read failed`, `write failed` and `out of memory`; 2 for `usage`,
 /// `input too long` and `line N`.
+///
+/// ```
+/// // The arguments are `chunks` and `4`.
+/// let body: &[u8] = b"3\r\nabc\r\n0\r\n\r\n";
+/// let status = run(alloc, &args, body, &mut output, &mut errors);
+/// assert_eq!(rt; status, 0);
+/// assert_eq!(rt; output.as_slice(), b"body 616263\nend plain\nrest 0\n");
+/// ```
 pub fn run<R: Read + Drop, W: Write, E: Write>(
     alloc: Global,
     args: &[String],
