@@ -1,5 +1,5 @@
 //! Judges the engines by rows of plain text, over wires in memory: each file that an argument names is a table. An argument that is a
-//! number stands for so many allocations, each of which is given back.
+//! number has the program make that number of allocations, and give each back.
 //!
 //! It ends with status 0 once all rows are judged, whatever their answers: its output says which failed.
 #![tactic(auto)]
@@ -68,7 +68,7 @@ fn judged<R: Wait + Clock>(rt: &R, alloc: Global, text: &[u8]) -> Result<Report,
     Ok(report)
 }
 
-/// Makes so many allocations, each of which is given back, so that any of the later ones can be the one that is refused.
+/// Makes this number of allocations and gives each back, so that any of the later ones can be the one that is refused.
 fn allocate(alloc: Global, count: u64) -> Result<(), NoMemory> {
     for _ in 0..count {
         b"a".to_vec(alloc)?;

@@ -1,6 +1,6 @@
 //! Judges the lending of connections by rows of plain text: pools and queues over connections in memory, one step after another.
-//! Each file that an argument names is a table. An argument that is a number stands for so many allocations, each of which is
-//! given back.
+//! Each file that an argument names is a table. An argument that is a number has the program make that number of allocations,
+//! and give each back.
 //!
 //! It ends with status 0 once all rows are judged, whatever their answers: its output says which failed.
 #![tactic(auto)]

@@ -127,7 +127,7 @@ fn add<B: Ledgers, R: Abort>(rt: &R, stakes: &mut Vec<Stake<B>>, made: Made<B>) 
     }
 }
 
-// Reserves bytes, of which so many are in use, on one page if any are.
+// Reserves bytes, and takes a number of them into use, on one page if there are any.
 fn reserve<B: Ledgers, R: Wait>(rt: &R, bank: &Bank<B>, claim: u64, held: u64) -> Made<B>
     requires { 1 ≤ claim }
 {
@@ -204,7 +204,7 @@ fn stakes_back<R: Threads + Wait + Abort + Sync>(
     audit_without_one_of::<Brand, Brand, Brand, Brand, R>(rt, alloc, blanks, is_shared)
 }
 
-// What is wanted of an audit without one reservation, where all of them have so many of each.
+// What is wanted of an audit without one reservation, where all of them have these numbers of each.
 fn wanted_back(stakes_back: usize, rows: u64, held: u64, claimed: u64, pages: u64) -> StakesBack {
     StakesBack {
         stakes_back,

@@ -1,5 +1,5 @@
 //! Judges the grammars of bytes by rows of plain text: each file that an argument names is a table. An argument that is a
-//! number stands for so many allocations, each of which is given back.
+//! number has the program make that number of allocations, and give each back.
 //!
 //! It ends with status 0 once all rows are judged, whatever their answers: its output says which failed.
 #![tactic(auto)]

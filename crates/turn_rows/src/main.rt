@@ -1,5 +1,5 @@
 //! Judges transactions by rows of plain text: the proxy's own sides over wires in memory, turned by a script. Each file that an
-//! argument names is a table. An argument that is a number stands for so many allocations, each of which is given back.
+//! argument names is a table. An argument that is a number has the program make that number of allocations, and give each back.
 //!
 //! It ends with status 0 once all rows are judged, whatever their answers: its output says which failed.
 #![tactic(auto)]
@@ -77,7 +77,7 @@ fn judged<R: Threads + Wait + Clock + Sync>(
     Ok(report)
 }
 
-/// Makes so many allocations, each of which is given back, so that any of the later ones can be the one that is refused.
+/// Makes this number of allocations and gives each back, so that any of the later ones can be the one that is refused.
 fn allocate(alloc: Global, count: u64) -> Result<(), NoMemory> {
     for _ in 0..count {
         b"a".to_vec(alloc)?;
