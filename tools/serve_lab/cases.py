@@ -1,10 +1,12 @@
 """What the cases of tools/try_serve share: their list, the programs, requests, and what a refusal is."""
+import collections
 import os
+import shutil
 import subprocess
 import threading
 import time
 
-from serve_lab.lines import Lines
+from serve_lab.lines import Lines, wanted_rows, wrong_counts
 from serve_lab.loopback import PATIENCE, TOP, Icap, Origin, Program, Proxy, User, free_port
 
 ADAPTPROXY = os.environ.get("ADAPTPROXY", os.path.join(TOP, "bin", "adaptproxy"))
@@ -17,6 +19,21 @@ CASES = []
 def case(function):
     CASES.append(function)
     return function
+
+
+class LeftOut(Exception):
+    """A case can't be tried on this machine."""
+
+
+def needs(what, is_there):
+    """Leaves the case out where something isn't there."""
+    if not is_there:
+        raise LeftOut(what)
+
+
+def needs_tools(*names):
+    for name in names:
+        needs(name, shutil.which(name))
 
 
 def same(what, found, wanted):
@@ -57,8 +74,9 @@ class Bench:
             self.logs.append((proxy, lines))
         return proxy
 
-    def end(self):
-        """Ends all that was made. Answers what is wrong in the logs of the proxies that were stopped."""
+    def end(self, name):
+        """Ends all that the case of this name made. Answers what is wrong in the logs of its proxies; of a case that failed, whose
+        name is None, how many lines there are isn't judged."""
         for proxy, _lines in self.logs:
             if proxy.process.poll() is None:
                 try:
@@ -67,12 +85,16 @@ class Bench:
                     pass
         for thing in reversed(self.all):
             (thing.kill if isinstance(thing, Program) else thing.close)()
-        wrong = []
+        wrong, logged, seen = [], collections.Counter(), collections.Counter()
         for proxy, lines in self.logs:
-            if proxy.process.returncode == 0:
-                wrong += lines.faults(proxy.port)
+            if proxy.process.returncode != 0:
+                wrong.append("a proxy ended with status %r" % proxy.process.returncode)
+            counted, answers, more = lines.read(proxy.port)
+            logged.update(counted)
+            seen.update(answers)
+            wrong += more
             lines.close()
-        return wrong
+        return wrong + (wrong_counts(wanted_rows(name), logged, seen) if name and self.logs else [])
 
 
 def lent(proxy, bytes_more):

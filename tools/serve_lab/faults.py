@@ -3,17 +3,15 @@ of it, or call by call."""
 import os
 import re
 import resource
-import shutil
-import signal
 import subprocess
 import tempfile
 import threading
 import time
 
-from serve_lab.cases import IDLE, at_once, case, comes, get, lent, post, refusal, same, settled
+from serve_lab.cases import IDLE, at_once, case, comes, get, lent, needs, needs_tools, post, refusal, same, settled
 from serve_lab.descriptors import connections_of
 from serve_lab.loopback import Closed, Icap, User, ask, body_of
-from serve_lab.memory import Refusals, has_compiler
+from serve_lab.memory import Refusals, compiler
 from serve_lab.operators import stats
 
 
@@ -43,18 +41,10 @@ class Strace:
             return lines.read().split("\n")
 
 
-def has_strace():
-    if shutil.which("strace") is None:
-        print("      needs strace: left out")
-        return False
-    return True
-
-
 @case
 def a_dial_for_which_there_is_no_room_is_503(bench):
     """Of the errors of a dial, want of a descriptor or of a port is want of room; all others say that the origin can't be had."""
-    if not has_strace():
-        return
+    needs_tools("strace")
     origin = bench.origin()
     proxy = bench.proxy(origin, "shards = 1")
     for call, error, status in (("socket", "EMFILE", 503), ("socket", "ENFILE", 503), ("socket", "ENOBUFS", 503),
@@ -73,8 +63,7 @@ def a_dial_for_which_there_is_no_room_is_503(bench):
 def a_retry_closes_the_broken_connection_first(bench):
     """So it needs no descriptor beside those that were counted for its user; where the system has no room for a fresh connection, that
     is 503."""
-    if not has_strace():
-        return
+    needs_tools("strace")
     origin = bench.origin()
 
     def reply(conn, reader, head, count):
@@ -120,16 +109,13 @@ def waits_after_accepts(lines):
 @case
 def many_accepts_in_a_row_are_no_pause(bench):
     """256 connections are accepted in a turn, and the loop does not wait after that: it asks its poll with no patience."""
-    if not has_strace():
-        return
-    if resource.getrlimit(resource.RLIMIT_NOFILE)[1] < 4096:
-        print("      needs 4,096 descriptors: left out")
-        return
+    needs_tools("strace")
+    needs("4,096 descriptors", resource.getrlimit(resource.RLIMIT_NOFILE)[1] >= 4096)
     proxy = bench.proxy(bench.origin(), "shards = 1\nrows = 4096", descriptors=4096)
-    os.kill(proxy.process.pid, signal.SIGSTOP)
+    proxy.halt()
     users = [User(proxy.port) for _ in range(600)]
     trace = Strace(proxy, "-e", "trace=accept4,epoll_wait")
-    os.kill(proxy.process.pid, signal.SIGCONT)
+    proxy.go_on()
     same("the last", users[-1].ask(get("/bytes/3")).body, b"the")
     waits = waits_after_accepts(trace.close())
     print("      waits within the accepted ones: %s ms" % waits)
@@ -142,8 +128,7 @@ def many_accepts_in_a_row_are_no_pause(bench):
 @case
 def a_connection_that_is_gone_before_it_is_taken_is_no_pause(bench):
     """Where the system says ECONNABORTED, the next one is asked for at once."""
-    if not has_strace():
-        return
+    needs_tools("strace")
     proxy = bench.proxy(bench.origin(), "shards = 1")
     trace = Strace(proxy, "-e", "trace=accept4,epoll_wait", "-e", "inject=accept4:error=ECONNABORTED:when=1")
     same("served", ask(proxy.port, get("/bytes/3")).body, b"the")
@@ -158,8 +143,7 @@ def a_connection_that_is_gone_before_it_is_taken_is_no_pause(bench):
 @case
 def a_refusal_at_the_stop_is_tried_again(bench):
     """A connection that takes nothing when the proxy stops gets its refusal a little later, when an event says so."""
-    if not has_strace():
-        return
+    needs_tools("strace")
     origin = bench.origin()
     proxy = bench.proxy(origin, "shards = 1")
     user = User(proxy.port)
@@ -185,8 +169,7 @@ def a_refusal_at_the_stop_is_tried_again(bench):
 @case
 def a_refusal_and_its_close_share_a_deadline(bench):
     """A refusal that can't be written for a while leaves less of the deadline to the close after it."""
-    if not has_strace():
-        return
+    needs_tools("strace")
     proxy = bench.proxy(bench.origin(), "shards = 1\ndeadline = 3", logged=False)
     user = User(proxy.port)
     time.sleep(0.2)
@@ -284,10 +267,10 @@ def outcome_but(refusals, calls, proxy, request, wanted):
     while asked != refusals.asked():
         asked = refusals.asked()
         time.sleep(0.01)
-    proxy.process.send_signal(signal.SIGSTOP)
+    proxy.halt()
     refusals.next_but(calls)
     user.send(request)
-    proxy.process.send_signal(signal.SIGCONT)
+    proxy.go_on()
     outcome = outcome_of(user, wanted)
     refusals.none()
     user.close()
@@ -298,8 +281,7 @@ def outcome_but(refusals, calls, proxy, request, wanted):
 def each_call_for_memory_may_be_refused(bench):
     """Of each kind of exchange each call for memory is refused in its turn: the user gets the answer, the proxy's 503, or a beginning
     of the answer. No thread ends, and nothing is held after it."""
-    if not has_compiler():
-        return
+    needs("a C compiler", compiler())
     origin, refusals = bench.origin(), bench.keep(Refusals())
     service = bench.icap(options=[b"Options-TTL: 0", b"Preview: 4", b"Transfer-Preview: *"])
     respmod, reqmod = [("respmod", service.port, "/respmod/x")], [("reqmod", service.port, "/reqmod/x")]
@@ -333,8 +315,7 @@ def each_call_for_memory_may_be_refused(bench):
 @case
 def a_loop_needs_no_memory_to_go_on(bench):
     """Users that were refused send so much that their turns are cut short: that takes no memory, and there is none."""
-    if not has_compiler():
-        return
+    needs("a C compiler", compiler())
     refusals = bench.keep(Refusals())
     proxy = bench.proxy(bench.origin(), "shards = 1", logged=False, before=refusals.before)
     users = [User(proxy.port) for _ in range(16)]
@@ -363,8 +344,7 @@ def a_loop_needs_no_memory_to_go_on(bench):
 @case
 def refused_memory_ends_no_thread(bench):
     """Sixty-four users ask for answers that take many turns, while one of so many calls for memory is refused, and then each one."""
-    if not has_compiler():
-        return
+    needs("a C compiler", compiler())
     origin, refusals = bench.origin(), bench.keep(Refusals())
     service = bench.icap(options=[b"Options-TTL: 0", b"Preview: 4", b"Transfer-Preview: *"])
     proxy = bench.proxy(origin, "shards = 2", [("respmod", service.port, "/respmod/x", 64)], logged=False, before=refusals.before)

@@ -1,4 +1,15 @@
-"""A log of each proxy of each case: after the case every answer that a user read has a line, and each line is as it should be."""
+"""A log of each proxy of each case: after the case each exchange has its line, and no line is too many; each line has its form, and
+says why its exchange ended as it did.
+
+`lines_of_cases.txt` says which lines a case leaves. A case that isn't named there leaves a line for each answer that its users have
+read, with the answer's status and `why=-`, and no other. A row below a case's name is
+
+    TAG/STATUS WHY COUNT        or        all COUNT
+
+COUNT is a number; `A..B`; `seen`: as many as answers of this status were read; `seen+A..B`: so many more, of users that left
+without reading; or `seen-A..B`: up to A fewer, and B more. Rows of one status that have `seen` are counted together. A line of a case
+that is in none of its rows is one too many.
+"""
 import collections
 import os
 import re
@@ -10,6 +21,8 @@ from serve_lab.loopback import SEEN, TOP
 LINE = re.compile(r'(\d+\.\d{3}) (\d+) (\S+) (TCP_MISS|TCP_DENIED)/(\d{3}) (\d+) (\S+) (\S+) - '
                   r'(HIER_DIRECT/[0-9.]+|HIER_NONE/-) (\S+) reqmod=(\S+) respmod=(\S+) why=(\S+)')
 VERDICT = re.compile(r"-|plain|(retry\+)?(100\+)?(-|204|200)")
+COUNT = re.compile(r"(seen)(?:([+-])(\d+)\.\.(\d+))?|(\d+)(?:\.\.(\d+))?")
+Wanted = collections.namedtuple("Wanted", "tag status why seen least most")
 
 
 def table():
@@ -24,6 +37,51 @@ def table():
     return statuses
 
 
+def wanted_rows(name):
+    """The rows of a case, or None where it isn't named."""
+    found, at = None, None
+    with open(os.path.join(os.path.dirname(os.path.abspath(__file__)), "lines_of_cases.txt")) as text:
+        for line in text:
+            words = line.split("#")[0].split()
+            if not words:
+                continue
+            if len(words) == 1:
+                at = words[0]
+                found = [] if at == name else found
+            elif at == name:
+                tag, status = words[0].split("/") if len(words) == 3 else ("", 0)
+                seen, sign, fewest, more, exact, upto = COUNT.fullmatch(words[-1]).groups()
+                least, most = (fewest or 0, more or 0) if seen else (exact, upto or exact)
+                found.append(Wanted("TCP_" + tag, int(status), words[1], bool(seen), int(least) * (-1 if sign == "-" else 1), int(most)))
+    return found
+
+
+def wrong_counts(rows, logged, seen):
+    """What is wrong in the counts of lines, by tag, status and why."""
+    if rows is None:
+        rows = [Wanted("TCP_MISS", status, "-", True, 0, 0) for status in set(seen) | set(key[1] for key in logged)]
+    wrong, groups = [], collections.defaultdict(lambda: [0, 0, 0, []])
+    logged = collections.Counter(logged)
+    total = sum(logged.values())
+    for row in rows:
+        if not row.status:
+            if not row.least <= total <= row.most:
+                wrong.append("%d lines in all, wanted %d to %d" % (total, row.least, row.most))
+            continue
+        key = row[:3]
+        count = logged.pop(key, 0)
+        group = groups[row.status, "seen"] if row.seen else groups[key]
+        group[0] += count
+        group[1] += row.least
+        group[2] += row.most
+        group[3].append("%s/%d %s" % key)
+    for key, (count, least, most, names) in groups.items():
+        base = seen.get(key[0], 0) if key[1] == "seen" else 0
+        if not base + least <= count <= base + most:
+            wrong.append("%d lines of %s, wanted %d to %d" % (count, " or ".join(names), base + least, base + most))
+    return wrong + ["%d lines too many of %s/%d %s" % (count, *key) for key, count in logged.items()]
+
+
 class Lines:
     """The log of one proxy."""
 
@@ -32,8 +90,9 @@ class Lines:
         self.path = os.path.join(self.folder.name, "access.log")
         self.key = 'log = "%s"\n' % self.path
 
-    def faults(self, port):
-        """What is wrong in the log of the proxy at this port."""
+    def read(self, port):
+        """The lines of the proxy at this port, counted by tag, status and why; how many answers of each status its users have read;
+        and what is wrong in the lines."""
         with open(self.path, "rb") as file:
             text = file.read()
         statuses, wrong, logged = table(), [], collections.Counter()
@@ -45,7 +104,7 @@ class Lines:
                 wrong.append("no line: " + line[:200])
                 continue
             tag, status, why = row.group(4), int(row.group(5)), row.group(13)
-            logged[status] += 1
+            logged[tag, status, why] += 1
             denied = tag == "TCP_DENIED"
             if why != "-" and why not in statuses:
                 wrong.append("a word that the table lacks: " + line[:200])
@@ -53,9 +112,7 @@ class Lines:
                 wrong.append("another status than the table's: " + line[:200])
             elif not all(VERDICT.fullmatch(row.group(place)) for place in (11, 12)):
                 wrong.append("no verdict: " + line[:200])
-        for status, count in (SEEN.pop(port, collections.Counter()) - logged).items():
-            wrong.append("%d answers of status %d, and %d lines" % (count + logged[status], status, logged[status]))
-        return wrong
+        return logged, SEEN.pop(port, collections.Counter()), wrong
 
     def close(self):
         self.folder.cleanup()

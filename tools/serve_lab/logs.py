@@ -1,12 +1,11 @@
 """Cases of tools/try_serve: what becomes of lines when nobody takes them, and of messages whose user has gone."""
 import os
-import shutil
 import subprocess
 import tempfile
 import threading
 import time
 
-from serve_lab.cases import IDLE, case, comes, get, post, same
+from serve_lab.cases import IDLE, case, comes, get, needs, needs_tools, post, same
 from serve_lab.lines import LINE
 from serve_lab.loopback import Icap, Reader, Server, User, ask, body_of, fields_of
 from serve_lab.operators import Log, stats, told
@@ -73,13 +72,11 @@ def a_stop_waits_for_no_reader(bench):
 
 @case
 def a_full_disk_keeps_lines_until_it_has_room(bench):
-    if os.geteuid() != 0 or shutil.which("mount") is None:
-        print("      needs root and mount: left out")
-        return
+    needs("root", os.geteuid() == 0)
+    needs_tools("mount", "umount")
     with tempfile.TemporaryDirectory() as folder:
-        if subprocess.run(["mount", "-t", "tmpfs", "-o", "size=16k", "tmpfs", folder], stderr=subprocess.DEVNULL).returncode:
-            print("      no tmpfs can be mounted: left out")
-            return
+        mount = subprocess.run(["mount", "-t", "tmpfs", "-o", "size=16k", "tmpfs", folder], stderr=subprocess.DEVNULL)
+        needs("a tmpfs that may be mounted", mount.returncode == 0)
         try:
             path = os.path.join(folder, "access.log")
             proxy = bench.proxy(bench.origin(), 'log = "%s"\nshards = 1\n' % path)

@@ -1,6 +1,8 @@
 """Parts for trying `adaptproxy serve` over loopback: the programs, an origin, an ICAP service and a client."""
 import collections
 import os
+import random
+import signal
 import socket
 import struct
 import subprocess
@@ -21,9 +23,14 @@ def body_of(count):
 
 
 def free_port():
-    with socket.socket() as s:
-        s.bind(("127.0.0.1", 0))
-        return s.getsockname()[1]
+    """A port that nobody listens on, and that the system gives to no connection of its own accord: those lie above 32,767."""
+    while True:
+        with socket.socket() as s:
+            try:
+                s.bind(("127.0.0.1", random.randrange(20000, 32768)))
+                return s.getsockname()[1]
+            except OSError:
+                pass  # Another one, then.
 
 
 class Closed(Exception):
@@ -390,6 +397,14 @@ class Program:
 
     def descriptors(self):
         return len(os.listdir("/proc/%d/fd" % self.process.pid))
+
+    def halt(self):
+        """Keeps each of its threads from running on: the one that hears of it first may be late to tell the others."""
+        self.process.send_signal(signal.SIGSTOP)
+        os.waitpid(self.process.pid, os.WUNTRACED)
+
+    def go_on(self):
+        self.process.send_signal(signal.SIGCONT)
 
     def kill(self):
         if self.process.poll() is None:

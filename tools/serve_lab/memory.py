@@ -76,10 +76,3 @@ class Refusals:
 
 def compiler():
     return shutil.which("cc") or shutil.which("gcc")
-
-
-def has_compiler():
-    if compiler() is None:
-        print("      needs a C compiler: left out")
-        return False
-    return True

@@ -1,7 +1,6 @@
 """Cases of tools/try_serve: what the administrator asks for while the proxy runs."""
 import os
 import re
-import shutil
 import signal
 import socket
 import subprocess
@@ -9,7 +8,7 @@ import tempfile
 import threading
 import time
 
-from serve_lab.cases import ADAPTPROXY, IDLE, case, comes, get, lent, post, same
+from serve_lab.cases import ADAPTPROXY, IDLE, case, comes, get, lent, needs_tools, post, same
 from serve_lab.lines import LINE
 from serve_lab.loopback import PATIENCE, TOP, Icap, Program, Reader, Server, User, ask, body_of, free_port
 
@@ -565,9 +564,7 @@ def the_counters_count(bench):
 
 @case
 def goaccess_reads_the_log(bench):
-    if shutil.which("goaccess") is None:
-        print("      goaccess isn't installed: left out")
-        return
+    needs_tools("goaccess")
     origin = bench.origin()
     log = bench.keep(Log())
     proxy = bench.proxy(origin, log.key + "deadline = 1\n")

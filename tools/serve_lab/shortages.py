@@ -8,7 +8,8 @@ import sys
 import threading
 import time
 
-from serve_lab.cases import ADAPTPROXY, IDLE, at_once, case, comes, get, is_refused, post, refusal, same, settled, statuses_of
+from serve_lab.cases import (ADAPTPROXY, IDLE, at_once, case, comes, get, is_refused, needs, needs_tools, post, refusal, same, settled,
+                             statuses_of)
 from serve_lab.loopback import PATIENCE, TOP, Closed, Icap, Program, Reader, Server, User, ask, body_of, free_port
 
 
@@ -84,13 +85,13 @@ def a_user_is_spared_where_many_have_just_sent(bench):
     for user in users:
         same("kept", user.ask(get("/bytes/3")).body, b"the")
     # The loop sees the further user first, and then 255 of the 300 requests: 45 lie unread on those that have been idle longest.
-    os.kill(proxy.process.pid, 19)
+    proxy.halt()
     further = User(proxy.port)
     further.send(get("/bytes/5"))
     time.sleep(0.1)
     for user in reversed(users[:300]):
         user.send(get("/bytes/4"))
-    os.kill(proxy.process.pid, 18)
+    proxy.go_on()
     same("the further one", further.answer().body, body_of(5))
     same("those that have just sent", {user.answer().body for user in users[:300]}, {b"the "})
     same("closed is the one that waited longest", [is_open(user) for user in users[300:304]], [False, True, True, True])
@@ -158,10 +159,9 @@ def a_user_that_resets_ends_its_exchange(bench):
 
 @case
 def threads_that_the_system_refuses_end_the_proxy(bench):
+    needs("root", os.geteuid() == 0)
+    needs_tools("setpriv", "prlimit")
     setpriv = shutil.which("setpriv")
-    if os.geteuid() != 0 or setpriv is None:
-        print("      needs root and setpriv: left out")
-        return
     text = 'listen = "127.0.0.1:%d"\nadmin = "127.0.0.1:%d"\nshards = 4\n' % (free_port(), free_port())
     limited = bench.keep(Program(ADAPTPROXY, text, before=[setpriv, "--reuid=64001", "--regid=64001", "--clear-groups",
                                                            "prlimit", "--nproc=2"]))
@@ -191,9 +191,7 @@ def threads_have_names(bench):
 @case
 def bulk_doesnt_hold_up_others(bench):
     """Between two waits of its thread an exchange moves at most 8 rounds of turns, so it reads its origin's answer at most 8 times."""
-    if shutil.which("strace") is None:
-        print("      needs strace: left out")
-        return
+    needs_tools("strace")
     asked, told = threading.Event(), threading.Event()
 
     def exchange(conn, _number):
@@ -453,13 +451,12 @@ def a_page_cant_speak_to_the_administrator(bench):
 @case
 def want_of_ports_is_want_of_room(bench):
     if os.environ.get("SCENE") != "ports":
-        if os.geteuid() != 0 or shutil.which("unshare") is None:
-            print("      needs root and unshare: left out")
-            return
+        needs("root", os.geteuid() == 0)
+        needs_tools("unshare", "ip")
         scene = ("ip link set lo up && sysctl -qw net.ipv4.ip_local_port_range='40000 40029' && SCENE=ports exec %s %s %s"
                  % (sys.executable, os.path.join(TOP, "tools", "try_serve"), "want_of_ports_is_want_of_room"))
         run = subprocess.run(["unshare", "-n", "sh", "-c", scene], stdout=subprocess.PIPE, check=False)
-        same("the scene", (run.stdout.decode()[:300], run.returncode)[1:], (0,))
+        same("the scene", (run.returncode, run.stdout.decode()[-300:] if run.returncode else ""), (0, ""))
         return
     origin = bench.origin()
     proxy = bench.proxy(origin)

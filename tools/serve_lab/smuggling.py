@@ -30,7 +30,7 @@ BROKEN = (b"0x3\r\nabc\r\n0\r\n\r\n", b"+3\r\nabc\r\n0\r\n\r\n", b"-3\r\nabc\r\n
 @case
 def requests_within_bodies_are_not_heard(bench):
     origin = bench.origin()
-    proxy = bench.proxy(origin, "deadline = 3", logged=False)
+    proxy = bench.proxy(origin, "deadline = 3")
     for text, status in DOUBTFUL + [(posted(CHUNKED, chunks + WITHIN), 400) for chunks in BROKEN]:
         user = User(proxy.port)
         user.send(text)
