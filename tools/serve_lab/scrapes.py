@@ -1,0 +1,112 @@
+"""A case of tools/try_serve: a real Prometheus scrapes the counters, by the lines of docs/RUNNING.md."""
+import json
+import os
+import re
+import subprocess
+import tempfile
+import time
+import urllib.parse
+import urllib.request
+
+from serve_lab.cases import IDLE, case, comes, get, needs_tools, post, same
+from serve_lab.loopback import TOP, User, ask, body_of, free_port
+from serve_lab.operators import stats
+
+
+class Tool:
+    """A program that runs until the case ends, and what it prints."""
+
+    def __init__(self, words, folder, **env):
+        self.log = open(os.path.join(folder, "%s.log" % os.path.basename(words[0])), "w+")
+        self.process = subprocess.Popen(words, stdout=self.log, stderr=self.log, env={**os.environ, **env})
+
+    def close(self):
+        self.process.terminate()
+        self.process.wait()
+        self.log.close()
+
+
+def documented():
+    """The command of socat and the configuration of Prometheus, as docs/RUNNING.md has them."""
+    with open(os.path.join(TOP, "docs", "RUNNING.md")) as text:
+        page = text.read()
+    return re.search(r"^socat TCP-LISTEN:9129.*$", page, re.M).group(0), re.search(r"^scrape_configs: .*$", page, re.M).group(0)
+
+
+class Prometheus:
+    """Prometheus with the documented configuration, which scrapes twice a second, and its interface."""
+
+    def __init__(self, bench, folder, scrape, page):
+        self.port = free_port()
+        path = os.path.join(folder, "prometheus.yml")
+        with open(path, "w") as text:
+            text.write("global: {scrape_interval: 500ms, scrape_timeout: 500ms}\n%s\n" % scrape.replace("127.0.0.1:9129", page))
+        self.tool = bench.keep(Tool(["prometheus", "--config.file=" + path, "--storage.tsdb.path=" + os.path.join(folder, "data"),
+                                     "--web.listen-address=127.0.0.1:%d" % self.port], folder))
+
+    def ask(self, path, **words):
+        with urllib.request.urlopen("http://127.0.0.1:%d/api/v1/%s?%s" % (self.port, path, urllib.parse.urlencode(words))) as answer:
+            return json.load(answer)["data"]
+
+    def target(self):
+        """The state of the target, and the last error of a scrape. None where there is no answer yet."""
+        try:
+            found = self.ask("targets")["activeTargets"][0]
+            return found["health"], found["lastError"]
+        except (OSError, IndexError):
+            return None
+
+    def numbers(self):
+        """The last number of each series, by its name and its labels in the order of their names."""
+        found = {}
+        for series in self.ask("query", query='{job="adaptproxy"}')["result"]:
+            labels = {name: value for name, value in series["metric"].items() if name not in ("__name__", "instance", "job")}
+            words = ",".join('%s="%s"' % pair for pair in sorted(labels.items()))
+            found[series["metric"]["__name__"], words] = float(series["value"][1])
+        return found
+
+
+def by_labels(name):
+    """A series by its name and its labels in the order of their names."""
+    name, _, labels = name.rstrip("}").partition("{")
+    return name, ",".join(sorted(labels.split(","))) if labels else ""
+
+
+@case
+def prometheus_scrapes_the_counters(bench):
+    needs_tools("prometheus", "socat", "sh")
+    origin = bench.origin()
+    service = bench.icap(options=(b"Preview: 4", b"Transfer-Preview: *"))
+    proxy = bench.proxy(origin, "shards = 2\n", [("reqmod", service.port, "/reqmod"), ("respmod", service.port, "/respmod", 5)])
+    user = User(proxy.port)
+    for size in (3, 3000, 30000):
+        user.ask(get("/bytes/%d" % size))
+        user.ask(post("/echo", body_of(size)))
+    same("refused", ask(proxy.port, b"GET http://x.test/ HTTP/1.1\r\nHost: x.test\r\n\r\n").status, 502)
+    comes("the counts", lambda: stats(proxy)["adaptproxy_requests_total"] == 7)
+    command, scrape = documented()
+    with tempfile.TemporaryDirectory() as folder:
+        page = "127.0.0.1:%d" % free_port()
+        words = command.replace("9129", page.split(":")[1]).replace("/usr/local/share/adaptproxy", os.path.join(TOP, "packaging")).split()
+        bench.keep(Tool(words, folder, ADMIN="127.0.0.1:%d" % proxy.admin))
+        prometheus = Prometheus(bench, folder, scrape, page)
+        comes("a scrape", lambda: prometheus.target() == ("up", ""), 30)
+        # All that is counted rests by now, but for the seconds.
+        wanted = {by_labels(name): number for name, number in stats(proxy).items()}
+        seconds = [name for name in wanted if "seconds" in name[0]]
+        comes("the numbers", lambda: set(prometheus.numbers()) >= set(wanted), 30)
+        found = prometheus.numbers()
+        same("numbers", {name: found[name] for name in wanted if name not in seconds},
+             {name: number for name, number in wanted.items() if name not in seconds})
+        kinds = {name: rows[0]["type"] for name, rows in prometheus.ask("metadata").items() if name.startswith("adaptproxy_")}
+        same("kinds", set(kinds.values()), {"counter", "gauge"})
+        before = prometheus.ask("query", query="adaptproxy_requests_total")["result"][0]["value"][1]
+        user.ask(get("/bytes/5"))
+        comes("the next one", lambda: prometheus.ask("query", query="adaptproxy_requests_total")["result"][0]["value"][1] == "8", 10)
+        comes("ten scrapes", lambda: int(prometheus.ask("query", query="count_over_time(up[5m])")["result"][0]["value"][1]) >= 10, 30)
+        scrapes = prometheus.ask("query", query="count_over_time(up[5m])")["result"][0]["value"][1]
+        failed = prometheus.ask("query", query="count_over_time(up[5m]) - sum_over_time(up[5m])")["result"][0]["value"][1]
+        print("      %d series of %d families; %s scrapes, %s failed; requests %s, then 8" % (len(wanted), len(kinds), scrapes, failed, before))
+        same("failed", failed, "0")
+    user.close()
+    same("audit", proxy.stop(), IDLE)
