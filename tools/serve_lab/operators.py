@@ -314,7 +314,8 @@ def a_line_has_one_line_whatever_the_target(bench):
     same("long", ask(proxy.port, get("/bytes/3?" + "x" * 4000)).status, 200)
     target = log.next()[0][7]
     same("cut", (target[:25], len(target)), ("http://o.test/bytes/3?xxx", 2048))
-    for number, wild in enumerate([b"/a\x01b", b"/a\x7f\xff", b'/a"b', b"/a\rb", b"/a b", b"/a\tb", b"/%0d%0a"]):
+    for number, wild in enumerate([b"/a\x01b", b"/a\x7f\xff", b'/a"b', b"/a\rb", b"/a b", b"/a\tb", b"/%0d%0a",
+                                   b'/bytes/3?"%0d%0a' + b'"\'' * 2000, b'/bytes/3?"\r\n' + b'"\'' * 2000, b'/a\n1.2 3 evil "' + b'\r"' * 2000]):
         user = User(proxy.port)
         user.send(b"GET http://o.test" + wild + b" HTTP/1.1\r\nHost: o.test\r\n\r\n")
         user.answer()
