@@ -110,6 +110,8 @@ class Lines:
                 wrong.append("a word that the table lacks: " + line[:200])
             elif denied and status not in statuses[why] or not denied and status == 499 and why != "user-gone":
                 wrong.append("another status than the table's: " + line[:200])
+            elif not denied and status != 499 and int(row.group(6)) == 0:
+                wrong.append("no byte of this answer went out: " + line[:200])
             elif not all(VERDICT.fullmatch(row.group(place)) for place in (11, 12)):
                 wrong.append("no verdict: " + line[:200])
         return logged, SEEN.pop(port, collections.Counter()), wrong
