@@ -250,7 +250,8 @@ impl<'a, B: Ledgers, Q: Ledger, A: Ledger, G: Gate> Desk<'a, B, Q, A, G> {
             Outcome::Done => {}
             Outcome::Fail(cause) => {
                 let why = failed_word(cause, seen, evidence);
-                if self.seats.has_answered(key) {
+                // A user that is gone gets no refusal.
+                if self.seats.has_answered(key) || why == Why::UserGone {
                     self.note_cut(key, why);
                 } else {
                     self.notes.refuse(key, why, failed_status(cause, point));
@@ -281,6 +282,11 @@ impl<'a, B: Ledgers, Q: Ledger, A: Ledger, G: Gate> Desk<'a, B, Q, A, G> {
         let Some(note) = self.notes.close(key) else {
             return;
         };
+        let mut note = note;
+        if why_of(&note) == Why::UserGone && !self.seats.has_answered(key) {
+            // The origin's status didn't reach a user that was gone before a byte of the answer.
+            note.status = 0;
+        }
         let sent = self.seats.taken(key).saturating_sub(note.taken);
         let tally = self.shared.tally;
         tally.add(Count::Requests, 1);
