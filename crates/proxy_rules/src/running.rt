@@ -9,11 +9,12 @@ ghost use Rattle.adapt_hold.specs.Holding.{IsTied, shows, moved};
 ghost use Rattle.adapt_turn.specs.declared.turned.Outcome.TheVariants as outcomes;
 ghost use Rattle.adapt_turn.specs.declared.turned.Turned.{Turned as TurnAnswer};
 ghost use Rattle.adapt_turn.specs.Made.{wire_of};
+ghost use Rattle.icap_client.specs.Turns.{is_reusable};
 ghost use Rattle.adapt_turn.specs.Freeing.{MayFree};
 ghost use Rattle.proxy_rules.specs.Running.{Runs, StandsOver, IsFaultless, RefusesFor, TakesTurns};
 
 use crate::head_maker::HeadMaker;
-use adapt_turn::{Answering, FreeLine, Going, Outcome, Side, Turned, Tx};
+use adapt_turn::{Answering, FreeLine, Going, Outcome, Refusing, Side, Turned, Tx};
 use http_relay::{NextHop, SourceSide};
 use icap_client::ServiceSide;
 use span_bank::{Bank, Ledgers};
@@ -51,6 +52,8 @@ impl<B: Ledgers, A: Wire, W: Wire, C: Wire> Running<B, A, W, C> {
         ensures fails { (shows self.old.tx.hold.history).closed ≡ false → (cause : Why) → self.new.tx.outcome ≡ outcomes.Fail cause
             → ⟦<Tx<B, SourceSide, ServiceSide, NextHop, HeadMaker, A, W, C> as Answering>⟧.fails self.old.tx side now self.new.tx cause }
         ensures deadline { (shows self.old.tx.hold.history).closed ≡ false → self.old.tx.pace.last_moved + self.old.tx.pace.deadline ≤ now → self.new.tx.outcome ≡ outcomes.Fail Deadline }
+        ensures finishes { (shows self.old.tx.hold.history).closed ≡ true → (self.old.tx.refusing ≡ false) ⊎ ⟦<Tx<B, SourceSide, ServiceSide, NextHop, HeadMaker, A, W, C> as Refusing>⟧.refusal_is_over self.old.tx
+            → result ≡ Turned.Finished self.old.tx.outcome }
     {
         self.tx.turn(rt, bank, side, now)
     }
@@ -145,6 +148,7 @@ impl<B: Ledgers, A: Wire, W: Wire, C: Wire> Running<B, A, W, C> {
         ensures over { IfSome result (λ free. MayFree (shows self.old.tx.hold.history)) }
         ensures due { result ≡ None → MayFree (shows self.old.tx.hold.history) → wire_of self.old.tx.service ≡ None }
         ensures wire { IfSome result (λ free. wire_of self.old.tx.service ≡ Some free.wire) }
+        ensures reusable { IfSome result (λ free. IfSome self.old.tx.service (λ line. free.is_reusable ≡ is_reusable line.side)) }
     {
         self.tx.free_line()
     }
