@@ -6,6 +6,7 @@
 
 mod banks;
 mod beside;
+mod crowds;
 mod game;
 mod held;
 mod scenes;
@@ -54,6 +55,9 @@ fn put_answer<R: Threads + Wait + Clock + Sync>(
 ) -> Result<(), NoMemory> {
     if scene.is(b"call", b"threads") {
         return threads::put_threads(rt, alloc, scene, NO_LETTERS, out);
+    }
+    if scene.is(b"call", b"crowd") {
+        return crowds::put_crowd(rt, alloc, scene, NO_LETTERS, out);
     }
     put_runs(alloc, &Turns { rt, alloc }, scene, out)
 }

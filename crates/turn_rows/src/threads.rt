@@ -40,7 +40,7 @@ fn held_answers(alloc: Global, scene: Scene<'_>) -> Result<Answers, NoMemory> {
 }
 
 /// Drives a transaction until it has answered that it is finished.
-fn drive_to_end<B: Ledgers, G: Game<B>, R: Wait>(rt: &R, bank: &Bank<B>, game: &mut G) -> bool {
+pub fn drive_to_end<B: Ledgers, G: Game<B>, R: Wait>(rt: &R, bank: &Bank<B>, game: &mut G) -> bool {
     for _ in 0..ROUNDS {
         game.take_turns(rt, bank, &ROUND);
     }
