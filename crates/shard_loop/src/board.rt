@@ -1,12 +1,15 @@
 //! What the threads have in common: their inboxes, what they count, the log, the queues and the descriptors.
 
+use crate::pools::Spare;
 use event_loop::{Inbox, Room};
 use proxy_config::{Config, ServicePoint};
 use service_lines::Queues;
+use service_pool::Pool;
 use shard_report::{Log, Tally};
 use std::alloc::{AllocError, Global};
 use std::fs::File;
 use std::sync::Arc;
+use std::sync::ledger::Ledger;
 
 /// The connections to a service that may lie idle whatever users need.
 fn idle_connections(service: &Option<ServicePoint>) -> u64 {
@@ -20,6 +23,32 @@ fn idle_connections(service: &Option<ServicePoint>) -> u64 {
 fn room_of(config: &Config) -> Room {
     let idle = idle_connections(&config.reqmod).saturating_add(idle_connections(&config.respmod));
     Room::of_system(config.shards.saturating_add(1), idle)
+}
+
+/// The connections to both services, which all threads share.
+pub trait BothPools<Q: Ledger, A: Ledger> {
+    /// Those to the service of requests.
+    fn request(&self) -> &Pool<Spare, Q>;
+
+    /// Those to the service of responses.
+    fn response(&self) -> &Pool<Spare, A>;
+}
+
+/// The pools of both services.
+#[derive(Drop)]
+pub struct PoolPair<'a, Q: Ledger, A: Ledger> {
+    pub request: &'a Pool<Spare, Q>,
+    pub response: &'a Pool<Spare, A>,
+}
+
+impl<'a, Q: Ledger, A: Ledger> BothPools<Q, A> for PoolPair<'a, Q, A> {
+    fn request(&self) -> &Pool<Spare, Q> {
+        self.request
+    }
+
+    fn response(&self) -> &Pool<Spare, A> {
+        self.response
+    }
 }
 
 /// What all threads have: their inboxes, what they count, and the log.

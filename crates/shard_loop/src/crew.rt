@@ -2,7 +2,7 @@
 
 ghost use Rattle.std.specs.Prelude.{◌≡◌};
 
-use crate::board::{Common, board_of};
+use crate::board::{BothPools, Common, PoolPair, board_of};
 use crate::desk::{Desk, Shared};
 use crate::exchanges::Exchanges;
 use crate::left::Left;
@@ -103,14 +103,15 @@ impl Place for Option<Base> {
 /// Runs a loop on each base, in a thread of its own, until one has to stop or fails: then all end. What is left comes
 /// together.
 ///
-/// What the threads share comes piece by piece, and what a base and an inbox are made of isn't seen here: otherwise the
-/// toolchain's search doesn't find that threads may share the pieces.
+/// What the threads share comes piece by piece, and what a base, an inbox and an idle connection are made of isn't seen here:
+/// otherwise the toolchain's search doesn't find that threads may share the pieces.
 fn run_on<
     B: Ledgers + Send + Sync,
     Q: Ledger + Send + Sync,
     A: Ledger + Send + Sync,
     G: Gate + Sync,
     K: Place + Send,
+    P: BothPools<Q, A> + Sync,
     N: Common + Sync,
     R: Threads + Wait + Dial + Append + Clock + Sync,
 >(
@@ -118,8 +119,7 @@ fn run_on<
     alloc: Global,
     config: &Config,
     bank: &Bank<B>,
-    request: &Pool<Spare, Q>,
-    response: &Pool<Spare, A>,
+    pools: &P,
     gate: &G,
     common: &N,
     left: &Mutex<Left<B, Q, A>>,
@@ -137,7 +137,17 @@ where
         MAX_SHARDS as usize + 1,
         &|number, place| {
             run_one(
-                rt, alloc, config, bank, request, response, gate, common, left, number, place,
+                rt,
+                alloc,
+                config,
+                bank,
+                pools.request(),
+                pools.response(),
+                gate,
+                common,
+                left,
+                number,
+                place,
             )
         },
     );
@@ -169,10 +179,9 @@ where
     B::Slack: Send + Sync,
     B::Pages: Send + Sync,
 {
+    let pools = PoolPair { request, response };
     let board = board_of(alloc, config, file);
-    run_board(
-        rt, alloc, config, bank, request, response, gate, ports, board, left,
-    )
+    run_board(rt, alloc, config, bank, &pools, gate, ports, board, left)
 }
 
 /// Runs the loops over what the threads have in common, if memory was found for it.
@@ -181,6 +190,7 @@ fn run_board<
     Q: Ledger + Send + Sync,
     A: Ledger + Send + Sync,
     G: Gate + Sync,
+    P: BothPools<Q, A> + Sync,
     N: Common + Sync + Drop,
     R: Threads + Wait + Net + Dial + Append + Clock + Sync,
 >(
@@ -188,8 +198,7 @@ fn run_board<
     alloc: Global,
     config: &Config,
     bank: &Bank<B>,
-    request: &Pool<Spare, Q>,
-    response: &Pool<Spare, A>,
+    pools: &P,
     gate: &G,
     ports: (TcpListener, TcpListener),
     board: Result<N, AllocError>,
@@ -220,8 +229,7 @@ where
         alloc,
         config,
         bank,
-        request,
-        response,
+        pools,
         gate,
         &board,
         left,
