@@ -1,9 +1,9 @@
 -- What `serve` says at its end, and what it ends with if it failed.
 use Rattle.std.specs.Prelude.{ℕ, List, ◌++◌, codes}
 use Rattle.adapt_bytes.specs.Numeral.{numeral}
-use Rattle.shard_loop.specs.declared.audit.StopAudit.{StopAudit}
-use Rattle.shard_loop.specs.declared.audit.ServeFault.{ServeFault}
-use Rattle.shard_loop.specs.declared.audit.ServeFault.TheVariants.{System, Loop, Missing, NoMemory}
+use Rattle.shard_report.specs.declared.audit.StopAudit.{StopAudit}
+use Rattle.shard_report.specs.declared.audit.ServeFault.{ServeFault}
+use Rattle.shard_report.specs.declared.audit.ServeFault.TheVariants.{System, Loop, Missing, NoMemory}
 use Rattle.proxy_commands.specs.declared.error.Error.TheVariants.{NoMemory as WithoutMemory}
 use Rattle.proxy_commands.specs.declared.serve_error.ServeError.{ServeError}
 use Rattle.proxy_commands.specs.declared.serve_error.ServeError.TheVariants.{Ended, CannotListen, AuditMissing}
