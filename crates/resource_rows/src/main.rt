@@ -14,8 +14,6 @@ mod reserved;
 mod sharing;
 mod states;
 mod tapes;
-#[cfg(test)]
-mod tests;
 mod threads;
 mod words;
 

@@ -1,4 +1,4 @@
-use Rattle.resource_rows.proofs.tests.audit_with_a_missing_lease_hands_all_back.Given as goal
+use Rattle.code_tests.proofs.audits.audit_with_a_missing_lease_hands_all_back.Given as goal
 
 abbrev pub ghosts-audit_without_one : goal.ghosts-audit_without_one
 ghosts-audit_without_one g a = record { name = a.blank.name; parts = a.blank.parts }

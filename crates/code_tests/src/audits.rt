@@ -1,17 +1,15 @@
 //! A lease or a reservation that an audit doesn't get: no value may stand in its place, so the cases are code.
 ghost use Rattle.std.specs.Prelude.{◌≡◌, ◌≤◌};
 
-use crate::budget_threads::{Made, share};
-use crate::calls::{audited, take_one};
-use crate::reserved::Reserved;
-use service_pool::{AuditFault, Found, LEDGER_PARTS, NoMemory, Pool, Taken};
-use span_bank::{Audit, Bank, Blanks, Four, Ledgers, Stake};
+use service_pool::{AuditFault, Found, LEDGER_PARTS, Lease, NoMemory, Pool, Taken};
+use span_bank::{Audit, Bank, Blanks, Four, Ledgers, Pages, Stake};
 use std::alloc::Global;
 use std::marker::Brand;
 use std::process::Abort;
 use std::sync::Wait;
 use std::sync::ledger::{Blank, Ledger};
 use std::test::*;
+use std::thread;
 use std::thread::Threads;
 
 // What came back from an audit without one lease of two, and what one with all leases gave.
@@ -20,7 +18,7 @@ struct HandedBack {
     leases_back: usize,
     put_back: Option<u32>,
     taken: Found<u32>,
-    count: Option<u64>,
+    count: u64,
 }
 
 // Takes a connection and gives it up at once.
@@ -38,6 +36,30 @@ fn take_and_give_up<L: Ledger, R: Wait>(rt: &R, pool: &Pool<u32, L>) -> Found<u3
     }
 }
 
+// The lease of a connection that is opened.
+fn fresh<L: Ledger, R: Wait + Abort>(rt: &R, pool: &Pool<u32, L>) -> Lease<L> {
+    match pool.take(rt) {
+        Taken::Fresh(lease) => lease,
+        _ => panic!(rt; "no connection may be opened"),
+    }
+}
+
+// Puts a lease with the others.
+fn keep<L: Ledger, R: Abort>(rt: &R, leases: &mut Vec<Lease<L>>, lease: Lease<L>) {
+    if leases.len() == leases.capacity() {
+        panic!(rt; "no room for a lease");
+    }
+    leases.push_reserved(lease);
+}
+
+// The number of an audit with all leases.
+fn counted<L: Ledger, R: Abort>(rt: &R, pool: Pool<u32, L>, leases: Vec<Lease<L>>) -> u64 {
+    match pool.audit(leases) {
+        Ok(count) => count,
+        Err(_) => panic!(rt; "an audit failed with all leases"),
+    }
+}
+
 fn audit_without_one<L: Ledger, R: Wait + Abort>(
     rt: &R,
     alloc: Global,
@@ -46,23 +68,19 @@ fn audit_without_one<L: Ledger, R: Wait + Abort>(
     requires { (blank.name ≡ L.name) × (blank.parts ≡ L.parts) × (blank.parts ≡ LEDGER_PARTS) }
 {
     let pool: Pool<u32, L> = Pool::new(alloc, blank, 2, 16)?;
-    let mut leases = Vec::with_capacity(alloc, 2)?;
-    let _first = take_one(rt, &pool, &mut leases);
-    let _second = take_one(rt, &pool, &mut leases);
-    let missing = leases.pop();
+    let mut leases = Vec::with_capacity(alloc, 1)?;
+    keep(rt, &mut leases, fresh(rt, &pool));
+    let missing = fresh(rt, &pool);
     match pool.audit(leases) {
         Ok(_) => panic!(rt; "an audit passed without a lease"),
         Err((pool, leases, AuditFault::Missing)) => {
             let leases_back = leases.len();
-            let put_back = match missing {
-                Some(lease) => pool.put(rt, 5, lease),
-                None => None,
-            };
+            let put_back = pool.put(rt, 5, missing);
             Ok(HandedBack {
                 leases_back,
                 put_back,
                 taken: take_and_give_up(rt, &pool),
-                count: audited(rt, pool, leases),
+                count: counted(rt, pool, leases),
             })
         }
     }
@@ -76,11 +94,14 @@ fn audit_with_a_missing_lease_hands_all_back(rt: HostRuntime) -> Result<(), Fail
         leases_back: 1,
         put_back: None,
         taken: Found::Idle(5),
-        count: Some(1),
+        count: 1,
     };
     assert_eq!(rt; seen, wanted);
     Ok(())
 }
+
+// A reservation that was made, or none.
+type Made<B> = Option<Stake<B>>;
 
 // What came back from an audit of a budget without one reservation, and the sums of one with all.
 #[derive(Clone, Copy, Debug, PartialEq, Eq)]
@@ -117,11 +138,11 @@ fn audit_twice<B: Ledgers, R: Abort>(
 // Puts a reservation with the others.
 fn add<B: Ledgers, R: Abort>(rt: &R, stakes: &mut Vec<Stake<B>>, made: Made<B>) {
     match made {
-        Some(reserved) => {
+        Some(stake) => {
             if stakes.len() == stakes.capacity() {
                 panic!(rt; "no room for a reservation");
             }
-            stakes.push_reserved(reserved.for_audit());
+            stakes.push_reserved(stake);
         }
         None => panic!(rt; "no reservation was made"),
     }
@@ -129,13 +150,15 @@ fn add<B: Ledgers, R: Abort>(rt: &R, stakes: &mut Vec<Stake<B>>, made: Made<B>) 
 
 // Reserves bytes, and takes a number of them into use, on one page if there are any.
 fn reserve<B: Ledgers, R: Wait>(rt: &R, bank: &Bank<B>, claim: u64, held: u64) -> Made<B>
-    requires { 1 ≤ claim }
+    requires some { 1 ≤ claim }
+    requires fits { held ≤ claim }
 {
     match bank.open(rt, claim) {
-        Ok(stake) => {
-            let mut reserved = Reserved::new(stake);
-            let _grown = reserved.grow(rt, bank, held, 1);
-            Some(reserved)
+        Ok(mut stake) => {
+            if held > 0 {
+                let _page = bank.grow(rt, &mut stake, held, 1);
+            }
+            Some(stake)
         }
         Err(_) => None,
     }
@@ -151,6 +174,69 @@ fn audit_without_second<B: Ledgers, R: Wait + Abort>(
     add(rt, &mut stakes, reserve(rt, &bank, 10, 0));
     let last = reserve(rt, &bank, 20, 3);
     Ok(audit_twice(rt, bank, stakes, last))
+}
+
+// Makes and ends a reservation again and again; it may be refused.
+fn rounds<B: Ledgers, R: Wait>(rt: &R, bank: &Bank<B>) {
+    for _ in 0..1000 {
+        if let Ok(mut stake) = bank.open(rt, 30) {
+            let page = bank.grow(rt, &mut stake, 30, 1);
+            bank.shrink(rt, &mut stake, 30, page);
+            bank.close(rt, stake, Pages::none());
+        }
+    }
+}
+
+// The rounds of two threads.
+fn rounds_of_two<B: Ledgers + Send + Sync, R: Threads + Wait + Sync>(rt: &R, bank: &Bank<B>)
+where
+    B::Held: Send + Sync,
+    B::Free: Send + Sync,
+    B::Slack: Send + Sync,
+    B::Pages: Send + Sync,
+{
+    thread::join(rt, move || rounds(rt, bank), move || rounds(rt, bank));
+}
+
+// The reservations of two threads.
+fn stay_of_two<B: Ledgers + Send + Sync, R: Threads + Wait + Sync>(
+    rt: &R,
+    bank: &Bank<B>,
+) -> (Made<B>, Made<B>)
+where
+    B::Held: Send + Sync,
+    B::Free: Send + Sync,
+    B::Slack: Send + Sync,
+    B::Pages: Send + Sync,
+{
+    thread::join(
+        rt,
+        move || reserve(rt, bank, 25, 25),
+        move || reserve(rt, bank, 25, 25),
+    )
+}
+
+// Four threads make their rounds, and then each makes a reservation.
+fn share<B: Ledgers + Send + Sync, R: Threads + Wait + Sync>(
+    rt: &R,
+    bank: &Bank<B>,
+) -> ((Made<B>, Made<B>), (Made<B>, Made<B>))
+where
+    B::Held: Send + Sync,
+    B::Free: Send + Sync,
+    B::Slack: Send + Sync,
+    B::Pages: Send + Sync,
+{
+    thread::join(
+        rt,
+        move || rounds_of_two(rt, bank),
+        move || rounds_of_two(rt, bank),
+    );
+    thread::join(
+        rt,
+        move || stay_of_two(rt, bank),
+        move || stay_of_two(rt, bank),
+    )
 }
 
 // Four threads share a bank, and an audit lacks the reservation of the last.

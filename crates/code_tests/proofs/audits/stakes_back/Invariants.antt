@@ -1,4 +1,4 @@
-use Rattle.resource_rows.proofs.tests.stakes_back.Given as goal
+use Rattle.code_tests.proofs.audits.stakes_back.Given as goal
 
 abbrev pub ghosts-audit_without_one_of-H-Ledger : goal.ghosts-audit_without_one_of-H-Ledger
 ghosts-audit_without_one_of-H-Ledger g a = record { name = a.blanks.held.name; parts = a.blanks.held.parts }

@@ -1,0 +1,12 @@
+//! Tests that rows can't hold: they need sockets, or would have to abort. A socket's wire, loops that echo, the connections of `icapd`,
+//! and audits that lack something.
+#![tactic(auto)]
+
+#[cfg(test)]
+mod audits;
+#[cfg(test)]
+mod connections;
+#[cfg(test)]
+mod echoes;
+#[cfg(test)]
+mod sockets;
