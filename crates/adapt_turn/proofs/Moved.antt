@@ -90,12 +90,12 @@ moves_none {A} {C} {V} {W} on_source on_wire on_next a a' line line' x x' c0 c1 
     })))
 
 -- where none went over all of them, none went over each
-pub none_over : (source service next : ℕ → Type 0) → SumsBytes source service next 0 → source 0 × service 0 × next 0
-none_over source service next w =
+pub none_over : (source service next : ℕ → Type 0) (n : ℕ) → n ≡ 0 → SumsBytes source service next n → source 0 × service 0 × next 0
+none_over source service next n z w =
     let e = w.sum in
-    let a : w.source ≡ 0 = omega (arith, e) in
-    let b : w.service ≡ 0 = omega (arith, e) in
-    let c : w.next ≡ 0 = omega (arith, e) in
+    let a : w.source ≡ 0 = omega (arith, e, z) in
+    let b : w.service ≡ 0 = omega (arith, e, z) in
+    let c : w.next ≡ 0 = omega (arith, e, z) in
     (subst source a w.source_is, subst service b w.service_is, subst next c w.next_is)
 
 pub waiting_not : (waiting : Bool) → (waiting ≡ true → 0 < 0) → waiting ≡ false

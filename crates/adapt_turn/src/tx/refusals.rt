@@ -11,6 +11,7 @@ ghost use Rattle.adapt_hold.specs.Holding.{shows, moved};
 ghost use Rattle.adapt_turn.specs.Parts.{outcome_by};
 ghost use Rattle.adapt_turn.specs.Refusals.{refusal_status, IsOver};
 ghost use Rattle.adapt_turn.specs.Rows.{BytesOr};
+ghost use Rattle.adapt_turn.specs.ByTurn.{ByAnswer};
 ghost use Rattle.adapt_turn.specs.Stands.{TakesAside, Waited};
 
 use crate::forward::Forward;
@@ -210,12 +211,9 @@ impl<B: Ledgers, S: Source, V: Service, K: Hop, F: Forward<S, K>, A: Wire, W: Wi
         ensures over { result ≡ None → ⟦<Self as Refusing>⟧.refusal_is_over self.new }
         ensures ends { ⟦<Self as Refusing>⟧.refusal_is_over self.old → result ≡ None }
         ensures refuses { (cause : Cause) → ⟦<Self as Refusing>⟧.refuses self.old cause → ⟦<Self as Refusing>⟧.refuses self.new cause }
-        ensures refusing { self.new.refusing ≡ self.old.refusing }
         ensures pace { self.new.pace ≡ self.old.pace }
-        ensures apart { (self.new.source ≡ self.old.source) × (self.new.source_wire ≡ self.old.source_wire) }
-        ensures served { self.new.service ≡ self.old.service }
-        ensures hold { self.new.hold ≡ self.old.hold }
-        ensures outcome { self.new.outcome ≡ self.old.outcome }
+        ensures apart { (self.new.source ≡ self.old.source) × (self.new.service ≡ self.old.service) × (self.new.source_wire ≡ self.old.source_wire) }
+        ensures kept { (self.new.hold ≡ self.old.hold) × (self.new.outcome ≡ self.old.outcome) × (self.new.refusing ≡ self.old.refusing) }
     {
         refusal_turn(&self.hold, &mut self.next, &mut self.next_wire)
     }
@@ -231,12 +229,9 @@ impl<B: Ledgers, S: Source, V: Service, K: Hop, F: Forward<S, K>, A: Wire, W: Wi
         ensures over { result ≡ None → ⟦<Self as Refusing>⟧.refusal_is_over self.new }
         ensures ends { ⟦<Self as Refusing>⟧.refusal_is_over self.old → result ≡ None }
         ensures refuses { (cause : Cause) → ⟦<Self as Refusing>⟧.refuses self.old cause → ⟦<Self as Refusing>⟧.refuses self.new cause }
-        ensures refusing { self.new.refusing ≡ self.old.refusing }
         ensures pace { self.new.pace ≡ self.old.pace }
-        ensures apart { (self.new.source ≡ self.old.source) × (self.new.next_wire ≡ self.old.next_wire) }
-        ensures served { self.new.service ≡ self.old.service }
-        ensures hold { self.new.hold ≡ self.old.hold }
-        ensures outcome { self.new.outcome ≡ self.old.outcome }
+        ensures apart { (self.new.source ≡ self.old.source) × (self.new.service ≡ self.old.service) × (self.new.next_wire ≡ self.old.next_wire) }
+        ensures kept { (self.new.hold ≡ self.old.hold) × (self.new.outcome ≡ self.old.outcome) × (self.new.refusing ≡ self.old.refusing) }
     {
         refusal_turn(&self.hold, &mut self.back, &mut self.source_wire)
     }
@@ -251,13 +246,10 @@ impl<B: Ledgers, S: Source, V: Service, K: Hop, F: Forward<S, K>, A: Wire, W: Wi
         ensures over { result ≡ None → ⟦<Self as Refusing>⟧.refusal_is_over self.new }
         ensures ends { ⟦<Self as Refusing>⟧.refusal_is_over self.old → result ≡ None }
         ensures refuses { (cause : Cause) → ⟦<Self as Refusing>⟧.refuses self.old cause → ⟦<Self as Refusing>⟧.refuses self.new cause }
-        ensures refusing { self.new.refusing ≡ self.old.refusing }
         ensures pace { self.new.pace ≡ self.old.pace }
         ensures apart { (self.new.source ≡ self.old.source) × (self.new.service ≡ self.old.service) × (self.old.hold.history.plan.point ≡ Point.Respmod → self.new.source_wire ≡ self.old.source_wire)
             × (self.old.hold.history.plan.point ≡ Point.Reqmod → self.new.next_wire ≡ self.old.next_wire) }
-        ensures served { self.new.service ≡ self.old.service }
-        ensures hold { self.new.hold ≡ self.old.hold }
-        ensures outcome { self.new.outcome ≡ self.old.outcome }
+        ensures kept { (self.new.hold ≡ self.old.hold) × (self.new.outcome ≡ self.old.outcome) × (self.new.refusing ≡ self.old.refusing) }
     {
         match self.point() {
             Point::Reqmod => self.refusal_back(),
@@ -270,19 +262,13 @@ impl<B: Ledgers, S: Source, V: Service, K: Hop, F: Forward<S, K>, A: Wire, W: Wi
         requires over { (shows self.old.hold.history).closed ≡ true }
         ensures goes { ⟦<Self as Going>⟧.goes self.old self.new }
         ensures pace { self.new.pace ≡ self.old.pace }
-        ensures hold { self.new.hold ≡ self.old.hold }
         ensures apart { (self.new.source ≡ self.old.source) × (self.new.service ≡ self.old.service) × (self.old.hold.history.plan.point ≡ Point.Respmod → self.new.source_wire ≡ self.old.source_wire)
             × (self.old.hold.history.plan.point ≡ Point.Reqmod → self.new.next_wire ≡ self.old.next_wire) }
-        ensures outcome { (outcome : Outcome) → result ≡ Turned.Finished outcome → outcome ≡ self.old.outcome }
-        ensures same { self.new.outcome ≡ self.old.outcome }
-        ensures whole { result ≡ Turned.Broken → ⊥ }
-        ensures moved { (n : ℕ) → result ≡ Turned.Moved n → ⟦<Self as Going>⟧.moves self.old self.new n }
-        ensures idle { result ≡ Turned.Waiting → ⟦<Self as Going>⟧.moves self.old self.new 0 }
-        ensures waits { result ≡ Turned.Waiting → ⟦<Self as Refusing>⟧.refusal_waits self.old self.new }
-        ensures moves { result ≡ Turned.Moved 0 → ⟦<Self as Refusing>⟧.refusal_moves self.old self.new }
-        ensures is_over { (outcome : Outcome) → result ≡ Turned.Finished outcome → (self.old.refusing ≡ false) ⊎ ⟦<Self as Refusing>⟧.refusal_is_over self.new }
+        ensures kept { (self.new.hold ≡ self.old.hold) × (self.new.outcome ≡ self.old.outcome) × (self.new.refusing ≡ self.old.refusing) }
+        ensures answers { ByAnswer result (⟦<Self as Going>⟧.moves self.old self.new 0 × ⟦<Self as Refusing>⟧.refusal_waits self.old self.new)
+            (λ n. ⟦<Self as Going>⟧.moves self.old self.new n × (n ≡ 0 → ⟦<Self as Refusing>⟧.refusal_moves self.old self.new)) ⊥
+            (λ outcome. (outcome ≡ self.old.outcome) × ((self.old.refusing ≡ false) ⊎ ⟦<Self as Refusing>⟧.refusal_is_over self.new)) }
         ensures refuses { (cause : Cause) → ⟦<Self as Refusing>⟧.refuses self.old cause → ⟦<Self as Refusing>⟧.refuses self.new cause }
-        ensures due { self.new.refusing ≡ self.old.refusing }
         ensures finished { (self.old.refusing ≡ false) ⊎ ⟦<Self as Refusing>⟧.refusal_is_over self.old → result ≡ Turned.Finished self.old.outcome }
     {
         if !self.refusing {
