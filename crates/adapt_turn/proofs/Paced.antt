@@ -95,18 +95,7 @@ pub none_of_sending : (reported : List Event) → AllAre is_of_sending reported 
 none_of_sending [] o = omega arith
 none_of_sending (Svc n ∷ events) o = let more = none_of_sending events o.1 in omega (arith, more)
 none_of_sending (Stop ∷ events) o = let more = none_of_sending events o.1 in omega (arith, more)
-none_of_sending (In n ∷ events) o = absurd (false≢true o.0)
-none_of_sending (End ∷ events) o = absurd (false≢true o.0)
-none_of_sending (Heard ∷ events) o = absurd (false≢true o.0)
-none_of_sending (Continue ∷ events) o = absurd (false≢true o.0)
-none_of_sending (NoMod ∷ events) o = absurd (false≢true o.0)
-none_of_sending (Mod payload ∷ events) o = absurd (false≢true o.0)
-none_of_sending (Ad n ∷ events) o = absurd (false≢true o.0)
-none_of_sending (AdEnd ∷ events) o = absurd (false≢true o.0)
-none_of_sending (Usr n ∷ events) o = absurd (false≢true o.0)
-none_of_sending (Done ∷ events) o = absurd (false≢true o.0)
-none_of_sending (Fail cause ∷ events) o = absurd (false≢true o.0)
-none_of_sending (Retry ∷ events) o = absurd (false≢true o.0)
+none_of_sending (_ ∷ events) o = absurd (false≢true o.0)
 
 -- the newer hold is the same
 pub paced_kept : (n : ℕ) (of : Seen → ℕ) (k k' : Holding) → k' ≡ k → of (shows k.history) ≤ n → of (shows k'.history) ≤ n

@@ -52,35 +52,15 @@ refused_on status refusing gift gift' u u' due same w = elim w [
 
 -- What is due.
 
-wire_twice : (f : Option RelayFault) → wire_fault f ≡ wire_fault (wire_fault f)
-wire_twice None = refl
-wire_twice (Some relay.Head) = refl
-wire_twice (Some relay.Chunk) = refl
-wire_twice (Some relay.Closed) = refl
-wire_twice (Some relay.Device) = refl
-wire_twice (Some relay.Length) = refl
-wire_twice (Some relay.NoMemory) = refl
-
-wire_only : (f g : Option RelayFault) → g ≡ wire_fault f → g ≡ wire_fault g
-wire_only f g e = e ∙ (wire_twice f ∙ ap wire_fault (sym e))
-
 -- a fault that is kept where only the wire's may be is the wire's
 pub wire_failed : (f : Option RelayFault) → is_some f ≡ true → f ≡ wire_fault f → f ≡ Some relay.Device
-wire_failed None s e = cc
-wire_failed (Some relay.Head) s e = cc
-wire_failed (Some relay.Chunk) s e = cc
-wire_failed (Some relay.Closed) s e = cc
 wire_failed (Some relay.Device) s e = refl
-wire_failed (Some relay.Length) s e = cc
-wire_failed (Some relay.NoMemory) s e = cc
+wire_failed _ s e = cc
 
 -- a first fault of a refusal is the wire's
 pub first_failed : (breaks : Type 0) (gift : Gift) (fault : RelayFault) → (gift ≡ message → ⊥) → FailsGiving ((gift ≡ message) × breaks) fault → fault ≡ relay.Device
 first_failed breaks gift fault n (inl d) = d
 first_failed breaks gift fault n (inr l) = absurd (n l.1.0)
-
-pub refused_due : (status : ℕ) (gift : Gift) (old new : Option RelayFault) → gift ≡ refusal status → new ≡ wire_fault old → IsDue gift new
-refused_due status gift old new g e = (λ m. (let odd : refusal status ≡ message = sym g ∙ m in absurd cc), wire_only old new e)
 
 pub due_next : (point : Point) (ng bg : Gift) (nf bf : Option RelayFault) → point ≡ Respmod → IsDue (user_gift point ng bg) (user_fault point nf bf) → IsDue ng nf
 due_next Respmod ng bg nf bf e d = d
@@ -89,14 +69,6 @@ due_next Reqmod ng bg nf bf e d = cc
 pub due_back : (point : Point) (ng bg : Gift) (nf bf : Option RelayFault) → point ≡ Reqmod → IsDue (user_gift point ng bg) (user_fault point nf bf) → IsDue bg bf
 due_back Respmod ng bg nf bf e d = cc
 due_back Reqmod ng bg nf bf e d = d
-
-pub next_due : (point : Point) (ng bg : Gift) (nf bf : Option RelayFault) → point ≡ Respmod → IsDue ng nf → IsDue (user_gift point ng bg) (user_fault point nf bf)
-next_due Respmod ng bg nf bf e d = d
-next_due Reqmod ng bg nf bf e d = cc
-
-pub back_due : (point : Point) (ng bg : Gift) (nf bf : Option RelayFault) → point ≡ Reqmod → IsDue bg bf → IsDue (user_gift point ng bg) (user_fault point nf bf)
-back_due Respmod ng bg nf bf e d = cc
-back_due Reqmod ng bg nf bf e d = d
 
 -- nothing is due of an open one
 pub none_due : (closed : Bool) (this due : Type 0) → closed ≡ false → (closed ≡ true) × due → this

@@ -1,7 +1,7 @@
 use Rattle.adapt_turn.proofs.Giving.{back_refusal_goes}
 use Rattle.std.proofs.Common.{ap}
 use Rattle.adapt_turn.specs.Stands.{user_gift}
-use Rattle.adapt_turn.proofs.Refusals.{only_back, refused_on, due_back, back_due}
+use Rattle.adapt_turn.proofs.Refusals.{only_back, refused_on, due_back}
 use Rattle.adapt_turn.proofs.tx.Tx.refusal_back.Goals as goal
 
 pub returns-clause-goes : goal.returns-clause-goes

@@ -1,7 +1,7 @@
 use Rattle.adapt_turn.proofs.Giving.{next_refusal_goes}
 use Rattle.std.proofs.Common.{ap}
 use Rattle.adapt_turn.specs.Stands.{user_gift}
-use Rattle.adapt_turn.proofs.Refusals.{only_next, refused_on, due_next, next_due}
+use Rattle.adapt_turn.proofs.Refusals.{only_next, refused_on, due_next}
 use Rattle.adapt_turn.proofs.tx.Tx.refusal_next.Goals as goal
 
 pub returns-clause-goes : goal.returns-clause-goes
