@@ -45,10 +45,13 @@ paces_still closed old new now moves said e b m =
       still = λ s. last;
       rests = λ k. last;
       limit = ap (λ (z : Pace). z.deadline) e;
-      marked = (λ t. inl (sym broken ∙ t), λ w. elim w [
-        | inl t ↦ broken ∙ t
-        | inr s ↦ broken ∙ b s
-      ]);
+      marked = (
+        λ t. inl (sym broken ∙ t),
+        λ w. elim w [
+          | inl t ↦ broken ∙ t
+          | inr s ↦ broken ∙ b s
+        ],
+      );
       reused = ap (λ (z : Pace). z.reused) e;
     }
 

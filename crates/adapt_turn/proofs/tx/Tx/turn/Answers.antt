@@ -213,18 +213,18 @@ returns-then-is_closed-clause-closed g c = λ k. let e = c.closed_turn.ensures i
 
 pub returns-then-now-self-2-clause-paces : goal.returns-then-now-self-2-clause-paces
 returns-then-now-self-2-clause-paces g c = paces_still _ _ _ _ _ (answers.Moved 0) c.fail_by.ensures.pace (λ b. (let d : answers.Moved 0 ≡ answers.Broken = b in absurd cc)) (λ o. (
-    moves_none g.A.Wire.past g.W.Wire.past g.C.Wire.past c.args.self.now.source_wire c.fail_by.new.self.source_wire
-    c.args.self.now.service c.fail_by.new.self.service c.args.self.now.next_wire c.fail_by.new.self.next_wire _ _ _ 0
-    c.counts-before.ensures.source c.counts-before.ensures.service c.counts-before.ensures.next c.fail_by.ensures.kept.0 c.fail_by.ensures.kept.1 c.fail_by.ensures.kept.2 refl,
-    λ m e. (let d : answers.Moved 0 ≡ answers.Moved m = e in cc),
-  ))
+  moves_none g.A.Wire.past g.W.Wire.past g.C.Wire.past c.args.self.now.source_wire c.fail_by.new.self.source_wire
+      c.args.self.now.service c.fail_by.new.self.service c.args.self.now.next_wire c.fail_by.new.self.next_wire _ _ _ 0
+      c.counts-before.ensures.source c.counts-before.ensures.service c.counts-before.ensures.next c.fail_by.ensures.kept.0 c.fail_by.ensures.kept.1 c.fail_by.ensures.kept.2 refl,
+  λ m e. (let d : answers.Moved 0 ≡ answers.Moved m = e in cc),
+))
 
 pub returns-then-is_broken-clause-paces : goal.returns-then-is_broken-clause-paces
 returns-then-is_broken-clause-paces g c = paces_still _ _ _ _ _ answers.Broken refl (λ b. search rules) (λ o. (
-    moves_none g.A.Wire.past g.W.Wire.past g.C.Wire.past c.args.self.now.source_wire c.args.self.now.source_wire c.args.self.now.service c.args.self.now.service c.args.self.now.next_wire c.args.self.now.next_wire _ _ _ 0
-    c.counts-before.ensures.source c.counts-before.ensures.service c.counts-before.ensures.next refl refl refl refl,
-    λ m e. (let d : answers.Broken ≡ answers.Moved m = e in absurd cc),
-  ))
+  moves_none g.A.Wire.past g.W.Wire.past g.C.Wire.past c.args.self.now.source_wire c.args.self.now.source_wire c.args.self.now.service c.args.self.now.service c.args.self.now.next_wire c.args.self.now.next_wire _ _ _ 0
+      c.counts-before.ensures.source c.counts-before.ensures.service c.counts-before.ensures.next refl refl refl refl,
+  λ m e. (let d : answers.Broken ≡ answers.Moved m = e in absurd cc),
+))
 
 pub returns-clause-keeps : goal.returns-clause-keeps
 returns-clause-keeps g c = (
