@@ -4,12 +4,13 @@ use Rattle.std.proofs.lemmas.List.{append_assoc}
 use Rattle.std.specs.Io.KnownBytes.{Appends}
 use Rattle.proxy_config.specs.Config.{Refuses}
 use Rattle.proxy_config.specs.declared.config.Config.{Config as Configuration}
-use Rattle.proxy_config.specs.declared.fault.ConfigFault.TheVariants.{Text as NoDocument, Key as AtKey}
+use Rattle.proxy_config.specs.declared.fault.ConfigFault.{ConfigFault}
+use Rattle.proxy_config.specs.declared.fault.ConfigFault.TheVariants.{Text as NoDocument, Key as AtKey, NoMemory as WithoutMemory}
 use Rattle.adapt_bytes.specs.declared.limits.TheConstants.{MAX_INPUT}
 use Rattle.proxy_commands.specs.declared.error.Error.TheVariants.{Usage, ReadFailed, WriteFailed, InputTooLong, Line, NoMemory}
 use Rattle.proxy_commands.specs.declared.serve_error.ServeError.{ServeError}
 use Rattle.proxy_commands.specs.declared.serve_error.ServeError.TheVariants.{Ended, Config, Key, CannotListen, AuditMissing}
-use Rattle.proxy_commands.specs.Serve.{IsConfigured, IsUnconfigured}
+use Rattle.proxy_commands.specs.Serve.{IsConfigured, IsRefusedAs, IsUnconfigured}
 use Rattle.proxy_commands.proofs.Runs.{whole, more}
 
 -- three writes behind one another
@@ -30,6 +31,12 @@ pub configured : (known : Option (List ℕ)) (input : List ℕ) (r : Result Conf
 configured known input (Err error) read h = tt
 configured None input (Ok config) read h = tt
 configured (Some bytes) input (Ok config) read h = subst (λ (x : List ℕ). IsConfigured x config) (sym (whole bytes input read h.short)) h
+
+-- the fault of a text that isn't too long is why it is refused
+pub refused_so : (text : List ℕ) (fault : ConfigFault) (error : ServeError) → length text ≤ MAX_INPUT → Refuses text fault → IsRefusedAs fault error → IsUnconfigured text error
+refused_so text NoDocument error short refuses is = let P : ServeError → Type 0 = λ e. IsUnconfigured text e in subst P (sym is) (short, refuses)
+refused_so text (AtKey key) error short refuses is = let P : ServeError → Type 0 = λ e. IsUnconfigured text e in subst P (sym is) (short, refuses)
+refused_so text WithoutMemory error short refuses is = let P : ServeError → Type 0 = λ e. IsUnconfigured text e in subst P (sym is) tt
 
 refused : (bytes input : List ℕ) (error : ServeError) → input ≡ take (MAX_INPUT + 1) bytes → IsUnconfigured input error → IsUnconfigured bytes error
 refused bytes input (Ended InputTooLong) read h = more bytes input read h

@@ -2,3 +2,11 @@ pub mod Addresses
 pub mod Refusals
 pub mod HostLemmas
 pub mod HostSearch
+pub mod TextOrder
+pub mod Entries
+pub mod HostReading
+pub mod HostTable
+pub mod UnknownKeys
+pub mod ServiceLemmas
+pub mod NoHosts
+pub mod SeenNames

@@ -1,18 +1,20 @@
 -- What a configuration says, and which fault of a document is the first.
-use Rattle.std.specs.Prelude.{◌≡◌, ℕ, ◌⊎◌, List, Option, Some, None, IsSome, Bool, true, codes, ⊤, IsUtf8, option_map, string_bytes}
+use Rattle.std.specs.Prelude.{◌≡◌, ℕ, ◌⊎◌, List, Option, Some, None, Bool, true, codes, ⊤, IsUtf8, option_map, string_bytes}
 use Rattle.toml.specs.Data.{Members, get_member}
 use Rattle.toml.specs.Parse.{parse_document}
-use Rattle.std.specs.declared.net.socket_addr.SocketAddrV4.{SocketAddrV4}
 use Rattle.adapt_bytes.specs.declared.limits.TheConstants.{MAX_ALLOW_LIMIT, MAX_CAPACITY, MAX_PREVIEW, MAX_ROWS, MAX_WINDOW}
 use Rattle.proxy_config.specs.declared.limits.TheConstants.{MAX_DEADLINE, MAX_JOURNAL, MAX_SHARDS, MAX_WAIT}
 use Rattle.proxy_config.specs.declared.defaults.TheConstants.{ALLOW_LIMIT, CAPACITY, DEADLINE, JOURNAL, PREVIEW_LIMIT, ROWS, SHARDS, WAIT, WINDOW}
 use Rattle.proxy_config.specs.Values.{number_or, truth_or, HasAddress}
-use Rattle.proxy_config.specs.Fault.{IsFaultAt}
+use Rattle.proxy_config.specs.Order.{AddressFirst, ValueFirst, IsFirst}
 use Rattle.proxy_config.specs.Log.{log_of}
-use Rattle.proxy_config.specs.Services.{IsServiceOf}
+use Rattle.proxy_config.specs.HostNames.{IsHostsOf, IsHostFault}
+use Rattle.proxy_config.specs.Services.{IsServiceOf, HasServiceOf, IsServiceFault}
+use Rattle.proxy_config.specs.Unknown.{IsUnknown}
 use Rattle.proxy_config.specs.declared.fault.ConfigFault.{ConfigFault}
 use Rattle.proxy_config.specs.declared.fault.ConfigFault.TheVariants.{Text, Key, NoMemory}
 use Rattle.proxy_config.specs.declared.config.Config.{Config}
+use Rattle.proxy_config.specs.declared.host_table.Hosts.{Hosts}
 
 -- the number of a key: the default where the key is missing, none where it is no whole number of the range
 abbrev pub number_at : List ℕ → ℕ → ℕ → ℕ → Members → Option ℕ
@@ -49,7 +51,7 @@ retry_of document = truth_or true (get_member (codes "retry") document)
 abbrev pub wait_of : Members → Option ℕ
 wait_of = number_at (codes "wait") 0 MAX_WAIT WAIT
 
--- the document says these values; its hosts aside
+-- the document says these values, and has no other key
 pub record IsConfig (document : Members) (config : Config) : Type 0 where
   pub listen : HasAddress (codes "listen") document config.listen
   pub admin : HasAddress (codes "admin") document config.admin
@@ -64,27 +66,26 @@ pub record IsConfig (document : Members) (config : Config) : Type 0 where
   pub retry : retry_of document ≡ Some config.retry
   pub wait : wait_of document ≡ Some config.wait
   pub log : log_of document ≡ Some (option_map string_bytes config.log)
+  pub hosts : IsHostsOf document config.hosts
   pub reqmod : IsServiceOf (codes "reqmod") document config.reqmod
   pub respmod : IsServiceOf (codes "respmod") document config.respmod
+  pub none_unknown : (key : List ℕ) → IsUnknown document key → ⊥
 
--- the first fault of keys that are judged one after the other: this key's if it is bad, else one of the keys after it
-abbrev pub FirstOf : List ℕ → Type 0 → Type 0 → Type 0 → ConfigFault → Type 0
-FirstOf key good bad later fault = (bad × IsFaultAt key fault) ⊎ (good × later)
+-- the document has such a table of hosts
+abbrev pub HasHosts : Members → Type 0
+HasHosts document = (hosts : Hosts) × IsHostsOf document hosts
 
--- by a key that needs an address
-abbrev pub AddressFirst : List ℕ → Members → Type 0 → ConfigFault → Type 0
-AddressFirst key document later fault = FirstOf key
-    ((address : SocketAddrV4) × HasAddress key document address)
-    ((address : SocketAddrV4) → HasAddress key document address → ⊥)
-    later fault
+-- the first key at fault behind the log: one of the hosts, of a service, or else the first unknown key by its bytes
+abbrev pub IsFirstOfTables : Members → List ℕ → Type 0
+IsFirstOfTables document key =
+    IsHostFault document key ⊎ (HasHosts document × (
+    IsServiceFault (codes "reqmod") document key ⊎ (HasServiceOf (codes "reqmod") document × (
+    IsServiceFault (codes "respmod") document key ⊎ (HasServiceOf (codes "respmod") document ×
+    IsFirst (IsUnknown document) key)))))
 
--- by a key with a value that may be bad
-abbrev pub ValueFirst : {A : Type 0} → List ℕ → Option A → Type 0 → ConfigFault → Type 0
-ValueFirst key value later fault = FirstOf key (IsSome value) (value ≡ None) later fault
-
--- the first fault of a document; of the hosts and services, and of keys that nothing has, all others are good
-abbrev pub IsFirstFault : Members → ConfigFault → Type 0
-IsFirstFault document fault =
+-- the first key at fault of a document
+abbrev pub IsFirstFault : Members → List ℕ → Type 0
+IsFirstFault document key =
     AddressFirst (codes "listen") document (
     AddressFirst (codes "admin") document (
     ValueFirst (codes "shards") (shards_of document) (
@@ -98,10 +99,10 @@ IsFirstFault document fault =
     ValueFirst (codes "retry") (retry_of document) (
     ValueFirst (codes "wait") (wait_of document) (
     ValueFirst (codes "log") (log_of document) (
-    ⊤) fault) fault) fault) fault) fault) fault) fault) fault) fault) fault) fault) fault) fault
+    IsFirstOfTables document key) key) key) key) key) key) key) key) key) key) key) key) key) key
 
--- why a text is no configuration: it is no document, or this is the first fault of its document
+-- why a text is no configuration: it is no document, or this is the first key at fault of its document
 abbrev pub Refuses : List ℕ → ConfigFault → Type 0
 Refuses text Text = (¬ (IsUtf8 text)) ⊎ (parse_document text ≡ None)
 Refuses text NoMemory = ⊤
-Refuses text (Key key) = (document : Members) × (parse_document text ≡ Some document) × IsFirstFault document (Key key)
+Refuses text (Key key) = (document : Members) × (parse_document text ≡ Some document) × IsFirstFault document (string_bytes key)

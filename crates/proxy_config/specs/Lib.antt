@@ -1,8 +1,11 @@
 pub mod Fault
 pub mod Values
+pub mod Order
 pub mod Sizes
 pub mod Config
 pub mod Services
 pub mod Hosts
+pub mod HostNames
+pub mod Unknown
 pub mod Log
 pub mod Names

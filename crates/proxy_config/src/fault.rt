@@ -1,7 +1,8 @@
 //! Why a text is no configuration.
 
-ghost use Rattle.std.specs.Prelude.{◌≡◌, IfOk, IfErr, Some, None, MatchOption};
+ghost use Rattle.std.specs.Prelude.{◌≡◌, IfOk, IfErr, Some, None, string_bytes};
 ghost use Rattle.proxy_config.specs.Fault.{IsFaultAt};
+ghost use Rattle.proxy_config.specs.Order.{nested};
 ghost use Rattle.proxy_config.specs.declared.fault.ConfigFault.TheVariants.{NoMemory};
 
 use std::alloc::{AllocError, Global};
@@ -31,6 +32,23 @@ pub(crate) fn at_key(alloc: Global, key: &str) -> ConfigFault
     ensures { IsFaultAt key.now result }
 {
     match String::from_str(alloc, key) {
+        Ok(key) => ConfigFault::Key(key),
+        Err(_) => ConfigFault::NoMemory,
+    }
+}
+
+/// The text of a key that stands in a table: the table's name, a dot and the key.
+pub(crate) fn nested(alloc: Global, table: &str, key: &str) -> Result<String, AllocError>
+    ensures { IfOk result (λ text. string_bytes text ≡ nested table.now key.now) }
+{
+    format!(in alloc; "{table}.{key}")
+}
+
+/// The fault of a key that stands in a table.
+pub(crate) fn at_nested(alloc: Global, table: &str, key: &str) -> ConfigFault
+    ensures { IsFaultAt (nested table.now key.now) result }
+{
+    match nested(alloc, table, key) {
         Ok(key) => ConfigFault::Key(key),
         Err(_) => ConfigFault::NoMemory,
     }

@@ -1,6 +1,6 @@
 //! A host name, its address, and a number that it is found by.
 
-ghost use Rattle.std.specs.Prelude.{◌≡◌, string_bytes};
+ghost use Rattle.std.specs.Prelude.{◌≡◌, IfOk, string_bytes};
 ghost use Rattle.proxy_config.specs.Names.{number_from, number_of_name};
 
 use std::alloc::{AllocError, Global};
@@ -31,7 +31,10 @@ pub fn number_of(name: &[u8]) -> u64
 }
 
 /// A host with its name.
-pub fn host_at(alloc: Global, name: &str, address: SocketAddrV4) -> Result<Host, AllocError> {
+pub fn host_at(alloc: Global, name: &str, address: SocketAddrV4) -> Result<Host, AllocError>
+    ensures name { IfOk result (λ host. string_bytes host.name ≡ name.now) }
+    ensures address { IfOk result (λ host. host.address ≡ address) }
+{
     Ok(Host {
         number: number_of(name.as_bytes()),
         name: String::from_str(alloc, name)?,

@@ -1,6 +1,7 @@
 //! The table of host names, in an order in which one is found fast.
 
-ghost use Rattle.std.specs.List.Sorted.{IsNonDecreasingBy};
+ghost use Rattle.std.specs.Prelude.{IfOk};
+ghost use Rattle.std.specs.List.Sorted.{IsNonDecreasingBy, IsPermutation};
 ghost use Rattle.std.proofs.Props.{props};
 ghost use Rattle.proxy_config.specs.declared.host.Host.{Host as AnyHost};
 
@@ -16,7 +17,9 @@ pub struct Hosts {
 }
 
 /// Puts hosts in the order of their numbers.
-pub fn sorted(mut all: Vec<Host>) -> Result<Hosts, AllocError> {
+pub fn sorted(mut all: Vec<Host>) -> Result<Hosts, AllocError>
+    ensures { IfOk result (λ hosts. IsPermutation all.items hosts.all.items) }
+{
     all.sort_by_key(|host| host.number)?;
     Ok(Hosts { all })
 }

@@ -1,17 +1,22 @@
 //! The table of host names: no resolver is asked.
 
-ghost use Rattle.std.specs.Prelude.{◌≡◌, ◌<◌, IfErr, IfSome, IfNone};
+ghost use Rattle.std.specs.Prelude.{◌≡◌, ◌⊎◌, false, not, IfOk, IfErr, OnOk, IfSome, IfNone, IsTrue, Some, codes, string_bytes};
 ghost use Rattle.std.specs.List.Sorted.{IsNonDecreasingBy};
 ghost use Rattle.std.specs.declared.net.socket_addr.SocketAddrV4.{SocketAddrV4 as AnyAddress};
-ghost use Rattle.proxy_config.specs.Fault.{Names};
+ghost use Rattle.toml.specs.Data.{Members};
+ghost use Rattle.toml.specs.View.{view, table_view};
+ghost use Rattle.proxy_config.specs.Fault.{Names, IsFaultAt};
+ghost use Rattle.proxy_config.specs.HostNames.{host_names, is_seen, HasEach, IsHostFault, IsHostsOf, IsInHosts, Marks};
 ghost use Rattle.proxy_config.specs.Hosts.{address_of_name, found_host, port_or, IsAt};
 ghost use Rattle.proxy_config.specs.Names.{number_of_name};
+ghost use Rattle.proxy_config.specs.Order.{nested};
+ghost use Rattle.proxy_config.specs.Values.{IsAddress};
 ghost use Rattle.proxy_config.specs.declared.host.Host.{Host as AnyHost};
 
-use crate::fault::{ConfigFault, at_key, needed};
+use crate::fault::{ConfigFault, at_nested, needed};
 use crate::host::{Host, host_at, number_of};
 use crate::host_table::{Hosts, sorted};
-use crate::values::address_of;
+use crate::values::{address_of, value_of};
 use adapt_bytes::same_ascii;
 use std::alloc::{AllocError, Global};
 use std::collections::BTreeSet;
@@ -76,18 +81,11 @@ impl Hosts {
     }
 }
 
-/// The fault of a host name.
-fn at_host(alloc: Global, name: &str) -> ConfigFault
-    ensures { Names result }
-{
-    match format!(in alloc; "hosts.{name}") {
-        Ok(key) => at_key(alloc, key.as_str()),
-        Err(_) => ConfigFault::NoMemory,
-    }
-}
-
 /// Marks a name as seen, ASCII case ignored, and says whether it is new.
-fn is_new(alloc: Global, seen: &mut BTreeSet<String>, name: &str) -> Result<bool, AllocError> {
+fn is_new(alloc: Global, seen: &mut BTreeSet<String>, name: &str) -> Result<bool, AllocError>
+    ensures new { IfOk result (λ new. new ≡ not (is_seen seen.old name.now)) }
+    ensures marks { OnOk result (Marks name.now seen.old seen.new) }
+{
     let mut lower = String::from_str(alloc, name)?;
     lower.make_ascii_lowercase();
     match seen.insert(lower) {
@@ -103,19 +101,27 @@ fn read_host(
     name: &str,
     value: &Value,
 ) -> Result<Host, ConfigFault>
-    ensures { IfErr result Names }
+    ensures new { OnOk result (is_seen seen.old name.now ≡ false) }
+    ensures marks { OnOk result (Marks name.now seen.old seen.new) }
+    ensures name { IfOk result (λ host. string_bytes host.name ≡ name.now) }
+    ensures address { IfOk result (λ host. IsAddress (view value.now) host.address) }
+    ensures err { IfErr result (IsFaultAt (nested (codes "hosts") name.now)) }
+    ensures bad { IfErr result (Names (λ _. IsTrue (is_seen seen.old name.now)
+        ⊎ ((address : AnyAddress) → IsAddress (view value.now) address → ⊥))) }
 {
-    if is_new(alloc, seen, name)? {
-        if let Some(address) = address_of(value) {
-            return Ok(host_at(alloc, name, address)?);
-        }
+    if !is_new(alloc, seen, name)? {
+        return Err(at_nested(alloc, "hosts", name));
     }
-    Err(at_host(alloc, name))
+    match address_of(value) {
+        Some(address) => Ok(host_at(alloc, name, address)?),
+        None => Err(at_nested(alloc, "hosts", name)),
+    }
 }
 
 /// Reads each name of the table.
 fn read_all(alloc: Global, names: &Table) -> Result<Vec<Host>, ConfigFault>
-    ensures { IfErr result Names }
+    ensures ok { IfOk result (λ all. HasEach (table_view names.now) all.items) }
+    ensures err { IfErr result (Names (IsInHosts (table_view names.now))) }
 {
     let mut all = Vec::new(alloc);
     let mut seen = BTreeSet::new(alloc);
@@ -128,14 +134,24 @@ fn read_all(alloc: Global, names: &Table) -> Result<Vec<Host>, ConfigFault>
     Ok(all)
 }
 
+/// Reads the names of the document's table, which may be missing.
+fn read_names(alloc: Global, table: &Table) -> Result<Vec<Host>, ConfigFault>
+    ensures ok { IfOk result (λ all. (names : Members)
+        × (host_names (table_view table.now) ≡ Some names) × HasEach names all.items) }
+    ensures err { IfErr result (Names (IsHostFault (table_view table.now))) }
+{
+    match value_of(table, "hosts") {
+        Some(value) => read_all(alloc, needed(alloc, "hosts", value.as_table())?),
+        None => Ok(Vec::new(alloc)),
+    }
+}
+
 /// Reads the table of host names, which may be missing. Names that differ in ASCII case alone are a fault of the later
 /// one, in the order of their bytes.
 pub(crate) fn read_hosts(alloc: Global, table: &Table) -> Result<Hosts, ConfigFault>
-    ensures { IfErr result Names }
+    ensures ok { IfOk result (IsHostsOf (table_view table.now)) }
+    ensures err { IfErr result (Names (IsHostFault (table_view table.now))) }
 {
-    let all = match table.get("hosts") {
-        Some(value) => read_all(alloc, needed(alloc, "hosts", value.as_table())?)?,
-        None => Vec::new(alloc),
-    };
+    let all = read_names(alloc, table)?;
     Ok(sorted(all)?)
 }

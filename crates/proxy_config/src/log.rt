@@ -1,10 +1,10 @@
 //! Reading where the log is.
 
-ghost use Rattle.std.specs.Prelude.{◌≡◌, IfOk, IfErr, Some, option_map, option_copied, string_bytes, codes, ⊤};
+ghost use Rattle.std.specs.Prelude.{◌≡◌, IfOk, IfErr, Some, option_map, option_copied, string_bytes, codes};
 ghost use Rattle.toml.specs.View.{table_view};
-ghost use Rattle.proxy_config.specs.Config.{ValueFirst};
 ghost use Rattle.proxy_config.specs.Fault.{Names};
 ghost use Rattle.proxy_config.specs.Log.{is_log_path, log_of};
+ghost use Rattle.proxy_config.specs.Order.{ValueFirst};
 
 use crate::fault::{ConfigFault, at_key};
 use crate::values::value_of;
@@ -38,8 +38,7 @@ fn log_path(table: &Table) -> Option<Option<&str>>
 /// Reads the path of the log; none where the key is missing.
 pub(crate) fn read_log(alloc: Global, table: &Table) -> Result<Option<String>, ConfigFault>
     ensures ok { IfOk result (λ log. log_of (table_view table.now) ≡ Some (option_map string_bytes log)) }
-    ensures err { IfErr result (ValueFirst (codes "log") (log_of (table_view table.now)) ⊤) }
-    ensures names { IfErr result Names }
+    ensures err { IfErr result (Names (ValueFirst (codes "log") (log_of (table_view table.now)) ⊥)) }
 {
     match log_path(table) {
         Some(None) => Ok(None),

@@ -43,8 +43,7 @@ pub fn read_config(alloc: Global, text: &[u8]) -> Result<Config, ConfigFault>
 /// Reads a configuration out of its document.
 fn read_table(alloc: Global, table: &Table) -> Result<Config, ConfigFault>
     ensures ok { IfOk result (IsConfig (table_view table.now)) }
-    ensures err { IfErr result (IsFirstFault (table_view table.now)) }
-    ensures names { IfErr result Names }
+    ensures err { IfErr result (Names (IsFirstFault (table_view table.now))) }
 {
     let listen = needed(alloc, "listen", address(table, "listen"))?;
     let admin = needed(alloc, "admin", address(table, "admin"))?;

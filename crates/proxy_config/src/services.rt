@@ -1,13 +1,14 @@
 //! Reading the service of a point.
 
-ghost use Rattle.std.specs.Prelude.{◌≡◌, ◌≤◌, IfOk, IfErr, IfSome, Ok, Some, true, option_copied, codes};
+ghost use Rattle.std.specs.Prelude.{◌≡◌, ◌↔◌, IfOk, IfErr, IfSome, IfNone, IsTrue, Some, None, option_copied, codes};
 ghost use Rattle.std.specs.Net.Grammar.{IsIpv4Text};
 ghost use Rattle.toml.specs.View.{table_view};
-ghost use Rattle.proxy_config.specs.Fault.{Names};
-ghost use Rattle.proxy_config.specs.Services.{text_at, IsServicePath, IsServicePoint, IsServiceOf};
+ghost use Rattle.proxy_config.specs.Fault.{Names, IsFaultAt};
+ghost use Rattle.proxy_config.specs.Order.{nested};
+ghost use Rattle.proxy_config.specs.Services.{text_at, is_path_text, IsServicePath, HasHost, HasPath, IsServicePoint, IsServiceOf, IsInService, IsServiceFault};
 
 use crate::defaults::{CONNECTIONS, PORT};
-use crate::fault::{ConfigFault, at_key, needed};
+use crate::fault::{ConfigFault, at_nested, needed};
 use crate::point::ServicePoint;
 use crate::values::{number_or, value_of};
 use adapt_bytes::{MAX_CONNECTIONS, MAX_PORT};
@@ -33,6 +34,7 @@ fn text<'a>(table: &'a Table, key: &str) -> Option<&'a str>
 fn host(table: &Table) -> Option<(Ipv4Addr, &str)>
     ensures text { IfSome result (λ found. text_at (codes "host") (table_view table.now) ≡ Some found.1.now) }
     ensures ip { IfSome result (λ found. IsIpv4Text found.1.now found.0) }
+    ensures none { IfNone result (HasHost (table_view table.now) → ⊥) }
 {
     let text = text(table, "host")?;
     match Ipv4Addr::parse_ascii(text.as_bytes()) {
@@ -41,15 +43,22 @@ fn host(table: &Table) -> Option<(Ipv4Addr, &str)>
     }
 }
 
-/// Whether a URI may have the path. `Err` where no memory was found to judge it.
-fn is_path(alloc: Global, path: &str) -> Result<bool, AllocError>
-    ensures { result ≡ Ok true → IsServicePath path.now }
+/// Whether a path has at most 1,024 bytes, begins with `/`, and has no fragment behind it.
+fn is_path_text(path: &str) -> bool
+    ensures { result ≡ is_path_text path.now }
 {
     let bytes = path.as_bytes();
-    if bytes.len() > MAX_PATH || !bytes.starts_with(b"/") || bytes.contains(&b'#') {
+    bytes.len() <= MAX_PATH && bytes.starts_with(b"/") && !bytes.contains(&b'#')
+}
+
+/// Whether a service may have the path. `Err` where no memory was found to judge it.
+fn is_path(alloc: Global, path: &str) -> Result<bool, AllocError>
+    ensures { IfOk result (λ good. IsTrue good ↔ IsServicePath path.now) }
+{
+    if !is_path_text(path) {
         return Ok(false);
     }
-    match Uri::from_bytes(alloc, bytes) {
+    match Uri::from_bytes(alloc, path.as_bytes()) {
         Ok(_uri) => Ok(true),
         Err(UriError::Invalid(_)) => Ok(false),
         Err(UriError::OutOfMemory) => Err(AllocError),
@@ -60,6 +69,7 @@ fn is_path(alloc: Global, path: &str) -> Result<bool, AllocError>
 fn path(alloc: Global, table: &Table) -> Result<Option<&str>, AllocError>
     ensures text { IfOk result (λ path. IfSome path (λ path. text_at (codes "path") (table_view table.now) ≡ Some path.now)) }
     ensures good { IfOk result (λ path. IfSome path (λ path. IsServicePath path.now)) }
+    ensures none { IfOk result (λ path. IfNone path (HasPath (table_view table.now) → ⊥)) }
 {
     let Some(path) = text(table, "path") else {
         return Ok(None);
@@ -71,22 +81,15 @@ fn path(alloc: Global, table: &Table) -> Result<Option<&str>, AllocError>
     }
 }
 
-/// The name of a point's key.
-fn key_of(alloc: Global, point: &str, key: &str) -> Result<String, AllocError> {
-    format!(in alloc; "{point}.{key}")
-}
-
 /// What was found for a key of a point, or the fault of the key.
 fn of_point<T>(alloc: Global, point: &str, key: &str, found: Option<T>) -> Result<T, ConfigFault>
     ensures ok { IfOk result (λ value. found ≡ Some value) }
-    ensures err { IfErr result Names }
+    ensures err { IfErr result (IsFaultAt (nested point.now key.now)) }
+    ensures none { IfErr result (λ _. found ≡ None) }
 {
     match found {
         Some(value) => Ok(value),
-        None => {
-            let key = key_of(alloc, point, key)?;
-            Err(at_key(alloc, key.as_str()))
-        }
+        None => Err(at_nested(alloc, point, key)),
     }
 }
 
@@ -97,7 +100,7 @@ pub(crate) fn read_point(
     point: &str,
 ) -> Result<Option<ServicePoint>, ConfigFault>
     ensures ok { IfOk result (IsServiceOf point.now (table_view table.now)) }
-    ensures err { IfErr result Names }
+    ensures err { IfErr result (Names (IsServiceFault point.now (table_view table.now))) }
 {
     let Some(value) = value_of(table, point) else {
         return Ok(None);
@@ -109,7 +112,7 @@ pub(crate) fn read_point(
 /// Reads the table of a service.
 fn read_service(alloc: Global, table: &Table, point: &str) -> Result<ServicePoint, ConfigFault>
     ensures ok { IfOk result (IsServicePoint (table_view table.now)) }
-    ensures err { IfErr result Names }
+    ensures err { IfErr result (Names (IsInService point.now (table_view table.now))) }
 {
     let (ip, host) = of_point(alloc, point, "host", host(table))?;
     let port = of_point(

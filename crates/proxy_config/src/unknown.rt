@@ -1,12 +1,16 @@
 //! Keys that nothing here has.
 
-ghost use Rattle.std.specs.Prelude.{IfErr};
+ghost use Rattle.std.specs.Prelude.{◌≡◌, ◌↔◌, ℕ, List, IfOk, IfErr, IsTrue, Contains, option_copied, option_map, string_bytes};
+ghost use Rattle.toml.specs.View.{table_view};
 ghost use Rattle.proxy_config.specs.Fault.{Names};
+ghost use Rattle.proxy_config.specs.Order.{IsFirst, first_text, IsFirstOrNone};
+ghost use Rattle.proxy_config.specs.Unknown.{texts, HasOther, IsUnknownOf, IsUnknown};
 
-use crate::fault::{ConfigFault, at_key};
+use crate::fault::{ConfigFault, at_key, nested};
 use crate::point;
+use crate::values::table_of;
 use std::alloc::{AllocError, Global};
-use toml::{Table, Value};
+use toml::Table;
 
 /// The keys of the document.
 const KEYS: [&str; 16] = [
@@ -29,17 +33,16 @@ const KEYS: [&str; 16] = [
 ];
 
 /// Whether the key is one of those that are known.
-fn is_known(known: &[&str], key: &str) -> bool {
-    for other in known {
-        if *other == key {
-            return true;
-        }
-    }
-    false
+fn is_known(known: &[&str], key: &str) -> bool
+    ensures { IsTrue result ↔ Contains (texts known.now) key.now }
+{
+    known.contains(&key)
 }
 
 /// The first key of a table, in the order of their bytes, that isn't known.
-fn first_unknown<'a>(table: &'a Table, known: &[&str]) -> Option<&'a str> {
+fn first_unknown<'a>(table: &'a Table, known: &[&str]) -> Option<&'a str>
+    ensures { IsFirstOrNone (HasOther (texts known.now) (table_view table.now)) (option_copied result) }
+{
     for key in table.keys() {
         if !is_known(known, key.as_str()) {
             return Some(key.as_str());
@@ -49,22 +52,22 @@ fn first_unknown<'a>(table: &'a Table, known: &[&str]) -> Option<&'a str> {
 }
 
 /// The first unknown key of a point's table, after the point's name and a dot.
-fn unknown_of_point(
-    alloc: Global,
-    table: &Table,
-    point: &str,
-) -> Result<Option<String>, AllocError> {
-    let Some(Value::Table(inner)) = table.get(point) else {
+fn unknown_of_point(alloc: Global, table: &Table, point: &str) -> Result<Option<String>, AllocError>
+    ensures { IfOk result (λ found. IsFirstOrNone (IsUnknownOf point.now (table_view table.now)) (option_map string_bytes found)) }
+{
+    let Some(inner) = table_of(table, point) else {
         return Ok(None);
     };
     match first_unknown(inner, &point::KEYS) {
-        Some(key) => Ok(Some(format!(in alloc; "{point}.{key}")?)),
+        Some(key) => Ok(Some(nested(alloc, point, key)?)),
         None => Ok(None),
     }
 }
 
 /// The text whose bytes come first, of those that are there.
-fn first_of<'a>(a: Option<&'a str>, b: Option<&'a str>) -> Option<&'a str> {
+fn first_of<'a>(a: Option<&'a str>, b: Option<&'a str>) -> Option<&'a str>
+    ensures { option_copied result ≡ first_text (option_copied a.entry) (option_copied b.entry) }
+{
     match (a, b) {
         (Some(a), Some(b)) => Some(if b < a { b } else { a }),
         (Some(a), None) => Some(a),
@@ -72,20 +75,25 @@ fn first_of<'a>(a: Option<&'a str>, b: Option<&'a str>) -> Option<&'a str> {
     }
 }
 
+/// The text of a key, where there is one.
+fn text_of(key: &Option<String>) -> Option<&str>
+    ensures { option_copied result ≡ option_map string_bytes key.now }
+{
+    match key {
+        Some(key) => Some(key.as_str()),
+        None => None,
+    }
+}
+
 /// Finds fault with the first unknown key, in the order of their bytes.
 pub(crate) fn check_keys(alloc: Global, table: &Table) -> Result<(), ConfigFault>
-    ensures { IfErr result Names }
+    ensures ok { IfOk result (λ _. (key : List ℕ) → IsUnknown (table_view table.now) key → ⊥) }
+    ensures err { IfErr result (Names (IsFirst (IsUnknown (table_view table.now)))) }
 {
     let reqmod = unknown_of_point(alloc, table, "reqmod")?;
     let respmod = unknown_of_point(alloc, table, "respmod")?;
-    let mut first = first_unknown(table, &KEYS);
-    if let Some(key) = &reqmod {
-        first = first_of(first, Some(key.as_str()));
-    }
-    if let Some(key) = &respmod {
-        first = first_of(first, Some(key.as_str()));
-    }
-    match first {
+    let of_points = first_of(text_of(&reqmod), text_of(&respmod));
+    match first_of(first_unknown(table, &KEYS), of_points) {
         Some(key) => Err(at_key(alloc, key)),
         None => Ok(()),
     }

@@ -1,10 +1,10 @@
 //! Single values of a table: numbers in a range, addresses, truth values.
 
-ghost use Rattle.std.specs.Prelude.{◌≡◌, ◌≢◌, ◌≤◌, ℕ, IfSome, IfNone, option_map};
+ghost use Rattle.std.specs.Prelude.{◌≡◌, ◌≢◌, ◌≤◌, ℕ, IfSome, IfNone, option_map, option_and_then};
 ghost use Rattle.std.specs.Net.Grammar.{IsSocketV4Text};
 ghost use Rattle.std.specs.Net.Socket.{v4_port};
 ghost use Rattle.toml.specs.View.{view, table_view};
-ghost use Rattle.toml.specs.Data.{get_member};
+ghost use Rattle.toml.specs.Data.{get_member, as_table};
 ghost use Rattle.std.specs.declared.net.socket_addr.SocketAddrV4.{SocketAddrV4 as AnyAddress};
 ghost use Rattle.proxy_config.specs.Values.{number_in, number_or, truth_or, IsAddress, HasAddress};
 
@@ -16,6 +16,17 @@ pub(crate) fn value_of<'a>(table: &'a Table, key: &str) -> Option<&'a Value>
     ensures { option_map (λ value. view value.now) result ≡ get_member key.now (table_view table.now) }
 {
     table.get(key)
+}
+
+/// The table of a key, where its value is one.
+pub(crate) fn table_of<'a>(table: &'a Table, key: &str) -> Option<&'a Table>
+    ensures { option_map (λ inner. table_view inner.now) result
+        ≡ option_and_then as_table (get_member key.now (table_view table.now)) }
+{
+    match value_of(table, key) {
+        Some(value) => value.as_table(),
+        None => None,
+    }
 }
 
 /// The whole number of a value, where it lies in the range.

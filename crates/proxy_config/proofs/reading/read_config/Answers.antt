@@ -15,4 +15,3 @@ returns-in-Ok-table_from_str-clause-err c =
     parsed
     c.read_table.result
     c.read_table.ensures.err
-    c.read_table.ensures.names

@@ -1,15 +1,44 @@
 -- Each key before the one at fault is good.
-use Rattle.std.proofs.Common.{◌≡◌, IsSome, Option, Some, None, codes, inl, inr, rules}
+use Rattle.std.proofs.Common.{◌≡◌, ℕ, List, IsSome, Option, Some, None, codes, inl, inr, refl, rules}
 use Rattle.std.specs.declared.net.socket_addr.SocketAddrV4.{SocketAddrV4}
+use Rattle.toml.specs.Data.{Members}
 use Rattle.toml.specs.View.{table_view}
 use Rattle.proxy_config.specs.Values.{HasAddress}
-use Rattle.proxy_config.specs.Fault.{IsFaultAt}
-use Rattle.proxy_config.specs.Config.{IsFirstFault, shards_of, capacity_of, rows_of, journal_of, deadline_of, preview_limit_of, allow_limit_of, window_of, retry_of, wait_of}
+use Rattle.proxy_config.specs.Fault.{IsFaultAt, Names}
+use Rattle.proxy_config.specs.Config.{HasHosts, IsFirstFault, shards_of, capacity_of, rows_of, journal_of, deadline_of, preview_limit_of, allow_limit_of, window_of, retry_of, wait_of}
+use Rattle.proxy_config.specs.HostNames.{IsHostFault}
 use Rattle.proxy_config.specs.Log.{log_of}
+use Rattle.proxy_config.specs.Order.{IsFirst, ValueFirst}
+use Rattle.proxy_config.specs.Services.{HasServiceOf, IsServiceFault}
+use Rattle.proxy_config.specs.Unknown.{IsUnknown}
+use Rattle.proxy_config.proofs.Refusals.{names_it, names_so, passed_on}
 use Rattle.proxy_config.proofs.reading.read_table.Goals as goal
 
 some_is : {A : Type 0} {x : Option A} {a : A} → x ≡ Some a → IsSome x
 some_is e = search (rules, e)
+
+log_alone : (document : Members) (key : List ℕ) → ValueFirst (codes "log") (log_of document) ⊥ key → (log_of document ≡ None) × (key ≡ codes "log")
+log_alone document key (inl bad) = bad
+log_alone document key (inr good) = absurd good.1
+
+pub returns-in_err-listen-clause-err : goal.returns-in_err-listen-clause-err
+returns-in_err-listen-clause-err c =
+    let document = table_view c.args.table.now in
+    let bad : (address : SocketAddrV4) → HasAddress (codes "listen") document address → ⊥ = search rules in
+    let named : IsFaultAt (codes "listen") c.in_err-listen.field-0.0 = search rules in
+    let first : IsFirstFault document (codes "listen") = inl (bad, refl) in
+    let names : Names (IsFirstFault document) c.in_err-listen.field-0.0 = names_it (codes "listen") (IsFirstFault document) first c.in_err-listen.field-0.0 named in
+    search rules
+
+pub returns-in_err-admin-clause-err : goal.returns-in_err-admin-clause-err
+returns-in_err-admin-clause-err c =
+    let document = table_view c.args.table.now in
+    let listen : (address : SocketAddrV4) × HasAddress (codes "listen") document address = (c.in_ok-listen.listen, search rules) in
+    let bad : (address : SocketAddrV4) → HasAddress (codes "admin") document address → ⊥ = search rules in
+    let named : IsFaultAt (codes "admin") c.in_err-admin.field-0.0 = search rules in
+    let first : IsFirstFault document (codes "admin") = inr (listen, inl (bad, refl)) in
+    let names : Names (IsFirstFault document) c.in_err-admin.field-0.0 = names_it (codes "admin") (IsFirstFault document) first c.in_err-admin.field-0.0 named in
+    search rules
 
 pub returns-in_err-shards-clause-err : goal.returns-in_err-shards-clause-err
 returns-in_err-shards-clause-err c =
@@ -18,7 +47,8 @@ returns-in_err-shards-clause-err c =
     let admin : (address : SocketAddrV4) × HasAddress (codes "admin") document address = (c.in_ok-admin.admin, search rules) in
     let bad : shards_of document ≡ None = search rules in
     let named : IsFaultAt (codes "shards") c.in_err-shards.field-0.0 = search rules in
-    let first : IsFirstFault document c.in_err-shards.field-0.0 = inr (listen, inr (admin, inl (bad, named))) in
+    let first : IsFirstFault document (codes "shards") = inr (listen, inr (admin, inl (bad, refl))) in
+    let names : Names (IsFirstFault document) c.in_err-shards.field-0.0 = names_it (codes "shards") (IsFirstFault document) first c.in_err-shards.field-0.0 named in
     search rules
 
 pub returns-in_err-capacity-clause-err : goal.returns-in_err-capacity-clause-err
@@ -29,7 +59,8 @@ returns-in_err-capacity-clause-err c =
     let shards : IsSome (shards_of document) = some_is c.in_ok-shards.ensures.ok in
     let bad : capacity_of document ≡ None = search rules in
     let named : IsFaultAt (codes "capacity") c.in_err-capacity.field-0.0 = search rules in
-    let first : IsFirstFault document c.in_err-capacity.field-0.0 = inr (listen, inr (admin, inr (shards, inl (bad, named)))) in
+    let first : IsFirstFault document (codes "capacity") = inr (listen, inr (admin, inr (shards, inl (bad, refl)))) in
+    let names : Names (IsFirstFault document) c.in_err-capacity.field-0.0 = names_it (codes "capacity") (IsFirstFault document) first c.in_err-capacity.field-0.0 named in
     search rules
 
 pub returns-in_err-rows-clause-err : goal.returns-in_err-rows-clause-err
@@ -41,7 +72,8 @@ returns-in_err-rows-clause-err c =
     let capacity : IsSome (capacity_of document) = some_is c.in_ok-capacity.ensures.ok in
     let bad : rows_of document ≡ None = search rules in
     let named : IsFaultAt (codes "rows") c.in_err-rows.field-0.0 = search rules in
-    let first : IsFirstFault document c.in_err-rows.field-0.0 = inr (listen, inr (admin, inr (shards, inr (capacity, inl (bad, named))))) in
+    let first : IsFirstFault document (codes "rows") = inr (listen, inr (admin, inr (shards, inr (capacity, inl (bad, refl))))) in
+    let names : Names (IsFirstFault document) c.in_err-rows.field-0.0 = names_it (codes "rows") (IsFirstFault document) first c.in_err-rows.field-0.0 named in
     search rules
 
 pub returns-in_err-journal-clause-err : goal.returns-in_err-journal-clause-err
@@ -54,7 +86,8 @@ returns-in_err-journal-clause-err c =
     let rows : IsSome (rows_of document) = some_is c.in_ok-rows.ensures.ok in
     let bad : journal_of document ≡ None = search rules in
     let named : IsFaultAt (codes "journal") c.in_err-journal.field-0.0 = search rules in
-    let first : IsFirstFault document c.in_err-journal.field-0.0 = inr (listen, inr (admin, inr (shards, inr (capacity, inr (rows, inl (bad, named)))))) in
+    let first : IsFirstFault document (codes "journal") = inr (listen, inr (admin, inr (shards, inr (capacity, inr (rows, inl (bad, refl)))))) in
+    let names : Names (IsFirstFault document) c.in_err-journal.field-0.0 = names_it (codes "journal") (IsFirstFault document) first c.in_err-journal.field-0.0 named in
     search rules
 
 pub returns-in_err-deadline-clause-err : goal.returns-in_err-deadline-clause-err
@@ -68,7 +101,8 @@ returns-in_err-deadline-clause-err c =
     let journal : IsSome (journal_of document) = some_is c.in_ok-journal.ensures.ok in
     let bad : deadline_of document ≡ None = search rules in
     let named : IsFaultAt (codes "deadline") c.in_err-deadline.field-0.0 = search rules in
-    let first : IsFirstFault document c.in_err-deadline.field-0.0 = inr (listen, inr (admin, inr (shards, inr (capacity, inr (rows, inr (journal, inl (bad, named))))))) in
+    let first : IsFirstFault document (codes "deadline") = inr (listen, inr (admin, inr (shards, inr (capacity, inr (rows, inr (journal, inl (bad, refl))))))) in
+    let names : Names (IsFirstFault document) c.in_err-deadline.field-0.0 = names_it (codes "deadline") (IsFirstFault document) first c.in_err-deadline.field-0.0 named in
     search rules
 
 pub returns-in_err-preview_limit-clause-err : goal.returns-in_err-preview_limit-clause-err
@@ -83,7 +117,8 @@ returns-in_err-preview_limit-clause-err c =
     let deadline : IsSome (deadline_of document) = some_is c.in_ok-deadline.ensures.ok in
     let bad : preview_limit_of document ≡ None = search rules in
     let named : IsFaultAt (codes "preview_limit") c.in_err-preview_limit.field-0.0 = search rules in
-    let first : IsFirstFault document c.in_err-preview_limit.field-0.0 = inr (listen, inr (admin, inr (shards, inr (capacity, inr (rows, inr (journal, inr (deadline, inl (bad, named)))))))) in
+    let first : IsFirstFault document (codes "preview_limit") = inr (listen, inr (admin, inr (shards, inr (capacity, inr (rows, inr (journal, inr (deadline, inl (bad, refl)))))))) in
+    let names : Names (IsFirstFault document) c.in_err-preview_limit.field-0.0 = names_it (codes "preview_limit") (IsFirstFault document) first c.in_err-preview_limit.field-0.0 named in
     search rules
 
 pub returns-in_err-allow_limit-clause-err : goal.returns-in_err-allow_limit-clause-err
@@ -99,7 +134,8 @@ returns-in_err-allow_limit-clause-err c =
     let preview_limit : IsSome (preview_limit_of document) = some_is c.in_ok-preview_limit.ensures.ok in
     let bad : allow_limit_of document ≡ None = search rules in
     let named : IsFaultAt (codes "allow_limit") c.in_err-allow_limit.field-0.0 = search rules in
-    let first : IsFirstFault document c.in_err-allow_limit.field-0.0 = inr (listen, inr (admin, inr (shards, inr (capacity, inr (rows, inr (journal, inr (deadline, inr (preview_limit, inl (bad, named))))))))) in
+    let first : IsFirstFault document (codes "allow_limit") = inr (listen, inr (admin, inr (shards, inr (capacity, inr (rows, inr (journal, inr (deadline, inr (preview_limit, inl (bad, refl))))))))) in
+    let names : Names (IsFirstFault document) c.in_err-allow_limit.field-0.0 = names_it (codes "allow_limit") (IsFirstFault document) first c.in_err-allow_limit.field-0.0 named in
     search rules
 
 pub returns-in_err-window-clause-err : goal.returns-in_err-window-clause-err
@@ -116,7 +152,8 @@ returns-in_err-window-clause-err c =
     let allow_limit : IsSome (allow_limit_of document) = some_is c.in_ok-allow_limit.ensures.ok in
     let bad : window_of document ≡ None = search rules in
     let named : IsFaultAt (codes "window") c.in_err-window.field-0.0 = search rules in
-    let first : IsFirstFault document c.in_err-window.field-0.0 = inr (listen, inr (admin, inr (shards, inr (capacity, inr (rows, inr (journal, inr (deadline, inr (preview_limit, inr (allow_limit, inl (bad, named)))))))))) in
+    let first : IsFirstFault document (codes "window") = inr (listen, inr (admin, inr (shards, inr (capacity, inr (rows, inr (journal, inr (deadline, inr (preview_limit, inr (allow_limit, inl (bad, refl)))))))))) in
+    let names : Names (IsFirstFault document) c.in_err-window.field-0.0 = names_it (codes "window") (IsFirstFault document) first c.in_err-window.field-0.0 named in
     search rules
 
 pub returns-in_err-retry-clause-err : goal.returns-in_err-retry-clause-err
@@ -134,7 +171,8 @@ returns-in_err-retry-clause-err c =
     let window : IsSome (window_of document) = some_is c.in_ok-window.ensures.ok in
     let bad : retry_of document ≡ None = search rules in
     let named : IsFaultAt (codes "retry") c.in_err-retry.field-0.0 = search rules in
-    let first : IsFirstFault document c.in_err-retry.field-0.0 = inr (listen, inr (admin, inr (shards, inr (capacity, inr (rows, inr (journal, inr (deadline, inr (preview_limit, inr (allow_limit, inr (window, inl (bad, named))))))))))) in
+    let first : IsFirstFault document (codes "retry") = inr (listen, inr (admin, inr (shards, inr (capacity, inr (rows, inr (journal, inr (deadline, inr (preview_limit, inr (allow_limit, inr (window, inl (bad, refl))))))))))) in
+    let names : Names (IsFirstFault document) c.in_err-retry.field-0.0 = names_it (codes "retry") (IsFirstFault document) first c.in_err-retry.field-0.0 named in
     search rules
 
 pub returns-in_err-wait-clause-err : goal.returns-in_err-wait-clause-err
@@ -153,7 +191,8 @@ returns-in_err-wait-clause-err c =
     let retry : IsSome (retry_of document) = search rules in
     let bad : wait_of document ≡ None = search rules in
     let named : IsFaultAt (codes "wait") c.in_err-wait.field-0.0 = search rules in
-    let first : IsFirstFault document c.in_err-wait.field-0.0 = inr (listen, inr (admin, inr (shards, inr (capacity, inr (rows, inr (journal, inr (deadline, inr (preview_limit, inr (allow_limit, inr (window, inr (retry, inl (bad, named)))))))))))) in
+    let first : IsFirstFault document (codes "wait") = inr (listen, inr (admin, inr (shards, inr (capacity, inr (rows, inr (journal, inr (deadline, inr (preview_limit, inr (allow_limit, inr (window, inr (retry, inl (bad, refl)))))))))))) in
+    let names : Names (IsFirstFault document) c.in_err-wait.field-0.0 = names_it (codes "wait") (IsFirstFault document) first c.in_err-wait.field-0.0 named in
     search rules
 
 pub returns-in_err-log-clause-err : goal.returns-in_err-log-clause-err
@@ -171,7 +210,8 @@ returns-in_err-log-clause-err c =
     let window : IsSome (window_of document) = some_is c.in_ok-window.ensures.ok in
     let retry : IsSome (retry_of document) = search rules in
     let wait : IsSome (wait_of document) = some_is c.in_ok-wait.ensures.ok in
-    let first : IsFirstFault document c.in_err-log.field-0.0 = inr (listen, inr (admin, inr (shards, inr (capacity, inr (rows, inr (journal, inr (deadline, inr (preview_limit, inr (allow_limit, inr (window, inr (retry, inr (wait, c.in_err-log.ensures.err)))))))))))) in
+    let says_first : (key : List ℕ) → ValueFirst (codes "log") (log_of document) ⊥ key → IsFirstFault document key = λ key says. inr (listen, inr (admin, inr (shards, inr (capacity, inr (rows, inr (journal, inr (deadline, inr (preview_limit, inr (allow_limit, inr (window, inr (retry, inr (wait, inl (log_alone document key says))))))))))))) in
+    let names : Names (IsFirstFault document) c.in_err-log.field-0.0 = names_so (ValueFirst (codes "log") (log_of document) ⊥) (IsFirstFault document) says_first c.in_err-log.field-0.0 c.in_err-log.ensures.err in
     search rules
 
 pub returns-in_err-hosts-clause-err : goal.returns-in_err-hosts-clause-err
@@ -190,7 +230,8 @@ returns-in_err-hosts-clause-err c =
     let retry : IsSome (retry_of document) = search rules in
     let wait : IsSome (wait_of document) = some_is c.in_ok-wait.ensures.ok in
     let log : IsSome (log_of document) = some_is c.in_ok-log.ensures.ok in
-    let first : IsFirstFault document c.in_err-hosts.field-0.0 = inr (listen, inr (admin, inr (shards, inr (capacity, inr (rows, inr (journal, inr (deadline, inr (preview_limit, inr (allow_limit, inr (window, inr (retry, inr (wait, inr (log, tt))))))))))))) in
+    let says_first : (key : List ℕ) → IsHostFault document key → IsFirstFault document key = λ key says. inr (listen, inr (admin, inr (shards, inr (capacity, inr (rows, inr (journal, inr (deadline, inr (preview_limit, inr (allow_limit, inr (window, inr (retry, inr (wait, inr (log, inl says))))))))))))) in
+    let names : Names (IsFirstFault document) c.in_err-hosts.field-0.0 = names_so (IsHostFault document) (IsFirstFault document) says_first c.in_err-hosts.field-0.0 c.in_err-hosts.ensures.err in
     search rules
 
 pub returns-in_err-reqmod-clause-err : goal.returns-in_err-reqmod-clause-err
@@ -209,7 +250,9 @@ returns-in_err-reqmod-clause-err c =
     let retry : IsSome (retry_of document) = search rules in
     let wait : IsSome (wait_of document) = some_is c.in_ok-wait.ensures.ok in
     let log : IsSome (log_of document) = some_is c.in_ok-log.ensures.ok in
-    let first : IsFirstFault document c.in_err-reqmod.field-0.0 = inr (listen, inr (admin, inr (shards, inr (capacity, inr (rows, inr (journal, inr (deadline, inr (preview_limit, inr (allow_limit, inr (window, inr (retry, inr (wait, inr (log, tt))))))))))))) in
+    let hosts : HasHosts document = (c.in_ok-hosts.hosts, c.in_ok-hosts.ensures.ok) in
+    let says_first : (key : List ℕ) → IsServiceFault (codes "reqmod") document key → IsFirstFault document key = λ key says. inr (listen, inr (admin, inr (shards, inr (capacity, inr (rows, inr (journal, inr (deadline, inr (preview_limit, inr (allow_limit, inr (window, inr (retry, inr (wait, inr (log, inr (hosts, inl says)))))))))))))) in
+    let names : Names (IsFirstFault document) c.in_err-reqmod.field-0.0 = names_so (IsServiceFault (codes "reqmod") document) (IsFirstFault document) says_first c.in_err-reqmod.field-0.0 c.in_err-reqmod.ensures.err in
     search rules
 
 pub returns-in_err-respmod-clause-err : goal.returns-in_err-respmod-clause-err
@@ -228,7 +271,10 @@ returns-in_err-respmod-clause-err c =
     let retry : IsSome (retry_of document) = search rules in
     let wait : IsSome (wait_of document) = some_is c.in_ok-wait.ensures.ok in
     let log : IsSome (log_of document) = some_is c.in_ok-log.ensures.ok in
-    let first : IsFirstFault document c.in_err-respmod.field-0.0 = inr (listen, inr (admin, inr (shards, inr (capacity, inr (rows, inr (journal, inr (deadline, inr (preview_limit, inr (allow_limit, inr (window, inr (retry, inr (wait, inr (log, tt))))))))))))) in
+    let hosts : HasHosts document = (c.in_ok-hosts.hosts, c.in_ok-hosts.ensures.ok) in
+    let reqmod : HasServiceOf (codes "reqmod") document = (c.in_ok-reqmod.reqmod, c.in_ok-reqmod.ensures.ok) in
+    let says_first : (key : List ℕ) → IsServiceFault (codes "respmod") document key → IsFirstFault document key = λ key says. inr (listen, inr (admin, inr (shards, inr (capacity, inr (rows, inr (journal, inr (deadline, inr (preview_limit, inr (allow_limit, inr (window, inr (retry, inr (wait, inr (log, inr (hosts, inr (reqmod, inl says))))))))))))))) in
+    let names : Names (IsFirstFault document) c.in_err-respmod.field-0.0 = names_so (IsServiceFault (codes "respmod") document) (IsFirstFault document) says_first c.in_err-respmod.field-0.0 c.in_err-respmod.ensures.err in
     search rules
 
 pub returns-in_err-check_keys-clause-err : goal.returns-in_err-check_keys-clause-err
@@ -247,5 +293,9 @@ returns-in_err-check_keys-clause-err c =
     let retry : IsSome (retry_of document) = search rules in
     let wait : IsSome (wait_of document) = some_is c.in_ok-wait.ensures.ok in
     let log : IsSome (log_of document) = some_is c.in_ok-log.ensures.ok in
-    let first : IsFirstFault document c.in_err-check_keys.field-0.0 = inr (listen, inr (admin, inr (shards, inr (capacity, inr (rows, inr (journal, inr (deadline, inr (preview_limit, inr (allow_limit, inr (window, inr (retry, inr (wait, inr (log, tt))))))))))))) in
-    search rules
+    let hosts : HasHosts document = (c.in_ok-hosts.hosts, c.in_ok-hosts.ensures.ok) in
+    let reqmod : HasServiceOf (codes "reqmod") document = (c.in_ok-reqmod.reqmod, c.in_ok-reqmod.ensures.ok) in
+    let respmod : HasServiceOf (codes "respmod") document = (c.in_ok-respmod.respmod, c.in_ok-respmod.ensures.ok) in
+    let says_first : (key : List ℕ) → IsFirst (IsUnknown document) key → IsFirstFault document key = λ key says. inr (listen, inr (admin, inr (shards, inr (capacity, inr (rows, inr (journal, inr (deadline, inr (preview_limit, inr (allow_limit, inr (window, inr (retry, inr (wait, inr (log, inr (hosts, inr (reqmod, inr (respmod, says)))))))))))))))) in
+    let names : Names (IsFirstFault document) c.in_err-check_keys.field-0.0 = names_so (IsFirst (IsUnknown document)) (IsFirstFault document) says_first c.in_err-check_keys.field-0.0 c.in_err-check_keys.ensures.err in
+    passed_on c.from_residual-in_err-check_keys.result c.in_err-check_keys.field-0.0 (IsFirstFault document) c.from_residual-in_err-check_keys.ensures.1 names

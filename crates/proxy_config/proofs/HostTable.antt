@@ -1,0 +1,122 @@
+-- A name is found in the table of hosts exactly where the document has it.
+use Rattle.std.proofs.Common.{◌≡◌, ℕ, List, [], ◌∷◌, Bool, true, false, if◌then◌else◌, Option, Some, None, IsTrue, All, Contains, IsPermutation, string_bytes, refl, sym, ap, ◌∙◌, subst, inl, rules}
+use Rattle.std.proofs.lemmas.Bool.{false≢true}
+use Rattle.std.proofs.lemmas.List.Elements.{All-nil, All-cons, All-contains, Contains-push, Contains-append_left, Contains-append_right}
+use Rattle.std.proofs.lemmas.List.Sorted.{Contains-permutation, IsPermutation-sym}
+use Rattle.std.proofs.lemmas.Slice.Eq.{bytes_eq-Decides}
+use Rattle.std.proofs.NetLemmas.Theorems.{IsSocketV4Text_unique}
+use Rattle.std.specs.Net.Grammar.{IsSocketV4Text}
+use Rattle.std.specs.Str.{str_eq_ignore_ascii_case, str_to_ascii_lowercase}
+use Rattle.std.specs.declared.net.socket_addr.SocketAddrV4.{SocketAddrV4}
+use Rattle.toml.specs.Data.{Members, as_str}
+use Rattle.proxy_config.specs.declared.host.Host.{Host}
+use Rattle.proxy_config.specs.declared.host_table.Hosts.{Hosts}
+use Rattle.proxy_config.specs.Hosts.{address_of_name, found_host}
+use Rattle.proxy_config.specs.HostNames.{host_names, HasEach, IsHostAt, IsHostsOf, IsBadName}
+use Rattle.proxy_config.specs.Order.{HasKey}
+use Rattle.proxy_config.specs.Values.{HasAddress}
+use Rattle.proxy_config.proofs.TextOrder.{neither_before}
+
+-- a host of the list that has the name, and its address
+abbrev HasNamed : List Host → List ℕ → SocketAddrV4 → Type 0
+HasNamed hosts name address = (host : Host) × Contains hosts host × IsTrue (str_eq_ignore_ascii_case (string_bytes host.name) name) × (host.address ≡ address)
+
+named_here : (same : Bool) (host : Host) (hosts : List Host) (name : List ℕ) (address : SocketAddrV4) → str_eq_ignore_ascii_case (string_bytes host.name) name ≡ same
+    → (if same then Some host.address else address_of_name name hosts) ≡ Some address
+    → (address_of_name name hosts ≡ Some address → HasNamed hosts name address) → HasNamed (host ∷ hosts) name address
+named_here true host hosts name address same is later =
+    (host, Contains-append_left (host ∷ []) hosts host (Contains-push [] host), same, search (rules, is))
+named_here false host hosts name address same is later =
+    let (found, contains, same_name, at) = later is in (found, Contains-append_right (host ∷ []) hosts found contains, same_name, at)
+
+named : (name : List ℕ) (hosts : List Host) (address : SocketAddrV4) → address_of_name name hosts ≡ Some address → HasNamed hosts name address
+named name [] address is = absurd (search (rules, is))
+named name (host ∷ hosts) address is =
+    named_here (str_eq_ignore_ascii_case (string_bytes host.name) name) host hosts name address refl is (named name hosts address)
+
+other_here : (same : Bool) (host : Host) (hosts : List Host) (name : List ℕ) → str_eq_ignore_ascii_case (string_bytes host.name) name ≡ same
+    → (if same then Some host.address else address_of_name name hosts) ≡ None
+    → (address_of_name name hosts ≡ None → All (λ (h : Host). str_eq_ignore_ascii_case (string_bytes h.name) name ≡ false) hosts)
+    → All (λ (h : Host). str_eq_ignore_ascii_case (string_bytes h.name) name ≡ false) (host ∷ hosts)
+other_here true host hosts name same is later = absurd (search (rules, is))
+other_here false host hosts name same is later = All-cons (λ (h : Host). str_eq_ignore_ascii_case (string_bytes h.name) name ≡ false) host hosts same (later is)
+
+-- where a name isn't found, each host has another one
+others : (name : List ℕ) (hosts : List Host) → address_of_name name hosts ≡ None → All (λ (h : Host). str_eq_ignore_ascii_case (string_bytes h.name) name ≡ false) hosts
+others name [] is = All-nil (λ (h : Host). str_eq_ignore_ascii_case (string_bytes h.name) name ≡ false)
+others name (host ∷ hosts) is =
+    other_here (str_eq_ignore_ascii_case (string_bytes host.name) name) host hosts name refl is (others name hosts)
+
+same_some : {A : Type 0} (x y : A) → Some x ≡ Some y → x ≡ y
+same_some x y e = search (rules, e)
+
+-- a name has one address
+one_address : (name : List ℕ) (names : Members) (a b : SocketAddrV4) → HasAddress name names a → HasAddress name names b → a ≡ b
+one_address name names a b h k =
+    let value : h.0 ≡ k.0 = same_some h.0 k.0 (sym h.1 ∙ k.1) in
+    let text : h.2.0 ≡ k.2.0 = same_some h.2.0 k.2.0 (sym h.2.1 ∙ ap as_str value ∙ k.2.1) in
+    let P : List ℕ → Type 0 = λ t. IsSocketV4Text t a in
+    IsSocketV4Text_unique k.2.0 a b (subst P text h.2.2) k.2.2
+
+some_key : (name : List ℕ) (names : Members) (address : SocketAddrV4) → HasAddress name names address → HasKey names name
+some_key name names address has = search (rules, has.1)
+
+-- names of the table that differ in case alone are one name
+one_name : (names : Members) (a b : List ℕ) → ((name : List ℕ) → IsBadName names name → ⊥) → HasKey names a → HasKey names b
+    → IsTrue (str_eq_ignore_ascii_case a b) → IsTrue (str_eq_ignore_ascii_case b a) → a ≡ b
+one_name names a b none_bad has_a has_b same back = neither_before a b
+    (λ sooner. none_bad b (has_b, inl (a, has_a, sooner, same)))
+    (λ sooner. none_bad a (has_a, inl (b, has_b, sooner, back)))
+
+lower_same : (a b : List ℕ) → IsTrue (str_eq_ignore_ascii_case a b) → str_to_ascii_lowercase a ≡ str_to_ascii_lowercase b
+lower_same a b = (bytes_eq-Decides (str_to_ascii_lowercase a) (str_to_ascii_lowercase b)).0
+
+same_lower : (a b : List ℕ) → str_to_ascii_lowercase a ≡ str_to_ascii_lowercase b → IsTrue (str_eq_ignore_ascii_case a b)
+same_lower a b = (bytes_eq-Decides (str_to_ascii_lowercase a) (str_to_ascii_lowercase b)).1
+
+-- two names that are a third one but for case
+alike : (a b c : List ℕ) → IsTrue (str_eq_ignore_ascii_case a c) → IsTrue (str_eq_ignore_ascii_case b c) → IsTrue (str_eq_ignore_ascii_case a b)
+alike a b c h k = same_lower a b (lower_same a c h ∙ sym (lower_same b c k))
+
+host_at_name : (names : Members) (hosts : List Host) (name : List ℕ) (address : SocketAddrV4) → All (λ (h : Host). HasAddress (string_bytes h.name) names h.address) hosts
+    → HasNamed hosts name address → IsHostAt names name address
+host_at_name names hosts name address only (host, contains, same, at) =
+    let P : SocketAddrV4 → Type 0 = λ a. HasAddress (string_bytes host.name) names a in
+    (string_bytes host.name, same, subst P at (All-contains (λ (h : Host). HasAddress (string_bytes h.name) names h.address) hosts host only contains))
+
+found_is : (names : Members) (all hosts : List Host) (name : List ℕ) (address : SocketAddrV4) (found : Option SocketAddrV4) → HasEach names all → IsPermutation hosts all → IsPermutation all hosts
+    → address_of_name name hosts ≡ found → IsHostAt names name address → found ≡ Some address
+found_is names all hosts name address None each back forth is (written, same, has) =
+    let (host, contains, named_so) = each.each written (some_key written names address has) in
+    let P : List ℕ → Type 0 = λ text. IsTrue (str_eq_ignore_ascii_case text name) in
+    let other = All-contains (λ (h : Host). str_eq_ignore_ascii_case (string_bytes h.name) name ≡ false) hosts host (others name hosts is) (Contains-permutation all hosts host forth contains) in
+    absurd (false≢true (sym other ∙ subst P (sym named_so) same))
+found_is names all hosts name address (Some found) each back forth is (written, same, has) =
+    let (host, contains, host_same, at) = named name hosts found is in
+    let P : SocketAddrV4 → Type 0 = λ a. HasAddress (string_bytes host.name) names a in
+    let found_at : HasAddress (string_bytes host.name) names found
+    = subst P at (All-contains (λ (h : Host). HasAddress (string_bytes h.name) names h.address) all host each.only (Contains-permutation hosts all host back contains)) in
+    let one : string_bytes host.name ≡ written
+    = one_name names (string_bytes host.name) written each.none_bad
+    (some_key (string_bytes host.name) names found found_at)
+    (some_key written names address has)
+    (alike (string_bytes host.name) written name host_same same)
+    (alike written (string_bytes host.name) name same host_same) in
+    let Q : List ℕ → Type 0 = λ text. HasAddress text names found in
+    ap Some (one_address written names found address (subst Q one found_at) has)
+
+-- the table of these hosts, in whatever order, is that of the document
+pub tables : (document names : Members) (all : List Host) (hosts : Hosts) → host_names document ≡ Some names → HasEach names all → IsPermutation all hosts.all.items → IsHostsOf document hosts
+tables document names all hosts are_names each forth =
+    let back = IsPermutation-sym all hosts.all.items forth in
+    record {
+      names = names;
+      are_names = are_names;
+      none_bad = each.none_bad;
+      found = λ name address. (
+        λ is.
+            let (host, contains, same, at) = named name hosts.all.items address is in
+            host_at_name names all name address each.only (host, Contains-permutation hosts.all.items all host back contains, same, at),
+        λ has. found_is names all hosts.all.items name address (found_host hosts name) each back forth refl has,
+      );
+    }

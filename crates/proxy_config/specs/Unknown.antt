@@ -1,0 +1,34 @@
+-- Keys that nothing here has.
+use denote.Ref.{Bor}
+use Rattle.std.specs.Prelude.{◌≡◌, ℕ, ◌⊎◌, List, [], ◌∷◌, map, Some, codes, Contains, option_and_then}
+use Rattle.toml.specs.Data.{Members, get_member, as_table}
+use Rattle.proxy_config.specs.Order.{HasKey, nested}
+
+-- the texts of keys
+abbrev pub texts : List (Bor (List ℕ)) → List (List ℕ)
+texts = map (λ key. key.now)
+
+-- the keys of a document
+abbrev pub document_keys : List (List ℕ)
+document_keys =
+    codes "listen" ∷ codes "admin" ∷ codes "shards" ∷ codes "capacity" ∷ codes "rows" ∷ codes "journal" ∷ codes "deadline"
+    ∷ codes "preview_limit" ∷ codes "allow_limit" ∷ codes "window" ∷ codes "retry" ∷ codes "wait" ∷ codes "log"
+    ∷ codes "hosts" ∷ codes "reqmod" ∷ codes "respmod" ∷ []
+
+-- the keys of a service's table
+abbrev pub service_keys : List (List ℕ)
+service_keys = codes "host" ∷ codes "port" ∷ codes "path" ∷ codes "connections" ∷ []
+
+-- the table has a key that isn't known
+abbrev pub HasOther : List (List ℕ) → Members → List ℕ → Type 0
+HasOther known table key = HasKey table key × (Contains known key → ⊥)
+
+-- such a key in the table of a point
+abbrev pub IsUnknownOf : List ℕ → Members → List ℕ → Type 0
+IsUnknownOf point document key = (table : Members) × (inner : List ℕ) × (option_and_then as_table (get_member point document) ≡ Some table)
+    × HasOther service_keys table inner × (key ≡ nested point inner)
+
+-- such a key in the document, or in the table of a point
+abbrev pub IsUnknown : Members → List ℕ → Type 0
+IsUnknown document key =
+    HasOther document_keys document key ⊎ (IsUnknownOf (codes "reqmod") document key ⊎ IsUnknownOf (codes "respmod") document key)
