@@ -20,7 +20,7 @@ use Rattle.adapt_hold.specs.Holding.{Holding, IsTied, IsRoomy, shows, moved}
 use Rattle.adapt_hold.specs.Steps.{MayRun, moved_all}
 use Rattle.adapt_hold.proofs.Bodies.{ends}
 use Rattle.adapt_hold.proofs.Row.{Ran, ran, all_original, all_adapted}
-use Rattle.adapt_turn.specs.declared.parts.Passed.{Passed}
+use Rattle.adapt_turn.specs.declared.steps.Passed.{Passed}
 use Rattle.adapt_turn.specs.Parts.{Lent, SourcePart, SendPart, HearPart, HopPart, stepped}
 use Rattle.adapt_turn.specs.Stands.{Texts, Stands, IsDone}
 use Rattle.adapt_turn.proofs.Stepped.{part_ran}

@@ -1,5 +1,5 @@
 -- What is so for each answer, for each side and of the writer that has the message.
-use Rattle.std.proofs.Common.{◌≡◌, ℕ, ◌-◌, ◌<◌, ◌≤◌, List, [], ◌∷◌, length, take, drop, get_or, Option, Some, None, arith, refl, ◌∙◌, sym, ap, subst}
+use Rattle.std.proofs.Common.{◌≡◌, ℕ, ◌-◌, ◌<◌, ◌≤◌, Bool, true, false, inl, inr, List, [], ◌∷◌, length, take, drop, get_or, Option, Some, None, arith, refl, ◌∙◌, sym, ap, subst}
 use Rattle.std.proofs.Math.Seq.{take-length}
 use Rattle.adapt_sides.specs.Turns.{Gift}
 use Rattle.adapt_sides.specs.Turns.Gift.{nothing, message, refusal}
@@ -11,7 +11,8 @@ use Rattle.adapt_turn.specs.declared.turned.Outcome.{Outcome}
 use Rattle.adapt_turn.specs.declared.turned.Outcome.TheVariants as outcomes
 use Rattle.adapt_turn.specs.declared.turned.Turned.{Turned}
 use Rattle.adapt_turn.specs.declared.turned.Turned.TheVariants as answers
-use Rattle.adapt_turn.specs.ByTurn.{BySide, OfWriter, ByAnswer, Drives}
+use Rattle.adapt_turn.specs.declared.pace.Pace.{Pace}
+use Rattle.adapt_turn.specs.ByTurn.{BySide, OfWriter, ByAnswer, Paces, Drives}
 
 pub by_answer : (turned : Turned) (waiting : Type 0) (moved : ℕ → Type 0) (broken : Type 0) (finished : Outcome → Type 0)
     → (turned ≡ answers.Waiting → waiting) → ((n : ℕ) → turned ≡ answers.Moved n → moved n) → (turned ≡ answers.Broken → broken) → ((outcome : Outcome) → turned ≡ answers.Finished outcome → finished outcome)
@@ -20,6 +21,39 @@ by_answer answers.Waiting waiting moved broken finished w m b f = w refl
 by_answer (answers.Moved n) waiting moved broken finished w m b f = m n refl
 by_answer answers.Broken waiting moved broken finished w m b f = b refl
 by_answer (answers.Finished outcome) waiting moved broken finished w m b f = f outcome refl
+
+-- what follows of each answer follows
+pub answer_on : (turned : Turned) (w w' : Type 0) (m m' : ℕ → Type 0) (b b' : Type 0) (f f' : Outcome → Type 0) → ByAnswer turned w m b f → (w → w') → ((n : ℕ) → m n → m' n) → (b → b') → ((o : Outcome) → f o → f' o) → ByAnswer turned w' m' b' f'
+answer_on answers.Waiting w w' m m' b b' f f' a on_w on_m on_b on_f = on_w a
+answer_on (answers.Moved n) w w' m m' b b' f f' a on_w on_m on_b on_f = on_m n a
+answer_on answers.Broken w w' m m' b b' f f' a on_w on_m on_b on_f = on_b a
+answer_on (answers.Finished outcome) w w' m m' b b' f f' a on_w on_m on_b on_f = on_f outcome a
+
+-- An answer of a closed one is none that its connection broke.
+pub not_broken : (turned : Turned) (w : Type 0) (m : ℕ → Type 0) (f : Outcome → Type 0) → ByAnswer turned w m ⊥ f → turned ≡ answers.Broken → ⊥
+not_broken turned w m f a e = subst (λ (z : Turned). ByAnswer z w m ⊥ f) e a
+
+-- a turn in which no byte moved leaves the clock and the marks, if it answers Broken only where the connection was marked
+pub paces_still : (closed : Bool) (old new : Pace) (now : ℕ) (moves : ℕ → Type 0) (said : Turned) → new ≡ old → (said ≡ answers.Broken → old.broken ≡ true)
+    → (closed ≡ false → moves 0 × ((m : ℕ) → said ≡ answers.Moved m → m ≡ 0)) → Paces closed old new now moves said
+paces_still closed old new now moves said e b m =
+    let last = ap (λ (z : Pace). z.last_moved) e in
+    let broken = ap (λ (z : Pace). z.broken) e in
+    record {
+      moment = inl last;
+      clock = λ o. (0, (m o).0, λ z. last, λ l. absurd (omega (arith, l)), (m o).1);
+      still = λ s. last;
+      rests = λ k. last;
+      limit = ap (λ (z : Pace). z.deadline) e;
+      marked = (
+        λ t. inl (sym broken ∙ t),
+        λ w. elim w [
+          | inl t ↦ broken ∙ t
+          | inr s ↦ broken ∙ b s
+        ],
+      );
+      reused = ap (λ (z : Pace). z.reused) e;
+    }
 
 pub for_side : (side : Side) (source service next : Type 0) → (side ≡ Source → source) → (side ≡ Service → service) → (side ≡ NextHop → next) → BySide side source service next
 for_side Source source service next a b c = a refl

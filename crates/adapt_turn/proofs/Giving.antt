@@ -15,7 +15,7 @@ use Rattle.adapt_sides.specs.Tapes.{chosen}
 use Rattle.adapt_sides.specs.Turns.{Gift, Given}
 use Rattle.adapt_sides.specs.Turns.Gift.{nothing, message, refusal}
 use Rattle.adapt_hold.specs.Holding.{Holding, IsTied, shows}
-use Rattle.adapt_turn.specs.declared.parts.Passed.{Passed}
+use Rattle.adapt_turn.specs.declared.steps.Passed.{Passed}
 use Rattle.adapt_turn.specs.Parts.{Lent, GivesOn, HopPart, stepped}
 use Rattle.adapt_turn.specs.Made.{OfHead, WholeOf, answers_user, is_reqmod}
 use Rattle.adapt_turn.specs.Stands.{Stands, Goes, HopsAre, IsRefusing, user_gift, TakesAside, IsDone, IsDelivered}

@@ -12,11 +12,10 @@ use Rattle.trace_core.specs.History.{seen, in_bytes, ad_bytes, usr_bytes, is_pla
 use Rattle.trace_core.specs.Legal.{IsLegal}
 use Rattle.trace_core.specs.View.{after}
 use Rattle.trace_core.specs.Turns.{is_of_hop}
-use Rattle.adapt_sides.specs.Tapes.{chosen}
+use Rattle.adapt_sides.specs.Tapes.{chosen, IsUndelivered}
 use Rattle.adapt_sides.specs.Turns.{Gift}
 use Rattle.adapt_sides.specs.Turns.Gift.{nothing, message, refusal}
 use Rattle.adapt_turn.specs.Stands.{HopsAre, IsRefusing, other_gift, IsDelivered}
-use Rattle.adapt_sides.specs.Tapes.{IsUndelivered}
 use Rattle.adapt_turn.proofs.Carry.{off_hop, not_true, KeepsChosen}
 
 -- what a writer says of the events of others

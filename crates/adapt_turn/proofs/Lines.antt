@@ -7,8 +7,8 @@ use Rattle.wire_kit.specs.Past.{Past, IsLater}
 use Rattle.wire_kit.specs.declared.wire.Wire.{Ghosts as Wire}
 use Rattle.adapt_sides.specs.declared.service.Service.{Ghosts as Service}
 use Rattle.adapt_hold.specs.Holding.{Holding, IsTied, shows}
-use Rattle.adapt_turn.specs.declared.parts.Passed.{Passed}
-use Rattle.adapt_turn.specs.declared.start.Line.{Line}
+use Rattle.adapt_turn.specs.declared.steps.Passed.{Passed}
+use Rattle.adapt_turn.specs.declared.ends.Line.{Line}
 use Rattle.adapt_turn.specs.declared.turned.Side.TheVariants as sides
 use Rattle.adapt_turn.specs.Made.{wire_of, on_held}
 use Rattle.adapt_turn.specs.Parts.{Lent, lending, View, Report, Part, Breaks, FailsFor, IsOfSide, service_room, fault_of, outcome_by, outcome_of}

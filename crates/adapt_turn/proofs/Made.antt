@@ -12,7 +12,7 @@ use Rattle.trace_core.specs.Turns.{after_all, MayAllFollow}
 use Rattle.trace_core.proofs.Sound.{sound}
 use Rattle.adapt_sides.specs.Turns.{Gift}
 use Rattle.adapt_sides.specs.Turns.Gift.{nothing, message}
-use Rattle.adapt_turn.specs.declared.start.Line.{Line}
+use Rattle.adapt_turn.specs.declared.ends.Line.{Line}
 use Rattle.adapt_hold.specs.Holding.{shows}
 use Rattle.adapt_turn.specs.Stands.{HopsAre, IsChosen}
 use Rattle.adapt_turn.specs.Made.{IsMade, OfHead, MakesAt, adapted_of, response_of}

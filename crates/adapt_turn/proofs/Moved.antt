@@ -2,7 +2,7 @@
 use Rattle.std.proofs.Common.{◌≡◌, ℕ, Bool, true, false, ◌+◌, ◌-◌, ◌<◌, ◌^◌, length, Option, Some, None, arith, refl, sym, ◌∙◌, ap, subst}
 use Rattle.std.specs.Prelude.{MatchOption, ⊤, min}
 use Rattle.wire_kit.specs.Past.{Past}
-use Rattle.adapt_turn.specs.declared.start.Line.{Line}
+use Rattle.adapt_turn.specs.declared.ends.Line.{Line}
 use Rattle.adapt_turn.specs.Made.{wire_of, on_held}
 use Rattle.adapt_turn.specs.Moved.{MovesOver, SumsBytes, AreCounts, counted}
 use Rattle.adapt_turn.specs.Rows.{BytesOr}
@@ -55,47 +55,23 @@ moves_of {A} {C} {V} {W} on_source on_wire on_next a a' a2 line line' line2 x x'
     })))
 
 -- wires that a call left as they were
-same_over : (past : Past → Type 0) (c : ℕ × ℕ) → AreCounts c past → MovesOver past past 0
-same_over past c f = λ p q b a. let u = f p b in let w = f q a in let u0 = u.0 in let u1 = u.1 in let w0 = w.0 in let w1 = w.1 in omega (arith, u0, u1, w0, w1)
-
-abbrev none_moved : ℕ
-none_moved = 0
-
-same_wire : {L : Type 0} (past : L → Past → Type 0) (line : Option L) (c : ℕ × ℕ) → MatchOption line ((c.0 ≡ 0) × (c.1 ≡ 0)) (λ l. AreCounts c (past l))
-    → MatchOption line (none_moved ≡ 0) (λ l. MovesOver (past l) (λ p. MatchOption line ⊥ (λ m. past m p)) none_moved)
-same_wire past None c f = refl
-same_wire past (Some l) c f = same_over (past l) c f
-
-same_line : {V W : Type 0} (past : W → Past → Type 0) (line : Option (Line V W)) (c : ℕ × ℕ) → on_held line ((c.0 ≡ 0) × (c.1 ≡ 0)) (λ w. AreCounts c (past w))
-    → on_held line (none_moved ≡ 0) (λ w. MovesOver (past w) (λ p. on_held line ⊥ (λ m. past m p)) none_moved)
-same_line {V} {W} past None c f = same_wire past None c f
-same_line {V} {W} past (Some l) c f = same_wire past l.wire c f
+none_counted : (c0 c1 c2 : ℕ × ℕ) → 0 ≡ min (counted c0 c0 + counted c1 c1 + counted c2 c2) (2 ^ 64 - 1)
+none_counted c0 c1 c2 = let e : 0 ≡ counted c0 c0 + counted c1 c1 + counted c2 c2 = omega arith in ap (λ (k : ℕ). min k (2 ^ 64 - 1)) e
 
 pub moves_none : {A C V W : Type 0} (on_source : A → Past → Type 0) (on_wire : W → Past → Type 0) (on_next : C → Past → Type 0) (a a' : A) (line line' : Option (Line V W)) (x x' : C) (c0 c1 c2 : ℕ × ℕ) (n : ℕ)
     → AreCounts c0 (on_source a) → on_held line ((c1.0 ≡ 0) × (c1.1 ≡ 0)) (λ w. AreCounts c1 (on_wire w)) → AreCounts c2 (on_next x)
     → a' ≡ a → line' ≡ line → x' ≡ x → n ≡ 0
     → SumsBytes (MovesOver (on_source a) (on_source a')) (λ k. on_held line (k ≡ 0) (λ w. MovesOver (on_wire w) (λ p. on_held line' ⊥ (λ m. on_wire m p)) k)) (MovesOver (on_next x) (on_next x')) n
 moves_none {A} {C} {V} {W} on_source on_wire on_next a a' line line' x x' c0 c1 c2 n f0 f1 f2 ea el ex e =
-    subst (λ (z : A). SumsBytes (MovesOver (on_source a) (on_source z)) (λ k. on_held line (k ≡ 0) (λ w. MovesOver (on_wire w) (λ p. on_held line' ⊥ (λ m. on_wire m p)) k)) (MovesOver (on_next x) (on_next x')) n) (sym ea)
-    (subst (λ (z : Option (Line V W)). SumsBytes (MovesOver (on_source a) (on_source a)) (λ k. on_held line (k ≡ 0) (λ w. MovesOver (on_wire w) (λ p. on_held z ⊥ (λ m. on_wire m p)) k)) (MovesOver (on_next x) (on_next x')) n) (sym el)
-    (subst (λ (z : C). SumsBytes (MovesOver (on_source a) (on_source a)) (λ k. on_held line (k ≡ 0) (λ w. MovesOver (on_wire w) (λ p. on_held line ⊥ (λ m. on_wire m p)) k)) (MovesOver (on_next x) (on_next z)) n) (sym ex)
-    (record {
-      source = 0;
-      service = 0;
-      next = 0;
-      source_is = same_over (on_source a) c0 f0;
-      service_is = same_line on_wire line c1 f1;
-      next_is = same_over (on_next x) c2 f2;
-      sum = e;
-    })))
+    moves_of on_source on_wire on_next a a a' line line line' x x x' c0 c0 c1 c1 c2 c2 n f0 f0 f1 f1 f2 f2 (λ none. none) ea el ex (e ∙ none_counted c0 c1 c2)
 
 -- where none went over all of them, none went over each
-pub none_over : (source service next : ℕ → Type 0) → SumsBytes source service next 0 → source 0 × service 0 × next 0
-none_over source service next w =
+pub none_over : (source service next : ℕ → Type 0) (n : ℕ) → n ≡ 0 → SumsBytes source service next n → source 0 × service 0 × next 0
+none_over source service next n z w =
     let e = w.sum in
-    let a : w.source ≡ 0 = omega (arith, e) in
-    let b : w.service ≡ 0 = omega (arith, e) in
-    let c : w.next ≡ 0 = omega (arith, e) in
+    let a : w.source ≡ 0 = omega (arith, e, z) in
+    let b : w.service ≡ 0 = omega (arith, e, z) in
+    let c : w.next ≡ 0 = omega (arith, e, z) in
     (subst source a w.source_is, subst service b w.service_is, subst next c w.next_is)
 
 pub waiting_not : (waiting : Bool) → (waiting ≡ true → 0 < 0) → waiting ≡ false
@@ -103,6 +79,9 @@ waiting_not true n = absurd (let e = n refl in omega (arith, e))
 waiting_not false n = refl
 
 -- a line over which no byte went
+abbrev none_moved : ℕ
+none_moved = 0
+
 some_wire : {L : Type 0} (past : L → Past → Type 0) (line line' : Option L) (this : Type 0) (p : Past) → MatchOption line ⊤ (λ l. past l p)
     → MatchOption line (none_moved ≡ 0) (λ l. MovesOver (past l) (λ q. MatchOption line' ⊥ (λ m. past m q)) none_moved)
     → (line ≡ None → ⊥) → BytesOr this (λ q. MatchOption line ⊥ (λ l. past l q)) (λ q. MatchOption line' ⊥ (λ m. past m q)) → this

@@ -4,7 +4,7 @@ use Rattle.std.proofs.lemmas.Bool.Decides.{nat_tests}
 use Rattle.std.proofs.lemmas.Bool.{false≢true}
 use Rattle.trace_core.specs.declared.history.Seen.{Seen}
 use Rattle.trace_core.specs.declared.history.Event.{Event}
-use Rattle.trace_core.specs.declared.history.Event.TheVariants.{In, End, Svc, Stop, Heard, Continue, NoMod, Mod, Ad, AdEnd, Usr, Done, Fail, Retry}
+use Rattle.trace_core.specs.declared.history.Event.TheVariants.{Svc, Stop, Fail}
 use Rattle.trace_core.specs.declared.history.Cause.{Cause}
 use Rattle.trace_core.specs.History.{in_bytes, ad_bytes}
 use Rattle.trace_core.specs.View.{after}
@@ -13,7 +13,7 @@ use Rattle.plan_rules.specs.declared.room.TheConstants.{TURN_BYTES}
 use Rattle.plan_rules.specs.Room.{original_room, adapted_room}
 use Rattle.adapt_hold.specs.Holding.{Holding, IsTied, shows, history_then, moved}
 use Rattle.adapt_hold.proofs.Closes.{then_shows}
-use Rattle.adapt_turn.specs.declared.parts.Passed.{Passed}
+use Rattle.adapt_turn.specs.declared.steps.Passed.{Passed}
 use Rattle.adapt_turn.specs.Parts.{View, Report, Part, stepped}
 use Rattle.adapt_turn.proofs.Stepped.{part_shows}
 
@@ -95,18 +95,7 @@ pub none_of_sending : (reported : List Event) → AllAre is_of_sending reported 
 none_of_sending [] o = omega arith
 none_of_sending (Svc n ∷ events) o = let more = none_of_sending events o.1 in omega (arith, more)
 none_of_sending (Stop ∷ events) o = let more = none_of_sending events o.1 in omega (arith, more)
-none_of_sending (In n ∷ events) o = absurd (false≢true o.0)
-none_of_sending (End ∷ events) o = absurd (false≢true o.0)
-none_of_sending (Heard ∷ events) o = absurd (false≢true o.0)
-none_of_sending (Continue ∷ events) o = absurd (false≢true o.0)
-none_of_sending (NoMod ∷ events) o = absurd (false≢true o.0)
-none_of_sending (Mod payload ∷ events) o = absurd (false≢true o.0)
-none_of_sending (Ad n ∷ events) o = absurd (false≢true o.0)
-none_of_sending (AdEnd ∷ events) o = absurd (false≢true o.0)
-none_of_sending (Usr n ∷ events) o = absurd (false≢true o.0)
-none_of_sending (Done ∷ events) o = absurd (false≢true o.0)
-none_of_sending (Fail cause ∷ events) o = absurd (false≢true o.0)
-none_of_sending (Retry ∷ events) o = absurd (false≢true o.0)
+none_of_sending (_ ∷ events) o = absurd (false≢true o.0)
 
 -- the newer hold is the same
 pub paced_kept : (n : ℕ) (of : Seen → ℕ) (k k' : Holding) → k' ≡ k → of (shows k.history) ≤ n → of (shows k'.history) ≤ n

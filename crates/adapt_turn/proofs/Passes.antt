@@ -6,7 +6,7 @@ use Rattle.std.proofs.lemmas.Bool.{false≢true}
 use Rattle.trace_core.specs.declared.history.Seen.{Seen}
 use Rattle.trace_core.specs.declared.history.Payload.{Payload}
 use Rattle.trace_core.specs.declared.history.Event.{Event}
-use Rattle.trace_core.specs.declared.history.Event.TheVariants.{In, End, Svc, Stop, Heard, Continue, NoMod, Mod, Ad, AdEnd, Usr, Done, Fail, Retry}
+use Rattle.trace_core.specs.declared.history.Event.TheVariants.{In, End, Heard, Continue, NoMod, Mod, Ad, AdEnd, Fail}
 use Rattle.trace_core.specs.declared.history.Cause.{Cause}
 use Rattle.trace_core.specs.Legal.{Allows, MaySend}
 use Rattle.trace_core.specs.Faults.{chooses_original}
@@ -31,7 +31,7 @@ use Rattle.adapt_hold.specs.Spans.{Span, EndsBody, span_of, span_end}
 use Rattle.adapt_hold.specs.Holding.{Holding, IsTied, IsRoomy, shows, moved}
 use Rattle.adapt_hold.specs.Steps.{brought_all, HasRoomFor, MayRun, moved_all}
 use Rattle.adapt_hold.proofs.Bodies.{ends}
-use Rattle.adapt_turn.specs.declared.parts.Passed.{Passed}
+use Rattle.adapt_turn.specs.declared.steps.Passed.{Passed}
 use Rattle.adapt_turn.specs.Parts.{Breaks, Lent, View, Report, IsStill, Part, SourcePart, SendPart, HearPart, HopPart, source_room, service_room, source_cause, service_cause, hop_cause}
 use Rattle.adapt_turn.specs.Stands.{IsChosen, chosen_span}
 
@@ -56,18 +56,7 @@ room_of_source x claim window (In n ∷ events) s m o r =
     (omega (arith, r), room_of_source (after x (In n)) claim window events (sound-after x (In n) s m.1) m.2 o.1 (room-in x n (in_sum events) claim window s m.0 m.1 r))
 room_of_source x claim window (End ∷ events) s m o r =
     (tt, room_of_source (after x End) claim window events (sound-after x End s m.1) m.2 o.1 (room-end x (in_sum events) claim window m.1 (omega (arith, r))))
-room_of_source x claim window (Svc n ∷ events) s m o r = absurd (false≢true o.0)
-room_of_source x claim window (Stop ∷ events) s m o r = absurd (false≢true o.0)
-room_of_source x claim window (Heard ∷ events) s m o r = absurd (false≢true o.0)
-room_of_source x claim window (Retry ∷ events) s m o r = absurd (false≢true o.0)
-room_of_source x claim window (Continue ∷ events) s m o r = absurd (false≢true o.0)
-room_of_source x claim window (NoMod ∷ events) s m o r = absurd (false≢true o.0)
-room_of_source x claim window (Mod _ ∷ events) s m o r = absurd (false≢true o.0)
-room_of_source x claim window (Ad n ∷ events) s m o r = absurd (false≢true o.0)
-room_of_source x claim window (AdEnd ∷ events) s m o r = absurd (false≢true o.0)
-room_of_source x claim window (Usr n ∷ events) s m o r = absurd (false≢true o.0)
-room_of_source x claim window (Done ∷ events) s m o r = absurd (false≢true o.0)
-room_of_source x claim window (Fail cause ∷ events) s m o r = absurd (false≢true o.0)
+room_of_source x claim window (_ ∷ events) s m o r = absurd (false≢true o.0)
 
 room-ad : (x : Seen) (n rest window : ℕ) → Sound x → x.closed ≡ false → Allows x (Ad n) → n + rest ≤ adapted_room x window → rest ≤ adapted_room (after x (Ad n)) window
 room-ad x n rest window s c a r = grind (arith, nat_tests)
@@ -100,16 +89,9 @@ room_of_replies x claim window (Mod body ∷ events) s m o r =
     (tt, room_of_replies (after x (Mod body)) (claim_then (after x (Mod body)) (Mod body) claim window) window events (sound-after x (Mod body) s m.1) m.2 o.1 (room-mod x body (ad_sum events) window s m.0 m.1 (omega (arith, r))))
 room_of_replies x claim window (AdEnd ∷ events) s m o r =
     (tt, room_of_replies (after x AdEnd) claim window events (sound-after x AdEnd s m.1) m.2 o.1 (room-ad_end x (ad_sum events) window s m.0 m.1 (omega (arith, r))))
-room_of_replies x claim window (In n ∷ events) s m o r = absurd (false≢true o.0)
-room_of_replies x claim window (End ∷ events) s m o r = absurd (false≢true o.0)
-room_of_replies x claim window (Svc n ∷ events) s m o r = absurd (false≢true o.0)
-room_of_replies x claim window (Stop ∷ events) s m o r = absurd (false≢true o.0)
 room_of_replies x claim window (Heard ∷ events) s m o r =
     (tt, room_of_replies (after x Heard) claim window events (sound-after x Heard s m.1) m.2 o.1 (room-heard x (ad_sum events) window s m.0 m.1 (omega (arith, r))))
-room_of_replies x claim window (Retry ∷ events) s m o r = absurd (false≢true o.0)
-room_of_replies x claim window (Usr n ∷ events) s m o r = absurd (false≢true o.0)
-room_of_replies x claim window (Done ∷ events) s m o r = absurd (false≢true o.0)
-room_of_replies x claim window (Fail cause ∷ events) s m o r = absurd (false≢true o.0)
+room_of_replies x claim window (_ ∷ events) s m o r = absurd (false≢true o.0)
 
 -- events that bring nothing
 
@@ -117,26 +99,13 @@ pub room_of_others : (x : Seen) (claim window : ℕ) (events : List Event) → A
 room_of_others x claim window [] o = tt
 room_of_others x claim window (In n ∷ events) o = absurd (false≢true o.0)
 room_of_others x claim window (Ad n ∷ events) o = absurd (false≢true o.0)
-room_of_others x claim window (End ∷ events) o = (tt, room_of_others (after x End) _ window events o.1)
-room_of_others x claim window (Svc n ∷ events) o = (tt, room_of_others (after x (Svc n)) _ window events o.1)
-room_of_others x claim window (Stop ∷ events) o = (tt, room_of_others (after x Stop) _ window events o.1)
-room_of_others x claim window (Heard ∷ events) o = (tt, room_of_others (after x Heard) _ window events o.1)
-room_of_others x claim window (Retry ∷ events) o = (tt, room_of_others (after x Retry) _ window events o.1)
-room_of_others x claim window (Continue ∷ events) o = (tt, room_of_others (after x Continue) _ window events o.1)
-room_of_others x claim window (NoMod ∷ events) o = (tt, room_of_others (after x NoMod) _ window events o.1)
-room_of_others x claim window (Mod body ∷ events) o = (tt, room_of_others (after x (Mod body)) _ window events o.1)
-room_of_others x claim window (AdEnd ∷ events) o = (tt, room_of_others (after x AdEnd) _ window events o.1)
-room_of_others x claim window (Usr n ∷ events) o = (tt, room_of_others (after x (Usr n)) _ window events o.1)
-room_of_others x claim window (Done ∷ events) o = (tt, room_of_others (after x Done) _ window events o.1)
-room_of_others x claim window (Fail cause ∷ events) o = (tt, room_of_others (after x (Fail cause)) _ window events o.1)
+room_of_others x claim window (event ∷ events) o = (tt, room_of_others (after x event) _ window events o.1)
 
 pub all_map : (f g : Event → Bool) → ((event : Event) → f event ≡ true → g event ≡ true) → (events : List Event) → AllAre f events → AllAre g events
 all_map f g i [] o = tt
 all_map f g i (event ∷ events) o = (i event o.0, all_map f g i events o.1)
 
 sending_brings_nothing : (event : Event) → is_of_sending event ≡ true → brings_nothing event ≡ true
-sending_brings_nothing (Svc n) e = refl
-sending_brings_nothing Stop e = refl
 sending_brings_nothing (In n) e = e
 sending_brings_nothing (Ad n) e = e
 sending_brings_nothing _ e = refl
@@ -150,7 +119,6 @@ none_brought : (events : List Event) → AllAre brings_nothing events → brough
 none_brought [] o = refl
 none_brought (In n ∷ events) o = absurd (false≢true o.0)
 none_brought (Ad n ∷ events) o = absurd (false≢true o.0)
-none_brought (End ∷ events) o = let e = none_brought events o.1 in omega (arith, e)
 none_brought (_ ∷ events) o = let e = none_brought events o.1 in omega (arith, e)
 
 source_brought : (events : List Event) → AllAre is_of_source events → brought_all events ≡ in_sum events

@@ -1,9 +1,8 @@
--- A refusal has its cause's status, and a turn of a closed transaction writes it.
-use Rattle.std.proofs.Common.{◌≡◌, ℕ, inl, inr, Bool, true, false, List, [], ◌∷◌, Option, Some, None, Result, Ok, arith, refl, sym, ◌∙◌, ap, subst}
+-- What is due of a refusal, and how a turn of a closed transaction writes it.
+use Rattle.std.proofs.Common.{◌≡◌, ℕ, inl, inr, Bool, true, false, List, [], ◌∷◌, Option, Some, Result, Ok, arith, refl, sym, ◌∙◌, subst}
 use Rattle.std.proofs.lemmas.Bool.{false≢true}
 use Rattle.trace_core.specs.declared.history.Seen.{Seen}
 use Rattle.trace_core.specs.declared.history.Event.{Event}
-use Rattle.trace_core.specs.declared.history.Cause.{Cause}
 use Rattle.trace_core.specs.declared.history.Point.{Point}
 use Rattle.trace_core.specs.declared.history.Point.TheVariants.{Reqmod, Respmod}
 use Rattle.trace_core.specs.History.{History}
@@ -11,92 +10,28 @@ use Rattle.trace_core.specs.Turns.{MayAllFollow}
 use Rattle.span_tape.specs.Tape.{Tape}
 use Rattle.wire_kit.specs.Past.{Past}
 use Rattle.adapt_sides.specs.Turns.{Gives, Gift, FailsGiving, wire_fault}
-use Rattle.adapt_sides.specs.Turns.Gift.{message, refusal}
+use Rattle.adapt_sides.specs.Turns.Gift.{message}
 use Rattle.adapt_sides.specs.declared.fault.RelayFault.TheVariants as relay
 use Rattle.std.specs.Prelude.{is_some}
 use Rattle.adapt_sides.specs.declared.fault.RelayFault.{RelayFault}
 use Rattle.adapt_sides.specs.declared.turn.Turn.{Turn}
 use Rattle.adapt_hold.specs.Holding.{Holding, shows}
 use Rattle.adapt_hold.proofs.Row.{no_bytes}
-use Rattle.adapt_turn.specs.Stands.{Waited, user_gift}
-use Rattle.adapt_turn.specs.Refusals.{refusal_status, user_untouched, user_fault, HasRefusal, IsDue}
+use Rattle.adapt_turn.specs.Stands.{Waited}
 use Rattle.adapt_turn.specs.Rows.{BytesOr}
 use Rattle.adapt_turn.proofs.Rows.{grown}
 
--- Its status.
-
-refused_by : (status : ℕ) (refusing : Bool) (gift : Gift) (untouched : Bool) → (refusing ≡ true → gift ≡ refusal status) → (refusing ≡ false → untouched ≡ false) → HasRefusal status refusing gift untouched
-refused_by status true gift untouched g u = inl (refl, g refl)
-refused_by status false gift untouched g u = inr (refl, u refl)
-
-pub refused_next : (cause : Cause) (point : Point) (status : ℕ) (refusing : Bool) (next back : Gift) (next_untouched back_untouched : Bool) → point ≡ Respmod → status ≡ refusal_status cause Respmod
-    → (refusing ≡ true → next ≡ refusal status) → (refusing ≡ false → next_untouched ≡ false)
-    → HasRefusal (refusal_status cause point) refusing (user_gift point next back) (user_untouched point next_untouched back_untouched)
-refused_next cause point status refusing next back nu bu e s g u =
-    subst (λ (z : Point). HasRefusal (refusal_status cause z) refusing (user_gift z next back) (user_untouched z nu bu)) (sym e)
-    (refused_by (refusal_status cause Respmod) refusing next nu (λ r. g r ∙ ap refusal s) u)
-
-pub refused_back : (cause : Cause) (point : Point) (status : ℕ) (refusing : Bool) (next back : Gift) (next_untouched back_untouched : Bool) → point ≡ Reqmod → status ≡ refusal_status cause Reqmod
-    → (refusing ≡ true → back ≡ refusal status) → (refusing ≡ false → back_untouched ≡ false)
-    → HasRefusal (refusal_status cause point) refusing (user_gift point next back) (user_untouched point next_untouched back_untouched)
-refused_back cause point status refusing next back nu bu e s g u =
-    subst (λ (z : Point). HasRefusal (refusal_status cause z) refusing (user_gift z next back) (user_untouched z nu bu)) (sym e)
-    (refused_by (refusal_status cause Reqmod) refusing back bu (λ r. g r ∙ ap refusal s) u)
-
--- it stays while it is written
-pub refused_on : (status : ℕ) (refusing : Bool) (gift gift' : Gift) (untouched untouched' : Bool) → refusing ≡ true → gift' ≡ gift → HasRefusal status refusing gift untouched → HasRefusal status refusing gift' untouched'
-refused_on status refusing gift gift' u u' due same w = elim w [
-  | inl r ↦ inl (r.0, same ∙ r.1)
-  | inr r ↦ absurd (false≢true (sym r.0 ∙ due))
-]
-
 -- What is due.
-
-wire_twice : (f : Option RelayFault) → wire_fault f ≡ wire_fault (wire_fault f)
-wire_twice None = refl
-wire_twice (Some relay.Head) = refl
-wire_twice (Some relay.Chunk) = refl
-wire_twice (Some relay.Closed) = refl
-wire_twice (Some relay.Device) = refl
-wire_twice (Some relay.Length) = refl
-wire_twice (Some relay.NoMemory) = refl
-
-wire_only : (f g : Option RelayFault) → g ≡ wire_fault f → g ≡ wire_fault g
-wire_only f g e = e ∙ (wire_twice f ∙ ap wire_fault (sym e))
 
 -- a fault that is kept where only the wire's may be is the wire's
 pub wire_failed : (f : Option RelayFault) → is_some f ≡ true → f ≡ wire_fault f → f ≡ Some relay.Device
-wire_failed None s e = cc
-wire_failed (Some relay.Head) s e = cc
-wire_failed (Some relay.Chunk) s e = cc
-wire_failed (Some relay.Closed) s e = cc
 wire_failed (Some relay.Device) s e = refl
-wire_failed (Some relay.Length) s e = cc
-wire_failed (Some relay.NoMemory) s e = cc
+wire_failed _ s e = cc
 
 -- a first fault of a refusal is the wire's
 pub first_failed : (breaks : Type 0) (gift : Gift) (fault : RelayFault) → (gift ≡ message → ⊥) → FailsGiving ((gift ≡ message) × breaks) fault → fault ≡ relay.Device
 first_failed breaks gift fault n (inl d) = d
 first_failed breaks gift fault n (inr l) = absurd (n l.1.0)
-
-pub refused_due : (status : ℕ) (gift : Gift) (old new : Option RelayFault) → gift ≡ refusal status → new ≡ wire_fault old → IsDue gift new
-refused_due status gift old new g e = (λ m. (let odd : refusal status ≡ message = sym g ∙ m in absurd cc), wire_only old new e)
-
-pub due_next : (point : Point) (ng bg : Gift) (nf bf : Option RelayFault) → point ≡ Respmod → IsDue (user_gift point ng bg) (user_fault point nf bf) → IsDue ng nf
-due_next Respmod ng bg nf bf e d = d
-due_next Reqmod ng bg nf bf e d = cc
-
-pub due_back : (point : Point) (ng bg : Gift) (nf bf : Option RelayFault) → point ≡ Reqmod → IsDue (user_gift point ng bg) (user_fault point nf bf) → IsDue bg bf
-due_back Respmod ng bg nf bf e d = cc
-due_back Reqmod ng bg nf bf e d = d
-
-pub next_due : (point : Point) (ng bg : Gift) (nf bf : Option RelayFault) → point ≡ Respmod → IsDue ng nf → IsDue (user_gift point ng bg) (user_fault point nf bf)
-next_due Respmod ng bg nf bf e d = d
-next_due Reqmod ng bg nf bf e d = cc
-
-pub back_due : (point : Point) (ng bg : Gift) (nf bf : Option RelayFault) → point ≡ Reqmod → IsDue bg bf → IsDue (user_gift point ng bg) (user_fault point nf bf)
-back_due Respmod ng bg nf bf e d = cc
-back_due Reqmod ng bg nf bf e d = d
 
 -- nothing is due of an open one
 pub none_due : (closed : Bool) (this due : Type 0) → closed ≡ false → (closed ≡ true) × due → this
@@ -136,14 +71,6 @@ refusal_acts h history tape turn so sn ao an whole f0 f1 rests before after_ he 
       omega (arith, go),
       λ z. false≢true (sym e ∙ b.waiting.waits turn refl (none_follow (shows h.history) turn.events.items c b.legal) (no_bytes b.delta (omega (arith, gr, go, z)))),
     )
-
--- Where it stands.
-
-pub only_next : (point : Point) (next back : Type 0) → point ≡ Respmod → next → (point ≡ Respmod → next) × (point ≡ Reqmod → back)
-only_next point next back e n = (λ s. n, λ s. absurd (let d : Reqmod ≡ Respmod = sym s ∙ e in cc))
-
-pub only_back : (point : Point) (next back : Type 0) → point ≡ Reqmod → back → (point ≡ Respmod → next) × (point ≡ Reqmod → back)
-only_back point next back e b = (λ s. absurd (let d : Respmod ≡ Reqmod = sym s ∙ e in cc), λ s. b)
 
 -- Whether it is closed.
 

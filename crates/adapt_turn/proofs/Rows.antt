@@ -13,7 +13,7 @@ use Rattle.adapt_hold.specs.Holding.{Holding, IsTied, shows, moved, history_then
 use Rattle.adapt_hold.specs.Steps.{brought, HasRoomFor, MayRun, moved_all}
 use Rattle.adapt_hold.proofs.Row.{no_bytes, stays}
 use Rattle.adapt_hold.proofs.Closes.{then_shows}
-use Rattle.adapt_turn.specs.declared.parts.Passed.{Passed}
+use Rattle.adapt_turn.specs.declared.steps.Passed.{Passed}
 use Rattle.adapt_turn.specs.declared.turned.Side.{Side}
 use Rattle.adapt_turn.specs.declared.turned.Side.TheVariants.{Source, Service, NextHop}
 use Rattle.adapt_turn.specs.Parts.{View, Report, Part, stepped}

@@ -8,7 +8,7 @@ use Rattle.trace_core.specs.Turns.{after_all}
 use Rattle.adapt_hold.specs.Holding.{Holding, IsTied, shows, history_then, moved}
 use Rattle.adapt_hold.proofs.Row.{Ran, ran}
 use Rattle.adapt_hold.proofs.Closes.{then_shows}
-use Rattle.adapt_turn.specs.declared.parts.Passed.{Passed}
+use Rattle.adapt_turn.specs.declared.steps.Passed.{Passed}
 use Rattle.adapt_turn.specs.Parts.{View, Report, Part, stepped}
 
 pub part_ran : {F : Type 0} {v : View F} {h k : Holding} {r : Report} {passed : Passed}

@@ -14,7 +14,7 @@ use Rattle.trace_core.specs.Turns.{after_all, MayAllFollow, AllAre}
 use Rattle.adapt_hold.specs.Holding.{Holding, IsTied, shows, history_then, moved}
 use Rattle.adapt_hold.specs.Steps.{history_all, moved_all}
 use Rattle.adapt_hold.proofs.Row.{Ran}
-use Rattle.adapt_turn.specs.declared.parts.Passed.{Passed}
+use Rattle.adapt_turn.specs.declared.steps.Passed.{Passed}
 use Rattle.adapt_turn.specs.declared.turned.Outcome.{Outcome}
 use Rattle.adapt_turn.specs.declared.turned.Outcome.TheVariants as outcomes
 use Rattle.adapt_turn.specs.Parts.{View, Report, Part, stepped, outcome_by, outcome_of}

@@ -13,7 +13,7 @@ use Rattle.adapt_sides.specs.declared.hop.Hop.{Ghosts as Hop}
 use Rattle.adapt_sides.specs.Turns.{Given, FailsGiving}
 use Rattle.adapt_sides.specs.Turns.Gift.{nothing, message}
 use Rattle.adapt_hold.specs.Holding.{Holding, IsTied, IsRoomy, shows, moved}
-use Rattle.adapt_turn.specs.declared.parts.Passed.{Passed}
+use Rattle.adapt_turn.specs.declared.steps.Passed.{Passed}
 use Rattle.adapt_turn.specs.declared.turned.Side.TheVariants.{NextHop}
 use Rattle.adapt_turn.specs.Made.{WholeOf}
 use Rattle.adapt_turn.specs.Parts.{lending, IsOfSide, hop_cause}

@@ -8,7 +8,7 @@ use Rattle.trace_core.specs.declared.history.Cause.{Cause}
 use Rattle.trace_core.specs.History.{seen}
 use Rattle.trace_core.specs.Legal.{IsLegal}
 use Rattle.trace_core.specs.Turns.{after_all, MayAllFollow}
-use Rattle.adapt_turn.specs.declared.start.Line.{Line}
+use Rattle.adapt_turn.specs.declared.ends.Line.{Line}
 use Rattle.adapt_turn.specs.Stands.{IsChosen}
 
 -- the service's wire, as long as its connection is held

@@ -23,7 +23,7 @@ use Rattle.adapt_sides.specs.Turns.{Given, given_then, OfRelayWire, OfClientWire
 use Rattle.adapt_hold.specs.Spans.{EndsBody}
 use Rattle.adapt_hold.specs.Holding.{Holding, shows, moved}
 use Rattle.adapt_hold.specs.Steps.{MayRun, moved_all}
-use Rattle.adapt_turn.specs.declared.parts.Passed.{Passed}
+use Rattle.adapt_turn.specs.declared.steps.Passed.{Passed}
 use Rattle.adapt_turn.specs.declared.turned.Outcome.{Outcome}
 use Rattle.adapt_turn.specs.declared.turned.Outcome.TheVariants as outcomes
 

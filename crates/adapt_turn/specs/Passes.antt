@@ -14,7 +14,7 @@ use Rattle.adapt_sides.specs.declared.fault.RelayFault.{RelayFault}
 use Rattle.adapt_sides.specs.Turns.{OfRelayWire, FailsGiving}
 use Rattle.adapt_sides.specs.Turns.Gift.{nothing, message}
 use Rattle.adapt_hold.specs.Holding.{Holding, IsTied, shows, moved}
-use Rattle.adapt_turn.specs.declared.parts.Passed.{Passed}
+use Rattle.adapt_turn.specs.declared.steps.Passed.{Passed}
 use Rattle.adapt_turn.specs.declared.turned.Side.{Side}
 use Rattle.adapt_turn.specs.declared.turned.Side.TheVariants as sides
 use Rattle.adapt_turn.specs.Parts.{Lent, lending, SourcePart, SendPart, HearPart, HopPart, Breaks, HasCause, FailsFor, IsOfSide, source_room, service_room, source_cause, hop_cause, outcome_by, outcome_of}
@@ -22,7 +22,7 @@ use Rattle.adapt_turn.specs.Rows.{may_step, TookBy, Advances, BytesOr}
 use Rattle.adapt_turn.specs.Stands.{IsChosen, Waited, WaitedBoth, Blamed, BlamedService, BlamedWriter}
 use Rattle.adapt_turn.specs.ByTurn.{OfWriter}
 use Rattle.adapt_turn.specs.Made.{MakesAt, MakesNoneAt, adapted_of, answers_user, response_of, wire_of}
-use Rattle.adapt_turn.specs.declared.start.Line.{Line}
+use Rattle.adapt_turn.specs.declared.ends.Line.{Line}
 
 -- the source's numbers aren't those of the history: it is no message of this transaction, which fails, and nothing is read
 pub record Disagrees {S H W : Type 0} (s : Source S H) (old new : Lent S W) (passed : Passed) : Type 0 where

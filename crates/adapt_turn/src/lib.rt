@@ -1,17 +1,17 @@
 //! One transaction, a bounded IO step at a time.
 #![tactic(auto)]
 
-mod forward;
+mod ends;
+mod head;
 mod pace;
-mod parts;
 mod pass;
-mod start;
+mod steps;
 mod turned;
 mod tx;
 
-pub use forward::Forward;
+pub use ends::{EndTypes, Ends, FreeLine, Line, Parts, Start};
+pub use head::MakesHead;
 pub use pace::Pace;
-pub use parts::Passed;
-pub use start::{FreeLine, Line, Parts, Start};
+pub use steps::Passed;
 pub use turned::{Outcome, Side, Turned};
 pub use tx::{Answering, Going, Refusing, Standing, Tx};

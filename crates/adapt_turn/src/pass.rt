@@ -6,7 +6,7 @@ pub(crate) mod hop;
 pub(crate) mod service;
 pub(crate) mod source;
 
-use crate::parts::Passed;
+use crate::steps::Passed;
 
 /// A pass that did nothing.
 pub(crate) fn idle() -> Passed

@@ -22,9 +22,8 @@ mod refusals;
 mod retries;
 mod turns;
 
-use crate::forward::Forward;
+use crate::ends::{EndTypes, Ends, Parts, Start};
 use crate::pace::Pace;
-use crate::start::{Line, Parts, Start};
 use crate::turned::Outcome;
 use adapt_hold::Hold;
 use adapt_sides::{Hop, Service, Source};
@@ -78,156 +77,103 @@ pub trait Refusing {
 /// assert_eq!(rt; tx.turn(rt, &bank, Side::Source, 103), Turned::Finished(Outcome::Done));
 /// ```
 #[must_use]
-pub struct Tx<
-    B: Ledgers,
-    S: Source,
-    V: Service,
-    K: Hop,
-    F: Forward<S, K>,
-    A: Wire,
-    W: Wire,
-    C: Wire,
-> {
+pub struct Tx<B: Ledgers, E: EndTypes> {
     alloc: Global,
     hold: Hold<B>,
-    source: S,
-    source_wire: A,
-    service: Option<Line<V, W>>,
-    next: K,
-    next_wire: C,
-    back: K,
-    forward: F,
+    ends: Ends<E>,
     pace: Pace,
     refusing: bool,
     outcome: Outcome,
     ghost roomy: { IsRoomy hold },
     // a refusal that is due goes to the user of a closed transaction
-    ghost owed: { refusing ≡ true → ((shows hold.history).closed ≡ true) × IsDue (user_gift hold.history.plan.point (K.gift next) (K.gift back)) (user_fault hold.history.plan.point (K.fault next) (K.fault back)) },
+    ghost owed: { refusing ≡ true → ((shows hold.history).closed ≡ true) × IsDue (user_gift hold.history.plan.point (E.Writer.gift ends.next) (E.Writer.gift ends.back)) (user_fault hold.history.plan.point (E.Writer.fault ends.next) (E.Writer.fault ends.back)) },
     // how it ended is what its history says
     pub ghost told: { outcome ≡ outcome_of hold.history.events },
 }
 
-impl<
-    B: Ledgers,
-    S: Source,
-    V: Service,
-    K: Hop,
-    F: Forward<S, K>,
-    A: Wire,
-    W: Wire,
-    C: Wire,
-> Standing for Tx<B, S, V, K, F, A, W, C> {
+impl<B: Ledgers, E: EndTypes> Standing for Tx<B, E> {
     ghost use Rattle.std.specs.Prelude.{◌≡◌, [], MatchOption};
     ghost use Rattle.trace_core.specs.declared.history.Seen.{Seen};
     ghost use Rattle.adapt_turn.specs.Stands.{Stands, HopsAre, IsRefusing, IsDelivered};
     ghost use Rattle.adapt_turn.specs.Made.{IsMade, OfHead, WholeOf, adapted_of, response_of};
 
     ghost stands = { λ tx request t.
-        let made : K → Seen → List ℕ → Type 0 = λ hop x head. IsMade (F.makes tx.forward (S.head tx.source)) (adapted_of V.adapted_head tx.service) (response_of V.is_response tx.service) (K.body_framing hop) x head in
-        Stands tx.hold (λ x. S.agrees x tx.source) (λ x body read. S.has_read x body read tx.source)
-        (λ heads x came taken. MatchOption tx.service (taken ≡ []) (λ line. V.has_sent heads x came taken line.side))
-        (λ x adapted read. MatchOption tx.service ((adapted ≡ []) × (read ≡ [])) (λ line. V.has_heard x adapted read line.side))
-        (HopsAre (K.gift tx.next) (K.gift tx.back) (OfHead (made tx.next) (λ x head body taken. K.has_given x head body taken tx.next)) (λ taken. K.aside taken tx.next)
-        (OfHead (made tx.back) (λ x head body taken. K.has_given x head body taken tx.back)) (λ taken. K.aside taken tx.back))
-        (IsRefusing tx.refusing (K.gift tx.next) (K.gift tx.back))
-        (IsDelivered tx.refusing (K.gift tx.next) (K.gift tx.back) (WholeOf (made tx.next (shows tx.hold.history)) (λ head body taken. K.is_whole head body taken tx.next)) (λ taken. K.aside taken tx.next)
-        (WholeOf (made tx.back (shows tx.hold.history)) (λ head body taken. K.is_whole head body taken tx.back)) (λ taken. K.aside taken tx.back)) request t };
+        let made : E.Writer → Seen → List ℕ → Type 0 = λ hop x head. IsMade (E.Maker.makes tx.ends.maker (E.Reader.head tx.ends.source)) (adapted_of E.Client.adapted_head tx.ends.service) (response_of E.Client.is_response tx.ends.service) (E.Writer.body_framing hop) x head in
+        Stands tx.hold (λ x. E.Reader.agrees x tx.ends.source) (λ x body read. E.Reader.has_read x body read tx.ends.source)
+        (λ heads x came taken. MatchOption tx.ends.service (taken ≡ []) (λ line. E.Client.has_sent heads x came taken line.side))
+        (λ x adapted read. MatchOption tx.ends.service ((adapted ≡ []) × (read ≡ [])) (λ line. E.Client.has_heard x adapted read line.side))
+        (HopsAre (E.Writer.gift tx.ends.next) (E.Writer.gift tx.ends.back) (OfHead (made tx.ends.next) (λ x head body taken. E.Writer.has_given x head body taken tx.ends.next)) (λ taken. E.Writer.aside taken tx.ends.next)
+        (OfHead (made tx.ends.back) (λ x head body taken. E.Writer.has_given x head body taken tx.ends.back)) (λ taken. E.Writer.aside taken tx.ends.back))
+        (IsRefusing tx.refusing (E.Writer.gift tx.ends.next) (E.Writer.gift tx.ends.back))
+        (IsDelivered tx.refusing (E.Writer.gift tx.ends.next) (E.Writer.gift tx.ends.back) (WholeOf (made tx.ends.next (shows tx.hold.history)) (λ head body taken. E.Writer.is_whole head body taken tx.ends.next)) (λ taken. E.Writer.aside taken tx.ends.next)
+        (WholeOf (made tx.ends.back (shows tx.hold.history)) (λ head body taken. E.Writer.is_whole head body taken tx.ends.back)) (λ taken. E.Writer.aside taken tx.ends.back)) request t };
 }
 
-impl<B: Ledgers, S: Source, V: Service, K: Hop, F: Forward<S, K>, A: Wire, W: Wire, C: Wire> Going
-    for Tx<B, S, V, K, F, A, W, C> {
+impl<B: Ledgers, E: EndTypes> Going for Tx<B, E> {
     ghost use Rattle.std.specs.Prelude.{◌≡◌};
     ghost use Rattle.adapt_turn.specs.Stands.{Goes};
     ghost use Rattle.adapt_turn.specs.Made.{on_held};
     ghost use Rattle.adapt_turn.specs.Moved.{SumsBytes, MovesOver};
 
-    ghost goes = { λ old new. Goes (⟦<Tx<B, S, V, K, F, A, W, C> as Standing>⟧.stands old) (⟦<Tx<B, S, V, K, F, A, W, C> as Standing>⟧.stands new)
-        (A.past old.source_wire) (A.past new.source_wire)
-        (λ p. on_held old.service ⊥ (λ wire. W.past wire p)) (λ p. on_held new.service ⊥ (λ wire. W.past wire p))
-        (C.past old.next_wire) (C.past new.next_wire) };
+    ghost goes = { λ old new. Goes (⟦<Tx<B, E> as Standing>⟧.stands old) (⟦<Tx<B, E> as Standing>⟧.stands new)
+        (E.SourceWire.past old.ends.source_wire) (E.SourceWire.past new.ends.source_wire)
+        (λ p. on_held old.ends.service ⊥ (λ wire. E.ServiceWire.past wire p)) (λ p. on_held new.ends.service ⊥ (λ wire. E.ServiceWire.past wire p))
+        (E.NextWire.past old.ends.next_wire) (E.NextWire.past new.ends.next_wire) };
 
-    ghost moves = { λ old new n. SumsBytes (MovesOver (A.past old.source_wire) (A.past new.source_wire))
-        (λ k. on_held old.service (k ≡ 0) (λ wire. MovesOver (W.past wire) (λ p. on_held new.service ⊥ (λ later. W.past later p)) k))
-        (MovesOver (C.past old.next_wire) (C.past new.next_wire)) n };
+    ghost moves = { λ old new n. SumsBytes (MovesOver (E.SourceWire.past old.ends.source_wire) (E.SourceWire.past new.ends.source_wire))
+        (λ k. on_held old.ends.service (k ≡ 0) (λ wire. MovesOver (E.ServiceWire.past wire) (λ p. on_held new.ends.service ⊥ (λ later. E.ServiceWire.past later p)) k))
+        (MovesOver (E.NextWire.past old.ends.next_wire) (E.NextWire.past new.ends.next_wire)) n };
 }
 
-impl<
-    B: Ledgers,
-    S: Source,
-    V: Service,
-    K: Hop,
-    F: Forward<S, K>,
-    A: Wire,
-    W: Wire,
-    C: Wire,
-> Refusing for Tx<B, S, V, K, F, A, W, C> {
+impl<B: Ledgers, E: EndTypes> Refusing for Tx<B, E> {
     ghost use Rattle.std.specs.Prelude.{◌≡◌};
     ghost use Rattle.trace_core.specs.declared.history.Point.TheVariants.{Reqmod, Respmod};
     ghost use Rattle.adapt_turn.specs.Refusals.{refusal_status, user_untouched, HasRefusal, IsOver};
     ghost use Rattle.adapt_turn.specs.Rows.{BytesOr};
     ghost use Rattle.adapt_turn.specs.Stands.{Waited, user_gift};
 
-    ghost refuses = { λ tx cause. HasRefusal (refusal_status cause tx.hold.history.plan.point) tx.refusing (user_gift tx.hold.history.plan.point (K.gift tx.next) (K.gift tx.back))
-        (user_untouched tx.hold.history.plan.point (K.untouched tx.next) (K.untouched tx.back)) };
+    ghost refuses = { λ tx cause. HasRefusal (refusal_status cause tx.hold.history.plan.point) tx.refusing (user_gift tx.hold.history.plan.point (E.Writer.gift tx.ends.next) (E.Writer.gift tx.ends.back))
+        (user_untouched tx.hold.history.plan.point (E.Writer.untouched tx.ends.next) (E.Writer.untouched tx.ends.back)) };
 
-    ghost refusal_waits = { λ old new. (old.hold.history.plan.point ≡ Respmod → Waited (K.rests (shows old.hold.history) new.next) (λ past. past.write_waits) (C.past old.next_wire) (C.past new.next_wire))
-        × (old.hold.history.plan.point ≡ Reqmod → Waited (K.rests (shows old.hold.history) new.back) (λ past. past.write_waits) (A.past old.source_wire) (A.past new.source_wire)) };
+    ghost refusal_waits = { λ old new. (old.hold.history.plan.point ≡ Respmod → Waited (E.Writer.rests (shows old.hold.history) new.ends.next) (λ past. past.write_waits) (E.NextWire.past old.ends.next_wire) (E.NextWire.past new.ends.next_wire))
+        × (old.hold.history.plan.point ≡ Reqmod → Waited (E.Writer.rests (shows old.hold.history) new.ends.back) (λ past. past.write_waits) (E.SourceWire.past old.ends.source_wire) (E.SourceWire.past new.ends.source_wire)) };
 
-    ghost refusal_moves = { λ old new. (old.hold.history.plan.point ≡ Respmod → BytesOr ⊥ (C.past old.next_wire) (C.past new.next_wire))
-        × (old.hold.history.plan.point ≡ Reqmod → BytesOr ⊥ (A.past old.source_wire) (A.past new.source_wire)) };
+    ghost refusal_moves = { λ old new. (old.hold.history.plan.point ≡ Respmod → BytesOr ⊥ (E.NextWire.past old.ends.next_wire) (E.NextWire.past new.ends.next_wire))
+        × (old.hold.history.plan.point ≡ Reqmod → BytesOr ⊥ (E.SourceWire.past old.ends.source_wire) (E.SourceWire.past new.ends.source_wire)) };
 
-    ghost refusal_is_over = { λ tx. (tx.hold.history.plan.point ≡ Respmod → IsOver (K.is_out tx.next) (K.fault tx.next))
-        × (tx.hold.history.plan.point ≡ Reqmod → IsOver (K.is_out tx.back) (K.fault tx.back)) };
+    ghost refusal_is_over = { λ tx. (tx.hold.history.plan.point ≡ Respmod → IsOver (E.Writer.is_out tx.ends.next) (E.Writer.fault tx.ends.next))
+        × (tx.hold.history.plan.point ≡ Reqmod → IsOver (E.Writer.is_out tx.ends.back) (E.Writer.fault tx.ends.back)) };
 }
 
-impl<B: Ledgers, S: Source, V: Service, K: Hop, F: Forward<S, K>, A: Wire, W: Wire, C: Wire> Tx<
-    B,
-    S,
-    V,
-    K,
-    F,
-    A,
-    W,
-    C,
-> {
+impl<B: Ledgers, E: EndTypes> Tx<B, E> {
     /// A transaction before its first event. It hands everything back where the source's side isn't at the beginning of a body of
     /// this plan.
-    pub fn new(
-        alloc: Global,
-        start: Start<B, S, V, K, F, A, W, C>,
-    ) -> Result<Tx<B, S, V, K, F, A, W, C>, Start<B, S, V, K, F, A, W, C>>
+    pub fn new(alloc: Global, start: Start<B, E>) -> Result<Tx<B, E>, Start<B, E>>
         requires empty { (start.stake.held ≡ 0) × (start.stake.pages ≡ 0) }
         requires claim { start.stake.claim ≡ claim_of start.plan start.limits.window }
         requires small { start.stake.claim ≤ MAX_CAPACITY }
-        ensures accepts { IsOk result ↔ S.may_begin start.plan start.source }
+        ensures accepts { IsOk result ↔ E.Reader.may_begin start.plan start.ends.source }
         ensures begun { IfOk result (λ tx. tx.hold.history ≡ record { plan = start.plan; events = [] }) }
         ensures holds { IfOk result (λ tx. (tx.hold.limits ≡ start.limits) × (tx.hold.claim ≡ start.stake.claim) × (tx.hold.held ≡ 0)) }
         ensures clock { IfOk result (λ tx. (tx.pace.last_moved ≡ start.now) × (tx.pace.deadline ≡ start.deadline)) }
         ensures line { IfOk result (λ tx. (tx.pace.broken ≡ false) × (tx.pace.reused ≡ start.reused)) }
-        ensures stands { IfOk result (λ tx. (read : Given) (request : List ℕ) → S.has_read (seen start.plan []) [] read start.source
-            → IfSome start.service (λ line. V.has_sent request (seen start.plan []) [] [] line.side × V.has_heard (seen start.plan []) [] [] line.side)
-            → K.gift start.next ≡ nothing → K.aside [] start.next → K.gift start.back ≡ nothing → K.aside [] start.back
+        ensures stands { IfOk result (λ tx. (read : Given) (request : List ℕ) → E.Reader.has_read (seen start.plan []) [] read start.ends.source
+            → IfSome start.ends.service (λ line. E.Client.has_sent request (seen start.plan []) [] [] line.side × E.Client.has_heard (seen start.plan []) [] [] line.side)
+            → E.Writer.gift start.ends.next ≡ nothing → E.Writer.aside [] start.ends.next → E.Writer.gift start.ends.back ≡ nothing → E.Writer.aside [] start.ends.back
             → ⟦<Self as Standing>⟧.stands tx request (record no_texts { source_read = read })) }
-        ensures fields { IfOk result (λ tx. (tx.source ≡ start.source) × (tx.source_wire ≡ start.source_wire) × (tx.service ≡ start.service) × (tx.next ≡ start.next) × (tx.next_wire ≡ start.next_wire)
-            × (tx.back ≡ start.back) × (tx.forward ≡ start.forward)) }
-        ensures faultless { IfOk result (λ tx. S.fault start.source ≡ None → fault_of (λ line. V.fault line.side) start.service ≡ None → K.fault start.next ≡ None → K.fault start.back ≡ None
+        ensures ends { IfOk result (λ tx. tx.ends ≡ start.ends) }
+        ensures faultless { IfOk result (λ tx. E.Reader.fault start.ends.source ≡ None → fault_of (λ line. E.Client.fault line.side) start.ends.service ≡ None → E.Writer.fault start.ends.next ≡ None → E.Writer.fault start.ends.back ≡ None
             → ⟦<Self as Answering>⟧.faultless tx) }
         ensures back { IfErr result (λ back. back ≡ start) }
     {
-        if !start.source.begins(&start.plan) {
+        if !start.ends.source.begins(&start.plan) {
             return Err(start);
         }
         let Start {
             plan,
             limits,
             stake,
-            source,
-            source_wire,
-            service,
-            next,
-            next_wire,
-            back,
-            forward,
+            ends,
             deadline,
             now,
             reused,
@@ -235,13 +181,7 @@ impl<B: Ledgers, S: Source, V: Service, K: Hop, F: Forward<S, K>, A: Wire, W: Wi
         Ok(Tx {
             alloc,
             hold: begin_hold(plan, limits, stake),
-            source,
-            source_wire,
-            service,
-            next,
-            next_wire,
-            back,
-            forward,
+            ends,
             pace: Pace {
                 deadline,
                 last_moved: now,
@@ -281,13 +221,12 @@ impl<B: Ledgers, S: Source, V: Service, K: Hop, F: Forward<S, K>, A: Wire, W: Wi
     }
 
     /// What is left of a transaction that is closed; one that isn't comes back whole.
-    pub fn into_parts(self) -> Result<Parts<B, S, V, K, F, A, W, C>, Tx<B, S, V, K, F, A, W, C>>
+    pub fn into_parts(self) -> Result<Parts<B, E>, Tx<B, E>>
         ensures closed { IsOk result ↔ ((shows self.hold.history).closed ≡ true) }
         ensures outcome { IfOk result (λ parts. parts.outcome ≡ self.outcome) }
         ensures stake { IfOk result (λ parts. (parts.stake.held ≡ 0) × (parts.stake.pages ≡ 0) × (parts.stake.claim ≡ self.hold.claim)) }
         ensures seen { IfOk result (λ parts. parts.seen ≡ shows self.hold.history) }
-        ensures fields { IfOk result (λ parts. (parts.source ≡ self.source) × (parts.source_wire ≡ self.source_wire) × (parts.service ≡ self.service) × (parts.next ≡ self.next) × (parts.next_wire ≡ self.next_wire)
-            × (parts.back ≡ self.back) × (parts.forward ≡ self.forward)) }
+        ensures ends { IfOk result (λ parts. parts.ends ≡ self.ends) }
         ensures back { IfErr result (λ tx. tx ≡ self) }
     {
         if !self.is_closed() {
@@ -297,26 +236,14 @@ impl<B: Ledgers, S: Source, V: Service, K: Hop, F: Forward<S, K>, A: Wire, W: Wi
         let Tx {
             alloc: _,
             hold,
-            source,
-            source_wire,
-            service,
-            next,
-            next_wire,
-            back,
-            forward,
+            ends,
             pace: _,
             refusing: _,
             outcome,
         } = self;
         Ok(Parts {
             stake: hold.into_stake(),
-            source,
-            source_wire,
-            service,
-            next,
-            next_wire,
-            back,
-            forward,
+            ends,
             outcome,
             seen,
         })

@@ -73,7 +73,12 @@ impl Work for Echo {
         take_in(self, registry, user).ok()
     }
 
-    fn make_room<R: Wait + Clock>(&mut self, _rt: &R, _millis: u64) -> bool {
+    fn make_room<R: Wait + Dial + Clock>(
+        &mut self,
+        _rt: &R,
+        _registry: &Registry,
+        _millis: u64,
+    ) -> bool {
         for key in 0..self.bound() {
             if self.all.try_remove(key).is_some() {
                 return true;

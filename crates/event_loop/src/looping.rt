@@ -264,7 +264,7 @@ impl<K: Work> EventLoop<K> {
         self.hear_on(rt, inboxes);
         self.look();
         let woken = self.serve_seen(rt, alloc, number, inboxes)?;
-        if woken && inboxes[number].take_crowded() && self.work.make_room(rt, self.elapsed) {
+        if woken && inboxes[number].take_crowded() && self.make_room(rt) {
             inboxes[0].wake();
         }
         if woken {
@@ -277,6 +277,12 @@ impl<K: Work> EventLoop<K> {
         }
         self.work.turn_over(rt);
         Ok(())
+    }
+
+    /// Has its work make room for another user. False where there is none to be made.
+    fn make_room<R: Wait + Dial + Clock>(&mut self, rt: &R) -> bool {
+        let millis = self.elapsed;
+        self.work.make_room(rt, self.poll.registry(), millis)
     }
 
     /// Notes the events down, as plain words.

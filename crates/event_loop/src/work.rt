@@ -47,7 +47,12 @@ pub trait Work {
 
     /// Closes idle connections, or that of the user that can best be spared, so that another one has room. False if there is no
     /// such connection.
-    fn make_room<R: Wait + Clock>(&mut self, rt: &R, millis: u64) -> bool;
+    fn make_room<R: Wait + Dial + Clock>(
+        &mut self,
+        rt: &R,
+        registry: &Registry,
+        millis: u64,
+    ) -> bool;
 
     /// Takes note of an event of a connection. False if it says nothing new, so that the exchange needn't be driven.
     fn note(&mut self, key: usize, side: Side, told: Told) -> bool;

@@ -1,12 +1,13 @@
 -- What comes of doing what is due may come.
-use Rattle.std.proofs.Common.{◌≡◌, true, List, subst, arith}
+use Rattle.std.proofs.Common.{◌≡◌, ◌||◌, true, false, List, subst, arith}
 use Rattle.std.proofs.lemmas.Bool.Decides.{nat_tests}
 use Rattle.exchange_core.specs.declared.event.Event.{Event}
 use Rattle.exchange_core.specs.declared.event.Event.TheVariants.{HeadBegun, RequestRead, ResponseRead, Stale, Queued, Lent, Asked, Learned, Planned, Reserved, HalfTold, Stuck, Told, Dialed, Started, LetPass, Renewed, Served, Begun, Sent, Answered, Failed, Returned, Released, HungUp, Refused, UserClosed, UserLost, Dropped, Late, Drain, Stop, Tried}
-use Rattle.exchange_core.specs.declared.due.Due.TheVariants.{Start, Turn, ReadResponse}
+use Rattle.exchange_core.specs.declared.due.Due.TheVariants.{Await, Start, Turn, ReadResponse}
+use Rattle.exchange_core.specs.declared.event.Why.{Why}
 use Rattle.exchange_core.specs.declared.course.Course.{Course}
-use Rattle.exchange_core.specs.May.{may_come}
-use Rattle.exchange_core.specs.Dues.{due_of, comes_of, fits, is_wait}
+use Rattle.exchange_core.specs.May.{is_refusing, is_gone, may_come, is_free}
+use Rattle.exchange_core.specs.Dues.{due_of, comes_of, fits, is_wait, is_for_message, is_for_user, is_for_leave}
 use Rattle.exchange_core.specs.Log.{course_of, IsLegal, IsReached}
 use Rattle.exchange_core.proofs.Sound.{Sound, sound}
 use Rattle.exchange_core.proofs.Going.{waits_late}
@@ -75,5 +76,35 @@ starts_there c r d = starts_at c (sound_there c r) d
 pub turns_there : (c : Course) → IsReached c → due_of c ≡ Turn → (c.stake ≡ true) × (c.origin ≡ true)
 turns_there c r d = turns_at c (sound_there c r) d
 
+pub fails_there : (c : Course) (why : Why) → is_for_message (due_of c) ≡ true → may_come c (Failed why) ≡ true
+fails_there c why d = grind (arith, nat_tests)
+
+serves_at : (c : Course) → Sound c → is_for_user (due_of c) ≡ true → c.stopping ≡ false
+serves_at c s d = grind (arith, nat_tests)
+
+loses_at : (c : Course) → Sound c → is_for_user (due_of c) ≡ true → may_come c UserLost ≡ true
+loses_at c s d = grind (arith, nat_tests)
+
+leaves_at : (c : Course) → Sound c → is_for_leave (due_of c) ≡ true → may_come c Dropped ≡ true
+leaves_at c s d = grind (arith, nat_tests)
+
+queues_at : (c : Course) → Sound c → due_of c ≡ Await → is_free c ≡ true
+queues_at c s d = grind (arith, nat_tests)
+
+pub queues_there : (c : Course) → IsReached c → due_of c ≡ Await → is_free c ≡ true
+queues_there c r d = queues_at c (sound_there c r) d
+
+pub serves_there : (c : Course) → IsReached c → is_for_user (due_of c) ≡ true → c.stopping ≡ false
+serves_there c r d = serves_at c (sound_there c r) d
+
+pub loses_there : (c : Course) → IsReached c → is_for_user (due_of c) ≡ true → may_come c UserLost ≡ true
+loses_there c r d = loses_at c (sound_there c r) d
+
+pub leaves_there : (c : Course) → IsReached c → is_for_leave (due_of c) ≡ true → may_come c Dropped ≡ true
+leaves_there c r d = leaves_at c (sound_there c r) d
+
 pub hears_there : (c : Course) → IsReached c → due_of c ≡ ReadResponse → c.origin ≡ true
 hears_there c r d = hears_at c (sound_there c r) d
+
+pub stops_there : (c : Course) → IsReached c → c.stopping ≡ true → (is_refusing c.place || is_gone c.place) ≡ true
+stops_there c r = (sound_there c r).stopped

@@ -1,4 +1,5 @@
 pub mod Reached
+pub mod Stepping
 pub mod Marks
 pub mod Counting
 pub mod Sound

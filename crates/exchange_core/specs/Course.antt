@@ -45,6 +45,11 @@ abbrev pub said : Connection → (usable : Bool) → Connection
 said (InUse reused) usable = if usable then Ready reused else Spent
 said connection usable = connection
 
+-- the service has said its options on it, and it may serve again or not: what serves again was used before
+abbrev pub learned : Connection → (usable : Bool) → Connection
+learned (InUse reused) usable = if usable then Ready true else Spent
+learned connection usable = connection
+
 -- a fresh one stands in its place
 abbrev pub renewed : Connection → Connection
 renewed (InUse reused) = InUse false
@@ -56,7 +61,7 @@ connection_after connection (Lent reused) = Ready reused
 connection_after connection (Returned kept) = Absent
 connection_after connection Asked = in_use connection
 connection_after connection LetPass = in_use connection
-connection_after connection (Learned usable) = said connection usable
+connection_after connection (Learned usable) = learned connection usable
 connection_after connection (Served usable) = said connection usable
 connection_after connection Renewed = renewed connection
 connection_after connection _ = connection

@@ -137,3 +137,34 @@ is_wait_for_user Tell = true
 is_wait_for_user (Refuse status) = true
 is_wait_for_user Linger = true
 is_wait_for_user _ = false
+
+-- it is due for a message, or for the head before it, which may go no further
+abbrev pub is_for_message : Due → Bool
+is_for_message ReadRequest = true
+is_for_message Plan = true
+is_for_message Lend = true
+is_for_message Await = true
+is_for_message Ask = true
+is_for_message Hear = true
+is_for_message Reserve = true
+is_for_message TryTell = true
+is_for_message Tell = true
+is_for_message Dial = true
+is_for_message Start = true
+is_for_message AskGate = true
+is_for_message Turn = true
+is_for_message ReadResponse = true
+is_for_message _ = false
+
+-- it is due for a user that may be lost meanwhile
+abbrev pub is_for_user : Due → Bool
+is_for_user (Refuse status) = true
+is_for_user Linger = true
+is_for_user due = is_for_message due
+
+-- it is due for a user whose connection may be closed at once
+abbrev pub is_for_leave : Due → Bool
+is_for_leave ReadRequest = true
+is_for_leave (Refuse status) = true
+is_for_leave Linger = true
+is_for_leave _ = false

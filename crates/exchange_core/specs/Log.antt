@@ -23,6 +23,20 @@ IsLegal (event ∷ before) = (may_come (course_of before) event ≡ true) × IsL
 abbrev pub IsReached : Course → Type 0
 IsReached c = (events : List Event) × IsLegal events × (course_of events ≡ c)
 
+-- where a list of events leads from a course
+abbrev pub led_from : Course → List Event → Course
+led_from c [] = c
+led_from c (event ∷ before) = after (led_from c before) event
+
+-- each event of a list may come after those before it, from that course on
+abbrev pub MayFollow : Course → List Event → Type 0
+MayFollow c [] = ⊤
+MayFollow c (event ∷ before) = (may_come (led_from c before) event ≡ true) × MayFollow c before
+
+-- some list of events, each of which may come, leads from the one course to the other
+abbrev pub Goes : Course → Course → Type 0
+Goes old new = (events : List Event) × MayFollow old events × (led_from old events ≡ new)
+
 -- Single events.
 
 abbrev pub one_if : Bool → ℕ

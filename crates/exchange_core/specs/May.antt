@@ -193,7 +193,7 @@ may_come c Told = may_tell c
 may_come c Dialed = is_provided c && (is_bidden c && (is_request (point_of c.place) && not c.origin))
 may_come c Started = is_provided c && (is_bidden c && c.origin)
 may_come c LetPass = is_at_gate c.place
--- a connection that was idle before may have been closed meanwhile: a fresh one takes its place, once
+-- a connection that was used before may have been closed meanwhile: a fresh one takes its place, once
 may_come c Renewed = is_in_use c.connection && (is_reused c.connection && (is_asking c.place || (is_moving c.place && not c.begun)))
 may_come c (Served usable) = is_moving c.place && is_in_use c.connection
 -- an answer is the origin's, or that of the service which was offered the request

@@ -1,14 +1,14 @@
 //! The connection to a service that an exchange has leased.
 
 ghost use Rattle.std.specs.Prelude.{◌≡◌};
-ghost use Rattle.exchange_core.specs.Course.{is_leased, is_ready, is_in_use, is_spent, is_reused, in_use, said, renewed};
+ghost use Rattle.exchange_core.specs.Course.{is_leased, is_ready, is_in_use, is_spent, is_reused, in_use, said, learned, renewed};
 
 /// The service's connection.
 #[derive(Clone, Copy, Debug, PartialEq, Eq)]
 pub enum Connection {
     /// None is leased.
     Absent,
-    /// One is leased, and nothing is under way on it. It may have been idle before.
+    /// One is leased, and nothing is under way on it. It may have been used before.
     Ready { reused: bool },
     /// A request is under way on it.
     InUse { reused: bool },
@@ -46,7 +46,7 @@ impl Connection {
         matches!(self, Connection::Spent)
     }
 
-    /// Whether it was idle before, so that its service may have closed it meanwhile.
+    /// Whether it was used before, so that its service may have closed it meanwhile.
     pub fn is_reused(self) -> bool
         ensures { result ≡ is_reused self }
     {
@@ -72,6 +72,17 @@ impl Connection {
     {
         match self {
             Connection::InUse { reused } if usable => Connection::Ready { reused },
+            Connection::InUse { .. } => Connection::Spent,
+            connection => connection,
+        }
+    }
+
+    /// Once the service has said its options: what serves again was used before.
+    pub(crate) fn learned(self, usable: bool) -> Connection
+        ensures { result ≡ learned self usable }
+    {
+        match self {
+            Connection::InUse { .. } if usable => Connection::Ready { reused: true },
             Connection::InUse { .. } => Connection::Spent,
             connection => connection,
         }

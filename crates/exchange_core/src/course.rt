@@ -154,7 +154,7 @@ impl Course {
             Event::Lent { reused } => course.connection = Connection::Ready { reused },
             Event::Asked | Event::LetPass => course.connection = self.connection.in_use(),
             Event::Learned { usable } => {
-                course.connection = self.connection.said(usable);
+                course.connection = self.connection.learned(usable);
                 course.asked = true;
             }
             Event::Reserved => course.stake = true,

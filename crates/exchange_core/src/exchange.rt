@@ -1,10 +1,10 @@
 //! One user's connection, from its first event to its last.
 
-ghost use Rattle.std.specs.Prelude.{◌≡◌, true, false};
+ghost use Rattle.std.specs.Prelude.{◌≡◌, ◌||◌, true, false};
 
 use crate::course::Course;
 use crate::due::Due;
-use crate::event::Event;
+use crate::event::{Event, Why};
 use std::marker::Model;
 
 /// One user's connection. To a contract it is its course, to which some legal log of events leads: so the laws hold of it.
@@ -36,12 +36,12 @@ impl Model for Exchange {
 }
 
 impl Exchange {
-    ghost use Rattle.exchange_core.specs.declared.event.Event.TheVariants.{Late};
-    ghost use Rattle.exchange_core.specs.declared.due.Due.TheVariants.{Start, Turn, ReadResponse};
+    ghost use Rattle.exchange_core.specs.declared.event.Event.TheVariants.{Failed, UserLost, Dropped, Late};
+    ghost use Rattle.exchange_core.specs.declared.due.Due.TheVariants.{Await, Start, Turn, ReadResponse};
     ghost use Rattle.exchange_core.specs.Course.{start, after};
-    ghost use Rattle.exchange_core.specs.May.{may_come};
-    ghost use Rattle.exchange_core.specs.Dues.{due_of, comes_of, fits, is_wait};
-    ghost use Rattle.exchange_core.specs.Log.{IsReached};
+    ghost use Rattle.exchange_core.specs.May.{may_come, is_free, is_refusing, is_gone};
+    ghost use Rattle.exchange_core.specs.Dues.{due_of, comes_of, fits, is_wait, is_for_message, is_for_user, is_for_leave};
+    ghost use Rattle.exchange_core.specs.Log.{IsReached, Goes};
 
     /// Before the first event: the head of the first request comes.
     pub fn begin() -> Exchange
@@ -62,7 +62,8 @@ impl Exchange {
     /// Takes an event that may come next.
     pub fn take(&mut self, event: Event)
         requires { may_come self.old event ≡ true }
-        ensures { self.new ≡ after self.old event }
+        ensures after { self.new ≡ after self.old event }
+        ensures goes { Goes self.old self.new }
     {
         self.course = self.course.after(event);
     }
@@ -71,7 +72,8 @@ impl Exchange {
     pub fn done(&mut self, event: Event)
         requires due { comes_of (due_of self.old) event ≡ true }
         requires fits { fits self.old event ≡ true }
-        ensures { self.new ≡ after self.old event }
+        ensures after { self.new ≡ after self.old event }
+        ensures goes { Goes self.old self.new }
     {
         self.course = self.course.after(event);
     }
@@ -79,15 +81,45 @@ impl Exchange {
     /// Takes a deadline, where what is due may have to wait.
     pub fn late(&mut self)
         requires { is_wait (due_of self.old) ≡ true }
-        ensures { self.new ≡ after self.old Late }
+        ensures after { self.new ≡ after self.old Late }
+        ensures goes { Goes self.old self.new }
     {
         self.course = self.course.after(Event::Late);
     }
 
-    /// What is due. A transaction starts and turns with a reservation and the origin's connection, and the origin is heard on
-    /// its connection.
+    /// Takes it that the message, or the head before it, goes no further.
+    pub fn failed(&mut self, why: Why)
+        requires { is_for_message (due_of self.old) ≡ true }
+        ensures after { self.new ≡ after self.old (Failed why) }
+        ensures goes { Goes self.old self.new }
+    {
+        self.course = self.course.after(Event::Failed(why));
+    }
+
+    /// Takes it that the user is lost, while something is due for it.
+    pub fn lost(&mut self)
+        requires { is_for_user (due_of self.old) ≡ true }
+        ensures after { self.new ≡ after self.old UserLost }
+        ensures goes { Goes self.old self.new }
+    {
+        self.course = self.course.after(Event::UserLost);
+    }
+
+    /// Takes it that the user's connection was closed at once, while no request of it is under way.
+    pub fn dropped(&mut self)
+        requires { is_for_leave (due_of self.old) ≡ true }
+        ensures after { self.new ≡ after self.old Dropped }
+        ensures goes { Goes self.old self.new }
+    {
+        self.course = self.course.after(Event::Dropped);
+    }
+
+    /// What is due. While that is for the user, the proxy doesn't stop. Who waits in the queue has no lease and no reservation. A
+    /// transaction starts and turns with a reservation and the origin's connection, and the origin is heard on its connection.
     pub fn due(&self) -> Due
         ensures due { result ≡ due_of self.now }
+        ensures serves { is_for_user result ≡ true → self.now.stopping ≡ false }
+        ensures queues { result ≡ Await → is_free self.now ≡ true }
         ensures starts { result ≡ Start → (self.now.stake ≡ true) × (self.now.origin ≡ true) }
         ensures turns { result ≡ Turn → (self.now.stake ≡ true) × (self.now.origin ≡ true) }
         ensures hears { result ≡ ReadResponse → self.now.origin ≡ true }
@@ -95,10 +127,11 @@ impl Exchange {
         self.course.due()
     }
 
-    /// Where it stands.
+    /// Where it stands. Once the proxy stops, a refusal may be tried, and what is held goes back.
     pub fn course(&self) -> Course
         ensures same { result ≡ self.now }
         ensures reached { IsReached result }
+        ensures stops { result.stopping ≡ true → (is_refusing result.place || is_gone result.place) ≡ true }
     {
         self.course
     }

@@ -1,6 +1,6 @@
 //! The service's end of one transaction: both halves.
 
-ghost use Rattle.std.specs.Prelude.{option_copied, ◌≡◌, ℕ, List, ◌+◌, ◌≤◌, ◌++◌, ◌∷◌, ◌↔◌, IsTrue, IfSome, IfOk, IfErr, OnOk, Err, true, false, Some, None, ◌⊎◌, [], length, ◌<◌, MatchOption};
+ghost use Rattle.std.specs.Prelude.{option_copied, ◌≡◌, ℕ, List, ◌+◌, ◌≤◌, ◌++◌, ◌∷◌, ◌↔◌, IsTrue, IfSome, IfOk, Err, true, false, Some, None, ◌⊎◌, [], length, ◌<◌, MatchOption};
 ghost use Rattle.adapt_bytes.specs.declared.limits.TheConstants.{COUNT_LIMIT, MAX_HEAD};
 ghost use Rattle.trace_core.specs.declared.history.Seen.{Seen};
 ghost use Rattle.trace_core.specs.History.{seen};
@@ -244,15 +244,14 @@ impl ServiceSide {
         ensures room { self.new.replies.room ≡ self.old.replies.room }
         ensures answered { self.new.answered ≡ self.old.answered }
 
-        // One write at most, and what each answer of it means.
+        // One write at most, and what each answer of it means. A turn that goes well leaves no fault, and one that fails keeps its
+        // fault (the `fault` of `Sends`).
         ensures turn { self.old.replies.fault ≡ None → WriteTurn (seen state.now.plan state.now.events) tape.now self.old.writer self.new.writer (W.past wire.old) (W.past wire.new) result }
         ensures sends { Sends (seen state.now.plan state.now.events) tape.now
             (λ head x came taken. ServiceSent head x came taken self.old) (λ head x came taken. ServiceSent head x came taken self.new)
             self.old.replies.fault self.new.replies.fault (NothingDue (seen state.now.plan state.now.events) self.new.writer) (W.past wire.old) (W.past wire.new) result }
 
-        // A turn that goes well leaves no fault. One that fails keeps its fault, and the wire isn't touched again.
-        ensures sound { OnOk result (self.new.replies.fault ≡ None) }
-        ensures stays { IfErr result (λ fault. self.new.replies.fault ≡ Some fault) }
+        // Where it keeps a fault the wire isn't touched again.
         ensures untouched { IfSome self.old.replies.fault (λ fault. (p : Past) → W.past wire.old p → W.past wire.new p) }
 
         // The heads' text is kept as long as the request may begin anew; once it may not, what is out is let go. No other text
@@ -289,15 +288,14 @@ impl ServiceSide {
         ensures answered { IfOk result (λ turn. self.new.answered ≡ is_answered (after_all (seen state.now.plan state.now.events) turn.events.items)) }
         ensures head { KeepsHead (seen state.now.plan state.now.events) self.old.replies.reader self.new.replies.reader }
 
-        // What the wire gave, what was framed, and why bytes are refused.
+        // What the wire gave, what was framed, and why bytes are refused. A turn that goes well leaves no fault, and one that fails
+        // keeps its fault (the `fault` of `Hears`).
         ensures turn { self.old.replies.fault ≡ None → ReadTurn (seen state.now.plan state.now.events) (is_flushed self.old.writer) (length out.old) self.old.replies self.new.replies (W.past wire.old) (W.past wire.new) out.new result }
         ensures hears { Hears (seen state.now.plan state.now.events)
             (λ x adapted read. ServiceHeard x adapted read self.old) (λ x adapted read. ServiceHeard x adapted read self.new)
             self.old.replies.fault self.new.replies.fault (RestsReading (seen state.now.plan state.now.events) (length out.old) self.new) (HasFramed (length out.old) self.new) (W.past wire.old) (W.past wire.new) out.new result }
 
-        // A turn that goes well leaves no fault. One that fails keeps its fault, and the wire isn't touched again.
-        ensures sound { OnOk result (self.new.replies.fault ≡ None) }
-        ensures stays { IfErr result (λ fault. self.new.replies.fault ≡ Some fault) }
+        // Where it keeps a fault the wire isn't touched again.
         ensures untouched { IfSome self.old.replies.fault (λ fault. (p : Past) → W.past wire.old p → W.past wire.new p) }
 
         // No empty room is kept.

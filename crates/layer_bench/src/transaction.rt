@@ -5,7 +5,7 @@ ghost use Rattle.adapt_bytes.specs.declared.limits.TheConstants.{MAX_CAPACITY};
 ghost use Rattle.plan_rules.specs.Claims.{claim_of};
 
 use crate::offered::{REQUEST, RESPONSE, offer};
-use adapt_turn::{Line, Outcome, Parts};
+use adapt_turn::{Ends, Line, Outcome, Parts};
 use http_relay::{RelayFault, SourceSide};
 use plan_rules::{Limits, claim};
 use proxy_rules::{Beginning, Incoming, Offer, Running};
@@ -27,7 +27,7 @@ const BEGIN: u64 = 100;
 pub type Counted = CountedWire<MemoryWire>;
 
 /// A transaction over wires in memory, the source's being one of these.
-pub type Moving<B, A> = Running<B, A, Counted, Counted>;
+pub type Moving<B, A> = Running<B, (A, Counted, Counted)>;
 
 /// The wires of a transaction.
 #[derive(Drop)]
@@ -181,7 +181,7 @@ fn beginning<B: Ledgers, A: Wire + Drop>(
     sides: Sides,
     limits: Limits,
     stake: Stake<B>,
-) -> Beginning<B, A, Counted, Counted>
+) -> Beginning<B, (A, Counted, Counted)>
     ensures { (result.offer ≡ sides.offer) × (result.limits ≡ limits) × (result.stake ≡ stake) }
 {
     let Sides { message, offer } = sides;
@@ -209,7 +209,7 @@ fn beginning<B: Ledgers, A: Wire + Drop>(
 fn undo<B: Ledgers, A: Wire + Drop>(
     rt: &impl Wait,
     bank: &Bank<B>,
-    beginning: Beginning<B, A, Counted, Counted>,
+    beginning: Beginning<B, (A, Counted, Counted)>,
 )
     requires { (beginning.stake.held ≡ 0) × (beginning.stake.pages ≡ 0) }
 {
@@ -241,17 +241,20 @@ pub fn end<B: Ledgers, A: Wire + Drop>(
         Ok(parts) => {
             let Parts {
                 stake,
+                ends,
+                outcome,
+                seen: _,
+            } = parts;
+            bank.close(rt, stake, Pages::none());
+            let Ends {
                 source: _,
                 source_wire,
                 service,
                 next: _,
                 next_wire,
                 back: _,
-                forward: _,
-                outcome,
-                seen: _,
-            } = parts;
-            bank.close(rt, stake, Pages::none());
+                maker: _,
+            } = ends;
             Ended {
                 outcome,
                 source: source_wire,

@@ -11,7 +11,7 @@ use Rattle.http_relay.specs.declared.side.Asks.TheVariants as asks
 use Rattle.http_relay.specs.declared.side.SourceHead.{SourceHead}
 use Rattle.http_relay.specs.declared.side.SourceHead.TheVariants as heads
 use Rattle.http_relay.specs.declared.side.SourceSide.{SourceSide}
-use Rattle.http_relay.specs.Reading.{AtHead, Begins, HeadTurn, IsHeadText, ScannedTo}
+use Rattle.http_relay.specs.Reading.{Begins, HeadTurn, IsHeadText, ScannedTo}
 use Rattle.proxy_rules.specs.Arrivals.{Arrives, HasCome}
 
 some_plan : Plan

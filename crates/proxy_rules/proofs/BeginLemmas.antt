@@ -3,14 +3,14 @@ use Rattle.std.proofs.Common.{◌≡◌, ℕ, Bool, true, false, ◌&&◌, List,
 use Rattle.trace_core.specs.declared.history.Plan.{Plan}
 use Rattle.trace_core.specs.declared.history.Point.{Point}
 use Rattle.trace_core.specs.History.{seen, is_preview}
-use Rattle.chunk_writer.specs.Writer.{Writer, fresh}
+use Rattle.chunk_writer.specs.Writer.{Writer}
 use Rattle.icap_client.specs.Heard.{Reader}
 use Rattle.icap_client.specs.Laws.{first_reader}
 use Rattle.icap_client.specs.Sending.{HasSent}
 use Rattle.icap_client.specs.Turns.{Service, ServiceSent, ServiceHeard}
 use Rattle.icap_client.specs.OthersSent.{it_begins}
 use Rattle.icap_client.proofs.Both.{side_begins}
-use Rattle.adapt_turn.specs.declared.start.Line.{Line}
+use Rattle.adapt_turn.specs.declared.ends.Line.{Line}
 use Rattle.adapt_turn.specs.Parts.{fault_of}
 use Rattle.proxy_rules.specs.Offers.{IsUnused}
 

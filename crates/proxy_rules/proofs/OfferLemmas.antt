@@ -3,7 +3,7 @@ use Rattle.std.proofs.Common.{◌≡◌, ℕ, Bool, true, false, List, Option, S
 use Rattle.trace_core.specs.declared.history.Plan.{Plan}
 use Rattle.trace_core.specs.declared.history.Point.{Point}
 use Rattle.trace_core.specs.declared.history.Kind.{Kind}
-use Rattle.trace_core.specs.declared.history.Kind.TheVariants.{Plain, Whole, Preview}
+use Rattle.trace_core.specs.declared.history.Kind.TheVariants.{Whole, Preview}
 use Rattle.trace_core.specs.History.{is_plain, is_preview, is_null}
 use Rattle.options_book.specs.Options.{Options}
 use Rattle.options_book.specs.Transfer.{treat_of}
@@ -11,11 +11,10 @@ use Rattle.options_book.specs.declared.transfer.Treat.{Treat}
 use Rattle.options_book.specs.declared.transfer.Treat.TheVariants as treats
 use Rattle.plan_rules.specs.Offer.{kind_of}
 use Rattle.plan_rules.specs.declared.limits.Limits.{Limits}
-use Rattle.chunk_writer.specs.Writer.{Writer, fresh}
+use Rattle.chunk_writer.specs.Writer.{Writer}
 use Rattle.icap_client.specs.Turns.{Service}
-use Rattle.adapt_turn.specs.declared.start.Line.{Line}
 use Rattle.proxy_rules.specs.Plans.{IsPlanned}
-use Rattle.proxy_rules.specs.Offers.{Binds, IsOfPlan, IsUnused, previews_nothing, text_of}
+use Rattle.proxy_rules.specs.Offers.{Binds, IsUnused, previews_nothing, text_of}
 use Rattle.proxy_rules.specs.Beginnings.{line_with}
 
 by_length : (b : Bool) (n : ℕ) → (is_preview (if b then Whole else Preview n) && b) ≡ false

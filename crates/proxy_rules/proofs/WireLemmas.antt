@@ -13,7 +13,7 @@ use Rattle.adapt_sides.specs.Tapes.{chosen, chosen_delivered, chosen_received}
 use Rattle.adapt_sides.specs.Turns.Gift.{message, refusal as refused_by}
 use Rattle.adapt_hold.specs.Spans.{EndsBody}
 use Rattle.adapt_hold.specs.Holding.{Holding, IsTied, shows}
-use Rattle.adapt_turn.specs.declared.start.Line.{Line}
+use Rattle.adapt_turn.specs.declared.ends.Line.{Line}
 use Rattle.adapt_turn.specs.Stands.{HopsAre, IsDelivered, other_gift}
 use Rattle.icap_client.specs.Turns.{Service, ServiceSent}
 use Rattle.icap_client.proofs.Prefixes.{sent_is_front_legal}

@@ -1,7 +1,7 @@
 -- When a transaction of the proxy's own sides begins.
 use Rattle.std.specs.Prelude.{◌≡◌, [], Bool, Option, Some, None, is_some}
 use Rattle.trace_core.specs.History.{seen}
-use Rattle.adapt_turn.specs.declared.start.Line.{Line}
+use Rattle.adapt_turn.specs.declared.ends.Line.{Line}
 use Rattle.http_relay.specs.declared.side.SourceHead.TheVariants.{Unread}
 use Rattle.http_relay.specs.Source.{Agrees}
 use Rattle.icap_client.specs.Turns.{Service}

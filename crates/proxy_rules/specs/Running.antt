@@ -3,7 +3,7 @@ use Rattle.std.specs.Prelude.{◌≡◌, ℕ, Bool, true, false, not, List, [], 
 use Rattle.trace_core.specs.declared.history.Cause.{Cause}
 use Rattle.trace_core.specs.declared.history.Seen.{Seen}
 use Rattle.adapt_hold.specs.Holding.{Holding, shows}
-use Rattle.adapt_turn.specs.declared.start.Line.{Line}
+use Rattle.adapt_turn.specs.declared.ends.Line.{Line}
 use Rattle.adapt_turn.specs.declared.turned.Side.{Side}
 use Rattle.adapt_turn.specs.declared.turned.Outcome.{Outcome}
 use Rattle.adapt_turn.specs.declared.turned.Outcome.TheVariants.{Fail}

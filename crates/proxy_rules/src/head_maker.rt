@@ -8,7 +8,7 @@ ghost use Rattle.proxy_rules.specs.Heads.{Makes, MakesNone, Remembers, MakesOf, 
 use crate::onward::{
     Asked, Headed, adapted_request, adapted_response, request_onward, response_onward,
 };
-use adapt_turn::Forward;
+use adapt_turn::MakesHead;
 use http_relay::{NextHop, SourceHead, SourceSide};
 use http_side::{Framing, HttpRequest, Part};
 use std::alloc::Global;
@@ -173,7 +173,7 @@ fn chosen(
     }
 }
 
-impl Forward<SourceSide, NextHop> for HeadMaker {
+impl MakesHead<SourceSide, NextHop> for HeadMaker {
     ghost makes = { λ maker source x adapted is_response head framing. Remembers maker.last maker.user source x adapted is_response head framing maker.closes };
 
     ghost makes_none = { λ maker source x adapted is_response cause. MakesNone maker.user source x adapted is_response cause };

@@ -31,16 +31,16 @@ ghost use Rattle.proxy_rules.specs.Beginnings.{MayBegin};
 ghost use Rattle.proxy_rules.specs.Running.{TakesFrom};
 
 use crate::head_maker::HeadMaker;
+use crate::own_ends::{OwnEnds, Wires};
 use crate::running::Running;
 use crate::starting::{Beginning, begin};
 use adapt_sides::{Service, Source};
-use adapt_turn::{Answering, Forward, Refusing, Side, Standing, Tx};
+use adapt_turn::{Answering, MakesHead, Refusing, Side, Standing, Tx};
 use http_relay::{NextHop, SourceSide};
 use icap_client::ServiceSide;
 use span_bank::{Bank, Ledgers};
 use std::alloc::Global;
 use std::sync::Wait;
-use wire_kit::Wire;
 
 /// An answer's head says `close` exactly if the user's connection ends after it; a request's head says it always, for each
 /// exchange has an origin's connection of its own (RFC 9112, section 9.6).
@@ -65,37 +65,33 @@ pub fn a_missing_head_is_of_a_side()
 /// nothing of a message. Of the body just the bytes were taken that the history counts. The message's head, and how its body goes,
 /// were made of the heads that were read, at a moment of such a history. A refusal goes to the user alone. Once Done stands, the
 /// whole message was taken.
-pub fn the_wires_take_one_message<B: Ledgers, A: Wire, W: Wire, C: Wire>(
-    tx: &Tx<B, SourceSide, ServiceSide, NextHop, HeadMaker, A, W, C>,
-)
+pub fn the_wires_take_one_message<B: Ledgers, W: Wires>(tx: &Tx<B, OwnEnds<W>>)
     ensures tied { IsTied tx.now.hold }
-    ensures took { (request : List ℕ) (t : Texts) → ⟦<Tx<B, SourceSide, ServiceSide, NextHop, HeadMaker, A, W, C> as Standing>⟧.stands tx.now request t
-        → WiresTook (λ x body read. SideRead x body read.bytes read.ended tx.now.source)
-        (λ x adapted read. MatchOption tx.now.service ((adapted ≡ []) × (read ≡ [])) (λ line. ServiceHeard x adapted read line.side)) tx.now.service
-        (λ head. IsMade (⟦<HeadMaker as Forward<SourceSide, NextHop>>⟧.makes tx.now.forward (⟦<SourceSide as Source>⟧.head tx.now.source))
-        (adapted_of ⟦<ServiceSide as Service>⟧.adapted_head tx.now.service) (response_of ⟦<ServiceSide as Service>⟧.is_response tx.now.service) tx.now.next.framing (shows tx.now.hold.history) head)
-        (λ head. IsMade (⟦<HeadMaker as Forward<SourceSide, NextHop>>⟧.makes tx.now.forward (⟦<SourceSide as Source>⟧.head tx.now.source))
-        (adapted_of ⟦<ServiceSide as Service>⟧.adapted_head tx.now.service) (response_of ⟦<ServiceSide as Service>⟧.is_response tx.now.service) tx.now.back.framing (shows tx.now.hold.history) head)
-        tx.now.next.framing tx.now.back.framing tx.now.hold request t }
+    ensures took { (request : List ℕ) (t : Texts) → ⟦<Tx<B, OwnEnds<W>> as Standing>⟧.stands tx.now request t
+        → WiresTook (λ x body read. SideRead x body read.bytes read.ended tx.now.ends.source)
+        (λ x adapted read. MatchOption tx.now.ends.service ((adapted ≡ []) × (read ≡ [])) (λ line. ServiceHeard x adapted read line.side)) tx.now.ends.service
+        (λ head. IsMade (⟦<HeadMaker as MakesHead<SourceSide, NextHop>>⟧.makes tx.now.ends.maker (⟦<SourceSide as Source>⟧.head tx.now.ends.source))
+        (adapted_of ⟦<ServiceSide as Service>⟧.adapted_head tx.now.ends.service) (response_of ⟦<ServiceSide as Service>⟧.is_response tx.now.ends.service) tx.now.ends.next.framing (shows tx.now.hold.history) head)
+        (λ head. IsMade (⟦<HeadMaker as MakesHead<SourceSide, NextHop>>⟧.makes tx.now.ends.maker (⟦<SourceSide as Source>⟧.head tx.now.ends.source))
+        (adapted_of ⟦<ServiceSide as Service>⟧.adapted_head tx.now.ends.service) (response_of ⟦<ServiceSide as Service>⟧.is_response tx.now.ends.service) tx.now.ends.back.framing (shows tx.now.hold.history) head)
+        tx.now.ends.next.framing tx.now.ends.back.framing tx.now.hold request t }
 {
     let _ = tx.seen();
 }
 
 /// What [`the_wires_take_one_message`] says holds of a running transaction wherever it stands, for some request and some texts, and
 /// without a premise. Where it failed, the user's writer has the refusal of the cause's status, or a byte has gone out to the user.
-pub fn a_running_transaction_takes_one_message<B: Ledgers, A: Wire, W: Wire, C: Wire>(
-    running: &Running<B, A, W, C>,
-)
+pub fn a_running_transaction_takes_one_message<B: Ledgers, W: Wires>(running: &Running<B, W>)
     ensures took { ∥ ((request : List ℕ) × (t : Texts)
-        × WiresTook (λ x body read. SideRead x body read.bytes read.ended running.now.tx.source)
-        (λ x adapted read. MatchOption running.now.tx.service ((adapted ≡ []) × (read ≡ [])) (λ line. ServiceHeard x adapted read line.side)) running.now.tx.service
-        (λ head. IsMade (⟦<HeadMaker as Forward<SourceSide, NextHop>>⟧.makes running.now.tx.forward (⟦<SourceSide as Source>⟧.head running.now.tx.source))
-        (adapted_of ⟦<ServiceSide as Service>⟧.adapted_head running.now.tx.service) (response_of ⟦<ServiceSide as Service>⟧.is_response running.now.tx.service) running.now.tx.next.framing (shows running.now.tx.hold.history) head)
-        (λ head. IsMade (⟦<HeadMaker as Forward<SourceSide, NextHop>>⟧.makes running.now.tx.forward (⟦<SourceSide as Source>⟧.head running.now.tx.source))
-        (adapted_of ⟦<ServiceSide as Service>⟧.adapted_head running.now.tx.service) (response_of ⟦<ServiceSide as Service>⟧.is_response running.now.tx.service) running.now.tx.back.framing (shows running.now.tx.hold.history) head)
-        running.now.tx.next.framing running.now.tx.back.framing running.now.tx.hold request t) ∥₁ }
+        × WiresTook (λ x body read. SideRead x body read.bytes read.ended running.now.tx.ends.source)
+        (λ x adapted read. MatchOption running.now.tx.ends.service ((adapted ≡ []) × (read ≡ [])) (λ line. ServiceHeard x adapted read line.side)) running.now.tx.ends.service
+        (λ head. IsMade (⟦<HeadMaker as MakesHead<SourceSide, NextHop>>⟧.makes running.now.tx.ends.maker (⟦<SourceSide as Source>⟧.head running.now.tx.ends.source))
+        (adapted_of ⟦<ServiceSide as Service>⟧.adapted_head running.now.tx.ends.service) (response_of ⟦<ServiceSide as Service>⟧.is_response running.now.tx.ends.service) running.now.tx.ends.next.framing (shows running.now.tx.hold.history) head)
+        (λ head. IsMade (⟦<HeadMaker as MakesHead<SourceSide, NextHop>>⟧.makes running.now.tx.ends.maker (⟦<SourceSide as Source>⟧.head running.now.tx.ends.source))
+        (adapted_of ⟦<ServiceSide as Service>⟧.adapted_head running.now.tx.ends.service) (response_of ⟦<ServiceSide as Service>⟧.is_response running.now.tx.ends.service) running.now.tx.ends.back.framing (shows running.now.tx.hold.history) head)
+        running.now.tx.ends.next.framing running.now.tx.ends.back.framing running.now.tx.hold request t) ∥₁ }
     ensures refuses { (shows running.now.tx.hold.history).closed ≡ true → (cause : Why) → running.now.tx.outcome ≡ outcomes.Fail cause
-        → ∥ ⟦<Tx<B, SourceSide, ServiceSide, NextHop, HeadMaker, A, W, C> as Refusing>⟧.refuses running.now.tx cause ∥₁ }
+        → ∥ ⟦<Tx<B, OwnEnds<W>> as Refusing>⟧.refuses running.now.tx cause ∥₁ }
 {
     the_wires_take_one_message(&running.tx);
 }
@@ -105,31 +101,31 @@ pub fn a_running_transaction_takes_one_message<B: Ledgers, A: Wire, W: Wire, C: 
 /// turns, each of a side at a moment, and of wires of any kind; a wire in memory shows its bytes.
 ///
 /// Everything comes back where [`begin`] gives it back.
-pub fn from_the_beginning_the_wires_take_one_message<B: Ledgers, A: Wire, W: Wire, C: Wire>(
+pub fn from_the_beginning_the_wires_take_one_message<B: Ledgers, W: Wires>(
     rt: &impl Wait,
     alloc: Global,
     bank: &Bank<B>,
-    beginning: Beginning<B, A, W, C>,
+    beginning: Beginning<B, W>,
     turns: &[(Side, u64)],
-) -> Result<Running<B, A, W, C>, Beginning<B, A, W, C>>
+) -> Result<Running<B, W>, Beginning<B, W>>
     requires empty { (beginning.stake.held ≡ 0) × (beginning.stake.pages ≡ 0) }
     requires claim { beginning.stake.claim ≡ claim_of beginning.offer.plan beginning.limits.window }
     requires small { beginning.stake.claim ≤ MAX_CAPACITY }
     ensures accepts { IsOk result ↔ MayBegin beginning.message beginning.offer (is_some beginning.service_wire) }
-    ensures took { IfOk result (λ running. TookSince (A.past beginning.source_wire) (A.past running.tx.source_wire)
-        (λ p. MatchOption beginning.service_wire ⊥ (λ wire. W.past wire p)) (λ p. on_held running.tx.service ⊥ (λ wire. W.past wire p))
-        (C.past beginning.next_wire) (C.past running.tx.next_wire)
-        (WiresTook (λ x body read. SideRead x body read.bytes read.ended running.tx.source)
-        (λ x adapted read. MatchOption running.tx.service ((adapted ≡ []) × (read ≡ [])) (λ line. ServiceHeard x adapted read line.side)) running.tx.service
-        (λ head. IsMade (⟦<HeadMaker as Forward<SourceSide, NextHop>>⟧.makes running.tx.forward (⟦<SourceSide as Source>⟧.head running.tx.source))
-        (adapted_of ⟦<ServiceSide as Service>⟧.adapted_head running.tx.service) (response_of ⟦<ServiceSide as Service>⟧.is_response running.tx.service) running.tx.next.framing (shows running.tx.hold.history) head)
-        (λ head. IsMade (⟦<HeadMaker as Forward<SourceSide, NextHop>>⟧.makes running.tx.forward (⟦<SourceSide as Source>⟧.head running.tx.source))
-        (adapted_of ⟦<ServiceSide as Service>⟧.adapted_head running.tx.service) (response_of ⟦<ServiceSide as Service>⟧.is_response running.tx.service) running.tx.back.framing (shows running.tx.hold.history) head)
-        running.tx.next.framing running.tx.back.framing running.tx.hold (text_of beginning.offer.side))) }
+    ensures took { IfOk result (λ running. TookSince (W.SourceWire.past beginning.source_wire) (W.SourceWire.past running.tx.ends.source_wire)
+        (λ p. MatchOption beginning.service_wire ⊥ (λ wire. W.ServiceWire.past wire p)) (λ p. on_held running.tx.ends.service ⊥ (λ wire. W.ServiceWire.past wire p))
+        (W.NextWire.past beginning.next_wire) (W.NextWire.past running.tx.ends.next_wire)
+        (WiresTook (λ x body read. SideRead x body read.bytes read.ended running.tx.ends.source)
+        (λ x adapted read. MatchOption running.tx.ends.service ((adapted ≡ []) × (read ≡ [])) (λ line. ServiceHeard x adapted read line.side)) running.tx.ends.service
+        (λ head. IsMade (⟦<HeadMaker as MakesHead<SourceSide, NextHop>>⟧.makes running.tx.ends.maker (⟦<SourceSide as Source>⟧.head running.tx.ends.source))
+        (adapted_of ⟦<ServiceSide as Service>⟧.adapted_head running.tx.ends.service) (response_of ⟦<ServiceSide as Service>⟧.is_response running.tx.ends.service) running.tx.ends.next.framing (shows running.tx.hold.history) head)
+        (λ head. IsMade (⟦<HeadMaker as MakesHead<SourceSide, NextHop>>⟧.makes running.tx.ends.maker (⟦<SourceSide as Source>⟧.head running.tx.ends.source))
+        (adapted_of ⟦<ServiceSide as Service>⟧.adapted_head running.tx.ends.service) (response_of ⟦<ServiceSide as Service>⟧.is_response running.tx.ends.service) running.tx.ends.back.framing (shows running.tx.hold.history) head)
+        running.tx.ends.next.framing running.tx.ends.back.framing running.tx.hold (text_of beginning.offer.side))) }
     ensures turns { IfOk result (λ running. TakesFrom (λ begun. (begun.hold.history ≡ record { plan = beginning.offer.plan; events = [] })
         × (begun.pace.last_moved ≡ beginning.now) × (begun.pace.deadline ≡ beginning.deadline))
-        (λ old side now new. (said : TurnAnswer) × ⟦<Tx<B, SourceSide, ServiceSide, NextHop, HeadMaker, A, W, C> as Answering>⟧.answers old side new said
-        × ⟦<Tx<B, SourceSide, ServiceSide, NextHop, HeadMaker, A, W, C> as Answering>⟧.keeps old side new
+        (λ old side now new. (said : TurnAnswer) × ⟦<Tx<B, OwnEnds<W>> as Answering>⟧.answers old side new said
+        × ⟦<Tx<B, OwnEnds<W>> as Answering>⟧.keeps old side new
         × ((shows old.hold.history).closed ≡ false → old.pace.last_moved + old.pace.deadline ≤ now → new.outcome ≡ outcomes.Fail Deadline)) turns.now running.tx) }
     ensures back { IfErr result (λ back. back ≡ beginning) }
 {
@@ -146,9 +142,7 @@ pub fn from_the_beginning_the_wires_take_one_message<B: Ledgers, A: Wire, W: Wir
 /// Of a transaction, wherever it stands, each byte that is held is one that some legal continuation still sends, and each byte that a
 /// continuation sends is held, or comes within it. Such a continuation is the table's script, of at most seven events, the last of
 /// which sends the byte.
-pub fn each_held_byte_is_needed<B: Ledgers, A: Wire, W: Wire, C: Wire>(
-    tx: &Tx<B, SourceSide, ServiceSide, NextHop, HeadMaker, A, W, C>,
-)
+pub fn each_held_byte_is_needed<B: Ledgers, W: Wires>(tx: &Tx<B, OwnEnds<W>>)
     ensures original { (place : ℕ) → IsIn (interval tx.now.hold.original) place ↔ IsNeeded Original tx.now.hold.history.plan tx.now.hold.history.events place }
     ensures adapted { (place : ℕ) → IsIn (interval tx.now.hold.adapted) place ↔ IsNeeded Adapted tx.now.hold.history.plan tx.now.hold.history.events place }
     ensures scripts { (place : ℕ) → IsIn (interval tx.now.hold.original) place → IsScript Original place tx.now.hold.history.plan tx.now.hold.history.events (script_of Original (shows tx.now.hold.history) place)

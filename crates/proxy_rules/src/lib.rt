@@ -12,6 +12,7 @@ mod incoming;
 pub mod laws;
 mod offer;
 mod onward;
+mod own_ends;
 mod plans;
 mod pools;
 mod reason;
@@ -27,11 +28,12 @@ pub use head_maker::HeadMaker;
 pub use incoming::Incoming;
 pub use offer::{Offer, ask_options};
 pub use onward::Headed;
+pub use own_ends::{OwnEnds, OwnTx, Wires};
 pub use plans::{limits_of, request_plan, response_plan};
 pub use pools::{is_reusable_after_options, pool_maximum};
 pub use reason::{
     Reason, open_reason, options_reason, origin_head_reason, record_reason, user_head_reason,
 };
 pub use route::origin_address;
-pub use running::{OwnTx, Running};
+pub use running::Running;
 pub use starting::{Beginning, begin};

@@ -1,6 +1,6 @@
 //! A transaction of the proxy's own sides that runs: what the edge holds.
 
-ghost use Rattle.std.specs.Prelude.{◌≡◌, ◌↔◌, ◌≤◌, ◌⊎◌, ◌+◌, ℕ, List, true, false, [], None, Some, IfSome};
+ghost use Rattle.std.specs.Prelude.{not, ◌≡◌, ◌↔◌, ◌≤◌, ◌⊎◌, ◌+◌, ℕ, List, true, false, [], None, Some, IfSome};
 ghost use Rattle.trace_core.specs.declared.history.Cause.{Cause as Why};
 ghost use Rattle.trace_core.specs.declared.history.Cause.TheVariants.{Deadline, Stopping};
 ghost use Rattle.trace_core.specs.declared.history.Event.TheVariants.{Fail, Retry};
@@ -9,21 +9,16 @@ ghost use Rattle.adapt_hold.specs.Holding.{IsTied, shows, moved};
 ghost use Rattle.adapt_turn.specs.declared.turned.Outcome.TheVariants as outcomes;
 ghost use Rattle.adapt_turn.specs.declared.turned.Turned.{Turned as TurnAnswer};
 ghost use Rattle.adapt_turn.specs.Made.{wire_of};
+ghost use Rattle.adapt_turn.specs.Refusals.{user_untouched};
 ghost use Rattle.icap_client.specs.Turns.{is_reusable};
 ghost use Rattle.adapt_turn.specs.Freeing.{MayFree};
 ghost use Rattle.proxy_rules.specs.Running.{Runs, StandsOver, IsFaultless, RefusesFor, TakesTurns};
 
-use crate::head_maker::HeadMaker;
+use crate::own_ends::{OwnEnds, OwnTx, Wires};
 use adapt_turn::{Answering, FreeLine, Going, Outcome, Refusing, Side, Turned, Tx};
-use http_relay::{NextHop, SourceSide};
-use icap_client::ServiceSide;
 use span_bank::{Bank, Ledgers};
 use std::sync::Wait;
 use trace_core::{Cause, Seen};
-use wire_kit::Wire;
-
-/// A transaction of the proxy's own sides.
-pub type OwnTx<B, A, W, C> = Tx<B, SourceSide, ServiceSide, NextHop, HeadMaker, A, W, C>;
 
 /// A transaction that was begun, and each step of which kept what stood then: some request and texts stand between it and its wires; no
 /// side of an open one has a fault, but for a service whose connection broke; and where it failed, the user's writer has the refusal of
@@ -37,22 +32,22 @@ pub type OwnTx<B, A, W, C> = Tx<B, SourceSide, ServiceSide, NextHop, HeadMaker, 
 /// assert!(rt; running.seen().no_mod);
 /// ```
 #[must_use]
-pub struct Running<B: Ledgers, A: Wire, W: Wire, C: Wire> {
-    pub(crate) tx: OwnTx<B, A, W, C>,
-    pub ghost runs: { ∥ Runs (StandsOver tx.hold tx.source tx.service tx.next tx.back tx.forward tx.refusing) (shows tx.hold.history).closed
-        (IsFaultless tx.source tx.service tx.pace.broken tx.next tx.back) tx.outcome (RefusesFor tx.hold tx.refusing tx.next tx.back) ∥₁ },
+pub struct Running<B: Ledgers, W: Wires> {
+    pub(crate) tx: OwnTx<B, W>,
+    pub ghost runs: { ∥ Runs (StandsOver tx.hold tx.ends.source tx.ends.service tx.ends.next tx.ends.back tx.ends.maker tx.refusing) (shows tx.hold.history).closed
+        (IsFaultless tx.ends.source tx.ends.service tx.pace.broken tx.ends.next tx.ends.back) tx.outcome (RefusesFor tx.hold tx.refusing tx.ends.next tx.ends.back) ∥₁ },
 }
 
-impl<B: Ledgers, A: Wire, W: Wire, C: Wire> Running<B, A, W, C> {
+impl<B: Ledgers, W: Wires> Running<B, W> {
     /// One turn of one side, at a moment in seconds.
     pub fn turn(&mut self, rt: &impl Wait, bank: &Bank<B>, side: Side, now: u64) -> Turned
-        ensures goes { ⟦<Tx<B, SourceSide, ServiceSide, NextHop, HeadMaker, A, W, C> as Going>⟧.goes self.old.tx self.new.tx }
-        ensures answers { ⟦<Tx<B, SourceSide, ServiceSide, NextHop, HeadMaker, A, W, C> as Answering>⟧.answers self.old.tx side self.new.tx result }
-        ensures keeps { ⟦<Tx<B, SourceSide, ServiceSide, NextHop, HeadMaker, A, W, C> as Answering>⟧.keeps self.old.tx side self.new.tx }
+        ensures goes { ⟦<Tx<B, OwnEnds<W>> as Going>⟧.goes self.old.tx self.new.tx }
+        ensures answers { ⟦<Tx<B, OwnEnds<W>> as Answering>⟧.answers self.old.tx side self.new.tx result }
+        ensures keeps { ⟦<Tx<B, OwnEnds<W>> as Answering>⟧.keeps self.old.tx side self.new.tx }
         ensures fails { (shows self.old.tx.hold.history).closed ≡ false → (cause : Why) → self.new.tx.outcome ≡ outcomes.Fail cause
-            → ⟦<Tx<B, SourceSide, ServiceSide, NextHop, HeadMaker, A, W, C> as Answering>⟧.fails self.old.tx side now self.new.tx cause }
+            → ⟦<Tx<B, OwnEnds<W>> as Answering>⟧.fails self.old.tx side now self.new.tx cause }
         ensures deadline { (shows self.old.tx.hold.history).closed ≡ false → self.old.tx.pace.last_moved + self.old.tx.pace.deadline ≤ now → self.new.tx.outcome ≡ outcomes.Fail Deadline }
-        ensures finishes { (shows self.old.tx.hold.history).closed ≡ true → (self.old.tx.refusing ≡ false) ⊎ ⟦<Tx<B, SourceSide, ServiceSide, NextHop, HeadMaker, A, W, C> as Refusing>⟧.refusal_is_over self.old.tx
+        ensures finishes { (shows self.old.tx.hold.history).closed ≡ true → (self.old.tx.refusing ≡ false) ⊎ ⟦<Tx<B, OwnEnds<W>> as Refusing>⟧.refusal_is_over self.old.tx
             → result ≡ Turned.Finished self.old.tx.outcome }
     {
         self.tx.turn(rt, bank, side, now)
@@ -60,9 +55,9 @@ impl<B: Ledgers, A: Wire, W: Wire, C: Wire> Running<B, A, W, C> {
 
     /// Turns in order, each of a side at a moment in seconds.
     pub fn take_turns(&mut self, rt: &impl Wait, bank: &Bank<B>, turns: &[(Side, u64)])
-        ensures goes { ⟦<Tx<B, SourceSide, ServiceSide, NextHop, HeadMaker, A, W, C> as Going>⟧.goes self.old.tx self.new.tx }
-        ensures turns { TakesTurns (λ old side now new. (said : TurnAnswer) × ⟦<Tx<B, SourceSide, ServiceSide, NextHop, HeadMaker, A, W, C> as Answering>⟧.answers old side new said
-            × ⟦<Tx<B, SourceSide, ServiceSide, NextHop, HeadMaker, A, W, C> as Answering>⟧.keeps old side new
+        ensures goes { ⟦<Tx<B, OwnEnds<W>> as Going>⟧.goes self.old.tx self.new.tx }
+        ensures turns { TakesTurns (λ old side now new. (said : TurnAnswer) × ⟦<Tx<B, OwnEnds<W>> as Answering>⟧.answers old side new said
+            × ⟦<Tx<B, OwnEnds<W>> as Answering>⟧.keeps old side new
             × ((shows old.hold.history).closed ≡ false → old.pace.last_moved + old.pace.deadline ≤ now → new.outcome ≡ outcomes.Fail Deadline)) self.old.tx turns.now self.new.tx }
     {
         match turns {
@@ -76,14 +71,14 @@ impl<B: Ledgers, A: Wire, W: Wire, C: Wire> Running<B, A, W, C> {
 
     /// Turns by a schedule, each at the moment of the last moved byte.
     pub fn drive(&mut self, rt: &impl Wait, bank: &Bank<B>, schedule: &[Side])
-        ensures goes { ⟦<Tx<B, SourceSide, ServiceSide, NextHop, HeadMaker, A, W, C> as Going>⟧.goes self.old.tx self.new.tx }
+        ensures goes { ⟦<Tx<B, OwnEnds<W>> as Going>⟧.goes self.old.tx self.new.tx }
     {
         self.tx.drive(rt, bank, schedule);
     }
 
     /// Fails it because the proxy stops, where it isn't closed.
     pub fn halt(&mut self, rt: &impl Wait, bank: &Bank<B>)
-        ensures goes { ⟦<Tx<B, SourceSide, ServiceSide, NextHop, HeadMaker, A, W, C> as Going>⟧.goes self.old.tx self.new.tx }
+        ensures goes { ⟦<Tx<B, OwnEnds<W>> as Going>⟧.goes self.old.tx self.new.tx }
         ensures over { (shows self.new.tx.hold.history).closed ≡ true }
         ensures halted { (shows self.old.tx.hold.history).closed ≡ false → self.new.tx.outcome ≡ outcomes.Fail Stopping }
     {
@@ -106,6 +101,13 @@ impl<B: Ledgers, A: Wire, W: Wire, C: Wire> Running<B, A, W, C> {
         self.tx.seen()
     }
 
+    /// Whether a byte of an answer has gone out to the user, of a message or of the proxy's own refusal.
+    pub fn has_answered(&self) -> bool
+        ensures { result ≡ not (user_untouched self.now.tx.hold.history.plan.point (not self.now.tx.ends.next.touched) (not self.now.tx.ends.back.touched)) }
+    {
+        self.tx.has_answered()
+    }
+
     /// Whether the service's connection broke before a byte of a reply, and the request may begin anew on a fresh one.
     pub fn is_broken(&self) -> bool
         ensures { result ≡ true ↔ (self.now.tx.pace.broken ≡ true) × MayFollow self.now.tx.hold.history.plan self.now.tx.hold.history.events Retry }
@@ -114,21 +116,26 @@ impl<B: Ledgers, A: Wire, W: Wire, C: Wire> Running<B, A, W, C> {
     }
 
     /// Begins the same request anew on a fresh connection, and gives the broken one back.
-    pub fn retry(&mut self, rt: &impl Wait, bank: &Bank<B>, wire: W) -> Option<W>
+    pub fn retry(
+        &mut self,
+        rt: &impl Wait,
+        bank: &Bank<B>,
+        wire: W::ServiceWire,
+    ) -> Option<W::ServiceWire>
         requires broken { self.old.tx.pace.broken ≡ true }
         requires may { MayFollow self.old.tx.hold.history.plan self.old.tx.hold.history.events Retry }
         ensures hold { self.new.tx.hold ≡ moved self.old.tx.hold Retry [] }
-        ensures fresh { IfSome self.new.tx.service (λ line. line.wire ≡ Some wire) }
-        ensures back { IfSome self.old.tx.service (λ line. result ≡ line.wire) }
+        ensures fresh { IfSome self.new.tx.ends.service (λ line. line.wire ≡ Some wire) }
+        ensures back { IfSome self.old.tx.ends.service (λ line. result ≡ line.wire) }
     {
         let _ = self.tx.seen();
         self.tx.retry(rt, bank, wire)
     }
 
     /// Takes out the connection that broke, so that it is closed before a fresh one is opened in its place.
-    pub fn take_broken(&mut self) -> Option<W>
+    pub fn take_broken(&mut self) -> Option<W::ServiceWire>
         requires broken { self.old.tx.pace.broken ≡ true }
-        ensures wire { result ≡ wire_of self.old.tx.service }
+        ensures wire { result ≡ wire_of self.old.tx.ends.service }
         ensures kept { (self.new.tx.hold ≡ self.old.tx.hold) × (self.new.tx.pace ≡ self.old.tx.pace) }
     {
         self.tx.take_broken()
@@ -144,17 +151,17 @@ impl<B: Ledgers, A: Wire, W: Wire, C: Wire> Running<B, A, W, C> {
     }
 
     /// Gives up the connection to the service once its exchange is over, and says whether it may carry another request.
-    pub fn free_line(&mut self) -> Option<FreeLine<W>>
+    pub fn free_line(&mut self) -> Option<FreeLine<W::ServiceWire>>
         ensures over { IfSome result (λ free. MayFree (shows self.old.tx.hold.history)) }
-        ensures due { result ≡ None → MayFree (shows self.old.tx.hold.history) → wire_of self.old.tx.service ≡ None }
-        ensures wire { IfSome result (λ free. wire_of self.old.tx.service ≡ Some free.wire) }
-        ensures reusable { IfSome result (λ free. IfSome self.old.tx.service (λ line. free.is_reusable ≡ is_reusable line.side)) }
+        ensures due { result ≡ None → MayFree (shows self.old.tx.hold.history) → wire_of self.old.tx.ends.service ≡ None }
+        ensures wire { IfSome result (λ free. wire_of self.old.tx.ends.service ≡ Some free.wire) }
+        ensures reusable { IfSome result (λ free. IfSome self.old.tx.ends.service (λ line. free.is_reusable ≡ is_reusable line.side)) }
     {
         self.tx.free_line()
     }
 
     /// The transaction itself, to be taken apart.
-    pub fn into_tx(self) -> Tx<B, SourceSide, ServiceSide, NextHop, HeadMaker, A, W, C>
+    pub fn into_tx(self) -> Tx<B, OwnEnds<W>>
         ensures { result ≡ self.tx }
     {
         let Running { tx } = self;

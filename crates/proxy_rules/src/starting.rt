@@ -7,30 +7,29 @@ ghost use Rattle.adapt_turn.specs.Stands.{no_texts};
 ghost use Rattle.proxy_rules.specs.Offers.{text_of};
 ghost use Rattle.proxy_rules.specs.Beginnings.{MayBegin, line_with};
 
-use crate::head_maker::HeadMaker;
 use crate::incoming::Incoming;
 use crate::offer::Offer;
+use crate::own_ends::{OwnEnds, Wires};
 use crate::running::Running;
-use adapt_turn::{Line, Standing, Start, Tx};
-use http_relay::{NextHop, SourceSide};
+use adapt_turn::{Ends, Line, Standing, Start, Tx};
+use http_relay::NextHop;
 use icap_client::ServiceSide;
 use plan_rules::Limits;
 use span_bank::{Ledgers, Stake};
 use std::alloc::Global;
-use wire_kit::Wire;
 
 /// What a transaction of the proxy's own sides begins with.
-pub struct Beginning<B: Ledgers, A, W, C> {
+pub struct Beginning<B: Ledgers, W: Wires> {
     pub offer: Offer,
     pub limits: Limits,
     /// A reservation of just the plan's claim, of which nothing is held.
     pub stake: Stake<B>,
     /// The message, whose head was read.
     pub message: Incoming,
-    pub source_wire: A,
+    pub source_wire: W::SourceWire,
     /// The service's connection, where the message is offered.
-    pub service_wire: Option<W>,
-    pub next_wire: C,
+    pub service_wire: Option<W::ServiceWire>,
+    pub next_wire: W::NextWire,
     /// How many seconds may pass without a moved byte.
     pub deadline: u64,
     /// The moment, in seconds.
@@ -71,20 +70,20 @@ fn line_of<W>(side: Option<ServiceSide>, wire: Option<W>) -> Option<Line<Service
 ///
 /// Everything comes back where the offer is of another kind of message, or of one of another length than the source's head says;
 /// where no head was read; and where a connection to the service is missing, or there is one though the message isn't offered.
-pub fn begin<B: Ledgers, A: Wire, W: Wire, C: Wire>(
+pub fn begin<B: Ledgers, W: Wires>(
     alloc: Global,
-    beginning: Beginning<B, A, W, C>,
-) -> Result<Running<B, A, W, C>, Beginning<B, A, W, C>>
+    beginning: Beginning<B, W>,
+) -> Result<Running<B, W>, Beginning<B, W>>
     requires empty { (beginning.stake.held ≡ 0) × (beginning.stake.pages ≡ 0) }
     requires claim { beginning.stake.claim ≡ claim_of beginning.offer.plan beginning.limits.window }
     requires small { beginning.stake.claim ≤ MAX_CAPACITY }
     ensures accepts { IsOk result ↔ MayBegin beginning.message beginning.offer (is_some beginning.service_wire) }
     ensures begun { IfOk result (λ running. running.tx.hold.history ≡ record { plan = beginning.offer.plan; events = [] }) }
     ensures clock { IfOk result (λ running. (running.tx.pace.last_moved ≡ beginning.now) × (running.tx.pace.deadline ≡ beginning.deadline)) }
-    ensures stands { IfOk result (λ running. (read : List ℕ) × ⟦<Tx<B, SourceSide, ServiceSide, NextHop, HeadMaker, A, W, C> as Standing>⟧.stands running.tx (text_of beginning.offer.side) (record no_texts { source_read = record { bytes = read; ended = false } })) }
+    ensures stands { IfOk result (λ running. (read : List ℕ) × ⟦<Tx<B, OwnEnds<W>> as Standing>⟧.stands running.tx (text_of beginning.offer.side) (record no_texts { source_read = record { bytes = read; ended = false } })) }
     ensures line { IfOk result (λ running. (running.tx.pace.broken ≡ false) × (running.tx.pace.reused ≡ beginning.reused)) }
-    ensures sides { IfOk result (λ running. (running.tx.source ≡ beginning.message.side) × (running.tx.forward.user ≡ beginning.message.user) × (running.tx.forward.last ≡ beginning.last) × (running.tx.service ≡ line_with beginning.offer.side beginning.service_wire)) }
-    ensures wires { IfOk result (λ running. (running.tx.source_wire ≡ beginning.source_wire) × (running.tx.next_wire ≡ beginning.next_wire)) }
+    ensures sides { IfOk result (λ running. (running.tx.ends.source ≡ beginning.message.side) × (running.tx.ends.maker.user ≡ beginning.message.user) × (running.tx.ends.maker.last ≡ beginning.last) × (running.tx.ends.service ≡ line_with beginning.offer.side beginning.service_wire)) }
+    ensures wires { IfOk result (λ running. (running.tx.ends.source_wire ≡ beginning.source_wire) × (running.tx.ends.next_wire ≡ beginning.next_wire)) }
     ensures back { IfErr result (λ back. back ≡ beginning) }
 {
     let is_connected = beginning.service_wire.is_some();
@@ -105,18 +104,20 @@ pub fn begin<B: Ledgers, A: Wire, W: Wire, C: Wire>(
         last,
     } = beginning;
     let (plan, side) = offer.into_plan();
-    let (source, heads) = message.into_sides(last);
+    let (source, maker) = message.into_sides(last);
     let start = Start {
         plan,
         limits,
         stake,
-        source,
-        source_wire,
-        service: line_of(side, service_wire),
-        next: NextHop::new(alloc),
-        next_wire,
-        back: NextHop::new(alloc),
-        forward: heads,
+        ends: Ends {
+            source,
+            source_wire,
+            service: line_of(side, service_wire),
+            next: NextHop::new(alloc),
+            next_wire,
+            back: NextHop::new(alloc),
+            maker,
+        },
         deadline,
         now,
         reused,

@@ -1,3 +1,1 @@
 pub mod Left
-pub mod Slots
-pub mod Sparing

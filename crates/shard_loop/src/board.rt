@@ -1,10 +1,10 @@
 //! What the threads have in common: their inboxes, what they count, the log, the queues and the descriptors.
 
-use crate::pools::Spare;
 use event_loop::{Inbox, Room};
 use proxy_config::{Config, ServicePoint};
 use service_lines::Queues;
 use service_pool::Pool;
+use shard_desk::Spare;
 use shard_report::{Log, Tally};
 use std::alloc::{AllocError, Global};
 use std::fs::File;

@@ -3,12 +3,8 @@
 ghost use Rattle.std.specs.Prelude.{◌≡◌};
 
 use crate::board::{BothPools, Common, PoolPair, board_of};
-use crate::desk::{Desk, Shared};
-use crate::exchanges::Exchanges;
 use crate::left::Left;
 use crate::office::Office;
-use crate::pools::{Loops, Pools, Spare};
-use crate::shard::Shard;
 use event_loop::{
     Base, Ended, Entrance, Inbox, LoopFault, Work, add_loop, name_thread, run_loop, stop_all,
 };
@@ -16,7 +12,9 @@ use mio::net::TcpListener;
 use proxy_config::{Config, MAX_SHARDS};
 use service_lines::Waiting;
 use service_pool::Pool;
+use shard_desk::{Desk, Loops, Pools, Shared, Shares, Spare};
 use shard_report::{Append, ServeFault};
+use shard_work::{Exchanges, Shard};
 use socket_wire::Dial;
 use span_bank::{Bank, Ledgers};
 use std::alloc::{AllocError, Global};
@@ -255,8 +253,8 @@ fn run_one<
     alloc: Global,
     config: &Config,
     bank: &Bank<B>,
-    request: &Pool<Spare, Q>,
-    response: &Pool<Spare, A>,
+    requests: &Pool<Spare, Q>,
+    responses: &Pool<Spare, A>,
     gate: &G,
     common: &N,
     left: &Mutex<Left<B, Q, A>>,
@@ -272,29 +270,37 @@ fn run_one<
     else {
         return;
     };
+    let inboxes = common.inboxes();
+    let queues = common.queues();
+    let room = common.room();
+    let log = common.log();
     let shared = Shared {
         config,
         bank,
-        pools: Pools {
-            request,
-            response,
-            waiting: Waiting {
-                queues: common.queues(),
-                edge: Loops {
-                    inboxes: common.inboxes(),
-                    room: common.room(),
-                },
-                seconds: config.wait,
-            },
-        },
-        gate,
+        requests,
+        responses,
+        queues,
+        inboxes,
+        room,
         number,
         tally,
-        log: common.log(),
+        log,
     };
-    let inboxes = common.inboxes();
     if number < common.tallies().len() {
-        run_base(rt, alloc, shared, number, base, inboxes, left);
+        let edge = Loops { inboxes, room };
+        let waiting = Waiting {
+            queues,
+            edge,
+            seconds: config.wait,
+        };
+        let pools = Pools {
+            request: requests,
+            response: responses,
+            waiting,
+        };
+        run_base(
+            rt, alloc, shared, gate, number, base, inboxes, bank, pools, left,
+        );
     } else {
         let office = Office::new(alloc, shared, common.tallies(), rt);
         run_office(rt, alloc, office, number, base, inboxes, left);
@@ -319,19 +325,20 @@ fn run_office<K: Work + Drop, B: Ledgers, Q: Ledger, A: Ledger, R: Wait + Dial +
 
 /// Makes a thread's work of its exchanges, and runs its loop over it. If either fails, all others have to stop. What is left in the
 /// slots comes back, and why the loop failed, if it did.
-fn run_desk<P, D: Exchanges<Exchange = P> + Drop, R: Wait + Dial + Clock>(
+fn run_desk<D: Exchanges + Drop, G: Gate, R: Wait + Dial + Clock>(
     rt: &R,
     alloc: Global,
     desk: Result<D, AllocError>,
+    gate: &G,
     number: usize,
     base: Base,
     inboxes: &[Inbox],
-) -> (Vec<Option<P>>, Option<ServeFault>) {
+) -> (Vec<Option<D::Exchange>>, Option<ServeFault>) {
     let Ok(desk) = desk else {
         stop_all(inboxes);
         return (Vec::new(alloc), Some(ServeFault::NoMemory));
     };
-    let Ok(shard) = Shard::new(alloc, desk) else {
+    let Ok(shard) = Shard::new(alloc, desk, gate) else {
         stop_all(inboxes);
         return (Vec::new(alloc), Some(ServeFault::NoMemory));
     };
@@ -344,21 +351,29 @@ fn run_desk<P, D: Exchanges<Exchange = P> + Drop, R: Wait + Dial + Clock>(
 }
 
 /// Runs a thread's loop, and takes what is left in it.
-fn run_base<'a, B: Ledgers, Q: Ledger, A: Ledger, G: Gate, R: Wait + Dial + Clock>(
+fn run_base<
+    B: Ledgers,
+    Q: Ledger,
+    A: Ledger,
+    S: Shares<Ledgers = B, Requests = Q, Responses = A> + Drop,
+    G: Gate,
+    R: Wait + Dial + Clock,
+>(
     rt: &R,
     alloc: Global,
-    shared: Shared<'a, B, Q, A, G>,
+    shared: S,
+    gate: &G,
     number: usize,
     base: Base,
     inboxes: &[Inbox],
+    bank: &Bank<B>,
+    pools: Pools<'_, Q, A>,
     left: &Mutex<Left<B, Q, A>>,
 ) {
     name_thread(number);
-    let bank = shared.bank;
-    let pools = shared.pools.again();
-    let rows = shared.config.rows as usize;
+    let rows = shared.config().rows as usize;
     let desk = Desk::new(alloc, shared, rows);
-    let (slots, fault) = run_desk(rt, alloc, desk, number, base, inboxes);
+    let (slots, fault) = run_desk(rt, alloc, desk, gate, number, base, inboxes);
     let mut left = left.lock(rt);
     if let Some(fault) = fault {
         left.fail(fault);

@@ -3,9 +3,11 @@
 ghost use Rattle.std.specs.Prelude.{◌≡◌, All, IfOk, IsSome, None, Some};
 ghost use Rattle.shard_loop.specs.Left.{HoldsNothing};
 
-use crate::pools::{Leased, Pools, Spare};
 use adapt_bytes::MAX_CONNECTIONS;
+use service_lines::Leased;
 use service_pool::{Lease, Pool};
+use shard_desk::{Pools, Spare};
+use shard_exchange::{Exchange, Held, Kinds};
 use shard_report::{ServeFault, StopAudit, Stopped};
 use span_bank::{Audit, Bank, Ledgers, Pages, Stake};
 use std::alloc::Global;
@@ -120,6 +122,40 @@ impl<B: Ledgers, Q: Ledger, A: Ledger> Left<B, Q, A> {
             }
             lease => pools.give_up(rt, lease),
         }
+    }
+
+    /// Takes what is held for an exchange.
+    fn take<O: Kinds<Ledgers = B, Lease = Leased<Q, A>>, R: Wait>(
+        &mut self,
+        rt: &R,
+        bank: &Bank<B>,
+        pools: &Pools<'_, Q, A>,
+        exchange: Exchange<O>,
+    ) {
+        let Held { lease, stake } = exchange.into_held(rt, bank);
+        if let Some(lease) = lease {
+            self.keep_lease(rt, pools, lease);
+        }
+        if let Some(stake) = stake {
+            self.keep_stake(rt, bank, stake);
+        }
+    }
+
+    /// Takes what is held in a loop's slots.
+    pub fn take_slots<O: Kinds<Ledgers = B, Lease = Leased<Q, A>>, R: Wait>(
+        &mut self,
+        rt: &R,
+        bank: &Bank<B>,
+        pools: Pools<'_, Q, A>,
+        slots: Vec<Option<Exchange<O>>>,
+    ) {
+        let mut slots = slots;
+        while let Some(slot) = slots.pop() {
+            if let Some(exchange) = slot {
+                self.take(rt, bank, &pools, exchange);
+            }
+        }
+        slots.destroy_empty();
     }
 
     /// Audits the budget and the pools, and says why the first thread failed that did.

@@ -1,35 +1,14 @@
-//! The exchanges of one thread: connections, their phases, and the transactions between them.
+//! The proxy: its threads, the administrator's loop, and what is left once all have ended.
 //!
-//! A user's connection brings requests, one after another. Each goes through phases: its head is read, a service says its
-//! options where they aren't known, the request goes to the origin as one transaction, the origin's head is read, and the
-//! response goes to the user as another one. The loops of `event_loop` drive them.
+//! A thread's loop is one of `event_loop`, whose work is a `Shard` of `shard_work`: exchanges of `shard_exchange` in slots. What they
+//! stand on is a `Desk` of `shard_desk`.
 #![tactic(auto)]
 
-mod apart;
-mod begin;
 mod board;
-mod connections;
 mod crew;
-mod desk;
-mod ending;
-mod exchanges;
-mod halting;
 mod left;
-mod noting;
 mod office;
-mod options;
-mod phase;
-mod pools;
 mod running;
-mod seats;
-mod shard;
-mod sides;
-mod sparing;
-mod starting;
-mod steps;
-mod telling;
-mod turns;
-mod waits;
 
 pub use running::serve;
 pub use shard_report::{Append, ServeFault, StopAudit, Stopped};

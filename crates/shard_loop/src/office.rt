@@ -1,38 +1,31 @@
 //! The loop of the administrator: it takes no users, so what an answer costs keeps nobody waiting.
 
-use crate::desk::Shared;
 use adapt_bytes::MAX_CAPACITY;
 use event_loop::{Driven, Handed, Request, Told, Work};
 use mio::Registry;
-use shard_report::{Append, Figures, Log, Tally, change_capacity, stats_text};
+use shard_desk::{Shares, pools_of};
+use shard_report::{Append, Figures, Tally, change_capacity, stats_text};
 use socket_wire::{Dial, Side};
-use span_bank::{CapacityFault, Ledgers};
+use span_bank::CapacityFault;
 use std::alloc::{AllocError, Global};
 use std::sync::Wait;
-use std::sync::ledger::Ledger;
 use std::time::Clock;
 use trace_core::Point;
-use wire_kit::Gate;
 
 /// How many milliseconds lines of the log may wait to be written.
 const LINES_WAIT: u64 = 50;
 
 /// What the administrator's loop answers from. It also writes the log.
 #[derive(Drop)]
-pub struct Office<'a, B: Ledgers, Q: Ledger, A: Ledger, G: Gate, F: Append> {
+pub struct Office<'a, S, F: Append> {
     alloc: Global,
-    shared: Shared<'a, B, Q, A, G>,
+    shared: S,
     tallies: &'a [Tally],
     files: &'a F,
 }
 
-impl<'a, B: Ledgers, Q: Ledger, A: Ledger, G: Gate, F: Append> Office<'a, B, Q, A, G, F> {
-    pub fn new(
-        alloc: Global,
-        shared: Shared<'a, B, Q, A, G>,
-        tallies: &'a [Tally],
-        files: &'a F,
-    ) -> Office<'a, B, Q, A, G, F> {
+impl<'a, S: Shares, F: Append> Office<'a, S, F> {
+    pub fn new(alloc: Global, shared: S, tallies: &'a [Tally], files: &'a F) -> Office<'a, S, F> {
         Office {
             alloc,
             shared,
@@ -42,7 +35,7 @@ impl<'a, B: Ledgers, Q: Ledger, A: Ledger, G: Gate, F: Append> Office<'a, B, Q, 
     }
 
     fn say_book<R: Wait>(&mut self, rt: &R) -> Result<Vec<u8>, AllocError> {
-        let book = self.shared.bank.book(rt, None);
+        let book = self.shared.bank().book(rt, None);
         let rows = book.rows;
         let held = book.held;
         let claimed = book.claimed;
@@ -55,7 +48,7 @@ impl<'a, B: Ledgers, Q: Ledger, A: Ledger, G: Gate, F: Append> Office<'a, B, Q, 
 
     fn set_capacity<R: Wait>(&mut self, rt: &R, n: u64) -> Result<Vec<u8>, AllocError> {
         let size = n.max(1).min(MAX_CAPACITY);
-        match change_capacity(rt, self.shared.bank, self.shared.log, size) {
+        match change_capacity(rt, self.shared.bank(), self.shared.log(), size) {
             Ok(()) => b"ok\n".to_vec(self.alloc),
             Err(CapacityFault::TooLow { claimed }) => {
                 let text = format!(in self.alloc; "refused {claimed}\n")?;
@@ -67,28 +60,25 @@ impl<'a, B: Ledgers, Q: Ledger, A: Ledger, G: Gate, F: Append> Office<'a, B, Q, 
 
     /// What the loops share, at this number of seconds after the start.
     fn figures<R: Wait>(&self, rt: &R, now: u64) -> Figures {
-        let Shared {
-            config,
-            bank,
-            pools,
-            ..
-        } = &self.shared;
+        let shared = &self.shared;
+        let config = shared.config();
+        let waiting = pools_of(shared).waiting;
         Figures {
             seats: config.shards.saturating_mul(config.rows),
-            reqmod: pools.request.numbers(rt),
-            reqmod_waiting: pools.waiting.len(rt, Point::Reqmod),
-            respmod: pools.response.numbers(rt),
-            respmod_waiting: pools.waiting.len(rt, Point::Respmod),
-            book: bank.book(rt, None),
-            lost: self.shared.log.lost(),
+            reqmod: shared.requests().numbers(rt),
+            reqmod_waiting: waiting.len(rt, Point::Reqmod),
+            respmod: shared.responses().numbers(rt),
+            respmod_waiting: waiting.len(rt, Point::Respmod),
+            book: shared.bank().book(rt, None),
+            lost: shared.log().lost(),
             uptime: now,
         }
     }
 
     /// Opens the log's file anew, where a log is kept.
     fn reopen<R: Wait>(&mut self, rt: &R) -> Result<Vec<u8>, AllocError> {
-        let log: &Log = self.shared.log;
-        let Some(path) = &self.shared.config.log else {
+        let log = self.shared.log();
+        let Some(path) = &self.shared.config().log else {
             return b"cannot open\n".to_vec(self.alloc);
         };
         match self.files.append(path.as_str()) {
@@ -101,7 +91,7 @@ impl<'a, B: Ledgers, Q: Ledger, A: Ledger, G: Gate, F: Append> Office<'a, B, Q, 
     }
 }
 
-impl<'a, B: Ledgers, Q: Ledger, A: Ledger, G: Gate, F: Append> Work for Office<'a, B, Q, A, G, F> {
+impl<'a, S: Shares + Drop, F: Append> Work for Office<'a, S, F> {
     fn admit<R: Wait + Dial + Clock>(
         &mut self,
         _rt: &R,
@@ -112,7 +102,12 @@ impl<'a, B: Ledgers, Q: Ledger, A: Ledger, G: Gate, F: Append> Work for Office<'
         None
     }
 
-    fn make_room<R: Wait + Clock>(&mut self, _rt: &R, _millis: u64) -> bool {
+    fn make_room<R: Wait + Dial + Clock>(
+        &mut self,
+        _rt: &R,
+        _registry: &Registry,
+        _millis: u64,
+    ) -> bool {
         false
     }
 
@@ -162,7 +157,7 @@ impl<'a, B: Ledgers, Q: Ledger, A: Ledger, G: Gate, F: Append> Work for Office<'
     }
 
     fn patience(&self) -> Option<u64> {
-        if self.shared.log.is_kept() {
+        if self.shared.log().is_kept() {
             Some(LINES_WAIT)
         } else {
             None
@@ -170,7 +165,7 @@ impl<'a, B: Ledgers, Q: Ledger, A: Ledger, G: Gate, F: Append> Work for Office<'
     }
 
     fn turn_over<R: Wait>(&mut self, rt: &R) {
-        self.shared.log.write_out(rt);
+        self.shared.log().write_out(rt);
     }
 
     fn drain(&mut self) {}

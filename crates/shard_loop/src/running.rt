@@ -6,10 +6,10 @@ ghost use Rattle.service_pool.specs.declared.step.TheConstants.{LEDGER_PARTS};
 
 use crate::crew::run_crew;
 use crate::left::Left;
-use crate::pools::Spare;
 use mio::net::TcpListener;
 use proxy_config::{Config, ServicePoint};
 use service_pool::Pool;
+use shard_desk::Spare;
 use shard_report::{Append, ServeFault, Stopped};
 use socket_wire::Dial;
 use span_bank::{Bank, Blanks, Four, Ledgers};

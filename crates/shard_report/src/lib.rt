@@ -24,7 +24,7 @@ pub use capacity::change_capacity;
 pub use clock::moment;
 pub use heads::{kind_in, kind_of, status_in};
 pub use log::Log;
-pub use notes::{Note, Notes, Stage, address_of, status_of, why_of};
+pub use notes::{Note, Notes, address_of, status_of, why_of};
 pub use reasons::{Evidence, failed_status, failed_word, verdict_of};
 pub use stats::{Figures, stats_text};
 pub use tally::{Class, Count, Tally};

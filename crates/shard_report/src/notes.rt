@@ -11,21 +11,11 @@ use std::alloc::{AllocError, Global};
 use std::net::SocketAddrV4;
 use trace_core::Point;
 
-/// Where an exchange stands, as far as a reason's word depends on it.
-#[derive(Clone, Copy, Debug, PartialEq, Eq)]
-pub enum Stage {
-    /// A service is asked for its options.
-    Asking,
-    /// Anywhere else.
-    Elsewhere,
-}
-
 /// What is noted of the exchange under a key.
 #[derive(Clone, Copy)]
 pub struct Note {
     /// Whether a request was read, or refused, and its answer isn't over.
     pub is_open: bool,
-    pub stage: Stage,
     pub user: Option<Address>,
     /// The moment at which the request's head was there, in milliseconds since 1970.
     pub begun: u64,
@@ -36,6 +26,8 @@ pub struct Note {
     pub origin: Option<Address>,
     pub refused: bool,
     pub status: u16,
+    /// Whether a byte of an answer went to the user, and no refusal's.
+    pub answered: bool,
     pub reqmod: Verdict,
     pub respmod: Verdict,
     pub why: Option<Why>,
@@ -76,7 +68,6 @@ pub struct Notes {
 fn blank() -> Note {
     Note {
         is_open: false,
-        stage: Stage::Elsewhere,
         user: None,
         begun: 0,
         taken: 0,
@@ -84,6 +75,7 @@ fn blank() -> Note {
         origin: None,
         refused: false,
         status: 0,
+        answered: false,
         reqmod: Verdict::none(),
         respmod: Verdict::none(),
         why: None,

@@ -3,9 +3,8 @@
 ghost use Rattle.std.specs.Prelude.{◌≡◌};
 
 use crate::sides::Counted;
-use adapt_sides::{Hop, Service, Source};
-use adapt_turn::{Forward, FreeLine, Line, Outcome, Parts, Side, Turned, Tx};
-use proxy_rules::{Beginning, Running};
+use adapt_turn::{Ends, FreeLine, Line, Outcome, Parts, Side, Turned};
+use proxy_rules::{Beginning, Running, Wires};
 use span_bank::{Bank, Ledgers, Pages};
 use std::sync::Wait;
 use trace_core::Cause;
@@ -46,7 +45,7 @@ pub trait Game<B: Ledgers> {
     fn free(&mut self, lines: &mut Lines) -> Option<bool>;
 }
 
-impl<B: Ledgers, A: Wire, C: Wire> Game<B> for Running<B, A, Counted, C> {
+impl<B: Ledgers, A: Wire + Drop, C: Wire + Drop> Game<B> for Running<B, (A, Counted, C)> {
     fn take_turn<R: Wait>(&mut self, rt: &R, bank: &Bank<B>, side: Side, now: u64) -> Turned {
         self.turn(rt, bank, side, now)
     }
@@ -94,34 +93,32 @@ pub struct Ended<A, C> {
     pub next_hop: C,
 }
 
-/// Ends a transaction, of whatever sides.
-fn end_of<
-    B: Ledgers,
-    S: Source + Drop,
-    V: Service + Drop,
-    K: Hop + Drop,
-    F: Forward<S, K> + Drop,
-    A: Wire,
-    C: Wire,
-    R: Wait,
->(rt: &R, bank: &Bank<B>, tx: Tx<B, S, V, K, F, A, Counted, C>) -> Ended<A, C> {
-    let mut tx = tx;
-    tx.halt(rt, bank);
-    match tx.into_parts() {
+/// Ends a transaction: one that isn't over fails. Its reservation is closed.
+pub fn end<B: Ledgers, A: Wire + Drop, C: Wire + Drop, R: Wait>(
+    rt: &R,
+    bank: &Bank<B>,
+    running: Running<B, (A, Counted, C)>,
+) -> Ended<A, C> {
+    let mut running = running;
+    running.halt(rt, bank);
+    match running.into_tx().into_parts() {
         Ok(parts) => {
             let Parts {
                 stake,
+                ends,
+                outcome,
+                seen: _,
+            } = parts;
+            bank.close(rt, stake, Pages::none());
+            let Ends {
                 source: _,
                 source_wire,
                 service,
                 next: _,
                 next_wire,
                 back: _,
-                forward: _,
-                outcome,
-                seen: _,
-            } = parts;
-            bank.close(rt, stake, Pages::none());
+                maker: _,
+            } = ends;
             Ended {
                 outcome,
                 source: source_wire,
@@ -136,21 +133,8 @@ fn end_of<
     }
 }
 
-/// Ends a transaction: one that isn't over fails. Its reservation is closed.
-pub fn end<B: Ledgers, A: Wire, C: Wire, R: Wait>(
-    rt: &R,
-    bank: &Bank<B>,
-    running: Running<B, A, Counted, C>,
-) -> Ended<A, C> {
-    end_of(rt, bank, running.into_tx())
-}
-
 /// Takes apart what no transaction began with.
-pub fn undo<B: Ledgers, A: Drop, W: Drop, C: Drop, R: Wait>(
-    rt: &R,
-    bank: &Bank<B>,
-    beginning: Beginning<B, A, W, C>,
-)
+pub fn undo<B: Ledgers, W: Wires, R: Wait>(rt: &R, bank: &Bank<B>, beginning: Beginning<B, W>)
     requires { (beginning.stake.held ≡ 0) × (beginning.stake.pages ≡ 0) }
 {
     let Beginning {

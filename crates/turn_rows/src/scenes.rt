@@ -22,7 +22,7 @@ const DEADLINE: u64 = 60;
 pub const BEGIN: u64 = 100;
 
 /// A transaction of the proxy's own sides over wires in memory, the source's being one of these.
-pub type Moving<B, A> = Running<B, A, Counted, Counted>;
+pub type Moving<B, A> = Running<B, (A, Counted, Counted)>;
 
 /// What is configured: the service's connection was used before if the plan allows a retry.
 fn limits_of(plan: &Plan) -> Limits {

@@ -20,7 +20,7 @@ use std::thread::Threads;
 use std::time::Clock;
 use test_rows::{NoMemory, put_line, put_shown};
 use trace_core::Plan;
-use wire_kit::{Answer, Answers, HoldGate, SharedWire};
+use wire_kit::{Answer, Answers, HoldGate, SharedWire, Wire};
 use wire_rows::{Scene, Values, plan_of, put_flag, put_text};
 
 /// What both transactions claim: a window and a window, twice.
@@ -103,24 +103,37 @@ fn held_wires<A: Drop>(
     })
 }
 
-/// What the first transaction reports, whose origin answers by this list.
-fn first_by<B: Ledgers, R: Wait + Clock>(
+/// What a transaction reports over this wire of its source, once it has ended.
+fn reported<B: Ledgers, A: Wire + Drop, R: Wait>(
     rt: &R,
     alloc: Global,
     bank: &Bank<B>,
-    gate: &HoldGate,
-    answers: &Answers,
+    source: A,
     plan: Plan,
     scene: Scene<'_>,
     values: Values,
 ) -> Result<Vec<u8>, NoMemory> {
-    let source = held_wire(rt, alloc, gate, answers, scene)?;
     let wires = held_wires(alloc, source, scene, values)?;
     let Some(mut tx) = begun_on(rt, alloc, bank, plan, scene, wires)? else {
         return Ok(Vec::new(alloc));
     };
     drive_to_end(rt, bank, &mut tx);
     told_of(alloc, &end(rt, bank, tx), scene, values)
+}
+
+/// What the first transaction reports, whose origin answers by this list.
+fn first_by<'a, B: Ledgers, R: Wait + Clock>(
+    rt: &'a R,
+    alloc: Global,
+    bank: &Bank<B>,
+    gate: &'a HoldGate,
+    answers: &'a Answers,
+    plan: Plan,
+    scene: Scene<'_>,
+    values: Values,
+) -> Result<Vec<u8>, NoMemory> {
+    let source = held_wire(rt, alloc, gate, answers, scene)?;
+    reported(rt, alloc, bank, source, plan, scene, values)
 }
 
 /// What the first transaction reports, with its own answers.

@@ -7,10 +7,10 @@ ghost use Rattle.adapt_turn.specs.Made.{MakesAt, MakesNoneAt, adapted_of, respon
 ghost use Rattle.adapt_turn.specs.Passes.{Begins, GivesOne, NextPasses, choice_of, writers};
 ghost use Rattle.adapt_turn.specs.Stands.{IsChosen};
 
-use crate::forward::Forward;
-use crate::parts::{Passed, close, give};
+use crate::ends::{EndTypes, Line};
+use crate::head::MakesHead;
 use crate::pass::idle;
-use crate::start::Line;
+use crate::steps::{Passed, close, give};
 use adapt_hold::Hold;
 use adapt_sides::{Hop, Service, Source};
 use span_bank::{Bank, Ledgers};
@@ -21,31 +21,22 @@ use wire_kit::Wire;
 
 /// A pass of the next hop's side: nothing is due before a message is chosen. The first pass after that begins the message, on the
 /// writer back to the user where it answers the user, else on the next hop's.
-pub(crate) fn next_pass<
-    B: Ledgers,
-    S: Source,
-    V: Service,
-    K: Hop,
-    F: Forward<S, K>,
-    A: Wire,
-    W,
-    C: Wire,
->(
+pub(crate) fn next_pass<B: Ledgers, E: EndTypes>(
     rt: &impl Wait,
     bank: &Bank<B>,
     alloc: Global,
     hold: &mut Hold<B>,
-    forward: &mut F,
-    source: &S,
-    service: &Option<Line<V, W>>,
-    next: &mut K,
-    next_wire: &mut C,
-    back: &mut K,
-    back_wire: &mut A,
+    maker: &mut E::Maker,
+    source: &E::Reader,
+    service: &Option<Line<E::Client, E::ServiceWire>>,
+    next: &mut E::Writer,
+    next_wire: &mut E::NextWire,
+    back: &mut E::Writer,
+    back_wire: &mut E::SourceWire,
 ) -> Passed
     requires running { (shows hold.old.history).closed ≡ false }
     requires roomy { IsRoomy hold.old }
-    ensures passes { NextPasses K.Hop A.Wire C.Wire (choice_of V.Service (F.makes forward.new (S.head source.now)) (F.makes_none forward.old (S.head source.now)) (forward.new ≡ forward.old) service.now (shows hold.old.history))
+    ensures passes { NextPasses E.Writer.Hop E.SourceWire.Wire E.NextWire.Wire (choice_of E.Client.Service (E.Maker.makes maker.new (E.Reader.head source.now)) (E.Maker.makes_none maker.old (E.Reader.head source.now)) (maker.new ≡ maker.old) service.now (shows hold.old.history))
         (writers hold.old next.old next_wire.old back.old back_wire.old) (writers hold.new next.new next_wire.new back.new back_wire.new) result }
     ensures roomy { IsRoomy hold.new }
 {
@@ -53,7 +44,7 @@ pub(crate) fn next_pass<
     if !is_chosen(hold) {
         return idle();
     }
-    match begin::<B, S, V, K, F, W>(alloc, hold, forward, source, service, next, back) {
+    match begin::<B, E>(alloc, hold, maker, source, service, next, back) {
         Ok(()) => give_pass(rt, bank, hold, next, next_wire, back, back_wire),
         Err(cause) => close(rt, bank, hold, cause),
     }
@@ -69,19 +60,19 @@ fn is_chosen<B: Ledgers>(hold: &Hold<B>) -> bool
 }
 
 /// Begins the chosen message, if no message is begun, or says why its head couldn't be made.
-fn begin<B: Ledgers, S: Source, V: Service, K: Hop, F: Forward<S, K>, W>(
+fn begin<B: Ledgers, E: EndTypes>(
     alloc: Global,
     hold: &Hold<B>,
-    forward: &mut F,
-    source: &S,
-    service: &Option<Line<V, W>>,
-    next: &mut K,
-    back: &mut K,
+    maker: &mut E::Maker,
+    source: &E::Reader,
+    service: &Option<Line<E::Client, E::ServiceWire>>,
+    next: &mut E::Writer,
+    back: &mut E::Writer,
 ) -> Result<(), Cause>
-    ensures begun { IfOk result (λ _. Begins K.Hop (choice_of V.Service (F.makes forward.new (S.head source.now)) (F.makes_none forward.old (S.head source.now)) (forward.new ≡ forward.old) service.now (shows hold.now.history))
+    ensures begun { IfOk result (λ _. Begins E.Writer.Hop (choice_of E.Client.Service (E.Maker.makes maker.new (E.Reader.head source.now)) (E.Maker.makes_none maker.old (E.Reader.head source.now)) (maker.new ≡ maker.old) service.now (shows hold.now.history))
         next.old back.old next.new back.new) }
-    ensures none { IfErr result (λ cause. MakesNoneAt (F.makes_none forward.old (S.head source.now)) (adapted_of V.adapted_head service.now) (response_of V.is_response service.now) (shows hold.now.history) cause) }
-    ensures unbegun { IfErr result (λ cause. (K.gift next.old ≡ nothing) × (K.gift back.old ≡ nothing) × (next.new ≡ next.old) × (back.new ≡ back.old)) }
+    ensures none { IfErr result (λ cause. MakesNoneAt (E.Maker.makes_none maker.old (E.Reader.head source.now)) (adapted_of E.Client.adapted_head service.now) (response_of E.Client.is_response service.now) (shows hold.now.history) cause) }
+    ensures unbegun { IfErr result (λ cause. (E.Writer.gift next.old ≡ nothing) × (E.Writer.gift back.old ≡ nothing) × (next.new ≡ next.old) × (back.new ≡ back.old)) }
 {
     if !next.is_idle() {
         return Ok(());
@@ -90,7 +81,7 @@ fn begin<B: Ledgers, S: Source, V: Service, K: Hop, F: Forward<S, K>, W>(
         return Ok(());
     }
     let answers = answers_user(hold, service);
-    match forwarded::<B, S, V, K, F, W>(alloc, forward, hold, source, service) {
+    match forwarded::<B, E>(alloc, maker, hold, source, service) {
         Ok((head, framing)) => {
             if answers {
                 back.begin(head, framing);
@@ -122,27 +113,27 @@ fn is_reqmod(point: Point) -> bool
 }
 
 /// The head of the chosen message, and how its body goes.
-fn forwarded<B: Ledgers, S: Source, V: Service, K: Hop, F: Forward<S, K>, W>(
+fn forwarded<B: Ledgers, E: EndTypes>(
     alloc: Global,
-    forward: &mut F,
+    maker: &mut E::Maker,
     hold: &Hold<B>,
-    source: &S,
-    service: &Option<Line<V, W>>,
-) -> Result<(Vec<u8>, K::Framing), Cause>
-    ensures made { IfOk result (λ made. MakesAt (F.makes forward.new (S.head source.now)) (adapted_of V.adapted_head service.now) (response_of V.is_response service.now) (shows hold.now.history) made.0.items made.1) }
-    ensures none { IfErr result (λ cause. MakesNoneAt (F.makes_none forward.old (S.head source.now)) (adapted_of V.adapted_head service.now) (response_of V.is_response service.now) (shows hold.now.history) cause) }
+    source: &E::Reader,
+    service: &Option<Line<E::Client, E::ServiceWire>>,
+) -> Result<(Vec<u8>, <E::Writer as Hop>::Framing), Cause>
+    ensures made { IfOk result (λ made. MakesAt (E.Maker.makes maker.new (E.Reader.head source.now)) (adapted_of E.Client.adapted_head service.now) (response_of E.Client.is_response service.now) (shows hold.now.history) made.0.items made.1) }
+    ensures none { IfErr result (λ cause. MakesNoneAt (E.Maker.makes_none maker.old (E.Reader.head source.now)) (adapted_of E.Client.adapted_head service.now) (response_of E.Client.is_response service.now) (shows hold.now.history) cause) }
     ensures tied { IsTied hold.now }
 {
     let state = hold.state();
     match service {
-        Some(line) if state.seen().modified => forward.forward(
+        Some(line) if state.seen().modified => maker.forward(
             alloc,
             state,
             source,
             line.side.adapted_head(),
             line.side.is_response(),
         ),
-        _ => forward.forward(alloc, state, source, None, false),
+        _ => maker.forward(alloc, state, source, None, false),
     }
 }
 

@@ -7,9 +7,9 @@ ghost use Rattle.adapt_hold.specs.Holding.{shows, IsRoomy, IsTied};
 ghost use Rattle.adapt_turn.specs.Parts.{Breaks, HasCause, lending, HearPart};
 ghost use Rattle.adapt_turn.specs.Passes.{ServicePasses, LinePasses};
 
-use crate::parts::{Passed, send, take_service};
+use crate::ends::Line;
 use crate::pass::idle;
-use crate::start::Line;
+use crate::steps::{Passed, send, take_service};
 use adapt_hold::Hold;
 use adapt_sides::Service;
 use plan_rules::TURN_BYTES;

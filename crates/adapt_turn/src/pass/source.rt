@@ -5,7 +5,7 @@ ghost use Rattle.adapt_hold.specs.Holding.{shows, IsRoomy};
 ghost use Rattle.adapt_turn.specs.Parts.{HasCause, lending, SourcePart};
 ghost use Rattle.adapt_turn.specs.Passes.{SourcePasses};
 
-use crate::parts::{Passed, close, take_source};
+use crate::steps::{Passed, close, take_source};
 use adapt_hold::Hold;
 use adapt_sides::Source;
 use plan_rules::TURN_BYTES;

@@ -23,7 +23,7 @@ ghost use Rattle.adapt_turn.specs.Rows.{may_step, TookBy, Advances};
 ghost use Rattle.adapt_turn.specs.Stands.{IsChosen, IsDone, Waited, WaitedBoth, Blamed, BlamedWriter, BlamedService};
 ghost use Rattle.adapt_turn.specs.ByTurn.{BySide, OfWriter, ByAnswer};
 
-use crate::forward::Forward;
+use crate::ends::EndTypes;
 use crate::tx::{Going, Refusing, Tx};
 use adapt_sides::{Hop, Service, Source};
 use span_bank::Ledgers;
@@ -52,60 +52,51 @@ pub trait Answering {
     ghost faultless: { Self → Type 0 };
 }
 
-impl<
-    B: Ledgers,
-    S: Source,
-    V: Service,
-    K: Hop,
-    F: Forward<S, K>,
-    A: Wire,
-    W: Wire,
-    C: Wire,
-> Answering for Tx<B, S, V, K, F, A, W, C> {
+impl<B: Ledgers, E: EndTypes> Answering for Tx<B, E> {
     ghost answers = { λ old side new turned. ByAnswer turned
-        ((new.hold ≡ old.hold) × ⟦<Tx<B, S, V, K, F, A, W, C> as Going>⟧.moves old new 0
-        × ((shows old.hold.history).closed ≡ true → ⟦<Tx<B, S, V, K, F, A, W, C> as Refusing>⟧.refusal_waits old new)
+        ((new.hold ≡ old.hold) × ⟦<Tx<B, E> as Going>⟧.moves old new 0
+        × ((shows old.hold.history).closed ≡ true → ⟦<Tx<B, E> as Refusing>⟧.refusal_waits old new)
         × ((shows old.hold.history).closed ≡ false → BySide side
-        ((Waited (S.rests (original_room (shows old.hold.history) old.hold.claim old.hold.limits.window) new.source) (λ past. past.read_waits) (A.past old.source_wire) (A.past new.source_wire)) × S.is_framed (original_room (shows old.hold.history) old.hold.claim old.hold.limits.window) new.source)
-        ((WaitedBoth (MatchOption new.service ⊤ (λ line. V.rests_writing (shows old.hold.history) line.side)) (MatchOption new.service ⊤ (λ line. V.rests_reading (shows old.hold.history) (adapted_room (shows old.hold.history) old.hold.limits.window) line.side))
-        (λ p. on_held old.service ⊥ (λ wire. W.past wire p)) (λ p. on_held new.service ⊥ (λ wire. W.past wire p)))
-        × MatchOption new.service ⊤ (λ line. MatchOption line.wire ⊤ (λ wire. V.is_framed (adapted_room (shows old.hold.history) old.hold.limits.window) line.side)))
-        ((IsChosen (shows old.hold.history) → ⊥) ⊎ ((K.gift new.next ≡ nothing → K.gift new.back ≡ nothing → ⊥) × OfWriter (K.gift new.back)
-        (Waited (K.rests (shows old.hold.history) new.next) (λ past. past.write_waits) (C.past old.next_wire) (C.past new.next_wire))
-        (Waited (K.rests (shows old.hold.history) new.back) (λ past. past.write_waits) (A.past old.source_wire) (A.past new.source_wire))))))
-        (λ n. ⟦<Tx<B, S, V, K, F, A, W, C> as Going>⟧.moves old new n
-        × (n ≡ 0 → (p q r : Past) → A.past old.source_wire p → on_held old.service ⊤ (λ wire. W.past wire q) → C.past old.next_wire r
+        ((Waited (E.Reader.rests (original_room (shows old.hold.history) old.hold.claim old.hold.limits.window) new.ends.source) (λ past. past.read_waits) (E.SourceWire.past old.ends.source_wire) (E.SourceWire.past new.ends.source_wire)) × E.Reader.is_framed (original_room (shows old.hold.history) old.hold.claim old.hold.limits.window) new.ends.source)
+        ((WaitedBoth (MatchOption new.ends.service ⊤ (λ line. E.Client.rests_writing (shows old.hold.history) line.side)) (MatchOption new.ends.service ⊤ (λ line. E.Client.rests_reading (shows old.hold.history) (adapted_room (shows old.hold.history) old.hold.limits.window) line.side))
+        (λ p. on_held old.ends.service ⊥ (λ wire. E.ServiceWire.past wire p)) (λ p. on_held new.ends.service ⊥ (λ wire. E.ServiceWire.past wire p)))
+        × MatchOption new.ends.service ⊤ (λ line. MatchOption line.wire ⊤ (λ wire. E.Client.is_framed (adapted_room (shows old.hold.history) old.hold.limits.window) line.side)))
+        ((IsChosen (shows old.hold.history) → ⊥) ⊎ ((E.Writer.gift new.ends.next ≡ nothing → E.Writer.gift new.ends.back ≡ nothing → ⊥) × OfWriter (E.Writer.gift new.ends.back)
+        (Waited (E.Writer.rests (shows old.hold.history) new.ends.next) (λ past. past.write_waits) (E.NextWire.past old.ends.next_wire) (E.NextWire.past new.ends.next_wire))
+        (Waited (E.Writer.rests (shows old.hold.history) new.ends.back) (λ past. past.write_waits) (E.SourceWire.past old.ends.source_wire) (E.SourceWire.past new.ends.source_wire))))))
+        (λ n. ⟦<Tx<B, E> as Going>⟧.moves old new n
+        × (n ≡ 0 → (p q r : Past) → E.SourceWire.past old.ends.source_wire p → on_held old.ends.service ⊤ (λ wire. E.ServiceWire.past wire q) → E.NextWire.past old.ends.next_wire r
         → ((shows old.hold.history).closed ≡ false) × Advances (may_step side) old.hold new.hold))
         ((side ≡ sides.Service) × ((shows old.hold.history).closed ≡ false) × MayFollow new.hold.history.plan new.hold.history.events Retry
-        × ((old.pace.broken ≡ true) ⊎ MatchOption new.service ⊥ (λ line. Breaks new.hold.history old.pace.reused (V.fault line.side))))
-        (λ outcome. ((shows old.hold.history).closed ≡ true) × (outcome ≡ old.outcome) × ((old.refusing ≡ false) ⊎ ⟦<Tx<B, S, V, K, F, A, W, C> as Refusing>⟧.refusal_is_over new)
+        × ((old.pace.broken ≡ true) ⊎ MatchOption new.ends.service ⊥ (λ line. Breaks new.hold.history old.pace.reused (E.Client.fault line.side))))
+        (λ outcome. ((shows old.hold.history).closed ≡ true) × (outcome ≡ old.outcome) × ((old.refusing ≡ false) ⊎ ⟦<Tx<B, E> as Refusing>⟧.refusal_is_over new)
         × (outcome ≡ outcomes.Done → IsDone new.hold.history)) };
 
     ghost keeps = { λ old side new. ((shows old.hold.history).closed ≡ false → TookBy (may_step side) old.hold new.hold
-        × BySide side ((new.service ≡ old.service) × (new.next_wire ≡ old.next_wire)
+        × BySide side ((new.ends.service ≡ old.ends.service) × (new.ends.next_wire ≡ old.ends.next_wire)
         × ((shows new.hold.history).received ≤ (shows old.hold.history).received + TURN_BYTES)
-        × (((cause : Cause) → new.outcome ≡ outcomes.Fail cause → ⊥) → (new.next ≡ old.next) × (new.back ≡ old.back)))
-        ((new.source ≡ old.source) × (new.source_wire ≡ old.source_wire) × (new.next_wire ≡ old.next_wire)
+        × (((cause : Cause) → new.outcome ≡ outcomes.Fail cause → ⊥) → (new.ends.next ≡ old.ends.next) × (new.ends.back ≡ old.ends.back)))
+        ((new.ends.source ≡ old.ends.source) × (new.ends.source_wire ≡ old.ends.source_wire) × (new.ends.next_wire ≡ old.ends.next_wire)
         × ((shows new.hold.history).adapted_received ≤ (shows old.hold.history).adapted_received + TURN_BYTES)
-        × (((cause : Cause) → new.outcome ≡ outcomes.Fail cause → ⊥) → (new.next ≡ old.next) × (new.back ≡ old.back)))
-        ((new.source ≡ old.source) × (new.service ≡ old.service) × ((new.source_wire ≡ old.source_wire) ⊎ (new.next_wire ≡ old.next_wire))
-        × (((cause : Cause) → new.outcome ≡ outcomes.Fail cause → ⊥) → OfWriter (K.gift new.back) (new.source_wire ≡ old.source_wire) (new.next_wire ≡ old.next_wire)))
-        × (K.gift old.back ≡ nothing → K.gift new.back ≡ message → answers_user (shows old.hold.history) (response_of V.is_response old.service) ≡ true)
-        × (K.gift old.next ≡ nothing → K.gift new.next ≡ message → answers_user (shows old.hold.history) (response_of V.is_response old.service) ≡ false))
-        × ((shows old.hold.history).closed ≡ true → (new.source ≡ old.source) × (new.service ≡ old.service)
-        × (old.hold.history.plan.point ≡ Respmod → new.source_wire ≡ old.source_wire) × (old.hold.history.plan.point ≡ Reqmod → new.next_wire ≡ old.next_wire)) };
+        × (((cause : Cause) → new.outcome ≡ outcomes.Fail cause → ⊥) → (new.ends.next ≡ old.ends.next) × (new.ends.back ≡ old.ends.back)))
+        ((new.ends.source ≡ old.ends.source) × (new.ends.service ≡ old.ends.service) × ((new.ends.source_wire ≡ old.ends.source_wire) ⊎ (new.ends.next_wire ≡ old.ends.next_wire))
+        × (((cause : Cause) → new.outcome ≡ outcomes.Fail cause → ⊥) → OfWriter (E.Writer.gift new.ends.back) (new.ends.source_wire ≡ old.ends.source_wire) (new.ends.next_wire ≡ old.ends.next_wire)))
+        × (E.Writer.gift old.ends.back ≡ nothing → E.Writer.gift new.ends.back ≡ message → answers_user (shows old.hold.history) (response_of E.Client.is_response old.ends.service) ≡ true)
+        × (E.Writer.gift old.ends.next ≡ nothing → E.Writer.gift new.ends.next ≡ message → answers_user (shows old.hold.history) (response_of E.Client.is_response old.ends.service) ≡ false))
+        × ((shows old.hold.history).closed ≡ true → (new.ends.source ≡ old.ends.source) × (new.ends.service ≡ old.ends.service)
+        × (old.hold.history.plan.point ≡ Respmod → new.ends.source_wire ≡ old.ends.source_wire) × (old.hold.history.plan.point ≡ Reqmod → new.ends.next_wire ≡ old.ends.next_wire)) };
 
     ghost fails = { λ old side now new cause. ((cause ≡ Deadline) × (old.pace.last_moved + old.pace.deadline ≤ now)) ⊎ BySide side
-        ((S.agrees (shows old.hold.history) old.source → Blamed OfRelayWire source_cause cause (S.fault old.source) (S.fault new.source) (A.past old.source_wire) (A.past new.source_wire))
-        × ((S.agrees (shows old.hold.history) old.source → ⊥) → cause ≡ causes.Source)
-        × HasCause (S.fault old.source) (S.fault new.source) (λ fault. S.has_reason fault new.source))
-        ((wire_of old.service ≡ None → ⊥) × BlamedService cause (fault_of (λ line. V.fault line.side) old.service) (fault_of (λ line. V.fault line.side) new.service)
-        (λ p. on_held old.service ⊥ (λ wire. W.past wire p)) (λ p. on_held new.service ⊥ (λ wire. W.past wire p))
-        × FailsFor (λ line. V.fault line.side) (λ fault x line. V.has_reason fault x line.side) cause old.pace.reused old.service new.service new.hold)
-        ((IsChosen (shows old.hold.history) × (K.gift old.next ≡ nothing) × (K.gift old.back ≡ nothing)
-        × MakesNoneAt (F.makes_none old.forward (S.head old.source)) (adapted_of V.adapted_head old.service) (response_of V.is_response old.service) (shows old.hold.history) cause)
-        ⊎ (BlamedWriter cause (FailsGiving (K.breaks_length (shows old.hold.history) (K.body_framing new.next))) (K.fault old.next) (C.past old.next_wire) (C.past new.next_wire)
-        ⊎ BlamedWriter cause (FailsGiving (K.breaks_length (shows old.hold.history) (K.body_framing new.back))) (K.fault old.back) (A.past old.source_wire) (A.past new.source_wire))) };
+        ((E.Reader.agrees (shows old.hold.history) old.ends.source → Blamed OfRelayWire source_cause cause (E.Reader.fault old.ends.source) (E.Reader.fault new.ends.source) (E.SourceWire.past old.ends.source_wire) (E.SourceWire.past new.ends.source_wire))
+        × ((E.Reader.agrees (shows old.hold.history) old.ends.source → ⊥) → cause ≡ causes.Source)
+        × HasCause (E.Reader.fault old.ends.source) (E.Reader.fault new.ends.source) (λ fault. E.Reader.has_reason fault new.ends.source))
+        ((wire_of old.ends.service ≡ None → ⊥) × BlamedService cause (fault_of (λ line. E.Client.fault line.side) old.ends.service) (fault_of (λ line. E.Client.fault line.side) new.ends.service)
+        (λ p. on_held old.ends.service ⊥ (λ wire. E.ServiceWire.past wire p)) (λ p. on_held new.ends.service ⊥ (λ wire. E.ServiceWire.past wire p))
+        × FailsFor (λ line. E.Client.fault line.side) (λ fault x line. E.Client.has_reason fault x line.side) cause old.pace.reused old.ends.service new.ends.service new.hold)
+        ((IsChosen (shows old.hold.history) × (E.Writer.gift old.ends.next ≡ nothing) × (E.Writer.gift old.ends.back ≡ nothing)
+        × MakesNoneAt (E.Maker.makes_none old.ends.maker (E.Reader.head old.ends.source)) (adapted_of E.Client.adapted_head old.ends.service) (response_of E.Client.is_response old.ends.service) (shows old.hold.history) cause)
+        ⊎ (BlamedWriter cause (FailsGiving (E.Writer.breaks_length (shows old.hold.history) (E.Writer.body_framing new.ends.next))) (E.Writer.fault old.ends.next) (E.NextWire.past old.ends.next_wire) (E.NextWire.past new.ends.next_wire)
+        ⊎ BlamedWriter cause (FailsGiving (E.Writer.breaks_length (shows old.hold.history) (E.Writer.body_framing new.ends.back))) (E.Writer.fault old.ends.back) (E.SourceWire.past old.ends.source_wire) (E.SourceWire.past new.ends.source_wire))) };
 
-    ghost faultless = { λ tx. (S.fault tx.source ≡ None) × (tx.pace.broken ≡ false → fault_of (λ line. V.fault line.side) tx.service ≡ None) × (K.fault tx.next ≡ None) × (K.fault tx.back ≡ None) };
+    ghost faultless = { λ tx. (E.Reader.fault tx.ends.source ≡ None) × (tx.pace.broken ≡ false → fault_of (λ line. E.Client.fault line.side) tx.ends.service ≡ None) × (E.Writer.fault tx.ends.next ≡ None) × (E.Writer.fault tx.ends.back ≡ None) };
 }

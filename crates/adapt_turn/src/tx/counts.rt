@@ -4,8 +4,7 @@ ghost use Rattle.std.specs.Prelude.{◌≡◌, ◌+◌, ◌-◌, ◌^◌, min};
 ghost use Rattle.adapt_turn.specs.Made.{on_held};
 ghost use Rattle.adapt_turn.specs.Moved.{AreCounts, counted};
 
-use crate::forward::Forward;
-use crate::start::Line;
+use crate::ends::{EndTypes, Line};
 use crate::tx::Tx;
 use adapt_sides::{Hop, Service, Source};
 use span_bank::Ledgers;
@@ -52,26 +51,17 @@ fn line_counts<V, W: Wire>(service: &Option<Line<V, W>>) -> (u64, u64)
     }
 }
 
-impl<B: Ledgers, S: Source, V: Service, K: Hop, F: Forward<S, K>, A: Wire, W: Wire, C: Wire> Tx<
-    B,
-    S,
-    V,
-    K,
-    F,
-    A,
-    W,
-    C,
-> {
+impl<B: Ledgers, E: EndTypes> Tx<B, E> {
     /// The bytes that the wires gave and took so far.
     pub(crate) fn counts(&self) -> WireCounts
-        ensures source { AreCounts result.source (A.past self.now.source_wire) }
-        ensures service { on_held self.now.service ((result.service.0 ≡ 0) × (result.service.1 ≡ 0)) (λ wire. AreCounts result.service (W.past wire)) }
-        ensures next { AreCounts result.next (C.past self.now.next_wire) }
+        ensures source { AreCounts result.source (E.SourceWire.past self.now.ends.source_wire) }
+        ensures service { on_held self.now.ends.service ((result.service.0 ≡ 0) × (result.service.1 ≡ 0)) (λ wire. AreCounts result.service (E.ServiceWire.past wire)) }
+        ensures next { AreCounts result.next (E.NextWire.past self.now.ends.next_wire) }
     {
         WireCounts {
-            source: self.source_wire.counts(),
-            service: line_counts(&self.service),
-            next: self.next_wire.counts(),
+            source: self.ends.source_wire.counts(),
+            service: line_counts(&self.ends.service),
+            next: self.ends.next_wire.counts(),
         }
     }
 }

@@ -6,8 +6,7 @@ ghost use Rattle.adapt_turn.specs.Made.{wire_of, without_wire};
 ghost use Rattle.adapt_turn.specs.Freeing.{MayFree};
 ghost use Rattle.adapt_turn.specs.Stands.{Texts};
 
-use crate::forward::Forward;
-use crate::start::{FreeLine, Line};
+use crate::ends::{EndTypes, FreeLine, Line};
 use crate::tx::{Answering, Standing, Tx};
 use adapt_sides::{Hop, Service, Source};
 use span_bank::Ledgers;
@@ -43,16 +42,7 @@ fn take_held<V: Service, W>(service: &mut Option<Line<V, W>>) -> Option<W>
     }
 }
 
-impl<B: Ledgers, S: Source, V: Service, K: Hop, F: Forward<S, K>, A: Wire, W: Wire, C: Wire> Tx<
-    B,
-    S,
-    V,
-    K,
-    F,
-    A,
-    W,
-    C,
-> {
+impl<B: Ledgers, E: EndTypes> Tx<B, E> {
     /// Whether the service's exchange is over for this transaction: it leaves the message as it is, or the adapted message has ended,
     /// or the transaction is closed.
     fn may_free(&self) -> bool
@@ -65,37 +55,37 @@ impl<B: Ledgers, S: Source, V: Service, K: Hop, F: Forward<S, K>, A: Wire, W: Wi
     /// Gives up the connection to the service, and says whether it may carry another request. `None` if no connection is held, or
     /// as long as the service's exchange goes on. No byte of this transaction goes over it any more: what its wire took and gave
     /// stays what it was, and later turns of the service find nothing due.
-    pub fn free_line(&mut self) -> Option<FreeLine<W>>
+    pub fn free_line(&mut self) -> Option<FreeLine<E::ServiceWire>>
         ensures over { IfSome result (λ free. MayFree (shows self.old.hold.history)) }
-        ensures due { result ≡ None → MayFree (shows self.old.hold.history) → wire_of self.old.service ≡ None }
-        ensures wire { IfSome result (λ free. wire_of self.old.service ≡ Some free.wire) }
-        ensures reusable { IfSome result (λ free. IfSome self.old.service (λ line. free.is_reusable ≡ V.reusable line.side)) }
-        ensures freed { IfSome result (λ free. self.new.service ≡ without_wire self.old.service) }
-        ensures same { result ≡ None → self.new.service ≡ self.old.service }
+        ensures due { result ≡ None → MayFree (shows self.old.hold.history) → wire_of self.old.ends.service ≡ None }
+        ensures wire { IfSome result (λ free. wire_of self.old.ends.service ≡ Some free.wire) }
+        ensures reusable { IfSome result (λ free. IfSome self.old.ends.service (λ line. free.is_reusable ≡ E.Client.reusable line.side)) }
+        ensures freed { IfSome result (λ free. self.new.ends.service ≡ without_wire self.old.ends.service) }
+        ensures same { result ≡ None → self.new.ends.service ≡ self.old.ends.service }
         ensures stands { (request : List ℕ) (t : Texts) → ⟦<Self as Standing>⟧.stands self.old request t → ⟦<Self as Standing>⟧.stands self.new request t }
         ensures faultless { ⟦<Self as Answering>⟧.faultless self.old → ⟦<Self as Answering>⟧.faultless self.new }
-        ensures kept { (self.new.hold ≡ self.old.hold) × (self.new.outcome ≡ self.old.outcome) × (self.new.refusing ≡ self.old.refusing) × (self.new.source ≡ self.old.source) × (self.new.source_wire ≡ self.old.source_wire)
-            × (self.new.next ≡ self.old.next) × (self.new.next_wire ≡ self.old.next_wire) × (self.new.back ≡ self.old.back) }
+        ensures kept { (self.new.hold ≡ self.old.hold) × (self.new.outcome ≡ self.old.outcome) × (self.new.refusing ≡ self.old.refusing) × (self.new.ends.source ≡ self.old.ends.source) × (self.new.ends.source_wire ≡ self.old.ends.source_wire)
+            × (self.new.ends.next ≡ self.old.ends.next) × (self.new.ends.next_wire ≡ self.old.ends.next_wire) × (self.new.ends.back ≡ self.old.ends.back) }
         ensures pace { self.new.pace ≡ self.old.pace }
     {
         if !self.may_free() {
             return None;
         }
-        take_wire(&mut self.service)
+        take_wire(&mut self.ends.service)
     }
 
     /// Takes out the connection that broke, so that it is closed before a fresh one is opened in its place. What its wire took and
     /// gave stays what it was.
-    pub fn take_broken(&mut self) -> Option<W>
+    pub fn take_broken(&mut self) -> Option<E::ServiceWire>
         requires broken { self.old.pace.broken ≡ true }
-        ensures wire { result ≡ wire_of self.old.service }
-        ensures taken { self.new.service ≡ without_wire self.old.service }
+        ensures wire { result ≡ wire_of self.old.ends.service }
+        ensures taken { self.new.ends.service ≡ without_wire self.old.ends.service }
         ensures stands { (request : List ℕ) (t : Texts) → ⟦<Self as Standing>⟧.stands self.old request t → ⟦<Self as Standing>⟧.stands self.new request t }
         ensures faultless { ⟦<Self as Answering>⟧.faultless self.old → ⟦<Self as Answering>⟧.faultless self.new }
-        ensures kept { (self.new.hold ≡ self.old.hold) × (self.new.outcome ≡ self.old.outcome) × (self.new.refusing ≡ self.old.refusing) × (self.new.source ≡ self.old.source) × (self.new.source_wire ≡ self.old.source_wire)
-            × (self.new.next ≡ self.old.next) × (self.new.next_wire ≡ self.old.next_wire) × (self.new.back ≡ self.old.back) }
+        ensures kept { (self.new.hold ≡ self.old.hold) × (self.new.outcome ≡ self.old.outcome) × (self.new.refusing ≡ self.old.refusing) × (self.new.ends.source ≡ self.old.ends.source) × (self.new.ends.source_wire ≡ self.old.ends.source_wire)
+            × (self.new.ends.next ≡ self.old.ends.next) × (self.new.ends.next_wire ≡ self.old.ends.next_wire) × (self.new.ends.back ≡ self.old.ends.back) }
         ensures pace { self.new.pace ≡ self.old.pace }
     {
-        take_held(&mut self.service)
+        take_held(&mut self.ends.service)
     }
 }

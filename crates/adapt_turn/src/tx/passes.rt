@@ -6,11 +6,11 @@ ghost use Rattle.adapt_turn.specs.Made.{MakesNoneAt, wire_of, adapted_of, respon
 ghost use Rattle.adapt_turn.specs.Parts.{lending, outcome_by};
 ghost use Rattle.adapt_turn.specs.Passes.{AnyPasses, LinePasses, NextPasses, SourcePasses, choice_of, writers};
 
-use crate::forward::Forward;
-use crate::parts::{Passed, outcome_by};
+use crate::ends::EndTypes;
 use crate::pass::hop::next_pass;
 use crate::pass::service::service_pass;
 use crate::pass::source::source_pass;
+use crate::steps::{Passed, outcome_by};
 use crate::turned::Side;
 use crate::tx::{Going, Tx};
 use adapt_sides::{Hop, Service, Source};
@@ -18,16 +18,7 @@ use span_bank::{Bank, Ledgers};
 use std::sync::Wait;
 use wire_kit::Wire;
 
-impl<B: Ledgers, S: Source, V: Service, K: Hop, F: Forward<S, K>, A: Wire, W: Wire, C: Wire> Tx<
-    B,
-    S,
-    V,
-    K,
-    F,
-    A,
-    W,
-    C,
-> {
+impl<B: Ledgers, E: EndTypes> Tx<B, E> {
     /// Whether Done or Fail stands.
     pub(crate) fn is_closed(&self) -> bool
         ensures { result ≡ (shows self.now.hold.history).closed }
@@ -39,17 +30,17 @@ impl<B: Ledgers, S: Source, V: Service, K: Hop, F: Forward<S, K>, A: Wire, W: Wi
     pub(crate) fn pass(&mut self, rt: &impl Wait, bank: &Bank<B>, side: Side) -> Passed
         requires running { (shows self.old.hold.history).closed ≡ false }
         ensures goes { ⟦<Self as Going>⟧.goes self.old self.new }
-        ensures any { AnyPasses V.Service self.old.pace.reused (MakesNoneAt (F.makes_none self.old.forward (S.head self.old.source)) (adapted_of V.adapted_head self.old.service) (response_of V.is_response self.old.service) (shows self.old.hold.history))
-            side self.old.hold self.new.hold self.new.service result }
-        ensures source { side ≡ Side.Source → SourcePasses S.Source A.Wire (lending self.old.hold self.old.source self.old.source_wire) (lending self.new.hold self.new.source self.new.source_wire) result }
-        ensures service { side ≡ Side.Service → LinePasses V.Service W.Wire self.old.pace.reused self.old.hold self.old.service self.new.hold self.new.service result }
-        ensures next { side ≡ Side.NextHop → NextPasses K.Hop A.Wire C.Wire (choice_of V.Service (F.makes self.new.forward (S.head self.old.source)) (F.makes_none self.old.forward (S.head self.old.source)) (self.new.forward ≡ self.old.forward) self.old.service (shows self.old.hold.history))
-            (writers self.old.hold self.old.next self.old.next_wire self.old.back self.old.source_wire) (writers self.new.hold self.new.next self.new.next_wire self.new.back self.new.source_wire) result }
-        ensures apart_source { side ≡ Side.Source → (self.new.service ≡ self.old.service) × (self.new.next_wire ≡ self.old.next_wire) × (self.new.next ≡ self.old.next) × (self.new.back ≡ self.old.back) }
-        ensures apart_service { side ≡ Side.Service → (self.new.source ≡ self.old.source) × (self.new.source_wire ≡ self.old.source_wire) × (self.new.next_wire ≡ self.old.next_wire) × (self.new.next ≡ self.old.next) × (self.new.back ≡ self.old.back) }
-        ensures apart_next { side ≡ Side.NextHop → (self.new.source ≡ self.old.source) × (self.new.service ≡ self.old.service) }
+        ensures any { AnyPasses E.Client.Service self.old.pace.reused (MakesNoneAt (E.Maker.makes_none self.old.ends.maker (E.Reader.head self.old.ends.source)) (adapted_of E.Client.adapted_head self.old.ends.service) (response_of E.Client.is_response self.old.ends.service) (shows self.old.hold.history))
+            side self.old.hold self.new.hold self.new.ends.service result }
+        ensures source { side ≡ Side.Source → SourcePasses E.Reader.Source E.SourceWire.Wire (lending self.old.hold self.old.ends.source self.old.ends.source_wire) (lending self.new.hold self.new.ends.source self.new.ends.source_wire) result }
+        ensures service { side ≡ Side.Service → LinePasses E.Client.Service E.ServiceWire.Wire self.old.pace.reused self.old.hold self.old.ends.service self.new.hold self.new.ends.service result }
+        ensures next { side ≡ Side.NextHop → NextPasses E.Writer.Hop E.SourceWire.Wire E.NextWire.Wire (choice_of E.Client.Service (E.Maker.makes self.new.ends.maker (E.Reader.head self.old.ends.source)) (E.Maker.makes_none self.old.ends.maker (E.Reader.head self.old.ends.source)) (self.new.ends.maker ≡ self.old.ends.maker) self.old.ends.service (shows self.old.hold.history))
+            (writers self.old.hold self.old.ends.next self.old.ends.next_wire self.old.ends.back self.old.ends.source_wire) (writers self.new.hold self.new.ends.next self.new.ends.next_wire self.new.ends.back self.new.ends.source_wire) result }
+        ensures apart_source { side ≡ Side.Source → (self.new.ends.service ≡ self.old.ends.service) × (self.new.ends.next_wire ≡ self.old.ends.next_wire) × (self.new.ends.next ≡ self.old.ends.next) × (self.new.ends.back ≡ self.old.ends.back) }
+        ensures apart_service { side ≡ Side.Service → (self.new.ends.source ≡ self.old.ends.source) × (self.new.ends.source_wire ≡ self.old.ends.source_wire) × (self.new.ends.next_wire ≡ self.old.ends.next_wire) × (self.new.ends.next ≡ self.old.ends.next) × (self.new.ends.back ≡ self.old.ends.back) }
+        ensures apart_next { side ≡ Side.NextHop → (self.new.ends.source ≡ self.old.ends.source) × (self.new.ends.service ≡ self.old.ends.service) }
         ensures outcome { self.new.outcome ≡ outcome_by result.failed }
-        ensures served { wire_of self.old.service ≡ None → wire_of self.new.service ≡ None }
+        ensures served { wire_of self.old.ends.service ≡ None → wire_of self.new.ends.service ≡ None }
         ensures pace { self.new.pace ≡ self.old.pace }
     {
         match side {
@@ -58,8 +49,8 @@ impl<B: Ledgers, S: Source, V: Service, K: Hop, F: Forward<S, K>, A: Wire, W: Wi
                     rt,
                     bank,
                     &mut self.hold,
-                    &mut self.source,
-                    &mut self.source_wire,
+                    &mut self.ends.source,
+                    &mut self.ends.source_wire,
                 );
                 self.outcome = outcome_by(passed.failed);
                 passed
@@ -69,25 +60,25 @@ impl<B: Ledgers, S: Source, V: Service, K: Hop, F: Forward<S, K>, A: Wire, W: Wi
                     rt,
                     bank,
                     &mut self.hold,
-                    &mut self.service,
+                    &mut self.ends.service,
                     self.pace.reused,
                 );
                 self.outcome = outcome_by(passed.failed);
                 passed
             }
             Side::NextHop => {
-                let passed = next_pass::<B, S, V, K, F, A, W, C>(
+                let passed = next_pass::<B, E>(
                     rt,
                     bank,
                     self.alloc,
                     &mut self.hold,
-                    &mut self.forward,
-                    &self.source,
-                    &self.service,
-                    &mut self.next,
-                    &mut self.next_wire,
-                    &mut self.back,
-                    &mut self.source_wire,
+                    &mut self.ends.maker,
+                    &self.ends.source,
+                    &self.ends.service,
+                    &mut self.ends.next,
+                    &mut self.ends.next_wire,
+                    &mut self.ends.back,
+                    &mut self.ends.source_wire,
                 );
                 self.outcome = outcome_by(passed.failed);
                 passed

@@ -1,6 +1,6 @@
 //! The proxy's own refusals.
 
-ghost use Rattle.std.specs.Prelude.{IsTrue, ◌≡◌, ℕ, ◌+◌, ◌≤◌, ◌⊎◌, true, false, [], Some, None};
+ghost use Rattle.std.specs.Prelude.{IsTrue, not, ◌≡◌, ℕ, ◌+◌, ◌≤◌, ◌⊎◌, true, false, [], Some, None};
 ghost use Rattle.trace_core.specs.declared.history.Event.TheVariants.{Fail};
 ghost use Rattle.trace_core.specs.declared.history.Cause.{Cause};
 ghost use Rattle.plan_rules.specs.declared.room.TheConstants.{TURN_BYTES};
@@ -9,12 +9,13 @@ ghost use Rattle.adapt_sides.specs.Turns.{Gift, wire_fault};
 ghost use Rattle.adapt_sides.specs.Turns.Gift.{refusal, message};
 ghost use Rattle.adapt_hold.specs.Holding.{shows, moved};
 ghost use Rattle.adapt_turn.specs.Parts.{outcome_by};
-ghost use Rattle.adapt_turn.specs.Refusals.{refusal_status, IsOver};
+ghost use Rattle.adapt_turn.specs.Refusals.{refusal_status, user_untouched, IsOver};
 ghost use Rattle.adapt_turn.specs.Rows.{BytesOr};
+ghost use Rattle.adapt_turn.specs.ByTurn.{ByAnswer};
 ghost use Rattle.adapt_turn.specs.Stands.{TakesAside, Waited};
 
-use crate::forward::Forward;
-use crate::parts::tape_of;
+use crate::ends::EndTypes;
+use crate::steps::tape_of;
 use crate::turned::{Outcome, Turned};
 use crate::tx::{Going, Refusing, Tx};
 use adapt_hold::{Hold, fail};
@@ -87,16 +88,7 @@ fn refuse_on<K: Hop>(hop: &mut K, status: u16) -> bool
     }
 }
 
-impl<B: Ledgers, S: Source, V: Service, K: Hop, F: Forward<S, K>, A: Wire, W: Wire, C: Wire> Tx<
-    B,
-    S,
-    V,
-    K,
-    F,
-    A,
-    W,
-    C,
-> {
+impl<B: Ledgers, E: EndTypes> Tx<B, E> {
     /// At which point the message is offered.
     fn point(&self) -> Point
         ensures { result ≡ (shows self.now.hold.history).plan.point }
@@ -104,40 +96,14 @@ impl<B: Ledgers, S: Source, V: Service, K: Hop, F: Forward<S, K>, A: Wire, W: Wi
         self.hold.state().seen().plan.point
     }
 
-    /// Puts the proxy's own refusal on the next hop's wire, where no byte has gone out on it.
-    fn refuse_next(&mut self, cause: Cause)
-        requires over { (shows self.old.hold.history).closed ≡ true }
-        requires failed { self.old.outcome ≡ Outcome.Fail cause }
-        requires point { (shows self.old.hold.history).plan.point ≡ Point.Respmod }
-        ensures goes { ⟦<Self as Going>⟧.goes self.old self.new }
-        ensures pace { self.new.pace ≡ self.old.pace }
-        ensures hold { self.new.hold ≡ self.old.hold }
-        ensures messages { (K.gift self.new.next ≡ message → K.gift self.old.next ≡ message) × (K.gift self.new.back ≡ message → K.gift self.old.back ≡ message) }
-        ensures outcome { self.new.outcome ≡ self.old.outcome }
-        ensures refuses { ⟦<Self as Refusing>⟧.refuses self.new cause }
-        ensures kept { (self.new.source ≡ self.old.source) × (self.new.source_wire ≡ self.old.source_wire) × (self.new.service ≡ self.old.service) × (self.new.next_wire ≡ self.old.next_wire) }
-        ensures framings { (K.body_framing self.new.next ≡ K.body_framing self.old.next) × (K.body_framing self.new.back ≡ K.body_framing self.old.back) }
+    /// Whether a byte of an answer has gone out to the user, of a message or of the proxy's own refusal.
+    pub fn has_answered(&self) -> bool
+        ensures { result ≡ not (user_untouched self.now.hold.history.plan.point (E.Writer.untouched self.now.ends.next) (E.Writer.untouched self.now.ends.back)) }
     {
-        let status = status_of(cause, Point::Respmod);
-        self.refusing = refuse_on(&mut self.next, status);
-    }
-
-    /// Puts the proxy's own refusal on the source's wire, where no byte has gone out on it.
-    fn refuse_back(&mut self, cause: Cause)
-        requires over { (shows self.old.hold.history).closed ≡ true }
-        requires failed { self.old.outcome ≡ Outcome.Fail cause }
-        requires point { (shows self.old.hold.history).plan.point ≡ Point.Reqmod }
-        ensures goes { ⟦<Self as Going>⟧.goes self.old self.new }
-        ensures pace { self.new.pace ≡ self.old.pace }
-        ensures hold { self.new.hold ≡ self.old.hold }
-        ensures messages { (K.gift self.new.next ≡ message → K.gift self.old.next ≡ message) × (K.gift self.new.back ≡ message → K.gift self.old.back ≡ message) }
-        ensures outcome { self.new.outcome ≡ self.old.outcome }
-        ensures refuses { ⟦<Self as Refusing>⟧.refuses self.new cause }
-        ensures kept { (self.new.source ≡ self.old.source) × (self.new.source_wire ≡ self.old.source_wire) × (self.new.service ≡ self.old.service) × (self.new.next_wire ≡ self.old.next_wire) }
-        ensures framings { (K.body_framing self.new.next ≡ K.body_framing self.old.next) × (K.body_framing self.new.back ≡ K.body_framing self.old.back) }
-    {
-        let status = status_of(cause, Point::Reqmod);
-        self.refusing = refuse_on(&mut self.back, status);
+        match self.point() {
+            Point::Reqmod => !self.ends.back.untouched(),
+            Point::Respmod => !self.ends.next.untouched(),
+        }
     }
 
     /// Puts the proxy's own refusal where no byte has gone to the user.
@@ -147,15 +113,17 @@ impl<B: Ledgers, S: Source, V: Service, K: Hop, F: Forward<S, K>, A: Wire, W: Wi
         ensures goes { ⟦<Self as Going>⟧.goes self.old self.new }
         ensures pace { self.new.pace ≡ self.old.pace }
         ensures hold { self.new.hold ≡ self.old.hold }
-        ensures messages { (K.gift self.new.next ≡ message → K.gift self.old.next ≡ message) × (K.gift self.new.back ≡ message → K.gift self.old.back ≡ message) }
+        ensures messages { (E.Writer.gift self.new.ends.next ≡ message → E.Writer.gift self.old.ends.next ≡ message) × (E.Writer.gift self.new.ends.back ≡ message → E.Writer.gift self.old.ends.back ≡ message) }
         ensures outcome { self.new.outcome ≡ self.old.outcome }
         ensures refuses { ⟦<Self as Refusing>⟧.refuses self.new cause }
-        ensures kept { (self.new.source ≡ self.old.source) × (self.new.source_wire ≡ self.old.source_wire) × (self.new.service ≡ self.old.service) × (self.new.next_wire ≡ self.old.next_wire) }
-        ensures framings { (K.body_framing self.new.next ≡ K.body_framing self.old.next) × (K.body_framing self.new.back ≡ K.body_framing self.old.back) }
+        ensures kept { (self.new.ends.source ≡ self.old.ends.source) × (self.new.ends.source_wire ≡ self.old.ends.source_wire) × (self.new.ends.service ≡ self.old.ends.service) × (self.new.ends.next_wire ≡ self.old.ends.next_wire) }
+        ensures framings { (E.Writer.body_framing self.new.ends.next ≡ E.Writer.body_framing self.old.ends.next) × (E.Writer.body_framing self.new.ends.back ≡ E.Writer.body_framing self.old.ends.back) }
     {
-        match self.point() {
-            Point::Reqmod => self.refuse_back(cause),
-            Point::Respmod => self.refuse_next(cause),
+        let point = self.point();
+        let status = status_of(cause, point);
+        match point {
+            Point::Reqmod => self.refusing = refuse_on(&mut self.ends.back, status),
+            Point::Respmod => self.refusing = refuse_on(&mut self.ends.next, status),
         }
     }
 
@@ -166,12 +134,12 @@ impl<B: Ledgers, S: Source, V: Service, K: Hop, F: Forward<S, K>, A: Wire, W: Wi
         ensures goes { ⟦<Self as Going>⟧.goes self.old self.new }
         ensures pace { self.new.pace ≡ self.old.pace }
         ensures hold { self.new.hold ≡ self.old.hold }
-        ensures messages { (K.gift self.new.next ≡ message → K.gift self.old.next ≡ message) × (K.gift self.new.back ≡ message → K.gift self.old.back ≡ message) }
+        ensures messages { (E.Writer.gift self.new.ends.next ≡ message → E.Writer.gift self.old.ends.next ≡ message) × (E.Writer.gift self.new.ends.back ≡ message → E.Writer.gift self.old.ends.back ≡ message) }
         ensures outcome { self.new.outcome ≡ self.old.outcome }
         ensures refuses { (cause : Cause) → failed ≡ Some cause → ⟦<Self as Refusing>⟧.refuses self.new cause }
-        ensures kept { (self.new.source ≡ self.old.source) × (self.new.source_wire ≡ self.old.source_wire) × (self.new.service ≡ self.old.service) × (self.new.next_wire ≡ self.old.next_wire) }
-        ensures framings { (K.body_framing self.new.next ≡ K.body_framing self.old.next) × (K.body_framing self.new.back ≡ K.body_framing self.old.back) }
-        ensures same { failed ≡ None → (self.new.next ≡ self.old.next) × (self.new.back ≡ self.old.back) }
+        ensures kept { (self.new.ends.source ≡ self.old.ends.source) × (self.new.ends.source_wire ≡ self.old.ends.source_wire) × (self.new.ends.service ≡ self.old.ends.service) × (self.new.ends.next_wire ≡ self.old.ends.next_wire) }
+        ensures framings { (E.Writer.body_framing self.new.ends.next ≡ E.Writer.body_framing self.old.ends.next) × (E.Writer.body_framing self.new.ends.back ≡ E.Writer.body_framing self.old.ends.back) }
+        ensures same { failed ≡ None → (self.new.ends.next ≡ self.old.ends.next) × (self.new.ends.back ≡ self.old.ends.back) }
     {
         match failed {
             Some(cause) => self.refuse(cause),
@@ -188,10 +156,10 @@ impl<B: Ledgers, S: Source, V: Service, K: Hop, F: Forward<S, K>, A: Wire, W: Wi
         ensures paced { ((shows self.new.hold.history).received ≤ (shows self.old.hold.history).received + TURN_BYTES)
             × ((shows self.new.hold.history).adapted_received ≤ (shows self.old.hold.history).adapted_received + TURN_BYTES) }
         ensures over { (shows self.new.hold.history).closed ≡ true }
-        ensures messages { (K.gift self.new.next ≡ message → K.gift self.old.next ≡ message) × (K.gift self.new.back ≡ message → K.gift self.old.back ≡ message) }
+        ensures messages { (E.Writer.gift self.new.ends.next ≡ message → E.Writer.gift self.old.ends.next ≡ message) × (E.Writer.gift self.new.ends.back ≡ message → E.Writer.gift self.old.ends.back ≡ message) }
         ensures outcome { self.new.outcome ≡ Outcome.Fail cause }
         ensures refuses { ⟦<Self as Refusing>⟧.refuses self.new cause }
-        ensures kept { (self.new.source_wire ≡ self.old.source_wire) × (self.new.service ≡ self.old.service) × (self.new.next_wire ≡ self.old.next_wire) × (self.new.source ≡ self.old.source) }
+        ensures kept { (self.new.ends.source_wire ≡ self.old.ends.source_wire) × (self.new.ends.service ≡ self.old.ends.service) × (self.new.ends.next_wire ≡ self.old.ends.next_wire) × (self.new.ends.source ≡ self.old.ends.source) }
     {
         let _state = self.hold.state();
         fail(rt, bank, &mut self.hold, cause);
@@ -199,49 +167,7 @@ impl<B: Ledgers, S: Source, V: Service, K: Hop, F: Forward<S, K>, A: Wire, W: Wi
         self.refuse(cause);
     }
 
-    /// Writes what is due of a refusal on the next hop's wire.
-    fn refusal_next(&mut self) -> Option<bool>
-        requires due { self.old.refusing ≡ true }
-        requires point { (shows self.old.hold.history).plan.point ≡ Point.Respmod }
-        requires over { (shows self.old.hold.history).closed ≡ true }
-        ensures goes { ⟦<Self as Going>⟧.goes self.old self.new }
-        ensures waits { result ≡ Some true → ⟦<Self as Refusing>⟧.refusal_waits self.old self.new }
-        ensures moves { result ≡ Some false → ⟦<Self as Refusing>⟧.refusal_moves self.old self.new }
-        ensures over { result ≡ None → ⟦<Self as Refusing>⟧.refusal_is_over self.new }
-        ensures ends { ⟦<Self as Refusing>⟧.refusal_is_over self.old → result ≡ None }
-        ensures refuses { (cause : Cause) → ⟦<Self as Refusing>⟧.refuses self.old cause → ⟦<Self as Refusing>⟧.refuses self.new cause }
-        ensures refusing { self.new.refusing ≡ self.old.refusing }
-        ensures pace { self.new.pace ≡ self.old.pace }
-        ensures apart { (self.new.source ≡ self.old.source) × (self.new.source_wire ≡ self.old.source_wire) }
-        ensures served { self.new.service ≡ self.old.service }
-        ensures hold { self.new.hold ≡ self.old.hold }
-        ensures outcome { self.new.outcome ≡ self.old.outcome }
-    {
-        refusal_turn(&self.hold, &mut self.next, &mut self.next_wire)
-    }
-
-    /// Writes what is due of a refusal on the source's wire.
-    fn refusal_back(&mut self) -> Option<bool>
-        requires due { self.old.refusing ≡ true }
-        requires point { (shows self.old.hold.history).plan.point ≡ Point.Reqmod }
-        requires over { (shows self.old.hold.history).closed ≡ true }
-        ensures goes { ⟦<Self as Going>⟧.goes self.old self.new }
-        ensures waits { result ≡ Some true → ⟦<Self as Refusing>⟧.refusal_waits self.old self.new }
-        ensures moves { result ≡ Some false → ⟦<Self as Refusing>⟧.refusal_moves self.old self.new }
-        ensures over { result ≡ None → ⟦<Self as Refusing>⟧.refusal_is_over self.new }
-        ensures ends { ⟦<Self as Refusing>⟧.refusal_is_over self.old → result ≡ None }
-        ensures refuses { (cause : Cause) → ⟦<Self as Refusing>⟧.refuses self.old cause → ⟦<Self as Refusing>⟧.refuses self.new cause }
-        ensures refusing { self.new.refusing ≡ self.old.refusing }
-        ensures pace { self.new.pace ≡ self.old.pace }
-        ensures apart { (self.new.source ≡ self.old.source) × (self.new.next_wire ≡ self.old.next_wire) }
-        ensures served { self.new.service ≡ self.old.service }
-        ensures hold { self.new.hold ≡ self.old.hold }
-        ensures outcome { self.new.outcome ≡ self.old.outcome }
-    {
-        refusal_turn(&self.hold, &mut self.back, &mut self.source_wire)
-    }
-
-    /// Writes what is due of a refusal.
+    /// Writes what is due of a refusal on the user's wire.
     fn refusal(&mut self) -> Option<bool>
         requires due { self.old.refusing ≡ true }
         requires over { (shows self.old.hold.history).closed ≡ true }
@@ -251,17 +177,22 @@ impl<B: Ledgers, S: Source, V: Service, K: Hop, F: Forward<S, K>, A: Wire, W: Wi
         ensures over { result ≡ None → ⟦<Self as Refusing>⟧.refusal_is_over self.new }
         ensures ends { ⟦<Self as Refusing>⟧.refusal_is_over self.old → result ≡ None }
         ensures refuses { (cause : Cause) → ⟦<Self as Refusing>⟧.refuses self.old cause → ⟦<Self as Refusing>⟧.refuses self.new cause }
-        ensures refusing { self.new.refusing ≡ self.old.refusing }
         ensures pace { self.new.pace ≡ self.old.pace }
-        ensures apart { (self.new.source ≡ self.old.source) × (self.new.service ≡ self.old.service) × (self.old.hold.history.plan.point ≡ Point.Respmod → self.new.source_wire ≡ self.old.source_wire)
-            × (self.old.hold.history.plan.point ≡ Point.Reqmod → self.new.next_wire ≡ self.old.next_wire) }
-        ensures served { self.new.service ≡ self.old.service }
-        ensures hold { self.new.hold ≡ self.old.hold }
-        ensures outcome { self.new.outcome ≡ self.old.outcome }
+        ensures apart { (self.new.ends.source ≡ self.old.ends.source) × (self.new.ends.service ≡ self.old.ends.service) × (self.old.hold.history.plan.point ≡ Point.Respmod → self.new.ends.source_wire ≡ self.old.ends.source_wire)
+            × (self.old.hold.history.plan.point ≡ Point.Reqmod → self.new.ends.next_wire ≡ self.old.ends.next_wire) }
+        ensures kept { (self.new.hold ≡ self.old.hold) × (self.new.outcome ≡ self.old.outcome) × (self.new.refusing ≡ self.old.refusing) }
     {
         match self.point() {
-            Point::Reqmod => self.refusal_back(),
-            Point::Respmod => self.refusal_next(),
+            Point::Reqmod => refusal_turn(
+                &self.hold,
+                &mut self.ends.back,
+                &mut self.ends.source_wire,
+            ),
+            Point::Respmod => refusal_turn(
+                &self.hold,
+                &mut self.ends.next,
+                &mut self.ends.next_wire,
+            ),
         }
     }
 
@@ -270,19 +201,13 @@ impl<B: Ledgers, S: Source, V: Service, K: Hop, F: Forward<S, K>, A: Wire, W: Wi
         requires over { (shows self.old.hold.history).closed ≡ true }
         ensures goes { ⟦<Self as Going>⟧.goes self.old self.new }
         ensures pace { self.new.pace ≡ self.old.pace }
-        ensures hold { self.new.hold ≡ self.old.hold }
-        ensures apart { (self.new.source ≡ self.old.source) × (self.new.service ≡ self.old.service) × (self.old.hold.history.plan.point ≡ Point.Respmod → self.new.source_wire ≡ self.old.source_wire)
-            × (self.old.hold.history.plan.point ≡ Point.Reqmod → self.new.next_wire ≡ self.old.next_wire) }
-        ensures outcome { (outcome : Outcome) → result ≡ Turned.Finished outcome → outcome ≡ self.old.outcome }
-        ensures same { self.new.outcome ≡ self.old.outcome }
-        ensures whole { result ≡ Turned.Broken → ⊥ }
-        ensures moved { (n : ℕ) → result ≡ Turned.Moved n → ⟦<Self as Going>⟧.moves self.old self.new n }
-        ensures idle { result ≡ Turned.Waiting → ⟦<Self as Going>⟧.moves self.old self.new 0 }
-        ensures waits { result ≡ Turned.Waiting → ⟦<Self as Refusing>⟧.refusal_waits self.old self.new }
-        ensures moves { result ≡ Turned.Moved 0 → ⟦<Self as Refusing>⟧.refusal_moves self.old self.new }
-        ensures is_over { (outcome : Outcome) → result ≡ Turned.Finished outcome → (self.old.refusing ≡ false) ⊎ ⟦<Self as Refusing>⟧.refusal_is_over self.new }
+        ensures apart { (self.new.ends.source ≡ self.old.ends.source) × (self.new.ends.service ≡ self.old.ends.service) × (self.old.hold.history.plan.point ≡ Point.Respmod → self.new.ends.source_wire ≡ self.old.ends.source_wire)
+            × (self.old.hold.history.plan.point ≡ Point.Reqmod → self.new.ends.next_wire ≡ self.old.ends.next_wire) }
+        ensures kept { (self.new.hold ≡ self.old.hold) × (self.new.outcome ≡ self.old.outcome) × (self.new.refusing ≡ self.old.refusing) }
+        ensures answers { ByAnswer result (⟦<Self as Going>⟧.moves self.old self.new 0 × ⟦<Self as Refusing>⟧.refusal_waits self.old self.new)
+            (λ n. ⟦<Self as Going>⟧.moves self.old self.new n × (n ≡ 0 → ⟦<Self as Refusing>⟧.refusal_moves self.old self.new)) ⊥
+            (λ outcome. (outcome ≡ self.old.outcome) × ((self.old.refusing ≡ false) ⊎ ⟦<Self as Refusing>⟧.refusal_is_over self.new)) }
         ensures refuses { (cause : Cause) → ⟦<Self as Refusing>⟧.refuses self.old cause → ⟦<Self as Refusing>⟧.refuses self.new cause }
-        ensures due { self.new.refusing ≡ self.old.refusing }
         ensures finished { (self.old.refusing ≡ false) ⊎ ⟦<Self as Refusing>⟧.refusal_is_over self.old → result ≡ Turned.Finished self.old.outcome }
     {
         if !self.refusing {

@@ -6,7 +6,7 @@ ghost use Rattle.trace_core.specs.Legal.{MayFollow};
 ghost use Rattle.adapt_hold.specs.Holding.{shows, moved};
 ghost use Rattle.adapt_turn.specs.Stands.{Texts};
 
-use crate::forward::Forward;
+use crate::ends::EndTypes;
 use crate::turned::Outcome;
 use crate::tx::{Answering, Going, Refusing, Standing, Tx};
 use adapt_hold::go_on;
@@ -17,27 +17,23 @@ use std::sync::Wait;
 use trace_core::{Cause, Event};
 use wire_kit::Wire;
 
-impl<B: Ledgers, S: Source, V: Service, K: Hop, F: Forward<S, K>, A: Wire, W: Wire, C: Wire> Tx<
-    B,
-    S,
-    V,
-    K,
-    F,
-    A,
-    W,
-    C,
-> {
+impl<B: Ledgers, E: EndTypes> Tx<B, E> {
     /// Begins the same request anew on a fresh connection, and gives the broken one's wire back.
-    pub fn retry(&mut self, rt: &impl Wait, bank: &Bank<B>, wire: W) -> Option<W>
+    pub fn retry(
+        &mut self,
+        rt: &impl Wait,
+        bank: &Bank<B>,
+        wire: E::ServiceWire,
+    ) -> Option<E::ServiceWire>
         requires broken { self.old.pace.broken ≡ true }
         requires may { MayFollow self.old.hold.history.plan self.old.hold.history.events Retry }
         ensures hold { self.new.hold ≡ moved self.old.hold Retry [] }
         ensures anew { (request : List ℕ) (t : Texts) → ⟦<Self as Standing>⟧.stands self.old request t → ⟦<Self as Standing>⟧.stands self.new request (record t { service_read = []; service_taken = [] }) }
-        ensures fresh { IfSome self.new.service (λ line. line.wire ≡ Some wire) }
-        ensures back { IfSome self.old.service (λ line. result ≡ line.wire) }
-        ensures others { (self.new.source_wire ≡ self.old.source_wire) × (self.new.next_wire ≡ self.old.next_wire) }
-        ensures served { is_some self.new.service ≡ is_some self.old.service }
-        ensures kept { (self.new.source ≡ self.old.source) × (self.new.next ≡ self.old.next) × (self.new.back ≡ self.old.back)
+        ensures fresh { IfSome self.new.ends.service (λ line. line.wire ≡ Some wire) }
+        ensures back { IfSome self.old.ends.service (λ line. result ≡ line.wire) }
+        ensures others { (self.new.ends.source_wire ≡ self.old.ends.source_wire) × (self.new.ends.next_wire ≡ self.old.ends.next_wire) }
+        ensures served { is_some self.new.ends.service ≡ is_some self.old.ends.service }
+        ensures kept { (self.new.ends.source ≡ self.old.ends.source) × (self.new.ends.next ≡ self.old.ends.next) × (self.new.ends.back ≡ self.old.ends.back)
             × (self.new.outcome ≡ self.old.outcome) × (self.new.refusing ≡ self.old.refusing) }
         ensures faultless { ⟦<Self as Answering>⟧.faultless self.old → ⟦<Self as Answering>⟧.faultless self.new }
         ensures unused { (self.new.pace.broken ≡ false) × (self.new.pace.reused ≡ false) }
@@ -47,7 +43,7 @@ impl<B: Ledgers, S: Source, V: Service, K: Hop, F: Forward<S, K>, A: Wire, W: Wi
         go_on(rt, bank, &mut self.hold, Event::Retry);
         self.pace.broken = false;
         self.pace.reused = false;
-        match &mut self.service {
+        match &mut self.ends.service {
             Some(line) => {
                 line.side.again();
                 mem::replace(&mut line.wire, Some(wire))
@@ -65,7 +61,7 @@ impl<B: Ledgers, S: Source, V: Service, K: Hop, F: Forward<S, K>, A: Wire, W: Wi
         ensures hold { self.new.hold ≡ moved self.old.hold (Fail cause) [] }
         ensures outcome { self.new.outcome ≡ Outcome.Fail cause }
         ensures refuses { ⟦<Self as Refusing>⟧.refuses self.new cause }
-        ensures kept { (self.new.source_wire ≡ self.old.source_wire) × (self.new.service ≡ self.old.service) × (self.new.next_wire ≡ self.old.next_wire) × (self.new.source ≡ self.old.source) }
+        ensures kept { (self.new.ends.source_wire ≡ self.old.ends.source_wire) × (self.new.ends.service ≡ self.old.ends.service) × (self.new.ends.next_wire ≡ self.old.ends.next_wire) × (self.new.ends.source ≡ self.old.ends.source) }
         ensures over { (shows self.new.hold.history).closed ≡ true }
     {
         self.fail_by(rt, bank, cause);

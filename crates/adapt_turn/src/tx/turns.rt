@@ -12,10 +12,10 @@ ghost use Rattle.adapt_hold.specs.Holding.{shows, moved};
 ghost use Rattle.adapt_turn.specs.Made.{MakesNoneAt, adapted_of, response_of};
 ghost use Rattle.adapt_turn.specs.declared.turned.Turned.{Turned as TurnAnswer};
 ghost use Rattle.adapt_turn.specs.Parts.{outcome_by};
-ghost use Rattle.adapt_turn.specs.ByTurn.{Drives};
+ghost use Rattle.adapt_turn.specs.ByTurn.{Drives, IsAnswerTo, Paces, StaysClosed, WhyFailed};
 
-use crate::forward::Forward;
-use crate::parts::Passed;
+use crate::ends::EndTypes;
+use crate::steps::Passed;
 use crate::turned::{Outcome, Side, Turned};
 use crate::tx::{Answering, Going, Refusing, Tx};
 use adapt_sides::{Hop, Service, Source};
@@ -35,11 +35,7 @@ fn moment_of(moved: u64, now: u64, before: u64) -> u64
 
 /// What a turn answers, by what its pass did.
 fn answer_of(passed: Passed, moved: u64) -> Turned
-    ensures waiting { result ≡ Turned.Waiting → (passed.waiting ≡ true) × (passed.broken ≡ false) × (moved ≡ 0) }
-    ensures broken { result ≡ Turned.Broken → passed.broken ≡ true }
-    ensures breaks { passed.broken ≡ true → result ≡ Turned.Broken }
-    ensures moved { (n : ℕ) → result ≡ Turned.Moved n → (n ≡ moved) × (passed.waiting ≡ true → 0 < n) × (passed.broken ≡ false) }
-    ensures open { (outcome : Outcome) → result ≡ Turned.Finished outcome → ⊥ }
+    ensures { IsAnswerTo passed moved result }
 {
     if passed.broken {
         Turned::Broken
@@ -50,16 +46,7 @@ fn answer_of(passed: Passed, moved: u64) -> Turned
     }
 }
 
-impl<B: Ledgers, S: Source, V: Service, K: Hop, F: Forward<S, K>, A: Wire, W: Wire, C: Wire> Tx<
-    B,
-    S,
-    V,
-    K,
-    F,
-    A,
-    W,
-    C,
-> {
+impl<B: Ledgers, E: EndTypes> Tx<B, E> {
     /// One turn of one side, at a moment in seconds.
     ///
     /// The turn that reads an end of the body that the source's framing gives reports it. A turn at the deadline fails in place of
@@ -71,26 +58,17 @@ impl<B: Ledgers, S: Source, V: Service, K: Hop, F: Forward<S, K>, A: Wire, W: Wi
         ensures keeps { ⟦<Self as Answering>⟧.keeps self.old side self.new }
         ensures deadline { (shows self.old.hold.history).closed ≡ false → self.old.pace.last_moved + self.old.pace.deadline ≤ now
             → (self.new.hold ≡ moved self.old.hold (Fail Deadline) []) × (result ≡ Turned.Moved 0) × (self.new.outcome ≡ Outcome.Fail Deadline) }
-        ensures closed { (shows self.old.hold.history).closed ≡ true → (self.new.hold ≡ self.old.hold) × (self.new.outcome ≡ self.old.outcome) × (self.new.refusing ≡ self.old.refusing) }
-        ensures finishes { (shows self.old.hold.history).closed ≡ true → (self.old.refusing ≡ false) ⊎ ⟦<Self as Refusing>⟧.refusal_is_over self.old → result ≡ Turned.Finished self.old.outcome }
-        ensures moment { (self.new.pace.last_moved ≡ self.old.pace.last_moved) ⊎ (self.new.pace.last_moved ≡ now) }
-        ensures clock { (shows self.old.hold.history).closed ≡ false → (n : ℕ) × ⟦<Self as Going>⟧.moves self.old self.new n × (n ≡ 0 → self.new.pace.last_moved ≡ self.old.pace.last_moved) × (0 < n → self.new.pace.last_moved ≡ now)
-            × ((m : ℕ) → result ≡ Turned.Moved m → m ≡ n) }
-        ensures still { result ≡ Turned.Waiting → self.new.pace.last_moved ≡ self.old.pace.last_moved }
-        ensures rests { (shows self.old.hold.history).closed ≡ true → self.new.pace.last_moved ≡ self.old.pace.last_moved }
-        ensures limit { self.new.pace.deadline ≡ self.old.pace.deadline }
-        ensures marked { (self.new.pace.broken ≡ true ↔ (self.old.pace.broken ≡ true) ⊎ (result ≡ Turned.Broken)) × (self.new.pace.reused ≡ self.old.pace.reused) }
+        ensures closed { (shows self.old.hold.history).closed ≡ true → StaysClosed self.old.hold self.new.hold self.old.outcome self.new.outcome self.old.refusing self.new.refusing
+            (⟦<Self as Refusing>⟧.refusal_is_over self.old) (λ cause. ⟦<Self as Refusing>⟧.refuses self.old cause) (λ cause. ⟦<Self as Refusing>⟧.refuses self.new cause) result }
+        ensures paces { Paces (shows self.old.hold.history).closed self.old.pace self.new.pace now (λ n. ⟦<Self as Going>⟧.moves self.old self.new n) result }
         ensures breaks_on { (shows self.old.hold.history).closed ≡ false → now < self.old.pace.last_moved + self.old.pace.deadline → side ≡ Side.Service
             → self.old.pace.broken ≡ true → MayFollow self.old.hold.history.plan self.old.hold.history.events Retry → result ≡ Turned.Broken }
-        ensures refuses { (shows self.old.hold.history).closed ≡ false → (cause : Cause) → self.new.outcome ≡ Outcome.Fail cause → ⟦<Self as Refusing>⟧.refuses self.new cause }
-        ensures refuses_on { (shows self.old.hold.history).closed ≡ true → (cause : Cause) → ⟦<Self as Refusing>⟧.refuses self.old cause → ⟦<Self as Refusing>⟧.refuses self.new cause }
-        ensures fails { (shows self.old.hold.history).closed ≡ false → (cause : Cause) → self.new.outcome ≡ Outcome.Fail cause → ⟦<Self as Answering>⟧.fails self.old side now self.new cause }
+        ensures fails { (shows self.old.hold.history).closed ≡ false → WhyFailed self.new.outcome (self.old.pace.last_moved + self.old.pace.deadline ≤ now)
+            (λ cause. ⟦<Self as Answering>⟧.fails self.old side now self.new cause) (λ cause. ⟦<Self as Refusing>⟧.refuses self.new cause)
+            (λ cause. (side ≡ Side.NextHop) × MakesNoneAt (E.Maker.makes_none self.old.ends.maker (E.Reader.head self.old.ends.source)) (adapted_of E.Client.adapted_head self.old.ends.service) (response_of E.Client.is_response self.old.ends.service) (shows self.old.hold.history) cause) }
         ensures faultless { (shows self.new.hold.history).closed ≡ false → ⟦<Self as Answering>⟧.faultless self.old → ⟦<Self as Answering>⟧.faultless self.new }
         ensures told { (shows self.old.hold.history).closed ≡ false → side ≡ Side.Source → (result ≡ Turned.Broken → ⊥) → ((cause : Cause) → self.new.outcome ≡ Outcome.Fail cause → ⊥)
-            → S.is_over self.new.source → (shows self.new.hold.history).ended ≡ true }
-        ensures timely { (shows self.old.hold.history).closed ≡ false → self.new.outcome ≡ Outcome.Fail Deadline
-            → (self.old.pace.last_moved + self.old.pace.deadline ≤ now) ⊎ ((side ≡ Side.NextHop) × MakesNoneAt (F.makes_none self.old.forward (S.head self.old.source)) (adapted_of V.adapted_head self.old.service) (response_of V.is_response self.old.service) (shows self.old.hold.history) Deadline) }
-        ensures unstopped { (shows self.old.hold.history).closed ≡ false → self.new.outcome ≡ Outcome.Fail Stopping → (side ≡ Side.NextHop) × MakesNoneAt (F.makes_none self.old.forward (S.head self.old.source)) (adapted_of V.adapted_head self.old.service) (response_of V.is_response self.old.service) (shows self.old.hold.history) Stopping }
+            → E.Reader.is_over self.new.ends.source → (shows self.new.hold.history).ended ≡ true }
     {
         if self.is_closed() {
             return self.closed_turn();
@@ -113,23 +91,17 @@ impl<B: Ledgers, S: Source, V: Service, K: Hop, F: Forward<S, K>, A: Wire, W: Wi
         requires over { (cause : Cause) → passed.failed ≡ Some cause → (shows self.old.hold.history).closed ≡ true }
         requires outcome { self.old.outcome ≡ outcome_by passed.failed }
         ensures goes { ⟦<Self as Going>⟧.goes self.old self.new }
-        ensures open { (outcome : Outcome) → result ≡ Turned.Finished outcome → ⊥ }
-        ensures waiting { result ≡ Turned.Waiting → (passed.waiting ≡ true) × (moved ≡ 0) }
-        ensures broken { result ≡ Turned.Broken → passed.broken ≡ true }
-        ensures breaks { passed.broken ≡ true → result ≡ Turned.Broken }
+        ensures said { IsAnswerTo passed moved result }
         ensures marked { (self.new.pace.broken ≡ true ↔ (self.old.pace.broken ≡ true) ⊎ (result ≡ Turned.Broken)) × (self.new.pace.reused ≡ self.old.pace.reused) }
         ensures hold { self.new.hold ≡ self.old.hold }
         ensures outcome { self.new.outcome ≡ self.old.outcome }
-        ensures moved { (n : ℕ) → result ≡ Turned.Moved n → n ≡ moved }
-        ensures active { (n : ℕ) → result ≡ Turned.Moved n → (passed.waiting ≡ true → 0 < n) × (passed.broken ≡ false) }
-        ensures moment { (self.new.pace.last_moved ≡ self.old.pace.last_moved) ⊎ (self.new.pace.last_moved ≡ now) }
-        ensures clock { (moved ≡ 0 → self.new.pace.last_moved ≡ self.old.pace.last_moved) × (0 < moved → self.new.pace.last_moved ≡ now) }
-        ensures limit { self.new.pace.deadline ≡ self.old.pace.deadline }
-        ensures kept { (self.new.source ≡ self.old.source) × (self.new.source_wire ≡ self.old.source_wire) × (self.new.service ≡ self.old.service) × (self.new.next_wire ≡ self.old.next_wire) }
-        ensures framings { (K.body_framing self.new.next ≡ K.body_framing self.old.next) × (K.body_framing self.new.back ≡ K.body_framing self.old.back) }
-        ensures messages { (K.gift self.new.next ≡ message → K.gift self.old.next ≡ message) × (K.gift self.new.back ≡ message → K.gift self.old.back ≡ message) }
+        ensures clock { (moved ≡ 0 → self.new.pace.last_moved ≡ self.old.pace.last_moved) × (0 < moved → self.new.pace.last_moved ≡ now)
+            × ((self.new.pace.last_moved ≡ self.old.pace.last_moved) ⊎ (self.new.pace.last_moved ≡ now)) × (self.new.pace.deadline ≡ self.old.pace.deadline) }
+        ensures kept { (self.new.ends.source ≡ self.old.ends.source) × (self.new.ends.source_wire ≡ self.old.ends.source_wire) × (self.new.ends.service ≡ self.old.ends.service) × (self.new.ends.next_wire ≡ self.old.ends.next_wire) }
+        ensures writers { (E.Writer.body_framing self.new.ends.next ≡ E.Writer.body_framing self.old.ends.next) × (E.Writer.body_framing self.new.ends.back ≡ E.Writer.body_framing self.old.ends.back)
+            × (E.Writer.gift self.new.ends.next ≡ message → E.Writer.gift self.old.ends.next ≡ message) × (E.Writer.gift self.new.ends.back ≡ message → E.Writer.gift self.old.ends.back ≡ message) }
         ensures refuses { (cause : Cause) → passed.failed ≡ Some cause → ⟦<Self as Refusing>⟧.refuses self.new cause }
-        ensures same { passed.failed ≡ None → (self.new.next ≡ self.old.next) × (self.new.back ≡ self.old.back) }
+        ensures same { passed.failed ≡ None → (self.new.ends.next ≡ self.old.ends.next) × (self.new.ends.back ≡ self.old.ends.back) }
     {
         self.pace.last_moved = moment_of(moved, now, self.pace.last_moved);
         self.pace.broken |= passed.broken;
@@ -152,9 +124,9 @@ impl<B: Ledgers, S: Source, V: Service, K: Hop, F: Forward<S, K>, A: Wire, W: Wi
         ensures refuses { (shows self.old.hold.history).closed ≡ false → (cause : Cause) → self.new.outcome ≡ Outcome.Fail cause → ⟦<Self as Refusing>⟧.refuses self.new cause }
         ensures refuses_on { (shows self.old.hold.history).closed ≡ true → (cause : Cause) → ⟦<Self as Refusing>⟧.refuses self.old cause → ⟦<Self as Refusing>⟧.refuses self.new cause }
         ensures faultless { (shows self.new.hold.history).closed ≡ false → ⟦<Self as Answering>⟧.faultless self.old → ⟦<Self as Answering>⟧.faultless self.new }
-        ensures unstopped { ((maker : F) (head : S.Head) (x : Seen) (adapted : Option (List ℕ)) (is_response : Bool) → F.makes_none maker head x adapted is_response Stopping → ⊥)
+        ensures unstopped { ((maker : E.Maker) (head : E.Reader.Head) (x : Seen) (adapted : Option (List ℕ)) (is_response : Bool) → E.Maker.makes_none maker head x adapted is_response Stopping → ⊥)
             → (shows self.old.hold.history).closed ≡ false → self.new.outcome ≡ Outcome.Fail Stopping → ⊥ }
-        ensures timely { ((maker : F) (head : S.Head) (x : Seen) (adapted : Option (List ℕ)) (is_response : Bool) → F.makes_none maker head x adapted is_response Deadline → ⊥)
+        ensures timely { ((maker : E.Maker) (head : E.Reader.Head) (x : Seen) (adapted : Option (List ℕ)) (is_response : Bool) → E.Maker.makes_none maker head x adapted is_response Deadline → ⊥)
             → (shows self.old.hold.history).closed ≡ false → self.new.outcome ≡ Outcome.Fail Deadline → self.old.pace.deadline ≡ 0 }
     {
         match schedule {
@@ -177,7 +149,7 @@ impl<B: Ledgers, S: Source, V: Service, K: Hop, F: Forward<S, K>, A: Wire, W: Wi
         ensures refuses { (shows self.old.hold.history).closed ≡ false → ⟦<Self as Refusing>⟧.refuses self.new Stopping }
         ensures still { (shows self.old.hold.history).closed ≡ true → self.new ≡ self.old }
         ensures over { (shows self.new.hold.history).closed ≡ true }
-        ensures kept { (self.new.source_wire ≡ self.old.source_wire) × (self.new.service ≡ self.old.service) × (self.new.next_wire ≡ self.old.next_wire) × (self.new.source ≡ self.old.source) }
+        ensures kept { (self.new.ends.source_wire ≡ self.old.ends.source_wire) × (self.new.ends.service ≡ self.old.ends.service) × (self.new.ends.next_wire ≡ self.old.ends.next_wire) × (self.new.ends.source ≡ self.old.ends.source) }
     {
         if !self.is_closed() {
             self.fail_by(rt, bank, Cause::Stopping);

@@ -14,11 +14,11 @@ returns-in-Ok-clause-took g c =
     record {
       head_bytes = begun.stands.0;
       since = goes.delta;
-      source = λ p b. goes.source p (subst (λ wire. g.A.Wire.past wire p) (sym begun.wires.0) b);
+      source = λ p b. goes.source p (subst (λ wire. g.W.SourceWire.Wire.past wire p) (sym begun.wires.0) b);
       service = λ p b.
           goes.service p
-          (subst (λ line. on_held line ⊥ (λ wire. g.W.Wire.past wire p)) (sym begun.sides.3)
-          (line_held c.args.beginning.offer.side c.args.beginning.service_wire (λ wire. g.W.Wire.past wire p) (begun.accepts.0 (refl {a = true})).line b));
-      next = λ p b. goes.next p (subst (λ wire. g.C.Wire.past wire p) (sym begun.wires.1) b);
+          (subst (λ line. on_held line ⊥ (λ wire. g.W.ServiceWire.Wire.past wire p)) (sym begun.sides.3)
+          (line_held c.args.beginning.offer.side c.args.beginning.service_wire (λ wire. g.W.ServiceWire.Wire.past wire p) (begun.accepts.0 (refl {a = true})).line b));
+      next = λ p b. goes.next p (subst (λ wire. g.W.NextWire.Wire.past wire p) (sym begun.wires.1) b);
       took_is = c.the_wires_take_one_message.ensures.took request (joined (begun_with begun.stands.0) goes.delta) (goes.stands request (begun_with begun.stands.0) begun.stands.1);
     }

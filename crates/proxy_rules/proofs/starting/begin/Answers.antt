@@ -1,12 +1,11 @@
-use Rattle.std.proofs.Common.{◌≡◌, Option, IfSome, [], false, refl, ap, sym, subst, ◌∙◌, is_some}
+use Rattle.std.proofs.Common.{Option, IfSome, [], false, refl, ap, sym, subst, ◌∙◌, is_some}
 use Rattle.trace_core.specs.History.{History, seen}
 use Rattle.adapt_hold.specs.Holding.{shows}
 use Rattle.adapt_turn.specs.Stands.{no_texts}
-use Rattle.adapt_turn.specs.declared.start.Line.{Line}
+use Rattle.adapt_turn.specs.declared.ends.Line.{Line}
 use Rattle.icap_client.specs.Turns.{Service}
 use Rattle.http_relay.specs.Giving.{Hop, gift_of}
 use Rattle.http_relay.specs.declared.side.SourceSide.{SourceSide}
-use Rattle.http_relay.specs.declared.side.SourceHead.TheVariants.{Unread}
 use Rattle.proxy_rules.specs.Offers.{IsUnused, text_of}
 use Rattle.proxy_rules.proofs.ArrivalLemmas.{has_begun}
 use Rattle.proxy_rules.proofs.OfferLemmas.{unused_on}

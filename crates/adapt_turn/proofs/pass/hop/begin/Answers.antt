@@ -18,7 +18,7 @@ returns-then-answers-clause-begun g c = inr (inr (record {
   gift = c.begin.ensures.gift;
   fault = c.begin.ensures.fault;
   head = c.in-Ok.head.items;
-  made = subst (λ z. MakesAt (g.F.Forward.makes c.forwarded.new.forward (g.S.Source.head c.args.source.now)) (adapted_of g.V.Service.adapted_head c.args.service.now) (response_of g.V.Service.is_response c.args.service.now) (shows c.args.hold.now.history) c.in-Ok.head.items z) (sym c.begin.ensures.framing) c.in-Ok.ensures.made;
+  made = subst (λ z. MakesAt (g.E.Maker.MakesHead.makes c.forwarded.new.maker (g.E.Reader.Source.head c.args.source.now)) (adapted_of g.E.Client.Service.adapted_head c.args.service.now) (response_of g.E.Client.Service.is_response c.args.service.now) (shows c.args.hold.now.history) c.in-Ok.head.items z) (sym c.begin.ensures.framing) c.in-Ok.ensures.made;
   given = c.begin.ensures.given;
 }))
 
@@ -31,6 +31,6 @@ returns-else-answers-clause-begun g c = inr (inl (record {
   gift = c.begin-else-answers.ensures.gift;
   fault = c.begin-else-answers.ensures.fault;
   head = c.in-Ok.head.items;
-  made = subst (λ z. MakesAt (g.F.Forward.makes c.forwarded.new.forward (g.S.Source.head c.args.source.now)) (adapted_of g.V.Service.adapted_head c.args.service.now) (response_of g.V.Service.is_response c.args.service.now) (shows c.args.hold.now.history) c.in-Ok.head.items z) (sym c.begin-else-answers.ensures.framing) c.in-Ok.ensures.made;
+  made = subst (λ z. MakesAt (g.E.Maker.MakesHead.makes c.forwarded.new.maker (g.E.Reader.Source.head c.args.source.now)) (adapted_of g.E.Client.Service.adapted_head c.args.service.now) (response_of g.E.Client.Service.is_response c.args.service.now) (shows c.args.hold.now.history) c.in-Ok.head.items z) (sym c.begin-else-answers.ensures.framing) c.in-Ok.ensures.made;
   given = c.begin-else-answers.ensures.given;
 }))

@@ -1,4 +1,4 @@
-use Rattle.std.proofs.Common.{◌≡◌, Option, true, false, Some, None, inl, inr, refl, sym, ap, ◌∙◌, subst}
+use Rattle.std.proofs.Common.{◌≡◌, Option, true, Some, None, inl, inr, refl, sym, ap, ◌∙◌, subst}
 use Rattle.std.proofs.lemmas.Bool.{false≢true}
 use Rattle.trace_core.specs.declared.history.Seen.{Seen}
 use Rattle.trace_core.specs.declared.history.Cause.{Cause}
@@ -7,7 +7,7 @@ use Rattle.trace_core.specs.History.{History}
 use Rattle.trace_core.specs.Turns.{after_all}
 use Rattle.plan_rules.specs.declared.room.TheConstants.{TURN_BYTES}
 use Rattle.adapt_hold.specs.Holding.{shows}
-use Rattle.adapt_turn.specs.declared.parts.Passed.{Passed}
+use Rattle.adapt_turn.specs.declared.steps.Passed.{Passed}
 use Rattle.adapt_turn.specs.declared.turned.Side.TheVariants.{Source}
 use Rattle.adapt_turn.specs.Parts.{IsOfSide, stepped, outcome_by}
 use Rattle.adapt_turn.proofs.Reasons.{part_idle, part_waits, part_blames, part_still, cause_none, source_blame}

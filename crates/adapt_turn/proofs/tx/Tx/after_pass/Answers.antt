@@ -9,5 +9,5 @@ returns-clause-kept g c = c.refuse_failed.ensures.kept
 pub returns-clause-same : goal.returns-clause-same
 returns-clause-same g c = c.refuse_failed.ensures.same
 
-pub returns-clause-messages : goal.returns-clause-messages
-returns-clause-messages g c = c.refuse_failed.ensures.messages
+pub returns-clause-writers : goal.returns-clause-writers
+returns-clause-writers g c = let e = c.refuse_failed.ensures in (e.framings.0, e.framings.1, e.messages.0, e.messages.1)

@@ -7,13 +7,13 @@ use Rattle.adapt_turn.proofs.tx.Tx.free_line.Goals as goal
 pub returns-clause-stands : goal.returns-clause-stands
 returns-clause-stands g c = λ request t s.
     let tx = c.args.self.now in
-    let makes = g.F.Forward.makes tx.forward (g.S.Source.head tx.source) in
-    freed g.V.Service.has_sent g.V.Service.has_heard g.V.Service.adapted_head g.V.Service.is_response
+    let makes = g.E.Maker.MakesHead.makes tx.ends.maker (g.E.Reader.Source.head tx.ends.source) in
+    freed g.E.Client.Service.has_sent g.E.Client.Service.has_heard g.E.Client.Service.adapted_head g.E.Client.Service.is_response
     (λ adapted is_response sent heard.
-    Stands tx.hold (λ x. g.S.Source.agrees x tx.source) (λ x body read. g.S.Source.has_read x body read tx.source) sent heard
-    (HopsAre (g.K.Hop.gift tx.next) (g.K.Hop.gift tx.back) (OfHead (λ x head. IsMade makes adapted is_response (g.K.Hop.body_framing tx.next) x head) (λ x head body taken. g.K.Hop.has_given x head body taken tx.next)) (λ taken. g.K.Hop.aside taken tx.next)
-    (OfHead (λ x head. IsMade makes adapted is_response (g.K.Hop.body_framing tx.back) x head) (λ x head body taken. g.K.Hop.has_given x head body taken tx.back)) (λ taken. g.K.Hop.aside taken tx.back))
-    (IsRefusing tx.refusing (g.K.Hop.gift tx.next) (g.K.Hop.gift tx.back))
-    (IsDelivered tx.refusing (g.K.Hop.gift tx.next) (g.K.Hop.gift tx.back) (WholeOf (λ head. IsMade makes adapted is_response (g.K.Hop.body_framing tx.next) (shows tx.hold.history) head) (λ head body taken. g.K.Hop.is_whole head body taken tx.next)) (λ taken. g.K.Hop.aside taken tx.next)
-    (WholeOf (λ head. IsMade makes adapted is_response (g.K.Hop.body_framing tx.back) (shows tx.hold.history) head) (λ head body taken. g.K.Hop.is_whole head body taken tx.back)) (λ taken. g.K.Hop.aside taken tx.back)) request t)
-    tx.service c.take_wire.new.service c.take_wire.ensures.left s
+    Stands tx.hold (λ x. g.E.Reader.Source.agrees x tx.ends.source) (λ x body read. g.E.Reader.Source.has_read x body read tx.ends.source) sent heard
+    (HopsAre (g.E.Writer.Hop.gift tx.ends.next) (g.E.Writer.Hop.gift tx.ends.back) (OfHead (λ x head. IsMade makes adapted is_response (g.E.Writer.Hop.body_framing tx.ends.next) x head) (λ x head body taken. g.E.Writer.Hop.has_given x head body taken tx.ends.next)) (λ taken. g.E.Writer.Hop.aside taken tx.ends.next)
+    (OfHead (λ x head. IsMade makes adapted is_response (g.E.Writer.Hop.body_framing tx.ends.back) x head) (λ x head body taken. g.E.Writer.Hop.has_given x head body taken tx.ends.back)) (λ taken. g.E.Writer.Hop.aside taken tx.ends.back))
+    (IsRefusing tx.refusing (g.E.Writer.Hop.gift tx.ends.next) (g.E.Writer.Hop.gift tx.ends.back))
+    (IsDelivered tx.refusing (g.E.Writer.Hop.gift tx.ends.next) (g.E.Writer.Hop.gift tx.ends.back) (WholeOf (λ head. IsMade makes adapted is_response (g.E.Writer.Hop.body_framing tx.ends.next) (shows tx.hold.history) head) (λ head body taken. g.E.Writer.Hop.is_whole head body taken tx.ends.next)) (λ taken. g.E.Writer.Hop.aside taken tx.ends.next)
+    (WholeOf (λ head. IsMade makes adapted is_response (g.E.Writer.Hop.body_framing tx.ends.back) (shows tx.hold.history) head) (λ head body taken. g.E.Writer.Hop.is_whole head body taken tx.ends.back)) (λ taken. g.E.Writer.Hop.aside taken tx.ends.back)) request t)
+    tx.ends.service c.take_wire.new.service c.take_wire.ensures.left s

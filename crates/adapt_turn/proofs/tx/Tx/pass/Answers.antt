@@ -17,44 +17,44 @@ pub returns-in-Source-clause-goes : goal.returns-in-Source-clause-goes
 returns-in-Source-clause-goes g c =
     let tx = c.args.self.now in
     let new = c.source_pass-passed.new in
-    source_passes_go g.S.Source g.A.Wire (lending tx.hold tx.source tx.source_wire) (lending new.hold new.source new.wire) _ _ _ _ _ _ _ _ _ c.source_pass-passed.result
-    (heads_then g.K.Hop.gift g.K.Hop.has_given g.K.Hop.aside (made_by (g.F.Forward.makes tx.forward) g.K.Hop.body_framing g.V.Service.adapted_head g.V.Service.is_response (g.S.Source.head tx.source) tx.service) (made_by (g.F.Forward.makes tx.forward) g.K.Hop.body_framing g.V.Service.adapted_head g.V.Service.is_response (g.S.Source.head new.source) tx.service) tx.next tx.back (shows tx.hold.history)
-    (source_heads (g.F.Forward.makes tx.forward) g.K.Hop.body_framing g.V.Service.adapted_head g.V.Service.is_response (g.S.Source.head tx.source) (g.S.Source.head new.source) tx.service (shows tx.hold.history) c.source_pass-passed.ensures.passes.head))
-    (others_of g.S.Source.agrees g.S.Source.has_read g.V.Service.has_sent g.V.Service.has_heard g.K.Hop.has_given g.K.Hop.gift g.K.Hop.aside (made_by (g.F.Forward.makes tx.forward) g.K.Hop.body_framing g.V.Service.adapted_head g.V.Service.is_response (g.S.Source.head new.source) tx.service) g.met.S.Source.others_agree g.met.S.Source.others g.met.V.Service.others_sent g.met.V.Service.others_heard g.met.K.Hop.others (λ k. made_on _ _ _ _) new.source tx.service tx.next tx.back tx.refusing)
+    source_passes_go g.E.Reader.Source g.E.SourceWire.Wire (lending tx.hold tx.ends.source tx.ends.source_wire) (lending new.hold new.source new.wire) _ _ _ _ _ _ _ _ _ c.source_pass-passed.result
+    (heads_then g.E.Writer.Hop.gift g.E.Writer.Hop.has_given g.E.Writer.Hop.aside (made_by (g.E.Maker.MakesHead.makes tx.ends.maker) g.E.Writer.Hop.body_framing g.E.Client.Service.adapted_head g.E.Client.Service.is_response (g.E.Reader.Source.head tx.ends.source) tx.ends.service) (made_by (g.E.Maker.MakesHead.makes tx.ends.maker) g.E.Writer.Hop.body_framing g.E.Client.Service.adapted_head g.E.Client.Service.is_response (g.E.Reader.Source.head new.source) tx.ends.service) tx.ends.next tx.ends.back (shows tx.hold.history)
+    (source_heads (g.E.Maker.MakesHead.makes tx.ends.maker) g.E.Writer.Hop.body_framing g.E.Client.Service.adapted_head g.E.Client.Service.is_response (g.E.Reader.Source.head tx.ends.source) (g.E.Reader.Source.head new.source) tx.ends.service (shows tx.hold.history) c.source_pass-passed.ensures.passes.head))
+    (others_of g.E.Reader.Source.agrees g.E.Reader.Source.has_read g.E.Client.Service.has_sent g.E.Client.Service.has_heard g.E.Writer.Hop.has_given g.E.Writer.Hop.gift g.E.Writer.Hop.aside (made_by (g.E.Maker.MakesHead.makes tx.ends.maker) g.E.Writer.Hop.body_framing g.E.Client.Service.adapted_head g.E.Client.Service.is_response (g.E.Reader.Source.head new.source) tx.ends.service) g.met.E.Reader.Source.others_agree g.met.E.Reader.Source.others g.met.E.Client.Service.others_sent g.met.E.Client.Service.others_heard g.met.E.Writer.Hop.others (λ k. made_on _ _ _ _) new.source tx.ends.service tx.ends.next tx.ends.back tx.refusing)
     c.requires.running c.source_pass-passed.ensures.passes
 
 pub returns-in-Service-clause-goes : goal.returns-in-Service-clause-goes
 returns-in-Service-clause-goes g c =
     let tx = c.args.self.now in
     let new = c.service_pass-passed.new in
-    line_passes_go g.V.Service g.W.Wire (λ x. g.S.Source.agrees x tx.source) (λ x body read. g.S.Source.has_read x body read tx.source)
-    (λ line. HopsAre (g.K.Hop.gift tx.next) (g.K.Hop.gift tx.back)
-    (OfHead (made_by (g.F.Forward.makes tx.forward) g.K.Hop.body_framing g.V.Service.adapted_head g.V.Service.is_response (g.S.Source.head tx.source) line tx.next) (λ x head body taken. g.K.Hop.has_given x head body taken tx.next)) (λ taken. g.K.Hop.aside taken tx.next)
-    (OfHead (made_by (g.F.Forward.makes tx.forward) g.K.Hop.body_framing g.V.Service.adapted_head g.V.Service.is_response (g.S.Source.head tx.source) line tx.back) (λ x head body taken. g.K.Hop.has_given x head body taken tx.back)) (λ taken. g.K.Hop.aside taken tx.back))
-    (IsRefusing tx.refusing (g.K.Hop.gift tx.next) (g.K.Hop.gift tx.back))
-    (λ h line. IsDelivered tx.refusing (g.K.Hop.gift tx.next) (g.K.Hop.gift tx.back)
-    (WholeOf (made_by (g.F.Forward.makes tx.forward) g.K.Hop.body_framing g.V.Service.adapted_head g.V.Service.is_response (g.S.Source.head tx.source) line tx.next (shows h.history)) (λ head body taken. g.K.Hop.is_whole head body taken tx.next)) (λ taken. g.K.Hop.aside taken tx.next)
-    (WholeOf (made_by (g.F.Forward.makes tx.forward) g.K.Hop.body_framing g.V.Service.adapted_head g.V.Service.is_response (g.S.Source.head tx.source) line tx.back (shows h.history)) (λ head body taken. g.K.Hop.is_whole head body taken tx.back)) (λ taken. g.K.Hop.aside taken tx.back))
-    (g.A.Wire.past tx.source_wire) (g.C.Wire.past tx.next_wire)
-    (λ x l m head response. heads_then g.K.Hop.gift g.K.Hop.has_given g.K.Hop.aside (made_by (g.F.Forward.makes tx.forward) g.K.Hop.body_framing g.V.Service.adapted_head g.V.Service.is_response (g.S.Source.head tx.source) (Some l))
-    (made_by (g.F.Forward.makes tx.forward) g.K.Hop.body_framing g.V.Service.adapted_head g.V.Service.is_response (g.S.Source.head tx.source) (Some m)) tx.next tx.back x
-    (line_heads (g.F.Forward.makes tx.forward) g.K.Hop.body_framing g.V.Service.adapted_head g.V.Service.is_response (g.S.Source.head tx.source) (Some l) l m x refl head response))
-    (λ line. others_of g.S.Source.agrees g.S.Source.has_read g.V.Service.has_sent g.V.Service.has_heard g.K.Hop.has_given g.K.Hop.gift g.K.Hop.aside (made_by (g.F.Forward.makes tx.forward) g.K.Hop.body_framing g.V.Service.adapted_head g.V.Service.is_response (g.S.Source.head tx.source) line) g.met.S.Source.others_agree g.met.S.Source.others g.met.V.Service.others_sent g.met.V.Service.others_heard g.met.K.Hop.others (λ k. made_on _ _ _ _) tx.source line tx.next tx.back tx.refusing)
-    tx.pace.reused tx.hold tx.service new.hold new.service c.service_pass-passed.result c.requires.running c.service_pass-passed.ensures.passes
+    line_passes_go g.E.Client.Service g.E.ServiceWire.Wire (λ x. g.E.Reader.Source.agrees x tx.ends.source) (λ x body read. g.E.Reader.Source.has_read x body read tx.ends.source)
+    (λ line. HopsAre (g.E.Writer.Hop.gift tx.ends.next) (g.E.Writer.Hop.gift tx.ends.back)
+    (OfHead (made_by (g.E.Maker.MakesHead.makes tx.ends.maker) g.E.Writer.Hop.body_framing g.E.Client.Service.adapted_head g.E.Client.Service.is_response (g.E.Reader.Source.head tx.ends.source) line tx.ends.next) (λ x head body taken. g.E.Writer.Hop.has_given x head body taken tx.ends.next)) (λ taken. g.E.Writer.Hop.aside taken tx.ends.next)
+    (OfHead (made_by (g.E.Maker.MakesHead.makes tx.ends.maker) g.E.Writer.Hop.body_framing g.E.Client.Service.adapted_head g.E.Client.Service.is_response (g.E.Reader.Source.head tx.ends.source) line tx.ends.back) (λ x head body taken. g.E.Writer.Hop.has_given x head body taken tx.ends.back)) (λ taken. g.E.Writer.Hop.aside taken tx.ends.back))
+    (IsRefusing tx.refusing (g.E.Writer.Hop.gift tx.ends.next) (g.E.Writer.Hop.gift tx.ends.back))
+    (λ h line. IsDelivered tx.refusing (g.E.Writer.Hop.gift tx.ends.next) (g.E.Writer.Hop.gift tx.ends.back)
+    (WholeOf (made_by (g.E.Maker.MakesHead.makes tx.ends.maker) g.E.Writer.Hop.body_framing g.E.Client.Service.adapted_head g.E.Client.Service.is_response (g.E.Reader.Source.head tx.ends.source) line tx.ends.next (shows h.history)) (λ head body taken. g.E.Writer.Hop.is_whole head body taken tx.ends.next)) (λ taken. g.E.Writer.Hop.aside taken tx.ends.next)
+    (WholeOf (made_by (g.E.Maker.MakesHead.makes tx.ends.maker) g.E.Writer.Hop.body_framing g.E.Client.Service.adapted_head g.E.Client.Service.is_response (g.E.Reader.Source.head tx.ends.source) line tx.ends.back (shows h.history)) (λ head body taken. g.E.Writer.Hop.is_whole head body taken tx.ends.back)) (λ taken. g.E.Writer.Hop.aside taken tx.ends.back))
+    (g.E.SourceWire.Wire.past tx.ends.source_wire) (g.E.NextWire.Wire.past tx.ends.next_wire)
+    (λ x l m head response. heads_then g.E.Writer.Hop.gift g.E.Writer.Hop.has_given g.E.Writer.Hop.aside (made_by (g.E.Maker.MakesHead.makes tx.ends.maker) g.E.Writer.Hop.body_framing g.E.Client.Service.adapted_head g.E.Client.Service.is_response (g.E.Reader.Source.head tx.ends.source) (Some l))
+    (made_by (g.E.Maker.MakesHead.makes tx.ends.maker) g.E.Writer.Hop.body_framing g.E.Client.Service.adapted_head g.E.Client.Service.is_response (g.E.Reader.Source.head tx.ends.source) (Some m)) tx.ends.next tx.ends.back x
+    (line_heads (g.E.Maker.MakesHead.makes tx.ends.maker) g.E.Writer.Hop.body_framing g.E.Client.Service.adapted_head g.E.Client.Service.is_response (g.E.Reader.Source.head tx.ends.source) (Some l) l m x refl head response))
+    (λ line. others_of g.E.Reader.Source.agrees g.E.Reader.Source.has_read g.E.Client.Service.has_sent g.E.Client.Service.has_heard g.E.Writer.Hop.has_given g.E.Writer.Hop.gift g.E.Writer.Hop.aside (made_by (g.E.Maker.MakesHead.makes tx.ends.maker) g.E.Writer.Hop.body_framing g.E.Client.Service.adapted_head g.E.Client.Service.is_response (g.E.Reader.Source.head tx.ends.source) line) g.met.E.Reader.Source.others_agree g.met.E.Reader.Source.others g.met.E.Client.Service.others_sent g.met.E.Client.Service.others_heard g.met.E.Writer.Hop.others (λ k. made_on _ _ _ _) tx.ends.source line tx.ends.next tx.ends.back tx.refusing)
+    tx.pace.reused tx.hold tx.ends.service new.hold new.service c.service_pass-passed.result c.requires.running c.service_pass-passed.ensures.passes
 
 pub returns-in-NextHop-clause-goes : goal.returns-in-NextHop-clause-goes
 returns-in-NextHop-clause-goes g c =
     let tx = c.args.self.now in
     let new = c.next_pass-passed.new in
-    next_passes_go tx.forward new.forward g.K.Hop g.A.Wire g.C.Wire (λ x. g.S.Source.agrees x tx.source) (λ x body read. g.S.Source.has_read x body read tx.source) (sent_on g.V.Service tx.service) (heard_on g.V.Service tx.service) tx.refusing (past_on g.W.Wire tx.service)
-    (λ maker. made_by (g.F.Forward.makes maker) g.K.Hop.body_framing g.V.Service.adapted_head g.V.Service.is_response (g.S.Source.head tx.source) tx.service)
+    next_passes_go tx.ends.maker new.maker g.E.Writer.Hop g.E.SourceWire.Wire g.E.NextWire.Wire (λ x. g.E.Reader.Source.agrees x tx.ends.source) (λ x body read. g.E.Reader.Source.has_read x body read tx.ends.source) (sent_on g.E.Client.Service tx.ends.service) (heard_on g.E.Client.Service tx.ends.service) tx.refusing (past_on g.E.ServiceWire.Wire tx.ends.service)
+    (λ maker. made_by (g.E.Maker.MakesHead.makes maker) g.E.Writer.Hop.body_framing g.E.Client.Service.adapted_head g.E.Client.Service.is_response (g.E.Reader.Source.head tx.ends.source) tx.ends.service)
     (λ hop. made_on _ _ _ _)
-    (λ hop later x head e m. subst (λ z. IsMade (g.F.Forward.makes new.forward (g.S.Source.head tx.source)) (adapted_of g.V.Service.adapted_head tx.service) (response_of g.V.Service.is_response tx.service) z x head) (sym e) m)
-    (λ next back. others_of g.S.Source.agrees g.S.Source.has_read g.V.Service.has_sent g.V.Service.has_heard g.K.Hop.has_given g.K.Hop.gift g.K.Hop.aside (made_by (g.F.Forward.makes new.forward) g.K.Hop.body_framing g.V.Service.adapted_head g.V.Service.is_response (g.S.Source.head tx.source) tx.service) g.met.S.Source.others_agree g.met.S.Source.others g.met.V.Service.others_sent g.met.V.Service.others_heard g.met.K.Hop.others (λ k. made_on _ _ _ _) tx.source tx.service next back tx.refusing)
-    g.met.K.Hop.idle_given
-    (choice_of g.V.Service (g.F.Forward.makes new.forward (g.S.Source.head tx.source)) (g.F.Forward.makes_none tx.forward (g.S.Source.head tx.source)) (new.forward ≡ tx.forward) tx.service (shows tx.hold.history))
-    (writers tx.hold tx.next tx.next_wire tx.back tx.source_wire) (writers new.hold new.next new.next_wire new.back new.back_wire) c.next_pass-passed.result tx.roomy c.requires.running (λ e. e)
-    (λ head hop chosen m. made_now (g.F.Forward.makes new.forward (g.S.Source.head tx.source)) (adapted_of g.V.Service.adapted_head tx.service) (response_of g.V.Service.is_response tx.service) (g.K.Hop.body_framing hop) (g.K.Hop.body_framing hop) tx.hold.history head c.next_pass-passed.ensures.passes.tied.legal chosen refl m)
+    (λ hop later x head e m. subst (λ z. IsMade (g.E.Maker.MakesHead.makes new.maker (g.E.Reader.Source.head tx.ends.source)) (adapted_of g.E.Client.Service.adapted_head tx.ends.service) (response_of g.E.Client.Service.is_response tx.ends.service) z x head) (sym e) m)
+    (λ next back. others_of g.E.Reader.Source.agrees g.E.Reader.Source.has_read g.E.Client.Service.has_sent g.E.Client.Service.has_heard g.E.Writer.Hop.has_given g.E.Writer.Hop.gift g.E.Writer.Hop.aside (made_by (g.E.Maker.MakesHead.makes new.maker) g.E.Writer.Hop.body_framing g.E.Client.Service.adapted_head g.E.Client.Service.is_response (g.E.Reader.Source.head tx.ends.source) tx.ends.service) g.met.E.Reader.Source.others_agree g.met.E.Reader.Source.others g.met.E.Client.Service.others_sent g.met.E.Client.Service.others_heard g.met.E.Writer.Hop.others (λ k. made_on _ _ _ _) tx.ends.source tx.ends.service next back tx.refusing)
+    g.met.E.Writer.Hop.idle_given
+    (choice_of g.E.Client.Service (g.E.Maker.MakesHead.makes new.maker (g.E.Reader.Source.head tx.ends.source)) (g.E.Maker.MakesHead.makes_none tx.ends.maker (g.E.Reader.Source.head tx.ends.source)) (new.maker ≡ tx.ends.maker) tx.ends.service (shows tx.hold.history))
+    (writers tx.hold tx.ends.next tx.ends.next_wire tx.ends.back tx.ends.source_wire) (writers new.hold new.next new.next_wire new.back new.back_wire) c.next_pass-passed.result tx.roomy c.requires.running (λ e. e)
+    (λ head hop chosen m. made_now (g.E.Maker.MakesHead.makes new.maker (g.E.Reader.Source.head tx.ends.source)) (adapted_of g.E.Client.Service.adapted_head tx.ends.service) (response_of g.E.Client.Service.is_response tx.ends.service) (g.E.Writer.Hop.body_framing hop) (g.E.Writer.Hop.body_framing hop) tx.hold.history head c.next_pass-passed.ensures.passes.tied.legal chosen refl m)
     (answers_reqmod (shows tx.hold.history) _) c.next_pass-passed.ensures.passes
 
 pub returns-in-Source-clause-any : goal.returns-in-Source-clause-any

@@ -1,31 +1,27 @@
 use Rattle.adapt_turn.proofs.Together.{goes_none, goes_then}
-use Rattle.std.proofs.Common.{inl, inr, sym, ◌∙◌, ap}
+use Rattle.std.proofs.Common.{inl, inr, sym, ◌∙◌, ap, ◌≡◌, refl, subst, true, false, [], Some, None, arith, rules, ◌+◌, ◌≤◌}
 use Rattle.trace_core.specs.declared.history.Cause.TheVariants.{Deadline, Stopping}
 use Rattle.plan_rules.specs.Room.{original_room, adapted_room}
 use Rattle.adapt_hold.specs.Holding.{Holding, shows}
 use Rattle.adapt_turn.proofs.Reasons.{waits_kept, both_kept, blamed_kept, line_blamed_kept, writer_kept, fails_kept, breaks_kept, cause_kept, outcome_fails, not_failed}
-use Rattle.adapt_turn.proofs.Moved.{moves_of, moves_none}
+use Rattle.adapt_turn.proofs.Moved.{moves_of, moves_none, none_over, waiting_not, some_line}
 use Rattle.adapt_turn.specs.declared.turned.Outcome.TheVariants as outcomes
-use Rattle.adapt_turn.proofs.Told.{done_told}
-use Rattle.std.proofs.Common.{◌≡◌, refl, subst}
+use Rattle.adapt_turn.proofs.Told.{done_told, failed_over}
 use Rattle.std.proofs.lemmas.Bool.{false≢true}
 use Rattle.adapt_turn.specs.Rows.{may_step, TookBy, Advances}
 use Rattle.adapt_turn.proofs.Rows.{by_side, fail_advances, took_fail}
-use Rattle.adapt_turn.proofs.Moved.{none_over, waiting_not, some_line}
 use Rattle.trace_core.specs.declared.history.Cause.{Cause}
 use Rattle.adapt_turn.specs.Stands.{user_gift}
 use Rattle.adapt_turn.specs.Refusals.{refusal_status, user_untouched, HasRefusal}
 use Rattle.adapt_turn.proofs.Refusals.{by_point}
-use Rattle.adapt_turn.proofs.Told.{failed_over}
-use Rattle.adapt_turn.proofs.ByTurn.{unfailed, by_answer, for_side, of_either, of_one, idle_no_message}
+use Rattle.adapt_turn.proofs.ByTurn.{unfailed, by_answer, answer_on, not_broken, paces_still, for_side, of_either, of_one, idle_no_message}
 use Rattle.adapt_turn.specs.declared.turned.Turned.TheVariants as answers
-use Rattle.std.proofs.Common.{true, false, [], Some, None, arith}
 use Rattle.adapt_turn.specs.Made.{response_of, answers_user}
 use Rattle.std.specs.Prelude.{MatchOption, ⊤}
 use Rattle.adapt_turn.proofs.Paced.{paced_kept}
 use Rattle.adapt_sides.specs.Turns.{FailsGiving}
 use Rattle.adapt_turn.specs.Parts.{fault_of}
-use Rattle.adapt_turn.specs.declared.start.Line.{Line}
+use Rattle.adapt_turn.specs.declared.ends.Line.{Line}
 use Rattle.adapt_turn.proofs.Faultless.{unmarked_before, unmarked_now}
 use Rattle.adapt_turn.specs.declared.pace.Pace.{Pace}
 use Rattle.adapt_turn.proofs.Lines.{line_told}
@@ -37,175 +33,194 @@ returns-then-is_broken-clause-goes g c = goes_none _ _ _ _
 pub returns-clause-goes : goal.returns-clause-goes
 returns-clause-goes g c = goes_then _ _ _ _ _ _ _ _ _ _ _ _ c.pass-passed.ensures.goes c.after_pass.ensures.goes
 
-pub returns-clause-timely : goal.returns-clause-timely
-returns-clause-timely g c = λ o e. elim (c.pass-passed.ensures.any.of_side Deadline (outcome_fails c.pass-passed.result.failed c.after_pass.new.self.outcome Deadline (c.after_pass.ensures.outcome ∙ c.pass-passed.ensures.outcome) e)) [
-  | inl b ↦ absurd b
-  | inr m ↦ inr m
-]
-
-pub returns-clause-unstopped : goal.returns-clause-unstopped
-returns-clause-unstopped g c = λ o e. elim (c.pass-passed.ensures.any.of_side Stopping (outcome_fails c.pass-passed.result.failed c.after_pass.new.self.outcome Stopping (c.after_pass.ensures.outcome ∙ c.pass-passed.ensures.outcome) e)) [
-  | inl b ↦ absurd b
-  | inr m ↦ m
-]
-
-pub returns-clause-moment : goal.returns-clause-moment
-returns-clause-moment g c = elim c.after_pass.ensures.moment [
-  | inl e ↦ inl (e ∙ (ap (λ (z : Pace). z.last_moved) c.pass-passed.ensures.pace))
-  | inr e ↦ inr e
-]
-
-pub returns-clause-refuses : goal.returns-clause-refuses
-returns-clause-refuses g c = λ o cause e. c.after_pass.ensures.refuses cause (outcome_fails c.pass-passed.result.failed c.after_pass.new.self.outcome cause (c.after_pass.ensures.outcome ∙ c.pass-passed.ensures.outcome) e)
-
-pub returns-then-now-self-2-clause-refuses : goal.returns-then-now-self-2-clause-refuses
-returns-then-now-self-2-clause-refuses g c = λ o cause e.
-    let n = c.fail_by.new.self in
-    let p = n.hold.history.plan.point in
-    let same : Deadline ≡ cause = (let d : outcomes.Fail Deadline ≡ outcomes.Fail cause = sym c.fail_by.ensures.outcome ∙ e in cc) in
-    subst (λ (z : Cause). HasRefusal (refusal_status z p) n.refusing (user_gift p (g.K.Hop.gift n.next) (g.K.Hop.gift n.back)) (user_untouched p (g.K.Hop.untouched n.next) (g.K.Hop.untouched n.back))) same c.fail_by.ensures.refuses
-
-pub returns-then-is_broken-clause-refuses : goal.returns-then-is_broken-clause-refuses
-returns-then-is_broken-clause-refuses g c = λ o cause e. absurd (false≢true (sym o ∙ failed_over c.args.self.now.hold.history c.args.self.now.outcome cause c.args.self.now.told e))
-
 pub returns-clause-answers : goal.returns-clause-answers
 returns-clause-answers g c = by_answer c.after_pass.result _ _ _ _
     (λ w. (
-      c.after_pass.ensures.hold ∙ c.pass-passed.ensures.any.still (c.after_pass.ensures.waiting w).0,
-      moves_of g.A.Wire.past g.W.Wire.past g.C.Wire.past c.args.self.now.source_wire c.pass-passed.new.self.source_wire c.after_pass.new.self.source_wire
-          c.args.self.now.service c.pass-passed.new.self.service c.after_pass.new.self.service c.args.self.now.next_wire c.pass-passed.new.self.next_wire c.after_pass.new.self.next_wire _ _ _ _ _ _ 0
+      c.after_pass.ensures.hold ∙ c.pass-passed.ensures.any.still (c.after_pass.ensures.said.waiting w).0,
+      moves_of g.E.SourceWire.Wire.past g.E.ServiceWire.Wire.past g.E.NextWire.Wire.past c.args.self.now.ends.source_wire c.pass-passed.new.self.ends.source_wire c.after_pass.new.self.ends.source_wire
+          c.args.self.now.ends.service c.pass-passed.new.self.ends.service c.after_pass.new.self.ends.service c.args.self.now.ends.next_wire c.pass-passed.new.self.ends.next_wire c.after_pass.new.self.ends.next_wire _ _ _ _ _ _ 0
           c.counts-before.ensures.source c.counts.ensures.source c.counts-before.ensures.service c.counts.ensures.service c.counts-before.ensures.next c.counts.ensures.next
-          c.pass-passed.ensures.served c.after_pass.ensures.kept.1 c.after_pass.ensures.kept.2 c.after_pass.ensures.kept.3 (sym (c.after_pass.ensures.waiting w).1 ∙ c.since-moved.ensures),
+          c.pass-passed.ensures.served c.after_pass.ensures.kept.1 c.after_pass.ensures.kept.2 c.after_pass.ensures.kept.3 (sym (c.after_pass.ensures.said.waiting w).1 ∙ c.since-moved.ensures),
       λ k. absurd (false≢true (sym (sym c.is_closed.ensures ∙ c.if-is_closed.false) ∙ k)),
       λ k. for_side c.args.side _ _ _
-          (λ s. (waits_kept (λ z. g.S.Source.rests (original_room (shows c.args.self.now.hold.history) c.args.self.now.hold.claim c.args.self.now.hold.limits.window) z) g.A.Wire.past _ _ c.pass-passed.new.self.source c.after_pass.new.self.source c.pass-passed.new.self.source_wire c.after_pass.new.self.source_wire c.after_pass.ensures.kept.0 c.after_pass.ensures.kept.1 ((c.pass-passed.ensures.source s).waits (c.after_pass.ensures.waiting w).0), subst (λ z. g.S.Source.is_framed (original_room (shows c.args.self.now.hold.history) c.args.self.now.hold.claim c.args.self.now.hold.limits.window) z) (sym c.after_pass.ensures.kept.0) ((c.pass-passed.ensures.source s).framed (c.after_pass.ensures.waiting w).0)))
-          (λ s. (both_kept (λ l. g.V.Service.rests_writing (shows c.args.self.now.hold.history) l.side) (λ l. g.V.Service.rests_reading (shows c.args.self.now.hold.history) (adapted_room (shows c.args.self.now.hold.history) c.args.self.now.hold.limits.window) l.side) (λ l p. MatchOption l.wire ⊥ (λ w. g.W.Wire.past w p)) _ c.pass-passed.new.self.service c.after_pass.new.self.service c.after_pass.ensures.kept.2 ((line_told (c.pass-passed.ensures.service s)).waits (c.after_pass.ensures.waiting w).0), subst (λ z. MatchOption z ⊤ (λ l. MatchOption l.wire ⊤ (λ w. g.V.Service.is_framed (adapted_room (shows c.args.self.now.hold.history) c.args.self.now.hold.limits.window) l.side))) (sym c.after_pass.ensures.kept.2) ((line_told (c.pass-passed.ensures.service s)).framed (c.after_pass.ensures.waiting w).0)))
-          (λ s. elim ((c.pass-passed.ensures.next s).waits (c.after_pass.ensures.waiting w).0) [
+          (λ s. (waits_kept (λ z. g.E.Reader.Source.rests (original_room (shows c.args.self.now.hold.history) c.args.self.now.hold.claim c.args.self.now.hold.limits.window) z) g.E.SourceWire.Wire.past _ _ c.pass-passed.new.self.ends.source c.after_pass.new.self.ends.source c.pass-passed.new.self.ends.source_wire c.after_pass.new.self.ends.source_wire c.after_pass.ensures.kept.0 c.after_pass.ensures.kept.1 ((c.pass-passed.ensures.source s).waits (c.after_pass.ensures.said.waiting w).0), subst (λ z. g.E.Reader.Source.is_framed (original_room (shows c.args.self.now.hold.history) c.args.self.now.hold.claim c.args.self.now.hold.limits.window) z) (sym c.after_pass.ensures.kept.0) ((c.pass-passed.ensures.source s).framed (c.after_pass.ensures.said.waiting w).0)))
+          (λ s. (both_kept (λ l. g.E.Client.Service.rests_writing (shows c.args.self.now.hold.history) l.side) (λ l. g.E.Client.Service.rests_reading (shows c.args.self.now.hold.history) (adapted_room (shows c.args.self.now.hold.history) c.args.self.now.hold.limits.window) l.side) (λ l p. MatchOption l.wire ⊥ (λ w. g.E.ServiceWire.Wire.past w p)) _ c.pass-passed.new.self.ends.service c.after_pass.new.self.ends.service c.after_pass.ensures.kept.2 ((line_told (c.pass-passed.ensures.service s)).waits (c.after_pass.ensures.said.waiting w).0), subst (λ z. MatchOption z ⊤ (λ l. MatchOption l.wire ⊤ (λ w. g.E.Client.Service.is_framed (adapted_room (shows c.args.self.now.hold.history) c.args.self.now.hold.limits.window) l.side))) (sym c.after_pass.ensures.kept.2) ((line_told (c.pass-passed.ensures.service s)).framed (c.after_pass.ensures.said.waiting w).0)))
+          (λ s. elim ((c.pass-passed.ensures.next s).waits (c.after_pass.ensures.said.waiting w).0) [
             | inl u ↦ inl u
             | inr v ↦ inr (
-              λ n b. v.0 (sym (ap g.K.Hop.gift (c.after_pass.ensures.same (c.pass-passed.ensures.any.idle (c.after_pass.ensures.waiting w).0)).0) ∙ n) (sym (ap g.K.Hop.gift (c.after_pass.ensures.same (c.pass-passed.ensures.any.idle (c.after_pass.ensures.waiting w).0)).1) ∙ b),
-              of_either _ _ _ _ _ _ (ap g.K.Hop.gift (c.after_pass.ensures.same (c.pass-passed.ensures.any.idle (c.after_pass.ensures.waiting w).0)).1)
-                  (λ z. waits_kept (λ k. g.K.Hop.rests (shows c.args.self.now.hold.history) k) g.C.Wire.past _ _ c.pass-passed.new.self.next c.after_pass.new.self.next c.pass-passed.new.self.next_wire c.after_pass.new.self.next_wire (c.after_pass.ensures.same (c.pass-passed.ensures.any.idle (c.after_pass.ensures.waiting w).0)).0 c.after_pass.ensures.kept.3 z)
-                  (λ z. waits_kept (λ k. g.K.Hop.rests (shows c.args.self.now.hold.history) k) g.A.Wire.past _ _ c.pass-passed.new.self.back c.after_pass.new.self.back c.pass-passed.new.self.source_wire c.after_pass.new.self.source_wire (c.after_pass.ensures.same (c.pass-passed.ensures.any.idle (c.after_pass.ensures.waiting w).0)).1 c.after_pass.ensures.kept.1 z)
+              λ n b. v.0 (sym (ap g.E.Writer.Hop.gift (c.after_pass.ensures.same (c.pass-passed.ensures.any.idle (c.after_pass.ensures.said.waiting w).0)).0) ∙ n) (sym (ap g.E.Writer.Hop.gift (c.after_pass.ensures.same (c.pass-passed.ensures.any.idle (c.after_pass.ensures.said.waiting w).0)).1) ∙ b),
+              of_either _ _ _ _ _ _ (ap g.E.Writer.Hop.gift (c.after_pass.ensures.same (c.pass-passed.ensures.any.idle (c.after_pass.ensures.said.waiting w).0)).1)
+                  (λ z. waits_kept (λ k. g.E.Writer.Hop.rests (shows c.args.self.now.hold.history) k) g.E.NextWire.Wire.past _ _ c.pass-passed.new.self.ends.next c.after_pass.new.self.ends.next c.pass-passed.new.self.ends.next_wire c.after_pass.new.self.ends.next_wire (c.after_pass.ensures.same (c.pass-passed.ensures.any.idle (c.after_pass.ensures.said.waiting w).0)).0 c.after_pass.ensures.kept.3 z)
+                  (λ z. waits_kept (λ k. g.E.Writer.Hop.rests (shows c.args.self.now.hold.history) k) g.E.SourceWire.Wire.past _ _ c.pass-passed.new.self.ends.back c.after_pass.new.self.ends.back c.pass-passed.new.self.ends.source_wire c.after_pass.new.self.ends.source_wire (c.after_pass.ensures.same (c.pass-passed.ensures.any.idle (c.after_pass.ensures.said.waiting w).0)).1 c.after_pass.ensures.kept.1 z)
                   v.1,
             )
           ]),
     ))
     (λ n m. (
-      moves_of g.A.Wire.past g.W.Wire.past g.C.Wire.past c.args.self.now.source_wire c.pass-passed.new.self.source_wire c.after_pass.new.self.source_wire
-          c.args.self.now.service c.pass-passed.new.self.service c.after_pass.new.self.service c.args.self.now.next_wire c.pass-passed.new.self.next_wire c.after_pass.new.self.next_wire _ _ _ _ _ _ n
+      moves_of g.E.SourceWire.Wire.past g.E.ServiceWire.Wire.past g.E.NextWire.Wire.past c.args.self.now.ends.source_wire c.pass-passed.new.self.ends.source_wire c.after_pass.new.self.ends.source_wire
+          c.args.self.now.ends.service c.pass-passed.new.self.ends.service c.after_pass.new.self.ends.service c.args.self.now.ends.next_wire c.pass-passed.new.self.ends.next_wire c.after_pass.new.self.ends.next_wire _ _ _ _ _ _ n
           c.counts-before.ensures.source c.counts.ensures.source c.counts-before.ensures.service c.counts.ensures.service c.counts-before.ensures.next c.counts.ensures.next
-          c.pass-passed.ensures.served c.after_pass.ensures.kept.1 c.after_pass.ensures.kept.2 c.after_pass.ensures.kept.3 (c.after_pass.ensures.moved n m ∙ c.since-moved.ensures),
+          c.pass-passed.ensures.served c.after_pass.ensures.kept.1 c.after_pass.ensures.kept.2 c.after_pass.ensures.kept.3 (c.after_pass.ensures.said.moved n m ∙ c.since-moved.ensures),
       λ z p q r a b d.
           let o = (sym c.is_closed.ensures ∙ c.if-is_closed.false) in
           let e = m ∙ ap answers.Moved z in (
             o,
-            let w = waiting_not c.pass-passed.result.waiting (c.after_pass.ensures.active 0 e).0 in
-                let k = none_over _ _ _ (moves_of g.A.Wire.past g.W.Wire.past g.C.Wire.past c.args.self.now.source_wire c.pass-passed.new.self.source_wire c.pass-passed.new.self.source_wire
-                c.args.self.now.service c.pass-passed.new.self.service c.pass-passed.new.self.service c.args.self.now.next_wire c.pass-passed.new.self.next_wire c.pass-passed.new.self.next_wire _ _ _ _ _ _ 0
+            let w = waiting_not c.pass-passed.result.waiting (c.after_pass.ensures.said.active 0 e).0 in
+                let k = none_over _ _ _ 0 refl (moves_of g.E.SourceWire.Wire.past g.E.ServiceWire.Wire.past g.E.NextWire.Wire.past c.args.self.now.ends.source_wire c.pass-passed.new.self.ends.source_wire c.pass-passed.new.self.ends.source_wire
+                c.args.self.now.ends.service c.pass-passed.new.self.ends.service c.pass-passed.new.self.ends.service c.args.self.now.ends.next_wire c.pass-passed.new.self.ends.next_wire c.pass-passed.new.self.ends.next_wire _ _ _ _ _ _ 0
                 c.counts-before.ensures.source c.counts.ensures.source c.counts-before.ensures.service c.counts.ensures.service c.counts-before.ensures.next c.counts.ensures.next
-                c.pass-passed.ensures.served refl refl refl (c.after_pass.ensures.moved 0 e ∙ c.since-moved.ensures)) in
+                c.pass-passed.ensures.served refl refl refl (c.after_pass.ensures.said.moved 0 e ∙ c.since-moved.ensures)) in
                 subst (λ h. Advances (may_step c.args.side) c.args.self.now.hold h) (sym c.after_pass.ensures.hold)
                 (by_side c.args.side (λ side. Advances (may_step side) c.args.self.now.hold c.pass-passed.new.self.hold)
                 (λ s. let v = (c.pass-passed.ensures.source s).active w p a in v.4 (k.0 p v.0 a v.1))
-                (λ s. some_line g.W.Wire.past c.args.self.now.service c.pass-passed.new.self.service _ q b k.1
-                (λ n. false≢true (sym w ∙ (line_told (c.pass-passed.ensures.service s)).absent n)) ((line_told (c.pass-passed.ensures.service s)).active w (c.after_pass.ensures.active 0 e).1))
+                (λ s. some_line g.E.ServiceWire.Wire.past c.args.self.now.ends.service c.pass-passed.new.self.ends.service _ q b k.1
+                (λ n. false≢true (sym w ∙ (line_told (c.pass-passed.ensures.service s)).absent n)) ((line_told (c.pass-passed.ensures.service s)).active w (c.after_pass.ensures.said.active 0 e).1))
                 (λ s. of_one _ _ _ _ (λ act. let v = act r d in v.4 (k.2 r v.0 d v.1)) (λ act. let v = act p a in v.4 (k.0 p v.0 a v.1)) ((c.pass-passed.ensures.next s).active w))),
           ),
     ))
-    (λ b. let w = c.pass-passed.ensures.any.breaks (c.after_pass.ensures.broken b) in
-    let k = breaks_kept (λ l. g.V.Service.fault l.side) c.args.self.now.pace.reused c.pass-passed.new.self.hold c.after_pass.new.self.hold c.pass-passed.new.self.service c.after_pass.new.self.service c.after_pass.ensures.kept.2 c.after_pass.ensures.hold w.2 in
+    (λ b. let w = c.pass-passed.ensures.any.breaks (c.after_pass.ensures.said.broken b) in
+    let k = breaks_kept (λ l. g.E.Client.Service.fault l.side) c.args.self.now.pace.reused c.pass-passed.new.self.hold c.after_pass.new.self.hold c.pass-passed.new.self.ends.service c.after_pass.new.self.ends.service c.after_pass.ensures.kept.2 c.after_pass.ensures.hold w.2 in
     (w.0, sym c.is_closed.ensures ∙ c.if-is_closed.false, k.0, inr k.1))
-    (λ outcome e. absurd (c.after_pass.ensures.open outcome e))
+    (λ outcome e. absurd (c.after_pass.ensures.said.unfinished outcome e))
 
 pub returns-then-is_closed-clause-answers : goal.returns-then-is_closed-clause-answers
-returns-then-is_closed-clause-answers g c = by_answer c.closed_turn.result _ _ _ _
-    (λ w. (c.closed_turn.ensures.hold, c.closed_turn.ensures.idle w, λ k. c.closed_turn.ensures.waits w, λ k. absurd (false≢true (sym k ∙ (sym c.is_closed.ensures ∙ c.if-is_closed.true)))))
+returns-then-is_closed-clause-answers g c =
+    let over = sym c.is_closed.ensures ∙ c.if-is_closed.true in
+    let kept = c.closed_turn.ensures.kept in
+    answer_on c.closed_turn.result _ _ _ _ _ _ _ _ c.closed_turn.ensures.answers
+    (λ w. (kept.0, w.0, λ k. w.1, λ o. absurd (false≢true (sym o ∙ over))))
     (λ n m. (
-      c.closed_turn.ensures.moved n m,
+      m.0,
       λ z p q r a b d.
-          let e = m ∙ ap answers.Moved z in
-          absurd (let k = none_over _ _ _ (c.closed_turn.ensures.moved 0 e) in
-          let m = c.closed_turn.ensures.moves e in
+          absurd (let k = none_over _ _ _ n z m.0 in
+          let w = m.1 z in
           by_point c.args.self.now.hold.history.plan.point ⊥
-          (λ s. let v = m.0 s r d in v.4 (k.2 r v.0 d v.1))
-          (λ s. let v = m.1 s p a in v.4 (k.0 p v.0 a v.1))),
+          (λ s. let v = w.0 s r d in v.4 (k.2 r v.0 d v.1))
+          (λ s. let v = w.1 s p a in v.4 (k.0 p v.0 a v.1))),
     ))
-    (λ b. absurd (c.closed_turn.ensures.whole b))
-    (λ outcome e. (
-      (sym c.is_closed.ensures ∙ c.if-is_closed.true),
-      c.closed_turn.ensures.outcome outcome e,
-      c.closed_turn.ensures.is_over outcome e,
-      λ d. done_told c.args.self.now.hold c.closed_turn.new.self.hold c.args.self.now.outcome c.args.self.now.told c.closed_turn.ensures.hold (sym c.is_closed.ensures ∙ c.if-is_closed.true) (sym d ∙ c.closed_turn.ensures.outcome outcome e),
-    ))
+    (λ b. absurd b)
+    (λ outcome f. (over, f.0, f.1, λ d. done_told c.args.self.now.hold c.closed_turn.new.self.hold c.args.self.now.outcome c.args.self.now.told kept.0 over (sym d ∙ f.0)))
 
 pub returns-then-now-self-2-clause-answers : goal.returns-then-now-self-2-clause-answers
 returns-then-now-self-2-clause-answers g c = (
-  moves_none g.A.Wire.past g.W.Wire.past g.C.Wire.past c.args.self.now.source_wire c.fail_by.new.self.source_wire
-      c.args.self.now.service c.fail_by.new.self.service c.args.self.now.next_wire c.fail_by.new.self.next_wire _ _ _ 0
+  moves_none g.E.SourceWire.Wire.past g.E.ServiceWire.Wire.past g.E.NextWire.Wire.past c.args.self.now.ends.source_wire c.fail_by.new.self.ends.source_wire
+      c.args.self.now.ends.service c.fail_by.new.self.ends.service c.args.self.now.ends.next_wire c.fail_by.new.self.ends.next_wire _ _ _ 0
       c.counts-before.ensures.source c.counts-before.ensures.service c.counts-before.ensures.next c.fail_by.ensures.kept.0 c.fail_by.ensures.kept.1 c.fail_by.ensures.kept.2 refl,
   λ z p q r a b d. ((sym c.is_closed.ensures ∙ c.if-is_closed.false), fail_advances c.args.side c.args.self.now.hold c.fail_by.new.self.hold Deadline (sym c.is_closed.ensures ∙ c.if-is_closed.false) c.fail_by.ensures.hold),
 )
 
 pub returns-clause-fails : goal.returns-clause-fails
-returns-clause-fails g c = λ o cause e.
-    let f = outcome_fails c.pass-passed.result.failed c.after_pass.new.self.outcome cause (c.after_pass.ensures.outcome ∙ c.pass-passed.ensures.outcome) e in
-    inr (for_side c.args.side _ _ _
-    (λ s. (
-      λ a. blamed_kept _ _ cause g.A.Wire.past _ _ (g.S.Source.fault c.pass-passed.new.self.source) (g.S.Source.fault c.after_pass.new.self.source) c.pass-passed.new.self.source_wire c.after_pass.new.self.source_wire (ap g.S.Source.fault c.after_pass.ensures.kept.0) c.after_pass.ensures.kept.1 (((c.pass-passed.ensures.source s).blames cause f).0 a),
-      ((c.pass-passed.ensures.source s).blames cause f).1,
-      cause_kept (λ z fault. g.S.Source.has_reason fault z) _ _ _ c.pass-passed.new.self.source c.after_pass.new.self.source (ap g.S.Source.fault c.after_pass.ensures.kept.0) c.after_pass.ensures.kept.0 ((c.pass-passed.ensures.source s).reason),
-    ))
-    (λ s. (
-      λ n. (let d : None ≡ Some cause = sym (c.pass-passed.ensures.any.idle ((line_told (c.pass-passed.ensures.service s)).absent n)) ∙ f in absurd cc),
-      line_blamed_kept (λ l. g.V.Service.fault l.side) (λ l p. MatchOption l.wire ⊥ (λ w. g.W.Wire.past w p)) cause _ _ c.pass-passed.new.self.service c.after_pass.new.self.service c.after_pass.ensures.kept.2 ((line_told (c.pass-passed.ensures.service s)).blames cause f),
-      fails_kept (λ l. g.V.Service.fault l.side) (λ fault x l. g.V.Service.has_reason fault x l.side) cause c.args.self.now.pace.reused c.args.self.now.service c.pass-passed.new.self.hold c.after_pass.new.self.hold c.pass-passed.new.self.service c.after_pass.new.self.service c.after_pass.ensures.hold c.after_pass.ensures.kept.2 ((line_told (c.pass-passed.ensures.service s)).unbroken cause f),
-    ))
-    (λ s.
-    let x = shows c.args.self.now.hold.history in
-    let mid = c.pass-passed.new.self in
-    let new = c.after_pass.new.self in
-    elim ((c.pass-passed.ensures.next s).blames cause f) [
-      | inl u ↦ inl u
-      | inr (inl v) ↦ inr (inl (writer_kept cause (λ z. FailsGiving (g.K.Hop.breaks_length x z)) _ g.C.Wire.past _ (g.K.Hop.body_framing mid.next) (g.K.Hop.body_framing new.next) mid.next_wire new.next_wire c.after_pass.ensures.framings.0 c.after_pass.ensures.kept.3 v))
-      | inr (inr v) ↦ inr (inr (writer_kept cause (λ z. FailsGiving (g.K.Hop.breaks_length x z)) _ g.A.Wire.past _ (g.K.Hop.body_framing mid.back) (g.K.Hop.body_framing new.back) mid.source_wire new.source_wire c.after_pass.ensures.framings.1 c.after_pass.ensures.kept.1 v))
-    ]))
+returns-clause-fails g c = λ o.
+    let why : (cause : Cause) → c.after_pass.new.self.outcome ≡ outcomes.Fail cause → c.pass-passed.result.failed ≡ Some cause = λ cause e. outcome_fails c.pass-passed.result.failed c.after_pass.new.self.outcome cause (c.after_pass.ensures.outcome ∙ c.pass-passed.ensures.outcome) e in
+    record {
+      refuses = λ cause e. c.after_pass.ensures.refuses cause (why cause e);
+      timely = λ e. elim (c.pass-passed.ensures.any.of_side Deadline (why Deadline e)) [
+        | inl b ↦ absurd b
+        | inr m ↦ inr m
+      ];
+      unstopped = λ e. elim (c.pass-passed.ensures.any.of_side Stopping (why Stopping e)) [
+        | inl b ↦ absurd b
+        | inr m ↦ m
+      ];
+      fails = λ cause e.
+          let f = why cause e in
+          inr (for_side c.args.side _ _ _
+          (λ s. (
+            λ a. blamed_kept _ _ cause g.E.SourceWire.Wire.past _ _ (g.E.Reader.Source.fault c.pass-passed.new.self.ends.source) (g.E.Reader.Source.fault c.after_pass.new.self.ends.source) c.pass-passed.new.self.ends.source_wire c.after_pass.new.self.ends.source_wire (ap g.E.Reader.Source.fault c.after_pass.ensures.kept.0) c.after_pass.ensures.kept.1 (((c.pass-passed.ensures.source s).blames cause f).0 a),
+            ((c.pass-passed.ensures.source s).blames cause f).1,
+            cause_kept (λ z fault. g.E.Reader.Source.has_reason fault z) _ _ _ c.pass-passed.new.self.ends.source c.after_pass.new.self.ends.source (ap g.E.Reader.Source.fault c.after_pass.ensures.kept.0) c.after_pass.ensures.kept.0 ((c.pass-passed.ensures.source s).reason),
+          ))
+          (λ s. (
+            λ n. (let d : None ≡ Some cause = sym (c.pass-passed.ensures.any.idle ((line_told (c.pass-passed.ensures.service s)).absent n)) ∙ f in absurd cc),
+            line_blamed_kept (λ l. g.E.Client.Service.fault l.side) (λ l p. MatchOption l.wire ⊥ (λ w. g.E.ServiceWire.Wire.past w p)) cause _ _ c.pass-passed.new.self.ends.service c.after_pass.new.self.ends.service c.after_pass.ensures.kept.2 ((line_told (c.pass-passed.ensures.service s)).blames cause f),
+            fails_kept (λ l. g.E.Client.Service.fault l.side) (λ fault x l. g.E.Client.Service.has_reason fault x l.side) cause c.args.self.now.pace.reused c.args.self.now.ends.service c.pass-passed.new.self.hold c.after_pass.new.self.hold c.pass-passed.new.self.ends.service c.after_pass.new.self.ends.service c.after_pass.ensures.hold c.after_pass.ensures.kept.2 ((line_told (c.pass-passed.ensures.service s)).unbroken cause f),
+          ))
+          (λ s.
+          let x = shows c.args.self.now.hold.history in
+          let mid = c.pass-passed.new.self in
+          let new = c.after_pass.new.self in
+          elim ((c.pass-passed.ensures.next s).blames cause f) [
+            | inl u ↦ inl u
+            | inr (inl v) ↦ inr (inl (writer_kept cause (λ z. FailsGiving (g.E.Writer.Hop.breaks_length x z)) _ g.E.NextWire.Wire.past _ (g.E.Writer.Hop.body_framing mid.ends.next) (g.E.Writer.Hop.body_framing new.ends.next) mid.ends.next_wire new.ends.next_wire c.after_pass.ensures.writers.0 c.after_pass.ensures.kept.3 v))
+            | inr (inr v) ↦ inr (inr (writer_kept cause (λ z. FailsGiving (g.E.Writer.Hop.breaks_length x z)) _ g.E.SourceWire.Wire.past _ (g.E.Writer.Hop.body_framing mid.ends.back) (g.E.Writer.Hop.body_framing new.ends.back) mid.ends.source_wire new.ends.source_wire c.after_pass.ensures.writers.1 c.after_pass.ensures.kept.1 v))
+          ]));
+    }
 
 pub returns-then-is_broken-clause-fails : goal.returns-then-is_broken-clause-fails
-returns-then-is_broken-clause-fails g c = λ o cause e. absurd (false≢true (sym o ∙ failed_over c.args.self.now.hold.history c.args.self.now.outcome cause c.args.self.now.told e))
+returns-then-is_broken-clause-fails g c = λ o.
+    let never : (cause : Cause) → c.args.self.now.outcome ≡ outcomes.Fail cause → ⊥ = λ cause e. false≢true (sym o ∙ failed_over c.args.self.now.hold.history c.args.self.now.outcome cause c.args.self.now.told e) in
+    record { fails = λ cause e. absurd (never cause e); refuses = λ cause e. absurd (never cause e); timely = λ e. absurd (never Deadline e); unstopped = λ e. absurd (never Stopping e) }
 
-pub returns-clause-clock : goal.returns-clause-clock
-returns-clause-clock g c = λ o. (
-  c.since-moved.result,
-  moves_of g.A.Wire.past g.W.Wire.past g.C.Wire.past c.args.self.now.source_wire c.pass-passed.new.self.source_wire c.after_pass.new.self.source_wire
-      c.args.self.now.service c.pass-passed.new.self.service c.after_pass.new.self.service c.args.self.now.next_wire c.pass-passed.new.self.next_wire c.after_pass.new.self.next_wire _ _ _ _ _ _ c.since-moved.result
-      c.counts-before.ensures.source c.counts.ensures.source c.counts-before.ensures.service c.counts.ensures.service c.counts-before.ensures.next c.counts.ensures.next
-      c.pass-passed.ensures.served c.after_pass.ensures.kept.1 c.after_pass.ensures.kept.2 c.after_pass.ensures.kept.3 c.since-moved.ensures,
-  λ z. c.after_pass.ensures.clock.0 z ∙ (ap (λ (z : Pace). z.last_moved) c.pass-passed.ensures.pace),
-  c.after_pass.ensures.clock.1,
-  λ m e. c.after_pass.ensures.moved m e,
-)
+pub returns-then-now-self-2-clause-fails : goal.returns-then-now-self-2-clause-fails
+returns-then-now-self-2-clause-fails g c = λ o.
+    let n = c.fail_by.new.self in
+    let p = n.hold.history.plan.point in
+    let due : c.args.self.now.pace.last_moved + c.args.self.now.pace.deadline ≤ c.args.now = search rules in
+    let of_it : (cause : Cause) → c.fail_by.new.self.outcome ≡ outcomes.Fail cause → Deadline ≡ cause = λ cause e. (let same : Deadline ≡ cause = (let d : outcomes.Fail Deadline ≡ outcomes.Fail cause = sym c.fail_by.ensures.outcome ∙ e in cc) in same) in
+    record {
+      fails = λ cause e. inl (sym (of_it cause e), due);
+      refuses = λ cause e. subst (λ (z : Cause). HasRefusal (refusal_status z p) n.refusing (user_gift p (g.E.Writer.Hop.gift n.ends.next) (g.E.Writer.Hop.gift n.ends.back)) (user_untouched p (g.E.Writer.Hop.untouched n.ends.next) (g.E.Writer.Hop.untouched n.ends.back))) (of_it cause e) c.fail_by.ensures.refuses;
+      timely = λ e. inl due;
+      unstopped = λ e. (let same = of_it Stopping e in absurd cc);
+    }
 
-pub returns-then-now-self-2-clause-clock : goal.returns-then-now-self-2-clause-clock
-returns-then-now-self-2-clause-clock g c = λ o. (
-  0,
-  moves_none g.A.Wire.past g.W.Wire.past g.C.Wire.past c.args.self.now.source_wire c.fail_by.new.self.source_wire
-      c.args.self.now.service c.fail_by.new.self.service c.args.self.now.next_wire c.fail_by.new.self.next_wire _ _ _ 0
+pub returns-clause-paces : goal.returns-clause-paces
+returns-clause-paces g c =
+    let a = c.after_pass.ensures in
+    let before = ap (λ (z : Pace). z.last_moved) c.pass-passed.ensures.pace in
+    let was = ap (λ (z : Pace). z.broken) c.pass-passed.ensures.pace in
+    record {
+      moment = elim a.clock.2 [
+        | inl e ↦ inl (e ∙ before)
+        | inr e ↦ inr e
+      ];
+      clock = λ o. (
+        c.since-moved.result,
+        moves_of g.E.SourceWire.Wire.past g.E.ServiceWire.Wire.past g.E.NextWire.Wire.past c.args.self.now.ends.source_wire c.pass-passed.new.self.ends.source_wire c.after_pass.new.self.ends.source_wire
+            c.args.self.now.ends.service c.pass-passed.new.self.ends.service c.after_pass.new.self.ends.service c.args.self.now.ends.next_wire c.pass-passed.new.self.ends.next_wire c.after_pass.new.self.ends.next_wire _ _ _ _ _ _ c.since-moved.result
+            c.counts-before.ensures.source c.counts.ensures.source c.counts-before.ensures.service c.counts.ensures.service c.counts-before.ensures.next c.counts.ensures.next
+            c.pass-passed.ensures.served a.kept.1 a.kept.2 a.kept.3 c.since-moved.ensures,
+        λ z. a.clock.0 z ∙ before,
+        a.clock.1,
+        λ m e. a.said.moved m e,
+      );
+      still = λ w. a.clock.0 (a.said.waiting w).1 ∙ before;
+      rests = λ k. absurd (false≢true (sym (sym c.is_closed.ensures ∙ c.if-is_closed.false) ∙ k));
+      limit = a.clock.3 ∙ ap (λ (z : Pace). z.deadline) c.pass-passed.ensures.pace;
+      marked = (
+        λ t. elim (a.marked.0.0 t) [
+          | inl b ↦ inl (sym was ∙ b)
+          | inr s ↦ inr s
+        ],
+        λ w. elim w [
+          | inl b ↦ a.marked.0.1 (inl (was ∙ b))
+          | inr s ↦ a.marked.0.1 (inr s)
+        ],
+      );
+      reused = a.marked.1 ∙ ap (λ (z : Pace). z.reused) c.pass-passed.ensures.pace;
+    }
+
+pub returns-then-is_closed-clause-paces : goal.returns-then-is_closed-clause-paces
+returns-then-is_closed-clause-paces g c =
+    paces_still _ _ _ _ _ _ c.closed_turn.ensures.pace (λ b. absurd (not_broken c.closed_turn.result _ _ _ c.closed_turn.ensures.answers b)) (λ o. absurd (false≢true (sym o ∙ (sym c.is_closed.ensures ∙ c.if-is_closed.true))))
+
+pub returns-then-is_closed-clause-closed : goal.returns-then-is_closed-clause-closed
+returns-then-is_closed-clause-closed g c = λ k. let e = c.closed_turn.ensures in record { hold = e.kept.0; outcome = e.kept.1; refusing = e.kept.2; finishes = e.finished; refuses = e.refuses }
+
+pub returns-then-now-self-2-clause-paces : goal.returns-then-now-self-2-clause-paces
+returns-then-now-self-2-clause-paces g c = paces_still _ _ _ _ _ (answers.Moved 0) c.fail_by.ensures.pace (λ b. (let d : answers.Moved 0 ≡ answers.Broken = b in absurd cc)) (λ o. (
+  moves_none g.E.SourceWire.Wire.past g.E.ServiceWire.Wire.past g.E.NextWire.Wire.past c.args.self.now.ends.source_wire c.fail_by.new.self.ends.source_wire
+      c.args.self.now.ends.service c.fail_by.new.self.ends.service c.args.self.now.ends.next_wire c.fail_by.new.self.ends.next_wire _ _ _ 0
       c.counts-before.ensures.source c.counts-before.ensures.service c.counts-before.ensures.next c.fail_by.ensures.kept.0 c.fail_by.ensures.kept.1 c.fail_by.ensures.kept.2 refl,
-  λ z. ap (λ (z : Pace). z.last_moved) c.fail_by.ensures.pace,
-  λ l. absurd (omega (arith, l)),
   λ m e. (let d : answers.Moved 0 ≡ answers.Moved m = e in cc),
-)
+))
 
-pub returns-then-is_broken-clause-clock : goal.returns-then-is_broken-clause-clock
-returns-then-is_broken-clause-clock g c = λ o. (
-  0,
-  moves_none g.A.Wire.past g.W.Wire.past g.C.Wire.past c.args.self.now.source_wire c.args.self.now.source_wire c.args.self.now.service c.args.self.now.service c.args.self.now.next_wire c.args.self.now.next_wire _ _ _ 0
+pub returns-then-is_broken-clause-paces : goal.returns-then-is_broken-clause-paces
+returns-then-is_broken-clause-paces g c = paces_still _ _ _ _ _ answers.Broken refl (λ b. search rules) (λ o. (
+  moves_none g.E.SourceWire.Wire.past g.E.ServiceWire.Wire.past g.E.NextWire.Wire.past c.args.self.now.ends.source_wire c.args.self.now.ends.source_wire c.args.self.now.ends.service c.args.self.now.ends.service c.args.self.now.ends.next_wire c.args.self.now.ends.next_wire _ _ _ 0
       c.counts-before.ensures.source c.counts-before.ensures.service c.counts-before.ensures.next refl refl refl refl,
-  λ z. refl,
-  λ l. absurd (omega (arith, l)),
   λ m e. (let d : answers.Broken ≡ answers.Moved m = e in absurd cc),
-)
+))
 
 pub returns-clause-keeps : goal.returns-clause-keeps
 returns-clause-keeps g c = (
@@ -232,17 +247,17 @@ returns-clause-keeps g c = (
           of_one _ _ _ _ (λ w. inl (c.after_pass.ensures.kept.1 ∙ w)) (λ w. inr (c.after_pass.ensures.kept.3 ∙ w)) ((c.pass-passed.ensures.next s).elsewhere),
           λ n.
               let w = c.after_pass.ensures.same (unfailed c.pass-passed.result.failed c.after_pass.new.self.outcome (c.after_pass.ensures.outcome ∙ c.pass-passed.ensures.outcome) n) in
-              of_either _ _ _ _ _ _ (ap g.K.Hop.gift w.1) (λ v. c.after_pass.ensures.kept.1 ∙ v) (λ v. c.after_pass.ensures.kept.3 ∙ v) ((c.pass-passed.ensures.next s).elsewhere),
+              of_either _ _ _ _ _ _ (ap g.E.Writer.Hop.gift w.1) (λ v. c.after_pass.ensures.kept.1 ∙ v) (λ v. c.after_pass.ensures.kept.3 ∙ v) ((c.pass-passed.ensures.next s).elsewhere),
         )),
-    λ n m. let w = c.after_pass.ensures.messages.1 m in
-        by_side c.args.side (λ side. answers_user (shows c.args.self.now.hold.history) (response_of g.V.Service.is_response c.args.self.now.service) ≡ true)
-        (λ s. absurd (idle_no_message _ n (sym (ap g.K.Hop.gift (c.pass-passed.ensures.apart_source s).3) ∙ w)))
-        (λ s. absurd (idle_no_message _ n (sym (ap g.K.Hop.gift (c.pass-passed.ensures.apart_service s).4) ∙ w)))
+    λ n m. let w = c.after_pass.ensures.writers.3 m in
+        by_side c.args.side (λ side. answers_user (shows c.args.self.now.hold.history) (response_of g.E.Client.Service.is_response c.args.self.now.ends.service) ≡ true)
+        (λ s. absurd (idle_no_message _ n (sym (ap g.E.Writer.Hop.gift (c.pass-passed.ensures.apart_source s).3) ∙ w)))
+        (λ s. absurd (idle_no_message _ n (sym (ap g.E.Writer.Hop.gift (c.pass-passed.ensures.apart_service s).4) ∙ w)))
         (λ s. (c.pass-passed.ensures.next s).way.0 n w),
-    λ n m. let w = c.after_pass.ensures.messages.0 m in
-        by_side c.args.side (λ side. answers_user (shows c.args.self.now.hold.history) (response_of g.V.Service.is_response c.args.self.now.service) ≡ false)
-        (λ s. absurd (idle_no_message _ n (sym (ap g.K.Hop.gift (c.pass-passed.ensures.apart_source s).2) ∙ w)))
-        (λ s. absurd (idle_no_message _ n (sym (ap g.K.Hop.gift (c.pass-passed.ensures.apart_service s).3) ∙ w)))
+    λ n m. let w = c.after_pass.ensures.writers.2 m in
+        by_side c.args.side (λ side. answers_user (shows c.args.self.now.hold.history) (response_of g.E.Client.Service.is_response c.args.self.now.ends.service) ≡ false)
+        (λ s. absurd (idle_no_message _ n (sym (ap g.E.Writer.Hop.gift (c.pass-passed.ensures.apart_source s).2) ∙ w)))
+        (λ s. absurd (idle_no_message _ n (sym (ap g.E.Writer.Hop.gift (c.pass-passed.ensures.apart_service s).3) ∙ w)))
         (λ s. (c.pass-passed.ensures.next s).way.1 n w),
   ),
   λ k. absurd (false≢true (sym (sym c.is_closed.ensures ∙ c.if-is_closed.false) ∙ k)),
@@ -282,23 +297,23 @@ returns-clause-faultless g c = λ o f.
     let a = c.after_pass.ensures in
     let mid = c.pass-passed.new.self in
     let n = not_failed c.pass-passed.result.failed _ p.any.over (ap (λ (h : Holding). (shows h.history).closed) (sym a.hold) ∙ o) in
-    let of_line = fault_of (λ (l : Line g.row.V.Denot g.row.W.Denot). g.V.Service.fault l.side) in (
-      ap g.S.Source.fault a.kept.0 ∙ by_side c.args.side (λ side. g.S.Source.fault mid.source ≡ None)
-          (λ s. (p.source s).sound n) (λ s. ap g.S.Source.fault (p.apart_service s).0 ∙ f.0) (λ s. ap g.S.Source.fault (p.apart_next s).0 ∙ f.0),
+    let of_line = fault_of (λ (l : Line g.row.E-Client.Denot g.row.E-ServiceWire.Denot). g.E.Client.Service.fault l.side) in (
+      ap g.E.Reader.Source.fault a.kept.0 ∙ by_side c.args.side (λ side. g.E.Reader.Source.fault mid.ends.source ≡ None)
+          (λ s. (p.source s).sound n) (λ s. ap g.E.Reader.Source.fault (p.apart_service s).0 ∙ f.0) (λ s. ap g.E.Reader.Source.fault (p.apart_next s).0 ∙ f.0),
       λ b. ap of_line a.kept.2 ∙ (
           let before = f.1 (sym (ap (λ (z : Pace). z.broken) p.pace) ∙ unmarked_before mid.pace.broken c.after_pass.new.self.pace.broken _ a.marked.0 b) in
-          by_side c.args.side (λ side. of_line mid.service ≡ None)
+          by_side c.args.side (λ side. of_line mid.ends.service ≡ None)
           (λ s. ap of_line (p.apart_source s).0 ∙ before)
-          (λ s. (line_told (p.service s)).sound n (unmarked_now c.pass-passed.result.broken mid.pace.broken c.after_pass.new.self.pace.broken _ a.breaks a.marked.0 b) before)
+          (λ s. (line_told (p.service s)).sound n (unmarked_now c.pass-passed.result.broken mid.pace.broken c.after_pass.new.self.pace.broken _ a.said.breaks a.marked.0 b) before)
           (λ s. ap of_line (p.apart_next s).1 ∙ before)),
-      ap g.K.Hop.fault (a.same n).0 ∙ by_side c.args.side (λ side. g.K.Hop.fault mid.next ≡ None)
-          (λ s. ap g.K.Hop.fault (p.apart_source s).2 ∙ f.2) (λ s. ap g.K.Hop.fault (p.apart_service s).3 ∙ f.2) (λ s. ((p.next s).sound n).0 f.2),
-      ap g.K.Hop.fault (a.same n).1 ∙ by_side c.args.side (λ side. g.K.Hop.fault mid.back ≡ None)
-          (λ s. ap g.K.Hop.fault (p.apart_source s).3 ∙ f.3) (λ s. ap g.K.Hop.fault (p.apart_service s).4 ∙ f.3) (λ s. ((p.next s).sound n).1 f.3),
+      ap g.E.Writer.Hop.fault (a.same n).0 ∙ by_side c.args.side (λ side. g.E.Writer.Hop.fault mid.ends.next ≡ None)
+          (λ s. ap g.E.Writer.Hop.fault (p.apart_source s).2 ∙ f.2) (λ s. ap g.E.Writer.Hop.fault (p.apart_service s).3 ∙ f.2) (λ s. ((p.next s).sound n).0 f.2),
+      ap g.E.Writer.Hop.fault (a.same n).1 ∙ by_side c.args.side (λ side. g.E.Writer.Hop.fault mid.ends.back ≡ None)
+          (λ s. ap g.E.Writer.Hop.fault (p.apart_source s).3 ∙ f.3) (λ s. ap g.E.Writer.Hop.fault (p.apart_service s).4 ∙ f.3) (λ s. ((p.next s).sound n).1 f.3),
     )
 
 pub returns-then-is_closed-clause-faultless : goal.returns-then-is_closed-clause-faultless
-returns-then-is_closed-clause-faultless g c = λ o f. absurd (false≢true (sym o ∙ (ap (λ (h : Holding). (shows h.history).closed) c.closed_turn.ensures.hold ∙ (sym c.is_closed.ensures ∙ c.if-is_closed.true))))
+returns-then-is_closed-clause-faultless g c = λ o f. absurd (false≢true (sym o ∙ (ap (λ (h : Holding). (shows h.history).closed) c.closed_turn.ensures.kept.0 ∙ (sym c.is_closed.ensures ∙ c.if-is_closed.true))))
 
 pub returns-then-is_broken-clause-faultless : goal.returns-then-is_broken-clause-faultless
 returns-then-is_broken-clause-faultless g c = λ o f. f
@@ -309,7 +324,7 @@ returns-then-now-self-2-clause-faultless g c = λ o f. absurd (false≢true (sym
 pub returns-clause-told : goal.returns-clause-told
 returns-clause-told g c = λ o s b n v.
     let m = unfailed c.pass-passed.result.failed c.after_pass.new.self.outcome (c.after_pass.ensures.outcome ∙ c.pass-passed.ensures.outcome) n in
-    ap (λ (h : Holding). (shows h.history).ended) c.after_pass.ensures.hold ∙ (c.pass-passed.ensures.source s).told m (subst (λ z. g.S.Source.is_over z) c.after_pass.ensures.kept.0 v)
+    ap (λ (h : Holding). (shows h.history).ended) c.after_pass.ensures.hold ∙ (c.pass-passed.ensures.source s).told m (subst (λ z. g.E.Reader.Source.is_over z) c.after_pass.ensures.kept.0 v)
 
 pub returns-then-is_closed-clause-told : goal.returns-then-is_closed-clause-told
 returns-then-is_closed-clause-told g c = λ o s b n v. absurd (false≢true (sym o ∙ (sym c.is_closed.ensures ∙ c.if-is_closed.true)))

@@ -3,6 +3,7 @@ use Rattle.exchange_core.specs.declared.course.Course.{Course}
 use Rattle.exchange_core.specs.Dues.{due_of, comes_of, fits}
 use Rattle.exchange_core.specs.Log.{IsReached}
 use Rattle.exchange_core.proofs.Reached.{reached_after}
+use Rattle.exchange_core.proofs.Stepping.{goes_seen}
 use Rattle.exchange_core.proofs.Doing.{done_there}
 use Rattle.exchange_core.proofs.exchange.Exchange.done.Goals as goal
 
@@ -13,3 +14,11 @@ invariant_of-self c =
     (done_there c.self.inside.course c.args.event c.self.invariant
     (subst (λ (d : Course). comes_of (due_of d) c.args.event ≡ true) (sym c.self.view_is) c.requires.due)
     (subst (λ (d : Course). fits d c.args.event ≡ true) (sym c.self.view_is) c.requires.fits)))
+
+pub returns-clause-goes : goal.returns-clause-goes
+returns-clause-goes c =
+    goes_seen c.args.self.now c.self.inside.course c.after-self-inside.result c.args.event c.self.view_is
+    (done_there c.self.inside.course c.args.event c.self.invariant
+    (subst (λ (d : Course). comes_of (due_of d) c.args.event ≡ true) (sym c.self.view_is) c.requires.due)
+    (subst (λ (d : Course). fits d c.args.event ≡ true) (sym c.self.view_is) c.requires.fits))
+    c.after-self-inside.ensures

@@ -4,6 +4,7 @@ use Rattle.exchange_core.specs.declared.event.Event.TheVariants.{Late}
 use Rattle.exchange_core.specs.Dues.{due_of, is_wait}
 use Rattle.exchange_core.specs.Log.{IsReached}
 use Rattle.exchange_core.proofs.Reached.{reached_after}
+use Rattle.exchange_core.proofs.Stepping.{goes_seen}
 use Rattle.exchange_core.proofs.Doing.{late_there}
 use Rattle.exchange_core.proofs.exchange.Exchange.late.Goals as goal
 
@@ -13,3 +14,10 @@ invariant_of-self c =
     (reached_after c.self.inside.course Late c.self.invariant
     (late_there c.self.inside.course c.self.invariant
     (subst (λ (d : Course). is_wait (due_of d) ≡ true) (sym c.self.view_is) c.requires)))
+
+pub returns-clause-goes : goal.returns-clause-goes
+returns-clause-goes c =
+    goes_seen c.args.self.now c.self.inside.course c.after-self-inside.result Late c.self.view_is
+    (late_there c.self.inside.course c.self.invariant
+    (subst (λ (d : Course). is_wait (due_of d) ≡ true) (sym c.self.view_is) c.requires))
+    c.after-self-inside.ensures

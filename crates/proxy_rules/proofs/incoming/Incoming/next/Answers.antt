@@ -1,4 +1,4 @@
-use Rattle.std.proofs.Common.{[], inl, ◌∙◌}
+use Rattle.std.proofs.Common.{inl, ◌∙◌}
 use Rattle.proxy_rules.proofs.incoming.Incoming.next.Goals as goal
 
 pub invariant_of-next : goal.invariant_of-next

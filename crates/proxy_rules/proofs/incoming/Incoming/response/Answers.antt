@@ -1,5 +1,4 @@
 use Rattle.std.proofs.Common.{[], inl, Bool, ap, ◌∙◌}
-use Rattle.http_relay.specs.declared.side.Asks.{Asks}
 use Rattle.http_relay.specs.declared.side.Asks.TheVariants as asks
 use Rattle.proxy_rules.proofs.incoming.Incoming.response.Goals as goal
 

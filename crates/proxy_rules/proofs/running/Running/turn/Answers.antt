@@ -7,4 +7,7 @@ use Rattle.proxy_rules.proofs.running.Running.turn.Goals as goal
 pub invariant_of-self : goal.invariant_of-self
 invariant_of-self g c =
     let e = c.turn.ensures in
-    record { runs = ∥∥₁_map c.args.self.now.runs (runs_on _ _ _ _ _ _ e.goes (λ h. ap (λ (x : Holding). (shows x.history).closed) (e.closed h).0 ∙ h) e.faultless (λ h. (e.closed h).1) e.refuses e.refuses_on) }
+    record { runs = ∥∥₁_map c.args.self.now.runs (runs_on _ _ _ _ _ _ e.goes (λ h. ap (λ (x : Holding). (shows x.history).closed) (e.closed h).hold ∙ h) e.faultless (λ h. (e.closed h).outcome) (λ o. (e.fails o).refuses) (λ h. (e.closed h).refuses)) }
+
+pub returns-clause-fails : goal.returns-clause-fails
+returns-clause-fails g c = λ o. (c.turn.ensures.fails o).fails

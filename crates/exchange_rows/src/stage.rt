@@ -1,0 +1,197 @@
+//! What a row's connections share: the bytes that each took, what happened in which order, and how often all have waited.
+
+use std::alloc::Global;
+use std::cell::{Cell, RefCell};
+use std::fmt::Debug;
+use test_rows::{NoMemory, put_all, put_line, put_number, put_shown};
+use wire_rows::{Scene, has_word};
+
+/// Whose connection it is. Those of origins and of services are numbered in the order in which they are opened.
+#[derive(Clone, Copy, Debug, PartialEq, Eq)]
+pub enum Peer {
+    User,
+    Origin(u64),
+    Service(u64),
+}
+
+impl Peer {
+    /// What it is called, without its number.
+    pub fn name(self) -> &'static [u8] {
+        match self {
+            Peer::User => b"user",
+            Peer::Origin(_) => b"origin",
+            Peer::Service(_) => b"service",
+        }
+    }
+
+    /// The number of an origin's or a service's connection.
+    pub fn number(self) -> Option<u64> {
+        match self {
+            Peer::User => None,
+            Peer::Origin(number) | Peer::Service(number) => Some(number),
+        }
+    }
+
+    /// Adds what it is called, with its number.
+    pub fn put_name(self, out: &mut Vec<u8>) -> Result<(), NoMemory> {
+        match self.number() {
+            Some(number) => put_number(out, self.name(), number),
+            None => put_line(out, self.name()),
+        }
+    }
+}
+
+/// What a connection took.
+#[derive(Drop)]
+pub struct Taken {
+    pub peer: Peer,
+    pub bytes: Vec<u8>,
+}
+
+/// What a row's connections share.
+#[derive(Drop)]
+pub struct Stage {
+    alloc: Global,
+    /// What each connection took, in the order in which they were opened.
+    pub taken: RefCell<Vec<Taken>>,
+    /// A line for each thing that happened, where the row asks for them, and for each place that the exchange came to, where it
+    /// asks for these.
+    pub happenings: RefCell<Vec<u8>>,
+    tells_happenings: bool,
+    tells_places: bool,
+    /// How often all have waited.
+    waits: Cell<u64>,
+    /// Whether the user was told that nothing more comes.
+    is_finished: Cell<bool>,
+    /// Whether nothing more is noted.
+    is_over: Cell<bool>,
+    /// Whether memory was wanting for what is told here.
+    is_short: Cell<bool>,
+}
+
+impl Stage {
+    /// Before anything happened in a row, which tells what its key `tell` says.
+    pub fn new(alloc: Global, scene: Scene<'_>) -> Stage {
+        Stage {
+            alloc,
+            taken: RefCell::new(Vec::new(alloc)),
+            happenings: RefCell::new(Vec::new(alloc)),
+            tells_happenings: has_word(scene.get(b"tell"), b"happenings"),
+            tells_places: has_word(scene.get(b"tell"), b"places"),
+            waits: Cell::new(0),
+            is_finished: Cell::new(false),
+            is_over: Cell::new(false),
+            is_short: Cell::new(false),
+        }
+    }
+
+    /// How often all have waited.
+    pub fn waits(&self) -> u64 {
+        self.waits.get()
+    }
+
+    /// All have waited: what pauses goes on.
+    pub fn wait(&self) {
+        self.waits.set(self.waits.get().saturating_add(1));
+    }
+
+    /// Whether the user was told that nothing more comes.
+    pub fn is_finished(&self) -> bool {
+        self.is_finished.get()
+    }
+
+    /// The user is told that nothing more comes.
+    pub fn finish(&self) {
+        self.is_finished.set(true);
+    }
+
+    /// Nothing more is noted.
+    pub fn end(&self) {
+        self.is_over.set(true);
+    }
+
+    /// Whether what happens is noted.
+    fn notes(&self) -> bool {
+        self.tells_happenings && !self.is_over.get()
+    }
+
+    /// `Err` where memory was wanting for what is told here.
+    pub fn check(&self) -> Result<(), NoMemory> {
+        if self.is_short.get() {
+            Err(NoMemory)
+        } else {
+            Ok(())
+        }
+    }
+
+    /// Takes note of whether memory was found.
+    fn keep(&self, written: Result<(), NoMemory>) {
+        if written.is_err() {
+            self.is_short.set(true);
+        }
+    }
+
+    /// A connection is opened.
+    pub fn open(&self, peer: Peer) {
+        if let Ok(mut taken) = self.taken.try_borrow_mut() {
+            let bytes = Vec::new(self.alloc);
+            if taken.push(Taken { peer, bytes }).is_err() {
+                self.is_short.set(true);
+            }
+        }
+    }
+
+    /// A connection takes bytes.
+    pub fn take(&self, peer: Peer, bytes: &[u8]) {
+        if let Ok(mut taken) = self.taken.try_borrow_mut() {
+            for each in taken.iter_mut() {
+                if each.peer == peer {
+                    self.keep(each.bytes.extend_from_slice(bytes));
+                }
+            }
+        }
+    }
+
+    /// The exchange came to a place.
+    pub fn note_place(&self, place: &[u8]) {
+        if self.tells_places
+            && let Ok(mut happenings) = self.happenings.try_borrow_mut()
+        {
+            self.keep(put_all(&mut happenings, &[b"  ", place, b"\n"]));
+        }
+    }
+
+    /// Something happened.
+    pub fn note(&self, what: &[u8]) {
+        if self.notes()
+            && let Ok(mut happenings) = self.happenings.try_borrow_mut()
+        {
+            self.keep(put_line(&mut happenings, what));
+        }
+    }
+
+    /// Something happened with a connection.
+    pub fn note_peer(&self, what: &[u8], peer: Peer) {
+        if self.notes()
+            && let Ok(mut happenings) = self.happenings.try_borrow_mut()
+        {
+            self.keep(put_peer(&mut happenings, what, peer));
+        }
+    }
+
+    /// Something happened for a reason.
+    pub fn note_shown(&self, what: &[u8], why: &impl Debug) {
+        if self.notes()
+            && let Ok(mut happenings) = self.happenings.try_borrow_mut()
+        {
+            self.keep(put_shown(&mut happenings, what, why));
+        }
+    }
+}
+
+/// Adds a line of a word and a connection.
+fn put_peer(out: &mut Vec<u8>, what: &[u8], peer: Peer) -> Result<(), NoMemory> {
+    out.extend_from_slice(what)?;
+    out.extend_from_slice(b" ")?;
+    peer.put_name(out)
+}

@@ -1,0 +1,174 @@
+//! Connections to services and origins, as the exchanges of a thread use them.
+
+use crate::pools::{Berth, Port, dial, pools_of};
+use crate::shared::Shares;
+use crate::spot::Spot;
+use event_loop::Room;
+use options_book::Record;
+use proxy_config::{Config, ServicePoint};
+use proxy_rules::{Reason, pool_maximum};
+use service_lines::{Leased, LeasedConnection, LendFault, PointBook};
+use shard_seats::Seats;
+use socket_wire::{Dial, OriginWire, ServiceWire};
+use std::alloc::{AllocError, Global};
+use std::net::SocketAddrV4;
+use std::sync::ledger::Ledger;
+use std::sync::{Arc, Wait};
+use trace_core::Point;
+use wait_queue::Waiter;
+
+/// A connection to a service, and the right to it.
+type Lent<Q, A> = Result<(ServiceWire, Leased<Q, A>), LendFault>;
+
+/// What was lent, in two pieces.
+fn lent_of<Q: Ledger, A: Ledger>(
+    lent: Result<LeasedConnection<ServiceWire, Q, A>, LendFault>,
+) -> Lent<Q, A> {
+    match lent {
+        Ok(LeasedConnection { wire, lease }) => Ok((wire, lease)),
+        Err(fault) => Err(fault),
+    }
+}
+
+/// The service of a point.
+fn service_of(config: &Config, point: Point) -> Option<&ServicePoint> {
+    let service = match point {
+        Point::Reqmod => &config.reqmod,
+        Point::Respmod => &config.respmod,
+    };
+    match service {
+        Some(service) => Some(service),
+        None => None,
+    }
+}
+
+/// The address of a point's service.
+fn address_of(config: &Config, point: Point) -> Option<SocketAddrV4> {
+    match service_of(config, point) {
+        Some(service) => Some(service.address),
+        None => None,
+    }
+}
+
+/// A connection to an origin that is opened now. Want of memory, of a descriptor or of a port is another answer than a host that can't
+/// be reached.
+pub(crate) fn open_origin<R: Dial, G>(
+    seats: &mut Seats,
+    at: &Spot<'_, R, G>,
+    address: SocketAddrV4,
+) -> Result<OriginWire, Reason> {
+    match dial(at.rt, seats, at.registry, at.key, address) {
+        Ok(wire) => Ok(wire),
+        Err(LendFault::NoMemory) => Err(Reason::NoMemory),
+        Err(_) => Err(Reason::NoOrigin),
+    }
+}
+
+/// The seat of an exchange. The seats of its thread are in it, and come back after the call.
+fn berth_of<'r, 'a, R, G>(
+    seats: &mut Seats,
+    at: &Spot<'r, R, G>,
+    room: &'a Arc<Room>,
+) -> Berth<'r, 'a> {
+    let registry = at.registry;
+    Berth {
+        registry,
+        key: at.key,
+        seats: seats.lend(),
+        room,
+    }
+}
+
+/// The seat of an exchange that may dial its service. The seats of its thread are in it, and come back after the call.
+fn port_of<'r, 'a, R: Dial, G>(
+    seats: &mut Seats,
+    at: &Spot<'r, R, G>,
+    room: &'a Arc<Room>,
+    address: Option<SocketAddrV4>,
+) -> Port<'r, 'a, R> {
+    let rt = at.rt;
+    let berth = berth_of(seats, at, room);
+    Port { rt, berth, address }
+}
+
+/// The exchange of this key as one that waits.
+pub(crate) fn waiter_of<S: Shares>(shared: &S, key: usize) -> Waiter {
+    Waiter {
+        thread: shared.number(),
+        key,
+    }
+}
+
+/// Leases a connection to a point's service, an idle one first. One that comes while others wait for theirs gets none.
+pub(crate) fn lend_now<S: Shares, R: Wait + Dial, G>(
+    shared: &S,
+    seats: &mut Seats,
+    at: &Spot<'_, R, G>,
+    point: Point,
+) -> Lent<S::Requests, S::Responses> {
+    let address = address_of(shared.config(), point);
+    let mut port = port_of(seats, at, shared.room(), address);
+    let lent = pools_of(shared).lend(at.rt, &mut port, point);
+    *seats = port.berth.seats;
+    lent_of(lent)
+}
+
+/// Leases a connection to a message that waits, once it is its turn. With a connection it has left the queue.
+pub(crate) fn lend_waiting<S: Shares, R: Wait + Dial, G>(
+    shared: &S,
+    seats: &mut Seats,
+    at: &Spot<'_, R, G>,
+    point: Point,
+) -> Lent<S::Requests, S::Responses> {
+    let waiter = waiter_of(shared, at.key);
+    let address = address_of(shared.config(), point);
+    let mut port = port_of(seats, at, shared.room(), address);
+    let lent = pools_of(shared).lend_in_turn(at.rt, &mut port, point, waiter);
+    *seats = port.berth.seats;
+    lent_of(lent)
+}
+
+/// A fresh connection in place of a leased one that broke and is closed, where the pool allows one.
+pub(crate) fn lend_anew<S: Shares, R: Wait + Dial, G>(
+    shared: &S,
+    seats: &mut Seats,
+    at: &Spot<'_, R, G>,
+    lease: &mut Leased<S::Requests, S::Responses>,
+) -> Result<ServiceWire, LendFault> {
+    let address = address_of(shared.config(), lease.point());
+    let mut port = port_of(seats, at, shared.room(), address);
+    let wire = pools_of(shared).reopen(at.rt, &mut port, lease);
+    *seats = port.berth.seats;
+    wire
+}
+
+/// Puts a connection back that may serve again. One that its service has ended, or on which it says what nobody asked for, is closed.
+pub(crate) fn put_back<S: Shares, R: Wait, G>(
+    shared: &S,
+    seats: &mut Seats,
+    at: &Spot<'_, R, G>,
+    wire: ServiceWire,
+    lease: Leased<S::Requests, S::Responses>,
+) {
+    let mut berth = berth_of(seats, at, shared.room());
+    let connection = LeasedConnection { wire, lease };
+    pools_of(shared).put(at.rt, &mut berth, connection);
+    *seats = berth.seats;
+}
+
+/// Keeps what a point's service said, once its pool has the maximum that it says. `Err` where no memory was found: then nothing has
+/// changed.
+pub(crate) fn keep_record<S: Shares, R: Wait, G>(
+    shared: &S,
+    at: &Spot<'_, R, G>,
+    alloc: Global,
+    point: Point,
+    book: &mut PointBook,
+    record: Record,
+) -> Result<(), AllocError> {
+    let Some(service) = service_of(shared.config(), point) else {
+        return Ok(());
+    };
+    let maximum = pool_maximum(Some(&record), service);
+    pools_of(shared).keep(at.rt, alloc, point, maximum, book, record)
+}

@@ -1,0 +1,16 @@
+//! What the exchanges of one thread stand on: sockets, pools, seats, and what is noted of them.
+//!
+//! A `Desk` is the `Outside` of its thread's exchanges. Which step of an exchange follows which isn't known here.
+#![tactic(auto)]
+
+mod connections;
+mod desk;
+mod outside;
+mod pools;
+mod shared;
+mod spot;
+
+pub use desk::Desk;
+pub use pools::{Loops, Pools, Spare, pools_of};
+pub use shared::{Shared, Shares};
+pub use spot::Spot;

@@ -1,0 +1,243 @@
+//! The surroundings of an exchange over sockets.
+
+ghost use Rattle.std.specs.Prelude.{◌≡◌};
+ghost use Rattle.shard_seats.specs.Seats.{is_late};
+
+use crate::connections::{
+    keep_record, lend_anew, lend_now, lend_waiting, open_origin, put_back, waiter_of,
+};
+use crate::desk::Desk;
+use crate::pools::pools_of;
+use crate::shared::Shares;
+use crate::spot::Spot;
+use adapt_sides::ClientFault;
+use event_loop::{Closing, close_turn};
+use options_book::Record;
+use plan_rules::Limits;
+use proxy_config::Config;
+use proxy_rules::{Incoming, Reason};
+use service_lines::{Leased, LendFault, PointBook};
+use shard_outside::{Kinds, Lingered, MessageEnd, Outside};
+use shard_reporter::asked_word;
+use socket_wire::{Dial, OriginWire, ServiceWire, UserWire};
+use span_bank::Bank;
+use std::alloc::{AllocError, Global};
+use std::net::SocketAddrV4;
+use std::sync::Wait;
+use std::time::Clock;
+use trace_core::Point;
+use wire_kit::{Gate, Wire};
+
+/// How many seconds a user that is let go may say nothing: for a while a request may be on its way.
+const GRACE: u64 = 1;
+
+impl<S: Shares> Kinds for Desk<S> {
+    type User = UserWire;
+
+    type Origin = OriginWire;
+
+    type Service = ServiceWire;
+
+    type Lease = Leased<S::Requests, S::Responses>;
+
+    type Ledgers = S::Ledgers;
+}
+
+impl<'r, S: Shares, R: Wait + Dial + Clock, G: Gate> Outside<Spot<'r, R, G>> for Desk<S> {
+    ghost is_late = { λ desk at. is_late desk.seats at.key at.now desk.deadline };
+
+    fn alloc(&self) -> Global {
+        self.alloc
+    }
+
+    fn config(&self) -> &Config {
+        self.shared.config()
+    }
+
+    fn limits(&self) -> Limits {
+        self.limits
+    }
+
+    fn bank(&self) -> &Bank<S::Ledgers> {
+        self.shared.bank()
+    }
+
+    fn now(&self, at: &Spot<'r, R, G>) -> u64 {
+        at.now
+    }
+
+    fn is_late(&self, at: &Spot<'r, R, G>) -> bool {
+        self.seats.is_late(at.key, at.now, self.deadline)
+    }
+
+    fn has_rested(&self, at: &Spot<'r, R, G>) -> bool {
+        self.seats.is_late(at.key, at.now, GRACE)
+    }
+
+    fn has_waited(&self, at: &Spot<'r, R, G>) -> bool {
+        let seconds = self.shared.config().wait;
+        self.seats.has_waited(at.key, at.now, seconds)
+    }
+
+    fn book(&self, point: Point) -> &PointBook {
+        match point {
+            Point::Reqmod => &self.request_book,
+            Point::Respmod => &self.response_book,
+        }
+    }
+
+    fn keep(
+        &mut self,
+        at: &Spot<'r, R, G>,
+        point: Point,
+        record: Record,
+    ) -> Result<(), AllocError> {
+        let alloc = self.alloc;
+        match point {
+            Point::Reqmod => keep_record(
+                &self.shared,
+                at,
+                alloc,
+                point,
+                &mut self.request_book,
+                record,
+            ),
+            Point::Respmod => keep_record(
+                &self.shared,
+                at,
+                alloc,
+                point,
+                &mut self.response_book,
+                record,
+            ),
+        }
+    }
+
+    fn note_tag(&mut self, point: Point, tag: &[u8]) {
+        let alloc = self.alloc;
+        self.book_mut(point).note_tag(alloc, tag);
+    }
+
+    fn lend(
+        &mut self,
+        at: &Spot<'r, R, G>,
+        point: Point,
+    ) -> Result<(ServiceWire, Leased<S::Requests, S::Responses>), LendFault> {
+        lend_now(&self.shared, &mut self.seats, at, point)
+    }
+
+    fn lend_in_turn(
+        &mut self,
+        at: &Spot<'r, R, G>,
+        point: Point,
+    ) -> Result<(ServiceWire, Leased<S::Requests, S::Responses>), LendFault> {
+        lend_waiting(&self.shared, &mut self.seats, at, point)
+    }
+
+    fn join_queue(&mut self, at: &Spot<'r, R, G>, point: Point) -> bool {
+        let waiter = waiter_of(&self.shared, at.key);
+        let joins = pools_of(&self.shared).waiting.join(at.rt, point, waiter);
+        if joins {
+            self.seats.begin_wait(at.key, at.now);
+        }
+        joins
+    }
+
+    fn leave_queue(&mut self, at: &Spot<'r, R, G>, point: Point) {
+        let waiter = waiter_of(&self.shared, at.key);
+        pools_of(&self.shared).waiting.leave(at.rt, point, waiter);
+    }
+
+    fn reopen(
+        &mut self,
+        at: &Spot<'r, R, G>,
+        lease: &mut Leased<S::Requests, S::Responses>,
+    ) -> Result<ServiceWire, LendFault> {
+        lend_anew(&self.shared, &mut self.seats, at, lease)
+    }
+
+    fn is_reused(lease: &Leased<S::Requests, S::Responses>) -> bool {
+        lease.reused()
+    }
+
+    fn put(
+        &mut self,
+        at: &Spot<'r, R, G>,
+        connection: ServiceWire,
+        lease: Leased<S::Requests, S::Responses>,
+    ) {
+        put_back(&self.shared, &mut self.seats, at, connection, lease);
+    }
+
+    fn give_up(&mut self, at: &Spot<'r, R, G>, lease: Leased<S::Requests, S::Responses>) {
+        pools_of(&self.shared).give_up(at.rt, lease);
+    }
+
+    fn dial(&mut self, at: &Spot<'r, R, G>, address: SocketAddrV4) -> Result<OriginWire, Reason> {
+        open_origin(&mut self.seats, at, address)
+    }
+
+    fn may_pass(&mut self, at: &Spot<'r, R, G>) -> bool {
+        let number = self.seats.number(at.key);
+        at.gate.may_pass(at.rt, number)
+    }
+
+    fn finish(user: &UserWire) {
+        let _ = user.finish();
+    }
+
+    fn cut(user: &UserWire) {
+        user.cut();
+    }
+
+    fn linger(&mut self, user: &mut UserWire) -> Lingered {
+        match close_turn(user, self.scratch.as_mut_slice()) {
+            Closing::Over => Lingered::Over,
+            Closing::Waiting => Lingered::Waiting,
+            Closing::CutShort => Lingered::CutShort,
+        }
+    }
+
+    fn note_request(&mut self, at: &Spot<'r, R, G>, request: &Incoming) {
+        self.seats.end_wait(at.key);
+        let taken = self.seats.taken(at.key);
+        self.reporter
+            .request(at.rt, self.shared.log(), at.key, taken, request);
+    }
+
+    fn note_response(&mut self, at: &Spot<'r, R, G>, response: &Incoming) {
+        self.seats.end_wait(at.key);
+        self.reporter.response(at.key, response);
+    }
+
+    fn note_origin(&mut self, at: &Spot<'r, R, G>, address: SocketAddrV4) {
+        self.reporter.origin(at.key, address);
+    }
+
+    fn blame_service(&mut self, at: &Spot<'r, R, G>, fault: Option<ClientFault>, is_fresh: bool) {
+        self.reporter.blame(at.key, asked_word(fault, is_fresh));
+    }
+
+    fn note_refusal(
+        &mut self,
+        at: &Spot<'r, R, G>,
+        user: &UserWire,
+        reason: Reason,
+        is_asking: bool,
+    ) {
+        let (read, _) = user.counts();
+        self.reporter.read(self.shared.tally(), at.key, read);
+        let taken = self.seats.taken(at.key);
+        self.reporter.refusal(at.key, taken, reason, is_asking);
+    }
+
+    fn note_end(&mut self, at: &Spot<'r, R, G>, user: &UserWire, end: MessageEnd<'_>) {
+        let (read, _) = user.counts();
+        self.reporter.read(self.shared.tally(), at.key, read);
+        self.reporter.end(self.shared.tally(), at.key, end);
+    }
+
+    fn note_stop(&mut self, at: &Spot<'r, R, G>) {
+        self.reporter.stop(at.key);
+    }
+}

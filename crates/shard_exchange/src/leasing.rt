@@ -1,0 +1,79 @@
+//! Connections of services, and messages that wait for one.
+
+ghost use Rattle.std.specs.Prelude.{◌≡◌, Bool, true, false};
+
+use crate::exchange::{Exchange, Step};
+use exchange_core::Event;
+use proxy_rules::Reason;
+use service_lines::LendFault;
+use shard_message::Connection;
+use shard_outside::{Kinds, Outside, lend_reason};
+
+impl<O: Kinds> Exchange<O> {
+    ghost use Rattle.exchange_core.specs.Course.{is_leased};
+    ghost use Rattle.exchange_core.specs.Dues.{due_of, comes_of};
+    ghost use Rattle.exchange_core.specs.declared.event.Event.TheVariants.{Lent};
+    ghost use Rattle.exchange_core.specs.Log.{Goes};
+    ghost use Rattle.exchange_core.specs.declared.due.Due.TheVariants as dues;
+    ghost use Rattle.shard_exchange.specs.Steps.{Heeds};
+
+    /// Takes in a leased connection.
+    fn take_in<P>(&mut self, wire: O::Service, lease: O::Lease) -> Step
+    where
+        O: Outside<P>,
+        requires due { (reused : Bool) → comes_of (due_of self.old.course) (Lent reused) ≡ true }
+        requires free { is_leased self.old.course.connection ≡ false }
+        ensures goes { Goes self.old.course self.new.course }
+        ensures on { result ≡ Step.On }
+    {
+        let reused = O::is_reused(&lease);
+        let wire = Some(wire);
+        match self.connection.replace(Connection { wire, lease }) {
+            None => {}
+            Some(_) => unreachable!(),
+        }
+        self.course.done(Event::Lent { reused });
+        Step::On
+    }
+
+    /// Leases a connection of the service, or has the message wait for one where all are leased.
+    pub(crate) fn lend<P>(&mut self, at: &P, out: &mut O) -> Step
+    where
+        O: Outside<P>,
+        requires due { due_of self.old.course ≡ dues.Lend }
+        ensures goes { Goes self.old.course self.new.course }
+        ensures on { result ≡ Step.On }
+    {
+        let point = self.place().point();
+        let fault = match out.lend(at, point) {
+            Ok((wire, lease)) => return self.take_in(wire, lease),
+            Err(fault) => fault,
+        };
+        if fault == LendFault::Busy && self.course.may(Event::Queued) && out.join_queue(at, point) {
+            self.course.take(Event::Queued);
+            return Step::On;
+        }
+        self.refuse(at, out, lend_reason(fault))
+    }
+
+    /// Leases a connection once it is the message's turn, and has it wait for that, but not for too long.
+    pub(crate) fn wait_in_queue<P>(&mut self, at: &P, out: &mut O) -> Step
+    where
+        O: Outside<P>,
+        requires due { due_of self.old.course ≡ dues.Await }
+        requires free { is_leased self.old.course.connection ≡ false }
+        ensures goes { Goes self.old.course self.new.course }
+        ensures heeds { Heeds (O.is_late out.new at.now) self.new.course result }
+    {
+        let point = self.place().point();
+        let reason = match out.lend_in_turn(at, point) {
+            Ok((wire, lease)) => return self.take_in(wire, lease),
+            Err(LendFault::Busy) if out.has_waited(at) => Reason::Busy,
+            Err(LendFault::Busy) if out.is_late(at) => Reason::Deadline,
+            Err(LendFault::Busy) => return Step::Waits,
+            Err(fault) => lend_reason(fault),
+        };
+        out.leave_queue(at, point);
+        self.refuse(at, out, reason)
+    }
+}

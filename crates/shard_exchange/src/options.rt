@@ -1,0 +1,120 @@
+//! Asking a service for its options.
+
+ghost use Rattle.std.specs.Prelude.{◌≡◌, true};
+
+use crate::exchange::{Exchange, Step};
+use adapt_sides::ClientFault;
+use exchange_core::Event;
+use icap_head::IcapResponse;
+use proxy_rules::{Reason, is_reusable_after_options, options_reason};
+use shard_message::{hear_on, is_fresh, renew};
+use shard_outside::{Heard, Kinds, Outside, asker, keep};
+
+impl<O: Kinds> Exchange<O> {
+    ghost use Rattle.exchange_core.specs.Dues.{due_of};
+    ghost use Rattle.exchange_core.specs.Log.{Goes};
+    ghost use Rattle.exchange_core.specs.May.{may_come};
+    ghost use Rattle.exchange_core.specs.declared.event.Event.TheVariants.{Renewed};
+    ghost use Rattle.exchange_core.specs.declared.due.Due.TheVariants as dues;
+    ghost use Rattle.shard_exchange.specs.Steps.{Heeds};
+
+    /// Begins to ask the service for its options.
+    pub(crate) fn ask<P>(&mut self, at: &P, out: &mut O) -> Step
+    where
+        O: Outside<P>,
+        requires due { due_of self.old.course ≡ dues.Ask }
+        ensures goes { Goes self.old.course self.new.course }
+        ensures on { result ≡ Step.On }
+    {
+        match asker(out, self.place().point()) {
+            Ok(side) => {
+                self.asking = Some(side);
+                self.course.done(Event::Asked);
+                Step::On
+            }
+            Err(reason) => self.refuse(at, out, reason),
+        }
+    }
+
+    /// Asks, and hears the answer.
+    pub(crate) fn hear<P>(&mut self, at: &P, out: &mut O) -> Step
+    where
+        O: Outside<P>,
+        requires due { due_of self.old.course ≡ dues.Hear }
+        ensures goes { Goes self.old.course self.new.course }
+        ensures heeds { Heeds (O.is_late out.new at.now) self.new.course result }
+    {
+        match hear_on(&mut self.asking, &mut self.connection) {
+            Some(Heard::More) => Step::On,
+            Some(Heard::Nothing) => self.wait_or_refuse(at, out),
+            Some(Heard::Answer(answer)) => self.has_heard(at, out, &answer),
+            Some(Heard::Fault(fault)) => self.options_failed(at, out, fault),
+            None => self.lose_user(),
+        }
+    }
+
+    /// Takes note of what the service said.
+    fn has_heard<P>(&mut self, at: &P, out: &mut O, answer: &IcapResponse) -> Step
+    where
+        O: Outside<P>,
+        requires due { due_of self.old.course ≡ dues.Hear }
+        ensures goes { Goes self.old.course self.new.course }
+        ensures on { result ≡ Step.On }
+    {
+        let usable = match &self.asking {
+            Some(side) => is_reusable_after_options(side, answer),
+            None => false,
+        };
+        match keep(at, out, self.place().point(), answer) {
+            Ok(()) => {
+                self.asking = None;
+                self.course.done(Event::Learned { usable });
+                Step::On
+            }
+            Err(reason) => {
+                out.blame_service(at, None, false);
+                self.refuse(at, out, reason)
+            }
+        }
+    }
+
+    /// A connection that was idle before may be closed just now: then a fresh one is asked, once, where a retry is allowed.
+    fn options_failed<P>(&mut self, at: &P, out: &mut O, fault: ClientFault) -> Step
+    where
+        O: Outside<P>,
+        requires due { due_of self.old.course ≡ dues.Hear }
+        ensures goes { Goes self.old.course self.new.course }
+        ensures on { result ≡ Step.On }
+    {
+        if out.config().retry
+            && matches!(fault, ClientFault::Closed | ClientFault::Device)
+            && self.course.may(Event::Renewed)
+        {
+            return self.ask_anew(at, out);
+        }
+        out.blame_service(at, Some(fault), is_fresh(&self.connection));
+        self.refuse(at, out, options_reason(fault))
+    }
+
+    /// Begins to ask anew, on a fresh connection.
+    fn ask_anew<P>(&mut self, at: &P, out: &mut O) -> Step
+    where
+        O: Outside<P>,
+        requires due { due_of self.old.course ≡ dues.Hear }
+        requires may { may_come self.old.course Renewed ≡ true }
+        ensures goes { Goes self.old.course self.new.course }
+        ensures on { result ≡ Step.On }
+    {
+        if let Err(reason) = renew(at, out, &mut self.connection) {
+            return self.refuse(at, out, reason);
+        }
+        match asker(out, self.place().point()) {
+            Ok(side) => {
+                self.asking = Some(side);
+                self.course.take(Event::Renewed);
+                Step::On
+            }
+            Err(reason) => self.refuse(at, out, reason),
+        }
+    }
+}

@@ -1,0 +1,66 @@
+//! The steps of an exchange: what is due is done.
+
+ghost use Rattle.std.specs.Prelude.{◌≡◌, ◌↔◌, true, false};
+
+use crate::exchange::{Exchange, Step};
+use exchange_core::Due;
+use shard_outside::{Kinds, Outside};
+use std::sync::Wait;
+
+impl<O: Kinds> Exchange<O> {
+    ghost use Rattle.exchange_core.specs.Dues.{due_of, is_over, is_wait};
+    ghost use Rattle.exchange_core.specs.Log.{Goes};
+    ghost use Rattle.shard_exchange.specs.Steps.{Heeds};
+
+    /// Does what is due, and says how far that came.
+    pub fn step<P, R: Wait>(&mut self, rt: &R, at: &P, out: &mut O) -> Step
+    where
+        O: Outside<P>,
+
+        // Each step takes the course along events that may come.
+        ensures goes { Goes self.old.course self.new.course }
+        // No deadline passes unheeded.
+        ensures late { result ≡ Step.Waits → O.is_late out.new at.now ≡ false }
+        ensures waits { result ≡ Step.Waits → is_wait (due_of self.new.course) ≡ true }
+        ensures over { result ≡ Step.Over ↔ is_over self.new.course ≡ true }
+    {
+        let step = self.do_due(rt, at, out);
+        if self.course.course().is_over() {
+            Step::Over
+        } else {
+            step
+        }
+    }
+
+    /// Does what is due.
+    fn do_due<P, R: Wait>(&mut self, rt: &R, at: &P, out: &mut O) -> Step
+    where
+        O: Outside<P>,
+        ensures goes { Goes self.old.course self.new.course }
+        ensures heeds { Heeds (O.is_late out.new at.now) self.new.course result }
+    {
+        match self.course.due() {
+            Due::ReadRequest => self.read_request(at, out),
+            Due::Plan => self.plan(at, out),
+            Due::Lend => self.lend(at, out),
+            Due::Await => self.wait_in_queue(at, out),
+            Due::Ask => self.ask(at, out),
+            Due::Hear => self.hear(at, out),
+            Due::Reserve => self.reserve(rt, at, out),
+            Due::TryTell => self.try_tell(),
+            Due::Tell => self.tell(at, out),
+            Due::Dial => self.dial(at, out),
+            Due::Start => self.start(rt, at, out),
+            Due::AskGate => self.ask_gate(rt, at, out),
+            Due::Turn => self.turn(rt, at, out),
+            Due::ReadResponse => self.read_response(at, out),
+            Due::GiveBack => self.give_back(at, out),
+            Due::Release => self.release(rt, out),
+            Due::HangUp => self.hang_up(),
+            Due::Refuse(status) => self.write_refusal(at, out, status),
+            Due::TryRefusal(status) => self.try_refusal(status),
+            Due::Linger => self.close(at, out),
+            Due::Nothing => Step::On,
+        }
+    }
+}

@@ -1,0 +1,71 @@
+//! A leased connection on which a service is asked for its options.
+
+ghost use Rattle.std.specs.Prelude.{◌≡◌, is_some};
+
+use crate::connection::{Connection, lay_wire};
+use icap_client::OptionsSide;
+use proxy_rules::Reason;
+use shard_outside::{Heard, Kinds, Outside, hear_turn, lend_reason};
+use std::boxed::Box;
+use wire_kit::Wire;
+
+/// A turn at asking. `None` where nobody asks, or there is no connection for it.
+pub fn hear_on<O: Kinds>(
+    asking: &mut Option<Box<OptionsSide>>,
+    connection: &mut Option<Connection<O>>,
+) -> Option<Heard>
+    ensures { is_some connection.new ≡ is_some connection.old }
+{
+    match (asking, connection) {
+        (Some(side), Some(connection)) => match &mut connection.wire {
+            Some(wire) => Some(hear_turn(side, wire)),
+            None => None,
+        },
+        _ => None,
+    }
+}
+
+/// Whether nothing went over a connection.
+pub fn is_fresh<O: Kinds>(connection: &Option<Connection<O>>) -> bool {
+    match connection {
+        Some(connection) => match &connection.wire {
+            Some(wire) => wire.counts() == (0, 0),
+            None => false,
+        },
+        None => false,
+    }
+}
+
+/// Opens a fresh connection under a lease. The one before it is closed first: its descriptor is the one that the fresh one finds.
+fn reopen<P, O: Outside<P>>(
+    at: &P,
+    out: &mut O,
+    connection: &mut Connection<O>,
+) -> Result<O::Service, Reason> {
+    connection.wire = None;
+    match out.reopen(at, &mut connection.lease) {
+        Ok(wire) => Ok(wire),
+        Err(fault) => Err(lend_reason(fault)),
+    }
+}
+
+/// Puts a fresh connection in place of a leased one.
+pub fn renew<P, O: Outside<P>>(
+    at: &P,
+    out: &mut O,
+    connection: &mut Option<Connection<O>>,
+) -> Result<(), Reason>
+    ensures { is_some connection.new ≡ is_some connection.old }
+{
+    let opened = match connection {
+        Some(connection) => reopen(at, out, connection),
+        None => Err(Reason::Service),
+    };
+    match opened {
+        Ok(wire) => {
+            lay_wire(connection, wire);
+            Ok(())
+        }
+        Err(reason) => Err(reason),
+    }
+}

@@ -1,0 +1,32 @@
+//! A leased connection to a service.
+
+ghost use Rattle.std.specs.Prelude.{◌≡◌, is_some};
+
+use shard_outside::Kinds;
+
+/// A leased connection to a service.
+#[must_use]
+pub struct Connection<O: Kinds> {
+    /// The connection itself, where no transaction has it, and it isn't closed.
+    pub wire: Option<O::Service>,
+    pub lease: O::Lease,
+}
+
+/// Takes the connection from its lease.
+pub fn take_wire<O: Kinds>(connection: &mut Option<Connection<O>>) -> Option<O::Service>
+    ensures { is_some connection.new ≡ is_some connection.old }
+{
+    match connection {
+        Some(connection) => connection.wire.take(),
+        None => None,
+    }
+}
+
+/// Puts a connection beside its lease. Without one it is closed.
+pub fn lay_wire<O: Kinds>(connection: &mut Option<Connection<O>>, wire: O::Service)
+    ensures { is_some connection.new ≡ is_some connection.old }
+{
+    if let Some(connection) = connection {
+        connection.wire = Some(wire);
+    }
+}

@@ -1,0 +1,113 @@
+//! What the course of an exchange is told of a transaction that is over.
+
+ghost use Rattle.std.specs.Prelude.{◌≡◌, ◌⊎◌, true, false};
+ghost use Rattle.exchange_core.specs.Course.{after};
+ghost use Rattle.exchange_core.specs.May.{may_come, is_gone, is_refusing, is_idle};
+ghost use Rattle.exchange_core.specs.Log.{Goes};
+ghost use Rattle.shard_message.specs.Ends.{moves, ends_message, Stays, Leaves};
+
+use crate::ended::{End, Report};
+use exchange_core::{Event, Exchange, Why};
+
+/// Takes an event that ends a message, where it may come. Else the exchange is lost: nothing more is said to its user.
+fn take_or_lose(course: &mut Exchange, event: Event)
+    requires moves { moves course.old ≡ true }
+    requires runs { course.old.stopping ≡ false }
+    requires ends { ends_message event ≡ true }
+    ensures goes { Goes course.old course.new }
+    ensures leaves { Leaves course.old course.new }
+    ensures taken { may_come course.old event ≡ true → course.new ≡ after course.old event }
+    ensures lost { may_come course.old event ≡ false → is_gone course.new.place ≡ true }
+{
+    if course.may(event) {
+        course.take(event);
+    } else {
+        course.take(Event::UserLost);
+    }
+}
+
+/// Tells the course of a byte of an answer that went to the user. False where none may have gone there: the exchange is lost.
+fn tell_begun(course: &mut Exchange, has_answered: bool) -> bool
+    requires moves { moves course.old ≡ true }
+    requires runs { course.old.stopping ≡ false }
+    ensures goes { Goes course.old course.new }
+    ensures stays { result ≡ true → Stays course.old course.new }
+    ensures begun { result ≡ true → has_answered ≡ true → course.new.begun ≡ true }
+    ensures lost { result ≡ false → Leaves course.old course.new × (is_gone course.new.place ≡ true) }
+{
+    if !has_answered || course.course().begun {
+        return true;
+    }
+    let may = course.may(Event::Begun);
+    course.take(if may { Event::Begun } else { Event::UserLost });
+    may
+}
+
+/// Tells the course how a message ended.
+fn tell_end(course: &mut Exchange, end: End)
+    requires moves { moves course.old ≡ true }
+    requires runs { course.old.stopping ≡ false }
+    ensures goes { Goes course.old course.new }
+    ensures leaves { Leaves course.old course.new }
+    ensures lost { end ≡ End.Lost → is_gone course.new.place ≡ true }
+    ensures alone { course.old.begun ≡ true → is_refusing course.new.place ≡ false }
+    ensures keeps { is_idle course.new.place ≡ true → end ≡ End.Answered true }
+{
+    match end {
+        End::Sent { has_memory } => {
+            take_or_lose(course, Event::Sent);
+            if !has_memory && course.may(Event::Failed(Why::Scarce)) {
+                course.take(Event::Failed(Why::Scarce));
+            }
+        }
+        End::Answered { keeps } => take_or_lose(course, Event::Answered { keeps }),
+        End::Failed(why) => course.take(Event::Failed(why)),
+        End::Stopped => course.take(Event::Stop),
+        End::Lost => course.take(Event::UserLost),
+    }
+}
+
+/// Tells the course that the service has said all, where it has.
+fn tell_served(course: &mut Exchange, served: Option<bool>)
+    requires moves { moves course.old ≡ true }
+    ensures goes { Goes course.old course.new }
+    ensures stays { Stays course.old course.new }
+    ensures begun { course.new.begun ≡ course.old.begun }
+{
+    if let Some(usable) = served
+        && course.may(Event::Served { usable })
+    {
+        course.take(Event::Served { usable });
+    }
+}
+
+/// Tells the course that a user's connection was reset.
+fn tell_cut(course: &mut Exchange, cuts: bool)
+    requires { moves course.old ≡ false }
+    ensures goes { Goes course.old course.new }
+    ensures leaves { Leaves course.old course.new }
+    ensures gone { is_gone course.old.place ≡ true → is_gone course.new.place ≡ true }
+    ensures place { (course.new.place ≡ course.old.place) ⊎ (is_gone course.new.place ≡ true) }
+{
+    if cuts && course.may(Event::Dropped) {
+        course.take(Event::Dropped);
+    }
+}
+
+/// Tells the course of a transaction that is over. A user to whom a byte of an answer went gets no refusal behind it, and a further
+/// request is read only behind an answer that keeps its connection.
+pub fn tell(course: &mut Exchange, report: Report)
+    requires moves { moves course.old ≡ true }
+    requires runs { course.old.stopping ≡ false }
+    ensures goes { Goes course.old course.new }
+    ensures leaves { Leaves course.old course.new }
+    ensures lost { report.end ≡ End.Lost → is_gone course.new.place ≡ true }
+    ensures alone { report.has_answered ≡ true → is_refusing course.new.place ≡ false }
+    ensures keeps { is_idle course.new.place ≡ true → report.end ≡ End.Answered true }
+{
+    if tell_begun(course, report.has_answered) {
+        tell_served(course, report.served);
+        tell_end(course, report.end);
+        tell_cut(course, report.cuts);
+    }
+}

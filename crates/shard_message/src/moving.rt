@@ -1,0 +1,237 @@
+//! Messages that move.
+
+ghost use Rattle.std.specs.Prelude.{◌≡◌, is_some, true};
+
+use crate::connection::{Connection, lay_wire};
+use crate::ended::{End, EndedBy};
+use crate::room::Room;
+use crate::settled::{Settled, settle_request, settle_response};
+use crate::start::{Pace, set_out};
+use crate::taken::stake_of;
+use crate::turns::{Round, round_of};
+use crate::ways::{Left, Ways};
+use adapt_turn::FreeLine;
+use proxy_rules::{Incoming, Running};
+use shard_outside::{Kinds, Outside};
+use span_bank::{Bank, Stake};
+use std::boxed::Box;
+use std::sync::Wait;
+use trace_core::{Point, Seen};
+
+/// The types of a request's connections: from the user to the origin.
+type RequestWires<O> = (
+    <O as Kinds>::User,
+    <O as Kinds>::Service,
+    <O as Kinds>::Origin,
+);
+
+/// The types of a response's connections: from the origin to the user.
+type ResponseWires<O> = (
+    <O as Kinds>::Origin,
+    <O as Kinds>::Service,
+    <O as Kinds>::User,
+);
+
+/// A message on its way over the connections of its exchange.
+#[must_use]
+pub enum Moving<O: Kinds> {
+    /// A request, from the user to the origin.
+    Request(Box<Running<O::Ledgers, RequestWires<O>>>),
+    /// A response, from the origin to the user.
+    Response(Box<Running<O::Ledgers, ResponseWires<O>>>),
+}
+
+/// The connections that a message moves over.
+#[derive(Drop)]
+pub struct Connections<O: Kinds> {
+    pub user: O::User,
+    /// None where the message isn't offered, or the connection was given up.
+    pub service: Option<O::Service>,
+    pub origin: O::Origin,
+}
+
+impl<O: Kinds> Connections<O> {
+    /// Puts them back once a message doesn't move any more: the service's connection beside its lease.
+    pub fn put_back(
+        self,
+        user: &mut Option<O::User>,
+        leased: &mut Option<Connection<O>>,
+        origin: &mut Option<O::Origin>,
+    )
+        ensures leased { is_some leased.new ≡ is_some leased.old }
+        ensures opened { is_some origin.new ≡ true }
+    {
+        let Connections {
+            user: back,
+            service,
+            origin: opened,
+        } = self;
+        if let Some(wire) = service {
+            lay_wire(leased, wire);
+        }
+        *user = Some(back);
+        *origin = Some(opened);
+    }
+}
+
+/// What a message stood over: its reservation, and its connections.
+#[must_use]
+pub struct Remains<O: Kinds> {
+    pub room: Room<O::Ledgers>,
+    pub connections: Connections<O>,
+}
+
+impl<O: Kinds> Moving<O> {
+    /// Has a message begin to move. Where it can't, or no memory is found for that, what it would have stood over comes back.
+    pub fn begin<P, R: Wait>(
+        rt: &R,
+        out: &O,
+        message: Box<Incoming>,
+        room: Room<O::Ledgers>,
+        connections: Connections<O>,
+        pace: Pace,
+    ) -> Result<Moving<O>, Remains<O>>
+    where
+        O: Outside<P>,
+    {
+        let Connections {
+            user,
+            service,
+            origin,
+        } = connections;
+        let (bank, alloc) = (out.bank(), out.alloc());
+        match message.point() {
+            Point::Reqmod => {
+                let ways = Ways {
+                    source: user,
+                    service,
+                    next: origin,
+                };
+                match set_out(rt, bank, alloc, message, room, ways, pace) {
+                    Ok(tx) => Ok(Moving::Request(tx)),
+                    Err(left) => Err(request_remains(left)),
+                }
+            }
+            Point::Respmod => {
+                let ways = Ways {
+                    source: origin,
+                    service,
+                    next: user,
+                };
+                match set_out(rt, bank, alloc, message, room, ways, pace) {
+                    Ok(tx) => Ok(Moving::Response(tx)),
+                    Err(left) => Err(response_remains(left)),
+                }
+            }
+        }
+    }
+
+    /// A round of turns, one of each side. It ends with the turn that ends the transaction. Where the service's connection broke, the
+    /// request begins anew on a fresh one, if it may; the round says Broken then.
+    pub fn round<P, R: Wait>(
+        &mut self,
+        rt: &R,
+        at: &P,
+        out: &mut O,
+        connection: &mut Option<Connection<O>>,
+        may_renew: bool,
+    ) -> Round
+    where
+        O: Outside<P>,
+        ensures leased { is_some connection.new ≡ is_some connection.old }
+        ensures renewed { result ≡ Round.Broken → may_renew ≡ true }
+    {
+        match self {
+            Moving::Request(tx) => round_of(rt, at, out, tx, connection, may_renew),
+            Moving::Response(tx) => round_of(rt, at, out, tx, connection, may_renew),
+        }
+    }
+
+    /// Whether a byte of an answer went to the user.
+    pub fn has_answered(&self) -> bool {
+        match self {
+            Moving::Request(tx) => tx.has_answered(),
+            Moving::Response(tx) => tx.has_answered(),
+        }
+    }
+
+    /// Gives up the connection to the service once the service has said all.
+    pub fn free_line(&mut self) -> Option<FreeLine<O::Service>> {
+        match self {
+            Moving::Request(tx) => tx.free_line(),
+            Moving::Response(tx) => tx.free_line(),
+        }
+    }
+
+    /// What its history shows.
+    pub fn seen(&self) -> Seen {
+        match self {
+            Moving::Request(tx) => tx.seen(),
+            Moving::Response(tx) => tx.seen(),
+        }
+    }
+
+    /// Takes the transaction apart of a message that is over, or ends by this. What became of the message is noted.
+    pub fn settle<P, R: Wait>(
+        self,
+        rt: &R,
+        at: &P,
+        out: &mut O,
+        by: EndedBy,
+    ) -> Settled<O, Incoming>
+    where
+        O: Outside<P>,
+        ensures lost { by ≡ EndedBy.User → result.report.end ≡ End.Lost }
+    {
+        match self {
+            Moving::Request(tx) => {
+                settle_request(rt, at, out, Box::into_inner(tx).into_tx(), by)
+            }
+            Moving::Response(tx) => {
+                settle_response(rt, at, out, Box::into_inner(tx).into_tx(), by)
+            }
+        }
+    }
+
+    /// The reservation alone. The transaction ends, and all its connections are closed.
+    pub fn into_stake<R: Wait>(self, rt: &R, bank: &Bank<O::Ledgers>) -> Stake<O::Ledgers>
+        ensures { (result.held ≡ 0) × (result.pages ≡ 0) }
+    {
+        match self {
+            Moving::Request(tx) => stake_of(rt, bank, Box::into_inner(tx).into_tx()),
+            Moving::Response(tx) => stake_of(rt, bank, Box::into_inner(tx).into_tx()),
+        }
+    }
+}
+
+/// What a request stood over.
+fn request_remains<O: Kinds>(left: Left<O::Ledgers, RequestWires<O>>) -> Remains<O> {
+    let Left { room, ways } = left;
+    let Ways {
+        source: user,
+        service,
+        next: origin,
+    } = ways;
+    let connections = Connections {
+        user,
+        service,
+        origin,
+    };
+    Remains { room, connections }
+}
+
+/// What a response stood over.
+fn response_remains<O: Kinds>(left: Left<O::Ledgers, ResponseWires<O>>) -> Remains<O> {
+    let Left { room, ways } = left;
+    let Ways {
+        source: origin,
+        service,
+        next: user,
+    } = ways;
+    let connections = Connections {
+        user,
+        service,
+        origin,
+    };
+    Remains { room, connections }
+}

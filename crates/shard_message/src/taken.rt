@@ -1,0 +1,125 @@
+//! Transactions taken apart.
+
+ghost use Rattle.std.specs.Prelude.{◌≡◌};
+
+use crate::room::room_of;
+use crate::ways::{Left, Ways};
+use adapt_sides::{Hop, Service, Source};
+use adapt_turn::{EndTypes, Ends, Line, MakesHead, Parts, Tx};
+use plan_rules::Limits;
+use proxy_rules::Wires;
+use span_bank::{Bank, Ledgers, Stake};
+use std::sync::Wait;
+
+/// What is left of a transaction, which fails where it isn't closed yet.
+pub(crate) fn parts_of<B: Ledgers, E: EndTypes, R: Wait>(
+    rt: &R,
+    bank: &Bank<B>,
+    tx: Tx<B, E>,
+) -> Parts<B, E>
+    ensures { (result.stake.held ≡ 0) × (result.stake.pages ≡ 0) }
+{
+    let mut tx = tx;
+    tx.halt(rt, bank);
+    match tx.into_parts() {
+        Ok(parts) => parts,
+        Err(_) => unreachable!(),
+    }
+}
+
+/// The connection of a service's side that has ended. None where it was given up before.
+pub(crate) fn wire_of<V: Drop, W>(service: Option<Line<V, W>>) -> Option<W> {
+    match service {
+        Some(line) => {
+            let Line { side: _, wire } = line;
+            wire
+        }
+        None => None,
+    }
+}
+
+/// What a transaction stood over, which fails where it isn't closed yet.
+pub(crate) fn left_of<
+    B: Ledgers,
+    S: Source + Drop,
+    V: Service + Drop,
+    K: Hop + Drop,
+    F: MakesHead<S, K>,
+    W: Wires,
+    E: EndTypes<
+        Reader = S,
+        Client = V,
+        Writer = K,
+        Maker = F,
+        SourceWire = W::SourceWire,
+        ServiceWire = W::ServiceWire,
+        NextWire = W::NextWire,
+    >,
+    R: Wait,
+>(rt: &R, bank: &Bank<B>, tx: Tx<B, E>, limits: Limits) -> Left<B, W> {
+    let Parts {
+        stake,
+        ends,
+        outcome: _,
+        seen: _,
+    } = parts_of(rt, bank, tx);
+    let Ends {
+        source: _,
+        source_wire,
+        service,
+        next: _,
+        next_wire,
+        back: _,
+        maker: _,
+    } = ends;
+    Left {
+        room: room_of(stake, limits),
+        ways: Ways {
+            source: source_wire,
+            service: wire_of(service),
+            next: next_wire,
+        },
+    }
+}
+
+/// The reservation of a transaction, which fails where it isn't closed yet. Its connections are closed.
+pub(crate) fn stake_of<
+    B: Ledgers,
+    S: Source + Drop,
+    V: Service + Drop,
+    K: Hop + Drop,
+    F: MakesHead<S, K>,
+    X: Drop,
+    Y: Drop,
+    Z: Drop,
+    E: EndTypes<
+        Reader = S,
+        Client = V,
+        Writer = K,
+        Maker = F,
+        SourceWire = X,
+        ServiceWire = Y,
+        NextWire = Z,
+    >,
+    R: Wait,
+>(rt: &R, bank: &Bank<B>, tx: Tx<B, E>) -> Stake<B>
+    ensures { (result.held ≡ 0) × (result.pages ≡ 0) }
+{
+    let Parts {
+        stake,
+        ends,
+        outcome: _,
+        seen: _,
+    } = parts_of(rt, bank, tx);
+    let Ends {
+        source: _,
+        source_wire: _,
+        service,
+        next: _,
+        next_wire: _,
+        back: _,
+        maker: _,
+    } = ends;
+    drop(wire_of(service));
+    stake
+}

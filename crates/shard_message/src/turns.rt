@@ -1,0 +1,128 @@
+//! The turns of a message's transaction.
+
+ghost use Rattle.std.specs.Prelude.{◌≡◌, is_some, true};
+
+use crate::connection::Connection;
+use adapt_turn::{Side, Turned};
+use proxy_rules::{Running, Wires};
+use service_lines::LendFault;
+use shard_outside::Outside;
+use span_bank::{Bank, Ledgers};
+use std::sync::Wait;
+use trace_core::Cause;
+
+/// What a turn, or a round of turns, did.
+#[derive(Clone, Copy, Debug, PartialEq, Eq)]
+pub enum Round {
+    /// Something moved.
+    Moved,
+    /// Each wire waits.
+    Waiting,
+    /// The service's connection broke, and the request may begin anew.
+    Broken,
+    /// The transaction is over.
+    Over,
+}
+
+/// A turn of one side.
+fn turn_side<B: Ledgers, W: Wires, R: Wait>(
+    rt: &R,
+    bank: &Bank<B>,
+    tx: &mut Running<B, W>,
+    side: Side,
+    now: u64,
+) -> Round {
+    let turned = tx.turn(rt, bank, side, now);
+    if tx.outcome().is_some() {
+        return Round::Over;
+    }
+    match turned {
+        Turned::Moved(_) => Round::Moved,
+        Turned::Waiting => Round::Waiting,
+        Turned::Broken => Round::Broken,
+        Turned::Finished(_) => Round::Over,
+    }
+}
+
+/// A turn of each side, up to the first one with which the transaction is over or broken: nothing more is written then.
+fn turn_each<B: Ledgers, W: Wires, R: Wait>(
+    rt: &R,
+    bank: &Bank<B>,
+    tx: &mut Running<B, W>,
+    now: u64,
+) -> Round {
+    let mut round = Round::Waiting;
+    for side in [Side::Source, Side::Service, Side::NextHop] {
+        match turn_side(rt, bank, tx, side, now) {
+            Round::Waiting => {}
+            Round::Moved => round = Round::Moved,
+            ended => return ended,
+        }
+    }
+    round
+}
+
+/// A fresh connection in place of a leased one that broke and is closed, where one may be had.
+fn fresh<P, O: Outside<P>>(
+    at: &P,
+    out: &mut O,
+    connection: &mut Option<Connection<O>>,
+) -> Result<O::Service, LendFault>
+    ensures { is_some connection.new ≡ is_some connection.old }
+{
+    match connection {
+        Some(connection) => out.reopen(at, &mut connection.lease),
+        None => Err(LendFault::Unreached),
+    }
+}
+
+/// Has a request whose service's connection broke begin anew on a fresh one, if it may. Else it fails. The broken one is closed first:
+/// its descriptor is the one that the fresh one finds.
+fn renew<P, O: Outside<P>, W: Wires<ServiceWire = O::Service>, R: Wait>(
+    rt: &R,
+    at: &P,
+    out: &mut O,
+    tx: &mut Running<O::Ledgers, W>,
+    connection: &mut Option<Connection<O>>,
+    may: bool,
+) -> Round
+    ensures leased { is_some connection.new ≡ is_some connection.old }
+    ensures renewed { result ≡ Round.Broken → may ≡ true }
+{
+    if !tx.is_broken() {
+        return Round::Waiting;
+    }
+    drop(tx.take_broken());
+    let fresh = if may {
+        fresh(at, out, connection)
+    } else {
+        Err(LendFault::Unreached)
+    };
+    match fresh {
+        Ok(wire) => {
+            drop(tx.retry(rt, out.bank(), wire));
+            return Round::Broken;
+        }
+        Err(LendFault::NoMemory) => tx.no_retry(rt, out.bank(), Cause::Memory),
+        Err(_) => tx.no_retry(rt, out.bank(), Cause::Service),
+    }
+    Round::Over
+}
+
+/// A round of a transaction. Where the service's connection broke, the request begins anew on a fresh one, if it may.
+pub(crate) fn round_of<P, O: Outside<P>, W: Wires<ServiceWire = O::Service>, R: Wait>(
+    rt: &R,
+    at: &P,
+    out: &mut O,
+    tx: &mut Running<O::Ledgers, W>,
+    connection: &mut Option<Connection<O>>,
+    may_renew: bool,
+) -> Round
+    ensures leased { is_some connection.new ≡ is_some connection.old }
+    ensures renewed { result ≡ Round.Broken → may_renew ≡ true }
+{
+    match turn_each(rt, out.bank(), tx, out.now(at)) {
+        Round::Broken => renew(rt, at, out, tx, connection, may_renew),
+        round => round,
+    }
+}

@@ -1,0 +1,66 @@
+//! Asking a service for its options.
+
+use crate::outside::Outside;
+use crate::planning::service_of;
+use adapt_sides::ClientFault;
+use icap_client::OptionsSide;
+use icap_head::IcapResponse;
+use options_book::read_record;
+use proxy_rules::{Reason, ask_options, record_reason};
+use std::boxed::Box;
+use trace_core::Point;
+use wire_kit::Wire;
+
+/// Who asks the service of a point for its options. `None` where there is no service, or no memory was found.
+pub fn asker<P, O: Outside<P>>(out: &O, point: Point) -> Result<Box<OptionsSide>, Reason> {
+    let Some(service) = service_of(out.config(), point) else {
+        return Err(Reason::Service);
+    };
+    let alloc = out.alloc();
+    let Ok(side) = ask_options(alloc, service) else {
+        return Err(Reason::NoMemory);
+    };
+    match Box::new(alloc, side) {
+        Ok(side) => Ok(side),
+        Err(_) => Err(Reason::NoMemory),
+    }
+}
+
+/// What a turn at asking heard.
+pub enum Heard {
+    /// The whole answer.
+    Answer(IcapResponse),
+    /// Something moved.
+    More,
+    /// Nothing yet.
+    Nothing,
+    /// No answer comes.
+    Fault(ClientFault),
+}
+
+/// A turn at asking over this wire.
+pub fn hear_turn<W: Wire>(side: &mut OptionsSide, wire: &mut W) -> Heard {
+    let before = wire.counts();
+    match side.turn(wire) {
+        Ok(Some(answer)) => Heard::Answer(answer),
+        Ok(None) if wire.counts() != before => Heard::More,
+        Ok(None) => Heard::Nothing,
+        Err(fault) => Heard::Fault(fault),
+    }
+}
+
+/// Keeps what the service of a point said of its options.
+pub fn keep<P, O: Outside<P>>(
+    at: &P,
+    out: &mut O,
+    point: Point,
+    answer: &IcapResponse,
+) -> Result<(), Reason> {
+    match read_record(out.alloc(), answer, point, out.now(at)) {
+        Ok(record) => match out.keep(at, point, record) {
+            Ok(()) => Ok(()),
+            Err(_) => Err(Reason::NoMemory),
+        },
+        Err(fault) => Err(record_reason(fault)),
+    }
+}

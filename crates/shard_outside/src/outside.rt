@@ -1,0 +1,160 @@
+//! What an exchange asks of its surroundings: connections, the budget, the clock, and what is noted of it.
+
+ghost use Rattle.std.specs.Prelude.{◌≡◌, Bool};
+
+use adapt_sides::ClientFault;
+use adapt_turn::Outcome;
+use options_book::Record;
+use plan_rules::Limits;
+use proxy_config::Config;
+use proxy_rules::{Incoming, Reason};
+use service_lines::{LendFault, PointBook};
+use span_bank::{Bank, Ledgers};
+use std::alloc::{AllocError, Global};
+use std::net::SocketAddrV4;
+use trace_core::{Point, Seen};
+use wire_kit::Wire;
+
+/// What an exchange is made of: its three connections, the right to one of a service, and the ledgers of the budget.
+pub trait Kinds {
+    /// The user's connection.
+    type User: Wire + Drop;
+    /// A connection to an origin.
+    type Origin: Wire + Drop;
+    /// A connection to a service.
+    type Service: Wire + Drop;
+    /// The right to a connection of a service. It has no `Drop`: it is put back with its connection, or given up.
+    type Lease;
+
+    type Ledgers: Ledgers;
+}
+
+/// What became of a message whose transaction is over.
+#[derive(Drop)]
+pub struct MessageEnd<'m> {
+    pub seen: Seen,
+    /// How it ended. `None` where its user was gone before it did.
+    pub outcome: Option<Outcome>,
+    /// Why the service's side failed, where it did.
+    pub service_fault: Option<ClientFault>,
+    /// Whether nothing went over the service's connection, where it was still held.
+    pub service_is_fresh: bool,
+    /// Whether nothing went over the connection to the next hop.
+    pub next_is_fresh: bool,
+    /// The head of the adapted message, where one was read.
+    pub adapted_head: Option<&'m [u8]>,
+    /// Whether a byte of an answer went to the user.
+    pub has_answered: bool,
+}
+
+/// How far what the user still sends was dropped.
+#[derive(Clone, Copy, Debug, PartialEq, Eq)]
+pub enum Lingered {
+    /// The user has ended its bytes, or its connection has failed.
+    Over,
+    /// It may still send.
+    Waiting,
+    /// It sent much: others get their turn first.
+    CutShort,
+}
+
+/// The surroundings of the exchanges of a thread. `P` is an exchange's place in them: its key, the moment, and what reaches the system.
+pub trait Outside<P>: Kinds {
+    // no byte of the exchange moved for longer than the deadline
+    ghost is_late: { Self → P → Bool };
+
+    fn alloc(&self) -> Global;
+
+    fn config(&self) -> &Config;
+
+    fn limits(&self) -> Limits;
+
+    fn bank(&self) -> &Bank<Self::Ledgers>;
+
+    /// The moment, in seconds.
+    fn now(&self, at: &P) -> u64;
+
+    /// Whether no byte moved for longer than the deadline.
+    fn is_late(&self, at: &P) -> bool
+        ensures { result ≡ is_late self.now at.now };
+
+    /// Whether the user has said nothing for so long that a proxy that drains lets it go.
+    fn has_rested(&self, at: &P) -> bool;
+
+    /// Whether the message has waited for a connection to its service as long as it may.
+    fn has_waited(&self, at: &P) -> bool;
+
+    /// What the service of a point said last.
+    fn book(&self, point: Point) -> &PointBook;
+
+    /// Keeps what a service said, with the most connections that it allows. `Err` where no memory was found: then nothing has changed.
+    fn keep(&mut self, at: &P, point: Point, record: Record) -> Result<(), AllocError>;
+
+    /// Takes note of the tag of a service's answer (RFC 3507, section 4.7).
+    fn note_tag(&mut self, point: Point, tag: &[u8]);
+
+    /// Leases a connection to a point's service, an idle one first. One that comes while others wait for theirs gets none.
+    fn lend(&mut self, at: &P, point: Point) -> Result<(Self::Service, Self::Lease), LendFault>;
+
+    /// Leases a connection to a message that waits, once it is its turn. With a connection it has left the queue.
+    fn lend_in_turn(
+        &mut self,
+        at: &P,
+        point: Point,
+    ) -> Result<(Self::Service, Self::Lease), LendFault>;
+
+    /// Has a message wait for a connection. False where it may not.
+    fn join_queue(&mut self, at: &P, point: Point) -> bool;
+
+    /// Has a message wait no more.
+    fn leave_queue(&mut self, at: &P, point: Point);
+
+    /// A fresh connection in place of a leased one that broke and is closed, where one may be opened.
+    fn reopen(&mut self, at: &P, lease: &mut Self::Lease) -> Result<Self::Service, LendFault>;
+
+    /// Whether the leased connection was idle before, and was not replaced since.
+    fn is_reused(lease: &Self::Lease) -> bool;
+
+    /// Puts a connection back that may serve again.
+    fn put(&mut self, at: &P, connection: Self::Service, lease: Self::Lease);
+
+    /// Gives up the lease of a connection that is closed.
+    fn give_up(&mut self, at: &P, lease: Self::Lease);
+
+    /// Opens a connection to an origin.
+    fn dial(&mut self, at: &P, address: SocketAddrV4) -> Result<Self::Origin, Reason>;
+
+    /// Whether the transaction of a message may move.
+    fn may_pass(&mut self, at: &P) -> bool;
+
+    /// Says to the user that nothing more comes.
+    fn finish(user: &Self::User);
+
+    /// Has the user see that what it got isn't whole: its connection is reset once it is closed.
+    fn cut(user: &Self::User);
+
+    /// Reads and drops what the user still sends.
+    fn linger(&mut self, user: &mut Self::User) -> Lingered;
+
+    /// The head of a request was read.
+    fn note_request(&mut self, at: &P, request: &Incoming);
+
+    /// The head of the origin's response was read.
+    fn note_response(&mut self, at: &P, response: &Incoming);
+
+    /// The connection to this origin is opened.
+    fn note_origin(&mut self, at: &P, address: SocketAddrV4);
+
+    /// The service said no options that serve: its connection failed for this, or `None` where it said something else. `is_fresh`:
+    /// nothing went over its connection.
+    fn blame_service(&mut self, at: &P, fault: Option<ClientFault>, is_fresh: bool);
+
+    /// The proxy refuses the request for this reason.
+    fn note_refusal(&mut self, at: &P, user: &Self::User, reason: Reason, is_asking: bool);
+
+    /// The transaction of a message is over.
+    fn note_end(&mut self, at: &P, user: &Self::User, end: MessageEnd<'_>);
+
+    /// The answer ends unfinished because the proxy stops.
+    fn note_stop(&mut self, at: &P);
+}

@@ -1,0 +1,60 @@
+//! What the proxy itself says to a user: it goes out here alone.
+
+ghost use Rattle.std.specs.Prelude.{◌≡◌, IfSome};
+ghost use Rattle.shard_outside.specs.Saying.{Says, left_at};
+
+use adapt_bytes::behind;
+use wire_kit::{Put, Wire};
+
+/// How much of a text a user has taken.
+#[derive(Clone, Copy, Debug, PartialEq, Eq)]
+pub enum Said {
+    /// All of it.
+    Whole,
+    /// This many bytes, and not all.
+    Part(usize),
+    /// No more than before: it takes nothing now.
+    Nothing,
+    /// Its connection has failed.
+    Broken,
+}
+
+/// Says a text over this wire, of which so many bytes went out before: one write at most, of what is left of it.
+fn say<W: Wire>(user: &mut W, text: &'static [u8], before: usize) -> Said
+    ensures { Says (W.past user.old) (W.past user.new) text.now before result }
+{
+    let rest = behind(text, before);
+    if rest.is_empty() {
+        return Said::Whole;
+    }
+    match user.try_write(rest) {
+        Put::Took(count) => {
+            let left = rest.len() - count;
+            if left == 0 {
+                Said::Whole
+            } else {
+                Said::Part(text.len() - left)
+            }
+        }
+        Put::Wait => Said::Nothing,
+        Put::Fault => Said::Broken,
+    }
+}
+
+/// Says a text to a user, of which so many bytes are out: one write at most, of what is left of it. A user whose connection has failed
+/// is gone.
+pub fn say_to<W: Wire + Drop>(user: &mut Option<W>, text: &'static [u8], out: &mut usize) -> Said
+    ensures { IfSome user.old (λ old. IfSome user.new (λ new.
+        Says (W.past old) (W.past new) text.now out.old result × (out.new ≡ left_at out.old result))) }
+{
+    let said = match user {
+        Some(user) => say(user, text, *out),
+        None => Said::Broken,
+    };
+    match said {
+        Said::Part(count) => *out = count,
+        Said::Broken => *user = None,
+        Said::Whole | Said::Nothing => {}
+    }
+    said
+}

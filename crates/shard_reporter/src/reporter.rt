@@ -1,0 +1,238 @@
+//! When something is noted of an exchange, and what becomes of it at its end.
+
+use crate::words::{is_answer, reason_word, service_word};
+use adapt_turn::Outcome;
+use exchange_report::Why;
+use http_side::Values;
+use mio::net::TcpStream;
+use proxy_rules::{Incoming, Reason};
+use shard_outside::MessageEnd;
+use shard_report::{
+    Class, Count, Evidence, Log, Notes, Tally, address_of, failed_status, failed_word, kind_in,
+    kind_of, moment, status_in, status_of, verdict_of, why_of,
+};
+use std::alloc::{AllocError, Global};
+use std::net::{SocketAddr, SocketAddrV4};
+use std::sync::Wait;
+use std::time::Clock;
+use trace_core::{Point, Seen};
+
+/// What is noted of a thread's exchanges. They are counted in its tally, and their lines added to the log.
+#[derive(Drop)]
+pub struct Reporter {
+    notes: Notes,
+}
+
+impl Reporter {
+    /// A reporter of a thread that has this many keys. `Err` where no memory was found.
+    pub fn new(alloc: Global, keys: usize, log: &Log) -> Result<Reporter, AllocError> {
+        Ok(Reporter {
+            notes: Notes::new(alloc, keys, log.is_kept())?,
+        })
+    }
+
+    /// A user comes. Where a line will say it, its address is noted.
+    pub fn enter(&mut self, log: &Log, key: usize, stream: &TcpStream) {
+        let address = if log.is_kept() {
+            stream.peer_addr().ok()
+        } else {
+            None
+        };
+        let user = match address {
+            Some(SocketAddr::V4(address)) => Some(address_of(address)),
+            _ => None,
+        };
+        self.notes.enter(key, user);
+    }
+
+    /// There is no seat for the user.
+    pub fn turn_away(&mut self, key: usize) {
+        self.notes.refuse(key, Why::NoSeat, 503);
+    }
+
+    /// A request's head was read, when its user had taken so many bytes.
+    pub fn request<R: Clock>(
+        &mut self,
+        rt: &R,
+        log: &Log,
+        key: usize,
+        taken: u64,
+        request: &Incoming,
+    ) {
+        let now = if log.is_kept() { moment(rt) } else { 0 };
+        let (method, target) = match request.user_head() {
+            Some(head) => (head.method(), head.target()),
+            None => (b"".as_slice(), b"".as_slice()),
+        };
+        self.notes.begin(key, now, taken, method, target);
+    }
+
+    /// The head of the origin's response was read.
+    pub fn response(&mut self, key: usize, response: &Incoming) {
+        if let Some(head) = response.response_head() {
+            let kind = match head.fields().values(b"content-type") {
+                Values::One(value) => kind_of(value),
+                _ => b"",
+            };
+            self.notes.answer(key, head.status(), kind);
+        }
+    }
+
+    /// A request goes to this address.
+    pub fn origin(&mut self, key: usize, address: SocketAddrV4) {
+        if let Some(note) = self.notes.get_mut(key) {
+            note.origin = Some(address_of(address));
+        }
+    }
+
+    /// Why a service can't serve.
+    pub fn blame(&mut self, key: usize, why: Why) {
+        if let Some(note) = self.notes.get_mut(key) {
+            note.blamed = Some(why);
+        }
+    }
+
+    /// Counts what was read of a user since the last time, of whom so many bytes were read in all.
+    pub fn read(&mut self, tally: &Tally, key: usize, read: u64) {
+        if let Some(note) = self.notes.get_mut(key) {
+            let more = read.saturating_sub(note.read);
+            note.read = read;
+            tally.add(Count::Read, more);
+        }
+    }
+
+    /// The proxy's own refusal is the answer, to a user that had taken so many bytes before.
+    pub fn refusal(&mut self, key: usize, taken: u64, reason: Reason, is_asking: bool) {
+        if !self.notes.is_open(key) {
+            self.notes.begin(key, 0, taken, b"", b"");
+        }
+        if let Some(note) = self.notes.get_mut(key) {
+            let why = reason_word(reason, is_asking, note.blamed, note.origin.is_some());
+            self.notes.refuse(key, why, reason.status());
+        }
+    }
+
+    /// A transaction is over: what became of its message, and of the answer where its user wasn't gone before.
+    pub fn end(&mut self, tally: &Tally, key: usize, end: MessageEnd<'_>) {
+        let MessageEnd {
+            seen,
+            outcome,
+            service_fault,
+            service_is_fresh,
+            next_is_fresh,
+            adapted_head,
+            has_answered,
+        } = end;
+        let evidence = Evidence {
+            service: service_word(service_fault, service_is_fresh),
+            next_is_fresh,
+            to_user: seen.plan.point == Point::Respmod || seen.modified && is_answer(adapted_head),
+        };
+        self.message(tally, key, &seen, has_answered);
+        let Some(outcome) = outcome else {
+            return;
+        };
+        self.outcome(key, &seen, outcome, evidence);
+        if seen.modified
+            && let Some(text) = adapted_head
+            && let Some(status) = status_in(text)
+            && (outcome == Outcome::Done || has_answered)
+        {
+            self.notes.answer(key, status, kind_in(text));
+            if outcome == Outcome::Done {
+                self.ends(key, Why::Served);
+            }
+        }
+    }
+
+    /// What became of a message, of whose answer a byte went to the user or not.
+    pub fn message(&mut self, tally: &Tally, key: usize, seen: &Seen, has_answered: bool) {
+        let point = seen.plan.point;
+        let verdict = verdict_of(seen);
+        self.notes.judge(key, point, verdict);
+        if let Some(note) = self.notes.get_mut(key) {
+            note.answered = has_answered;
+        }
+        tally.add(Count::Messages(point, verdict.reply), 1);
+        if verdict.retried {
+            tally.add(Count::Retries, 1);
+        }
+    }
+
+    /// What became of the answer.
+    fn outcome(&mut self, key: usize, seen: &Seen, outcome: Outcome, evidence: Evidence) {
+        let point = seen.plan.point;
+        match outcome {
+            Outcome::Done if point == Point::Respmod => self.ends(key, Why::Served),
+            Outcome::Done => {}
+            Outcome::Fail(cause) => {
+                let why = failed_word(cause, seen, evidence);
+                // A user that is gone gets no refusal.
+                if self.has_answered(key) || why == Why::UserGone {
+                    self.ends(key, why);
+                } else {
+                    self.notes.refuse(key, why, failed_status(cause, point));
+                }
+            }
+        }
+    }
+
+    /// Whether a byte of the answer went to the user.
+    fn has_answered(&mut self, key: usize) -> bool {
+        match self.notes.get_mut(key) {
+            Some(note) => note.answered,
+            None => false,
+        }
+    }
+
+    /// The exchange ends because the proxy stops.
+    pub fn stop(&mut self, key: usize) {
+        self.ends(key, Why::Stopping);
+    }
+
+    /// The loop ends with an exchange in its midst.
+    pub fn abandon(&mut self, key: usize) {
+        if let Some(note) = self.notes.get_mut(key) {
+            note.why = Some(note.why.unwrap_or(Why::Stopping));
+        }
+    }
+
+    /// The answer ends for this reason.
+    fn ends(&mut self, key: usize, why: Why) {
+        if let Some(note) = self.notes.get_mut(key) {
+            note.why = Some(why);
+        }
+    }
+
+    /// An exchange that is open is over, when its user had taken so many bytes: it is counted, and its line added to the lines of this
+    /// thread's number.
+    pub fn report<R: Wait + Clock>(
+        &mut self,
+        rt: &R,
+        tally: &Tally,
+        log: &Log,
+        number: usize,
+        key: usize,
+        taken: u64,
+    ) {
+        let Some(note) = self.notes.close(key) else {
+            return;
+        };
+        let mut note = note;
+        if why_of(&note) == Why::UserGone && !note.answered {
+            // The origin's status didn't reach a user that was gone before a byte of the answer.
+            note.status = 0;
+        }
+        let sent = taken.saturating_sub(note.taken);
+        tally.add(Count::Requests, 1);
+        tally.add(Count::Sent, sent);
+        tally.add(Count::Answers(Class::of(status_of(&note))), 1);
+        if note.refused {
+            tally.add(Count::Refusals(why_of(&note)), 1);
+        }
+        if log.is_kept() {
+            let entry = self.notes.entry(key, &note, moment(rt), sent);
+            log.add(rt, number, &entry);
+        }
+    }
+}

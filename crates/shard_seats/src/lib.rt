@@ -1,0 +1,10 @@
+//! The seats of a thread's users: what is known of each connection, when it last moved, and which one is spared for another user.
+//!
+//! No exchange is here: who drives one says what its user's connection is in the midst of.
+#![tactic(auto)]
+
+mod seats;
+mod sparing;
+
+pub use seats::{Purpose, SECOND, Seats};
+pub use sparing::{Spared, Stay};

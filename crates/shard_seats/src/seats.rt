@@ -1,0 +1,352 @@
+//! Users' connections by their keys: their readiness, when they last moved, and which can best be spared.
+
+ghost use Rattle.std.specs.Prelude.{◌≡◌};
+
+use crate::sparing::{Spared, Stay, spared_of};
+use event_loop::{Place, Told};
+use mio::net::TcpStream;
+use mio::{Registry, Token};
+use slab::Slab;
+use socket_wire::{MAX_KEY, Readiness, Role, Side, SocketWire, token_of};
+use std::alloc::{AllocError, Global};
+use std::mem;
+use std::sync::Arc;
+
+/// The milliseconds of a second.
+pub const SECOND: u64 = 1000;
+
+/// How many seats there are beyond those of the users that are served.
+const SPARE: usize = 16;
+
+/// What a seat is for.
+#[derive(Clone, Copy, Debug, PartialEq, Eq)]
+pub enum Purpose {
+    /// The requests of a user.
+    Requests,
+    /// The refusal of a user for whom there is no room.
+    Refusal,
+}
+
+/// What is known of the connections of an exchange.
+#[derive(Drop)]
+struct Seat {
+    purpose: Purpose,
+    number: u64,
+    place: Place,
+    /// When the user was taken in, in milliseconds.
+    came: u64,
+    moved: u64,
+    stay: Stay,
+    /// When the stay began, in the order of all stays.
+    since: u64,
+    /// When the message began to wait for a connection to its service.
+    waits: Option<u64>,
+    user: Option<Arc<Readiness>>,
+    origin: Option<Arc<Readiness>>,
+    service: Option<Arc<Readiness>>,
+}
+
+/// How many bytes were written on a connection.
+fn taken_by(ready: &Option<Arc<Readiness>>) -> u64 {
+    match ready {
+        Some(ready) => ready.taken(),
+        None => 0,
+    }
+}
+
+/// The seats of a thread, each under its key.
+#[derive(Drop)]
+pub struct Seats {
+    alloc: Global,
+    all: Slab<Seat>,
+    most: usize,
+    refused: usize,
+    /// How many stays have begun.
+    stays: u64,
+}
+
+impl Seats {
+    ghost use Rattle.shard_seats.specs.Seats.{is_late};
+
+    /// No seat is taken, and at most `most` users may be served at once. `Err` if no memory was found for their seats.
+    pub fn new(alloc: Global, most: usize) -> Result<Seats, AllocError> {
+        let mut seats = Seats {
+            alloc,
+            all: Slab::new(alloc),
+            most,
+            refused: 0,
+            stays: 0,
+        };
+        let bound = seats.bound();
+        seats.all.reserve(bound)?;
+        Ok(seats)
+    }
+
+    /// All seats, which come back after the call that they are lent for. Until then there is none here, which takes no memory.
+    pub fn lend(&mut self) -> Seats {
+        let none = Seats {
+            alloc: self.alloc,
+            all: Slab::new(self.alloc),
+            most: 0,
+            refused: 0,
+            stays: 0,
+        };
+        mem::replace(self, none)
+    }
+
+    /// How many there may be: those of the users that are served, and those of some that are refused.
+    pub fn bound(&self) -> usize {
+        self.most.saturating_add(SPARE)
+    }
+
+    /// Whether a further user can be served.
+    pub fn has_room(&self) -> bool {
+        self.all.len().saturating_sub(self.refused) < self.most
+    }
+
+    /// What the next seat is for. `None` if no seat is free.
+    fn next_purpose(&self) -> Option<Purpose> {
+        if self.has_room() {
+            Some(Purpose::Requests)
+        } else if self.refused < SPARE {
+            Some(Purpose::Refusal)
+        } else {
+            None
+        }
+    }
+
+    /// How many bytes a user has taken, on its connection.
+    pub fn taken(&self, key: usize) -> u64 {
+        match self.all.get(key) {
+            Some(seat) => taken_by(&seat.user),
+            None => 0,
+        }
+    }
+
+    /// Whether no seat is taken.
+    pub fn is_empty(&self) -> bool {
+        self.all.is_empty()
+    }
+
+    /// Takes a seat for a user's connection of this number at this moment, in milliseconds, and says what it is for. `None` if no
+    /// seat is free.
+    pub fn take(&mut self, number: u64, place: Place, millis: u64) -> Option<(usize, Purpose)> {
+        let purpose = self.next_purpose()?;
+        let since = self.next_stay();
+        if self.all.reserve(1).is_err() || self.all.vacant_key() >= self.bound() {
+            return None;
+        }
+        let key = self.all.insert_reserved(Seat {
+            purpose,
+            number,
+            place,
+            came: millis,
+            moved: millis / SECOND,
+            stay: match purpose {
+                Purpose::Requests => Stay::Head,
+                Purpose::Refusal => Stay::Exchange,
+            },
+            since,
+            waits: None,
+            user: None,
+            origin: None,
+            service: None,
+        });
+        if purpose == Purpose::Refusal {
+            self.refused = self.refused.saturating_add(1);
+        }
+        Some((key, purpose))
+    }
+
+    /// Leaves a seat.
+    pub fn leave(&mut self, key: usize) {
+        match self.all.try_remove(key) {
+            Some(seat) if seat.purpose == Purpose::Refusal => {
+                self.refused = self.refused.saturating_sub(1);
+            }
+            _ => {}
+        }
+    }
+
+    /// The number of the user's connection, in the order of acceptance.
+    pub fn number(&self, key: usize) -> u64 {
+        match self.all.get(key) {
+            Some(seat) => seat.number,
+            None => 0,
+        }
+    }
+
+    /// The number of the next stay.
+    fn next_stay(&mut self) -> u64 {
+        self.stays = self.stays.saturating_add(1);
+        self.stays
+    }
+
+    /// Takes note of what a user's connection is in the midst of from now on.
+    pub fn begin_stay(&mut self, key: usize, stay: Stay) {
+        let since = self.next_stay();
+        if let Some(seat) = self.all.get_mut(key)
+            && seat.purpose == Purpose::Requests
+            && seat.stay != stay
+        {
+            seat.stay = stay;
+            seat.since = since;
+        }
+    }
+
+    /// A request comes on a user's connection, of which nothing was read yet: it isn't spared before it is driven.
+    pub fn await_head(&mut self, key: usize) {
+        self.begin_stay(key, Stay::Exchange);
+    }
+
+    /// The connection under a key at this moment, in milliseconds, where it is spared rather than the best one so far.
+    pub fn better(&self, key: usize, millis: u64, best: Option<Spared>) -> Option<Spared> {
+        let seat = self.all.get(key)?;
+        let this = spared_of(key, seat.stay, millis.saturating_sub(seat.came), seat.since)?;
+        match best {
+            Some(best) if !this.comes_before(&best) => None,
+            _ => Some(this),
+        }
+    }
+
+    /// Whether the user's connection is gone both ways.
+    pub fn is_gone(&self, key: usize) -> bool {
+        match self.all.get(key) {
+            Some(
+                Seat {
+                    user: Some(user),
+                    ..
+                },
+            ) => user.has_failed(),
+            _ => false,
+        }
+    }
+
+    /// A message waits for a connection to its service. One that waited before has waited since then.
+    pub fn begin_wait(&mut self, key: usize, now: u64) {
+        if let Some(seat) = self.all.get_mut(key)
+            && seat.waits.is_none()
+        {
+            seat.waits = Some(now);
+        }
+    }
+
+    /// A further message comes, which hasn't waited.
+    pub fn end_wait(&mut self, key: usize) {
+        if let Some(seat) = self.all.get_mut(key) {
+            seat.waits = None;
+        }
+    }
+
+    /// Whether it has waited for more than this number of seconds: that is never early, and a second late at most.
+    pub fn has_waited(&self, key: usize, now: u64, seconds: u64) -> bool {
+        match self.all.get(key) {
+            Some(
+                Seat {
+                    waits: Some(since),
+                    ..
+                },
+            ) => now.saturating_sub(*since) > seconds,
+            _ => false,
+        }
+    }
+
+    /// A byte moved, or the exchange went on.
+    pub fn touch(&mut self, key: usize, now: u64) {
+        if let Some(seat) = self.all.get_mut(key) {
+            seat.moved = now;
+        }
+    }
+
+    /// Whether more than this number of seconds have passed without a moved byte. Moments are whole seconds, so that is a second late
+    /// at most, and never early.
+    pub fn is_late(&self, key: usize, now: u64, seconds: u64) -> bool
+        ensures { result ≡ is_late self.now key now seconds }
+    {
+        match self.all.get(key) {
+            Some(seat) => now.saturating_sub(seat.moved) > seconds,
+            None => true,
+        }
+    }
+
+    /// Takes note of an event. False if it says nothing new.
+    pub fn note(&self, key: usize, side: Side, told: Told) -> bool {
+        let Some(seat) = self.all.get(key) else {
+            return false;
+        };
+        let ready = match side {
+            Side::User => &seat.user,
+            Side::Origin => &seat.origin,
+            Side::Service => &seat.service,
+        };
+        match ready {
+            Some(ready) => {
+                let gone = told.failed && ready.fail();
+                ready.note(told.readable, told.writable, told.closed) || gone
+            }
+            None => false,
+        }
+    }
+
+    /// Keeps the readiness of a connection, in place of that of another one.
+    fn keep(
+        &mut self,
+        key: usize,
+        side: Side,
+        ready: Option<Arc<Readiness>>,
+    ) -> Option<Arc<Readiness>> {
+        let seat = self.all.get_mut(key)?;
+        match side {
+            Side::User => mem::replace(&mut seat.user, ready),
+            Side::Origin => mem::replace(&mut seat.origin, ready),
+            Side::Service => mem::replace(&mut seat.service, ready),
+        }
+    }
+
+    /// A wire over a stream to a peer of the role `P`, which the poll reports. The stream comes back if the system refuses, or no
+    /// memory was found.
+    pub fn wire<P: Role>(
+        &mut self,
+        registry: &Registry,
+        key: usize,
+        ready: Readiness,
+        stream: TcpStream,
+    ) -> Result<SocketWire<P>, TcpStream> {
+        let Ok(ready) = Arc::new(self.alloc, ready) else {
+            return Err(stream);
+        };
+        let Ok(told) = Arc::clone(&ready) else {
+            return Err(stream);
+        };
+        let wire = SocketWire::new(stream, ready);
+        match self.enlist(registry, key, wire, told) {
+            Ok(wire) => Ok(wire),
+            Err(wire) => Err(wire.into_stream()),
+        }
+    }
+
+    /// Has the poll report a wire. It comes back if the system refuses.
+    pub fn enlist<P: Role>(
+        &mut self,
+        registry: &Registry,
+        key: usize,
+        wire: SocketWire<P>,
+        ready: Arc<Readiness>,
+    ) -> Result<SocketWire<P>, SocketWire<P>> {
+        let mut wire = wire;
+        if key > MAX_KEY
+            || wire
+                .register(registry, Token(token_of(key, P::SIDE)))
+                .is_err()
+        {
+            return Err(wire);
+        }
+        let _ = self.keep(key, P::SIDE, Some(ready));
+        Ok(wire)
+    }
+
+    /// The readiness of a service's connection that leaves the exchange.
+    pub fn dismiss(&mut self, key: usize) -> Option<Arc<Readiness>> {
+        self.keep(key, Side::Service, None)
+    }
+}

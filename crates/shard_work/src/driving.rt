@@ -1,0 +1,113 @@
+//! How an exchange is driven: step by step, until others get their turn.
+
+ghost use Rattle.std.specs.Prelude.{◌≡◌, true};
+
+use crate::exchanges::Exchanges;
+use event_loop::Driven;
+use exchange_core::Place;
+use shard_desk::Spot;
+use shard_exchange::{Lingered, Step};
+use shard_seats::Stay;
+use socket_wire::Dial;
+use std::sync::Wait;
+use std::time::Clock;
+use wire_kit::Gate;
+
+/// The most steps of an exchange at its connections before others get their turn. Each is one round of a transaction's turns at most.
+const ROUNDS: u32 = 8;
+
+/// The most steps of an exchange before others get their turn, with those that are made without its connections.
+const STEPS: u32 = 64;
+
+/// What a user's connection is in the midst of, as far as it may be spared.
+fn stay_of(place: Place) -> Stay {
+    match place {
+        Place::Idle => Stay::Idle,
+        Place::Head => Stay::Head,
+        Place::Refusing { .. } | Place::Closing | Place::Gone => Stay::End,
+        _ => Stay::Exchange,
+    }
+}
+
+/// Whether a step here is one at a connection: a message is read, moves, or waits.
+fn is_round(place: Place) -> bool {
+    !matches!(
+        place,
+        Place::Planning { .. } | Place::Preparing { .. } | Place::AtGate { .. }
+    )
+}
+
+/// Whether no message is under way: no request was read, or its answer is over.
+fn is_between(place: Place) -> bool {
+    matches!(
+        place,
+        Place::Idle | Place::Head | Place::Closing | Place::Gone
+    )
+}
+
+/// A step of an exchange. Its seat is touched where it went on; but what the proxy itself says at the end is written, and the connection
+/// closed after it, within one deadline.
+fn take_step<D: Exchanges, R: Wait + Dial + Clock, G: Gate>(
+    desk: &mut D,
+    at: &Spot<'_, R, G>,
+    exchange: &mut D::Exchange,
+) -> Step
+    ensures { result ≡ Step.Over → D.is_over exchange.new ≡ true }
+{
+    let before = stay_of(D::place(exchange));
+    let step = desk.step(at, exchange);
+    let place = D::place(exchange);
+    if step == Step::On && before != Stay::End {
+        desk.seats_mut().touch(at.key, at.now);
+    }
+    desk.seats_mut().begin_stay(at.key, stay_of(place));
+    if is_between(place) {
+        desk.report(at.rt, at.key);
+    }
+    step
+}
+
+/// Drives an exchange until each of its connections waits, or others should get their turn. One whose user is gone ends.
+pub(crate) fn drive_on<D: Exchanges, R: Wait + Dial + Clock, G: Gate>(
+    desk: &mut D,
+    at: &Spot<'_, R, G>,
+    exchange: &mut D::Exchange,
+) -> Driven
+    ensures { result ≡ Driven.Over → D.is_over exchange.new ≡ true }
+{
+    let mut rounds = 0u32;
+    for _ in 0..STEPS {
+        if desk.seats().is_gone(at.key) {
+            desk.lose(at, exchange);
+            return Driven::Over;
+        }
+        if is_round(D::place(exchange)) {
+            if rounds >= ROUNDS {
+                return Driven::CutShort;
+            }
+            rounds = rounds.saturating_add(1);
+        }
+        match take_step(desk, at, exchange) {
+            Step::On => {}
+            Step::Waits => return Driven::Waiting,
+            Step::Over => return Driven::Over,
+        }
+    }
+    Driven::CutShort
+}
+
+/// Has the user of an exchange that was ended take its refusal, and drops what it still sends. `Over` where it is gone, or sends no more.
+pub(crate) fn leave_on<D: Exchanges, R: Wait + Dial + Clock, G: Gate>(
+    desk: &mut D,
+    at: &Spot<'_, R, G>,
+    exchange: &mut D::Exchange,
+) -> Driven {
+    if desk.seats().is_gone(at.key) {
+        return Driven::Over;
+    }
+    match desk.take_leave(at, exchange) {
+        Lingered::Over => Driven::Over,
+        Lingered::Waiting => Driven::Waiting,
+        Lingered::CutShort => Driven::CutShort,
+    }
+}

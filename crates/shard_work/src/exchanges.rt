@@ -1,0 +1,231 @@
+//! What the slots of a thread ask of its exchanges.
+
+ghost use Rattle.std.specs.Prelude.{◌≡◌, Bool, true};
+ghost use Rattle.exchange_core.specs.Dues.{is_over};
+
+use event_loop::USER;
+use exchange_core::Place;
+use mio::net::TcpStream;
+use proxy_rules::Incoming;
+use service_lines::{Edge, POINTS};
+use shard_desk::{Desk, Shares, Spot, pools_of};
+use shard_exchange::{Exchange, Lingered, Step};
+use shard_seats::{Purpose, Seats};
+use socket_wire::{Dial, Unread, UserWire};
+use std::alloc::Global;
+use std::boxed::Box;
+use std::sync::Wait;
+use std::time::Clock;
+use wire_kit::Gate;
+
+/// The exchanges of a thread: what they have in common, and what becomes of each.
+///
+/// An exchange may have a reservation or a lease, so it has no `Drop`: it is let go only once it is over.
+pub trait Exchanges {
+    /// A user's connection, with what is held for it.
+    type Exchange;
+
+    // the user's connection is over, and nothing is held for it
+    ghost is_over: { Self.Exchange → Bool };
+
+    fn alloc(&self) -> Global;
+
+    fn seats(&self) -> &Seats;
+
+    fn seats_mut(&mut self) -> &mut Seats;
+
+    /// A user comes to the seat of this key.
+    fn enter(&mut self, key: usize, purpose: Purpose, stream: &TcpStream);
+
+    /// The user under this key has left: the seat is free.
+    fn leave<R: Wait + Clock>(&mut self, rt: &R, key: usize);
+
+    /// The message under this key is over, if one was open: it is counted, and its line added to the log.
+    fn report<R: Wait + Clock>(&mut self, rt: &R, key: usize);
+
+    /// The loop ends with this exchange in its midst: what became of its message is noted, and that it was stopped.
+    fn abandon(&mut self, key: usize, exchange: &Self::Exchange);
+
+    /// What a user's connection begins with: its first request, or the refusal where there is no room for it, or no memory.
+    fn first(&self, user: UserWire, purpose: Purpose) -> Self::Exchange;
+
+    /// A step of an exchange.
+    fn step<R: Wait + Dial + Clock, G: Gate>(
+        &mut self,
+        at: &Spot<'_, R, G>,
+        exchange: &mut Self::Exchange,
+    ) -> Step
+        ensures { result ≡ Step.Over → is_over exchange.new ≡ true };
+
+    /// Ends an exchange whose user is gone, or has to go.
+    fn lose<R: Wait + Dial + Clock, G: Gate>(
+        &mut self,
+        at: &Spot<'_, R, G>,
+        exchange: &mut Self::Exchange,
+    )
+        ensures { is_over exchange.new ≡ true };
+
+    /// Ends an exchange because the proxy stops. Its user is refused where no byte of an answer is out.
+    fn halt<R: Wait + Dial + Clock, G: Gate>(
+        &mut self,
+        at: &Spot<'_, R, G>,
+        exchange: &mut Self::Exchange,
+    );
+
+    /// Has the user of an exchange that was halted take its refusal, and drops what it still sends.
+    fn take_leave<R: Wait + Dial + Clock, G: Gate>(
+        &mut self,
+        at: &Spot<'_, R, G>,
+        exchange: &mut Self::Exchange,
+    ) -> Lingered;
+
+    /// Has an exchange be the last one of its connection.
+    fn drain(exchange: &mut Self::Exchange);
+
+    /// What the user's connection is in the midst of.
+    fn place(exchange: &Self::Exchange) -> Place;
+
+    /// Whether no byte of a request was read, but some have come that no event has reported yet.
+    fn is_wanted(exchange: &Self::Exchange) -> bool;
+
+    /// Whether the user's connection is over, and nothing is held for it.
+    fn is_over(exchange: &Self::Exchange) -> bool
+        ensures { result ≡ is_over exchange.now };
+
+    /// Lets an exchange go that is over.
+    fn finish(exchange: Self::Exchange)
+        requires { is_over exchange ≡ true };
+
+    /// Closes idle connections to services, where they keep the next user out, and says whether it has room then. `None` where they
+    /// don't.
+    fn close_idle<R: Wait>(&mut self, rt: &R) -> Option<bool>;
+
+    /// How many queues there are for connections to services.
+    fn queues(&self) -> usize;
+
+    /// The key of the exchange that is first in a queue, where it is one of these.
+    fn first_of<R: Wait>(&self, rt: &R, queue: usize) -> Option<usize>;
+}
+
+impl<S: Shares> Exchanges for Desk<S> {
+    type Exchange = Exchange<Desk<S>>;
+
+    ghost is_over = { λ exchange. is_over exchange.course };
+
+    fn alloc(&self) -> Global {
+        self.alloc
+    }
+
+    fn seats(&self) -> &Seats {
+        &self.seats
+    }
+
+    fn seats_mut(&mut self) -> &mut Seats {
+        &mut self.seats
+    }
+
+    fn enter(&mut self, key: usize, purpose: Purpose, stream: &TcpStream) {
+        Desk::enter(self, key, purpose, stream);
+    }
+
+    fn leave<R: Wait + Clock>(&mut self, rt: &R, key: usize) {
+        Desk::leave(self, rt, key);
+    }
+
+    fn report<R: Wait + Clock>(&mut self, rt: &R, key: usize) {
+        Desk::report(self, rt, key);
+    }
+
+    fn abandon(&mut self, key: usize, exchange: &Exchange<Desk<S>>) {
+        Desk::abandon(self, key, exchange.seen());
+    }
+
+    fn first(&self, user: UserWire, purpose: Purpose) -> Exchange<Desk<S>> {
+        match purpose {
+            Purpose::Requests => {
+                match Box::new(self.alloc, Incoming::request(self.alloc)) {
+                    Ok(message) => Exchange::begin(user, message),
+                    Err(_) => Exchange::turn_away(user),
+                }
+            }
+            Purpose::Refusal => Exchange::turn_away(user),
+        }
+    }
+
+    fn step<R: Wait + Dial + Clock, G: Gate>(
+        &mut self,
+        at: &Spot<'_, R, G>,
+        exchange: &mut Exchange<Desk<S>>,
+    ) -> Step {
+        exchange.step(at.rt, at, self)
+    }
+
+    fn lose<R: Wait + Dial + Clock, G: Gate>(
+        &mut self,
+        at: &Spot<'_, R, G>,
+        exchange: &mut Exchange<Desk<S>>,
+    ) {
+        exchange.lose(at.rt, at, self);
+    }
+
+    fn halt<R: Wait + Dial + Clock, G: Gate>(
+        &mut self,
+        at: &Spot<'_, R, G>,
+        exchange: &mut Exchange<Desk<S>>,
+    ) {
+        exchange.halt(at.rt, at, self);
+    }
+
+    fn take_leave<R: Wait + Dial + Clock, G: Gate>(
+        &mut self,
+        at: &Spot<'_, R, G>,
+        exchange: &mut Exchange<Desk<S>>,
+    ) -> Lingered {
+        exchange.take_leave(at.rt, at, self)
+    }
+
+    fn drain(exchange: &mut Exchange<Desk<S>>) {
+        exchange.drain();
+    }
+
+    fn place(exchange: &Exchange<Desk<S>>) -> Place {
+        exchange.place()
+    }
+
+    fn is_wanted(exchange: &Exchange<Desk<S>>) -> bool {
+        if exchange.has_begun() {
+            return false;
+        }
+        match exchange.user() {
+            Some(user) => user.unread() == Unread::Bytes,
+            None => false,
+        }
+    }
+
+    fn is_over(exchange: &Exchange<Desk<S>>) -> bool {
+        exchange.is_over()
+    }
+
+    fn finish(exchange: Exchange<Desk<S>>) {
+        exchange.finish();
+    }
+
+    fn close_idle<R: Wait>(&mut self, rt: &R) -> Option<bool> {
+        let pools = pools_of(&self.shared);
+        if pools.waiting.edge.is_crowded() {
+            Some(pools.make_room(rt, USER))
+        } else {
+            None
+        }
+    }
+
+    fn queues(&self) -> usize {
+        POINTS.len()
+    }
+
+    fn first_of<R: Wait>(&self, rt: &R, queue: usize) -> Option<usize> {
+        let point = *POINTS.get(queue)?;
+        let number = self.shared.number();
+        pools_of(&self.shared).waiting.first_of(rt, point, number)
+    }
+}

@@ -1,0 +1,337 @@
+//! The work of one thread: its exchanges, each in a slot.
+
+ghost use Rattle.std.specs.Prelude.{◌≡◌, true};
+ghost use Rattle.shard_work.specs.Slots.{ChangesOnly};
+
+use crate::driving::{drive_on, leave_on};
+use crate::exchanges::Exchanges;
+use event_loop::{Driven, Handed, Request, Slots, Told, Work};
+use http_side::own_refusal;
+use mio::Registry;
+use mio::net::TcpStream;
+use shard_desk::Spot;
+use shard_seats::SECOND;
+use socket_wire::{Dial, Readiness, Side};
+use std::alloc::{AllocError, Global};
+use std::io::Write;
+use std::sync::Wait;
+use std::time::Clock;
+use wire_kit::Gate;
+
+/// How far the loop's users are served.
+#[derive(Clone, Copy, Debug, PartialEq, Eq)]
+enum Service {
+    /// All of their requests.
+    Full,
+    /// Each exchange is the last one of its connection.
+    Draining,
+    /// None: all exchanges were ended.
+    Stopped,
+}
+
+/// The exchanges of one thread, each in the slot of its key. What is in a slot may have a reservation or a lease, so it has
+/// no `Drop`, and nothing is lost.
+pub struct Shard<'a, D: Exchanges, G> {
+    desk: D,
+    slots: Slots<D::Exchange>,
+    gate: &'a G,
+    service: Service,
+}
+
+/// Says to a user for whom there isn't even a seat to spare that it be back later, where that costs nothing.
+fn turn_away(stream: TcpStream) {
+    let mut stream = stream;
+    let _ = stream.write(own_refusal(503));
+}
+
+impl<'a, D: Exchanges + Drop, G: Gate> Shard<'a, D, G> {
+    /// A thread's work before the first user. `Err` where no memory was found.
+    pub fn new(alloc: Global, desk: D, gate: &'a G) -> Result<Shard<'a, D, G>, AllocError> {
+        let slots = Slots::new(alloc, desk.seats().bound())?;
+        Ok(Shard {
+            desk,
+            slots,
+            gate,
+            service: Service::Full,
+        })
+    }
+
+    /// The slots, once the exchanges that are still open are reported. All else goes.
+    pub fn into_slots<R: Wait + Clock>(self, rt: &R) -> Vec<Option<D::Exchange>> {
+        let Shard {
+            desk,
+            slots,
+            gate: _,
+            service: _,
+        } = self;
+        let mut desk = desk;
+        for key in 0..slots.count() {
+            if let Some(exchange) = slots.get(key) {
+                desk.abandon(key, exchange);
+            }
+            desk.report(rt, key);
+        }
+        slots.into_all()
+    }
+
+    /// Puts an exchange into the slot of its key, from which it was taken. What comes back, which is nothing, ends.
+    fn keep<R: Wait + Dial + Clock>(&mut self, at: &Spot<'_, R, G>, exchange: D::Exchange)
+        ensures { ChangesOnly at.entry.now.key self.old.slots.all.items self.new.slots.all.items }
+    {
+        if let Some(old) = self.slots.place(at.key, exchange) {
+            let mut old = old;
+            self.desk.lose(at, &mut old);
+            D::finish(old);
+        }
+    }
+
+    /// Drives the exchange under this key, which is the last one of its connection where users are let go. No other exchange is
+    /// touched.
+    fn drive_slot<R: Wait + Dial + Clock>(&mut self, at: &Spot<'_, R, G>) -> Driven
+        ensures { ChangesOnly at.entry.now.key self.old.slots.all.items self.new.slots.all.items }
+    {
+        let Some(exchange) = self.slots.take(at.key) else {
+            return Driven::Over;
+        };
+        let mut exchange = exchange;
+        if self.service == Service::Draining {
+            D::drain(&mut exchange);
+        }
+        match drive_on(&mut self.desk, at, &mut exchange) {
+            Driven::Over => {
+                D::finish(exchange);
+                self.desk.leave(at.rt, at.key);
+                Driven::Over
+            }
+            driven => {
+                self.keep(at, exchange);
+                driven
+            }
+        }
+    }
+
+    /// Ends the exchange under this key, and all of its connections.
+    fn end_slot<R: Wait + Dial + Clock>(&mut self, at: &Spot<'_, R, G>) {
+        if let Some(exchange) = self.slots.take(at.key) {
+            let mut exchange = exchange;
+            self.desk.lose(at, &mut exchange);
+            D::finish(exchange);
+        }
+        self.desk.leave(at.rt, at.key);
+    }
+
+    /// Ends the exchange under this key, because the proxy stops.
+    fn halt_slot<R: Wait + Dial + Clock>(&mut self, at: &Spot<'_, R, G>) {
+        let Some(exchange) = self.slots.take(at.key) else {
+            return;
+        };
+        let mut exchange = exchange;
+        self.desk.halt(at, &mut exchange);
+        self.desk.report(at.rt, at.key);
+        self.keep(at, exchange);
+    }
+
+    /// Drives on an exchange that was ended: its user takes its refusal, and may still send. Once it sends no more all is given back.
+    fn take_leave<R: Wait + Dial + Clock>(&mut self, at: &Spot<'_, R, G>) -> Driven {
+        let Some(exchange) = self.slots.take(at.key) else {
+            return Driven::Over;
+        };
+        let mut exchange = exchange;
+        match leave_on(&mut self.desk, at, &mut exchange) {
+            Driven::Over => {
+                self.desk.lose(at, &mut exchange);
+                D::finish(exchange);
+                self.desk.leave(at.rt, at.key);
+                Driven::Over
+            }
+            driven => {
+                self.keep(at, exchange);
+                driven
+            }
+        }
+    }
+
+    /// The key of the user that can best be spared. One whose request has just come isn't.
+    fn best_spared(&mut self, millis: u64) -> Option<usize> {
+        let mut best = None;
+        for key in 0..self.slots.count() {
+            if let Some(better) = self.desk.seats().better(key, millis, best) {
+                if self.is_wanted(key) {
+                    self.desk.seats_mut().await_head(key);
+                } else {
+                    best = Some(better);
+                }
+            }
+        }
+        match best {
+            Some(best) => Some(best.key),
+            None => None,
+        }
+    }
+
+    /// Closes the connection of the user that can best be spared. False if there is no such user.
+    fn spare_user<R: Wait + Dial + Clock>(
+        &mut self,
+        rt: &R,
+        registry: &Registry,
+        millis: u64,
+    ) -> bool {
+        let Some(key) = self.best_spared(millis) else {
+            return false;
+        };
+        let gate = self.gate;
+        let now = millis / SECOND;
+        self.end_slot(&Spot {
+            rt,
+            registry,
+            gate,
+            key,
+            now,
+        });
+        true
+    }
+
+    /// Whether no byte of a request was read on the connection under this key, but some have come that no event has reported yet.
+    fn is_wanted(&self, key: usize) -> bool {
+        match self.slots.get(key) {
+            Some(exchange) => D::is_wanted(exchange),
+            None => false,
+        }
+    }
+}
+
+impl<'a, D: Exchanges + Drop, G: Gate> Work for Shard<'a, D, G> {
+    fn admit<R: Wait + Dial + Clock>(
+        &mut self,
+        rt: &R,
+        registry: &Registry,
+        user: Handed,
+        millis: u64,
+    ) -> Option<usize> {
+        let Handed {
+            stream,
+            number,
+            place,
+        } = user;
+        if !self.desk.seats().has_room() {
+            let _ = self.spare_user(rt, registry, millis);
+        }
+        let Some((key, purpose)) = self.desk.seats_mut().take(number, place, millis) else {
+            turn_away(stream);
+            return None;
+        };
+        self.desk.enter(key, purpose, &stream);
+        let ready = Readiness::new();
+        match self.desk.seats_mut().wire(registry, key, ready, stream) {
+            Ok(user) => {
+                let gate = self.gate;
+                let now = millis / SECOND;
+                let exchange = self.desk.first(user, purpose);
+                self.keep(
+                    &Spot {
+                        rt,
+                        registry,
+                        gate,
+                        key,
+                        now,
+                    },
+                    exchange,
+                );
+                Some(key)
+            }
+            Err(stream) => {
+                self.desk.leave(rt, key);
+                turn_away(stream);
+                None
+            }
+        }
+    }
+
+    /// Idle connections to services go first, where they keep the user out.
+    fn make_room<R: Wait + Dial + Clock>(
+        &mut self,
+        rt: &R,
+        registry: &Registry,
+        millis: u64,
+    ) -> bool {
+        match self.desk.close_idle(rt) {
+            Some(has_room) => has_room,
+            None => self.spare_user(rt, registry, millis),
+        }
+    }
+
+    fn note(&mut self, key: usize, side: Side, told: Told) -> bool {
+        self.desk.seats().note(key, side, told)
+    }
+
+    fn drive<R: Wait + Dial + Clock>(
+        &mut self,
+        rt: &R,
+        registry: &Registry,
+        key: usize,
+        now: u64,
+    ) -> Driven {
+        let gate = self.gate;
+        let at = Spot {
+            rt,
+            registry,
+            gate,
+            key,
+            now,
+        };
+        match self.service {
+            Service::Full | Service::Draining => self.drive_slot(&at),
+            Service::Stopped => self.take_leave(&at),
+        }
+    }
+
+    fn queues(&self) -> usize {
+        self.desk.queues()
+    }
+
+    fn first_of<R: Wait>(&self, rt: &R, queue: usize) -> Option<usize> {
+        self.desk.first_of(rt, queue)
+    }
+
+    fn bound(&self) -> usize {
+        self.slots.count()
+    }
+
+    fn is_idle(&self) -> bool {
+        self.desk.seats().is_empty()
+    }
+
+    /// None comes here: the administrator has a loop of its own.
+    fn answer<R: Wait>(
+        &mut self,
+        _rt: &R,
+        _request: Request,
+        _now: u64,
+    ) -> Result<Vec<u8>, AllocError> {
+        b"bad\n".to_vec(self.desk.alloc())
+    }
+
+    fn patience(&self) -> Option<u64> {
+        None
+    }
+
+    fn turn_over<R: Wait>(&mut self, _rt: &R) {}
+
+    fn drain(&mut self) {
+        self.service = Service::Draining;
+    }
+
+    fn halt<R: Wait + Dial + Clock>(&mut self, rt: &R, registry: &Registry, now: u64) {
+        self.service = Service::Stopped;
+        for key in 0..self.slots.count() {
+            let gate = self.gate;
+            self.halt_slot(&Spot {
+                rt,
+                registry,
+                gate,
+                key,
+                now,
+            });
+        }
+    }
+}
