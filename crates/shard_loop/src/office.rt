@@ -15,6 +15,18 @@ use trace_core::Point;
 /// How many milliseconds lines of the log may wait to be written.
 const LINES_WAIT: u64 = 50;
 
+/// What became of a new capacity, as a line.
+fn changed_text(alloc: Global, changed: Result<(), CapacityFault>) -> Result<Vec<u8>, AllocError> {
+    match changed {
+        Ok(()) => b"ok\n".to_vec(alloc),
+        Err(CapacityFault::TooLow { claimed }) => {
+            let text = format!(in alloc; "refused {claimed}\n")?;
+            Ok(text.into_bytes())
+        }
+        Err(CapacityFault::NoMemory) => b"out of memory\n".to_vec(alloc),
+    }
+}
+
 /// What the administrator's loop answers from. It also writes the log.
 #[derive(Drop)]
 pub struct Office<'a, S, F: Append> {
@@ -34,7 +46,7 @@ impl<'a, S: Shares, F: Append> Office<'a, S, F> {
         }
     }
 
-    fn say_book<R: Wait>(&mut self, rt: &R) -> Result<Vec<u8>, AllocError> {
+    fn say_book<R: Wait>(&self, rt: &R) -> Result<Vec<u8>, AllocError> {
         let book = self.shared.bank().book(rt, None);
         let rows = book.rows;
         let held = book.held;
@@ -46,16 +58,11 @@ impl<'a, S: Shares, F: Append> Office<'a, S, F> {
         Ok(text.into_bytes())
     }
 
-    fn set_capacity<R: Wait>(&mut self, rt: &R, n: u64) -> Result<Vec<u8>, AllocError> {
+    fn set_capacity<R: Wait>(&self, rt: &R, n: u64) -> Result<Vec<u8>, AllocError> {
         let size = n.max(1).min(MAX_CAPACITY);
-        match change_capacity(rt, self.shared.bank(), self.shared.log(), size) {
-            Ok(()) => b"ok\n".to_vec(self.alloc),
-            Err(CapacityFault::TooLow { claimed }) => {
-                let text = format!(in self.alloc; "refused {claimed}\n")?;
-                Ok(text.into_bytes())
-            }
-            Err(CapacityFault::NoMemory) => b"out of memory\n".to_vec(self.alloc),
-        }
+        let shared = &self.shared;
+        let changed = change_capacity(rt, shared.bank(), shared.log(), size);
+        changed_text(self.alloc, changed)
     }
 
     /// What the loops share, at this number of seconds after the start.
