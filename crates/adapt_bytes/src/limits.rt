@@ -26,12 +26,6 @@ pub const MAX_WINDOW: u64 = 65_536;
 /// The largest input that a program reads, in bytes: a configuration, a script of events, chunks to read.
 pub const MAX_INPUT: usize = 1_048_576;
 
-/// The largest capacity of a buffer budget, in bytes.
-pub const MAX_CAPACITY: u64 = 1 << 40;
-
-/// The largest number of reservations that a buffer budget can have open.
-pub const MAX_ROWS: u64 = 4096;
-
 /// The largest size of a short text that is written without allocating, in bytes.
 pub const MAX_SMALL: usize = 64;
 

@@ -1,6 +1,6 @@
 -- The bytes of a tape by their places, whatever pages they lie on; and the tapes of a reservation with their pages.
 use Rattle.std.specs.Prelude.{◌≡◌, ℕ, ◌+◌, ◌-◌, ◌<◌, ◌≤◌, List, length, drop}
-use Rattle.adapt_bytes.specs.declared.limits.TheConstants.{MAX_CAPACITY}
+use Rattle.span_bank.specs.declared.limits.TheConstants.{MAX_CAPACITY}
 use Rattle.span_tape.specs.Tape.{Tape, pages_in}
 use Rattle.span_bank.specs.declared.step.TheConstants.{PAGE_BYTES}
 use Rattle.span_bank.specs.Stakes.{Shown}

@@ -1,7 +1,7 @@
 //! A transaction's history, the body bytes that it holds, and its reservation, kept in step.
 
 ghost use Rattle.std.specs.Prelude.{◌≡◌, ◌+◌, ◌-◌, ◌≤◌, ◌<◌, ℕ, List, [], ◌∷◌, ◌++◌, length, Some, None, true, false, OnOk, OnErr, MatchResult};
-ghost use Rattle.adapt_bytes.specs.declared.limits.TheConstants.{MAX_CAPACITY};
+ghost use Rattle.span_bank.specs.declared.limits.TheConstants.{MAX_CAPACITY};
 ghost use Rattle.trace_core.specs.History.{seen};
 ghost use Rattle.trace_core.specs.Legal.{MayFollow};
 ghost use Rattle.trace_core.specs.Faults.{first_fault};
@@ -78,7 +78,7 @@ fn step(state: &mut State, event: Event) -> Result<(), StepFault>
 }
 
 /// Lowers a reservation at a reply to what may still be needed.
-fn settle<B: Ledgers>(
+fn lower_claim<B: Ledgers>(
     rt: &impl Wait,
     bank: &Bank<B>,
     store: &mut Store<B>,
@@ -241,7 +241,7 @@ impl<B: Ledgers> Hold<B> {
         let original = self.state.held_original().0;
         let adapted = self.state.held_adapted().0;
         self.store.let_go(rt, bank, original, adapted);
-        settle(rt, bank, &mut self.store, &self.state, &self.limits, event);
+        lower_claim(rt, bank, &mut self.store, &self.state, &self.limits, event);
         Ok(())
     }
 

@@ -1,7 +1,8 @@
 //! The bytes that a transaction holds, on the pages of its reservation.
 
 ghost use Rattle.std.specs.Prelude.{◌≡◌, ◌+◌, ◌-◌, ◌≤◌, ◌<◌, ◌++◌, [], length};
-ghost use Rattle.adapt_bytes.specs.declared.limits.TheConstants.{COUNT_LIMIT, MAX_CAPACITY};
+ghost use Rattle.adapt_bytes.specs.declared.limits.TheConstants.{COUNT_LIMIT};
+ghost use Rattle.span_bank.specs.declared.limits.TheConstants.{MAX_CAPACITY};
 ghost use Rattle.span_tape.specs.Tape.{end_of, from_place, page_count, pages_in};
 ghost use Rattle.span_tape.specs.declared.tape.TheConstants.{MAX_TAPE};
 ghost use Rattle.span_bank.specs.Stakes.{most_pages};

@@ -100,7 +100,7 @@ pub trait Service {
         ensures reason { IsExplained (fault self.old) (λ fault. has_reason fault (seen state.now.plan state.now.events) self.new) result };
 
     /// Begins the request anew, for a fresh connection, if a Retry may follow: all of its text is still kept.
-    fn again(&mut self)
+    fn restart(&mut self)
         ensures sent { (x : Seen) (heads came taken adapted read : List ℕ) → x.closed ≡ false → Allows x Retry → length came ≡ x.received
             → has_sent heads x came taken self.old → has_heard x adapted read self.old → has_sent heads (after x Retry) came [] self.new }
         ensures heard { (x : Seen) (heads came taken adapted read : List ℕ) → x.closed ≡ false → Allows x Retry → length came ≡ x.received

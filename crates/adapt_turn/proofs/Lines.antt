@@ -8,7 +8,7 @@ use Rattle.wire_kit.specs.declared.wire.Wire.{Ghosts as Wire}
 use Rattle.adapt_sides.specs.declared.service.Service.{Ghosts as Service}
 use Rattle.adapt_hold.specs.Holding.{Holding, IsTied, shows}
 use Rattle.adapt_turn.specs.declared.steps.Passed.{Passed}
-use Rattle.adapt_turn.specs.declared.ends.Line.{Line}
+use Rattle.adapt_turn.specs.declared.ends.ServiceEnd.{ServiceEnd}
 use Rattle.adapt_turn.specs.declared.turned.Side.TheVariants as sides
 use Rattle.adapt_turn.specs.Made.{wire_of, on_held}
 use Rattle.adapt_turn.specs.Parts.{Lent, lending, View, Report, Part, Breaks, FailsFor, IsOfSide, service_room, fault_of, outcome_by, outcome_of}
@@ -86,7 +86,7 @@ both_passes v w reused old mid new first second passed tied tied' c c' whole bot
     }
 
 -- What a pass of the line says, whether a connection is held or not.
-pub record LineTold {V W : Type 0} (v : Service V) (w : Wire W) (reused : Bool) (old : Holding) (line : Option (Line V W)) (new : Holding) (line' : Option (Line V W)) (passed : Passed) : Type 0 where
+pub record LineTold {V W : Type 0} (v : Service V) (w : Wire W) (reused : Bool) (old : Holding) (line : Option (ServiceEnd V W)) (new : Holding) (line' : Option (ServiceEnd V W)) (passed : Passed) : Type 0 where
   pub waits : passed.waiting ≡ true → WaitedBoth (MatchOption line' ⊤ (λ l. v.rests_writing (shows old.history) l.side)) (MatchOption line' ⊤ (λ l. v.rests_reading (shows old.history) (service_room old) l.side))
       (λ p. on_held line ⊥ (λ wire. w.past wire p)) (λ p. on_held line' ⊥ (λ wire. w.past wire p))
   pub still : passed.waiting ≡ true → new ≡ old
@@ -105,7 +105,7 @@ pub record LineTold {V W : Type 0} (v : Service V) (w : Wire W) (reused : Bool) 
   pub served : wire_of line ≡ None → wire_of line' ≡ None
   pub absent : wire_of line ≡ None → passed.waiting ≡ true
 
-unheld_framed : {V W : Type 0} (line : Option (Line V W)) (this : V → Type 0) → wire_of line ≡ None → MatchOption line ⊤ (λ l. MatchOption l.wire ⊤ (λ wire. this l.side))
+unheld_framed : {V W : Type 0} (line : Option (ServiceEnd V W)) (this : V → Type 0) → wire_of line ≡ None → MatchOption line ⊤ (λ l. MatchOption l.wire ⊤ (λ wire. this l.side))
 unheld_framed None this e = tt
 unheld_framed (Some l) this e = unheld_wire l.wire (this l.side) e
   where
@@ -113,11 +113,11 @@ unheld_framed (Some l) this e = unheld_wire l.wire (this l.side) e
     unheld_wire None what n = tt
     unheld_wire (Some z) what n = cc
 
-unheld_past : {V W : Type 0} (line : Option (Line V W)) (past : W → Type 0) → wire_of line ≡ None → on_held line ⊥ past → ⊥
+unheld_past : {V W : Type 0} (line : Option (ServiceEnd V W)) (past : W → Type 0) → wire_of line ≡ None → on_held line ⊥ past → ⊥
 unheld_past None past e b = b
 unheld_past {V} {W} (Some l) past e b = subst (λ (z : Option W). MatchOption z ⊥ past) e b
 
-unheld_told : {V W : Type 0} (v : Service V) (w : Wire W) (reused : Bool) (h : Holding) (line : Option (Line V W)) → wire_of line ≡ None
+unheld_told : {V W : Type 0} (v : Service V) (w : Wire W) (reused : Bool) (h : Holding) (line : Option (ServiceEnd V W)) → wire_of line ≡ None
     → LineTold v w reused h line h line (record { waiting = true; failed = None; broken = false })
 unheld_told v w reused h line e = record {
   waits = λ n p b. absurd (unheld_past line (λ wire. w.past wire p) e b);
@@ -159,13 +159,13 @@ held_told v w reused h k side side' wire wire' passed p = record {
   absent = λ n. cc;
 }
 
-pub line_told : {V W : Type 0} {v : Service V} {w : Wire W} {reused : Bool} {h : Holding} {line : Option (Line V W)} {k : Holding} {line' : Option (Line V W)} {passed : Passed}
+pub line_told : {V W : Type 0} {v : Service V} {w : Wire W} {reused : Bool} {h : Holding} {line : Option (ServiceEnd V W)} {k : Holding} {line' : Option (ServiceEnd V W)} {passed : Passed}
     → LinePasses v w reused h line k line' passed → LineTold v w reused h line k line' passed
 line_told {V} {W} {v} {w} {reused} {h} {line} {k} {line'} {passed} p = elim p.did [
   | inl n ↦ subst (λ (z : Passed). LineTold v w reused h line k line' z) (sym n.3)
       (subst (λ (z : Holding). LineTold v w reused h line z line' (record { waiting = true; failed = None; broken = false })) (sym n.2)
-      (subst (λ (z : Option (Line V W)). LineTold v w reused h line h z (record { waiting = true; failed = None; broken = false })) (sym n.1) (unheld_told v w reused h line n.0)))
-  | inr m ↦ subst (λ (z : Option (Line V W)). LineTold v w reused h z k line' passed) (sym m.4)
-      (subst (λ (z : Option (Line V W)). LineTold v w reused h (Some (line_of m.0 m.2)) k z passed) (sym m.5)
+      (subst (λ (z : Option (ServiceEnd V W)). LineTold v w reused h line h z (record { waiting = true; failed = None; broken = false })) (sym n.1) (unheld_told v w reused h line n.0)))
+  | inr m ↦ subst (λ (z : Option (ServiceEnd V W)). LineTold v w reused h z k line' passed) (sym m.4)
+      (subst (λ (z : Option (ServiceEnd V W)). LineTold v w reused h (Some (line_of m.0 m.2)) k z passed) (sym m.5)
       (held_told v w reused h k m.0 m.1 m.2 m.3 passed m.6))
 ]

@@ -12,7 +12,7 @@ use Rattle.trace_core.specs.Turns.{after_all, MayAllFollow}
 use Rattle.trace_core.proofs.Sound.{sound}
 use Rattle.adapt_sides.specs.Turns.{Gift}
 use Rattle.adapt_sides.specs.Turns.Gift.{nothing, message}
-use Rattle.adapt_turn.specs.declared.ends.Line.{Line}
+use Rattle.adapt_turn.specs.declared.ends.ServiceEnd.{ServiceEnd}
 use Rattle.adapt_hold.specs.Holding.{shows}
 use Rattle.adapt_turn.specs.Stands.{HopsAre, IsChosen}
 use Rattle.adapt_turn.specs.Made.{IsMade, OfHead, MakesAt, adapted_of, response_of}
@@ -101,7 +101,7 @@ hops_told ng bg nm nm' bm bm' ngiven bgiven naside baside x body next back f g p
 
 -- The same of a transaction's two writers, by its maker, its source's head and its service's line.
 
-abbrev pub made_by : {Head Framing V W K : Type 0} → (Head → Seen → Option (List ℕ) → Bool → List ℕ → Framing → Type 0) → (K → Framing) → (V → Option (List ℕ)) → (V → Bool) → Head → Option (Line V W) → K → Seen → List ℕ → Type 0
+abbrev pub made_by : {Head Framing V W K : Type 0} → (Head → Seen → Option (List ℕ) → Bool → List ℕ → Framing → Type 0) → (K → Framing) → (V → Option (List ℕ)) → (V → Bool) → Head → Option (ServiceEnd V W) → K → Seen → List ℕ → Type 0
 made_by makes framing adapted_head is_response source line k x head = IsMade (makes source) (adapted_of adapted_head line) (response_of is_response line) (framing k) x head
 
 abbrev pub hops_of : {K : Type 0} → (K → Gift) → (Seen → List ℕ → List ℕ → List ℕ → K → Type 0) → (List ℕ → K → Type 0) → (K → Seen → List ℕ → Type 0) → K → K → Seen → List ℕ → List ℕ → List ℕ → Type 0
@@ -130,16 +130,16 @@ heads_idle gift given aside made made' next back x c n b body taken elsewhere p 
 
 -- the source keeps its head
 pub source_heads : {Head Framing V W K : Type 0} (makes : Head → Seen → Option (List ℕ) → Bool → List ℕ → Framing → Type 0) (framing : K → Framing) (adapted_head : V → Option (List ℕ)) (is_response : V → Bool)
-    (s s' : Head) (line : Option (Line V W)) (x : Seen) → s' ≡ s → (k : K) (head : List ℕ) → made_by makes framing adapted_head is_response s line k x head → made_by makes framing adapted_head is_response s' line k x head
+    (s s' : Head) (line : Option (ServiceEnd V W)) (x : Seen) → s' ≡ s → (k : K) (head : List ℕ) → made_by makes framing adapted_head is_response s line k x head → made_by makes framing adapted_head is_response s' line k x head
 source_heads {Head} makes framing adapted_head is_response s s' line x e k head m = subst (λ (z : Head). made_by makes framing adapted_head is_response z line k x head) (sym e) m
 
 -- the service's side keeps its own, once its message is chosen
 pub line_heads : {Head Framing V W K : Type 0} (makes : Head → Seen → Option (List ℕ) → Bool → List ℕ → Framing → Type 0) (framing : K → Framing) (adapted_head : V → Option (List ℕ)) (is_response : V → Bool)
-    (s : Head) (line : Option (Line V W)) (l m : Line V W) (x : Seen) → line ≡ Some l → (x.modified ≡ true → adapted_head m.side ≡ adapted_head l.side) → (x.modified ≡ true → is_response m.side ≡ is_response l.side)
+    (s : Head) (line : Option (ServiceEnd V W)) (l m : ServiceEnd V W) (x : Seen) → line ≡ Some l → (x.modified ≡ true → adapted_head m.side ≡ adapted_head l.side) → (x.modified ≡ true → is_response m.side ≡ is_response l.side)
     → (k : K) (head : List ℕ) → made_by makes framing adapted_head is_response s line k x head → made_by makes framing adapted_head is_response s (Some m) k x head
 line_heads {Head} {Framing} {V} {W} makes framing adapted_head is_response s line l m x e f g k head p =
     made_told (makes s) (adapted_head l.side) (adapted_head m.side) (is_response l.side) (is_response m.side) (framing k) x head (λ c. (f c, g c))
-    (subst (λ (z : Option (Line V W)). made_by makes framing adapted_head is_response s z k x head) e p)
+    (subst (λ (z : Option (ServiceEnd V W)). made_by makes framing adapted_head is_response s z k x head) e p)
 
 -- before a byte of a reply no adapted message is chosen
 

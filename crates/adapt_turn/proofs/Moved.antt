@@ -2,7 +2,7 @@
 use Rattle.std.proofs.Common.{◌≡◌, ℕ, Bool, true, false, ◌+◌, ◌-◌, ◌<◌, ◌^◌, length, Option, Some, None, arith, refl, sym, ◌∙◌, ap, subst}
 use Rattle.std.specs.Prelude.{MatchOption, ⊤, min}
 use Rattle.wire_kit.specs.Past.{Past}
-use Rattle.adapt_turn.specs.declared.ends.Line.{Line}
+use Rattle.adapt_turn.specs.declared.ends.ServiceEnd.{ServiceEnd}
 use Rattle.adapt_turn.specs.Made.{wire_of, on_held}
 use Rattle.adapt_turn.specs.Moved.{MovesOver, SumsBytes, AreCounts, counted}
 use Rattle.adapt_turn.specs.Rows.{BytesOr}
@@ -24,7 +24,7 @@ over_wire past None (Some m) c d f g none = absurd (let e : Some m ≡ None = no
 over_wire past (Some l) None c d f g none = λ p q b a. absurd a
 over_wire past (Some l) (Some m) c d f g none = moves_over (past l) (past m) c d f g
 
-over_line : {V W : Type 0} (past : W → Past → Type 0) (line line' : Option (Line V W)) (c d : ℕ × ℕ)
+over_line : {V W : Type 0} (past : W → Past → Type 0) (line line' : Option (ServiceEnd V W)) (c d : ℕ × ℕ)
     → on_held line ((c.0 ≡ 0) × (c.1 ≡ 0)) (λ w. AreCounts c (past w)) → on_held line' ((d.0 ≡ 0) × (d.1 ≡ 0)) (λ w. AreCounts d (past w)) → (wire_of line ≡ None → wire_of line' ≡ None)
     → on_held line (counted c d ≡ 0) (λ w. MovesOver (past w) (λ p. on_held line' ⊥ (λ m. past m p)) (counted c d))
 over_line {V} {W} past None None c d f g none = over_wire past None None c d f g none
@@ -33,7 +33,7 @@ over_line {V} {W} past (Some l) None c d f g none = over_wire past l.wire None c
 over_line {V} {W} past (Some l) (Some m) c d f g none = over_wire past l.wire m.wire c d f g none
 
 -- what the counts before and after a call say
-pub moves_of : {A C V W : Type 0} (on_source : A → Past → Type 0) (on_wire : W → Past → Type 0) (on_next : C → Past → Type 0) (a a' a2 : A) (line line' line2 : Option (Line V W)) (x x' x2 : C) (c0 d0 c1 d1 c2 d2 : ℕ × ℕ) (n : ℕ)
+pub moves_of : {A C V W : Type 0} (on_source : A → Past → Type 0) (on_wire : W → Past → Type 0) (on_next : C → Past → Type 0) (a a' a2 : A) (line line' line2 : Option (ServiceEnd V W)) (x x' x2 : C) (c0 d0 c1 d1 c2 d2 : ℕ × ℕ) (n : ℕ)
     → AreCounts c0 (on_source a) → AreCounts d0 (on_source a')
     → on_held line ((c1.0 ≡ 0) × (c1.1 ≡ 0)) (λ w. AreCounts c1 (on_wire w)) → on_held line' ((d1.0 ≡ 0) × (d1.1 ≡ 0)) (λ w. AreCounts d1 (on_wire w))
     → AreCounts c2 (on_next x) → AreCounts d2 (on_next x')
@@ -42,7 +42,7 @@ pub moves_of : {A C V W : Type 0} (on_source : A → Past → Type 0) (on_wire :
     → SumsBytes (MovesOver (on_source a) (on_source a2)) (λ k. on_held line (k ≡ 0) (λ w. MovesOver (on_wire w) (λ p. on_held line2 ⊥ (λ m. on_wire m p)) k)) (MovesOver (on_next x) (on_next x2)) n
 moves_of {A} {C} {V} {W} on_source on_wire on_next a a' a2 line line' line2 x x' x2 c0 d0 c1 d1 c2 d2 n f0 g0 f1 g1 f2 g2 none ea el ex e =
     subst (λ (z : A). SumsBytes (MovesOver (on_source a) (on_source z)) (λ k. on_held line (k ≡ 0) (λ w. MovesOver (on_wire w) (λ p. on_held line2 ⊥ (λ m. on_wire m p)) k)) (MovesOver (on_next x) (on_next x2)) n) (sym ea)
-    (subst (λ (z : Option (Line V W)). SumsBytes (MovesOver (on_source a) (on_source a')) (λ k. on_held line (k ≡ 0) (λ w. MovesOver (on_wire w) (λ p. on_held z ⊥ (λ m. on_wire m p)) k)) (MovesOver (on_next x) (on_next x2)) n) (sym el)
+    (subst (λ (z : Option (ServiceEnd V W)). SumsBytes (MovesOver (on_source a) (on_source a')) (λ k. on_held line (k ≡ 0) (λ w. MovesOver (on_wire w) (λ p. on_held z ⊥ (λ m. on_wire m p)) k)) (MovesOver (on_next x) (on_next x2)) n) (sym el)
     (subst (λ (z : C). SumsBytes (MovesOver (on_source a) (on_source a')) (λ k. on_held line (k ≡ 0) (λ w. MovesOver (on_wire w) (λ p. on_held line' ⊥ (λ m. on_wire m p)) k)) (MovesOver (on_next x) (on_next z)) n) (sym ex)
     (record {
       source = counted c0 d0;
@@ -58,7 +58,7 @@ moves_of {A} {C} {V} {W} on_source on_wire on_next a a' a2 line line' line2 x x'
 none_counted : (c0 c1 c2 : ℕ × ℕ) → 0 ≡ min (counted c0 c0 + counted c1 c1 + counted c2 c2) (2 ^ 64 - 1)
 none_counted c0 c1 c2 = let e : 0 ≡ counted c0 c0 + counted c1 c1 + counted c2 c2 = omega arith in ap (λ (k : ℕ). min k (2 ^ 64 - 1)) e
 
-pub moves_none : {A C V W : Type 0} (on_source : A → Past → Type 0) (on_wire : W → Past → Type 0) (on_next : C → Past → Type 0) (a a' : A) (line line' : Option (Line V W)) (x x' : C) (c0 c1 c2 : ℕ × ℕ) (n : ℕ)
+pub moves_none : {A C V W : Type 0} (on_source : A → Past → Type 0) (on_wire : W → Past → Type 0) (on_next : C → Past → Type 0) (a a' : A) (line line' : Option (ServiceEnd V W)) (x x' : C) (c0 c1 c2 : ℕ × ℕ) (n : ℕ)
     → AreCounts c0 (on_source a) → on_held line ((c1.0 ≡ 0) × (c1.1 ≡ 0)) (λ w. AreCounts c1 (on_wire w)) → AreCounts c2 (on_next x)
     → a' ≡ a → line' ≡ line → x' ≡ x → n ≡ 0
     → SumsBytes (MovesOver (on_source a) (on_source a')) (λ k. on_held line (k ≡ 0) (λ w. MovesOver (on_wire w) (λ p. on_held line' ⊥ (λ m. on_wire m p)) k)) (MovesOver (on_next x) (on_next x')) n
@@ -88,7 +88,7 @@ some_wire : {L : Type 0} (past : L → Past → Type 0) (line line' : Option L) 
 some_wire past None line' this p b k n act = absurd (n refl)
 some_wire past (Some l) line' this p b k n act = let v = act p b in v.4 (k p v.0 b v.1)
 
-pub some_line : {V W : Type 0} (past : W → Past → Type 0) (line line' : Option (Line V W)) (this : Type 0) (p : Past) → on_held line ⊤ (λ w. past w p)
+pub some_line : {V W : Type 0} (past : W → Past → Type 0) (line line' : Option (ServiceEnd V W)) (this : Type 0) (p : Past) → on_held line ⊤ (λ w. past w p)
     → on_held line (none_moved ≡ 0) (λ w. MovesOver (past w) (λ q. on_held line' ⊥ (λ m. past m q)) none_moved)
     → (wire_of line ≡ None → ⊥) → BytesOr this (λ q. on_held line ⊥ (λ w. past w q)) (λ q. on_held line' ⊥ (λ m. past m q)) → this
 some_line {V} {W} past None None this p b k n act = absurd (n refl)

@@ -22,7 +22,7 @@ use Rattle.adapt_sides.specs.Turns.Gift.{nothing, message}
 use Rattle.adapt_hold.specs.Spans.{Span, EndsBody}
 use Rattle.adapt_hold.specs.Holding.{Holding, IsTied, IsRoomy, shows, moved}
 use Rattle.adapt_turn.specs.declared.steps.Passed.{Passed}
-use Rattle.adapt_turn.specs.declared.ends.Line.{Line}
+use Rattle.adapt_turn.specs.declared.ends.ServiceEnd.{ServiceEnd}
 use Rattle.adapt_turn.specs.Parts.{Lent, SourcePart, SendPart, HearPart}
 use Rattle.adapt_turn.specs.Passes.{Disagrees, SourcePasses, WritesDue, ReadsReplies, ServicePasses, LinePasses, line_of}
 use Rattle.adapt_turn.specs.Stands.{Texts, joined, no_texts, Stands, Goes, HopsAre, IsRefusing, IsDelivered, IsDone}
@@ -42,7 +42,7 @@ stays_closed false c e = e
 sent_line : {V W : Type 0} (has_sent : Seen → List ℕ → List ℕ → V → Type 0)
     → ((x : Seen) (event : Event) (came bytes taken : List ℕ) (s : V) → is_of_sending event ≡ false → is_retry event ≡ false
     → length came ≡ x.received → length bytes ≡ in_bytes event → has_sent x came taken s → has_sent (after x event) (came ++ bytes) taken s)
-    → (line : Option (Line V W)) (x : Seen) (event : Event) (came bytes taken : List ℕ) → off_sending event ≡ true → length came ≡ x.received → length bytes ≡ in_bytes event
+    → (line : Option (ServiceEnd V W)) (x : Seen) (event : Event) (came bytes taken : List ℕ) → off_sending event ≡ true → length came ≡ x.received → length bytes ≡ in_bytes event
     → MatchOption line (taken ≡ []) (λ l. has_sent x came taken l.side) → MatchOption line (taken ≡ []) (λ l. has_sent (after x event) (came ++ bytes) taken l.side)
 sent_line has_sent law None x event came bytes taken o n m p = p
 sent_line has_sent law (Some l) x event came bytes taken o n m p =
@@ -50,7 +50,7 @@ sent_line has_sent law (Some l) x event came bytes taken o n m p =
 
 heard_line : {V W : Type 0} (has_heard : Seen → List ℕ → List ℕ → V → Type 0)
     → ((x : Seen) (event : Event) (adapted text : List ℕ) (s : V) → is_of_replies event ≡ false → is_retry event ≡ false → has_heard x adapted text s → has_heard (after x event) adapted text s)
-    → (line : Option (Line V W)) (x : Seen) (event : Event) (adapted text : List ℕ) → off_replies event ≡ true
+    → (line : Option (ServiceEnd V W)) (x : Seen) (event : Event) (adapted text : List ℕ) → off_replies event ≡ true
     → MatchOption line ((adapted ≡ []) × (text ≡ [])) (λ l. has_heard x adapted text l.side) → MatchOption line ((adapted ≡ []) × (text ≡ [])) (λ l. has_heard (after x event) adapted text l.side)
 heard_line has_heard law None x event adapted text o p = p
 heard_line has_heard law (Some l) x event adapted text o p =
@@ -70,7 +70,7 @@ pub others_of : {S V W K : Type 0} (agrees : Seen → S → Type 0) (has_read : 
     → has_given (seen plan before) head (chosen (seen plan before) original adapted) taken s
     → has_given (seen plan (event ∷ before)) head (chosen (seen plan (event ∷ before)) (original ++ bytes) (adapted ++ more)) taken s)
     → ((s : K) → KeepsMade (made s))
-    → (source : S) (line : Option (Line V W)) (next back : K) (refusing : Bool)
+    → (source : S) (line : Option (ServiceEnd V W)) (next back : K) (refusing : Bool)
     → Others (λ x. agrees x source) (λ x body text. has_read x body text source)
     (λ heads x came taken. MatchOption line (taken ≡ []) (λ l. has_sent heads x came taken l.side))
     (λ x adapted text. MatchOption line ((adapted ≡ []) × (text ≡ [])) (λ l. has_heard x adapted text l.side))
@@ -252,16 +252,16 @@ source_passes_go s w old new sent heard hopso hops refuses done delivered servic
 
 -- the service's line, where there is one
 
-abbrev pub sent_on : {V W : Type 0} → Service V → Option (Line V W) → List ℕ → Seen → List ℕ → List ℕ → Type 0
+abbrev pub sent_on : {V W : Type 0} → Service V → Option (ServiceEnd V W) → List ℕ → Seen → List ℕ → List ℕ → Type 0
 sent_on v line heads x came taken = MatchOption line (taken ≡ []) (λ l. v.has_sent heads x came taken l.side)
 
-abbrev pub heard_on : {V W : Type 0} → Service V → Option (Line V W) → Seen → List ℕ → List ℕ → Type 0
+abbrev pub heard_on : {V W : Type 0} → Service V → Option (ServiceEnd V W) → Seen → List ℕ → List ℕ → Type 0
 heard_on v line x adapted text = MatchOption line ((adapted ≡ []) × (text ≡ [])) (λ l. v.has_heard x adapted text l.side)
 
-abbrev pub past_on : {V W : Type 0} → Wire W → Option (Line V W) → Past → Type 0
+abbrev pub past_on : {V W : Type 0} → Wire W → Option (ServiceEnd V W) → Past → Type 0
 past_on w line p = on_held line ⊥ (λ wire. w.past wire p)
 
-send_goes : {V W : Type 0} (v : Service V) (w : Wire W) (line : Option (Line V W)) (old new : Lent V W) (agrees : Seen → Type 0) (read : Seen → List ℕ → Given → Type 0)
+send_goes : {V W : Type 0} (v : Service V) (w : Wire W) (line : Option (ServiceEnd V W)) (old new : Lent V W) (agrees : Seen → Type 0) (read : Seen → List ℕ → Given → Type 0)
     (hopso hops : Seen → List ℕ → List ℕ → List ℕ → Type 0) (refuses : Seen → Type 0) (done delivered : List ℕ → List ℕ → List ℕ → Type 0) (source next : Past → Type 0) (passed : Passed)
     → line ≡ Some (line_of old.side old.wire) → ((body next back : List ℕ) → hopso (shows old.hold.history) body next back → hops (shows old.hold.history) body next back)
     → Others agrees read (sent_by v new.side) (heard_by v new.side) hops refuses → ((x : Seen) (adapted text : List ℕ) → v.has_heard x adapted text old.side → v.has_heard x adapted text new.side) → IsTied old.hold
@@ -269,7 +269,7 @@ send_goes : {V W : Type 0} (v : Service V) (w : Wire W) (line : Option (Line V W
     → Goes (Stands old.hold agrees read (sent_on v line) (heard_on v line) hopso refuses done) (Stands new.hold agrees read (sent_by v new.side) (heard_by v new.side) hops refuses delivered)
     source source (past_on w line) (w.past new.wire) next next
 send_goes {V} {W} v w line old new agrees read hopso hops refuses done delivered source next passed e conv u same tied c d =
-    subst (λ (z : Option (Line V W)). Goes (Stands old.hold agrees read (sent_on v z) (heard_on v z) hopso refuses done) (Stands new.hold agrees read (sent_by v new.side) (heard_by v new.side) hops refuses delivered) source source (past_on w z) (w.past new.wire) next next) (sym e)
+    subst (λ (z : Option (ServiceEnd V W)). Goes (Stands old.hold agrees read (sent_on v z) (heard_on v z) hopso refuses done) (Stands new.hold agrees read (sent_by v new.side) (heard_by v new.side) hops refuses delivered) source source (past_on w z) (w.past new.wire) next next) (sym e)
     (record {
       delta = record { source_read = no_given; service_read = []; service_taken = d.delta; next_taken = []; back_taken = [] };
       stands = λ request t o. of_five (Stands new.hold agrees read (sent_by v new.side) (heard_by v new.side) hops refuses delivered request) _ _ _ _ _ _ _ _ _ _ (given_still t.source_read) (sym (append-nil t.service_read)) refl (sym (append-nil t.next_taken)) (sym (append-nil t.back_taken))
@@ -279,7 +279,7 @@ send_goes {V} {W} v w line old new agrees read hopso hops refuses done delivered
       next = λ p b. still next p b;
     })
 
-hear_goes : {V W : Type 0} (v : Service V) (w : Wire W) (line : Option (Line V W)) (old new : Lent V W) (agrees : Seen → Type 0) (read : Seen → List ℕ → Given → Type 0)
+hear_goes : {V W : Type 0} (v : Service V) (w : Wire W) (line : Option (ServiceEnd V W)) (old new : Lent V W) (agrees : Seen → Type 0) (read : Seen → List ℕ → Given → Type 0)
     (hopso hops : Seen → List ℕ → List ℕ → List ℕ → Type 0) (refuses : Seen → Type 0) (done delivered : List ℕ → List ℕ → List ℕ → Type 0) (source next : Past → Type 0) (passed : Passed)
     → line ≡ Some (line_of old.side old.wire) → ((body next back : List ℕ) → hopso (shows old.hold.history) body next back → hops (shows old.hold.history) body next back)
     → Others agrees read (sent_by v new.side) (heard_by v new.side) hops refuses → ((heads came text : List ℕ) → v.has_sent heads (shows old.hold.history) came text old.side → v.has_sent heads (shows old.hold.history) came text new.side) → IsTied old.hold
@@ -287,7 +287,7 @@ hear_goes : {V W : Type 0} (v : Service V) (w : Wire W) (line : Option (Line V W
     → Goes (Stands old.hold agrees read (sent_on v line) (heard_on v line) hopso refuses done) (Stands new.hold agrees read (sent_by v new.side) (heard_by v new.side) hops refuses delivered)
     source source (past_on w line) (w.past new.wire) next next
 hear_goes {V} {W} v w line old new agrees read hopso hops refuses done delivered source next passed e conv u same tied c d =
-    subst (λ (z : Option (Line V W)). Goes (Stands old.hold agrees read (sent_on v z) (heard_on v z) hopso refuses done) (Stands new.hold agrees read (sent_by v new.side) (heard_by v new.side) hops refuses delivered) source source (past_on w z) (w.past new.wire) next next) (sym e)
+    subst (λ (z : Option (ServiceEnd V W)). Goes (Stands old.hold agrees read (sent_on v z) (heard_on v z) hopso refuses done) (Stands new.hold agrees read (sent_by v new.side) (heard_by v new.side) hops refuses delivered) source source (past_on w z) (w.past new.wire) next next) (sym e)
     (record {
       delta = record { source_read = no_given; service_read = d.delta; service_taken = []; next_taken = []; back_taken = [] };
       stands = λ request t o. of_five (Stands new.hold agrees read (sent_by v new.side) (heard_by v new.side) hops refuses delivered request) _ _ _ _ _ _ _ _ _ _ (given_still t.source_read) refl (sym (append-nil t.service_taken)) (sym (append-nil t.next_taken)) (sym (append-nil t.back_taken))
@@ -298,15 +298,15 @@ hear_goes {V} {W} v w line old new agrees read hopso hops refuses done delivered
     })
 
 -- A pass of the line: what stands is told by what is held and by the line.
-module _ {V W : Type 0} (v : Service V) (w : Wire W) (agrees : Seen → Type 0) (read : Seen → List ℕ → Given → Type 0) (hops : Option (Line V W) → Seen → List ℕ → List ℕ → List ℕ → Type 0) (refuses : Seen → Type 0)
-    (delivered : Holding → Option (Line V W) → List ℕ → List ℕ → List ℕ → Type 0) (source next : Past → Type 0)
-    (conv : (x : Seen) (l m : Line V W) → (x.modified ≡ true → v.adapted_head m.side ≡ v.adapted_head l.side) → (x.modified ≡ true → v.is_response m.side ≡ v.is_response l.side)
+module _ {V W : Type 0} (v : Service V) (w : Wire W) (agrees : Seen → Type 0) (read : Seen → List ℕ → Given → Type 0) (hops : Option (ServiceEnd V W) → Seen → List ℕ → List ℕ → List ℕ → Type 0) (refuses : Seen → Type 0)
+    (delivered : Holding → Option (ServiceEnd V W) → List ℕ → List ℕ → List ℕ → Type 0) (source next : Past → Type 0)
+    (conv : (x : Seen) (l m : ServiceEnd V W) → (x.modified ≡ true → v.adapted_head m.side ≡ v.adapted_head l.side) → (x.modified ≡ true → v.is_response m.side ≡ v.is_response l.side)
     → (body on back : List ℕ) → hops (Some l) x body on back → hops (Some m) x body on back)
-    (others : (line : Option (Line V W)) → Others agrees read (sent_on v line) (heard_on v line) (hops line) refuses) where
-  abbrev stands_on : Holding → Option (Line V W) → List ℕ → Texts → Type 0
+    (others : (line : Option (ServiceEnd V W)) → Others agrees read (sent_on v line) (heard_on v line) (hops line) refuses) where
+  abbrev stands_on : Holding → Option (ServiceEnd V W) → List ℕ → Texts → Type 0
   stands_on h line = Stands h agrees read (sent_on v line) (heard_on v line) (hops line) refuses (delivered h line)
 
-  abbrev goes_on : Holding → Option (Line V W) → Holding → Option (Line V W) → Type 0
+  abbrev goes_on : Holding → Option (ServiceEnd V W) → Holding → Option (ServiceEnd V W) → Type 0
   goes_on h line k line' = Goes (stands_on h line) (stands_on k line') source source (past_on w line) (past_on w line') next next
 
   write_goes : (reused : Bool) (old new : Lent V W) (passed : Passed) → IsTied old.hold → (shows old.hold.history).closed ≡ false → WritesDue v w reused old new passed
@@ -328,10 +328,10 @@ module _ {V W : Type 0} (v : Service V) (w : Wire W) (agrees : Seen → Type 0) 
     | inr d ↦ goes_then _ _ _ _ _ _ _ _ _ _ _ _ (write_goes reused old d.mid d.first p.tied c d.writes) (read_goes reused d.mid new d.second d.tied d.running d.reads)
   ]
 
-  pub line_passes_go : (reused : Bool) (h : Holding) (line : Option (Line V W)) (k : Holding) (line' : Option (Line V W)) (passed : Passed) → (shows h.history).closed ≡ false → LinePasses v w reused h line k line' passed → goes_on h line k line'
+  pub line_passes_go : (reused : Bool) (h : Holding) (line : Option (ServiceEnd V W)) (k : Holding) (line' : Option (ServiceEnd V W)) (passed : Passed) → (shows h.history).closed ≡ false → LinePasses v w reused h line k line' passed → goes_on h line k line'
   line_passes_go reused h line k line' passed c p = elim p.did [
-    | inl n ↦ subst (λ (y : Holding). goes_on h line y line') (sym n.2) (subst (λ (z : Option (Line V W)). goes_on h line h z) (sym n.1) (goes_none (stands_on h line) source (past_on w line) next))
-    | inr m ↦ subst (λ (z : Option (Line V W)). goes_on h z k line') (sym m.4) (subst (λ (z : Option (Line V W)). goes_on h (Some (line_of m.0 m.2)) k z) (sym m.5)
+    | inl n ↦ subst (λ (y : Holding). goes_on h line y line') (sym n.2) (subst (λ (z : Option (ServiceEnd V W)). goes_on h line h z) (sym n.1) (goes_none (stands_on h line) source (past_on w line) next))
+    | inr m ↦ subst (λ (z : Option (ServiceEnd V W)). goes_on h z k line') (sym m.4) (subst (λ (z : Option (ServiceEnd V W)). goes_on h (Some (line_of m.0 m.2)) k z) (sym m.5)
         (side_goes reused (record { hold = h; side = m.0; wire = m.2 }) (record { hold = k; side = m.1; wire = m.3 }) passed c m.6))
   ]
 
@@ -340,7 +340,7 @@ module _ {V W : Type 0} (v : Service V) (w : Wire W) (agrees : Seen → Type 0) 
 abbrev nil : List ℕ
 nil = []
 
-pub line_again : {V W : Type 0} (has_sent : List ℕ → Seen → List ℕ → List ℕ → V → Type 0) (has_heard : Seen → List ℕ → List ℕ → V → Type 0) (line : Option (Line V W)) (l m : Line V W) (h k : Holding)
+pub line_again : {V W : Type 0} (has_sent : List ℕ → Seen → List ℕ → List ℕ → V → Type 0) (has_heard : Seen → List ℕ → List ℕ → V → Type 0) (line : Option (ServiceEnd V W)) (l m : ServiceEnd V W) (h k : Holding)
     (agrees : Seen → Type 0) (read : Seen → List ℕ → Given → Type 0) (hopso hops : Seen → List ℕ → List ℕ → List ℕ → Type 0) (refuses : Seen → Type 0) (done delivered : List ℕ → List ℕ → List ℕ → Type 0) (request : List ℕ) (t : Texts)
     → line ≡ Some l → ((body next back : List ℕ) → hopso (shows h.history) body next back → hops (shows h.history) body next back) → Others agrees read (λ heads x came taken. has_sent heads x came taken m.side) (λ x adapted text. has_heard x adapted text m.side) hops refuses
     → IsTied h → IsRoomy h → MayFollow h.history.plan h.history.events Retry → k ≡ moved h Retry []
@@ -353,9 +353,9 @@ line_again {V} {W} has_sent has_heard line l m h k agrees read hopso hops refuse
     retry_stands h k agrees read (λ heads x came taken. has_sent heads x came taken l.side) (λ heads x came taken. has_sent heads x came taken m.side) (λ x adapted text. has_heard x adapted text l.side) (λ x adapted text. has_heard x adapted text m.side) hops refuses delivered request t
     u tied roomy f is (again_sent (shows h.history)) (again_heard (shows h.history)) (λ adapted text p. unheard (shows h.history) adapted text l.side p)
     (reopen h agrees read (λ heads x came taken. has_sent heads x came taken l.side) (λ x adapted text. has_heard x adapted text l.side) hopso hops refuses done delivered request t f.0 conv
-    (subst (λ (z : Option (Line V W)). Stands h agrees read (λ heads x came taken. MatchOption z (taken ≡ []) (λ y. has_sent heads x came taken y.side)) (λ x adapted text. MatchOption z ((adapted ≡ []) × (text ≡ [])) (λ y. has_heard x adapted text y.side)) hopso refuses done request t) e s))
+    (subst (λ (z : Option (ServiceEnd V W)). Stands h agrees read (λ heads x came taken. MatchOption z (taken ≡ []) (λ y. has_sent heads x came taken y.side)) (λ x adapted text. MatchOption z ((adapted ≡ []) × (text ≡ [])) (λ y. has_heard x adapted text y.side)) hopso refuses done request t) e s))
 
-pub none_again : {V W : Type 0} (has_sent : List ℕ → Seen → List ℕ → List ℕ → V → Type 0) (has_heard : Seen → List ℕ → List ℕ → V → Type 0) (line : Option (Line V W)) (h k : Holding)
+pub none_again : {V W : Type 0} (has_sent : List ℕ → Seen → List ℕ → List ℕ → V → Type 0) (has_heard : Seen → List ℕ → List ℕ → V → Type 0) (line : Option (ServiceEnd V W)) (h k : Holding)
     (agrees : Seen → Type 0) (read : Seen → List ℕ → Given → Type 0) (hops : Seen → List ℕ → List ℕ → List ℕ → Type 0) (refuses : Seen → Type 0) (done delivered : List ℕ → List ℕ → List ℕ → Type 0) (request : List ℕ) (t : Texts)
     → line ≡ None
     → Others agrees read (λ heads x came taken. MatchOption line (taken ≡ []) (λ z. has_sent heads x came taken z.side)) (λ x adapted text. MatchOption line ((adapted ≡ []) × (text ≡ [])) (λ z. has_heard x adapted text z.side)) hops refuses
@@ -366,15 +366,15 @@ none_again {V} {W} has_sent has_heard line h k agrees read hops refuses done del
     retry_stands h k agrees read (λ heads x came taken. MatchOption line (taken ≡ []) (λ z. has_sent heads x came taken z.side)) (λ heads x came taken. MatchOption line (taken ≡ []) (λ z. has_sent heads x came taken z.side))
     (λ x adapted text. MatchOption line ((adapted ≡ []) × (text ≡ [])) (λ z. has_heard x adapted text z.side)) (λ x adapted text. MatchOption line ((adapted ≡ []) × (text ≡ [])) (λ z. has_heard x adapted text z.side)) hops refuses delivered request t
     u tied roomy f is
-    (λ heads came taken adapted text c q n p r. subst (λ (z : Option (Line V W)). MatchOption z (nil ≡ nil) (λ y. has_sent heads (after (shows h.history) Retry) came [] y.side)) (sym e) refl)
-    (λ heads came taken adapted text c q n p r. subst (λ (z : Option (Line V W)). MatchOption z ((nil ≡ nil) × (nil ≡ nil)) (λ y. has_heard (after (shows h.history) Retry) [] [] y.side)) (sym e) (refl, refl))
-    (λ adapted text p q. subst (λ (z : Option (Line V W)). MatchOption z ((adapted ≡ []) × (text ≡ [])) (λ y. has_heard (shows h.history) adapted text y.side)) e p)
+    (λ heads came taken adapted text c q n p r. subst (λ (z : Option (ServiceEnd V W)). MatchOption z (nil ≡ nil) (λ y. has_sent heads (after (shows h.history) Retry) came [] y.side)) (sym e) refl)
+    (λ heads came taken adapted text c q n p r. subst (λ (z : Option (ServiceEnd V W)). MatchOption z ((nil ≡ nil) × (nil ≡ nil)) (λ y. has_heard (after (shows h.history) Retry) [] [] y.side)) (sym e) (refl, refl))
+    (λ adapted text p q. subst (λ (z : Option (ServiceEnd V W)). MatchOption z ((adapted ≡ []) × (text ≡ [])) (λ y. has_heard (shows h.history) adapted text y.side)) e p)
     (reopen h agrees read (λ heads x came taken. MatchOption line (taken ≡ []) (λ z. has_sent heads x came taken z.side)) (λ x adapted text. MatchOption line ((adapted ≡ []) × (text ≡ [])) (λ z. has_heard x adapted text z.side)) hops hops refuses done delivered request t f.0 (λ body a b p. p) s)
 
 -- the beginning
 
 pub begins : {V W K : Type 0} (has_sent : List ℕ → Seen → List ℕ → List ℕ → V → Type 0) (has_heard : Seen → List ℕ → List ℕ → V → Type 0) (has_given : Seen → List ℕ → List ℕ → List ℕ → K → Type 0) (is_whole : List ℕ → List ℕ → List ℕ → K → Type 0) (gift : K → Gift) (aside : List ℕ → K → Type 0)
-    (h : Holding) (plan : Plan) (agrees : Seen → Type 0) (read : Seen → List ℕ → Given → Type 0) (line : Option (Line V W)) (next back : K) (text : Given) (request : List ℕ)
+    (h : Holding) (plan : Plan) (agrees : Seen → Type 0) (read : Seen → List ℕ → Given → Type 0) (line : Option (ServiceEnd V W)) (next back : K) (text : Given) (request : List ℕ)
     → h.history ≡ record { plan = plan; events = [] } → h.original ≡ record { base = 0; bytes = [] } → h.adapted ≡ record { base = 0; bytes = [] }
     → agrees (seen plan []) → read (seen plan []) [] text → IfSome line (λ l. has_sent request (seen plan []) [] [] l.side × has_heard (seen plan []) [] [] l.side)
     → gift next ≡ nothing → aside [] next → gift back ≡ nothing → aside [] back
@@ -400,10 +400,10 @@ begins {V} {W} {K} has_sent has_heard has_given is_whole gift aside h plan agree
     empty : EndsBody (record { base = 0; bytes = [] }) []
     empty = record { end = refl; bytes = refl }
 
-    sent : (z : Option (Line V W)) → IfSome z (λ l. has_sent request (seen plan []) [] [] l.side × has_heard (seen plan []) [] [] l.side) → MatchOption z (nil ≡ nil) (λ l. has_sent request (seen plan []) [] [] l.side)
+    sent : (z : Option (ServiceEnd V W)) → IfSome z (λ l. has_sent request (seen plan []) [] [] l.side × has_heard (seen plan []) [] [] l.side) → MatchOption z (nil ≡ nil) (λ l. has_sent request (seen plan []) [] [] l.side)
     sent None s = refl
     sent (Some l) s = s.0
 
-    heard : (z : Option (Line V W)) → IfSome z (λ l. has_sent request (seen plan []) [] [] l.side × has_heard (seen plan []) [] [] l.side) → MatchOption z ((nil ≡ nil) × (nil ≡ nil)) (λ l. has_heard (seen plan []) [] [] l.side)
+    heard : (z : Option (ServiceEnd V W)) → IfSome z (λ l. has_sent request (seen plan []) [] [] l.side × has_heard (seen plan []) [] [] l.side) → MatchOption z ((nil ≡ nil) × (nil ≡ nil)) (λ l. has_heard (seen plan []) [] [] l.side)
     heard None s = (refl, refl)
     heard (Some l) s = s.1

@@ -8,30 +8,30 @@ use Rattle.trace_core.specs.declared.history.Cause.{Cause}
 use Rattle.trace_core.specs.History.{seen}
 use Rattle.trace_core.specs.Legal.{IsLegal}
 use Rattle.trace_core.specs.Turns.{after_all, MayAllFollow}
-use Rattle.adapt_turn.specs.declared.ends.Line.{Line}
+use Rattle.adapt_turn.specs.declared.ends.ServiceEnd.{ServiceEnd}
 use Rattle.adapt_turn.specs.Stands.{IsChosen}
 
 -- the service's wire, as long as its connection is held
-abbrev pub wire_of : {V W : Type 0} → Option (Line V W) → Option W
+abbrev pub wire_of : {V W : Type 0} → Option (ServiceEnd V W) → Option W
 wire_of None = None
 wire_of (Some line) = line.wire
 
 -- the same side, and its connection is given up
-abbrev pub without_wire : {V W : Type 0} → Option (Line V W) → Option (Line V W)
+abbrev pub without_wire : {V W : Type 0} → Option (ServiceEnd V W) → Option (ServiceEnd V W)
 without_wire None = None
 without_wire (Some line) = Some (record { side = line.side; wire = None })
 
 -- what is so where its connection isn't held, and where it is
-abbrev pub on_held : {V W : Type 0} → Option (Line V W) → (unheld : Type 0) → (held : W → Type 0) → Type 0
+abbrev pub on_held : {V W : Type 0} → Option (ServiceEnd V W) → (unheld : Type 0) → (held : W → Type 0) → Type 0
 on_held line unheld held = MatchOption line unheld (λ l. MatchOption l.wire unheld held)
 
 -- the adapted head that a service's side read, where there is a service
-abbrev pub adapted_of : {V W : Type 0} → (V → Option (List ℕ)) → Option (Line V W) → Option (List ℕ)
+abbrev pub adapted_of : {V W : Type 0} → (V → Option (List ℕ)) → Option (ServiceEnd V W) → Option (List ℕ)
 adapted_of adapted_head None = None
 adapted_of adapted_head (Some line) = adapted_head line.side
 
 -- whether it is a response's
-abbrev pub response_of : {V W : Type 0} → (V → Bool) → Option (Line V W) → Bool
+abbrev pub response_of : {V W : Type 0} → (V → Bool) → Option (ServiceEnd V W) → Bool
 response_of is_response None = false
 response_of is_response (Some line) = is_response line.side
 

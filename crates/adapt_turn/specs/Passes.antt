@@ -22,7 +22,7 @@ use Rattle.adapt_turn.specs.Rows.{may_step, TookBy, Advances, BytesOr}
 use Rattle.adapt_turn.specs.Stands.{IsChosen, Waited, WaitedBoth, Blamed, BlamedService, BlamedWriter}
 use Rattle.adapt_turn.specs.ByTurn.{OfWriter}
 use Rattle.adapt_turn.specs.Made.{MakesAt, MakesNoneAt, adapted_of, answers_user, response_of, wire_of}
-use Rattle.adapt_turn.specs.declared.ends.Line.{Line}
+use Rattle.adapt_turn.specs.declared.ends.ServiceEnd.{ServiceEnd}
 
 -- the source's numbers aren't those of the history: it is no message of this transaction, which fails, and nothing is read
 pub record Disagrees {S H W : Type 0} (s : Source S H) (old new : Lent S W) (passed : Passed) : Type 0 where
@@ -112,11 +112,11 @@ pub record ServicePasses {V W : Type 0} (v : Service V) (w : Wire W) (reused : B
   pub sound : passed.failed ≡ None → passed.broken ≡ false → v.fault old.side ≡ None → v.fault new.side ≡ None
   pub breaks : passed.broken ≡ true → (passed.failed ≡ None) × Breaks new.hold.history reused (v.fault new.side)
 
-abbrev pub line_of : {V W : Type 0} → V → W → Line V W
+abbrev pub line_of : {V W : Type 0} → V → W → ServiceEnd V W
 line_of side wire = record { side = side; wire = Some wire }
 
 -- A pass of the service's line: where no connection is held nothing is due, else it is the side's pass.
-pub record LinePasses {V W : Type 0} (v : Service V) (w : Wire W) (reused : Bool) (old : Holding) (line : Option (Line V W)) (new : Holding) (line' : Option (Line V W)) (passed : Passed) : Type 0 where
+pub record LinePasses {V W : Type 0} (v : Service V) (w : Wire W) (reused : Bool) (old : Holding) (line : Option (ServiceEnd V W)) (new : Holding) (line' : Option (ServiceEnd V W)) (passed : Passed) : Type 0 where
   pub did : ((wire_of line ≡ None) × (line' ≡ line) × (new ≡ old) × (passed ≡ record { waiting = true; failed = None; broken = false }))
       ⊎ ((side side' : V) × (wire wire' : W) × (line ≡ Some (line_of side wire)) × (line' ≡ Some (line_of side' wire'))
       × ServicePasses v w reused (lending old side wire) (lending new side' wire') passed)
@@ -140,7 +140,7 @@ pub record Choice (G : Type 0) : Type 1 where
   pub makes : List ℕ → G → Type 0
   pub none : Cause → Type 0
 
-abbrev pub choice_of : {V W G : Type 0} → Service V → (makes : Seen → Option (List ℕ) → Bool → List ℕ → G → Type 0) → (makes_none : Seen → Option (List ℕ) → Bool → Cause → Type 0) → (unasked : Type 0) → Option (Line V W) → Seen → Choice G
+abbrev pub choice_of : {V W G : Type 0} → Service V → (makes : Seen → Option (List ℕ) → Bool → List ℕ → G → Type 0) → (makes_none : Seen → Option (List ℕ) → Bool → Cause → Type 0) → (unasked : Type 0) → Option (ServiceEnd V W) → Seen → Choice G
 choice_of v makes makes_none unasked line x = record {
   answers = answers_user x (response_of v.is_response line);
   unasked = unasked;
@@ -235,7 +235,7 @@ pub record NextPasses {K G A C : Type 0} (k : Hop K G) (a : Wire A) (c : Wire C)
   pub elsewhere : OfWriter (k.gift new.back) (new.back_wire ≡ old.back_wire) (new.next_wire ≡ old.next_wire)
 
 -- A pass of any side: `none` says why the head of the chosen message couldn't be made, and the line is the service's after the pass.
-pub record AnyPasses {V W : Type 0} (v : Service V) (reused : Bool) (none : Cause → Type 0) (side : Side) (old new : Holding) (line : Option (Line V W)) (passed : Passed) : Type 0 where
+pub record AnyPasses {V W : Type 0} (v : Service V) (reused : Bool) (none : Cause → Type 0) (side : Side) (old new : Holding) (line : Option (ServiceEnd V W)) (passed : Passed) : Type 0 where
   -- one that fails closes the transaction, and one that waits does nothing
   pub over : (cause : Cause) → passed.failed ≡ Some cause → (shows new.history).closed ≡ true
   pub idle : passed.waiting ≡ true → passed.failed ≡ None

@@ -9,13 +9,13 @@ use trace_core::Seen;
 use wire_kit::Wire;
 
 /// The service's side with its wire: none once the connection was given up.
-pub struct Line<V, W> {
+pub struct ServiceEnd<V, W> {
     pub side: V,
     pub wire: Option<W>,
 }
 
 /// A connection that a transaction gave up.
-pub struct FreeLine<W> {
+pub struct FreedConnection<W> {
     pub wire: W,
     /// Whether it may carry another request.
     pub is_reusable: bool,
@@ -45,7 +45,7 @@ pub struct Ends<E: EndTypes> {
     pub source: E::Reader,
     pub source_wire: E::SourceWire,
     /// None under Plain.
-    pub service: Option<Line<E::Client, E::ServiceWire>>,
+    pub service: Option<ServiceEnd<E::Client, E::ServiceWire>>,
     /// The writer on the next hop's wire.
     pub next: E::Writer,
     pub next_wire: E::NextWire,

@@ -4,7 +4,7 @@ use Rattle.icap_chunks.specs.Grammar.{chunk_head, last_chunk, crlf}
 
 -- `HasBody text left`: the text has all bytes of a body, and a chunk that was begun in it waits for `left` more. Then nothing
 -- follows it, or one framing text, without body bytes: the end of the chunk that the body's last byte completes, the head of the
--- next chunk, or a zero chunk.
+-- next chunk, or a last chunk.
 pub data IsBehind (HasBody : List ℕ → ℕ → Type 0) : List ℕ → List ℕ → Type 0 where
   nothing : {text : List ℕ} {left : ℕ} → HasBody text left → IsBehind HasBody text []
   chunk_end : {text : List ℕ} → HasBody (text ++ crlf) 0 → IsBehind HasBody text crlf

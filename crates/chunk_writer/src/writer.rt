@@ -109,7 +109,7 @@ impl ChunkWriter {
     }
 
     /// Begins the text anew. It takes no memory.
-    pub fn again(&mut self)
+    pub fn restart(&mut self)
         ensures { self.new ≡ fresh self.old.head }
     {
         self.head_out = 0;

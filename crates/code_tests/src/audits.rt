@@ -2,7 +2,7 @@
 ghost use Rattle.std.specs.Prelude.{◌≡◌, ◌≤◌};
 
 use service_pool::{AuditFault, Found, LEDGER_PARTS, Lease, NoMemory, Pool, Taken};
-use span_bank::{Audit, Bank, Blanks, Four, Ledgers, Pages, Stake};
+use span_bank::{Audit, Bank, Blanks, Ledgers, Pages, Stake};
 use std::alloc::Global;
 use std::marker::Brand;
 use std::process::Abort;
@@ -272,7 +272,7 @@ fn audit_without_one_of<
     requires slack { (blanks.slack.name ≡ S.name) × (blanks.slack.parts ≡ S.parts) × (blanks.slack.parts ≡ 5) }
     requires pages { (blanks.pages.name ≡ P.name) × (blanks.pages.parts ≡ P.parts) × (blanks.pages.parts ≡ 5) }
 {
-    let bank: Bank<Four<H, F, S, P>> = Bank::new(alloc, blanks, 100, 4, 16)?;
+    let bank: Bank<(H, F, S, P)> = Bank::new(alloc, blanks, 100, 4, 16)?;
     if is_shared {
         audit_without_fourth(rt, alloc, bank)
     } else {

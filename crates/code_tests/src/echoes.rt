@@ -1,13 +1,13 @@
 //! Loops in threads, over loopback: they echo.
 
 use event_loop::{
-    Base, Driven, Ended, Entrance, Handed, Inbox, Place, Request, Room, Told, Work, add_loop,
+    Base, Driven, Ended, Entrance, Handed, Inbox, Request, Room, Told, UserPermit, Work, add_loop,
     run_loop,
 };
 use mio::net::TcpListener;
 use mio::{Registry, Token};
 use slab::Slab;
-use socket_wire::{Dial, MAX_KEY, Readiness, Side, SocketWire, UserWire, token_of};
+use socket_wire::{Dial, MAX_KEY, Peer, Readiness, SocketWire, UserWire, token_of};
 use std::alloc::{AllocError, Global};
 use std::io::{self, Read, Write};
 use std::net::{Ipv4Addr, SocketAddr, TcpStream as Client};
@@ -22,7 +22,7 @@ use wire_kit::{Got, Wire};
 struct Conn {
     ready: Arc<Readiness>,
     wire: UserWire,
-    place: Place,
+    permit: UserPermit,
 }
 
 /// Connections that echo.
@@ -36,7 +36,7 @@ fn take_in(echo: &mut Echo, registry: &Registry, user: Handed) -> Result<usize, 
     let Handed {
         stream,
         number: _,
-        place,
+        permit,
     } = user;
     let ready = Arc::new(echo.alloc, Readiness::new())?;
     let mut wire = SocketWire::new(stream, ready.clone()?);
@@ -44,12 +44,16 @@ fn take_in(echo: &mut Echo, registry: &Registry, user: Handed) -> Result<usize, 
     let key = echo.all.vacant_key();
     if key > MAX_KEY
         || wire
-            .register(registry, Token(token_of(key, Side::User)))
+            .register(registry, Token(token_of(key, Peer::User)))
             .is_err()
     {
         return Err(AllocError);
     }
-    let _ = echo.all.insert_reserved(Conn { ready, wire, place });
+    let _ = echo.all.insert_reserved(Conn {
+        ready,
+        wire,
+        permit,
+    });
     Ok(key)
 }
 
@@ -87,7 +91,7 @@ impl Work for Echo {
         false
     }
 
-    fn note(&mut self, key: usize, _side: Side, told: Told) -> bool {
+    fn note(&mut self, key: usize, _peer: Peer, told: Told) -> bool {
         match self.all.get_mut(key) {
             Some(conn) => conn.ready.note(told.readable, told.writable, told.closed),
             None => false,

@@ -3,7 +3,7 @@ use Rattle.std.proofs.Common.{◌≡◌, ℕ, ◌↔◌, Bool, true, false, cond
 use Rattle.std.specs.List.{AllZip}
 use Rattle.std.specs.Char.{to_ascii_lowercase}
 use Rattle.adapt_bytes.specs.Text.{comma_parts}
-use Rattle.encapsulated.specs.declared.message.Method.{Method}
+use Rattle.adapt_bytes.specs.declared.method.Method.{Method}
 use Rattle.encapsulated.specs.declared.message.Direction.{Direction}
 use Rattle.encapsulated.specs.declared.parts.BodyPart.{BodyPart}
 use Rattle.encapsulated.specs.declared.parts.BodyPart.TheVariants.{ReqBody, ResBody, OptBody, NullBody}

@@ -2,8 +2,8 @@
 use Rattle.std.proofs.Common.{◌≡◌, ℕ, zero, suc, ◌<◌, Bool, true, false, ◌&&◌, cond, IsTrue, List, [], ◌∷◌, ◌++◌, length, get_or, refl, sym, ap, ap₂, ◌∙◌, subst, arith, Contains, nat_eq, nat_lt, append-nil, eqb-true}
 use Rattle.std.specs.List.{list_any, list_all}
 use Rattle.std.proofs.lemmas.List.{map-append}
-use Rattle.encapsulated.specs.declared.message.Method.{Method}
-use Rattle.encapsulated.specs.declared.message.Method.TheVariants.{Reqmod, Respmod, Options}
+use Rattle.adapt_bytes.specs.declared.method.Method.{Method}
+use Rattle.adapt_bytes.specs.declared.method.Method.TheVariants.{Reqmod, Respmod, Options}
 use Rattle.encapsulated.specs.declared.message.Direction.{Direction}
 use Rattle.encapsulated.specs.declared.message.Direction.TheVariants.{Request, Response}
 use Rattle.encapsulated.specs.declared.parts.BodyPart.{BodyPart}

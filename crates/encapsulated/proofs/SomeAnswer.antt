@@ -4,7 +4,7 @@ use Rattle.std.proofs.lemmas.Bool.Decides.{eqb_tells}
 use Rattle.std.proofs.Math.Dec.{eqb}
 use Rattle.encapsulated.specs.declared.fault.EncFault.{EncFault}
 use Rattle.encapsulated.specs.declared.fault.EncFault.TheVariants.{Syntax, Name, Order, NoBodyPart, Offset}
-use Rattle.encapsulated.specs.declared.message.Method.{Method}
+use Rattle.adapt_bytes.specs.declared.method.Method.{Method}
 use Rattle.encapsulated.specs.declared.message.Direction.{Direction}
 use Rattle.encapsulated.specs.declared.offsets.Layout.{Layout}
 use Rattle.encapsulated.specs.declared.parts.BodyPart.{BodyPart}

@@ -2,7 +2,7 @@
 use Rattle.std.specs.Prelude.{ℕ, List, Contains}
 use Rattle.encapsulated.specs.declared.fault.EncFault.{EncFault}
 use Rattle.encapsulated.specs.declared.fault.EncFault.TheVariants.{Syntax, Name, Order, NoBodyPart, Offset}
-use Rattle.encapsulated.specs.declared.message.Method.{Method}
+use Rattle.adapt_bytes.specs.declared.method.Method.{Method}
 use Rattle.encapsulated.specs.declared.message.Direction.{Direction}
 use Rattle.encapsulated.specs.declared.parts.BodyPart.{BodyPart}
 use Rattle.encapsulated.specs.declared.parts.Part.{Part}

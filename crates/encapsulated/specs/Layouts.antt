@@ -2,7 +2,7 @@
 use Rattle.std.specs.Prelude.{◌≡◌, ℕ, ◌≤◌, ◌++◌, List, [], ◌∷◌, map, codes, Contains, Option, Some, None}
 use Rattle.std.specs.List.{join_by}
 use Rattle.adapt_bytes.specs.Numeral.{numeral}
-use Rattle.encapsulated.specs.declared.message.Method.{Method}
+use Rattle.adapt_bytes.specs.declared.method.Method.{Method}
 use Rattle.encapsulated.specs.declared.message.Direction.{Direction}
 use Rattle.encapsulated.specs.declared.offsets.Layout.{Layout}
 use Rattle.encapsulated.specs.declared.parts.Part.{Part}

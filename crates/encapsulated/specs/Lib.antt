@@ -2,6 +2,5 @@ pub mod Faults
 pub mod Grammar
 pub mod Laws
 pub mod Layouts
-pub mod Methods
 pub mod Order
 pub mod Rows

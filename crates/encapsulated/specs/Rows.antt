@@ -1,8 +1,8 @@
 -- Which lists a message may have (RFC 3507, section 4.4.1).
 use Rattle.std.specs.Prelude.{◌++◌, List, [], ◌∷◌, map, Contains}
 use Rattle.std.specs.List.{flat_map}
-use Rattle.encapsulated.specs.declared.message.Method.{Method}
-use Rattle.encapsulated.specs.declared.message.Method.TheVariants.{Reqmod, Respmod, Options}
+use Rattle.adapt_bytes.specs.declared.method.Method.{Method}
+use Rattle.adapt_bytes.specs.declared.method.Method.TheVariants.{Reqmod, Respmod, Options}
 use Rattle.encapsulated.specs.declared.message.Direction.{Direction}
 use Rattle.encapsulated.specs.declared.message.Direction.TheVariants.{Request, Response}
 use Rattle.encapsulated.specs.declared.parts.BodyPart.{BodyPart}

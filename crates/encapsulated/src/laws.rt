@@ -1,7 +1,7 @@
 //! What follows from the definitions alone: each law is the contract of a function that does nothing.
 ghost use Rattle.std.specs.Prelude.{◌≡◌, ◌↔◌, ℕ, List};
 ghost use Rattle.encapsulated.specs.declared.message.Direction.{Direction};
-ghost use Rattle.encapsulated.specs.declared.message.Method.{Method};
+ghost use Rattle.adapt_bytes.specs.declared.method.Method.{Method};
 ghost use Rattle.encapsulated.specs.declared.offsets.Layout.{Layout};
 ghost use Rattle.encapsulated.specs.declared.parts.Part.{Part};
 ghost use Rattle.encapsulated.specs.Grammar.{AreItems, AreParts};

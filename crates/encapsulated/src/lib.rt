@@ -19,7 +19,7 @@ mod seen;
 mod writer;
 
 pub use fault::EncFault;
-pub use message::{Direction, Method};
+pub use message::Direction;
 pub use offsets::Layout;
 pub use parts::{BodyPart, Part};
 pub use reader::read;

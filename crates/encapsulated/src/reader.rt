@@ -8,11 +8,11 @@ ghost use Rattle.encapsulated.specs.Order.{seen_parts, Unread, any_front};
 
 use crate::fault::EncFault;
 use crate::items::{are_items, read_part};
-use crate::message::{Direction, Method};
+use crate::message::Direction;
 use crate::offsets::Layout;
 use crate::parts::BodyPart;
 use crate::seen::{Row, Seen, add_part};
-use adapt_bytes::comma_parts;
+use adapt_bytes::{Method, comma_parts};
 
 /// Reads the value of an Encapsulated field of this kind of message (RFC 3507, section 4.4.1).
 ///

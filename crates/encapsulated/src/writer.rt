@@ -1,7 +1,7 @@
 //! Writing a list, with a comma and a space between items.
 ghost use Rattle.std.specs.Prelude.{◌≡◌, ◌++◌, ◌^◌, ◌<◌, IfOk, OnOk, IfSome};
 ghost use Rattle.encapsulated.specs.declared.message.Direction.{Direction};
-ghost use Rattle.encapsulated.specs.declared.message.Method.{Method};
+ghost use Rattle.adapt_bytes.specs.declared.method.Method.{Method};
 ghost use Rattle.encapsulated.specs.Layouts.{MayHave, IsLayout, IsWritableLayout, written, item_text};
 ghost use Rattle.encapsulated.specs.Order.{head_text};
 

@@ -11,7 +11,7 @@ use std::alloc::Global;
 use test_rows::{NoMemory, put_line, put_number};
 use trace_core::{Event, Plan, State};
 use wire_kit::{MemoryWire, Wire};
-use wire_rows::{Scene, Values, count_after, history, place_of, put_flag, put_text, wire};
+use wire_rows::{Scene, Values, count_after, history, index_of, put_flag, put_text, wire};
 
 /// An exchange: the side with its wire, and another wire for a request that begins anew.
 #[derive(Drop)]
@@ -62,8 +62,8 @@ impl Exchange {
     }
 
     /// Begins the request anew on the other wire.
-    fn again(&mut self) {
-        self.side.again();
+    fn restart(&mut self) {
+        self.side.restart();
         let _ = self.state.step(Event::Retry);
         std::mem::swap(&mut self.wire, &mut self.other);
     }
@@ -102,9 +102,9 @@ impl Exchange {
         if let Some(count) = count_after(word, b"turns") {
             return self.turns(kept, count as usize);
         }
-        match place_of(b"write again end", word) {
+        match index_of(b"write again end", word) {
             Some(0) => self.write(kept.tape()),
-            Some(1) => self.again(),
+            Some(1) => self.restart(),
             _ => {
                 let _ = self.state.step(Event::End);
             }

@@ -2,20 +2,20 @@
 
 use crate::kept::Kept;
 use crate::relays::{End, is_in_step, step};
-use http_relay::NextHop;
+use http_relay::HopWriter;
 use http_side::Framing;
 use std::alloc::Global;
 use test_rows::{NoMemory, put_line, put_shown};
 use trace_core::State;
 use wire_kit::MemoryWire;
-use wire_rows::{Scene, Values, count_after, history, place_of, put_flag, put_text, wire};
+use wire_rows::{Scene, Values, count_after, history, index_of, put_flag, put_text, wire};
 
 /// How a body goes: `length=6`, `close`, `chunked`, or not at all.
 fn framing_of(words: &[u8]) -> Framing {
     if let Some(count) = count_after(words, b"length") {
         return Framing::Length(count);
     }
-    match place_of(b"close chunked", words) {
+    match index_of(b"close chunked", words) {
         Some(0) => Framing::Close,
         Some(1) => Framing::Chunked,
         _ => Framing::None,
@@ -23,9 +23,9 @@ fn framing_of(words: &[u8]) -> Framing {
 }
 
 /// A side that has begun the row's message, and its refusal where the row has one.
-fn hop_of(alloc: Global, scene: Scene<'_>) -> Result<NextHop, NoMemory> {
+fn hop_of(alloc: Global, scene: Scene<'_>) -> Result<HopWriter, NoMemory> {
     let head = scene.get(b"head").to_vec(alloc)?;
-    let mut hop = NextHop::new(alloc);
+    let mut hop = HopWriter::new(alloc);
     if hop.is_idle() {
         hop.begin(head, framing_of(scene.get(b"framing")));
     }
@@ -36,7 +36,7 @@ fn hop_of(alloc: Global, scene: Scene<'_>) -> Result<NextHop, NoMemory> {
 }
 
 /// A turn of the side.
-fn write(hop: &mut NextHop, state: &mut State, kept: &mut Kept, wire: &mut MemoryWire) {
+fn write(hop: &mut HopWriter, state: &mut State, kept: &mut Kept, wire: &mut MemoryWire) {
     if is_in_step(state, kept.tape())
         && let Ok(turn) = hop.write_turn(state, kept.tape(), wire)
     {
@@ -46,7 +46,7 @@ fn write(hop: &mut NextHop, state: &mut State, kept: &mut Kept, wire: &mut Memor
 }
 
 /// How the message ended.
-fn end_of(hop: &NextHop, state: &State) -> End {
+fn end_of(hop: &HopWriter, state: &State) -> End {
     match hop.fault() {
         Some(fault) => End::NextHop(fault),
         None if state.seen().closed => End::Done,
@@ -77,7 +77,7 @@ pub fn put_given(
 
 /// Adds what was taken, and how the message ended; of a refusal whether it is out, and whether a byte is.
 fn put_hop(
-    hop: &NextHop,
+    hop: &HopWriter,
     state: &State,
     taken: &[u8],
     scene: Scene<'_>,

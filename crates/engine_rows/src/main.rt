@@ -21,7 +21,7 @@ use std::sync::Wait;
 use std::time::Clock;
 use std::{env, fs, io};
 use test_rows::{NoMemory, Report, number, read_table};
-use wire_rows::{Player, Scene, Values, place_of, put_runs};
+use wire_rows::{Player, Scene, Values, index_of, put_runs};
 
 /// The calls of rows that need no pages, in the order of `put_run`.
 const CALLS: &[u8] = b"reply options serve feed lines service settings wire shared gate";
@@ -36,7 +36,7 @@ struct Engines<'a, R> {
 impl<'a, R: Wait + Clock> Player for Engines<'a, R> {
     fn put_run(&self, scene: Scene<'_>, values: Values, out: &mut Vec<u8>) -> Result<(), NoMemory> {
         let call = scene.get(b"call");
-        match place_of(CALLS, call) {
+        match index_of(CALLS, call) {
             Some(0) => replies::put_reply(self.alloc, scene, values, out),
             Some(1) => options::put_options(self.alloc, scene, values, out),
             Some(2) => servers::put_served(self.alloc, scene, values, out),

@@ -5,13 +5,13 @@ use crate::exchanges::put_exchange;
 use crate::gives::put_given;
 use crate::kept::Kept;
 use crate::relays::put_relayed;
-use span_bank::{Bank, Blanks, Four, OpenFault, Pages, Stake};
+use span_bank::{Bank, Blanks, OpenFault, Pages, Stake};
 use std::alloc::Global;
 use std::marker::Brand;
 use std::sync::Wait;
 use std::sync::ledger::Ledger;
 use test_rows::{NoMemory, put_line};
-use wire_rows::{Scene, Values, place_of};
+use wire_rows::{Scene, Values, index_of};
 
 /// Adds what a run reports.
 fn put_run(
@@ -21,7 +21,7 @@ fn put_run(
     kept: &mut Kept,
     out: &mut Vec<u8>,
 ) -> Result<(), NoMemory> {
-    match place_of(b"relay give exchange", scene.get(b"call")) {
+    match index_of(b"relay give exchange", scene.get(b"call")) {
         Some(0) => put_relayed(alloc, scene, values, kept, out),
         Some(1) => put_given(alloc, scene, values, kept, out),
         Some(2) => put_exchange(alloc, scene, values, kept, out),
@@ -43,8 +43,8 @@ fn put_on_bank<H: Ledger, F: Ledger, S: Ledger, P: Ledger, R: Wait>(
     requires slack { (blanks.slack.name ≡ S.name) × (blanks.slack.parts ≡ S.parts) × (blanks.slack.parts ≡ 3) }
     requires pages { (blanks.pages.name ≡ P.name) × (blanks.pages.parts ≡ P.parts) × (blanks.pages.parts ≡ 3) }
 {
-    let bank: Bank<Four<H, F, S, P>> = Bank::new(alloc, blanks, 8192, 2, 16)?;
-    let opened: Result<Stake<Four<H, F, S, P>>, OpenFault> = bank.open(rt, 8192);
+    let bank: Bank<(H, F, S, P)> = Bank::new(alloc, blanks, 8192, 2, 16)?;
+    let opened: Result<Stake<(H, F, S, P)>, OpenFault> = bank.open(rt, 8192);
     let Ok(mut stake) = opened else {
         return put_line(out, b"no reservation");
     };

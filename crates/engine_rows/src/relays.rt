@@ -5,9 +5,9 @@ ghost use Rattle.adapt_sides.specs.Tapes.{KeepsUndelivered};
 
 use crate::kept::Kept;
 use crate::replies::MAX_IDLE;
-use http_relay::{NextHop, RelayFault, SourceSide, Turn};
+use http_relay::{HopWriter, RelayFault, SourceSide, Turn};
 use http_side::{
-    Forward, Framing, HttpFault, HttpRequest, Message, Part, forward_head, read_request,
+    BodyKind, Forward, Framing, HttpFault, HttpRequest, Message, forward_head, read_request,
 };
 use span_tape::SpanTape;
 use std::alloc::Global;
@@ -35,7 +35,7 @@ struct Exchange {
     user: Option<HttpRequest>,
     source: SourceSide,
     from: MemoryWire,
-    hop: NextHop,
+    hop: HopWriter,
     to: MemoryWire,
     state: State,
 }
@@ -72,13 +72,13 @@ fn forwarded(
         (Some(request), _, _) => Forward {
             user: request,
             message: Message::Request(request),
-            part: Part::Own,
+            part: BodyKind::Own,
             body_read: true,
         },
         (None, Some(response), Some(user)) => Forward {
             user,
             message: Message::Response(response),
-            part: Part::Own,
+            part: BodyKind::Own,
             body_read: true,
         },
         _ => return Ok(None),
@@ -167,7 +167,7 @@ impl Exchange {
         if self.source.ended() {
             self.source.next();
         }
-        self.hop = NextHop::new(alloc);
+        self.hop = HopWriter::new(alloc);
         self.state = state;
         kept.clear();
     }
@@ -242,7 +242,7 @@ pub fn put_relayed(
         user,
         source,
         from,
-        hop: NextHop::new(alloc),
+        hop: HopWriter::new(alloc),
         to,
         state,
     };

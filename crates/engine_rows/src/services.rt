@@ -5,7 +5,7 @@ use icap_services::{
 };
 use std::alloc::Global;
 use test_rows::{NoMemory, put_line};
-use wire_rows::{Scene, place_of, point_of, put_flag, put_word};
+use wire_rows::{Scene, index_of, point_of, put_flag, put_word};
 
 /// What answers say of the server, in all rows.
 pub fn settings(alloc: Global) -> Result<Settings, NoMemory> {
@@ -39,12 +39,12 @@ const NUMBERS: &[u8] = b"400 404 405 500 501 505";
 
 /// The service of a name.
 fn service_of(name: &[u8]) -> Option<Service> {
-    SERVICES.get(place_of(NAMES, name)?).copied()
+    SERVICES.get(index_of(NAMES, name)?).copied()
 }
 
 /// The status of a number.
 fn status_of(number: &[u8]) -> Option<Status> {
-    STATUSES.get(place_of(NUMBERS, number)?).copied()
+    STATUSES.get(index_of(NUMBERS, number)?).copied()
 }
 
 /// A text of the row, where it has one.
@@ -86,7 +86,7 @@ pub fn put_service(alloc: Global, scene: Scene<'_>, out: &mut Vec<u8>) -> Result
     if let Some(status) = status_of(scene.get(b"service")) {
         return put_error(out, &settings, status);
     }
-    match place_of(b"options continue", scene.get(b"service")) {
+    match index_of(b"options continue", scene.get(b"service")) {
         Some(0) => put_options(out, &settings, point_of(scene.get(b"point"))),
         Some(1) => put_continue(out),
         _ => put_line(out, b"no such service"),

@@ -2,7 +2,7 @@
 use Rattle.std.specs.Prelude.{◌≡◌, ◌≢◌, ℕ, ◌≤◌, ◌<◌, ◌⊎◌, ◌||◌, ◌==◌, Bool, List, ◌++◌, length, slice_index, take, codes, IsTrue}
 use Rattle.std.specs.Char.{is_ascii_uppercase}
 use Rattle.std.specs.Str.{str_eq_ignore_ascii_case}
-use Rattle.adapt_bytes.specs.declared.limits.TheConstants.{MAX_CAPACITY}
+use Rattle.span_bank.specs.declared.limits.TheConstants.{MAX_CAPACITY}
 use Rattle.adapt_bytes.specs.Numeral.{Writes}
 use Rattle.event_loop.specs.declared.admin_lines.Request.{Request}
 use Rattle.event_loop.specs.declared.admin_lines.Request.TheVariants.{Book, Capacity, Drain, Stats, Reopen, Stop, Bad}

@@ -3,7 +3,8 @@
 ghost use Rattle.std.specs.Prelude.{◌↔◌, ℕ, IsTrue, IfSome, IfNone};
 ghost use Rattle.event_loop.specs.Requests.{Asks, BeginsWithMethod, IsHttp, SpellsSize};
 
-use adapt_bytes::{MAX_CAPACITY, front, read_decimal, same_ascii};
+use adapt_bytes::{front, read_decimal, same_ascii};
+use span_bank::MAX_CAPACITY;
 
 /// The most bytes of a line, its LF aside.
 pub const MAX_ADMIN_LINE: usize = 256;

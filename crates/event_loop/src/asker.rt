@@ -13,7 +13,7 @@ const MAX_UNREAD: usize = 65_536;
 
 /// What the administrator's connection said.
 #[derive(Clone, Copy, Debug, PartialEq, Eq)]
-pub enum Heard {
+pub enum AdminInput {
     /// A line.
     Asked(Request),
     /// A line that is too long: it is bad, and ends the connection.
@@ -27,14 +27,14 @@ pub enum Heard {
 }
 
 /// What a line says. No line is read after one of HTTP.
-fn said(line: &[u8]) -> Heard
-    ensures http { IsHttp line.now → result ≡ Heard.Http }
-    ensures other { (IsHttp line.now → ⊥) → (request : AnyRequest) × (result ≡ Heard.Asked request) × Asks line.now request }
+fn said(line: &[u8]) -> AdminInput
+    ensures http { IsHttp line.now → result ≡ AdminInput.Http }
+    ensures other { (IsHttp line.now → ⊥) → (request : AnyRequest) × (result ≡ AdminInput.Asked request) × Asks line.now request }
 {
     if is_http(line) {
-        Heard::Http
+        AdminInput::Http
     } else {
-        Heard::Asked(read_request(line))
+        AdminInput::Asked(read_request(line))
     }
 }
 
@@ -57,7 +57,7 @@ impl<W: Wire + Drop> Asker<W> {
     }
 
     /// The line that is there, if one is whole; it is taken off.
-    fn next_line(&mut self) -> Option<Heard> {
+    fn next_line(&mut self) -> Option<AdminInput> {
         let text = self.text.as_slice();
         match text.iter().position(|byte| *byte == b'\n') {
             Some(end) if end <= MAX_ADMIN_LINE => {
@@ -65,17 +65,17 @@ impl<W: Wire + Drop> Asker<W> {
                 self.text.drain(..end + 1);
                 Some(heard)
             }
-            Some(_) => Some(Heard::TooLong),
-            None if text.len() > MAX_ADMIN_LINE => Some(Heard::TooLong),
+            Some(_) => Some(AdminInput::TooLong),
+            None if text.len() > MAX_ADMIN_LINE => Some(AdminInput::TooLong),
             None => None,
         }
     }
 
     /// Reads up to the next line, but no line while the answers of earlier ones aren't taken. `Err` if no memory was found
     /// for it.
-    pub fn hear(&mut self) -> Result<Heard, AllocError> {
+    pub fn hear(&mut self) -> Result<AdminInput, AllocError> {
         if self.out.len() > MAX_UNREAD {
-            return Ok(Heard::Waiting);
+            return Ok(AdminInput::Waiting);
         }
         for _ in 0..MAX_ADMIN_LINE + 2 {
             if let Some(heard) = self.next_line() {
@@ -84,11 +84,11 @@ impl<W: Wire + Drop> Asker<W> {
             let mut piece = [0u8; MAX_ADMIN_LINE];
             match self.wire.try_read(&mut piece) {
                 Got::Bytes(count) => self.text.extend_from_slice(&piece[..count])?,
-                Got::Wait => return Ok(Heard::Waiting),
-                Got::Ended | Got::Fault => return Ok(Heard::Over),
+                Got::Wait => return Ok(AdminInput::Waiting),
+                Got::Ended | Got::Fault => return Ok(AdminInput::Over),
             }
         }
-        Ok(Heard::TooLong)
+        Ok(AdminInput::TooLong)
     }
 
     /// Says an answer, after those that wait. False if the connection has failed. `Err` if no memory was found.

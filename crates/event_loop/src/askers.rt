@@ -1,7 +1,7 @@
 //! The administrator's connections.
 
 use crate::admin_lines::Request;
-use crate::asker::{Asker, Heard};
+use crate::asker::{AdminInput, Asker};
 use crate::listening::{Accepted, Listening};
 use mio::net::TcpStream;
 use mio::{Registry, Token};
@@ -33,18 +33,18 @@ struct Seat {
 
 impl Seat {
     /// What the connection says next, once what waits to be written to it is out of the way.
-    fn hear(&mut self, turn: u64) -> Heard {
+    fn hear(&mut self, turn: u64) -> AdminInput {
         if !self.asker.flush() {
-            return Heard::Over;
+            return AdminInput::Over;
         }
         match self.asker.hear() {
             Ok(heard) => {
-                if heard != Heard::Waiting {
+                if heard != AdminInput::Waiting {
                     self.heard = turn;
                 }
                 heard
             }
-            Err(_) => Heard::Over,
+            Err(_) => AdminInput::Over,
         }
     }
 }
@@ -165,14 +165,14 @@ impl Askers {
         let turn = self.next_turn();
         let heard = self.seats.get_mut(key)?.hear(turn);
         match heard {
-            Heard::Asked(request) => Some(request),
-            Heard::Waiting => None,
-            Heard::TooLong | Heard::Http => {
+            AdminInput::Asked(request) => Some(request),
+            AdminInput::Waiting => None,
+            AdminInput::TooLong | AdminInput::Http => {
                 self.say(key, b"bad\n");
                 self.leave(key);
                 None
             }
-            Heard::Over => {
+            AdminInput::Over => {
                 self.leave(key);
                 None
             }

@@ -1,6 +1,6 @@
 //! What other threads hand to an event loop: users' connections, that room is wanted, and the words to drain and to stop.
 
-use crate::room::Place;
+use crate::room::UserPermit;
 use mio::Waker;
 use mio::net::TcpStream;
 use std::alloc::{AllocError, Global};
@@ -8,12 +8,12 @@ use std::mem;
 use std::sync::atomic::{AtomicBool, Ordering};
 use std::sync::{Mutex, Wait};
 
-/// A user's connection, with its number in the order of acceptance, from 1, and its place among the users.
+/// A user's connection, with its number in the order of acceptance, from 1, and its permit among the users.
 #[derive(Drop)]
 pub struct Handed {
     pub stream: TcpStream,
     pub number: u64,
-    pub place: Place,
+    pub permit: UserPermit,
 }
 
 /// What was handed in and not yet taken, what the loop is to do, whether it has begun, and what ends its wait.

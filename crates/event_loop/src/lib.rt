@@ -20,13 +20,13 @@ mod threads;
 mod work;
 
 pub use admin_lines::{MAX_ADMIN_LINE, Request, is_http, read_request};
-pub use asker::{Asker, Heard};
+pub use asker::{AdminInput, Asker};
 pub use closing::{Closing, close_turn};
 pub use ended::{Ended, LoopFault};
 pub use inbox::{Handed, Inbox, stop_all};
 pub use listening::{Accepted, Listening};
 pub use ready_list::ReadyList;
-pub use room::{IdlePlace, Place, Room, USER};
+pub use room::{IdlePermit, Room, USER, UserPermit};
 pub use slots::Slots;
 pub use threads::{Base, Entrance, add_loop, name_thread, run_loop};
 pub use work::{Driven, Told, Work};

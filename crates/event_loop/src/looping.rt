@@ -15,7 +15,7 @@ use crate::ports::Ports;
 use crate::ready_list::ReadyList;
 use crate::work::{Told, Work};
 use mio::{Events, Poll, Token};
-use socket_wire::{Dial, place_of};
+use socket_wire::{Dial, peer_of};
 use std::alloc::Global;
 use std::io::{self, ErrorKind};
 use std::sync::Wait;
@@ -343,9 +343,9 @@ impl<K: Work> EventLoop<K> {
             self.accept_askers(alloc);
             return Ok(());
         }
-        match place_of(event.token) {
-            Some((key, side)) => {
-                if self.work.note(key, side, event.told) {
+        match peer_of(event.token) {
+            Some((key, peer)) => {
+                if self.work.note(key, peer, event.told) {
                     self.drive(rt, key)
                 } else {
                     Ok(())

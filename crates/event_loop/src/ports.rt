@@ -144,7 +144,7 @@ impl Ports {
 
     /// Hands a user to the loop whose turn it is. If there is no room for it, it waits, and a loop is asked to make some.
     fn hand<R: Wait>(&mut self, rt: &R, own: usize, inboxes: &[Inbox], stream: TcpStream) -> Turn {
-        let Some(place) = Room::enter(&self.room) else {
+        let Some(permit) = Room::enter(&self.room) else {
             self.waiting = Some(stream);
             self.asked = self.asked.wrapping_add(1);
             if let Some(inbox) = inbox_of(self.asked, self.loops, inboxes) {
@@ -157,7 +157,7 @@ impl Ports {
         let user = Handed {
             stream,
             number,
-            place,
+            permit,
         };
         let Some(inbox) = inbox_of(number, self.loops, inboxes) else {
             return Turn::Other;

@@ -32,27 +32,27 @@ pub struct Room {
     users: AtomicU64,
 }
 
-/// A user's place. There is room for another one once it is dropped.
-pub struct Place {
+/// A user's permit. There is room for another one once it is dropped.
+pub struct UserPermit {
     room: Arc<Room>,
 }
 
-impl Drop for Place {
+impl Drop for UserPermit {
     fn drop(self) {
-        let Place { room } = self;
+        let UserPermit { room } = self;
         let _ = room.users.fetch_sub(1, Ordering::SeqCst);
         room.give_back(USER);
     }
 }
 
-/// The place of an idle connection, which it has until it is used or closed.
-pub struct IdlePlace {
+/// The permit of an idle connection, which it has until it is used or closed.
+pub struct IdlePermit {
     room: Arc<Room>,
 }
 
-impl Drop for IdlePlace {
+impl Drop for IdlePermit {
     fn drop(self) {
-        let IdlePlace { room } = self;
+        let IdlePermit { room } = self;
         room.give_back(1);
     }
 }
@@ -123,24 +123,24 @@ impl Room {
             && !fits(self.used.load(Ordering::SeqCst), USER, self.all)
     }
 
-    /// A place for one more user, if there is one.
-    pub fn enter(room: &Arc<Room>) -> Option<Place> {
+    /// A permit for one more user, if there is room.
+    pub fn enter(room: &Arc<Room>) -> Option<UserPermit> {
         if room.users.load(Ordering::SeqCst) >= room.most {
             return None;
         }
-        let place = Arc::clone(room).ok()?;
+        let room = Arc::clone(room).ok()?;
         if !room.take(USER) {
             return None;
         }
         let _ = room.users.fetch_add(1, Ordering::SeqCst);
-        Some(Place { room: place })
+        Some(UserPermit { room })
     }
 
-    /// A place for one more idle connection, if there is one.
-    pub fn keep(room: &Arc<Room>) -> Option<IdlePlace> {
-        let place = Arc::clone(room).ok()?;
+    /// A permit for one more idle connection, if there is room.
+    pub fn keep(room: &Arc<Room>) -> Option<IdlePermit> {
+        let room = Arc::clone(room).ok()?;
         if room.take(1) {
-            Some(IdlePlace { room: place })
+            Some(IdlePermit { room })
         } else {
             None
         }

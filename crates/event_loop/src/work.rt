@@ -3,7 +3,7 @@
 use crate::admin_lines::Request;
 use crate::inbox::Handed;
 use mio::Registry;
-use socket_wire::{Dial, Side};
+use socket_wire::{Dial, Peer};
 use std::alloc::AllocError;
 use std::sync::Wait;
 use std::time::Clock;
@@ -35,7 +35,7 @@ pub enum Driven {
 /// What one thread drives: exchanges, each found by its key. Moments are seconds of the machine's clock, or milliseconds of it where
 /// their name says so.
 pub trait Work {
-    /// Takes a user's connection in, with its number in the order of acceptance and its place, which it has until it is
+    /// Takes a user's connection in, with its number in the order of acceptance and its permit, which it has until it is
     /// over, and answers the key to be driven. `None` if there is no seat for it, and it was closed.
     fn admit<R: Wait + Dial + Clock>(
         &mut self,
@@ -55,7 +55,7 @@ pub trait Work {
     ) -> bool;
 
     /// Takes note of an event of a connection. False if it says nothing new, so that the exchange needn't be driven.
-    fn note(&mut self, key: usize, side: Side, told: Told) -> bool;
+    fn note(&mut self, key: usize, peer: Peer, told: Told) -> bool;
 
     /// Drives an exchange until each of its connections waits, or others should get their turn.
     fn drive<R: Wait + Dial + Clock>(

@@ -7,7 +7,7 @@ use crate::stage::Stage;
 use crate::told::{Ended, put_ended};
 use proxy_config::{Config, read_config};
 use shard_exchange::Held;
-use span_bank::{Bank, Blanks, Four, Ledgers, Pages};
+use span_bank::{Bank, Blanks, Ledgers, Pages};
 use std::alloc::Global;
 use std::marker::Brand;
 use std::sync::Wait;
@@ -101,7 +101,7 @@ fn put_on_bank<H: Ledger, F: Ledger, S: Ledger, P: Ledger, R: Wait>(
     requires slack { (blanks.slack.name ≡ S.name) × (blanks.slack.parts ≡ S.parts) × (blanks.slack.parts ≡ 2) }
     requires pages { (blanks.pages.name ≡ P.name) × (blanks.pages.parts ≡ P.parts) × (blanks.pages.parts ≡ 2) }
 {
-    let bank: Bank<Four<H, F, S, P>> = Bank::new(alloc, blanks, config.capacity, 1, 16)?;
+    let bank: Bank<(H, F, S, P)> = Bank::new(alloc, blanks, config.capacity, 1, 16)?;
     let told = put_beside(rt, alloc, &bank, config, scene, values, out);
     let is_empty = is_empty(alloc, bank);
     told?;

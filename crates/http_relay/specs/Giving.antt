@@ -1,5 +1,5 @@
 -- What the next hop was given, as a relation over histories.
-use Rattle.std.specs.Prelude.{◌≡◌, ℕ, ◌+◌, ◌<◌, ◌≤◌, Bool, true, false, List, [], ◌∷◌, ◌++◌, length, take, Option, Some, IfSome, if◌then◌else◌, ◌==◌, ◌||◌}
+use Rattle.std.specs.Prelude.{◌≡◌, ℕ, ◌+◌, ◌<◌, ◌≤◌, Bool, true, false, List, [], ◌∷◌, ◌++◌, length, take, Option, Some, None, IfSome, if◌then◌else◌, ◌==◌, ◌||◌}
 use Rattle.icap_chunks.specs.Grammar.{last_chunk}
 use Rattle.trace_core.specs.declared.history.Event.{Event}
 use Rattle.trace_core.specs.declared.history.Event.TheVariants.{Usr, Done}
@@ -109,6 +109,11 @@ pub record Decides (x : Seen) (w : Writer) (framing : Framing) (stage : Stage) (
 pub data BreaksLength (x : Seen) (framing : Framing) : Type 0 where
   longer : (n : ℕ) → length_of framing ≡ Some n → n < chosen_received x → BreaksLength x framing
   shorter : (n : ℕ) → length_of framing ≡ Some n → chosen_over x ≡ true → chosen_received x < n → BreaksLength x framing
+
+-- the bytes of the body that were given, where any text was
+abbrev pub count_of : Option ℕ → ℕ
+count_of None = 0
+count_of (Some n) = n
 
 -- The events of a turn.
 abbrev pub usr_events : ℕ → List Event

@@ -1,12 +1,12 @@
 //! What may go to the next hop next.
 
-ghost use Rattle.std.specs.Prelude.{◌≡◌, ◌+◌, ◌≤◌, [], IfSome, true, false, Some, None};
+ghost use Rattle.std.specs.Prelude.{◌≡◌, ◌+◌, ◌≤◌, [], IfSome, is_some, true, false, Some, None};
 ghost use Rattle.trace_core.specs.History.{seen};
 ghost use Rattle.trace_core.specs.Legal.{IsGreatest, MayFollow};
 ghost use Rattle.chunk_writer.specs.Writer.{is_ending, end_text};
 ghost use Rattle.http_relay.specs.Message.{is_chunks, length_of};
 ghost use Rattle.adapt_sides.specs.Tapes.{chosen_delivered, chosen_received, chosen_over};
-ghost use Rattle.http_relay.specs.Giving.{is_message, body_end, Decides, BreaksLength, hop_events};
+ghost use Rattle.http_relay.specs.Giving.{is_message, body_end, Decides, BreaksLength, count_of, hop_events};
 
 use crate::hop::Stage;
 use adapt_sides::{Turn, push_event};
@@ -134,18 +134,20 @@ fn body_ending(framing: Framing) -> Ending
     }
 }
 
-pub(crate) fn turn_of(sent: u64, done: bool, moved: bool) -> Turn
-    ensures events { result.events.items ≡ hop_events sent done }
-    ensures waits { result.waiting ≡ true → (result.events.items ≡ []) × (moved ≡ false) }
-    ensures goes { result.waiting ≡ false → (moved ≡ false) → result.events.items ≡ [] → ⊥ }
+/// The turn in which the wire took so many bytes of the body, or nothing at all, and the message is done or not.
+pub(crate) fn turn_of(sent: Option<u64>, done: bool) -> Turn
+    ensures events { result.events.items ≡ hop_events (count_of sent) done }
+    ensures waits { result.waiting ≡ true → (result.events.items ≡ []) × (is_some sent ≡ false) }
+    ensures goes { result.waiting ≡ false → (is_some sent ≡ false) → result.events.items ≡ [] → ⊥ }
 {
     let mut events = ArrayVec::new();
-    if sent > 0 {
-        push_event(&mut events, Event::Usr(sent));
+    let count = sent.unwrap_or(0);
+    if count > 0 {
+        push_event(&mut events, Event::Usr(count));
     }
     if done {
         push_event(&mut events, Event::Done);
     }
-    let waiting = sent == 0 && !done && !moved;
+    let waiting = sent.is_none() && !done;
     Turn { events, waiting }
 }

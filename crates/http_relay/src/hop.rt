@@ -47,7 +47,7 @@ fn wire_fault(fault: Option<RelayFault>) -> Option<RelayFault>
 /// The next hop's end of one transaction: it writes one message, or the proxy's own refusal.
 ///
 /// ```
-/// let mut hop = NextHop::new(alloc);
+/// let mut hop = HopWriter::new(alloc);
 /// assert!(rt; hop.is_idle());
 /// hop.begin(b"HTTP/1.1 200 OK\r\n\r\n".to_vec(alloc)?, Framing::Length(2));
 /// assert!(rt; !hop.is_idle() && hop.untouched());
@@ -56,7 +56,7 @@ fn wire_fault(fault: Option<RelayFault>) -> Option<RelayFault>
 /// assert!(rt; !hop.is_out());
 /// ```
 #[derive(Drop)]
-pub struct NextHop {
+pub struct HopWriter {
     writer: ChunkWriter,
     framing: Framing,
     stage: Stage,
@@ -64,7 +64,7 @@ pub struct NextHop {
     fault: Option<RelayFault>,
 }
 
-impl Model for NextHop {
+impl Model for HopWriter {
     ghost use Rattle.http_relay.specs.Giving.{Hop};
 
     ghost Value = { Hop };
@@ -72,14 +72,14 @@ impl Model for NextHop {
     ghost view = { λ h. record { writer = h.writer; framing = h.framing; stage = h.stage; touched = h.touched; fault = h.fault } };
 }
 
-impl NextHop {
+impl HopWriter {
     /// A next hop to which nothing is written yet.
-    pub fn new(alloc: Global) -> NextHop
+    pub fn new(alloc: Global) -> HopWriter
         ensures shows { result ≡ record { writer = fresh []; framing = Framing.None; stage = Stage.Empty; touched = false; fault = None } }
         ensures given { (x : Seen) (head body : List ℕ) → IsUndelivered x → HasGiven x head body [] result }
         ensures aside { IsAside [] result }
     {
-        NextHop {
+        HopWriter {
             writer: ChunkWriter::new(Vec::new(alloc)),
             framing: Framing::None,
             stage: Stage::Empty,
@@ -141,7 +141,7 @@ impl NextHop {
     }
 
     /// Gives back the head's memory, once all of it is out.
-    fn let_go(&mut self)
+    fn drop_text(&mut self)
         ensures still { LetsGo self.old self.new }
         ensures gone { KeepsNoText self.new.writer }
     {
@@ -149,7 +149,7 @@ impl NextHop {
     }
 
     /// Counts what a turn wrote, and says whether the whole message is out with it.
-    fn settle(&mut self, sent: u64, ended: bool, may: bool) -> bool
+    fn count_written(&mut self, sent: u64, ended: bool, may: bool) -> bool
         ensures stage { self.new ≡ record { writer = self.old.writer; framing = self.old.framing; stage = stage_then self.old.stage ended; touched = self.old.touched; fault = self.old.fault } }
         ensures done { result ≡ true → (stage_then self.old.stage ended ≡ Stage.Whole) × (waiting self.old.writer ≡ []) × ((ended ≡ true) ⊎ ((may ≡ true) × (sent ≡ 0))) }
         ensures ended { result ≡ false → waiting self.old.writer ≡ [] → ended ≡ true → ⊥ }
@@ -202,19 +202,19 @@ impl NextHop {
                 Err(RelayFault::Device)
             }
             Some(Put::Wait) => {
-                self.let_go();
-                Ok(turn_of(0, false, false))
+                self.drop_text();
+                Ok(turn_of(None, false))
             }
             Some(Put::Took(_)) => {
                 self.touched = true;
-                let done = self.settle(wrote.sent, wrote.ended, may);
-                self.let_go();
-                Ok(turn_of(wrote.sent, done, true))
+                let done = self.count_written(wrote.sent, wrote.ended, may);
+                self.drop_text();
+                Ok(turn_of(Some(wrote.sent), done))
             }
             None => {
-                let done = self.settle(0, wrote.ended, may);
-                self.let_go();
-                Ok(turn_of(0, done, false))
+                let done = self.count_written(0, wrote.ended, may);
+                self.drop_text();
+                Ok(turn_of(None, done))
             }
         }
     }

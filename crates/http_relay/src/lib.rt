@@ -10,5 +10,5 @@ mod source_body;
 mod traits;
 
 pub use adapt_sides::{RelayFault, Turn};
-pub use hop::{NextHop, Stage};
+pub use hop::{HopWriter, Stage};
 pub use side::{Asks, SourceHead, SourceSide};

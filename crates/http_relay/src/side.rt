@@ -155,7 +155,7 @@ impl SourceSide {
         ensures empty { self.new.raw.items ≡ [] → self.new.raw.spare ≡ 0 }
     {
         let result = self.frame_or_read(wire, out);
-        self.give_back();
+        self.free_memory();
         result
     }
 
@@ -324,7 +324,7 @@ impl SourceSide {
     }
 
     /// Gives back the room for raw bytes, if there is no such byte.
-    fn give_back(&mut self)
+    fn free_memory(&mut self)
         ensures { GivesBack self.old self.new }
     {
         if self.raw.is_empty() {

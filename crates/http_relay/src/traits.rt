@@ -1,6 +1,6 @@
 //! Both sides as a transaction calls them.
 
-use crate::hop::NextHop;
+use crate::hop::HopWriter;
 use crate::side::{SourceHead, SourceSide};
 use adapt_sides::{Hop, RelayFault, Source, Turn};
 use http_side::Framing;
@@ -57,7 +57,7 @@ impl Source for SourceSide {
     }
 }
 
-impl Hop for NextHop {
+impl Hop for HopWriter {
     ghost use Rattle.std.specs.Prelude.{not};
     ghost use Rattle.http_relay.specs.Message.{IsMessage};
     ghost use Rattle.http_relay.specs.Giving.{HasGiven, IsAside, NothingDue, BreaksLength, gift_of, is_flushed};
@@ -106,27 +106,27 @@ impl Hop for NextHop {
     ghost rests_where = { laws.rests_where };
 
     fn untouched(&self) -> bool {
-        NextHop::untouched(self)
+        HopWriter::untouched(self)
     }
 
     fn is_out(&self) -> bool {
-        NextHop::is_out(self)
+        HopWriter::is_out(self)
     }
 
     fn is_idle(&self) -> bool {
-        NextHop::is_idle(self)
+        HopWriter::is_idle(self)
     }
 
     fn fault(&self) -> Option<RelayFault> {
-        NextHop::fault(self)
+        HopWriter::fault(self)
     }
 
     fn begin(&mut self, head: Vec<u8>, framing: Framing) {
-        NextHop::begin(self, head, framing);
+        HopWriter::begin(self, head, framing);
     }
 
     fn refuse(&mut self, status: u16) {
-        NextHop::refuse(self, status);
+        HopWriter::refuse(self, status);
     }
 
     fn write_turn<W: Wire>(
@@ -135,6 +135,6 @@ impl Hop for NextHop {
         tape: &SpanTape,
         wire: &mut W,
     ) -> Result<Turn, RelayFault> {
-        NextHop::write_turn(self, state, tape, wire)
+        HopWriter::write_turn(self, state, tape, wire)
     }
 }

@@ -9,7 +9,7 @@ use Rattle.icap_chunks.proofs.Endings.{reads_chunked}
 use Rattle.http_side.specs.declared.body.Framing.{Framing}
 use Rattle.http_side.specs.declared.body.Framing.TheVariants.{None, Length, Chunked, Close}
 use Rattle.http_side.specs.declared.body.BodyReader.{BodyReader}
-use Rattle.http_side.specs.declared.body.Place.TheVariants.{Left, Chunks, Open}
+use Rattle.http_side.specs.declared.body.Progress.TheVariants.{Left, Chunks, Open}
 use Rattle.http_side.specs.Body.{IsBody, IsClosedBody, HasRead, is_over, is_over_at}
 
 -- the end of an answer, without the word

@@ -10,7 +10,7 @@ use Rattle.icap_chunks.specs.Faults.{Breaks}
 use Rattle.http_side.specs.declared.body.Framing.{Framing}
 use Rattle.http_side.specs.declared.body.Framing.TheVariants.{None, Length, Chunked, Close}
 use Rattle.http_side.specs.declared.body.BodyReader.{BodyReader}
-use Rattle.http_side.specs.declared.body.Place.TheVariants.{Left, Chunks, Open}
+use Rattle.http_side.specs.declared.body.Progress.TheVariants.{Left, Chunks, Open}
 use Rattle.http_side.specs.Body.{HasRead}
 
 same_left : {m n : ℕ} → Left m ≡ Left n → m ≡ n

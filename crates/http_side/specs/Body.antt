@@ -7,8 +7,8 @@ use Rattle.icap_chunks.specs.declared.fault.ChunkFault.{ChunkFault}
 use Rattle.http_side.specs.declared.body.Framing.{Framing}
 use Rattle.http_side.specs.declared.body.Framing.TheVariants.{None, Length, Chunked, Close}
 use Rattle.http_side.specs.declared.body.BodyReader.{BodyReader}
-use Rattle.http_side.specs.declared.body.Place.{Place}
-use Rattle.http_side.specs.declared.body.Place.TheVariants.{Left, Chunks, Open}
+use Rattle.http_side.specs.declared.body.Progress.{Progress}
+use Rattle.http_side.specs.declared.body.Progress.TheVariants.{Left, Chunks, Open}
 
 -- the text is a whole body of this framing, and these are its bytes; no text is one that the close ends
 abbrev pub IsBody : Framing → List ℕ → List ℕ → Type 0
@@ -32,7 +32,7 @@ HasRead Chunked text body r = (reader : ChunkReader) × chunks.HasRead text body
 HasRead Close text body r = (body ≡ text) × (r.place ≡ Open)
 
 -- nothing is left of the body
-abbrev pub is_over_at : Place → Bool
+abbrev pub is_over_at : Progress → Bool
 is_over_at (Left n) = n == 0
 is_over_at (Chunks reader) = is_some (chunks.end_of reader)
 is_over_at Open = false
@@ -45,7 +45,7 @@ abbrev pub end_said : BodyReader → Option Bool
 end_said r = if is_over r then Some false else Nothing
 
 -- the next byte is one of the body: of its length, of a chunk's data, or any one up to the close
-abbrev pub is_in_data_at : Place → Bool
+abbrev pub is_in_data_at : Progress → Bool
 is_in_data_at (Left n) = nat_lt 0 n
 is_in_data_at (Chunks reader) = chunks.is_in_data reader
 is_in_data_at Open = true
@@ -53,7 +53,7 @@ is_in_data_at Open = true
 abbrev pub is_in_data : BodyReader → Bool
 is_in_data r = is_in_data_at r.place
 
-abbrev pub fault_at : Place → Option ChunkFault
+abbrev pub fault_at : Progress → Option ChunkFault
 fault_at (Chunks reader) = chunks.fault_of reader
 fault_at (Left n) = Nothing
 fault_at Open = Nothing

@@ -18,8 +18,8 @@ use Rattle.http_side.specs.declared.writing.Beside.{Beside}
 use Rattle.http_side.specs.declared.writing.Extra.{Extra}
 use Rattle.http_side.specs.declared.forward.Message.{Message}
 use Rattle.http_side.specs.declared.forward.Message.TheVariants.{Request, Response}
-use Rattle.http_side.specs.declared.forward.Part.{Part}
-use Rattle.http_side.specs.declared.forward.Part.TheVariants.{Own, Body, NullBody}
+use Rattle.http_side.specs.declared.forward.BodyKind.{BodyKind}
+use Rattle.http_side.specs.declared.forward.BodyKind.TheVariants.{Own, Body, NullBody}
 use Rattle.http_side.specs.declared.forward.Forward.{Forward}
 use Rattle.http_side.specs.declared.forward.Encapsulated.{Encapsulated}
 
@@ -198,7 +198,7 @@ has_own_body (Request r) = is_chunked (coding r.now.fields)
 has_own_body (Response r) = true
 
 -- a message without a length has a body
-abbrev pub has_body : Part → Message → Bool
+abbrev pub has_body : BodyKind → Message → Bool
 has_body Own message = has_own_body message
 has_body Body message = true
 has_body NullBody message = false

@@ -3,7 +3,7 @@
 ghost use Rattle.std.specs.Prelude.{◌≡◌, ℕ, ◌+◌, ◌-◌, ◌<◌, ◌≤◌, ◌++◌, List, [], length, take, slice_range, Some, None, Err, IfOk, IfErr, IfSome, IsOkAnd, OnOk, IsTrue, ◌↔◌, true, if◌then◌else◌, false, is_some, min};
 ghost use Rattle.icap_chunks.specs.Faults.{Breaks};
 ghost use Rattle.icap_chunks.specs.Machine.{HasRead as chunks_read, end_of, fault_of as chunk_fault};
-ghost use Rattle.http_side.specs.declared.body.Place.TheVariants.{Left, Chunks};
+ghost use Rattle.http_side.specs.declared.body.Progress.TheVariants.{Left, Chunks};
 ghost use Rattle.http_side.specs.Body.{IsBody, IsClosedBody, HasRead, is_over, fault_of, end_said, is_in_data};
 ghost use Rattle.http_side.specs.declared.body.Framing.{Framing as Way};
 ghost use Rattle.http_side.specs.declared.body.Framing.TheVariants.{Chunked};
@@ -27,12 +27,12 @@ pub enum Framing {
 /// A reader of one body, fed in pieces of any size. It keeps numbers only and never allocates.
 #[derive(Clone, Copy, Debug, PartialEq, Eq)]
 pub struct BodyReader {
-    place: Place,
+    place: Progress,
 }
 
 /// What is left of a body.
 #[derive(Clone, Copy, Debug, PartialEq, Eq)]
-enum Place {
+enum Progress {
     /// This many bytes.
     Left(u64),
     Chunks(ChunkReader),
@@ -46,10 +46,10 @@ impl BodyReader {
         ensures { HasRead framing [] [] result }
     {
         let place = match framing {
-            Framing::None => Place::Left(0),
-            Framing::Length(count) => Place::Left(count),
-            Framing::Chunked => Place::Chunks(ChunkReader::new()),
-            Framing::Close => Place::Open,
+            Framing::None => Progress::Left(0),
+            Framing::Length(count) => Progress::Left(count),
+            Framing::Chunked => Progress::Chunks(ChunkReader::new()),
+            Framing::Close => Progress::Open,
         };
         BodyReader { place }
     }
@@ -80,9 +80,9 @@ impl BodyReader {
         ensures faulted { IfSome (fault_of self.old) (λ fault. result ≡ Err fault) }
     {
         match self.place {
-            Place::Left(left) => Ok(self.read_counted(left, piece.len())),
-            Place::Chunks(chunks) => self.read_chunks(chunks, piece),
-            Place::Open => Ok(Fed {
+            Progress::Left(left) => Ok(self.read_counted(left, piece.len())),
+            Progress::Chunks(chunks) => self.read_chunks(chunks, piece),
+            Progress::Open => Ok(Fed {
                 used: piece.len(),
                 part: (0, piece.len()),
                 ended: None,
@@ -98,7 +98,7 @@ impl BodyReader {
         ensures ended { result.ended ≡ end_said self.new }
     {
         let count = left.min(room as u64);
-        self.place = Place::Left(left - count);
+        self.place = Progress::Left(left - count);
         Fed {
             used: count as usize,
             part: (0, count as usize),
@@ -121,7 +121,7 @@ impl BodyReader {
         ensures faulted { IfSome (chunk_fault chunks) (λ fault. result ≡ Err fault) }
     {
         let fed = chunks.feed(piece);
-        self.place = Place::Chunks(chunks);
+        self.place = Progress::Chunks(chunks);
         let fed = fed?;
         Ok(Fed {
             used: fed.used,
@@ -135,9 +135,9 @@ impl BodyReader {
         ensures { result ≡ is_over self.now }
     {
         match self.place {
-            Place::Left(left) => left == 0,
-            Place::Chunks(chunks) => chunks.has_ended(),
-            Place::Open => false,
+            Progress::Left(left) => left == 0,
+            Progress::Chunks(chunks) => chunks.has_ended(),
+            Progress::Open => false,
         }
     }
 
@@ -146,9 +146,9 @@ impl BodyReader {
         ensures { (framing : Way) (text body : List ℕ) → HasRead framing text body self.now → (IsTrue result ↔ IsClosedBody framing text body) }
     {
         match self.place {
-            Place::Left(left) => left == 0,
-            Place::Chunks(chunks) => chunks.has_ended(),
-            Place::Open => true,
+            Progress::Left(left) => left == 0,
+            Progress::Chunks(chunks) => chunks.has_ended(),
+            Progress::Open => true,
         }
     }
 }

@@ -26,7 +26,7 @@ pub enum Message<'a> {
 
 /// The body that follows the head.
 #[derive(Clone, Copy, Debug, PartialEq, Eq)]
-pub enum Part {
+pub enum BodyKind {
     /// The message is the original: its own framing says.
     Own,
     /// The message is an adapted one with a body part.
@@ -43,7 +43,7 @@ pub struct Forward<'u, 'm> {
     /// The head to forward.
     pub message: Message<'m>,
     /// What follows its head.
-    pub part: Part,
+    pub part: BodyKind,
     /// Whether the body of the user's request has been read to its end.
     pub body_read: bool,
 }
@@ -124,9 +124,9 @@ impl<'u, 'm> Forward<'u, 'm> {
         ensures { result ≡ has_body self.now.part self.now.message }
     {
         match self.part {
-            Part::Own => self.message.has_own_body(),
-            Part::Body => true,
-            Part::NullBody => false,
+            BodyKind::Own => self.message.has_own_body(),
+            BodyKind::Body => true,
+            BodyKind::NullBody => false,
         }
     }
 

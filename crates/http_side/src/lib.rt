@@ -26,7 +26,7 @@ mod writing;
 pub use body::{BodyReader, Framing, ends_with_the_body};
 pub use fault::HttpFault;
 pub use fields::{Fields, Values};
-pub use forward::{Encapsulated, Forward, Message, Part, encapsulated_head, forward_head};
+pub use forward::{BodyKind, Encapsulated, Forward, Message, encapsulated_head, forward_head};
 pub use head::Head;
 pub use refusal::own_refusal;
 pub use request::{HttpRequest, read_request};

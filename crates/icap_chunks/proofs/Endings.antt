@@ -3,8 +3,8 @@ use Rattle.std.proofs.Common.{◌≡◌, ℕ, ◌+◌, ◌<◌, Bool, List, [], 
 use Rattle.std.specs.Prelude.{◌↔◌}
 use Rattle.std.proofs.lemmas.List.{append-nil, take-append-drop, take-append-le}
 use Rattle.std.proofs.Math.Seq.{take-length}
-use Rattle.icap_chunks.specs.declared.places.Place.{Place}
-use Rattle.icap_chunks.specs.declared.places.Place.TheVariants.{LastCr, Ended}
+use Rattle.icap_chunks.specs.declared.positions.Position.{Position}
+use Rattle.icap_chunks.specs.declared.positions.Position.TheVariants.{LastCr, Ended}
 use Rattle.icap_chunks.specs.declared.reader.ChunkReader.{ChunkReader}
 use Rattle.icap_chunks.specs.Grammar.{IsChunked}
 use Rattle.icap_chunks.specs.Machine.{start, step, run, body_of, end_at, end_of, EndsAt}
@@ -14,7 +14,7 @@ use Rattle.icap_chunks.proofs.Standing.{HasEnded}
 use Rattle.icap_chunks.proofs.Standing.{LeavesAt}
 use Rattle.icap_chunks.proofs.Leaves.{text_leaves}
 
-pub ended_at : (p : Place) (ieof : Bool) → end_at p ≡ Some ieof → p ≡ Ended ieof
+pub ended_at : (p : Position) (ieof : Bool) → end_at p ≡ Some ieof → p ≡ Ended ieof
 unfolding end_at
 ended_at p ieof e = grind (arith)
 
@@ -70,7 +70,7 @@ chunked_ends text body ieof w =
 pub ends_chunked : (text : List ℕ) (ieof : Bool) → EndsAt text ieof → IsChunked text (body_of start text) ieof
 ends_chunked text ieof e =
     let place = ended_at (run start text).place ieof e.ended in
-    let g : HasEnded text (body_of start text) ieof = let P : Place → Type 0 = λ p. LeavesAt text (body_of start text) (run start text).sum p in subst P place (text_leaves text) in
+    let g : HasEnded text (body_of start text) ieof = let P : Position → Type 0 = λ p. LeavesAt text (body_of start text) (run start text).sum p in subst P place (text_leaves text) in
     no_rest text (body_of start text) ieof e g.whole g.rest g.is g.text_is
   where
     no_rest : (text body : List ℕ) (ieof : Bool) → EndsAt text ieof → (whole rest : List ℕ) → IsChunked whole body ieof → text ≡ whole ++ rest → IsChunked text body ieof

@@ -6,8 +6,8 @@ use Rattle.std.specs.Str.Parse.{digits_value}
 use Rattle.icap_chunks.specs.declared.fault.ChunkFault.{ChunkFault}
 use Rattle.icap_chunks.specs.declared.extension.Item.{Item}
 use Rattle.icap_chunks.specs.declared.extension.Item.TheVariants.{Blank}
-use Rattle.icap_chunks.specs.declared.places.Place.{Place}
-use Rattle.icap_chunks.specs.declared.places.Place.TheVariants.{Digits, Pad, Extension, LineCr, Data, DataEnd, DataCr, TrailerStart, Trailer, TrailerCr, LastCr, Ended, Faulted}
+use Rattle.icap_chunks.specs.declared.positions.Position.{Position}
+use Rattle.icap_chunks.specs.declared.positions.Position.TheVariants.{Digits, Pad, Extension, LineCr, Data, DataEnd, DataCr, TrailerStart, Trailer, TrailerCr, LastCr, Ended, Faulted}
 use Rattle.icap_chunks.specs.declared.reader.ChunkReader.{ChunkReader}
 use Rattle.adapt_bytes.specs.Text.{is_blank}
 use Rattle.icap_chunks.specs.Grammar.{AllPass, SizeLine, print_line, has_ieof, IsSizeLine, Chunks}
@@ -26,7 +26,7 @@ front_walk : (text body part : List ℕ) (sum : ℕ) (f : Front text body part s
 front_walk text body part sum f r w = finding (of (on (chunks_walk f.chunks) w) (sym f.text_is)) (append-nil body)
 
 -- the same for a place whose sum is that of the chunks in front
-place_walk : (text body part : List ℕ) (sum : ℕ) (f : Front text body part sum) (p : Place) → Walk (at (length body) (Digits 0 0)) part [] (at (length body) p) → Walk start text body (at sum p)
+place_walk : (text body part : List ℕ) (sum : ℕ) (f : Front text body part sum) (p : Position) → Walk (at (length body) (Digits 0 0)) part [] (at (length body) p) → Walk start text body (at sum p)
 place_walk text body part sum f p w = to (front_walk text body part sum f (at (length body) p) w) (ap (λ n. at n p) (sym f.sum_is))
 
 digits_only : (sum count size : ℕ) (ds : List ℕ) → Rattle.std.specs.Str.Parse.AllDigits 16 ds → count ≡ length ds → digits_value 16 ds ≡ size → count ≤ 256 → size < 4611686018427387904
@@ -84,7 +84,7 @@ some_data sum size bytes s pos short is = record {
   finds = body_of_data sum (size - 1) bytes (omega arith);
 }
 
-chunk_part : (text body : List ℕ) (sum left : ℕ) (tail : List ℕ) (s : InChunk text body sum left tail) (p q : Place) → data_behind sum (s.size - 1) (length s.bytes) ≡ at sum p
+chunk_part : (text body : List ℕ) (sum left : ℕ) (tail : List ℕ) (s : InChunk text body sum left tail) (p q : Position) → data_behind sum (s.size - 1) (length s.bytes) ≡ at sum p
     → Walk (at sum p) tail [] (at sum q) → Walk start text body (at sum q)
 chunk_part text body sum left tail s p q is behind =
     let base = length s.done in
@@ -97,7 +97,7 @@ chunk_part text body sum left tail s p q is behind =
     (append_assoc (print_line s.l) (13 ∷ []) (10 ∷ (s.bytes ++ tail))) in
     finding (of (on (chunks_walk s.front.chunks) line) (sym s.front.text_is)) (ap (λ x. s.done ++ x) (append-nil s.bytes) ∙ sym s.body_is)
 
-trailers_part : (text body : List ℕ) (sum count : ℕ) (ieof : Bool) (part : List ℕ) (s : InTrailers text body sum count ieof part) (q : Place)
+trailers_part : (text body : List ℕ) (sum count : ℕ) (ieof : Bool) (part : List ℕ) (s : InTrailers text body sum count ieof part) (q : Position)
     → Walk (at (length body) (TrailerStart (length s.trailers) ieof)) part [] (at (length body) q) → Walk start text body (at sum q)
 trailers_part text body sum count ieof part s q behind =
     let n = length body in
@@ -115,7 +115,7 @@ trailer_part sum count ieof (b ∷ part) some all short =
     to (on (first_trailer sum ieof count b (omega arith) all.0) (trailer_bytes sum ieof (count + 1) part all.1 (omega arith))) (ap (λ k. at sum (Trailer k ieof)) same)
 
 -- a text that stands in a place that isn't the end leads there
-pub leaves_walk : (text body : List ℕ) (sum : ℕ) (p : Place) → end_at p ≡ None → faulted_at p ≡ None → LeavesAt text body sum p → Walk start text body (at sum p)
+pub leaves_walk : (text body : List ℕ) (sum : ℕ) (p : Position) → end_at p ≡ None → faulted_at p ≡ None → LeavesAt text body sum p → Walk start text body (at sum p)
 unfolding end_at faulted_at
 leaves_walk text body sum (Digits count size) e f s = digits_stand text body sum count size s
 leaves_walk text body sum (Pad count size) e f s = pad_stand text body sum count size s
@@ -148,7 +148,7 @@ leaves_walk text body sum (Faulted fault) e f s = absurd (some_none f)
 
 -- ---- faults
 
-pub fault_is : (p : Place) (fault : ChunkFault) → faulted_at p ≡ Some fault → p ≡ Faulted fault
+pub fault_is : (p : Position) (fault : ChunkFault) → faulted_at p ≡ Some fault → p ≡ Faulted fault
 unfolding faulted_at
 fault_is p fault e = grind (arith)
 
@@ -166,7 +166,7 @@ data_place true n fault e = none_some e
 data_place false n fault e = none_some e
 
 -- a byte of the body, and one behind the end, breaks nothing
-no_body_breaks : (sum : ℕ) (p : Place) (b : ℕ) (fault : ChunkFault) → fault_of (step (at sum p) b) ≡ Some fault → faulted_at p ≡ None → (is_data p ≡ false) × (end_at p ≡ None)
+no_body_breaks : (sum : ℕ) (p : Position) (b : ℕ) (fault : ChunkFault) → fault_of (step (at sum p) b) ≡ Some fault → faulted_at p ≡ None → (is_data p ≡ false) × (end_at p ≡ None)
 unfolding step Rattle.icap_chunks.specs.Machine.in_data is_data end_at faulted_at
 no_body_breaks sum p b fault e none = grind (arith)
 

@@ -5,8 +5,8 @@ use Rattle.std.proofs.lemmas.Bool.{cases_lt}
 use Rattle.std.proofs.Math.Seq.{take-append-add}
 use Rattle.std.specs.Prelude.{IfOk, IfErr, OnOk, IfSome, IsOkAnd, Result, Ok, Err, slice_range}
 use Rattle.icap_chunks.specs.declared.reader.Fed.{Fed}
-use Rattle.icap_chunks.specs.declared.places.Place.{Place}
-use Rattle.icap_chunks.specs.declared.places.Place.TheVariants.{Ended, Faulted}
+use Rattle.icap_chunks.specs.declared.positions.Position.{Position}
+use Rattle.icap_chunks.specs.declared.positions.Position.TheVariants.{Ended, Faulted}
 use Rattle.icap_chunks.proofs.Endings.{some_none, end_stays, ended_at}
 use Rattle.icap_chunks.specs.declared.reader.ChunkReader.{ChunkReader}
 use Rattle.icap_chunks.specs.declared.fault.ChunkFault.{ChunkFault}
@@ -83,5 +83,5 @@ module _ (old new : ChunkReader) (piece : List ℕ) where
   fed_over (Err fault) (Some ieof) e read ended first is read_all =
       absurd (no_both new.place ieof fault (ended_at new.place ieof (ap end_of read_all ∙ end_stays old ieof piece e)) (fault_is new.place fault is))
     where
-      no_both : (p : Place) (ieof : Bool) (fault : ChunkFault) → p ≡ Ended ieof → p ≡ Faulted fault → ⊥
+      no_both : (p : Position) (ieof : Bool) (fault : ChunkFault) → p ≡ Ended ieof → p ≡ Faulted fault → ⊥
       no_both p ieof fault a b = let c : Ended ieof ≡ Faulted fault = sym a ∙ b in cc

@@ -2,8 +2,8 @@
 use Rattle.std.proofs.Common.{◌≡◌, ℕ, ◌+◌, ◌-◌, ◌<◌, Bool, true, false, true≢false, ◌||◌, ◌&&◌, List, [], ◌∷◌, ◌++◌, length, refl, sym, ap, subst, ◌∙◌, arith, append_assoc, nat_lt, nat_le, if◌then◌else◌, ◌==◌, length-append, lit<, lit≤}
 use Rattle.std.proofs.lemmas.List.{append-nil}
 use Rattle.std.proofs.lemmas.Bool.Decides.{nat_tests}
-use Rattle.icap_chunks.specs.declared.places.Place.{Place}
-use Rattle.icap_chunks.specs.declared.places.Place.TheVariants.{Digits, Pad, Extension, LineCr, Data, DataEnd, DataCr, TrailerStart, Trailer, TrailerCr, LastCr, Ended, Faulted}
+use Rattle.icap_chunks.specs.declared.positions.Position.{Position}
+use Rattle.icap_chunks.specs.declared.positions.Position.TheVariants.{Digits, Pad, Extension, LineCr, Data, DataEnd, DataCr, TrailerStart, Trailer, TrailerCr, LastCr, Ended, Faulted}
 use Rattle.icap_chunks.specs.declared.reader.ChunkReader.{ChunkReader}
 use Rattle.icap_chunks.specs.Grammar.{crlf, is_line_byte, AllPass, print_line, print_extension, IsSizeLine, no_chunk, chunk, line}
 use Rattle.icap_chunks.specs.Machine.{start, step, run, body_of, is_data, in_data, in_data_end, in_data_cr, in_trailer_start, in_trailer, in_trailer_cr, in_last_cr}
@@ -172,7 +172,7 @@ module _ (text body : List ℕ) (b : ℕ) where
   ended_step : (ieof : Bool) → HasEnded text body ieof → HasEnded (text ++ b ∷ []) body ieof
   ended_step ieof s = record { whole = s.whole; rest = s.rest ++ b ∷ []; is = s.is; text_is = ap (λ t. t ++ b ∷ []) s.text_is ∙ append_assoc s.whole s.rest (b ∷ []) }
 
-  pub step_leaves : (sum : ℕ) (p : Place) → LeavesAt text body sum p → LeavesReader (text ++ b ∷ []) (body ++ (if is_data p then b ∷ [] else [])) (step (record { sum = sum; place = p }) b)
+  pub step_leaves : (sum : ℕ) (p : Position) → LeavesAt text body sum p → LeavesReader (text ++ b ∷ []) (body ++ (if is_data p then b ∷ [] else [])) (step (record { sum = sum; place = p }) b)
   unfolding step is_data
   step_leaves sum (Digits count size) s = same _ (digits_step text body sum count size b s)
   step_leaves sum (Pad count size) s = same _ (pad_step text body sum count size b s)

@@ -7,8 +7,8 @@ use Rattle.std.proofs.lemmas.Int.Digits.{digits_push, digits_value_push}
 use Rattle.adapt_bytes.specs.Numeral.{Writes}
 use Rattle.icap_chunks.specs.declared.extension.Item.{Item}
 use Rattle.icap_chunks.specs.declared.extension.Item.TheVariants.{Blank}
-use Rattle.icap_chunks.specs.declared.places.Place.{Place}
-use Rattle.icap_chunks.specs.declared.places.Place.TheVariants.{Extension}
+use Rattle.icap_chunks.specs.declared.positions.Position.{Position}
+use Rattle.icap_chunks.specs.declared.positions.Position.TheVariants.{Extension}
 use Rattle.icap_chunks.specs.declared.reader.ChunkReader.{ChunkReader}
 use Rattle.adapt_bytes.specs.Text.{is_blank}
 use Rattle.icap_chunks.specs.Grammar.{is_line_byte, AllPass, print_line, IsSizeLine, no_line}
@@ -37,7 +37,7 @@ pub All_push : (test : ℕ → Bool) (bytes : List ℕ) (b : ℕ) → AllPass te
 All_push test [] b all pass = (pass, tt)
 All_push test (c ∷ bytes) b all pass = (all.0, All_push test bytes b all.1 pass)
 
-pub choose : (P : Place → Type 0) (t : Bool) (x y : Place) → (t ≡ true → P x) → (t ≡ false → P y) → P (if t then x else y)
+pub choose : (P : Position → Type 0) (t : Bool) (x y : Position) → (t ≡ true → P x) → (t ≡ false → P y) → P (if t then x else y)
 choose P true x y p q = p refl
 choose P false x y p q = q refl
 

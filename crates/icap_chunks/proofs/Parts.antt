@@ -4,8 +4,8 @@ use Rattle.std.proofs.lemmas.List.{append-nil}
 use Rattle.std.specs.Str.Parse.{digits_value}
 use Rattle.icap_chunks.specs.declared.extension.Item.{Item}
 use Rattle.icap_chunks.specs.declared.extension.Item.TheVariants.{Blank}
-use Rattle.icap_chunks.specs.declared.places.Place.{Place}
-use Rattle.icap_chunks.specs.declared.places.Place.TheVariants.{Digits, Pad, Extension, LineCr, Data, DataEnd, DataCr, TrailerStart, Trailer, TrailerCr, LastCr, Ended, Faulted}
+use Rattle.icap_chunks.specs.declared.positions.Position.{Position}
+use Rattle.icap_chunks.specs.declared.positions.Position.TheVariants.{Digits, Pad, Extension, LineCr, Data, DataEnd, DataCr, TrailerStart, Trailer, TrailerCr, LastCr, Ended, Faulted}
 use Rattle.icap_chunks.specs.Grammar.{is_line_byte, AllPass, print_line, has_ieof}
 use Rattle.icap_chunks.specs.Machine.{fault_of, step, end_at, faulted_at}
 use Rattle.icap_chunks.specs.Faults.{Part, in_line, behind_line, in_data, behind_data, behind_data_cr, in_trailers, behind_trailers_cr, fault_at, Behind, InLine, InChunk, InTrailers, EndsIn}
@@ -15,17 +15,17 @@ use Rattle.icap_chunks.proofs.Table.{digits_table, pad_table, extension_table, l
 use Rattle.icap_chunks.proofs.Walks.{at}
 
 -- the place and the part have the same faults
-abbrev pub SameFaults : List ℕ → ℕ → Place → Part → Type 0
+abbrev pub SameFaults : List ℕ → ℕ → Position → Part → Type 0
 SameFaults body sum place part = (b : ℕ) → fault_of (step (at sum place) b) ≡ fault_at (length body) part b
 
-pub record InPart (text body : List ℕ) (sum : ℕ) (place : Place) : Type 0 where
+pub record InPart (text body : List ℕ) (sum : ℕ) (place : Position) : Type 0 where
   pub part : Part
   pub ends : EndsIn text body part
   pub same : SameFaults body sum place part
 
 pub record AtPlace (text body : List ℕ) (part : Part) : Type 0 where
   pub sum : ℕ
-  pub place : Place
+  pub place : Position
   pub stands : LeavesAt text body sum place
   pub quiet : end_at place ≡ None
   pub sound : faulted_at place ≡ None
@@ -38,7 +38,7 @@ front_of : {text body tail part : List ℕ} → Behind text body tail → tail �
 front_of f e = record { front = f.front; chunks = f.chunks; text_is = f.text_is ∙ ap (λ t. f.front ++ t) e; sum_is = refl }
 
 -- a fact of the sum of the chunks
-summed : (body : List ℕ) (sum : ℕ) (place : Place) (part : Part) → sum ≡ length body → SameFaults body (length body) place part → SameFaults body sum place part
+summed : (body : List ℕ) (sum : ℕ) (place : Position) (part : Part) → sum ≡ length body → SameFaults body (length body) place part → SameFaults body sum place part
 summed body sum place part is same b = ap (λ n. fault_of (step (at n place) b)) is ∙ same b
 
 -- ---- from a place
@@ -149,7 +149,7 @@ trailers_part {text} {body} {part} {tail} {sum} {count} line bytes is s = record
   short = s.short;
 }
 
-pub place_part : (text body : List ℕ) (sum : ℕ) (place : Place) → LeavesAt text body sum place → end_at place ≡ None → faulted_at place ≡ None → InPart text body sum place
+pub place_part : (text body : List ℕ) (sum : ℕ) (place : Position) → LeavesAt text body sum place → end_at place ≡ None → faulted_at place ≡ None → InPart text body sum place
 unfolding end_at faulted_at
 place_part text body sum (Digits count size) s quiet sound = digits_part text body sum count size s
 place_part text body sum (Pad count size) s quiet sound = pad_part text body sum count size s

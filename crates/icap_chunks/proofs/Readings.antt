@@ -3,8 +3,8 @@ use Rattle.std.proofs.Common.{◌≡◌, ℕ, ◌<◌, ◌≤◌, Bool, List, []
 use Rattle.std.proofs.lemmas.List.{take-append-drop}
 use Rattle.std.proofs.lemmas.Bool.{cases_lt}
 use Rattle.icap_chunks.specs.declared.fault.ChunkFault.{ChunkFault}
-use Rattle.icap_chunks.specs.declared.places.Place.{Place}
-use Rattle.icap_chunks.specs.declared.places.Place.TheVariants.{Ended as AtEnd, Faulted as AtFault}
+use Rattle.icap_chunks.specs.declared.positions.Position.{Position}
+use Rattle.icap_chunks.specs.declared.positions.Position.TheVariants.{Ended as AtEnd, Faulted as AtFault}
 use Rattle.icap_chunks.specs.declared.pieces.Outcome.{Outcome}
 use Rattle.icap_chunks.specs.declared.pieces.Outcome.TheVariants.{More, Ended, Faulted}
 use Rattle.icap_chunks.specs.declared.reader.ChunkReader.{ChunkReader}
@@ -45,7 +45,7 @@ ended_run text body ieof used is =
 not_both : (r : ChunkReader) (ieof : Bool) (fault : ChunkFault) → end_of r ≡ Some ieof → fault_of r ≡ Some fault → ⊥
 not_both r ieof fault e f = apart r.place (ended_at r.place ieof e) (fault_is r.place fault f)
   where
-    apart : (p : Place) → p ≡ AtEnd ieof → p ≡ AtFault fault → ⊥
+    apart : (p : Position) → p ≡ AtEnd ieof → p ≡ AtFault fault → ⊥
     apart p a b = let c : AtEnd ieof ≡ AtFault fault = sym a ∙ b in cc
 
 -- a body ends at one place

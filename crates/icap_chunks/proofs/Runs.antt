@@ -4,8 +4,8 @@ use Rattle.std.proofs.lemmas.Bool.Decides.{nat_tests}
 use Rattle.std.proofs.lemmas.Bool.{cases_lt}
 use Rattle.std.proofs.Math.Seq.{take-suc, take-add}
 use Rattle.std.proofs.lemmas.List.{take_more, take-append-drop}
-use Rattle.icap_chunks.specs.declared.places.Place.{Place}
-use Rattle.icap_chunks.specs.declared.places.Place.TheVariants.{Data, DataEnd, Ended, Faulted}
+use Rattle.icap_chunks.specs.declared.positions.Position.{Position}
+use Rattle.icap_chunks.specs.declared.positions.Position.TheVariants.{Data, DataEnd, Ended, Faulted}
 use Rattle.icap_chunks.specs.declared.reader.ChunkReader.{ChunkReader}
 use Rattle.icap_chunks.specs.declared.fault.ChunkFault.{ChunkFault}
 use Rattle.icap_chunks.specs.Machine.{step, run, body_of, is_data, pauses_at, end_at, end_of, faulted_at, fault_of, in_data, data_behind}
@@ -21,11 +21,11 @@ body_of-append r (x ∷ xs) ys = rw (body_of-append (step r x) xs ys) (sym (appe
 pub run_more : (r : ChunkReader) (xs : List ℕ) (k : ℕ) → k < length xs → run r (take (k + 1) xs) ≡ step (run r (take k xs)) (get_or xs k 0)
 run_more r xs k l = ap (run r) (take_more xs k 0 l) ∙ run-append r (take k xs) (get_or xs k 0 ∷ [])
 
-pub no_data : (p : Place) → pauses_at p ≡ false → is_data p ≡ false
+pub no_data : (p : Position) → pauses_at p ≡ false → is_data p ≡ false
 unfolding pauses_at is_data
 no_data p h = grind (arith)
 
-pub no_end : (p : Place) → pauses_at p ≡ false → end_at p ≡ None
+pub no_end : (p : Position) → pauses_at p ≡ false → end_at p ≡ None
 unfolding pauses_at end_at
 no_end p h = grind (arith)
 
@@ -121,19 +121,19 @@ unfolding is_data
 no_data_behind sum more n l = ap (λ r. is_data r.place) (behind_all sum more n l)
 
 -- where framing stops, it is at a byte of the body, at the end or at a fault
-pub pauses_cases : (p : Place) → pauses_at p ≡ true → ((more : ℕ) × (p ≡ Data more)) ⊎ (((ieof : Bool) × (p ≡ Ended ieof)) ⊎ ((fault : ChunkFault) × (p ≡ Faulted fault)))
+pub pauses_cases : (p : Position) → pauses_at p ≡ true → ((more : ℕ) × (p ≡ Data more)) ⊎ (((ieof : Bool) × (p ≡ Ended ieof)) ⊎ ((fault : ChunkFault) × (p ≡ Faulted fault)))
 unfolding pauses_at
 pauses_cases p h = grind (arith)
 
-pub no_fault_here : (p : Place) → ((fault : ChunkFault) → p ≡ Faulted fault → ⊥) → faulted_at p ≡ None
+pub no_fault_here : (p : Position) → ((fault : ChunkFault) → p ≡ Faulted fault → ⊥) → faulted_at p ≡ None
 unfolding faulted_at
 no_fault_here p h = grind (arith)
 
-pub no_end_here : (p : Place) → ((ieof : Bool) → p ≡ Ended ieof → ⊥) → end_at p ≡ None
+pub no_end_here : (p : Position) → ((ieof : Bool) → p ≡ Ended ieof → ⊥) → end_at p ≡ None
 unfolding end_at
 no_end_here p h = grind (arith)
 
-pub at_place : (r : ChunkReader) (p : Place) → r.place ≡ p → r ≡ record { sum = r.sum; place = p }
+pub at_place : (r : ChunkReader) (p : Position) → r.place ≡ p → r ≡ record { sum = r.sum; place = p }
 at_place r p at = ap (λ q. record { sum = r.sum; place = q }) at
 
 -- what `read_framing` leaves

@@ -4,8 +4,8 @@ use Rattle.std.specs.Str.Parse.{AllDigits, digits_value}
 use Rattle.adapt_bytes.specs.Numeral.{Writes}
 use Rattle.icap_chunks.specs.declared.extension.Item.{Item}
 use Rattle.icap_chunks.specs.declared.extension.Item.TheVariants.{Blank}
-use Rattle.icap_chunks.specs.declared.places.Place.{Place}
-use Rattle.icap_chunks.specs.declared.places.Place.TheVariants.{Digits, Pad, Extension, LineCr, Data, DataEnd, DataCr, TrailerStart, Trailer, TrailerCr, LastCr, Ended, Faulted}
+use Rattle.icap_chunks.specs.declared.positions.Position.{Position}
+use Rattle.icap_chunks.specs.declared.positions.Position.TheVariants.{Digits, Pad, Extension, LineCr, Data, DataEnd, DataCr, TrailerStart, Trailer, TrailerCr, LastCr, Ended, Faulted}
 use Rattle.adapt_bytes.specs.Text.{is_blank}
 use Rattle.icap_chunks.specs.Grammar.{is_line_byte, AllPass, SizeLine, print_line, has_ieof, IsSizeLine, Chunks, TrailerLines, IsChunked}
 use Rattle.icap_chunks.specs.Machine.{item_with, is_word}
@@ -95,7 +95,7 @@ pub record HasEnded (text body : List ℕ) (ieof : Bool) : Type 0 where
   pub text_is : text ≡ whole ++ rest
 
 -- the text leaves its reader at the place, unless that is a fault
-abbrev pub LeavesAt : List ℕ → List ℕ → ℕ → Place → Type 0
+abbrev pub LeavesAt : List ℕ → List ℕ → ℕ → Position → Type 0
 LeavesAt text body sum (Digits count size) = InDigits text body sum count size
 LeavesAt text body sum (Pad count size) = InPad text body sum count size
 LeavesAt text body sum (Extension count size item found) = InExtension text body sum count size item found

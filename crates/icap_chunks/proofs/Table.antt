@@ -5,7 +5,7 @@ use Rattle.std.specs.Char.{digit_value}
 use Rattle.std.specs.Str.Parse.{digits_value}
 use Rattle.icap_chunks.specs.declared.extension.Item.{Item}
 use Rattle.icap_chunks.specs.declared.fault.ChunkFault.TheVariants.{Size, TooBig, Line}
-use Rattle.icap_chunks.specs.declared.places.Place.TheVariants.{Digits, Pad, Extension, LineCr, Data, DataEnd, DataCr, TrailerStart, Trailer, TrailerCr, LastCr}
+use Rattle.icap_chunks.specs.declared.positions.Position.TheVariants.{Digits, Pad, Extension, LineCr, Data, DataEnd, DataCr, TrailerStart, Trailer, TrailerCr, LastCr}
 use Rattle.icap_chunks.specs.Machine.{fault_of, faulted_at, step, in_digits, in_pad, in_extension, in_line_cr, in_data, in_data_end, in_data_cr, in_trailer_start, in_trailer, in_trailer_cr, in_last_cr}
 use Rattle.icap_chunks.specs.Faults.{in_line, behind_line, behind_data, behind_data_cr, in_trailers, behind_trailers_cr, is_hex_digit, ends_size, fault_at}
 use Rattle.icap_chunks.specs.Faults.{in_data as within_data}

@@ -9,8 +9,8 @@ use Rattle.std.specs.Char.{digit_value}
 use Rattle.std.specs.Str.Parse.{AllDigits, digits_value_after, digits_value}
 use Rattle.icap_chunks.specs.declared.extension.Item.{Item}
 use Rattle.icap_chunks.specs.declared.extension.Item.TheVariants.{Blank}
-use Rattle.icap_chunks.specs.declared.places.Place.{Place}
-use Rattle.icap_chunks.specs.declared.places.Place.TheVariants.{Digits, Pad, Extension, LineCr, Data, DataEnd, DataCr, TrailerStart, Trailer, TrailerCr, LastCr, Ended}
+use Rattle.icap_chunks.specs.declared.positions.Position.{Position}
+use Rattle.icap_chunks.specs.declared.positions.Position.TheVariants.{Digits, Pad, Extension, LineCr, Data, DataEnd, DataCr, TrailerStart, Trailer, TrailerCr, LastCr, Ended}
 use Rattle.icap_chunks.specs.declared.reader.ChunkReader.{ChunkReader}
 use Rattle.adapt_bytes.specs.Text.{is_blank}
 use Rattle.icap_chunks.specs.Grammar.{crlf, is_line_byte, AllPass, SizeLine, print_line, print_extension, IsExtension, has_ieof, IsSizeLine, Chunks, no_chunk, chunk, TrailerLines, no_line, line, IsChunked}
@@ -45,7 +45,7 @@ on {r} {s} {t} {xs} {ys} {a} {b} p q = record {
 pub byte : (r : ChunkReader) (b : ℕ) (s : ChunkReader) → is_data r.place ≡ false → step r b ≡ s → Walk r (b ∷ []) [] s
 byte r b s none is = record { reads = is; finds = rw none refl }
 
-abbrev pub at : ℕ → Place → ChunkReader
+abbrev pub at : ℕ → Position → ChunkReader
 at sum place = record { sum = sum; place = place }
 
 -- ---- tests

@@ -6,7 +6,7 @@ use Rattle.icap_chunks.specs.declared.fault.ChunkFault.{ChunkFault}
 use Rattle.icap_chunks.specs.declared.fault.ChunkFault.TheVariants.{Size, TooBig, Line, Break, Trailers}
 use Rattle.adapt_bytes.specs.Text.{is_blank}
 use Rattle.adapt_bytes.specs.declared.limits.TheConstants.{COUNT_LIMIT}
-use Rattle.icap_chunks.specs.declared.places.TheConstants.{MAX_LINE, MAX_TRAILERS}
+use Rattle.icap_chunks.specs.declared.positions.TheConstants.{MAX_LINE, MAX_TRAILERS}
 use Rattle.icap_chunks.specs.Grammar.{is_line_byte, AllPass, SizeLine, print_line, print_extension, IsExtension, IsSizeLine, Chunks, TrailerLines}
 
 -- what a text ends in, after its whole chunks

@@ -3,13 +3,13 @@ use Rattle.std.specs.Prelude.{◌≡◌, ℕ, ◌+◌, ◌-◌, ◌*◌, ◌<◌
 use Rattle.std.specs.Char.{digit_value, to_ascii_lowercase}
 use Rattle.adapt_bytes.specs.Text.{is_blank}
 use Rattle.adapt_bytes.specs.declared.limits.TheConstants.{COUNT_LIMIT}
-use Rattle.icap_chunks.specs.declared.places.TheConstants.{MAX_LINE, MAX_TRAILERS}
+use Rattle.icap_chunks.specs.declared.positions.TheConstants.{MAX_LINE, MAX_TRAILERS}
 use Rattle.icap_chunks.specs.declared.fault.ChunkFault.{ChunkFault}
 use Rattle.icap_chunks.specs.declared.fault.ChunkFault.TheVariants.{Size, TooBig, Line, Break, Trailers}
 use Rattle.icap_chunks.specs.declared.extension.Item.{Item}
 use Rattle.icap_chunks.specs.declared.extension.Item.TheVariants.{Blank, I, Ie, Ieo, Ieof, Other}
-use Rattle.icap_chunks.specs.declared.places.Place.{Place}
-use Rattle.icap_chunks.specs.declared.places.Place.TheVariants.{Digits, Pad, Extension, LineCr, Data, DataEnd, DataCr, TrailerStart, Trailer, TrailerCr, LastCr, Ended, Faulted}
+use Rattle.icap_chunks.specs.declared.positions.Position.{Position}
+use Rattle.icap_chunks.specs.declared.positions.Position.TheVariants.{Digits, Pad, Extension, LineCr, Data, DataEnd, DataCr, TrailerStart, Trailer, TrailerCr, LastCr, Ended, Faulted}
 use Rattle.icap_chunks.specs.declared.reader.ChunkReader.{ChunkReader}
 
 -- an item of an extension with one more byte
@@ -27,7 +27,7 @@ is_word Ieof = true
 is_word _ = false
 
 -- within the digits of a size line, or at its start
-unfoldable pub in_digits : ℕ → ℕ → ℕ → Place
+unfoldable pub in_digits : ℕ → ℕ → ℕ → Position
 in_digits count size b =
     if b == 13 then (if count == 0 then Faulted Size else LineCr size false)
     else (if (b == 10) || nat_le MAX_LINE count then Faulted Line
@@ -37,7 +37,7 @@ in_digits count size b =
     else (if b == 59 then Extension (count + 1) size Blank false else Faulted Size)))))
 
 -- within the blanks after them
-unfoldable pub in_pad : ℕ → ℕ → ℕ → Place
+unfoldable pub in_pad : ℕ → ℕ → ℕ → Position
 in_pad count size b =
     if b == 13 then LineCr size false
     else (if (b == 10) || nat_le MAX_LINE count then Faulted Line
@@ -45,7 +45,7 @@ in_pad count size b =
     else (if b == 59 then Extension (count + 1) size Blank false else Faulted Size)))
 
 -- within an extension
-unfoldable pub in_extension : ℕ → ℕ → Item → Bool → ℕ → Place
+unfoldable pub in_extension : ℕ → ℕ → Item → Bool → ℕ → Position
 in_extension count size item found b =
     if b == 13 then LineCr size (found || is_word item)
     else (if (b == 10) || nat_le MAX_LINE count then Faulted Line
@@ -61,37 +61,37 @@ in_line_cr sum size ieof b =
     else record { sum = sum; place = Faulted Line }
 
 -- within a run of the body, with this many of its bytes after this one
-unfoldable pub in_data : ℕ → Place
+unfoldable pub in_data : ℕ → Position
 in_data more = if nat_lt 0 more then Data (more - 1) else DataEnd
 
-unfoldable pub in_data_end : ℕ → Place
+unfoldable pub in_data_end : ℕ → Position
 in_data_end b = if b == 13 then DataCr else Faulted Break
 
-unfoldable pub in_data_cr : ℕ → Place
+unfoldable pub in_data_cr : ℕ → Position
 in_data_cr b = if b == 10 then Digits 0 0 else Faulted Break
 
-unfoldable pub in_trailer_start : ℕ → Bool → ℕ → Place
+unfoldable pub in_trailer_start : ℕ → Bool → ℕ → Position
 in_trailer_start count ieof b =
     if (b == 10) || nat_le MAX_TRAILERS count then Faulted Trailers
     else (if b == 13 then LastCr (count + 1) ieof else Trailer (count + 1) ieof)
 
-unfoldable pub in_trailer : ℕ → Bool → ℕ → Place
+unfoldable pub in_trailer : ℕ → Bool → ℕ → Position
 in_trailer count ieof b =
     if (b == 10) || nat_le MAX_TRAILERS count then Faulted Trailers
     else (if b == 13 then TrailerCr (count + 1) ieof else Trailer (count + 1) ieof)
 
-unfoldable pub in_trailer_cr : ℕ → Bool → ℕ → Place
+unfoldable pub in_trailer_cr : ℕ → Bool → ℕ → Position
 in_trailer_cr count ieof b =
     if (b == 10) && nat_lt count MAX_TRAILERS then TrailerStart (count + 1) ieof else Faulted Trailers
 
-unfoldable pub in_last_cr : ℕ → Bool → ℕ → Place
+unfoldable pub in_last_cr : ℕ → Bool → ℕ → Position
 in_last_cr count ieof b = if (b == 10) && nat_lt count MAX_TRAILERS then Ended ieof else Faulted Trailers
 
 -- the reader with one more byte
 unfoldable pub step : ChunkReader → ℕ → ChunkReader
 step r b = step_at r.sum r.place b
   where
-    step_at : ℕ → Place → ℕ → ChunkReader
+    step_at : ℕ → Position → ℕ → ChunkReader
     step_at sum (Digits count size) b = record { sum = sum; place = in_digits count size b }
     step_at sum (Pad count size) b = record { sum = sum; place = in_pad count size b }
     step_at sum (Extension count size item found) b = record { sum = sum; place = in_extension count size item found b }
@@ -112,22 +112,22 @@ run r [] = r
 run r (b ∷ bytes) = run (step r b) bytes
 
 -- the next byte is one of the body
-unfoldable pub is_data : Place → Bool
+unfoldable pub is_data : Position → Bool
 is_data (Data left) = true
 is_data _ = false
 
 -- how the body has ended, if it has
-unfoldable pub end_at : Place → Option Bool
+unfoldable pub end_at : Position → Option Bool
 end_at (Ended ieof) = Some ieof
 end_at _ = None
 
 -- the fault, if there is one
-unfoldable pub faulted_at : Place → Option ChunkFault
+unfoldable pub faulted_at : Position → Option ChunkFault
 faulted_at (Faulted fault) = Some fault
 faulted_at _ = None
 
 -- framing is read up to here: the next byte is one of the body, or none is read any more
-unfoldable pub pauses_at : Place → Bool
+unfoldable pub pauses_at : Position → Bool
 pauses_at (Data left) = true
 pauses_at (Ended ieof) = true
 pauses_at (Faulted fault) = true

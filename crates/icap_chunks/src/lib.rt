@@ -5,7 +5,7 @@ mod extension;
 mod fault;
 pub mod laws;
 mod pieces;
-mod places;
+mod positions;
 mod reader;
 mod writers;
 

@@ -1,13 +1,13 @@
 //! The reader of a chunked body. It keeps numbers only; a run of body bytes is a range of the input and is never
 //! scanned.
 ghost use Rattle.std.specs.Prelude.{◌≡◌, ℕ, ◌+◌, ◌<◌, ◌≤◌, ◌++◌, true, false, List, IfOk, IfErr, IfSome, IsOkAnd, Err, OnOk, is_some, [], length, take, slice_range, Some, None, min};
-ghost use Rattle.icap_chunks.specs.declared.places.Place.TheVariants.{Data};
+ghost use Rattle.icap_chunks.specs.declared.positions.Position.TheVariants.{Data};
 ghost use Rattle.icap_chunks.specs.Machine.{start, step, run, body_of, end_of, fault_of, end_at, is_in_data, pauses_at, data_behind, in_line_cr, HasRead};
 ghost use Rattle.icap_chunks.specs.Faults.{Breaks};
 
 use crate::fault::ChunkFault;
-use crate::places::{
-    Place, in_data, in_data_cr, in_data_end, in_digits, in_extension, in_last_cr, in_pad,
+use crate::positions::{
+    Position, in_data, in_data_cr, in_data_end, in_digits, in_extension, in_last_cr, in_pad,
     in_trailer, in_trailer_cr, in_trailer_start,
 };
 use adapt_bytes::COUNT_LIMIT;
@@ -36,7 +36,7 @@ pub struct Fed {
 #[derive(Clone, Copy, Debug, PartialEq, Eq)]
 pub struct ChunkReader {
     sum: u64,
-    place: Place,
+    place: Position,
 }
 
 impl ChunkReader {
@@ -46,7 +46,7 @@ impl ChunkReader {
     {
         ChunkReader {
             sum: 0,
-            place: Place::Digits(0, 0),
+            place: Position::Digits(0, 0),
         }
     }
 
@@ -84,7 +84,7 @@ impl ChunkReader {
     pub fn has_ended(&self) -> bool
         ensures { result ≡ is_some (end_of self.now) }
     {
-        matches!(self.place, Place::Ended(_))
+        matches!(self.place, Position::Ended(_))
     }
 
     fn read_piece(&mut self, piece: &[u8]) -> Result<Fed, ChunkFault>
@@ -112,8 +112,8 @@ impl ChunkReader {
         let framing = self.read_framing(piece);
         let rest = piece.len() - framing;
         match self.place {
-            Place::Faulted(fault) => Err(fault),
-            Place::Data(more) => {
+            Position::Faulted(fault) => Err(fault),
+            Position::Data(more) => {
                 let run = self.read_data(more, rest);
                 Ok(Fed {
                     used: framing + run,
@@ -121,7 +121,7 @@ impl ChunkReader {
                     ended: None,
                 })
             }
-            Place::Ended(ieof) => Ok(Fed {
+            Position::Ended(ieof) => Ok(Fed {
                 used: framing,
                 part: (framing, framing),
                 ended: Some(ieof),
@@ -141,7 +141,7 @@ impl ChunkReader {
     {
         matches!(
             self.place,
-            Place::Data(_) | Place::Ended(_) | Place::Faulted(_)
+            Position::Data(_) | Position::Ended(_) | Position::Faulted(_)
         )
     }
 
@@ -174,9 +174,9 @@ impl ChunkReader {
         }
         let behind = more.min((room - 1) as u64);
         self.place = if behind < more {
-            Place::Data(more - behind - 1)
+            Position::Data(more - behind - 1)
         } else {
-            Place::DataEnd
+            Position::DataEnd
         };
         behind as usize + 1
     }
@@ -188,21 +188,21 @@ impl ChunkReader {
     {
         let sum = self.sum;
         let place = match self.place {
-            Place::Digits(count, size) => in_digits(count, size, byte),
-            Place::Pad(count, size) => in_pad(count, size, byte),
-            Place::Extension(count, size, item, found) => {
+            Position::Digits(count, size) => in_digits(count, size, byte),
+            Position::Pad(count, size) => in_pad(count, size, byte),
+            Position::Extension(count, size, item, found) => {
                 in_extension(count, size, item, found, byte)
             }
-            Place::LineCr(size, ieof) => return in_line_cr(sum, size, ieof, byte),
-            Place::Data(more) => in_data(more),
-            Place::DataEnd => in_data_end(byte),
-            Place::DataCr => in_data_cr(byte),
-            Place::TrailerStart(count, ieof) => in_trailer_start(count, ieof, byte),
-            Place::Trailer(count, ieof) => in_trailer(count, ieof, byte),
-            Place::TrailerCr(count, ieof) => in_trailer_cr(count, ieof, byte),
-            Place::LastCr(count, ieof) => in_last_cr(count, ieof, byte),
-            Place::Ended(ieof) => Place::Ended(ieof),
-            Place::Faulted(fault) => Place::Faulted(fault),
+            Position::LineCr(size, ieof) => return in_line_cr(sum, size, ieof, byte),
+            Position::Data(more) => in_data(more),
+            Position::DataEnd => in_data_end(byte),
+            Position::DataCr => in_data_cr(byte),
+            Position::TrailerStart(count, ieof) => in_trailer_start(count, ieof, byte),
+            Position::Trailer(count, ieof) => in_trailer(count, ieof, byte),
+            Position::TrailerCr(count, ieof) => in_trailer_cr(count, ieof, byte),
+            Position::LastCr(count, ieof) => in_last_cr(count, ieof, byte),
+            Position::Ended(ieof) => Position::Ended(ieof),
+            Position::Faulted(fault) => Position::Faulted(fault),
         };
         ChunkReader { sum, place }
     }
@@ -216,19 +216,19 @@ fn in_line_cr(sum: u64, size: u64, ieof: bool, byte: u8) -> ChunkReader
     if byte != b'\n' {
         return ChunkReader {
             sum,
-            place: Place::Faulted(ChunkFault::Line),
+            place: Position::Faulted(ChunkFault::Line),
         };
     }
     if sum >= COUNT_LIMIT || size >= COUNT_LIMIT - sum {
         return ChunkReader {
             sum,
-            place: Place::Faulted(ChunkFault::TooBig),
+            place: Position::Faulted(ChunkFault::TooBig),
         };
     }
     let place = if size == 0 {
-        Place::TrailerStart(0, ieof)
+        Position::TrailerStart(0, ieof)
     } else {
-        Place::Data(size - 1)
+        Position::Data(size - 1)
     };
     ChunkReader {
         sum: sum + size,

@@ -23,7 +23,7 @@ use Rattle.icap_client.proofs.Whole.{nothing_heard}
 use Rattle.icap_client.specs.Events.{Follows}
 use Rattle.icap_client.specs.Sending.{HasSent, Came, KeepsUnsent, NothingDue}
 use Rattle.icap_client.specs.HeadFront.{HasToWait}
-use Rattle.icap_client.specs.Reading.{Side, SideHeard, NothingToRead, FitsGot, IsCause, CameOf, ReadTurn}
+use Rattle.icap_client.specs.Reading.{ReadSide, SideHeard, NothingToRead, FitsGot, IsCause, CameOf, ReadTurn}
 use Rattle.icap_client.specs.Turns.{WriteTurn, FitsOffer, FitsAnswer, events_of, waits_of, IsLater, SaysWaiting, Sends, Hears}
 use Rattle.adapt_sides.specs.Turns.{HasReason, OfClientWire}
 
@@ -154,11 +154,11 @@ offer_fails x w answer (Ok turn) f fault e = cc
 offer_fails x w answer (Err g) f fault e = let is : g ≡ fault = cc in sym is ∙ f.0
 
 -- a read's first fault has its cause
-pub came_cause : (x : Seen) (a : Bool) (old new : Side) (room : ℕ) (out delta : List ℕ) (result : Result Turn ClientFault) → CameOf x a old new room out delta result → (fault : ClientFault) → result ≡ Err fault → IsCause fault x a new.reader new.raw
+pub came_cause : (x : Seen) (a : Bool) (old new : ReadSide) (room : ℕ) (out delta : List ℕ) (result : Result Turn ClientFault) → CameOf x a old new room out delta result → (fault : ClientFault) → result ≡ Err fault → IsCause fault x a new.reader new.raw
 came_cause x a old new room out delta (Ok turn) c fault e = cc
 came_cause x a old new room out delta (Err g) c fault e = let is : g ≡ fault = cc in subst (λ (k : ClientFault). IsCause k x a new.reader new.raw) is c.1
 
-read_says : (x : Seen) (a : Bool) (old new : Side) (room : ℕ) (out delta : List ℕ) (result : Result Turn ClientFault) → CameOf x a old new room out delta result → SaysWaiting (events_of result) delta result
+read_says : (x : Seen) (a : Bool) (old new : ReadSide) (room : ℕ) (out delta : List ℕ) (result : Result Turn ClientFault) → CameOf x a old new room out delta result → SaysWaiting (events_of result) delta result
 read_says x a old new room out delta (Ok turn) c = record {
   idle = λ h. let w = c.2 h in (w.0, w.1);
   waits = λ t e n d.
@@ -168,7 +168,7 @@ read_says x a old new room out delta (Ok turn) c = record {
 }
 read_says x a old new room out delta (Err g) c = record { idle = λ h. cc; waits = λ t e n d. cc }
 
-pub hears_by : (x : Seen) (a : Bool) (room : ℕ) (old new : Side) (P Q : Past → Type 0) (out : List ℕ) (result : Result Turn ClientFault) → old.fault ≡ None → room ≡ length out
+pub hears_by : (x : Seen) (a : Bool) (room : ℕ) (old new : ReadSide) (P Q : Past → Type 0) (out : List ℕ) (result : Result Turn ClientFault) → old.fault ≡ None → room ≡ length out
     → ReadTurn x a room old new P Q out result → OnOk result (new.fault ≡ None) → ((g : ClientFault) → result ≡ Err g → new.fault ≡ Some g)
     → Hears x (λ x adapted read. SideHeard x adapted read old) (λ x adapted read. SideHeard x adapted read new) old.fault new.fault (NothingToRead x a room new.reader.stage) (HasToWait new.reader.stage new.raw room) P Q out result
 hears_by x a room old new P Q out (Ok turn) none long t sound stays = record {
@@ -194,7 +194,7 @@ hears_by x a room old new P Q out (Err g) none long t sound stays = record {
   fault = record { sound = λ s e. cc; again = λ f e. cc; stays = stays };
 }
 
-pub hears_none : (x : Seen) (s : Side) (rests all_framed : Type 0) (g : ClientFault) (P Q : Past → Type 0) (out : List ℕ) → s.fault ≡ Some g → ((p : Past) → P p → Q p)
+pub hears_none : (x : Seen) (s : ReadSide) (rests all_framed : Type 0) (g : ClientFault) (P Q : Past → Type 0) (out : List ℕ) → s.fault ≡ Some g → ((p : Past) → P p → Q p)
     → Hears x (λ x adapted read. SideHeard x adapted read s) (λ x adapted read. SideHeard x adapted read s) s.fault s.fault rests all_framed P Q out (Err g)
 hears_none x s rests all_framed g P Q out e w = record {
   delta = [];
@@ -213,21 +213,21 @@ stays_by : (k : Option ClientFault) (result : Result Turn ClientFault) → IfErr
 stays_by k (Ok t) s g e = cc
 stays_by k (Err f) s g e = let same : f ≡ g = cc in s ∙ ap Some same
 
-hears_case : (x : Seen) (a : Bool) (room : ℕ) (old new : Side) (P Q : Past → Type 0) (out : List ℕ) (result : Result Turn ClientFault) (fault : Option ClientFault) → old.fault ≡ fault → room ≡ length out
+hears_case : (x : Seen) (a : Bool) (room : ℕ) (old new : ReadSide) (P Q : Past → Type 0) (out : List ℕ) (result : Result Turn ClientFault) (fault : Option ClientFault) → old.fault ≡ fault → room ≡ length out
     → (old.fault ≡ None → ReadTurn x a room old new P Q out result) → OnOk result (new.fault ≡ None) → IfErr result (λ g. new.fault ≡ Some g) → IfSome fault (λ g. (result ≡ Err g) × (new ≡ old)) → IfSome fault (λ g. (p : Past) → P p → Q p)
     → Hears x (λ x adapted read. SideHeard x adapted read old) (λ x adapted read. SideHeard x adapted read new) old.fault new.fault (NothingToRead x a room new.reader.stage) (HasToWait new.reader.stage new.raw room) P Q out result
 hears_case x a room old new P Q out result None e long t o s f u = hears_by x a room old new P Q out result e long (t e) o (stays_by new.fault result s)
 hears_case x a room old new P Q out result (Some g) e long t o s f u =
     subst (λ (r : Result Turn ClientFault). Hears x (λ x adapted read. SideHeard x adapted read old) (λ x adapted read. SideHeard x adapted read new) old.fault new.fault (NothingToRead x a room new.reader.stage) (HasToWait new.reader.stage new.raw room) P Q out r) (sym f.0)
-    (subst (λ (n : Side). Hears x (λ x adapted read. SideHeard x adapted read old) (λ x adapted read. SideHeard x adapted read n) old.fault n.fault (NothingToRead x a room n.reader.stage) (HasToWait n.reader.stage n.raw room) P Q out (Err g)) (sym f.1)
+    (subst (λ (n : ReadSide). Hears x (λ x adapted read. SideHeard x adapted read old) (λ x adapted read. SideHeard x adapted read n) old.fault n.fault (NothingToRead x a room n.reader.stage) (HasToWait n.reader.stage n.raw room) P Q out (Err g)) (sym f.1)
     (hears_none x old (NothingToRead x a room old.reader.stage) (HasToWait old.reader.stage old.raw room) g P Q out e u))
 
-pub hears_all : (x : Seen) (a : Bool) (room : ℕ) (old new : Side) (P Q : Past → Type 0) (out : List ℕ) (result : Result Turn ClientFault) → room ≡ length out
+pub hears_all : (x : Seen) (a : Bool) (room : ℕ) (old new : ReadSide) (P Q : Past → Type 0) (out : List ℕ) (result : Result Turn ClientFault) → room ≡ length out
     → (old.fault ≡ None → ReadTurn x a room old new P Q out result) → OnOk result (new.fault ≡ None) → IfErr result (λ g. new.fault ≡ Some g) → IfSome old.fault (λ g. (result ≡ Err g) × (new ≡ old)) → IfSome old.fault (λ g. (p : Past) → P p → Q p)
     → Hears x (λ x adapted read. SideHeard x adapted read old) (λ x adapted read. SideHeard x adapted read new) old.fault new.fault (NothingToRead x a room new.reader.stage) (HasToWait new.reader.stage new.raw room) P Q out result
 hears_all x a room old new P Q out result long t o s f u = hears_case x a room old new P Q out result old.fault refl long t o s f u
 
 -- ---- the laws
 
-pub side_begins : (plan : Plan) (point : Point) (s : Side) → s.reader ≡ first_reader point → s.raw ≡ [] → SideHeard (seen plan []) [] [] s
+pub side_begins : (plan : Plan) (point : Point) (s : ReadSide) → s.reader ≡ first_reader point → s.raw ≡ [] → SideHeard (seen plan []) [] [] s
 side_begins plan point s e r = record { framed = []; text_is = sym r; heard = subst (λ (q : Reader). HasHeard (seen plan []) [] [] q) (sym e) (nothing_heard plan point); begun = inr (record { unheard = refl; none = refl; unread = refl; marks = record { no_mod_is = refl; modified_is = refl; has_body_is = refl; over_is = refl }; continued = refl; count = refl }) }

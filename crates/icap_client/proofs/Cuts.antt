@@ -23,7 +23,7 @@ use Rattle.adapt_bytes.specs.Text.{has_line}
 use Rattle.icap_client.specs.HeadFront.{IsHeadFront, HasToWait}
 use Rattle.icap_client.specs.Heard.{Reader, HeardTo, Marks, HeardFinal}
 use Rattle.icap_client.specs.Heard.HeardFinal.{unchanged as was_unchanged, changed as was_changed}
-use Rattle.icap_client.specs.Reading.{Side, SideHeard}
+use Rattle.icap_client.specs.Reading.{ReadSide, SideHeard}
 use Rattle.icap_client.specs.Laws.{AreSame}
 use Rattle.icap_client.specs.declared.stage.Stage.{Stage}
 use Rattle.icap_client.specs.declared.stage.Stage.TheVariants.{Replies, Head, Body, Over}
@@ -344,7 +344,7 @@ told_one x y xs ys raw other a b point rest (change layout last s e h k m) (chan
     let bodies = bodies_one (has_body layout'.body) h.rest raw h'.rest other xs ys tails.1 (subst (λ (z : Layout). IsBody (has_body z.body) h.rest xs) same.0 h.body_is) h'.body_is in
     alike_by x y xs ys raw other a b false true (has_body layout.body) true (has_body layout'.body) m p (ap (λ (z : Layout). has_body z.body) same.0) bodies.1 (s ∙ sym t) bodies.0 (λ q. (k ∙ (ap Some same.0 ∙ sym k'), tails.0))
 
-pub cut_anyhow : (x y : Seen) (xs ys read : List ℕ) (a b : Side) (room more : ℕ) → b.reader.point ≡ a.reader.point → 0 < room → 0 < more
+pub cut_anyhow : (x y : Seen) (xs ys read : List ℕ) (a b : ReadSide) (room more : ℕ) → b.reader.point ≡ a.reader.point → 0 < room → 0 < more
     → SideHeard x xs read a → HasToWait a.reader.stage a.raw room → SideHeard y ys read b → HasToWait b.reader.stage b.raw more → AreSame x y xs ys a b
 cut_anyhow x y xs ys read a b room more e s t h w i v =
     let p = parsed a.reader.stage x xs h.framed a.raw a.reader read room refl s h.text_is h.heard w in

@@ -14,7 +14,7 @@ use Rattle.adapt_sides.specs.declared.fault.ClientFault.{ClientFault}
 use Rattle.icap_client.specs.Events.{MayCome, AllAre, after_all, is_final, is_of_sending}
 use Rattle.icap_client.specs.Marks.{might_retry}
 use Rattle.icap_client.specs.Sending.{HasSent, NothingDue, sending_events}
-use Rattle.icap_client.specs.Reading.{Side, SideHeard, HasBegun, NotBegun}
+use Rattle.icap_client.specs.Reading.{ReadSide, SideHeard, HasBegun, NotBegun}
 use Rattle.icap_client.specs.Turns.{Service, ServiceSent, ServiceHeard, Sends, Hears, events_of, is_answered, is_last_at}
 
 -- ---- a preview that was answered
@@ -80,7 +80,7 @@ unheard_marks x adapted read (inl h) f = let odd : true ≡ false = sym h.0 ∙ 
 unheard_marks x adapted read (inr b) f = (b.marks.no_mod_is, b.marks.modified_is)
 
 -- before the first byte of a reply nothing is answered, and nothing is so behind a Retry
-pub none_answered : (x : Seen) (adapted read : List ℕ) (s : Side) → x.heard ≡ false → SideHeard x adapted read s → is_answered (after x Retry) ≡ false
+pub none_answered : (x : Seen) (adapted read : List ℕ) (s : ReadSide) → x.heard ≡ false → SideHeard x adapted read s → is_answered (after x Retry) ≡ false
 none_answered x adapted read s f h =
     let marks = unheard_marks x adapted read h.begun f in
     ap (λ (n : Bool). is_preview x.plan.kind && (not x.continued && (n || x.modified))) marks.0

@@ -9,7 +9,7 @@ use Rattle.icap_head.proofs.OneReading.{response_unique, no_response_fault}
 use Rattle.icap_head.proofs.Readings.{has_head-append}
 use Rattle.encapsulated.specs.declared.offsets.Layout.{Layout}
 use Rattle.icap_chunks.specs.Machine.{HasRead, run, start, body_of, end_of, fault_of, faulted_at}
-use Rattle.icap_chunks.specs.declared.places.Place.TheVariants.{Ended}
+use Rattle.icap_chunks.specs.declared.positions.Position.TheVariants.{Ended}
 use Rattle.icap_chunks.specs.Faults.{Breaks}
 use Rattle.icap_chunks.specs.declared.fault.ChunkFault.{ChunkFault}
 use Rattle.icap_chunks.specs.declared.reader.ChunkReader.{ChunkReader}

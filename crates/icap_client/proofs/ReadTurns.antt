@@ -12,7 +12,7 @@ use Rattle.icap_client.specs.Events.{MayCome, ad_sum}
 use Rattle.icap_client.specs.Heard.{Reader}
 use Rattle.icap_client.specs.HeadFront.{HasToWait}
 use Rattle.icap_client.specs.Refused.{Refuses}
-use Rattle.icap_client.specs.Reading.{Side, GivesBack, SideHears, MayRead, NothingToRead, IsReadDue, ReadsWhereDue, FitsGot, IsCause, CameOf, ReadTurn}
+use Rattle.icap_client.specs.Reading.{ReadSide, GivesBack, SideHears, MayRead, NothingToRead, IsReadDue, ReadsWhereDue, FitsGot, IsCause, CameOf, ReadTurn}
 use Rattle.adapt_sides.specs.Filling.{IsFilled}
 use Rattle.adapt_sides.specs.declared.fault.ClientFault.{ClientFault}
 use Rattle.adapt_sides.specs.declared.fault.ClientFault.TheVariants.{Closed, Device, NoMemory, NotLegal}
@@ -58,11 +58,11 @@ bytes_read P Q given some g = record {
 }
 
 -- nothing was framed before the read
-at_once : (x : Seen) (a : Bool) (room : ℕ) (old : Side) (answer : Got) → IsReadDue x a room old → ReadsWhereDue x a room old (Some answer)
+at_once : (x : Seen) (a : Bool) (room : ℕ) (old : ReadSide) (answer : Got) → IsReadDue x a room old → ReadsWhereDue x a room old (Some answer)
 at_once x a room old answer d = (old, filled_more x old old [] (inr refl) refl (sym (append-nil old.raw)), d)
 
 -- raw bytes gave events
-pub turn_spoke : (x : Seen) (a : Bool) (room : ℕ) (old new : Side) (P : Past → Type 0) (out : List ℕ) (t : Turn) → SideHears x old new t.events.items [] (take (ad_sum t.events.items) out) → ad_sum t.events.items ≤ room
+pub turn_spoke : (x : Seen) (a : Bool) (room : ℕ) (old new : ReadSide) (P : Past → Type 0) (out : List ℕ) (t : Turn) → SideHears x old new t.events.items [] (take (ad_sum t.events.items) out) → ad_sum t.events.items ≤ room
     → t.waiting ≡ false → ¬ (t.events.items ≡ []) → ReadTurn x a room old new P P out (Ok t)
 turn_spoke x a room old new P out t h l w some = record {
   given = [];
@@ -74,7 +74,7 @@ turn_spoke x a room old new P out t h l w some = record {
 }
 
 -- nothing is to be read
-pub turn_idle : (x : Seen) (a : Bool) (room : ℕ) (old new : Side) (P : Past → Type 0) (out : List ℕ) (t : Turn) → SideHears x old new t.events.items [] (take (ad_sum t.events.items) out) → ad_sum t.events.items ≤ room
+pub turn_idle : (x : Seen) (a : Bool) (room : ℕ) (old new : ReadSide) (P : Past → Type 0) (out : List ℕ) (t : Turn) → SideHears x old new t.events.items [] (take (ad_sum t.events.items) out) → ad_sum t.events.items ≤ room
     → t.waiting ≡ true → t.events.items ≡ [] → HasToWait new.reader.stage new.raw room → NothingToRead x a room new.reader.stage → ReadTurn x a room old new P P out (Ok t)
 turn_idle x a room old new P out t h l w none m n = record {
   given = [];
@@ -86,7 +86,7 @@ turn_idle x a room old new P out t h l w none m n = record {
 }
 
 -- raw bytes are refused
-pub turn_refused : (x : Seen) (a : Bool) (room : ℕ) (old new : Side) (P : Past → Type 0) (out : List ℕ) (fault : ClientFault) → SideHears x old new [] [] [] → Refuses fault x new.reader.point new.reader.stage new.raw
+pub turn_refused : (x : Seen) (a : Bool) (room : ℕ) (old new : ReadSide) (P : Past → Type 0) (out : List ℕ) (fault : ClientFault) → SideHears x old new [] [] [] → Refuses fault x new.reader.point new.reader.stage new.raw
     → ReadTurn x a room old new P P out (Err fault)
 turn_refused x a room old new P out fault h r = record {
   given = [];
@@ -98,7 +98,7 @@ turn_refused x a room old new P out fault h r = record {
 }
 
 -- bytes came, and were framed
-pub turn_bytes : (x : Seen) (a : Bool) (room : ℕ) (old mid new : Side) (P Q : Past → Type 0) (out : List ℕ) (t : Turn) → x.heard ≡ true → IsReadDue x a room old → mid.reader ≡ old.reader → IsFilled P Q old.raw mid.raw filled.Bytes
+pub turn_bytes : (x : Seen) (a : Bool) (room : ℕ) (old mid new : ReadSide) (P Q : Past → Type 0) (out : List ℕ) (t : Turn) → x.heard ≡ true → IsReadDue x a room old → mid.reader ≡ old.reader → IsFilled P Q old.raw mid.raw filled.Bytes
     → SideHears x mid new t.events.items [] (take (ad_sum t.events.items) out) → ad_sum t.events.items ≤ room → t.waiting ≡ false → ReadTurn x a room old new P Q out (Ok t)
 turn_bytes x a room old mid new P Q out t was d e f h l w =
     let both : SideHears x old new t.events.items (f.0 ++ []) (take (ad_sum t.events.items) out) = side_then x old mid new t.events.items f.0 [] (take (ad_sum t.events.items) out) (filled_more x old mid f.0 (inl was) e f.2) h in
@@ -112,7 +112,7 @@ turn_bytes x a room old mid new P Q out t was d e f h l w =
     }
 
 -- bytes came, and are refused
-pub turn_bytes_refused : (x : Seen) (a : Bool) (room : ℕ) (old mid new : Side) (P Q : Past → Type 0) (out : List ℕ) (fault : ClientFault) → x.heard ≡ true → IsReadDue x a room old → mid.reader ≡ old.reader → IsFilled P Q old.raw mid.raw filled.Bytes
+pub turn_bytes_refused : (x : Seen) (a : Bool) (room : ℕ) (old mid new : ReadSide) (P Q : Past → Type 0) (out : List ℕ) (fault : ClientFault) → x.heard ≡ true → IsReadDue x a room old → mid.reader ≡ old.reader → IsFilled P Q old.raw mid.raw filled.Bytes
     → SideHears x mid new [] [] [] → Refuses fault x new.reader.point new.reader.stage new.raw → ReadTurn x a room old new P Q out (Err fault)
 turn_bytes_refused x a room old mid new P Q out fault was d e f h r = record {
   given = f.0;
@@ -127,7 +127,7 @@ turn_bytes_refused x a room old mid new P Q out fault was d e f h r = record {
 }
 
 -- the first bytes of a reply came
-pub turn_first : (x : Seen) (a : Bool) (room : ℕ) (old new : Side) (P Q : Past → Type 0) (out : List ℕ) (t : Turn) → MayCome x Heard → IsReadDue x a room old → new.reader ≡ old.reader → IsFilled P Q old.raw new.raw filled.Bytes
+pub turn_first : (x : Seen) (a : Bool) (room : ℕ) (old new : ReadSide) (P Q : Past → Type 0) (out : List ℕ) (t : Turn) → MayCome x Heard → IsReadDue x a room old → new.reader ≡ old.reader → IsFilled P Q old.raw new.raw filled.Bytes
     → t.events.items ≡ Heard ∷ [] → t.waiting ≡ false → ReadTurn x a room old new P Q out (Ok t)
 turn_first x a room old new P Q out t may d e f is w =
     let first : SideHears x old new (Heard ∷ []) f.0 (take (ad_sum (Heard ∷ [])) out) = filled_first x old new f.0 out may f.1 e f.2 in
@@ -147,7 +147,7 @@ turn_first x a room old new P Q out t may d e f is w =
     }
 
 -- no byte of a reply may come
-pub turn_unheard : (x : Seen) (a : Bool) (room : ℕ) (old new : Side) (P : Past → Type 0) (out : List ℕ) → x.heard ≡ false → MayRead x a → (MayCome x Heard → ⊥) → SideHears x old new [] [] [] → ReadTurn x a room old new P P out (Err NotLegal)
+pub turn_unheard : (x : Seen) (a : Bool) (room : ℕ) (old new : ReadSide) (P : Past → Type 0) (out : List ℕ) → x.heard ≡ false → MayRead x a → (MayCome x Heard → ⊥) → SideHears x old new [] [] [] → ReadTurn x a room old new P P out (Err NotLegal)
 turn_unheard x a room old new P out was may never h = record {
   given = [];
   answer = None;
@@ -158,7 +158,7 @@ turn_unheard x a room old new P out was may never h = record {
 }
 
 -- the wire waits
-pub turn_waited : (x : Seen) (a : Bool) (room : ℕ) (old new : Side) (P Q : Past → Type 0) (out : List ℕ) (t : Turn) → IsReadDue x a room old → new.reader ≡ old.reader → IsFilled P Q old.raw new.raw filled.Wait
+pub turn_waited : (x : Seen) (a : Bool) (room : ℕ) (old new : ReadSide) (P Q : Past → Type 0) (out : List ℕ) (t : Turn) → IsReadDue x a room old → new.reader ≡ old.reader → IsFilled P Q old.raw new.raw filled.Wait
     → t.events.items ≡ [] → t.waiting ≡ true → ReadTurn x a room old new P Q out (Ok t)
 turn_waited x a room old new P Q out t d e f none w =
     let still : SideHears x old new [] [] [] = filled_more x old new [] (inr refl) e (f.0 ∙ sym (append-nil old.raw)) in
@@ -178,7 +178,7 @@ turn_waited x a room old new P Q out t d e f none w =
     }
 
 -- the service has ended its bytes
-pub turn_ended : (x : Seen) (a : Bool) (room : ℕ) (old new : Side) (P Q : Past → Type 0) (out : List ℕ) → IsReadDue x a room old → new.reader ≡ old.reader → IsFilled P Q old.raw new.raw filled.Ended → ReadTurn x a room old new P Q out (Err Closed)
+pub turn_ended : (x : Seen) (a : Bool) (room : ℕ) (old new : ReadSide) (P Q : Past → Type 0) (out : List ℕ) → IsReadDue x a room old → new.reader ≡ old.reader → IsFilled P Q old.raw new.raw filled.Ended → ReadTurn x a room old new P Q out (Err Closed)
 turn_ended x a room old new P Q out d e f = record {
   given = [];
   answer = Some got.Ended;
@@ -189,7 +189,7 @@ turn_ended x a room old new P Q out d e f = record {
 }
 
 -- the wire failed
-pub turn_failed : (x : Seen) (a : Bool) (room : ℕ) (old new : Side) (P Q : Past → Type 0) (out : List ℕ) → IsReadDue x a room old → new.reader ≡ old.reader → IsFilled P Q old.raw new.raw filled.Failed → ReadTurn x a room old new P Q out (Err Device)
+pub turn_failed : (x : Seen) (a : Bool) (room : ℕ) (old new : ReadSide) (P Q : Past → Type 0) (out : List ℕ) → IsReadDue x a room old → new.reader ≡ old.reader → IsFilled P Q old.raw new.raw filled.Failed → ReadTurn x a room old new P Q out (Err Device)
 turn_failed x a room old new P Q out d e f = record {
   given = [];
   answer = Some got.Fault;
@@ -200,7 +200,7 @@ turn_failed x a room old new P Q out d e f = record {
 }
 
 -- there is no memory for bytes
-pub turn_full : (x : Seen) (a : Bool) (room : ℕ) (old new : Side) (P Q : Past → Type 0) (out : List ℕ) → new.reader ≡ old.reader → IsFilled P Q old.raw new.raw filled.NoMemory → ReadTurn x a room old new P Q out (Err NoMemory)
+pub turn_full : (x : Seen) (a : Bool) (room : ℕ) (old new : ReadSide) (P Q : Past → Type 0) (out : List ℕ) → new.reader ≡ old.reader → IsFilled P Q old.raw new.raw filled.NoMemory → ReadTurn x a room old new P Q out (Err NoMemory)
 turn_full x a room old new P Q out e f = record {
   given = [];
   answer = None;
@@ -210,16 +210,16 @@ turn_full x a room old new P Q out e f = record {
   came = (filled_more x old new [] (inr refl) e (f.0 ∙ sym (append-nil old.raw)), inr (inr (inl refl)));
 }
 
-came_behind : (x : Seen) (a : Bool) (old mid new : Side) (room : ℕ) (out delta : List ℕ) (result : Result Turn ClientFault) → SideHears x old mid [] [] [] → CameOf x a mid new room out delta result → CameOf x a old new room out delta result
+came_behind : (x : Seen) (a : Bool) (old mid new : ReadSide) (room : ℕ) (out delta : List ℕ) (result : Result Turn ClientFault) → SideHears x old mid [] [] [] → CameOf x a mid new room out delta result → CameOf x a old new room out delta result
 came_behind x a old mid new room out delta (Ok t) h c = (side_then x old mid new t.events.items [] delta (take (ad_sum t.events.items) out) h c.0, c.1, c.2, c.3)
 came_behind x a old mid new room out delta (Err fault) h c = (side_then x old mid new [] [] delta [] h c.0, c.1)
 
-due_behind : (x : Seen) (a : Bool) (room : ℕ) (old mid : Side) (answer : Option Got) → SideHears x old mid [] [] [] → ReadsWhereDue x a room mid answer → ReadsWhereDue x a room old answer
+due_behind : (x : Seen) (a : Bool) (room : ℕ) (old mid : ReadSide) (answer : Option Got) → SideHears x old mid [] [] [] → ReadsWhereDue x a room mid answer → ReadsWhereDue x a room old answer
 due_behind x a room old mid None h d = tt
 due_behind x a room old mid (Some answer) h d = (d.0, side_then x old mid d.0 [] [] [] [] h d.1, d.2)
 
 -- raw bytes gave no event, and then the wire was read
-pub turn_behind : (x : Seen) (a : Bool) (room : ℕ) (old mid new : Side) (P Q : Past → Type 0) (out : List ℕ) (result : Result Turn ClientFault) → SideHears x old mid [] [] [] → ReadTurn x a room mid new P Q out result
+pub turn_behind : (x : Seen) (a : Bool) (room : ℕ) (old mid new : ReadSide) (P Q : Past → Type 0) (out : List ℕ) (result : Result Turn ClientFault) → SideHears x old mid [] [] [] → ReadTurn x a room mid new P Q out result
     → ReadTurn x a room old new P Q out result
 turn_behind x a room old mid new P Q out result h t = record {
   given = t.given;
@@ -235,7 +235,7 @@ cause_kept : (x : Seen) (a : Bool) (fault : ClientFault) (reader kept : Reader) 
 cause_kept x a fault reader kept raw still e f c = subst (λ (r : Reader). IsCause fault x a r still) (sym e) (subst (λ (t : List ℕ). IsCause fault x a reader t) (sym f) c)
 
 -- the fault is kept
-pub turn_kept : (x : Seen) (a : Bool) (room : ℕ) (old new kept : Side) (P Q : Past → Type 0) (out : List ℕ) (fault : ClientFault) → kept.reader ≡ new.reader → kept.raw ≡ new.raw → ReadTurn x a room old new P Q out (Err fault)
+pub turn_kept : (x : Seen) (a : Bool) (room : ℕ) (old new kept : ReadSide) (P Q : Past → Type 0) (out : List ℕ) (fault : ClientFault) → kept.reader ≡ new.reader → kept.raw ≡ new.raw → ReadTurn x a room old new P Q out (Err fault)
     → ReadTurn x a room old kept P Q out (Err fault)
 turn_kept x a room old new kept P Q out fault e r t = record {
   given = t.given;
@@ -246,7 +246,7 @@ turn_kept x a room old new kept P Q out fault e r t = record {
   came = (other_fault x old new kept [] t.given [] e r t.came.0, cause_kept x a fault new.reader kept.reader new.raw kept.raw e r t.came.1);
 }
 
-came_given_back : (x : Seen) (a : Bool) (old new kept : Side) (room : ℕ) (out delta : List ℕ) (result : Result Turn ClientFault) → GivesBack new kept → CameOf x a old new room out delta result → CameOf x a old kept room out delta result
+came_given_back : (x : Seen) (a : Bool) (old new kept : ReadSide) (room : ℕ) (out delta : List ℕ) (result : Result Turn ClientFault) → GivesBack new kept → CameOf x a old new room out delta result → CameOf x a old kept room out delta result
 came_given_back x a old new kept room out delta (Ok t) b c = (
   other_fault x old new kept t.events.items delta (take (ad_sum t.events.items) out) b.reader b.raw c.0,
   c.1,
@@ -259,7 +259,7 @@ came_given_back x a old new kept room out delta (Ok t) b c = (
 came_given_back x a old new kept room out delta (Err fault) b c = (other_fault x old new kept [] delta [] b.reader b.raw c.0, cause_kept x a fault new.reader kept.reader new.raw kept.raw b.reader b.raw c.1)
 
 -- room that holds no byte is given back
-pub turn_given_back : (x : Seen) (a : Bool) (room : ℕ) (old new kept : Side) (P Q : Past → Type 0) (out : List ℕ) (result : Result Turn ClientFault) → GivesBack new kept → ReadTurn x a room old new P Q out result
+pub turn_given_back : (x : Seen) (a : Bool) (room : ℕ) (old new kept : ReadSide) (P Q : Past → Type 0) (out : List ℕ) (result : Result Turn ClientFault) → GivesBack new kept → ReadTurn x a room old new P Q out result
     → ReadTurn x a room old kept P Q out result
 turn_given_back x a room old new kept P Q out result b t = record {
   given = t.given;

@@ -6,7 +6,7 @@ use Rattle.chunk_writer.specs.Writer.{waiting}
 use Rattle.icap_client.specs.declared.stage.Stage.{Stage}
 use Rattle.icap_client.specs.declared.stage.Stage.TheVariants.{Replies, Head, Body, Over}
 use Rattle.icap_client.specs.Laws.{IsWhole}
-use Rattle.icap_client.specs.Reading.{Side, SideHeard}
+use Rattle.icap_client.specs.Reading.{ReadSide, SideHeard}
 use Rattle.icap_client.specs.Turns.{Service, ServiceSent, ServiceHeard, IsClean, is_over, is_answered, is_whole_request, is_flushed, is_reusable}
 use Rattle.icap_client.proofs.Whole.{answer_whole}
 
@@ -32,7 +32,7 @@ not_of : (b : Bool) → not b ≡ true → b ≡ false
 not_of true e = cc
 not_of false e = refl
 
-whole_by : (x : Seen) (adapted read : List ℕ) (s : Side) → s.reader.stage ≡ Over → s.raw ≡ [] → SideHeard x adapted read s → IsWhole x adapted read s.reader
+whole_by : (x : Seen) (adapted read : List ℕ) (s : ReadSide) → s.reader.stage ≡ Over → s.raw ≡ [] → SideHeard x adapted read s → IsWhole x adapted read s.reader
 whole_by x adapted read s over none h =
     let text : read ≡ h.framed = h.text_is ∙ (ap (λ (raw : List ℕ). h.framed ++ raw) none ∙ append-nil h.framed) in
     subst (λ (t : List ℕ). IsWhole x adapted t s.reader) (sym text) (answer_whole x adapted h.framed s.reader over h.heard)

@@ -24,7 +24,7 @@ use Rattle.trace_core.specs.declared.history.Point.{Point}
 use Rattle.icap_client.specs.Hearing.{ReaderHears, MustWait}
 use Rattle.adapt_sides.specs.declared.fault.ClientFault.{ClientFault}
 use Rattle.icap_client.specs.Refused.{Refuses}
-use Rattle.icap_client.specs.Reading.{Side, SideHeard, SideHears, HasBegun, NotBegun}
+use Rattle.icap_client.specs.Reading.{ReadSide, SideHeard, SideHears, HasBegun, NotBegun}
 use Rattle.icap_client.specs.declared.stage.Stage.{Stage}
 use Rattle.icap_client.specs.declared.stage.Stage.TheVariants.{Replies, Head, Body, Over}
 
@@ -102,7 +102,7 @@ begun_on x events adapted read out (inl none) (inr n) =
     inr (subst (λ (es : List Event). NotBegun (after_all x es) (adapted ++ take (ad_sum es) out) (read ++ [])) (sym none) (not_begun x adapted read [] [] refl refl n))
 
 -- what a reader hears of its raw bytes
-pub framed : (x : Seen) (old new : Side) (events : List Event) (used : ℕ) (out : List ℕ) → ReaderHears x old.reader new.reader events (take used old.raw) (take (ad_sum events) out) → new.raw ≡ drop used old.raw
+pub framed : (x : Seen) (old new : ReadSide) (events : List Event) (used : ℕ) (out : List ℕ) → ReaderHears x old.reader new.reader events (take used old.raw) (take (ad_sum events) out) → new.raw ≡ drop used old.raw
     → SideHears x old new events [] (take (ad_sum events) out)
 framed x old new events used out h r = record {
   legal = h.legal;
@@ -134,7 +134,7 @@ begun_more x adapted read delta was (inl h) = inl (h.0, more_read read delta h.1
 begun_more x adapted read delta (inl h) (inr b) = absurd (both_heard x h b.unheard)
 begun_more x adapted read delta (inr n) (inr b) = inr (not_begun x adapted read [] delta refl n b)
 
-pub refused_kept : (x : Seen) (old new : Side) → Stays old.reader new.reader → new.raw ≡ old.raw → SideHears x old new [] [] []
+pub refused_kept : (x : Seen) (old new : ReadSide) → Stays old.reader new.reader → new.raw ≡ old.raw → SideHears x old new [] [] []
 refused_kept x old new k r = record {
   legal = tt;
   only = tt;
@@ -147,7 +147,7 @@ refused_kept x old new k r = record {
 }
 
 -- the fault is no part of what was heard
-pub other_fault : (x : Seen) (old new kept : Side) (events : List Event) (delta part : List ℕ) → kept.reader ≡ new.reader → kept.raw ≡ new.raw → SideHears x old new events delta part → SideHears x old kept events delta part
+pub other_fault : (x : Seen) (old new kept : ReadSide) (events : List Event) (delta part : List ℕ) → kept.reader ≡ new.reader → kept.raw ≡ new.raw → SideHears x old new events delta part → SideHears x old kept events delta part
 other_fault x old new kept events delta part e r h = record {
   legal = h.legal;
   only = h.only;
@@ -162,7 +162,7 @@ other_fault x old new kept events delta part e r h = record {
 }
 
 -- more raw bytes
-pub filled_more : (x : Seen) (old new : Side) (delta : List ℕ) → (x.heard ≡ true) ⊎ (delta ≡ []) → new.reader ≡ old.reader → new.raw ≡ old.raw ++ delta → SideHears x old new [] delta []
+pub filled_more : (x : Seen) (old new : ReadSide) (delta : List ℕ) → (x.heard ≡ true) ⊎ (delta ≡ []) → new.reader ≡ old.reader → new.raw ≡ old.raw ++ delta → SideHears x old new [] delta []
 filled_more x old new delta was e r = record {
   legal = tt;
   only = tt;
@@ -175,7 +175,7 @@ filled_more x old new delta was e r = record {
 }
 
 -- the first bytes of a reply
-pub filled_first : (x : Seen) (old new : Side) (delta out : List ℕ) → MayCome x Heard → 0 < length delta → new.reader ≡ old.reader → new.raw ≡ old.raw ++ delta → SideHears x old new (Heard ∷ []) delta (take (ad_sum (Heard ∷ [])) out)
+pub filled_first : (x : Seen) (old new : ReadSide) (delta out : List ℕ) → MayCome x Heard → 0 < length delta → new.reader ≡ old.reader → new.raw ≡ old.raw ++ delta → SideHears x old new (Heard ∷ []) delta (take (ad_sum (Heard ∷ [])) out)
 filled_first x old new delta out may some e r =
     let none : ad_sum (Heard ∷ []) ≡ 0 = omega arith in
     subst (λ (n : ℕ). SideHears x old new (Heard ∷ []) delta (take n out)) (sym none) (record {
@@ -191,7 +191,7 @@ filled_first x old new delta out may some e r =
     })
 
 -- one behind the other, the first without an event
-pub side_then : (x : Seen) (a b c : Side) (events : List Event) (d e part : List ℕ) → SideHears x a b [] d [] → SideHears x b c events e part → SideHears x a c events (d ++ e) part
+pub side_then : (x : Seen) (a b c : ReadSide) (events : List Event) (d e part : List ℕ) → SideHears x a b [] d [] → SideHears x b c events e part → SideHears x a c events (d ++ e) part
 side_then x a b c events d e part f g = record {
   legal = g.legal;
   only = g.only;

@@ -34,7 +34,7 @@ less (Some p) s m n l h = omega arith
 fewer : (x : Seen) (m n : ℕ) → 1 ≤ m → m ≤ n → Allows x (Svc n) → Allows x (Svc m)
 fewer x m n some l a = (a.0, (some, omega (arith, a.1.1)), omega (arith, a.2), less (open_preview x) x.sent m n l a.3)
 
--- The zero chunk behind the bytes of the turn.
+-- The last chunk behind the bytes of the turn.
 
 add_zero : (n : ℕ) → n + 0 ≡ n
 add_zero n = omega arith
@@ -94,7 +94,7 @@ leads_by x tape n s a (inr none) =
 pub leads : (x : Seen) (tape : Tape) (n : ℕ) → Sound x → (0 < n → Allows x (Svc n)) → Leads x (sent_to x n) tape n
 leads x tape n s a = leads_by x tape n s a (cases_lt 0 n)
 
--- after the zero chunk
+-- after the last chunk
 all_then : (x : Seen) (n : ℕ) (b : Bool) → (n == 0) ≡ b → after_all x (sending_events n true) ≡ after (sent_to x n) Stop
 all_then x n true e = rw e refl
 all_then x n false e = rw e refl
@@ -239,7 +239,7 @@ none_fits x w next c z n o a =
     let one : 1 ≤ next.count = c.greatest 1 (o, fewer x 1 n (omega arith) a.1.0 a) (omega arith, λ b l. l) in
     omega (arith, one, z)
 
--- a zero chunk that may follow is due where the body has gone
+-- a last chunk that may follow is due where the body has gone
 stop_from : (x : Seen) (n : ℕ) → n ≡ 0 → Allows x Stop → StopsAt x (x.sent + n)
 stop_from x n z (m, inl h) = inl (h.0, omega (arith, h.1, z))
 stop_from x n z (m, inr h) = inr (moved_preview (open_preview x) x.sent (x.sent + n) (omega (arith, z)) h)

@@ -13,7 +13,7 @@ use Rattle.icap_head.specs.declared.reading.HeadFault.TheVariants as heads
 use Rattle.icap_head.specs.declared.responses.IcapResponse.{IcapResponse}
 use Rattle.encapsulated.specs.Layouts.{IsLayout}
 use Rattle.encapsulated.specs.declared.offsets.Layout.{Layout}
-use Rattle.encapsulated.specs.declared.message.Method.TheVariants as methods
+use Rattle.adapt_bytes.specs.declared.method.Method.TheVariants as methods
 use Rattle.encapsulated.specs.declared.message.Direction.TheVariants as directions
 use Rattle.wire_kit.specs.Past.{Past, Offers, part_taken}
 use Rattle.wire_kit.specs.declared.wire.Put.{Put}

@@ -13,7 +13,7 @@ use Rattle.icap_client.specs.Laws.{first_reader}
 use Rattle.icap_client.specs.Events.{is_of_replies}
 use Rattle.icap_client.specs.declared.stage.Stage.{Stage}
 use Rattle.icap_client.specs.declared.stage.Stage.TheVariants.{Replies, Head, Body, Over}
-use Rattle.icap_client.specs.Reading.{Side, SideHeard, HasBegun, NotBegun, MayRead, NothingToRead}
+use Rattle.icap_client.specs.Reading.{ReadSide, SideHeard, HasBegun, NotBegun, MayRead, NothingToRead}
 
 -- what was heard depends on this alone
 pub record Same (x y : Seen) : Type 0 where
@@ -137,11 +137,11 @@ heard_kept x event adapted read o (inr n) = let s = same_after x event o in inr 
   count = s.count_is ∙ n.count;
 })
 
-pub side_keeps : (x : Seen) (event : Event) (adapted read : List ℕ) (s : Side) → is_of_replies event ≡ false → SideHeard x adapted read s → SideHeard (after x event) adapted read s
+pub side_keeps : (x : Seen) (event : Event) (adapted read : List ℕ) (s : ReadSide) → is_of_replies event ≡ false → SideHeard x adapted read s → SideHeard (after x event) adapted read s
 side_keeps x event adapted read s o h = record { framed = h.framed; text_is = h.text_is; heard = others_keep x event adapted h.framed s.reader o h.heard; begun = heard_kept x event adapted read o h.begun }
 
 -- Heard stands just where a byte was read
-pub heard_where : (x : Seen) (adapted read : List ℕ) (s : Side) → SideHeard x adapted read s → (x.heard ≡ true → 0 < length read) × (0 < length read → x.heard ≡ true)
+pub heard_where : (x : Seen) (adapted read : List ℕ) (s : ReadSide) → SideHeard x adapted read s → (x.heard ≡ true → 0 < length read) × (0 < length read → x.heard ≡ true)
 heard_where x adapted read s h = where_by h.begun
   where
     where_by : HasBegun x read ⊎ NotBegun x adapted read → (x.heard ≡ true → 0 < length read) × (0 < length read → x.heard ≡ true)
@@ -152,14 +152,14 @@ heard_where x adapted read s h = where_by h.begun
     )
 
 -- before the first byte of a reply nothing was read
-pub unheard_none : (x : Seen) (adapted read : List ℕ) (s : Side) → SideHeard x adapted read s → x.heard ≡ false → (adapted ≡ []) × (read ≡ [])
+pub unheard_none : (x : Seen) (adapted read : List ℕ) (s : ReadSide) → SideHeard x adapted read s → x.heard ≡ false → (adapted ≡ []) × (read ≡ [])
 unheard_none x adapted read s h n = none_by h.begun n
   where
     none_by : HasBegun x read ⊎ NotBegun x adapted read → x.heard ≡ false → (adapted ≡ []) × (read ≡ [])
     none_by (inl h) f = let odd : true ≡ false = sym h.0 ∙ f in cc
     none_by (inr b) f = (b.none, b.unread)
 
-fresh_by : (x : Seen) (adapted read : List ℕ) (s : Side) (point : Point) → s.reader ≡ first_reader point → s.raw ≡ [] → HasBegun x read ⊎ NotBegun x adapted read → x.heard ≡ false → SideHeard (after x Retry) [] [] s
+fresh_by : (x : Seen) (adapted read : List ℕ) (s : ReadSide) (point : Point) → s.reader ≡ first_reader point → s.raw ≡ [] → HasBegun x read ⊎ NotBegun x adapted read → x.heard ≡ false → SideHeard (after x Retry) [] [] s
 fresh_by x adapted read s point e r (inl h) n = let odd : true ≡ false = sym h.0 ∙ n in cc
 fresh_by x adapted read s point e r (inr b) n =
     let same : Same x (after x Retry) = same_after x Retry refl in
@@ -174,7 +174,7 @@ fresh_by x adapted read s point e r (inr b) n =
     }
 
 -- a fresh reader after a Retry
-pub hears_again : (x : Seen) (adapted read : List ℕ) (old s : Side) (point : Point) → s.reader ≡ first_reader point → s.raw ≡ [] → x.heard ≡ false → SideHeard x adapted read old → SideHeard (after x Retry) [] [] s
+pub hears_again : (x : Seen) (adapted read : List ℕ) (old s : ReadSide) (point : Point) → s.reader ≡ first_reader point → s.raw ≡ [] → x.heard ≡ false → SideHeard x adapted read old → SideHeard (after x Retry) [] [] s
 hears_again x adapted read old s point e r n h = fresh_by x adapted read s point e r h.begun n
 
 -- a whole final response stands in the history
@@ -182,7 +182,7 @@ over_by : (x : Seen) (adapted read : List ℕ) (r : Reader) → HeardFinal x ada
 over_by x adapted read r (was_unchanged h) = inl h.marks.no_mod_is
 over_by x adapted read r (was_changed h) = inr h.marks.over_is
 
-pub over_is : (x : Seen) (adapted read : List ℕ) (s : Side) → s.reader.stage ≡ Over → SideHeard x adapted read s → (x.no_mod ≡ true) ⊎ (x.adapted_over ≡ true)
+pub over_is : (x : Seen) (adapted read : List ℕ) (s : ReadSide) → s.reader.stage ≡ Over → SideHeard x adapted read s → (x.no_mod ≡ true) ⊎ (x.adapted_over ≡ true)
 over_is x adapted read s e h = over_by x adapted h.framed s.reader (subst (λ (t : Stage). HeardTo t x adapted h.framed s.reader) e h.heard)
 
 closed_by : (x : Seen) (all_sent p c : Bool) → is_preview x.plan.kind ≡ p → x.continued ≡ c → ¬ (MayRead x all_sent) → (is_preview x.plan.kind ≡ true) × (x.continued ≡ false)
@@ -191,7 +191,7 @@ closed_by x all_sent false c e f n = absurd (n (inl e))
 closed_by x all_sent true true e f n = absurd (n (inr (inl f)))
 
 -- if nothing is to be read, the answer is whole, there is no room, or a preview waits
-pub rests_where : (x : Seen) (adapted read : List ℕ) (all_sent : Bool) (room : ℕ) (s : Side) → SideHeard x adapted read s → NothingToRead x all_sent room s.reader.stage
+pub rests_where : (x : Seen) (adapted read : List ℕ) (all_sent : Bool) (room : ℕ) (s : ReadSide) → SideHeard x adapted read s → NothingToRead x all_sent room s.reader.stage
     → ((x.no_mod ≡ true) ⊎ (x.adapted_over ≡ true)) ⊎ ((room ≡ 0) ⊎ ((is_preview x.plan.kind ≡ true) × (x.continued ≡ false)))
 rests_where x adapted read all_sent room s h (inl e) = inl (over_is x adapted read s e h)
 rests_where x adapted read all_sent room s h (inr (inl z)) = inr (inl z)

@@ -18,14 +18,14 @@ use Rattle.icap_client.specs.declared.stage.Stage.{Stage}
 use Rattle.icap_client.specs.declared.stage.Stage.TheVariants.{Over}
 
 -- the reading half: the reader, the bytes that came and aren't framed yet, the fault that stays, and the room after those bytes
-pub record Side : Type 0 where
+pub record ReadSide : Type 0 where
   pub reader : Reader
   pub raw : List ℕ
   pub fault : Option ClientFault
   pub room : ℕ
 
 -- no more than room was given back, and all of it if there are no bytes
-pub record GivesBack (old new : Side) : Type 0 where
+pub record GivesBack (old new : ReadSide) : Type 0 where
   pub reader : new.reader ≡ old.reader
   pub raw : new.raw ≡ old.raw
   pub fault : new.fault ≡ old.fault
@@ -45,14 +45,14 @@ pub record NotBegun (x : Seen) (adapted read : List ℕ) : Type 0 where
   pub count : x.adapted_received ≡ 0
 
 -- the bytes read, but for the raw ones, say what was heard; Heard stands once a first one was read
-pub record SideHeard (x : Seen) (adapted read : List ℕ) (s : Side) : Type 0 where
+pub record SideHeard (x : Seen) (adapted read : List ℕ) (s : ReadSide) : Type 0 where
   pub framed : List ℕ
   pub text_is : read ≡ framed ++ s.raw
   pub heard : HasHeard x adapted framed s.reader
   pub begun : HasBegun x read ⊎ NotBegun x adapted read
 
 -- the events may come, and say what these further bytes of the wire do, with these adapted ones
-pub record SideHears (x : Seen) (old new : Side) (events : List Event) (given part : List ℕ) : Type 0 where
+pub record SideHears (x : Seen) (old new : ReadSide) (events : List Event) (given part : List ℕ) : Type 0 where
   pub legal : MayAllFollow x events
   pub only : AllAre is_of_replies events
   pub heard : (adapted read : List ℕ) → SideHeard x adapted read old → SideHeard (after_all x events) (adapted ++ part) (read ++ given) new
@@ -69,16 +69,16 @@ NothingToRead x all_sent room stage = (stage ≡ Over) ⊎ ((room ≡ 0) ⊎ ¬ 
 
 -- A read is due: the response isn't whole, there is room, the service may answer now, and none of the bytes that are kept can
 -- be framed.
-pub record IsReadDue (x : Seen) (all_sent : Bool) (room : ℕ) (s : Side) : Type 0 where
+pub record IsReadDue (x : Seen) (all_sent : Bool) (room : ℕ) (s : ReadSide) : Type 0 where
   pub going_on : ¬ (s.reader.stage ≡ Over)
   pub some_room : 0 < room
   pub may : MayRead x all_sent
   pub waits : HasToWait s.reader.stage s.raw room
 
 -- the wire is read only if that is due once the bytes that are kept were framed, and no event came of them
-abbrev pub ReadsWhereDue : Seen → Bool → ℕ → Side → Option Got → Type 0
+abbrev pub ReadsWhereDue : Seen → Bool → ℕ → ReadSide → Option Got → Type 0
 ReadsWhereDue x all_sent room old None = Unit {0}
-ReadsWhereDue x all_sent room old (Some answer) = (framed : Side) × SideHears x old framed [] [] [] × IsReadDue x all_sent room framed
+ReadsWhereDue x all_sent room old (Some answer) = (framed : ReadSide) × SideHears x old framed [] [] [] × IsReadDue x all_sent room framed
 
 -- What a turn makes of its wire's answer. It waits if the wire says so, or, if it didn't read, if nothing is to be read. It
 -- answers Closed and Device just if the wire ended or failed.
@@ -103,7 +103,7 @@ IsCause fault x all_sent reader raw =
     (fault ≡ Closed) ⊎ ((fault ≡ Device) ⊎ ((fault ≡ NoMemory) ⊎ (IsUnheard fault x all_sent ⊎ Refuses fault x reader.point reader.stage raw)))
 
 -- what came of a turn in which the wire gave these bytes, with this much room
-abbrev pub CameOf : Seen → Bool → Side → Side → ℕ → List ℕ → List ℕ → Result Turn ClientFault → Type 0
+abbrev pub CameOf : Seen → Bool → ReadSide → ReadSide → ℕ → List ℕ → List ℕ → Result Turn ClientFault → Type 0
 CameOf x all_sent old new room out given (Ok turn) =
     SideHears x old new turn.events.items given (take (ad_sum turn.events.items) out)
     × (ad_sum turn.events.items ≤ room)
@@ -113,7 +113,7 @@ CameOf x all_sent old new room out given (Err fault) =
     SideHears x old new [] given [] × IsCause fault x all_sent new.reader new.raw
 
 -- A turn of a side without a fault makes one read at most.
-pub record ReadTurn (x : Seen) (all_sent : Bool) (room : ℕ) (old new : Side) (before after : Past → Type 0) (out : List ℕ) (result : Result Turn ClientFault) : Type 0 where
+pub record ReadTurn (x : Seen) (all_sent : Bool) (room : ℕ) (old new : ReadSide) (before after : Past → Type 0) (out : List ℕ) (result : Result Turn ClientFault) : Type 0 where
   pub given : List ℕ
   pub answer : Option Got
   pub wire : ReadsAtMostOnce before after given answer

@@ -1,5 +1,5 @@
 -- What the sending side has written, as a relation over histories.
-use Rattle.std.specs.Prelude.{◌≡◌, ℕ, ◌+◌, ◌<◌, ◌≤◌, ◌⊎◌, Bool, true, false, List, [], ◌∷◌, ◌++◌, length, take, drop, IfSome, if◌then◌else◌, ◌&&◌, not, ◌==◌, IsSomeAnd}
+use Rattle.std.specs.Prelude.{◌≡◌, ℕ, ◌+◌, ◌<◌, ◌≤◌, ◌⊎◌, Bool, true, false, List, [], ◌∷◌, ◌++◌, length, take, drop, Option, Some, None, IfSome, if◌then◌else◌, ◌&&◌, not, ◌==◌, IsSomeAnd}
 use Rattle.icap_chunks.specs.Grammar.{last_chunk}
 use Rattle.trace_core.specs.declared.history.Event.{Event}
 use Rattle.trace_core.specs.declared.history.Event.TheVariants.{Svc, Stop}
@@ -17,7 +17,7 @@ use Rattle.icap_client.specs.RequestText.{is_null}
 use Rattle.icap_client.specs.Events.{MayCome}
 use Rattle.icap_client.specs.Front.{Front, HasBody}
 
--- the text of the next zero chunk: nothing if there is no body
+-- the text of the next last chunk: nothing if there is no body
 abbrev pub stop_text : Seen → List ℕ
 stop_text x = if is_null x.plan.len then [] else last_chunk (ieof_now x)
 
@@ -56,7 +56,7 @@ pub record NothingDue (x : Seen) (w : Writer) : Type 0 where
 
 -- What a turn decides before it writes.
 
--- a zero chunk is due once the body has gone this far: to its end, or to the end of the preview
+-- a last chunk is due once the body has gone this far: to its end, or to the end of the preview
 abbrev pub StopsAt : Seen → ℕ → Type 0
 StopsAt x place = ((x.ended ≡ true) × (place ≡ x.received)) ⊎ IsSomeAnd (open_preview x) (λ p. place ≡ p)
 
@@ -71,7 +71,7 @@ stop_text_at x place =
     else last_chunk (is_preview x.plan.kind && not x.stopped && x.ended && (place == x.received))
 
 -- What comes next: of the body bytes that may be sent all that fit into a turn and into the chunk that was begun, and after them
--- the zero chunk, if it is due. So there is one such next.
+-- the last chunk, if it is due. So there is one such next.
 pub record Decides (x : Seen) (w : Writer) (next : Next) : Type 0 where
   pub chunked : next.chunked ≡ true
   pub from : next.from ≡ x.sent
@@ -82,7 +82,12 @@ pub record Decides (x : Seen) (w : Writer) (next : Next) : Type 0 where
   pub no_stop : is_ending next.end ≡ false → StopsBehind x next.count → ⊥
   pub text : is_ending next.end ≡ true → end_text next.end ≡ stop_text_at x (x.sent + next.count)
 
--- the events of a turn that sent this many bytes of the body, and fixed a zero chunk or not
+-- the bytes of the body that were sent, where any text was
+abbrev pub count_of : Option ℕ → ℕ
+count_of None = 0
+count_of (Some n) = n
+
+-- the events of a turn that sent this many bytes of the body, and fixed a last chunk or not
 abbrev pub svc_events : ℕ → List Event
 svc_events n = if n == 0 then [] else Svc n ∷ []
 

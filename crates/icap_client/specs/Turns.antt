@@ -15,7 +15,7 @@ use Rattle.chunk_writer.specs.declared.next.Next.{Next}
 use Rattle.chunk_writer.specs.Writer.{Writer, waiting, offered}
 use Rattle.icap_client.specs.Sending.{HasSent, Came, NothingDue, Decides}
 use Rattle.icap_client.specs.Events.{MayCome, after_all, MayAllFollow, AllAre, is_of_sending}
-use Rattle.icap_client.specs.Reading.{Side, SideHeard, NothingToRead, IsCause}
+use Rattle.icap_client.specs.Reading.{ReadSide, SideHeard, NothingToRead, IsCause}
 use Rattle.icap_client.specs.HeadFront.{HasToWait}
 use Rattle.icap_client.specs.Laws.{IsWhole}
 use Rattle.icap_client.specs.declared.stage.Stage.{Stage}
@@ -34,7 +34,7 @@ pub record GoesOn (x : Seen) (tape : Tape) (old new : Writer) (events : List Eve
 -- nothing goes to the service; a preview was answered, with no 100 before it
 pub record Service : Type 0 where
   pub writer : Writer
-  pub replies : Side
+  pub replies : ReadSide
   pub last_stop : Bool
   pub answered : Bool
 

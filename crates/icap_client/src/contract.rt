@@ -80,7 +80,7 @@ impl Service for ServiceSide {
         ServiceSide::read_turn(self, state, wire, out)
     }
 
-    fn again(&mut self) {
-        ServiceSide::again(self);
+    fn restart(&mut self) {
+        ServiceSide::restart(self);
     }
 }

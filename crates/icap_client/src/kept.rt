@@ -94,7 +94,7 @@ impl Kept {
     }
 
     /// Gives back the room, if there is no byte.
-    pub(crate) fn give_back(&mut self, alloc: Global)
+    pub(crate) fn free_memory(&mut self, alloc: Global)
         ensures bytes { self.new.bytes ≡ self.old.bytes }
         ensures none { self.new.bytes ≡ [] → self.new.room ≡ 0 }
     {

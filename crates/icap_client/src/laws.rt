@@ -19,7 +19,7 @@ ghost use Rattle.chunk_writer.specs.Writer.{Writer, fresh, waiting};
 ghost use Rattle.icap_client.specs.Refused.{Refuses};
 ghost use Rattle.icap_client.specs.Replies.{Final, IsAnswer};
 ghost use Rattle.adapt_sides.specs.declared.fault.ClientFault.{ClientFault};
-ghost use Rattle.icap_client.specs.Reading.{Side, SideHeard};
+ghost use Rattle.icap_client.specs.Reading.{ReadSide, SideHeard};
 ghost use Rattle.icap_client.specs.Turns.{Service, ServiceSent, ServiceHeard, IsClean, is_reusable};
 ghost use Rattle.icap_client.specs.Laws.{first_reader, IsWhole, WasSaid, AreSame};
 ghost use Rattle.icap_client.specs.declared.stage.Stage.TheVariants as stages;
@@ -43,7 +43,7 @@ pub fn an_answer_is_whole()
 /// How the reads cut a service's bytes doesn't matter: two sides that were given the same bytes, have room and framed what
 /// can be framed of them, are equally far, with equal histories and equal bytes left over.
 pub fn cuts_do_not_matter()
-    ensures { (x y : Seen) (xs ys read : List ℕ) (a b : Side) (room more : ℕ) → b.reader.point ≡ a.reader.point → 0 < room → 0 < more
+    ensures { (x y : Seen) (xs ys read : List ℕ) (a b : ReadSide) (room more : ℕ) → b.reader.point ≡ a.reader.point → 0 < room → 0 < more
         → SideHeard x xs read a → HasToWait a.reader.stage a.raw room → SideHeard y ys read b → HasToWait b.reader.stage b.raw more
         → AreSame x y xs ys a b }
 {}
@@ -83,18 +83,18 @@ pub fn others_keep()
 
 /// A fresh side has sent nothing and heard nothing.
 pub fn a_side_begins()
-    ensures { (plan : Plan) (point : Point) (s : Side) → s.reader ≡ first_reader point → s.raw ≡ [] → SideHeard (seen plan []) [] [] s }
+    ensures { (plan : Plan) (point : Point) (s : ReadSide) → s.reader ≡ first_reader point → s.raw ≡ [] → SideHeard (seen plan []) [] [] s }
 {}
 
 /// The events of the other sides leave what was heard as it is, the raw bytes among it.
 pub fn others_heard()
-    ensures { (x : Seen) (event : Event) (adapted read : List ℕ) (s : Side) → is_of_replies event ≡ false
+    ensures { (x : Seen) (event : Event) (adapted read : List ℕ) (s : ReadSide) → is_of_replies event ≡ false
         → SideHeard x adapted read s → SideHeard (after x event) adapted read s }
 {}
 
 /// Heard stands in the history just where a byte of a reply was read on this connection.
 pub fn heard_says_a_byte()
-    ensures { (x : Seen) (adapted read : List ℕ) (s : Side) → SideHeard x adapted read s → ((x.heard ≡ true) ↔ (0 < length read)) }
+    ensures { (x : Seen) (adapted read : List ℕ) (s : ReadSide) → SideHeard x adapted read s → ((x.heard ≡ true) ↔ (0 < length read)) }
 {}
 
 /// Once the reader is over, its tag and its word on closing are those of the final response's ICAP head.
@@ -102,7 +102,7 @@ pub fn the_final_head_says()
     ensures { (x : Seen) (adapted read : List ℕ) (r : Reader) → r.stage ≡ stages.Over → HasHeard x adapted read r → WasSaid x read r }
 {}
 
-/// Once the last zero chunk was fixed and nothing waits, the service's wire took just a whole request.
+/// Once the last last chunk was fixed and nothing waits, the service's wire took just a whole request.
 pub fn a_request_is_whole()
     ensures { (plan : Plan) (events : List Event) (head came taken : List ℕ) (w : Writer) → IsLegal plan events
         → (seen plan events).last_stop ≡ true → waiting w ≡ [] → length came ≡ (seen plan events).received

@@ -3,7 +3,7 @@
 ghost use Rattle.std.specs.Prelude.{◌≡◌, ℕ, ◌+◌, ◌<◌, ◌≤◌, ◌⊎◌, Bool, List, [], ◌∷◌, ◌++◌, length, drop, take, OnOk, IfOk, IfErr, IfSome, IfNone, Some, None, Err, is_some, codes, true, false, option_map};
 ghost use Rattle.adapt_bytes.specs.declared.limits.TheConstants.{MAX_HEAD};
 ghost use Rattle.adapt_bytes.specs.Numeral.{numeral};
-ghost use Rattle.encapsulated.specs.declared.message.Method.TheVariants as methods;
+ghost use Rattle.adapt_bytes.specs.declared.method.Method.TheVariants as methods;
 ghost use Rattle.adapt_bytes.specs.Fields.{values_of};
 ghost use Rattle.icap_chunks.specs.Faults.{Breaks};
 ghost use Rattle.icap_chunks.specs.Machine.{HasRead, end_of, fault_of};
@@ -17,9 +17,9 @@ use crate::events::refusal;
 use crate::kept::Kept;
 use crate::lists::has_body;
 use crate::request::options_request;
-use adapt_bytes::behind;
+use adapt_bytes::{Method, behind};
 use adapt_sides::{ClientFault, Filled, MAX_READ};
-use encapsulated::{Direction, Method, read};
+use encapsulated::{Direction, read};
 use icap_chunks::{ChunkFault, ChunkReader};
 use icap_head::{Fields, HeadFault, IcapResponse, read_response};
 use std::alloc::{AllocError, Global};
@@ -286,10 +286,10 @@ impl OptionsSide {
     }
 
     /// Gives back the room for raw bytes, if there is no such byte.
-    fn give_back(&mut self)
+    fn free_memory(&mut self)
         ensures { LetsRoomGo self.old self.new }
     {
-        self.raw.give_back(self.alloc);
+        self.raw.free_memory(self.alloc);
     }
 
     /// Runs [`OptionsSide::try_turn`], and then keeps no empty room.
@@ -299,7 +299,7 @@ impl OptionsSide {
         ensures empty { self.new.raw ≡ [] → self.new.room ≡ 0 }
     {
         let result = self.try_turn(wire);
-        self.give_back();
+        self.free_memory();
         result
     }
 

@@ -73,7 +73,7 @@ impl ReplyReader {
     }
 
     /// The reader before the first byte of another connection's responses. It takes no memory.
-    pub fn again(&mut self)
+    pub fn restart(&mut self)
         ensures { self.new ≡ first_reader self.old.point }
     {
         self.stage = Stage::Replies;

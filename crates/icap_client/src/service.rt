@@ -1,6 +1,6 @@
 //! The service's end of one transaction: both halves.
 
-ghost use Rattle.std.specs.Prelude.{option_copied, ◌≡◌, ℕ, List, ◌+◌, ◌≤◌, ◌++◌, ◌∷◌, ◌↔◌, IsTrue, IfSome, IfOk, Err, true, false, Some, None, ◌⊎◌, [], length, ◌<◌, MatchOption};
+ghost use Rattle.std.specs.Prelude.{option_copied, ◌≡◌, ℕ, List, ◌+◌, ◌≤◌, ◌++◌, ◌∷◌, ◌↔◌, IsTrue, IfSome, is_some, IfOk, Err, true, false, Some, None, ◌⊎◌, [], length, ◌<◌, MatchOption};
 ghost use Rattle.adapt_bytes.specs.declared.limits.TheConstants.{COUNT_LIMIT, MAX_HEAD};
 ghost use Rattle.trace_core.specs.declared.history.Seen.{Seen};
 ghost use Rattle.trace_core.specs.History.{seen};
@@ -10,7 +10,7 @@ ghost use Rattle.icap_client.specs.Heard.{KeepsHead};
 ghost use Rattle.icap_client.specs.Laws.{first_reader};
 ghost use Rattle.icap_client.specs.Reading.{ReadTurn};
 ghost use Rattle.icap_client.specs.Events.{after_all, MayCome};
-ghost use Rattle.icap_client.specs.Sending.{KeepsUnsent, NothingDue, sending_events, LetsGo, KeepsOrDrops, KeepsNoText};
+ghost use Rattle.icap_client.specs.Sending.{KeepsUnsent, NothingDue, count_of, sending_events, LetsGo, KeepsOrDrops, KeepsNoText};
 ghost use Rattle.icap_client.specs.RequestHead.{request_head};
 ghost use Rattle.icap_client.specs.Turns.{ServiceSent, ServiceHeard, is_whole_request, is_reusable, is_answered, WriteTurn, Sends, Hears, RestsReading, HasFramed, events_of, is_flushed};
 
@@ -49,9 +49,9 @@ fn write_once<W: Wire>(
     *last_stop = has_last_stop(&seen, wrote.ended, next.from + next.count);
     match wrote.answer {
         Some(Put::Fault) => Err(ClientFault::Device),
-        Some(Put::Took(_)) => Ok(turn_of(wrote.sent, wrote.ended, true)),
-        Some(Put::Wait) => Ok(turn_of(0, false, false)),
-        None => Ok(turn_of(0, wrote.ended, false)),
+        Some(Put::Took(_)) => Ok(turn_of(Some(wrote.sent), wrote.ended)),
+        Some(Put::Wait) => Ok(turn_of(None, false)),
+        None => Ok(turn_of(None, wrote.ended)),
     }
 }
 
@@ -130,7 +130,7 @@ impl ServiceSide {
 
     /// Begins the request anew, for a fresh connection: its text is that of the whole request again, nothing is read, and no
     /// fault is kept. It takes no memory.
-    pub fn again(&mut self)
+    pub fn restart(&mut self)
         ensures writer { self.new.writer ≡ fresh self.old.writer.head }
         ensures reader { self.new.replies.reader ≡ first_reader self.old.replies.reader.point }
         ensures raw { self.new.replies.raw ≡ [] }
@@ -138,8 +138,8 @@ impl ServiceSide {
         ensures room { self.new.replies.room ≡ 0 }
         ensures marks { (self.new.last_stop ≡ false) × (self.new.answered ≡ false) }
     {
-        self.writer.again();
-        self.replies.again();
+        self.writer.restart();
+        self.replies.restart();
         self.last_stop = false;
         self.answered = false;
     }
@@ -326,18 +326,20 @@ fn flushed(writer: &ChunkWriter) -> bool
     writer.is_out()
 }
 
-fn turn_of(sent: u64, ended: bool, moved: bool) -> Turn
-    ensures events { result.events.items ≡ sending_events sent ended }
-    ensures waits { result.waiting ≡ true → (result.events.items ≡ []) × (moved ≡ false) }
-    ensures goes { result.waiting ≡ false → (moved ≡ false) → result.events.items ≡ [] → ⊥ }
+/// The turn in which the wire took so many bytes of the body, or nothing at all, and the sending has ended or not.
+fn turn_of(sent: Option<u64>, ended: bool) -> Turn
+    ensures events { result.events.items ≡ sending_events (count_of sent) ended }
+    ensures waits { result.waiting ≡ true → (result.events.items ≡ []) × (is_some sent ≡ false) }
+    ensures goes { result.waiting ≡ false → (is_some sent ≡ false) → result.events.items ≡ [] → ⊥ }
 {
     let mut events = ArrayVec::new();
-    if sent > 0 {
-        push_event(&mut events, Event::Svc(sent));
+    let count = sent.unwrap_or(0);
+    if count > 0 {
+        push_event(&mut events, Event::Svc(count));
     }
     if ended {
         push_event(&mut events, Event::Stop);
     }
-    let waiting = sent == 0 && !ended && !moved;
+    let waiting = sent.is_none() && !ended;
     Turn { events, waiting }
 }

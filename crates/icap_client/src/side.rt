@@ -8,7 +8,7 @@ ghost use Rattle.icap_client.specs.HeadFront.{HasToWait, IsHeadFront};
 ghost use Rattle.icap_client.specs.Heard.{KeepsLimits, KeepsHead};
 ghost use Rattle.icap_client.specs.Laws.{first_reader};
 ghost use Rattle.icap_client.specs.Refused.{Refuses};
-ghost use Rattle.icap_client.specs.Reading.{Side, GivesBack, SideHears, MayRead, NothingToRead, ReadTurn};
+ghost use Rattle.icap_client.specs.Reading.{ReadSide, GivesBack, SideHears, MayRead, NothingToRead, ReadTurn};
 ghost use Rattle.adapt_sides.specs.Filling.{IsFilled};
 ghost use Rattle.icap_client.specs.Turns.{is_over};
 ghost use Rattle.wire_kit.specs.Past.{Past};
@@ -53,9 +53,9 @@ pub struct ReplySide {
 }
 
 impl Model for ReplySide {
-    ghost use Rattle.icap_client.specs.Reading.{Side};
+    ghost use Rattle.icap_client.specs.Reading.{ReadSide};
 
-    ghost Value = { Side };
+    ghost Value = { ReadSide };
 
     ghost view = { λ s. record { reader = s.reader; raw = s.raw.bytes; fault = s.fault; room = s.raw.room } };
 }
@@ -78,13 +78,13 @@ impl ReplySide {
     }
 
     /// The side before the first byte of another connection's responses: without raw bytes, and without a fault.
-    pub(crate) fn again(&mut self)
+    pub(crate) fn restart(&mut self)
         ensures reader { self.new.reader ≡ first_reader self.old.reader.point }
         ensures raw { self.new.raw ≡ [] }
         ensures fault { self.new.fault ≡ None }
         ensures room { self.new.room ≡ 0 }
     {
-        self.reader.again();
+        self.reader.restart();
         self.raw = Kept::new(self.reader.allocator());
         self.fault = None;
     }
@@ -306,10 +306,10 @@ impl ReplySide {
     }
 
     /// Gives back the room for raw bytes, if there is no such byte.
-    fn give_back(&mut self)
+    fn free_memory(&mut self)
         ensures { GivesBack self.old self.new }
     {
-        self.raw.give_back(self.reader.allocator());
+        self.raw.free_memory(self.reader.allocator());
     }
 
     /// Runs [`ReplySide::try_turn`], and then keeps no empty room.
@@ -326,7 +326,7 @@ impl ReplySide {
         ensures empty { self.new.raw ≡ [] → self.new.room ≡ 0 }
     {
         let result = self.try_turn(state, all_sent, wire, out);
-        self.give_back();
+        self.free_memory();
         result
     }
 

@@ -20,8 +20,8 @@ use Rattle.icap_head.proofs.Totals.{first_feed}
 use Rattle.adapt_bytes.specs.Text.{is_token_byte, IsToken}
 use Rattle.httparse.specs.Grammar.{is_value_byte}
 use Rattle.icap_head.proofs.Trimmed.{token_name}
-use Rattle.icap_head.specs.declared.line_front.Place.{Place}
-use Rattle.icap_head.specs.declared.line_front.Place.TheVariants.{Start, Name, Value, Return}
+use Rattle.icap_head.specs.declared.line_front.LinePart.{LinePart}
+use Rattle.icap_head.specs.declared.line_front.LinePart.TheVariants.{Start, Name, Value, Return}
 use Rattle.icap_head.specs.LineFront.{IsAt, IsInValue, IsLineFront, IsLastLine}
 
 -- ---- whole lines, and the front of one more
@@ -207,7 +207,7 @@ still_more Form head new start short new_lacks last line stands = elim (cases_lt
 abbrev with_value : List ℕ → List ℕ → LineEnd → Line
 with_value name raw end = record { name = name; raw = raw; end = end }
 
-pub line_front : (place : Place) (line : List ℕ) → IsAt place line → IsLineFront line
+pub line_front : (place : LinePart) (line : List ℕ) → IsAt place line → IsLineFront line
 line_front Start line e = inl (inl e)
 line_front Name line token = inr (with_value line [] lf, 58 ∷ 10 ∷ [], record { name = token_name line token; raw = λ k d inside. absurd (omega arith) }, append_assoc line (58 ∷ []) (10 ∷ []), omega arith)
 line_front Value line (name, raw, token, all, e) =
@@ -235,7 +235,7 @@ more_value line byte (name, raw, token, all, e) good =
 -- ---- a piece behind the front of a head
 
 -- the piece ends no line, and the last line goes on with it
-pub goes_on : (Form : List ℕ → List ℕ → Type 0) (head piece rest : List ℕ) (start : ℕ) (place next : Place) → length piece < 16384 - length head → Lacks 10 piece → IsLastLine head start → rest ≡ drop start head
+pub goes_on : (Form : List ℕ → List ℕ → Type 0) (head piece rest : List ℕ) (start : ℕ) (place next : LinePart) → length piece < 16384 - length head → Lacks 10 piece → IsLastLine head start → rest ≡ drop start head
     → ((line : List ℕ) → IsAt Start line → IsAt place (line ++ rest)) → ((line : List ℕ) → IsAt place line → IsAt next (line ++ piece))
     → RefusesIcapHead Form More head → RefusesIcapHead Form More (head ++ piece)
 goes_on Form head piece rest start place next short lacks last e first second stands =

@@ -2,15 +2,15 @@
 use Rattle.std.specs.Prelude.{◌≡◌, ◌≢◌, ℕ, ◌-◌, ◌<◌, ◌≤◌, ◌⊎◌, ◌++◌, List, [], ◌∷◌, slice_index, length}
 use Rattle.adapt_bytes.specs.Text.{IsToken}
 use Rattle.httparse.specs.Grammar.{AllPass, Field, IsField, is_value_byte, print_field}
-use Rattle.icap_head.specs.declared.line_front.Place.{Place}
-use Rattle.icap_head.specs.declared.line_front.Place.TheVariants.{Start, Name, Value, Return}
+use Rattle.icap_head.specs.declared.line_front.LinePart.{LinePart}
+use Rattle.icap_head.specs.declared.line_front.LinePart.TheVariants.{Start, Name, Value, Return}
 
 -- a name, a colon, and what has come of a value
 abbrev pub IsInValue : List ℕ → Type 0
 IsInValue line = (name : List ℕ) × (raw : List ℕ) × IsToken name × AllPass is_value_byte raw × (line ≡ name ++ 58 ∷ raw)
 
 -- the line has come to this place
-abbrev pub IsAt : Place → List ℕ → Type 0
+abbrev pub IsAt : LinePart → List ℕ → Type 0
 IsAt Start line = line ≡ []
 IsAt Name line = IsToken line
 IsAt Value line = IsInValue line

@@ -1,6 +1,6 @@
 -- The methods of requests (RFC 3507, section 4.3.2).
 use Rattle.std.specs.Prelude.{ℕ, List}
-use Rattle.encapsulated.specs.Methods.{method_name}
+use Rattle.adapt_bytes.specs.Methods.{method_name}
 use Rattle.icap_head.specs.declared.methods.RequestMethod.{RequestMethod}
 use Rattle.icap_head.specs.declared.methods.RequestMethod.TheVariants.{Known, Other}
 

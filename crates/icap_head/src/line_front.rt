@@ -10,7 +10,7 @@ use adapt_bytes::{MAX_HEAD, is_token};
 
 /// Where a field line, or the empty one, is before its LF (RFC 9112, section 5).
 #[derive(Clone, Copy, Debug)]
-enum Place {
+enum LinePart {
     Start,
     Name,
     Value,
@@ -37,7 +37,7 @@ pub fn is_still_front(front: &[u8], piece: &[u8]) -> bool
     if start == 0 {
         return true;
     }
-    match behind_all(Place::Start, &front[start..]) {
+    match behind_all(LinePart::Start, &front[start..]) {
         Some(place) => behind_all(place, piece).is_some(),
         None => false,
     }
@@ -55,7 +55,7 @@ fn last_line(text: &[u8]) -> usize
 }
 
 /// The place after some more bytes; `None` if no line has them there, or if the line ends.
-fn behind_all(place: Place, bytes: &[u8]) -> Option<Place>
+fn behind_all(place: LinePart, bytes: &[u8]) -> Option<LinePart>
     ensures { IfSome result (λ next. (line : List ℕ) → IsAt place line → IsAt next (line ++ bytes.now)) }
 {
     let mut next = place;
@@ -66,49 +66,49 @@ fn behind_all(place: Place, bytes: &[u8]) -> Option<Place>
 }
 
 /// The place after one more byte.
-fn behind(place: Place, byte: u8) -> Option<Place>
+fn behind(place: LinePart, byte: u8) -> Option<LinePart>
     ensures { IfSome result (λ next. (line : List ℕ) → IsAt place line → IsAt next (line ++ byte ∷ [])) }
 {
     match place {
-        Place::Start => behind_start(byte),
-        Place::Name => behind_name(byte),
-        Place::Value => behind_value(byte),
-        Place::Return => None,
+        LinePart::Start => behind_start(byte),
+        LinePart::Name => behind_name(byte),
+        LinePart::Value => behind_value(byte),
+        LinePart::Return => None,
     }
 }
 
-fn behind_start(byte: u8) -> Option<Place>
+fn behind_start(byte: u8) -> Option<LinePart>
     ensures { IfSome result (λ next. IsAt next (byte ∷ [])) }
 {
     if byte == b'\r' {
-        return Some(Place::Return);
+        return Some(LinePart::Return);
     }
     if is_token(&[byte]) {
-        return Some(Place::Name);
+        return Some(LinePart::Name);
     }
     None
 }
 
-fn behind_name(byte: u8) -> Option<Place>
-    ensures { IfSome result (λ next. (line : List ℕ) → IsAt Place.Name line → IsAt next (line ++ byte ∷ [])) }
+fn behind_name(byte: u8) -> Option<LinePart>
+    ensures { IfSome result (λ next. (line : List ℕ) → IsAt LinePart.Name line → IsAt next (line ++ byte ∷ [])) }
 {
     if byte == b':' {
-        return Some(Place::Value);
+        return Some(LinePart::Value);
     }
     if is_token(&[byte]) {
-        return Some(Place::Name);
+        return Some(LinePart::Name);
     }
     None
 }
 
-fn behind_value(byte: u8) -> Option<Place>
-    ensures { IfSome result (λ next. (line : List ℕ) → IsAt Place.Value line → IsAt next (line ++ byte ∷ [])) }
+fn behind_value(byte: u8) -> Option<LinePart>
+    ensures { IfSome result (λ next. (line : List ℕ) → IsAt LinePart.Value line → IsAt next (line ++ byte ∷ [])) }
 {
     if byte == b'\r' {
-        return Some(Place::Return);
+        return Some(LinePart::Return);
     }
     if is_value_byte(byte) {
-        return Some(Place::Value);
+        return Some(LinePart::Value);
     }
     None
 }

@@ -1,8 +1,8 @@
 //! Methods of ICAP requests (RFC 3507, section 4.3.2).
 ghost use Rattle.std.specs.Prelude.{◌≡◌, IfOk, OnErr};
-ghost use Rattle.encapsulated.specs.Methods.{NamesNoMethod};
+ghost use Rattle.adapt_bytes.specs.Methods.{NamesNoMethod};
 
-use encapsulated::Method;
+use adapt_bytes::Method;
 use std::alloc::{AllocError, Global};
 
 /// A name that isn't one of ICAP's methods.

@@ -3,20 +3,20 @@ use Rattle.std.proofs.Common.{◌≡◌, ℕ, ◌+◌, ◌-◌, ◌≤◌, ◌++
 use Rattle.std.proofs.lemmas.List.{take-append-drop}
 use Rattle.adapt_bytes.specs.Fields.{FieldList, values_of}
 use Rattle.encapsulated.specs.declared.message.Direction.TheVariants.{Request as OfRequest}
-use Rattle.encapsulated.specs.declared.message.Method.{Method}
-use Rattle.encapsulated.specs.declared.message.Method.TheVariants.{Reqmod, Respmod, Options}
+use Rattle.adapt_bytes.specs.declared.method.Method.{Method}
+use Rattle.adapt_bytes.specs.declared.method.Method.TheVariants.{Reqmod, Respmod, Options}
 use Rattle.encapsulated.specs.declared.offsets.Layout.{Layout}
 use Rattle.encapsulated.specs.declared.parts.BodyPart.{BodyPart}
 use Rattle.encapsulated.specs.declared.parts.BodyPart.TheVariants.{ReqBody, ResBody, OptBody, NullBody}
 use Rattle.encapsulated.specs.Layouts.{IsLayout, parts_of}
-use Rattle.encapsulated.specs.Methods.{method_name}
+use Rattle.adapt_bytes.specs.Methods.{method_name}
 use Rattle.encapsulated.proofs.OneAnswer.{parts_unique, layout_unique, no_fault}
 use Rattle.http_uri.specs.Grammar.{path_of}
 use Rattle.http_uri.specs.Uri.{uri_scheme, uri_data, uri_path}
 use Rattle.http_uri.proofs.Theorems.{Spells_unique}
 use Rattle.icap_chunks.specs.declared.pieces.Outcome.{Outcome}
 use Rattle.icap_chunks.specs.declared.pieces.Outcome.TheVariants.{More as Begun, Ended, Faulted}
-use Rattle.icap_chunks.specs.declared.places.Place.TheVariants.{Ended as AtEnd}
+use Rattle.icap_chunks.specs.declared.positions.Position.TheVariants.{Ended as AtEnd}
 use Rattle.icap_chunks.specs.declared.reader.ChunkReader.{ChunkReader}
 use Rattle.icap_chunks.specs.Machine.{start, run, step, is_data, body_of, end_of}
 use Rattle.icap_chunks.specs.Reading.{IsReading}

@@ -1,7 +1,8 @@
 //! What threads do with reservations and their tapes, and how long that takes: a grow with its shrink, whole turns of 4,096 bytes
 //! on a short and on a long tape beside the two copies alone, and rounds in four threads.
 ghost use Rattle.std.specs.Prelude.{◌≡◌, ◌+◌, ◌*◌, ◌≤◌, ◌<◌, length};
-ghost use Rattle.adapt_bytes.specs.declared.limits.TheConstants.{COUNT_LIMIT, MAX_CAPACITY};
+ghost use Rattle.adapt_bytes.specs.declared.limits.TheConstants.{COUNT_LIMIT};
+ghost use Rattle.span_bank.specs.declared.limits.TheConstants.{MAX_CAPACITY};
 ghost use Rattle.span_tape.specs.Tape.{end_of};
 
 use crate::nanos_each;

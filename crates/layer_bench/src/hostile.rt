@@ -1,5 +1,5 @@
 //! A request of 100 fields in 16,384 bytes. Its Connection has as many items as fit, and they name no field.
-use http_side::{Forward, Message, NoMemory, Part, forward_head, read_request};
+use http_side::{BodyKind, Forward, Message, NoMemory, forward_head, read_request};
 use std::alloc::Global;
 
 /// The names and the items have one letter each, so that as many as can be are there.
@@ -35,7 +35,7 @@ pub fn read_and_forward(alloc: Global, text: &[u8], times: u32) -> u64 {
             let forward = Forward {
                 user: &head.value,
                 message: Message::Request(&head.value),
-                part: Part::Own,
+                part: BodyKind::Own,
                 body_read: true,
             };
             if let Ok(text) = forward_head(alloc, &forward) {

@@ -26,7 +26,7 @@ use crate::heads::time_heads;
 use crate::task::{Layer, Task, read_tasks};
 use crate::turns::time_turns;
 use anyhow::{Result, bail};
-use span_bank::{Bank, Blanks, Four, Ledgers};
+use span_bank::{Bank, Blanks, Ledgers};
 use std::alloc::Global;
 use std::marker::Brand;
 use std::process::ExitCode;
@@ -89,7 +89,7 @@ fn run<
     requires slack { (blanks.slack.name ≡ S.name) × (blanks.slack.parts ≡ S.parts) × (blanks.slack.parts ≡ 5) }
     requires pages { (blanks.pages.name ≡ P.name) × (blanks.pages.parts ≡ P.parts) × (blanks.pages.parts ≡ 5) }
 {
-    let bank: Bank<Four<H, F, S, P>> = Bank::new(alloc, blanks, CAPACITY, 4, 64)?;
+    let bank: Bank<(H, F, S, P)> = Bank::new(alloc, blanks, CAPACITY, 4, 64)?;
     for task in tasks {
         measure(rt, alloc, &bank, *task)?;
     }

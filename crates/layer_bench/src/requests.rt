@@ -1,7 +1,7 @@
 //! A request of 400 bytes with 10 fields, read and written again and again.
 use adapt_bytes::MAX_FIELDS;
 use http_side::{
-    Encapsulated, Forward, Message, Part, encapsulated_head, forward_head, read_request,
+    BodyKind, Encapsulated, Forward, Message, encapsulated_head, forward_head, read_request,
 };
 use httparse::Status;
 use httparse::spans::{EMPTY_HEADER_SPAN, parse_request};
@@ -44,7 +44,7 @@ pub fn read_and_write(alloc: Global, times: u32) -> u64 {
             let forward = Forward {
                 user,
                 message,
-                part: Part::Own,
+                part: BodyKind::Own,
                 body_read: true,
             };
             if let Ok(text) = forward_head(alloc, &forward) {

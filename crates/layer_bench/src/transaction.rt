@@ -1,11 +1,11 @@
 //! One transaction, which makes the exchange.
 
 ghost use Rattle.std.specs.Prelude.{◌≡◌, ◌≤◌};
-ghost use Rattle.adapt_bytes.specs.declared.limits.TheConstants.{MAX_CAPACITY};
+ghost use Rattle.span_bank.specs.declared.limits.TheConstants.{MAX_CAPACITY};
 ghost use Rattle.plan_rules.specs.Claims.{claim_of};
 
 use crate::offered::{REQUEST, RESPONSE, offer};
-use adapt_turn::{Ends, Line, Outcome, Parts};
+use adapt_turn::{Ends, Outcome, Parts, ServiceEnd};
 use http_relay::{RelayFault, SourceSide};
 use plan_rules::{Limits, claim};
 use proxy_rules::{Beginning, Incoming, Offer, Running};
@@ -259,7 +259,7 @@ pub fn end<B: Ledgers, A: Wire + Drop>(
                 outcome,
                 source: source_wire,
                 service: match service {
-                    Some(Line { side: _, wire }) => wire,
+                    Some(ServiceEnd { side: _, wire }) => wire,
                     None => None,
                 },
                 next_hop: next_wire,

@@ -7,10 +7,10 @@ use Rattle.adapt_bytes.specs.Fields.{FieldList, values_of}
 use Rattle.icap_head.specs.Fields.{first_of}
 use Rattle.icap_head.specs.Heads.{Response}
 use Rattle.encapsulated.specs.Layouts.{IsLayout}
-use Rattle.encapsulated.specs.Methods.{method_name}
+use Rattle.adapt_bytes.specs.Methods.{method_name}
 use Rattle.options_book.specs.declared.judged.TheConstants.{MAX_ACCEPTED_TAG}
 use Rattle.encapsulated.specs.declared.Layout.{Layout}
-use Rattle.encapsulated.specs.declared.Method.TheVariants as Methods
+use Rattle.adapt_bytes.specs.declared.Method.TheVariants as Methods
 use Rattle.encapsulated.specs.declared.Direction.TheVariants as Directions
 use Rattle.trace_core.specs.declared.history.Point.{Point}
 use Rattle.trace_core.specs.Points.{method_of}

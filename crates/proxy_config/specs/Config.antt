@@ -2,7 +2,8 @@
 use Rattle.std.specs.Prelude.{◌≡◌, ℕ, ◌⊎◌, List, Option, Some, None, Bool, true, codes, ⊤, IsUtf8, option_map, string_bytes}
 use Rattle.toml.specs.Data.{Members, get_member}
 use Rattle.toml.specs.Parse.{parse_document}
-use Rattle.adapt_bytes.specs.declared.limits.TheConstants.{MAX_ALLOW_LIMIT, MAX_CAPACITY, MAX_PREVIEW, MAX_ROWS, MAX_WINDOW}
+use Rattle.adapt_bytes.specs.declared.limits.TheConstants.{MAX_ALLOW_LIMIT, MAX_PREVIEW, MAX_WINDOW}
+use Rattle.span_bank.specs.declared.limits.TheConstants.{MAX_CAPACITY, MAX_ROWS}
 use Rattle.proxy_config.specs.declared.limits.TheConstants.{MAX_DEADLINE, MAX_JOURNAL, MAX_SHARDS, MAX_WAIT}
 use Rattle.proxy_config.specs.declared.defaults.TheConstants.{ALLOW_LIMIT, CAPACITY, DEADLINE, JOURNAL, PREVIEW_LIMIT, ROWS, SHARDS, WAIT, WINDOW}
 use Rattle.proxy_config.specs.Values.{number_or, truth_or, HasAddress}

@@ -1,6 +1,7 @@
 -- The ranges of the configuration's numbers.
 use Rattle.std.specs.Prelude.{ℕ, ◌≤◌}
-use Rattle.adapt_bytes.specs.declared.limits.TheConstants.{MAX_ALLOW_LIMIT, MAX_CAPACITY, MAX_PREVIEW, MAX_ROWS, MAX_WINDOW}
+use Rattle.adapt_bytes.specs.declared.limits.TheConstants.{MAX_ALLOW_LIMIT, MAX_PREVIEW, MAX_WINDOW}
+use Rattle.span_bank.specs.declared.limits.TheConstants.{MAX_CAPACITY, MAX_ROWS}
 use Rattle.proxy_config.specs.declared.limits.TheConstants.{MAX_DEADLINE, MAX_JOURNAL, MAX_SHARDS, MAX_WAIT}
 
 pub record IsInRange (shards capacity rows journal deadline preview_limit allow_limit window wait : ℕ) : Type 0 where

@@ -10,7 +10,7 @@ use Rattle.icap_client.specs.Sending.{HasSent}
 use Rattle.icap_client.specs.Turns.{Service, ServiceSent, ServiceHeard}
 use Rattle.icap_client.specs.OthersSent.{it_begins}
 use Rattle.icap_client.proofs.Both.{side_begins}
-use Rattle.adapt_turn.specs.declared.ends.Line.{Line}
+use Rattle.adapt_turn.specs.declared.ends.ServiceEnd.{ServiceEnd}
 use Rattle.adapt_turn.specs.Parts.{fault_of}
 use Rattle.proxy_rules.specs.Offers.{IsUnused}
 
@@ -37,12 +37,12 @@ nothing_heard request s plan u = record {
 }
 
 -- the same where there may be no service
-pub nothing_on : {W : Type 0} (request : List ℕ) (plan : Plan) (service : Option (Line Service W)) → IfSome service (λ line. IsUnused request line.side)
+pub nothing_on : {W : Type 0} (request : List ℕ) (plan : Plan) (service : Option (ServiceEnd Service W)) → IfSome service (λ line. IsUnused request line.side)
     → IfSome service (λ line. ServiceSent request (seen plan []) [] [] line.side × ServiceHeard (seen plan []) [] [] line.side)
 nothing_on request plan None u = tt
 nothing_on request plan (Some line) u = (nothing_sent request line.side plan u, nothing_heard request line.side plan u)
 
 -- a service that has no fault
-pub faultless_on : {W : Type 0} (request : List ℕ) (service : Option (Line Service W)) → IfSome service (λ line. IsUnused request line.side) → fault_of (λ line. line.side.replies.fault) service ≡ None
+pub faultless_on : {W : Type 0} (request : List ℕ) (service : Option (ServiceEnd Service W)) → IfSome service (λ line. IsUnused request line.side) → fault_of (λ line. line.side.replies.fault) service ≡ None
 faultless_on request None u = refl
 faultless_on request (Some line) u = u.fault

@@ -7,7 +7,7 @@ use Rattle.http_side.specs.declared.fault.HttpFault.{HttpFault}
 use Rattle.http_side.specs.declared.fault.HttpFault.TheVariants.{More, Bad, TooLong, TooMany, BothLengths, Lengths, Coding, Target, Connect, NoMemory}
 use Rattle.http_side.specs.declared.forward.Forward.{Forward}
 use Rattle.http_side.specs.declared.forward.Message.{Message}
-use Rattle.http_side.specs.declared.forward.Part.{Part}
+use Rattle.http_side.specs.declared.forward.BodyKind.{BodyKind}
 use Rattle.http_side.specs.Forward.{forwarded, next_framing, closes}
 use Rattle.http_side.specs.Heads.{RequestParts, ResponseParts}
 use Rattle.http_side.specs.Requests.{IsRead}
@@ -32,7 +32,7 @@ goes_on (Ok headed) f is_it m head framing ends = record {
 goes_on (Err cause) f is_it m head framing ends = tt
 
 -- and of each wider kind
-pub widened : (r : Result Headed Cause) (user : RequestParts) (body_read : Bool) (part other : Part) (is_it is_wide : Message → Type 0)
+pub widened : (r : Result Headed Cause) (user : RequestParts) (body_read : Bool) (part other : BodyKind) (is_it is_wide : Message → Type 0)
     → ((m : Message) → is_it m → is_wide m) → part ≡ other
     → IfOk r (GoesOn user body_read part is_it) → IfOk r (GoesOn user body_read other is_wide)
 widened (Ok headed) user body_read part other is_it is_wide wide e g = record {

@@ -13,7 +13,7 @@ use Rattle.adapt_sides.specs.Tapes.{chosen, chosen_delivered, chosen_received}
 use Rattle.adapt_sides.specs.Turns.Gift.{message, refusal as refused_by}
 use Rattle.adapt_hold.specs.Spans.{EndsBody}
 use Rattle.adapt_hold.specs.Holding.{Holding, IsTied, shows}
-use Rattle.adapt_turn.specs.declared.ends.Line.{Line}
+use Rattle.adapt_turn.specs.declared.ends.ServiceEnd.{ServiceEnd}
 use Rattle.adapt_turn.specs.Stands.{HopsAre, IsDelivered, other_gift}
 use Rattle.icap_client.specs.Turns.{Service, ServiceSent}
 use Rattle.icap_client.proofs.Prefixes.{sent_is_front_legal}
@@ -113,7 +113,7 @@ unrefused_at (at.Refusal status) taken w none a = absurd (none status refl)
 unrefused : (taken : List ℕ) (h : Hop) → ((status : ℕ) → gift_of h.stage ≡ refused_by status → ⊥) → IsAside taken h → taken ≡ []
 unrefused taken h none a = unrefused_at h.stage taken h.writer none a.text
 
-pub service_one : {W : Type 0} (head : List ℕ) (h : Holding) (original taken : List ℕ) (service : Option (Line Service W)) → IsTied h → EndsBody h.original original
+pub service_one : {W : Type 0} (head : List ℕ) (h : Holding) (original taken : List ℕ) (service : Option (ServiceEnd Service W)) → IsTied h → EndsBody h.original original
     → MatchOption service (taken ≡ []) (λ line. ServiceSent head (shows h.history) original taken line.side)
     → MatchOption service (taken ≡ []) (λ _. is_plain (shows h.history).plan.kind ≡ false → TookRequest (shows h.history) head original taken)
 service_one head h original taken None t o e = e

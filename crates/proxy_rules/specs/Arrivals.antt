@@ -7,7 +7,7 @@ use Rattle.http_relay.specs.declared.side.Asks.{Asks}
 use Rattle.http_relay.specs.declared.side.Asks.TheVariants as asks
 use Rattle.http_relay.specs.declared.side.SourceSide.{SourceSide}
 use Rattle.http_relay.specs.Reading.{AtHead, Begins, request_of}
-use Rattle.proxy_rules.specs.Users.{is_head}
+use Rattle.proxy_rules.specs.Users.{is_head_request}
 
 -- a source's side, and for a response the side of the user whose request it answers
 pub record Arrival : Type 0 where
@@ -17,7 +17,7 @@ pub record Arrival : Type 0 where
 -- whether the method of a request is HEAD
 abbrev pub is_head_in : Option RequestParts → Bool
 is_head_in None = false
-is_head_in (Some user) = is_head user
+is_head_in (Some user) = is_head_request user
 
 -- which messages come: requests; or answers to the user's own request, to HEAD or to another one
 abbrev pub asks_of : Option SourceSide → Asks

@@ -1,7 +1,7 @@
 -- When a transaction of the proxy's own sides begins.
 use Rattle.std.specs.Prelude.{◌≡◌, [], Bool, Option, Some, None, is_some}
 use Rattle.trace_core.specs.History.{seen}
-use Rattle.adapt_turn.specs.declared.ends.Line.{Line}
+use Rattle.adapt_turn.specs.declared.ends.ServiceEnd.{ServiceEnd}
 use Rattle.http_relay.specs.declared.side.SourceHead.TheVariants.{Unread}
 use Rattle.http_relay.specs.Source.{Agrees}
 use Rattle.icap_client.specs.Turns.{Service}
@@ -18,6 +18,6 @@ pub record MayBegin (m : Arrival) (o : Offered) (connected : Bool) : Type 0 wher
   pub agrees : Agrees (seen o.plan []) m.side.body
 
 -- the service's side over its connection
-abbrev pub line_with : {W : Type 0} → Option Service → Option W → Option (Line Service W)
+abbrev pub line_with : {W : Type 0} → Option Service → Option W → Option (ServiceEnd Service W)
 line_with None wire = None
 line_with (Some side) wire = Some (record { side = side; wire = wire })

@@ -5,13 +5,13 @@ use Rattle.trace_core.specs.declared.history.Cause.TheVariants as causes
 use Rattle.trace_core.specs.declared.history.Seen.{Seen}
 use Rattle.http_side.specs.declared.body.Framing.{Framing}
 use Rattle.http_side.specs.declared.forward.Message.{Message}
-use Rattle.http_side.specs.declared.forward.Part.TheVariants.{Own}
+use Rattle.http_side.specs.declared.forward.BodyKind.TheVariants.{Own}
 use Rattle.http_side.specs.Heads.{RequestParts}
 use Rattle.http_relay.specs.declared.side.SourceHead.{SourceHead}
 use Rattle.http_relay.specs.declared.side.SourceHead.TheVariants as heads
 use Rattle.http_relay.specs.declared.side.SourceSide.{SourceSide}
 use Rattle.http_relay.specs.Reading.{request_of}
-use Rattle.proxy_rules.specs.Users.{is_head}
+use Rattle.proxy_rules.specs.Users.{is_head_request}
 use Rattle.proxy_rules.specs.Onward.{GoesOn, IsRequest, IsResponse, IsAdaptedRequest, IsAdaptedResponse, NoAdaptedRequest, NoAdaptedResponse, part_of}
 use Rattle.proxy_rules.specs.declared.onward.Headed.{Headed}
 
@@ -24,7 +24,7 @@ IsOriginal (heads.Response r) message = IsResponse r message
 -- the chosen message: the original, or the one whose head a service sent
 abbrev pub MakesOf : SourceHead → RequestParts → Bool → Option (List ℕ) → Bool → Bool → Headed → Type 0
 MakesOf source user body_read None is_response has_body headed = GoesOn user body_read Own (IsOriginal source) headed
-MakesOf source user body_read (Some text) true has_body headed = GoesOn user body_read (part_of has_body) (IsAdaptedResponse (is_head user) has_body text) headed
+MakesOf source user body_read (Some text) true has_body headed = GoesOn user body_read (part_of has_body) (IsAdaptedResponse (is_head_request user) has_body text) headed
 MakesOf source user body_read (Some text) false has_body headed = GoesOn user body_read (part_of has_body) (IsAdaptedRequest text) headed
 
 -- what the user's side read: the head of the request, which is the source's own, or of the one that is answered
@@ -58,7 +58,7 @@ pub record Remembers (last : Bool) (user : Option SourceSide) (source : SourceHe
 -- why no head is made of the chosen message: memory ran out, no head was read, or the service sent no head that may go on
 abbrev pub MakesNoneOf : SourceHead → RequestParts → Option (List ℕ) → Bool → Bool → Cause → Type 0
 MakesNoneOf source user None is_response has_body cause = (cause ≡ causes.Memory) ⊎ ((cause ≡ causes.Source) × (source ≡ heads.Unread))
-MakesNoneOf source user (Some text) true has_body cause = (cause ≡ causes.Memory) ⊎ ((cause ≡ causes.Service) × NoAdaptedResponse (is_head user) has_body text)
+MakesNoneOf source user (Some text) true has_body cause = (cause ≡ causes.Memory) ⊎ ((cause ≡ causes.Service) × NoAdaptedResponse (is_head_request user) has_body text)
 MakesNoneOf source user (Some text) false has_body cause = (cause ≡ causes.Memory) ⊎ ((cause ≡ causes.Service) × NoAdaptedRequest text)
 
 -- why no head is made: that of the user or that of the chosen message wasn't read

@@ -7,8 +7,8 @@ use Rattle.http_side.specs.declared.fault.HttpFault.TheVariants as http
 use Rattle.http_side.specs.declared.forward.Forward.{Forward}
 use Rattle.http_side.specs.declared.forward.Message.{Message}
 use Rattle.http_side.specs.declared.forward.Message.TheVariants.{Request, Response}
-use Rattle.http_side.specs.declared.forward.Part.{Part}
-use Rattle.http_side.specs.declared.forward.Part.TheVariants.{Body, NullBody}
+use Rattle.http_side.specs.declared.forward.BodyKind.{BodyKind}
+use Rattle.http_side.specs.declared.forward.BodyKind.TheVariants.{Body, NullBody}
 use Rattle.http_side.specs.Forward.{forwarded, next_framing, closes}
 use Rattle.http_side.specs.Framings.{is_bare}
 use Rattle.http_side.specs.Heads.{RequestParts, ResponseParts}
@@ -26,7 +26,7 @@ IsResponse parts (Request r) = ⊥
 IsResponse parts (Response r) = r.now ≡ parts
 
 -- what a service sent is named by its Encapsulated list
-abbrev pub part_of : Bool → Part
+abbrev pub part_of : Bool → BodyKind
 part_of has_body = if has_body then Body else NullBody
 
 -- a head that a service sent is its fault, unless memory ran out
@@ -57,7 +57,7 @@ NoAdaptedResponse to_head has_body text = (parts : ResponseParts) → IsAnswerOf
 
 -- The head of a message of this kind, for a user with this request, whose body was read to its end or not: its text, how its body
 -- goes, and whether the user's connection ends after it.
-pub record GoesOn (user : RequestParts) (body_read : Bool) (part : Part) (is_it : Message → Type 0) (headed : Headed) : Type 0 where
+pub record GoesOn (user : RequestParts) (body_read : Bool) (part : BodyKind) (is_it : Message → Type 0) (headed : Headed) : Type 0 where
   pub forward : Forward
   pub user_is : forward.user.now ≡ user
   pub body_read_is : forward.body_read ≡ body_read

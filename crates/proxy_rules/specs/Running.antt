@@ -3,7 +3,7 @@ use Rattle.std.specs.Prelude.{◌≡◌, ℕ, Bool, true, false, not, List, [], 
 use Rattle.trace_core.specs.declared.history.Cause.{Cause}
 use Rattle.trace_core.specs.declared.history.Seen.{Seen}
 use Rattle.adapt_hold.specs.Holding.{Holding, shows}
-use Rattle.adapt_turn.specs.declared.ends.Line.{Line}
+use Rattle.adapt_turn.specs.declared.ends.ServiceEnd.{ServiceEnd}
 use Rattle.adapt_turn.specs.declared.turned.Side.{Side}
 use Rattle.adapt_turn.specs.declared.turned.Outcome.{Outcome}
 use Rattle.adapt_turn.specs.declared.turned.Outcome.TheVariants.{Fail}
@@ -21,12 +21,12 @@ use Rattle.proxy_rules.specs.Heads.{Remembers}
 use Rattle.proxy_rules.specs.declared.head_maker.HeadMaker.{HeadMaker}
 
 -- the head of a message on this writer was made of the heads that were read
-abbrev pub MadeOf : {W : Type 0} → HeadMaker → SourceSide → Option (Line Service W) → Hop → Seen → List ℕ → Type 0
+abbrev pub MadeOf : {W : Type 0} → HeadMaker → SourceSide → Option (ServiceEnd Service W) → Hop → Seen → List ℕ → Type 0
 MadeOf maker source service hop x head =
     IsMade (λ y adapted is_response h framing. Remembers maker.last maker.user source.head y adapted is_response h framing maker.closes) (adapted_of adapted_head_of service) (response_of is_response_of service) hop.framing x head
 
 -- what stands between a transaction of these sides and its wires
-abbrev pub StandsOver : {W : Type 0} → Holding → SourceSide → Option (Line Service W) → (next back : Hop) → HeadMaker → (refusing : Bool) → List ℕ → Texts → Type 0
+abbrev pub StandsOver : {W : Type 0} → Holding → SourceSide → Option (ServiceEnd Service W) → (next back : Hop) → HeadMaker → (refusing : Bool) → List ℕ → Texts → Type 0
 StandsOver hold source service next back maker refusing request t =
     Stands hold (λ x. Agrees x source.body) (λ x body read. SideRead x body read.bytes read.ended source)
     (λ heads x came taken. MatchOption service (taken ≡ []) (λ line. ServiceSent heads x came taken line.side))
@@ -38,7 +38,7 @@ StandsOver hold source service next back maker refusing request t =
     (WholeOf (MadeOf maker source service back (shows hold.history)) (λ head body taken. IsMessage back.framing head body taken)) (λ taken. IsAside taken back)) request t
 
 -- no side has a fault; the service's may have one where its connection broke
-abbrev pub IsFaultless : {W : Type 0} → SourceSide → Option (Line Service W) → (broken : Bool) → (next back : Hop) → Type 0
+abbrev pub IsFaultless : {W : Type 0} → SourceSide → Option (ServiceEnd Service W) → (broken : Bool) → (next back : Hop) → Type 0
 IsFaultless source service broken next back =
     (source.fault ≡ None) × (broken ≡ false → fault_of (λ line. line.side.replies.fault) service ≡ None) × (next.fault ≡ None) × (back.fault ≡ None)
 

@@ -8,8 +8,8 @@ use Rattle.http_side.specs.Heads.{RequestParts}
 use Rattle.http_side.specs.declared.body.Framing.{Framing}
 use Rattle.http_side.specs.declared.body.Framing.TheVariants as by
 
-abbrev pub is_head : RequestParts → Bool
-is_head user = bytes_eq user.method (codes "HEAD")
+abbrev pub is_head_request : RequestParts → Bool
+is_head_request user = bytes_eq user.method (codes "HEAD")
 
 -- a body of some bytes, or of a length that isn't known
 abbrev pub has_body_to_read : Framing → Bool

@@ -77,7 +77,7 @@ pub record TookMessage (made : List ℕ → Type 0) (framing : Framing) (body ta
 -- it took nothing. Of the wires to the next hop and back to the user one took a prefix of one message with a head that was made
 -- and the chosen body, or of a refusal, and the other one nothing of a message. A refusal is the user's alone. Once Done stands,
 -- one of them took the whole message.
-pub record WiresTook {Line : Type 0} (read : Seen → List ℕ → Given → Type 0) (heard : Seen → List ℕ → List ℕ → Type 0) (service : Option Line) (next_made back_made : List ℕ → Type 0) (next_framing back_framing : Framing) (h : Holding) (request : List ℕ) (t : Texts) : Type 0 where
+pub record WiresTook {End : Type 0} (read : Seen → List ℕ → Given → Type 0) (heard : Seen → List ℕ → List ℕ → Type 0) (service : Option End) (next_made back_made : List ℕ → Type 0) (next_framing back_framing : Framing) (h : Holding) (request : List ℕ) (t : Texts) : Type 0 where
   pub original : List ℕ
   pub adapted : List ℕ
   pub original_is : EndsBody h.original original

@@ -1,14 +1,14 @@
 //! What a user's request asks of the proxy beside its message (RFC 9110, sections 9.3.2 and 10.1.1).
 
 ghost use Rattle.std.specs.Prelude.{◌≡◌, codes, bytes_eq};
-ghost use Rattle.proxy_rules.specs.Users.{is_head, has_body_to_read, expects_continue, awaits_continue};
+ghost use Rattle.proxy_rules.specs.Users.{is_head_request, has_body_to_read, expects_continue, awaits_continue};
 
 use adapt_bytes::has_item;
 use http_side::{Fields, Framing, HttpRequest};
 
 /// Whether the method is HEAD: its response has no body, whatever its fields say.
-pub fn is_head(user: &HttpRequest) -> bool
-    ensures { result ≡ is_head user.now }
+pub fn is_head_request(user: &HttpRequest) -> bool
+    ensures { result ≡ is_head_request user.now }
 {
     user.method() == b"HEAD".as_slice()
 }

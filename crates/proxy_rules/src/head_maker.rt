@@ -9,8 +9,8 @@ use crate::onward::{
     Asked, Headed, adapted_request, adapted_response, request_onward, response_onward,
 };
 use adapt_turn::MakesHead;
-use http_relay::{NextHop, SourceHead, SourceSide};
-use http_side::{Framing, HttpRequest, Part};
+use http_relay::{HopWriter, SourceHead, SourceSide};
+use http_side::{BodyKind, Framing, HttpRequest};
 use std::alloc::Global;
 use trace_core::{Cause, State};
 
@@ -141,10 +141,10 @@ fn original(alloc: Global, asked: Asked<'_>, source: &SourceSide) -> Result<Head
     ensures err { IfErr result (MakesNoneOf source.now.head asked.entry.user.now None false false) }
 {
     if let Some(request) = source.request_head() {
-        return request_onward(alloc, asked, request, Part::Own);
+        return request_onward(alloc, asked, request, BodyKind::Own);
     }
     match source.response_head() {
-        Some(response) => response_onward(alloc, asked, response, Part::Own),
+        Some(response) => response_onward(alloc, asked, response, BodyKind::Own),
         None => Err(Cause::Source),
     }
 }
@@ -173,7 +173,7 @@ fn chosen(
     }
 }
 
-impl MakesHead<SourceSide, NextHop> for HeadMaker {
+impl MakesHead<SourceSide, HopWriter> for HeadMaker {
     ghost makes = { λ maker source x adapted is_response head framing. Remembers maker.last maker.user source x adapted is_response head framing maker.closes };
 
     ghost makes_none = { λ maker source x adapted is_response cause. MakesNone maker.user source x adapted is_response cause };

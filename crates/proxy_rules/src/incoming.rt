@@ -7,7 +7,7 @@ ghost use Rattle.http_relay.specs.Reading.{HeadTurn, request_of, response_of};
 ghost use Rattle.proxy_rules.specs.Heads.{user_head};
 ghost use Rattle.proxy_rules.specs.Arrivals.{Arrives, point_of, is_head_in};
 
-use crate::expect::is_head;
+use crate::expect::is_head_request;
 use crate::head_maker::HeadMaker;
 use adapt_sides::{RelayFault, Source};
 use http_relay::{Asks, SourceHead, SourceSide};
@@ -41,7 +41,7 @@ fn asks_head(user: &SourceSide) -> bool
     ensures { result ≡ is_head_in (request_of user.now.head) }
 {
     match user.request_head() {
-        Some(head) => is_head(head),
+        Some(head) => is_head_request(head),
         None => false,
     }
 }

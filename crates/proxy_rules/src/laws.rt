@@ -2,7 +2,7 @@
 //! one from the beginning on: it begins a transaction, and takes its turns.
 
 ghost use Rattle.std.specs.Prelude.{◌≡◌, ◌≤◌, ◌+◌, ◌↔◌, ℕ, Bool, List, [], length, Option, is_some, true, false, codes, MatchOption, IsOk, IfOk, IfErr};
-ghost use Rattle.adapt_bytes.specs.declared.limits.TheConstants.{MAX_CAPACITY};
+ghost use Rattle.span_bank.specs.declared.limits.TheConstants.{MAX_CAPACITY};
 ghost use Rattle.plan_rules.specs.Claims.{claim_of};
 ghost use Rattle.trace_core.specs.declared.history.Cause.{Cause as Why};
 ghost use Rattle.trace_core.specs.declared.history.Cause.TheVariants.{Deadline, Stopping};
@@ -36,7 +36,7 @@ use crate::running::Running;
 use crate::starting::{Beginning, begin};
 use adapt_sides::{Service, Source};
 use adapt_turn::{Answering, MakesHead, Refusing, Side, Standing, Tx};
-use http_relay::{NextHop, SourceSide};
+use http_relay::{HopWriter, SourceSide};
 use icap_client::ServiceSide;
 use span_bank::{Bank, Ledgers};
 use std::alloc::Global;
@@ -70,9 +70,9 @@ pub fn the_wires_take_one_message<B: Ledgers, W: Wires>(tx: &Tx<B, OwnEnds<W>>)
     ensures took { (request : List ℕ) (t : Texts) → ⟦<Tx<B, OwnEnds<W>> as Standing>⟧.stands tx.now request t
         → WiresTook (λ x body read. SideRead x body read.bytes read.ended tx.now.ends.source)
         (λ x adapted read. MatchOption tx.now.ends.service ((adapted ≡ []) × (read ≡ [])) (λ line. ServiceHeard x adapted read line.side)) tx.now.ends.service
-        (λ head. IsMade (⟦<HeadMaker as MakesHead<SourceSide, NextHop>>⟧.makes tx.now.ends.maker (⟦<SourceSide as Source>⟧.head tx.now.ends.source))
+        (λ head. IsMade (⟦<HeadMaker as MakesHead<SourceSide, HopWriter>>⟧.makes tx.now.ends.maker (⟦<SourceSide as Source>⟧.head tx.now.ends.source))
         (adapted_of ⟦<ServiceSide as Service>⟧.adapted_head tx.now.ends.service) (response_of ⟦<ServiceSide as Service>⟧.is_response tx.now.ends.service) tx.now.ends.next.framing (shows tx.now.hold.history) head)
-        (λ head. IsMade (⟦<HeadMaker as MakesHead<SourceSide, NextHop>>⟧.makes tx.now.ends.maker (⟦<SourceSide as Source>⟧.head tx.now.ends.source))
+        (λ head. IsMade (⟦<HeadMaker as MakesHead<SourceSide, HopWriter>>⟧.makes tx.now.ends.maker (⟦<SourceSide as Source>⟧.head tx.now.ends.source))
         (adapted_of ⟦<ServiceSide as Service>⟧.adapted_head tx.now.ends.service) (response_of ⟦<ServiceSide as Service>⟧.is_response tx.now.ends.service) tx.now.ends.back.framing (shows tx.now.hold.history) head)
         tx.now.ends.next.framing tx.now.ends.back.framing tx.now.hold request t }
 {
@@ -85,9 +85,9 @@ pub fn a_running_transaction_takes_one_message<B: Ledgers, W: Wires>(running: &R
     ensures took { ∥ ((request : List ℕ) × (t : Texts)
         × WiresTook (λ x body read. SideRead x body read.bytes read.ended running.now.tx.ends.source)
         (λ x adapted read. MatchOption running.now.tx.ends.service ((adapted ≡ []) × (read ≡ [])) (λ line. ServiceHeard x adapted read line.side)) running.now.tx.ends.service
-        (λ head. IsMade (⟦<HeadMaker as MakesHead<SourceSide, NextHop>>⟧.makes running.now.tx.ends.maker (⟦<SourceSide as Source>⟧.head running.now.tx.ends.source))
+        (λ head. IsMade (⟦<HeadMaker as MakesHead<SourceSide, HopWriter>>⟧.makes running.now.tx.ends.maker (⟦<SourceSide as Source>⟧.head running.now.tx.ends.source))
         (adapted_of ⟦<ServiceSide as Service>⟧.adapted_head running.now.tx.ends.service) (response_of ⟦<ServiceSide as Service>⟧.is_response running.now.tx.ends.service) running.now.tx.ends.next.framing (shows running.now.tx.hold.history) head)
-        (λ head. IsMade (⟦<HeadMaker as MakesHead<SourceSide, NextHop>>⟧.makes running.now.tx.ends.maker (⟦<SourceSide as Source>⟧.head running.now.tx.ends.source))
+        (λ head. IsMade (⟦<HeadMaker as MakesHead<SourceSide, HopWriter>>⟧.makes running.now.tx.ends.maker (⟦<SourceSide as Source>⟧.head running.now.tx.ends.source))
         (adapted_of ⟦<ServiceSide as Service>⟧.adapted_head running.now.tx.ends.service) (response_of ⟦<ServiceSide as Service>⟧.is_response running.now.tx.ends.service) running.now.tx.ends.back.framing (shows running.now.tx.hold.history) head)
         running.now.tx.ends.next.framing running.now.tx.ends.back.framing running.now.tx.hold request t) ∥₁ }
     ensures refuses { (shows running.now.tx.hold.history).closed ≡ true → (cause : Why) → running.now.tx.outcome ≡ outcomes.Fail cause
@@ -117,9 +117,9 @@ pub fn from_the_beginning_the_wires_take_one_message<B: Ledgers, W: Wires>(
         (W.NextWire.past beginning.next_wire) (W.NextWire.past running.tx.ends.next_wire)
         (WiresTook (λ x body read. SideRead x body read.bytes read.ended running.tx.ends.source)
         (λ x adapted read. MatchOption running.tx.ends.service ((adapted ≡ []) × (read ≡ [])) (λ line. ServiceHeard x adapted read line.side)) running.tx.ends.service
-        (λ head. IsMade (⟦<HeadMaker as MakesHead<SourceSide, NextHop>>⟧.makes running.tx.ends.maker (⟦<SourceSide as Source>⟧.head running.tx.ends.source))
+        (λ head. IsMade (⟦<HeadMaker as MakesHead<SourceSide, HopWriter>>⟧.makes running.tx.ends.maker (⟦<SourceSide as Source>⟧.head running.tx.ends.source))
         (adapted_of ⟦<ServiceSide as Service>⟧.adapted_head running.tx.ends.service) (response_of ⟦<ServiceSide as Service>⟧.is_response running.tx.ends.service) running.tx.ends.next.framing (shows running.tx.hold.history) head)
-        (λ head. IsMade (⟦<HeadMaker as MakesHead<SourceSide, NextHop>>⟧.makes running.tx.ends.maker (⟦<SourceSide as Source>⟧.head running.tx.ends.source))
+        (λ head. IsMade (⟦<HeadMaker as MakesHead<SourceSide, HopWriter>>⟧.makes running.tx.ends.maker (⟦<SourceSide as Source>⟧.head running.tx.ends.source))
         (adapted_of ⟦<ServiceSide as Service>⟧.adapted_head running.tx.ends.service) (response_of ⟦<ServiceSide as Service>⟧.is_response running.tx.ends.service) running.tx.ends.back.framing (shows running.tx.hold.history) head)
         running.tx.ends.next.framing running.tx.ends.back.framing running.tx.hold (text_of beginning.offer.side))) }
     ensures turns { IfOk result (λ running. TakesFrom (λ begun. (begun.hold.history ≡ record { plan = beginning.offer.plan; events = [] })

@@ -23,7 +23,7 @@ mod starting;
 
 pub use address::{Origin, origin_of};
 pub use connections::keeps_user;
-pub use expect::{awaits_continue, interim_continue, is_head};
+pub use expect::{awaits_continue, interim_continue, is_head_request};
 pub use head_maker::HeadMaker;
 pub use incoming::Incoming;
 pub use offer::{Offer, ask_options};

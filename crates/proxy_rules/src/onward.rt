@@ -3,12 +3,12 @@
 ghost use Rattle.std.specs.Prelude.{◌≡◌, ◌⊎◌, IfOk, IfErr};
 ghost use Rattle.http_side.specs.Forward.{forwarded, next_framing, closes};
 ghost use Rattle.trace_core.specs.declared.history.Cause.TheVariants as causes;
-ghost use Rattle.proxy_rules.specs.Users.{is_head};
+ghost use Rattle.proxy_rules.specs.Users.{is_head_request};
 ghost use Rattle.proxy_rules.specs.Onward.{GoesOn, IsRequest, IsResponse, IsAdaptedRequest, IsAdaptedResponse, NoAdaptedRequest, NoAdaptedResponse, part_of, cause_of, may_answer};
 
-use crate::expect::is_head;
+use crate::expect::is_head_request;
 use http_side::{
-    Forward, Framing, HttpFault, HttpRequest, HttpResponse, Message, Part, forward_head,
+    BodyKind, Forward, Framing, HttpFault, HttpRequest, HttpResponse, Message, forward_head,
     read_request, read_response,
 };
 use std::alloc::Global;
@@ -33,10 +33,14 @@ pub(crate) struct Asked<'a> {
 }
 
 /// What follows an adapted message's head.
-fn part_of(has_body: bool) -> Part
+fn part_of(has_body: bool) -> BodyKind
     ensures { result ≡ part_of has_body }
 {
-    if has_body { Part::Body } else { Part::NullBody }
+    if has_body {
+        BodyKind::Body
+    } else {
+        BodyKind::NullBody
+    }
 }
 
 /// Why a transaction fails whose service sent a head that is refused.
@@ -71,7 +75,7 @@ pub(crate) fn request_onward(
     alloc: Global,
     asked: Asked<'_>,
     request: &HttpRequest,
-    part: Part,
+    part: BodyKind,
 ) -> Result<Headed, Cause>
     ensures ok { IfOk result (GoesOn asked.entry.user.now asked.entry.body_read part (IsRequest request.now)) }
     ensures err { IfErr result (λ cause. cause ≡ causes.Memory) }
@@ -90,7 +94,7 @@ pub(crate) fn response_onward(
     alloc: Global,
     asked: Asked<'_>,
     response: &HttpResponse,
-    part: Part,
+    part: BodyKind,
 ) -> Result<Headed, Cause>
     ensures ok { IfOk result (GoesOn asked.entry.user.now asked.entry.body_read part (IsResponse response.now)) }
     ensures err { IfErr result (λ cause. cause ≡ causes.Memory) }
@@ -142,12 +146,12 @@ pub(crate) fn adapted_response(
     text: &[u8],
     has_body: bool,
 ) -> Result<Headed, Cause>
-    ensures ok { IfOk result (GoesOn asked.entry.user.now asked.entry.body_read (part_of has_body) (IsAdaptedResponse (is_head asked.entry.user.now) has_body text.now)) }
+    ensures ok { IfOk result (GoesOn asked.entry.user.now asked.entry.body_read (part_of has_body) (IsAdaptedResponse (is_head_request asked.entry.user.now) has_body text.now)) }
 
     // The service is blamed only if its head can't go on.
-    ensures err { IfErr result (λ cause. (cause ≡ causes.Memory) ⊎ ((cause ≡ causes.Service) × NoAdaptedResponse (is_head asked.entry.user.now) has_body text.now)) }
+    ensures err { IfErr result (λ cause. (cause ≡ causes.Memory) ⊎ ((cause ≡ causes.Service) × NoAdaptedResponse (is_head_request asked.entry.user.now) has_body text.now)) }
 {
-    let head = match read_response(alloc, text, is_head(asked.user)) {
+    let head = match read_response(alloc, text, is_head_request(asked.user)) {
         Ok(head) => head,
         Err(fault) => return Err(cause_of(fault)),
     };

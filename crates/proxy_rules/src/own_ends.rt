@@ -2,7 +2,7 @@
 
 use crate::head_maker::HeadMaker;
 use adapt_turn::{EndTypes, Tx};
-use http_relay::{NextHop, SourceSide};
+use http_relay::{HopWriter, SourceSide};
 use icap_client::ServiceSide;
 use std::marker::PhantomData;
 use wire_kit::Wire;
@@ -34,7 +34,7 @@ impl<W: Wires> EndTypes for OwnEnds<W> {
 
     type Client = ServiceSide;
 
-    type Writer = NextHop;
+    type Writer = HopWriter;
 
     type Maker = HeadMaker;
 

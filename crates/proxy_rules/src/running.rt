@@ -15,7 +15,7 @@ ghost use Rattle.adapt_turn.specs.Freeing.{MayFree};
 ghost use Rattle.proxy_rules.specs.Running.{Runs, StandsOver, IsFaultless, RefusesFor, TakesTurns};
 
 use crate::own_ends::{OwnEnds, OwnTx, Wires};
-use adapt_turn::{Answering, FreeLine, Going, Outcome, Refusing, Side, Turned, Tx};
+use adapt_turn::{Answering, FreedConnection, Going, Outcome, Refusing, Side, Turned, Tx};
 use span_bank::{Bank, Ledgers};
 use std::sync::Wait;
 use trace_core::{Cause, Seen};
@@ -151,13 +151,13 @@ impl<B: Ledgers, W: Wires> Running<B, W> {
     }
 
     /// Gives up the connection to the service once its exchange is over, and says whether it may carry another request.
-    pub fn free_line(&mut self) -> Option<FreeLine<W::ServiceWire>>
+    pub fn freed_connection(&mut self) -> Option<FreedConnection<W::ServiceWire>>
         ensures over { IfSome result (λ free. MayFree (shows self.old.tx.hold.history)) }
         ensures due { result ≡ None → MayFree (shows self.old.tx.hold.history) → wire_of self.old.tx.ends.service ≡ None }
         ensures wire { IfSome result (λ free. wire_of self.old.tx.ends.service ≡ Some free.wire) }
         ensures reusable { IfSome result (λ free. IfSome self.old.tx.ends.service (λ line. free.is_reusable ≡ is_reusable line.side)) }
     {
-        self.tx.free_line()
+        self.tx.freed_connection()
     }
 
     /// The transaction itself, to be taken apart.

@@ -1,7 +1,7 @@
 //! The beginning of a transaction of the proxy's own sides.
 
 ghost use Rattle.std.specs.Prelude.{◌≡◌, ◌≤◌, ◌↔◌, List, ℕ, [], true, false, is_some, IsOk, IfOk, IfErr};
-ghost use Rattle.adapt_bytes.specs.declared.limits.TheConstants.{MAX_CAPACITY};
+ghost use Rattle.span_bank.specs.declared.limits.TheConstants.{MAX_CAPACITY};
 ghost use Rattle.plan_rules.specs.Claims.{claim_of};
 ghost use Rattle.adapt_turn.specs.Stands.{no_texts};
 ghost use Rattle.proxy_rules.specs.Offers.{text_of};
@@ -11,8 +11,8 @@ use crate::incoming::Incoming;
 use crate::offer::Offer;
 use crate::own_ends::{OwnEnds, Wires};
 use crate::running::Running;
-use adapt_turn::{Ends, Line, Standing, Start, Tx};
-use http_relay::NextHop;
+use adapt_turn::{Ends, ServiceEnd, Standing, Start, Tx};
+use http_relay::HopWriter;
 use icap_client::ServiceSide;
 use plan_rules::Limits;
 use span_bank::{Ledgers, Stake};
@@ -51,12 +51,12 @@ fn may_begin(message: &Incoming, offer: &Offer, is_connected: bool) -> bool
 }
 
 /// The service's side over its connection, where there is one.
-fn line_of<W>(side: Option<ServiceSide>, wire: Option<W>) -> Option<Line<ServiceSide, W>>
+fn line_of<W>(side: Option<ServiceSide>, wire: Option<W>) -> Option<ServiceEnd<ServiceSide, W>>
     requires { is_some side ≡ is_some wire }
     ensures { result ≡ line_with side wire }
 {
     match (side, wire) {
-        (Some(side), Some(wire)) => Some(Line {
+        (Some(side), Some(wire)) => Some(ServiceEnd {
             side,
             wire: Some(wire),
         }),
@@ -113,9 +113,9 @@ pub fn begin<B: Ledgers, W: Wires>(
             source,
             source_wire,
             service: line_of(side, service_wire),
-            next: NextHop::new(alloc),
+            next: HopWriter::new(alloc),
             next_wire,
-            back: NextHop::new(alloc),
+            back: HopWriter::new(alloc),
             maker,
         },
         deadline,

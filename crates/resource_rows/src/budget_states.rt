@@ -3,8 +3,9 @@ ghost use Rattle.std.specs.Prelude.{◌≡◌, ◌+◌, ◌≤◌, true};
 ghost use Rattle.span_bank.specs.State.{MaySum};
 
 use crate::words::{asked, number_after, pair_after, put_book};
-use adapt_bytes::{MAX_CAPACITY, MAX_ROWS};
-use span_bank::{BankState, BankStep, Journal, Numbers, RebasingJournal, Window};
+use span_bank::{
+    BankState, BankStep, Journal, MAX_CAPACITY, MAX_ROWS, Numbers, RebasingJournal, Window,
+};
 use std::alloc::Global;
 use test_rows::{NoMemory, Row, put_line, put_shown, says};
 

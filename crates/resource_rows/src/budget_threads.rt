@@ -3,7 +3,7 @@ ghost use Rattle.std.specs.Prelude.{◌≡◌, ◌≤◌, vec_len, vec_capacity}
 
 use crate::reserved::Reserved;
 use crate::words::put_sums;
-use span_bank::{Audit, Bank, Blanks, Four, Ledgers, Pages, Stake};
+use span_bank::{Audit, Bank, Blanks, Ledgers, Pages, Stake};
 use std::alloc::Global;
 use std::marker::Brand;
 use std::sync::Wait;
@@ -141,7 +141,7 @@ fn put_on_bank<
     requires slack { (blanks.slack.name ≡ S.name) × (blanks.slack.parts ≡ S.parts) × (blanks.slack.parts ≡ 5) }
     requires pages { (blanks.pages.name ≡ P.name) × (blanks.pages.parts ≡ P.parts) × (blanks.pages.parts ≡ 5) }
 {
-    let bank: Bank<Four<H, F, S, P>> = Bank::new(alloc, blanks, 100, 4, 16)?;
+    let bank: Bank<(H, F, S, P)> = Bank::new(alloc, blanks, 100, 4, 16)?;
     let stakes = Vec::with_capacity(alloc, 4)?;
     let (front, back) = share(rt, &bank);
     put_sums(out, sums_of_four(rt, bank, stakes, front, back))

@@ -1,11 +1,10 @@
 //! A budget, one call after another through its lock: each line of `want` is a step and what it answers.
 ghost use Rattle.std.specs.Prelude.{◌≡◌, ◌+◌, ◌≤◌};
-ghost use Rattle.adapt_bytes.specs.declared.limits.TheConstants.{MAX_CAPACITY, MAX_ROWS};
+ghost use Rattle.span_bank.specs.declared.limits.TheConstants.{MAX_CAPACITY, MAX_ROWS};
 
 use crate::reserved::Reserved;
 use crate::words::{asked, number_after, pair_after, put_book, put_pages, put_sums};
-use adapt_bytes::{MAX_CAPACITY, MAX_ROWS};
-use span_bank::{Audit, Bank, Blanks, CapacityFault, Four, Ledgers};
+use span_bank::{Audit, Bank, Blanks, CapacityFault, Ledgers, MAX_CAPACITY, MAX_ROWS};
 use std::alloc::{AllocError, Global};
 use std::marker::Brand;
 use std::sync::Wait;
@@ -204,7 +203,7 @@ fn put_on_bank<H: Ledger, F: Ledger, S: Ledger, P: Ledger, R: Wait>(
     requires capacity { (1 ≤ capacity) × (capacity ≤ MAX_CAPACITY) }
     requires rows { (1 ≤ rows) × (rows ≤ MAX_ROWS) }
 {
-    let bank: Bank<Four<H, F, S, P>> = Bank::new(alloc, blanks, capacity, rows, 16)?;
+    let bank: Bank<(H, F, S, P)> = Bank::new(alloc, blanks, capacity, rows, 16)?;
     let mut all = Vec::with_capacity(alloc, RESERVATIONS)?;
     let told = put_steps(rt, &bank, &mut all, row.get(b"want"), out);
     end_all(rt, &bank, all);

@@ -6,7 +6,7 @@ use crate::calls::{audited, put_audit};
 use crate::threads::{keep_taken, lease_of, rounds};
 use crate::words::put_sums;
 use service_pool::{LEDGER_PARTS, Lease, Pool};
-use span_bank::{Bank, Blanks, Four, Ledgers, Pages};
+use span_bank::{Bank, Blanks, Ledgers, Pages};
 use std::alloc::Global;
 use std::marker::Brand;
 use std::sync::Wait;
@@ -98,7 +98,7 @@ fn put_on_both<
     requires pages { (blanks.pages.name ≡ P.name) × (blanks.pages.parts ≡ P.parts) × (blanks.pages.parts ≡ 5) }
     requires leases { (blank.name ≡ L.name) × (blank.parts ≡ L.parts) × (blank.parts ≡ LEDGER_PARTS) }
 {
-    let bank: Bank<Four<H, F, S, P>> = Bank::new(alloc, blanks, 100, 4, 16)?;
+    let bank: Bank<(H, F, S, P)> = Bank::new(alloc, blanks, 100, 4, 16)?;
     let pool: Pool<u32, L> = Pool::new(alloc, blank, 3, 64)?;
     share(rt, alloc, bank, pool, out)
 }

@@ -1,7 +1,7 @@
 //! Pages that come with bytes and go with them, on a bank's store.
 ghost use Rattle.std.specs.Prelude.{◌≡◌};
 
-use span_bank::{Bank, Blanks, Four, OpenFault, Stake, Store};
+use span_bank::{Bank, Blanks, OpenFault, Stake, Store};
 use span_tape::SpanTape;
 use std::alloc::Global;
 use std::marker::Brand;
@@ -30,9 +30,9 @@ fn write_and_drop<H: Ledger, F: Ledger, S: Ledger, P: Ledger, R: Wait>(
     requires slack { (blanks.slack.name ≡ S.name) × (blanks.slack.parts ≡ S.parts) × (blanks.slack.parts ≡ 3) }
     requires pages { (blanks.pages.name ≡ P.name) × (blanks.pages.parts ≡ P.parts) × (blanks.pages.parts ≡ 3) }
 {
-    let bank: Bank<Four<H, F, S, P>> = Bank::new(alloc, blanks, 8192, 2, 16)?;
+    let bank: Bank<(H, F, S, P)> = Bank::new(alloc, blanks, 8192, 2, 16)?;
     let new = bank.store(rt);
-    let opened: Result<Stake<Four<H, F, S, P>>, OpenFault> = bank.open(rt, 8192);
+    let opened: Result<Stake<(H, F, S, P)>, OpenFault> = bank.open(rt, 8192);
     let Ok(mut stake) = opened else {
         return Ok(None);
     };

@@ -1,5 +1,5 @@
 //! What an administrator's lines ask, and how a connection carries them.
-use event_loop::{Asker, Heard, read_request};
+use event_loop::{AdminInput, Asker, read_request};
 use std::alloc::Global;
 use test_rows::{NoMemory, put_shown};
 use wire_kit::{Answer, MemoryWire};
@@ -22,7 +22,10 @@ fn put_heard(
     for _ in 0..calls {
         let heard = asker.hear()?;
         put_shown(out, b"heard", &heard)?;
-        if matches!(heard, Heard::Over | Heard::Http | Heard::TooLong) {
+        if matches!(
+            heard,
+            AdminInput::Over | AdminInput::Http | AdminInput::TooLong
+        ) {
             return Ok(());
         }
     }

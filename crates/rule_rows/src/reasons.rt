@@ -7,7 +7,7 @@ use proxy_rules::{
 };
 use span_bank::OpenFault;
 use test_rows::{NoMemory, put_line, put_number, put_shown};
-use wire_rows::{Scene, place_of};
+use wire_rows::{Scene, index_of};
 
 const HEAD_FAULTS: [HttpFault; 10] = [
     HttpFault::More,
@@ -28,7 +28,7 @@ const HEAD_WORDS: &[u8] =
 /// The fault of a head that the row names.
 fn head_fault(scene: Scene<'_>) -> Option<HttpFault> {
     HEAD_FAULTS
-        .get(place_of(HEAD_WORDS, scene.get(b"head"))?)
+        .get(index_of(HEAD_WORDS, scene.get(b"head"))?)
         .copied()
 }
 
@@ -44,7 +44,7 @@ const SIDE_FAULTS: [RelayFault; 6] = [
 /// The fault of a source's side that the row names.
 fn side_fault(scene: Scene<'_>) -> Option<RelayFault> {
     SIDE_FAULTS
-        .get(place_of(
+        .get(index_of(
             b"Head Chunk Closed Device Length NoMemory",
             scene.get(b"side"),
         )?)
@@ -69,7 +69,7 @@ const REASON_WORDS: &[u8] =
 
 /// The reason that the row names: a word, or else the fault of a request's head.
 fn reason_of(scene: Scene<'_>) -> Option<Reason> {
-    match place_of(REASON_WORDS, scene.get(b"reason")) {
+    match index_of(REASON_WORDS, scene.get(b"reason")) {
         Some(place) => REASONS.get(place).copied(),
         None => Some(Reason::Request(head_fault(scene)?)),
     }
@@ -78,7 +78,7 @@ fn reason_of(scene: Scene<'_>) -> Option<Reason> {
 /// The reason by the fault of the row's OPTIONS exchange, record or reservation.
 fn reason_by_fault(scene: Scene<'_>) -> Option<Reason> {
     Some(
-        match place_of(b"Closed Number Full NoRow", scene.get(b"fault"))? {
+        match index_of(b"Closed Number Full NoRow", scene.get(b"fault"))? {
             0 => options_reason(ClientFault::Closed),
             1 => record_reason(OptFault::Number),
             2 => open_reason(OpenFault::Full { claimed: 100 }),

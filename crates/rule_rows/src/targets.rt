@@ -1,7 +1,7 @@
 //! Where requests go, and what users wait for.
 use http_side::{HttpRequest, read_request};
 use proxy_config::{Config, read_config};
-use proxy_rules::{awaits_continue, interim_continue, is_head, origin_address, origin_of};
+use proxy_rules::{awaits_continue, interim_continue, is_head_request, origin_address, origin_of};
 use std::alloc::Global;
 use test_rows::{NoMemory, put_all, put_line, put_number, put_shown};
 use wire_rows::{Scene, put_flag, put_word};
@@ -41,7 +41,7 @@ fn put_user(alloc: Global, scene: Scene<'_>, out: &mut Vec<u8>) -> Result<(), No
     match read_request(alloc, scene.get(b"request"), false) {
         Ok(user) => {
             put_flag(out, b"waits", awaits_continue(&user.value))?;
-            put_flag(out, b"wants a head alone", is_head(&user.value))
+            put_flag(out, b"wants a head alone", is_head_request(&user.value))
         }
         Err(_) => put_line(out, b"no request"),
     }

@@ -33,11 +33,11 @@ pub struct Pools<'a, E: Edge, Q: Ledger, A: Ledger> {
 
 impl<'a, E: Edge, Q: Ledger, A: Ledger> Pools<'a, E, Q, A> {
     /// These pools, for another thread.
-    pub fn again(&self) -> Pools<'a, E, Q, A> {
+    pub fn for_thread(&self) -> Pools<'a, E, Q, A> {
         Pools {
             request: self.request,
             response: self.response,
-            waiting: self.waiting.again(),
+            waiting: self.waiting.for_thread(),
         }
     }
 

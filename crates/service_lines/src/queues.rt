@@ -43,7 +43,7 @@ pub struct Waiting<'a, E: Edge> {
 
 impl<'a, E: Edge> Waiting<'a, E> {
     /// How they wait, for another thread.
-    pub(crate) fn again(&self) -> Waiting<'a, E>
+    pub(crate) fn for_thread(&self) -> Waiting<'a, E>
         ensures { (result.queues ≡ self.now.queues) × (result.edge ≡ self.now.edge) × (result.seconds ≡ self.now.seconds) }
     {
         Waiting {

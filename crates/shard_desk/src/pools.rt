@@ -3,7 +3,7 @@
 ghost use Rattle.std.specs.Prelude.{◌≡◌, ⊤, Err};
 
 use crate::shared::Shares;
-use event_loop::{IdlePlace, Inbox, Room};
+use event_loop::{IdlePermit, Inbox, Room};
 use mio::Registry;
 use service_lines::{Connector, Edge, Keeper, LendFault, Waiting};
 use shard_seats::Seats;
@@ -13,12 +13,12 @@ use std::net::{SocketAddr, SocketAddrV4};
 use std::sync::Arc;
 use trace_core::Point;
 
-/// A connection to a service that no transaction uses, with its readiness and its place among the descriptors.
+/// A connection to a service that no transaction uses, with its readiness and its permit among the descriptors.
 #[derive(Drop)]
 pub struct Spare {
     pub wire: ServiceWire,
     pub ready: Arc<Readiness>,
-    pub place: IdlePlace,
+    pub permit: IdlePermit,
 }
 
 /// What all threads share: their inboxes, and the descriptors.
@@ -118,7 +118,7 @@ pub(crate) struct Berth<'r, 'a> {
     pub room: &'a Arc<Room>,
 }
 
-/// Takes a connection out of the poll, and gives it a place among the descriptors of idle ones.
+/// Takes a connection out of the poll, and gives it a permit among the descriptors of idle ones.
 fn lay_idle(
     registry: &Registry,
     key: usize,
@@ -132,8 +132,12 @@ fn lay_idle(
     if !is_out {
         return None;
     }
-    let place = Room::keep(room)?;
-    Some(Spare { wire, ready, place })
+    let permit = Room::keep(room)?;
+    Some(Spare {
+        wire,
+        ready,
+        permit,
+    })
 }
 
 /// Whether a connection still lives, and nothing lies unread on it.
@@ -207,7 +211,7 @@ impl<'r, 'a, R: Dial> Connector<Loops<'a>> for Port<'r, 'a, R> {
         let Spare {
             wire,
             ready,
-            place: _,
+            permit: _,
         } = idle;
         let registry = self.berth.registry;
         let key = self.berth.key;

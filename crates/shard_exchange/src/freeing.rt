@@ -3,6 +3,7 @@
 ghost use Rattle.std.specs.Prelude.{◌≡◌, false};
 
 use crate::exchange::{Exchange, Step};
+use crate::slots::take_out;
 use exchange_core::Event;
 use shard_message::Connection;
 use shard_outside::{Kinds, Outside};
@@ -25,10 +26,7 @@ impl<O: Kinds> Exchange<O> {
         ensures goes { Goes self.old.course self.new.course }
         ensures on { result ≡ Step.On }
     {
-        let Some(connection) = self.connection.take() else {
-            unreachable!();
-        };
-        let Connection { wire, lease } = connection;
+        let Connection { wire, lease } = take_out(&mut self.connection);
         let is_ready = self.course.course().connection.is_ready();
         match wire {
             Some(wire) if is_ready => {
@@ -53,9 +51,7 @@ impl<O: Kinds> Exchange<O> {
         ensures goes { Goes self.old.course self.new.course }
         ensures on { result ≡ Step.On }
     {
-        let Some(room) = self.room.take() else {
-            unreachable!();
-        };
+        let room = take_out(&mut self.room);
         out.bank().close(rt, room.into_stake(), Pages::none());
         self.course.done(Event::Released);
         Step::On

@@ -3,6 +3,7 @@
 ghost use Rattle.std.specs.Prelude.{◌≡◌};
 
 use crate::exchange::{Exchange, Step};
+use crate::slots::put_in;
 use exchange_core::Event;
 use plan_rules::claim;
 use proxy_rules::{Reason, open_reason};
@@ -25,7 +26,7 @@ impl<O: Kinds> Exchange<O> {
         ensures on { result ≡ Step.On }
     {
         let Some(planned) = self.planned.take() else {
-            return self.lose_user();
+            return self.refuse(at, out, Reason::NoMemory);
         };
         let Planned { offer, address } = Box::into_inner(planned);
         let limits = out.limits();
@@ -41,10 +42,7 @@ impl<O: Kinds> Exchange<O> {
                     limits,
                     address,
                 };
-                match self.room.replace(room) {
-                    None => {}
-                    Some(_) => unreachable!(),
-                }
+                put_in(&mut self.room, room);
                 self.course.done(Event::Reserved);
                 Step::On
             }

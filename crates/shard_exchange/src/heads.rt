@@ -8,7 +8,7 @@ ghost use Rattle.exchange_core.specs.declared.due.Due.TheVariants as dues;
 
 use crate::exchange::{Exchange, Step};
 use exchange_core::{Event, Place};
-use proxy_rules::{origin_head_reason, user_head_reason};
+use proxy_rules::{Reason, origin_head_reason, user_head_reason};
 use shard_outside::{HeadTurn, Kinds, Outside, head_turn};
 
 /// The first byte of a further request came, or of the first one.
@@ -87,7 +87,7 @@ impl<O: Kinds> Exchange<O> {
         ensures heeds { Heeds (O.is_late out.new at.now) self.new.course result }
     {
         let (Some(origin), Some(message)) = (&mut self.origin, &mut self.message) else {
-            return self.lose_user();
+            return self.refuse(at, out, Reason::NoMemory);
         };
         match head_turn(message, origin) {
             HeadTurn::Whole => {

@@ -3,6 +3,7 @@
 ghost use Rattle.std.specs.Prelude.{◌≡◌, Bool, true, false};
 
 use crate::exchange::{Exchange, Step};
+use crate::slots::put_in;
 use exchange_core::Event;
 use proxy_rules::Reason;
 use service_lines::LendFault;
@@ -28,10 +29,7 @@ impl<O: Kinds> Exchange<O> {
     {
         let reused = O::is_reused(&lease);
         let wire = Some(wire);
-        match self.connection.replace(Connection { wire, lease }) {
-            None => {}
-            Some(_) => unreachable!(),
-        }
+        put_in(&mut self.connection, Connection { wire, lease });
         self.course.done(Event::Lent { reused });
         Step::On
     }

@@ -14,6 +14,7 @@ mod moving;
 mod options;
 mod planning;
 mod refusing;
+mod slots;
 mod stepping;
 mod telling;
 

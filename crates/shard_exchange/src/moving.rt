@@ -3,7 +3,8 @@
 ghost use Rattle.std.specs.Prelude.{◌≡◌, None, Some, is_some, true, false};
 
 use crate::exchange::{Exchange, Step};
-use adapt_turn::FreeLine;
+use crate::slots::{put_in, take_out};
+use adapt_turn::FreedConnection;
 use exchange_core::Event;
 use proxy_rules::Reason;
 use shard_message::{
@@ -45,15 +46,14 @@ impl<O: Kinds> Exchange<O> {
         ensures goes { Goes self.old.course self.new.course }
         ensures on { result ≡ Step.On }
     {
-        let (Some(user), Some(message)) = (self.user.take(), self.message.take()) else {
+        let Some(message) = self.message.take() else {
+            return self.refuse(at, out, Reason::NoMemory);
+        };
+        let Some(user) = self.user.take() else {
             return self.lose_user();
         };
-        let Some(room) = self.room.take() else {
-            unreachable!();
-        };
-        let Some(origin) = self.origin.take() else {
-            unreachable!();
-        };
+        let room = take_out(&mut self.room);
+        let origin = take_out(&mut self.origin);
         let course = self.course.course();
         let pace = Pace::of(at, out, course);
         let service = service_of(&mut self.connection, course.place.is_offered());
@@ -64,19 +64,13 @@ impl<O: Kinds> Exchange<O> {
         };
         match Moving::begin(rt, out, message, room, connections, pace) {
             Ok(tx) => {
-                match self.tx.replace(tx) {
-                    None => {}
-                    Some(_) => unreachable!(),
-                }
+                put_in(&mut self.tx, tx);
                 self.course.done(Event::Started);
                 Step::On
             }
             Err(remains) => {
                 let Remains { room, connections } = remains;
-                match self.room.replace(room) {
-                    None => {}
-                    Some(_) => unreachable!(),
-                }
+                put_in(&mut self.room, room);
                 connections.put_back(&mut self.user, &mut self.connection, &mut self.origin);
                 self.refuse(at, out, Reason::NoMemory)
             }
@@ -168,7 +162,7 @@ impl<O: Kinds> Exchange<O> {
         let Some(tx) = &mut self.tx else {
             unreachable!();
         };
-        let Some(FreeLine { wire, is_reusable }) = tx.free_line() else {
+        let Some(FreedConnection { wire, is_reusable }) = tx.freed_connection() else {
             return false;
         };
         lay_wire(&mut self.connection, wire);
@@ -202,19 +196,14 @@ impl<O: Kinds> Exchange<O> {
         ensures over { moves self.new.course ≡ false }
         ensures lost { by ≡ EndedBy.User → is_gone self.new.course.place ≡ true }
     {
-        let Some(tx) = self.tx.take() else {
-            unreachable!();
-        };
+        let tx = take_out(&mut self.tx);
         let Settled {
             remains,
             message,
             report,
         } = tx.settle(rt, at, out, by);
         let Remains { room, connections } = remains;
-        match self.room.replace(room) {
-            None => {}
-            Some(_) => unreachable!(),
-        }
+        put_in(&mut self.room, room);
         connections.put_back(&mut self.user, &mut self.connection, &mut self.origin);
         self.message = message;
         tell(&mut self.course, report);

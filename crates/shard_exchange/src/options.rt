@@ -8,7 +8,7 @@ use exchange_core::Event;
 use icap_head::IcapResponse;
 use proxy_rules::{Reason, is_reusable_after_options, options_reason};
 use shard_message::{hear_on, is_fresh, renew};
-use shard_outside::{Heard, Kinds, Outside, asker, keep};
+use shard_outside::{Kinds, OptionsTurn, Outside, asker, keep};
 
 impl<O: Kinds> Exchange<O> {
     ghost use Rattle.exchange_core.specs.Dues.{due_of};
@@ -45,11 +45,11 @@ impl<O: Kinds> Exchange<O> {
         ensures heeds { Heeds (O.is_late out.new at.now) self.new.course result }
     {
         match hear_on(&mut self.asking, &mut self.connection) {
-            Some(Heard::More) => Step::On,
-            Some(Heard::Nothing) => self.wait_or_refuse(at, out),
-            Some(Heard::Answer(answer)) => self.has_heard(at, out, &answer),
-            Some(Heard::Fault(fault)) => self.options_failed(at, out, fault),
-            None => self.lose_user(),
+            Some(OptionsTurn::More) => Step::On,
+            Some(OptionsTurn::Nothing) => self.wait_or_refuse(at, out),
+            Some(OptionsTurn::Answer(answer)) => self.has_heard(at, out, &answer),
+            Some(OptionsTurn::Fault(fault)) => self.options_failed(at, out, fault),
+            None => self.refuse(at, out, Reason::Service),
         }
     }
 

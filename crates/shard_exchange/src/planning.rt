@@ -22,7 +22,7 @@ impl<O: Kinds> Exchange<O> {
         ensures on { result ≡ Step.On }
     {
         let Some(message) = &self.message else {
-            return self.lose_user();
+            return self.refuse(at, out, Reason::NoMemory);
         };
         let course = self.course.course();
         match make_plan(at, out, message, course.asked) {

@@ -1,12 +1,11 @@
 //! The loop of the administrator: it takes no users, so what an answer costs keeps nobody waiting.
 
-use adapt_bytes::MAX_CAPACITY;
 use event_loop::{Driven, Handed, Request, Told, Work};
 use mio::Registry;
 use shard_desk::{Shares, pools_of};
 use shard_report::{Append, Figures, Tally, change_capacity, stats_text};
-use socket_wire::{Dial, Side};
-use span_bank::CapacityFault;
+use socket_wire::{Dial, Peer};
+use span_bank::{CapacityFault, MAX_CAPACITY};
 use std::alloc::{AllocError, Global};
 use std::sync::Wait;
 use std::time::Clock;
@@ -118,7 +117,7 @@ impl<'a, S: Shares + Drop, F: Append> Work for Office<'a, S, F> {
         false
     }
 
-    fn note(&mut self, _key: usize, _side: Side, _told: Told) -> bool {
+    fn note(&mut self, _key: usize, _peer: Peer, _told: Told) -> bool {
         false
     }
 

@@ -12,7 +12,7 @@ use service_pool::Pool;
 use shard_desk::Spare;
 use shard_report::{Append, ServeFault, Stopped};
 use socket_wire::Dial;
-use span_bank::{Bank, Blanks, Four, Ledgers};
+use span_bank::{Bank, Blanks, Ledgers};
 use std::alloc::Global;
 use std::fs::File;
 use std::net::Net;
@@ -104,7 +104,7 @@ pub fn serve<
     requires respmod { (respmod.name ≡ A.name) × (respmod.parts ≡ A.parts) × (respmod.parts ≡ LEDGER_PARTS) }
 {
     let journal = config.journal as usize;
-    let bank: Bank<Four<H, F, S, P>> = match Bank::new(
+    let bank: Bank<(H, F, S, P)> = match Bank::new(
         alloc,
         blanks,
         config.capacity,

@@ -5,7 +5,7 @@ ghost use Rattle.std.specs.Prelude.{◌≡◌, is_some};
 use crate::connection::{Connection, lay_wire};
 use icap_client::OptionsSide;
 use proxy_rules::Reason;
-use shard_outside::{Heard, Kinds, Outside, hear_turn, lend_reason};
+use shard_outside::{Kinds, OptionsTurn, Outside, hear_turn, lend_reason};
 use std::boxed::Box;
 use wire_kit::Wire;
 
@@ -13,7 +13,7 @@ use wire_kit::Wire;
 pub fn hear_on<O: Kinds>(
     asking: &mut Option<Box<OptionsSide>>,
     connection: &mut Option<Connection<O>>,
-) -> Option<Heard>
+) -> Option<OptionsTurn>
     ensures { is_some connection.new ≡ is_some connection.old }
 {
     match (asking, connection) {

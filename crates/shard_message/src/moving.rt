@@ -10,7 +10,7 @@ use crate::start::{Pace, set_out};
 use crate::taken::stake_of;
 use crate::turns::{Round, round_of};
 use crate::ways::{Left, Ways};
-use adapt_turn::FreeLine;
+use adapt_turn::FreedConnection;
 use proxy_rules::{Incoming, Running};
 use shard_outside::{Kinds, Outside};
 use span_bank::{Bank, Stake};
@@ -156,10 +156,10 @@ impl<O: Kinds> Moving<O> {
     }
 
     /// Gives up the connection to the service once the service has said all.
-    pub fn free_line(&mut self) -> Option<FreeLine<O::Service>> {
+    pub fn freed_connection(&mut self) -> Option<FreedConnection<O::Service>> {
         match self {
-            Moving::Request(tx) => tx.free_line(),
-            Moving::Response(tx) => tx.free_line(),
+            Moving::Request(tx) => tx.freed_connection(),
+            Moving::Response(tx) => tx.freed_connection(),
         }
     }
 

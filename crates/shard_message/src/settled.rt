@@ -8,7 +8,7 @@ use crate::room::room_of;
 use crate::sides::{Asked, Headed, Served};
 use crate::taken::{parts_of, wire_of};
 use adapt_sides::{ClientFault, Hop};
-use adapt_turn::{EndTypes, Ends, Line, MakesHead, Outcome, Parts, Tx};
+use adapt_turn::{EndTypes, Ends, MakesHead, Outcome, Parts, ServiceEnd, Tx};
 use proxy_rules::Reason;
 use shard_outside::{Kinds, MessageEnd, Outside};
 use span_bank::Stake;
@@ -81,7 +81,7 @@ struct Account {
 }
 
 /// Why a service's side failed.
-fn fault_of<V: Served, W>(service: &Option<Line<V, W>>) -> Option<ClientFault> {
+fn fault_of<V: Served, W>(service: &Option<ServiceEnd<V, W>>) -> Option<ClientFault> {
     match service {
         Some(line) => line.side.fault(),
         None => None,
@@ -89,7 +89,7 @@ fn fault_of<V: Served, W>(service: &Option<Line<V, W>>) -> Option<ClientFault> {
 }
 
 /// Whether the connection of a service's side may carry another request.
-fn is_reusable<V: Served, W>(service: &Option<Line<V, W>>) -> bool {
+fn is_reusable<V: Served, W>(service: &Option<ServiceEnd<V, W>>) -> bool {
     match service {
         Some(line) => line.side.is_reusable(),
         None => false,
@@ -97,7 +97,7 @@ fn is_reusable<V: Served, W>(service: &Option<Line<V, W>>) -> bool {
 }
 
 /// Whether nothing went over the connection of a service's side, where it was still held.
-fn is_service_fresh<V: Served, W: Wire>(service: &Option<Line<V, W>>) -> bool {
+fn is_service_fresh<V: Served, W: Wire>(service: &Option<ServiceEnd<V, W>>) -> bool {
     match service {
         Some(line) => match &line.wire {
             Some(wire) => is_fresh(wire),
@@ -108,7 +108,7 @@ fn is_service_fresh<V: Served, W: Wire>(service: &Option<Line<V, W>>) -> bool {
 }
 
 /// The head of the adapted message, where one was read.
-fn adapted_head<V: Served, W>(service: &Option<Line<V, W>>) -> Option<&[u8]> {
+fn adapted_head<V: Served, W>(service: &Option<ServiceEnd<V, W>>) -> Option<&[u8]> {
     match service {
         Some(line) => line.side.adapted_head(),
         None => None,
@@ -120,7 +120,7 @@ fn give_account<P, O: Outside<P>, V: Served>(
     at: &P,
     out: &mut O,
     user: &O::User,
-    service: &Option<Line<V, O::Service>>,
+    service: &Option<ServiceEnd<V, O::Service>>,
     account: Account,
 ) {
     let point = account.seen.plan.point;
@@ -157,7 +157,7 @@ fn warn<P, O: Outside<P>>(at: &P, out: &mut O, user: &O::User, report: Report) {
 struct Taken<O: Kinds, V> {
     stake: Stake<O::Ledgers>,
     user: O::User,
-    service: Option<Line<V, O::Service>>,
+    service: Option<ServiceEnd<V, O::Service>>,
     origin: O::Origin,
     ghost empty: { (stake.held ≡ 0) × (stake.pages ≡ 0) },
 }

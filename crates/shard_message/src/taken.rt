@@ -5,7 +5,7 @@ ghost use Rattle.std.specs.Prelude.{◌≡◌};
 use crate::room::room_of;
 use crate::ways::{Left, Ways};
 use adapt_sides::{Hop, Service, Source};
-use adapt_turn::{EndTypes, Ends, Line, MakesHead, Parts, Tx};
+use adapt_turn::{EndTypes, Ends, MakesHead, Parts, ServiceEnd, Tx};
 use plan_rules::Limits;
 use proxy_rules::Wires;
 use span_bank::{Bank, Ledgers, Stake};
@@ -28,10 +28,10 @@ pub(crate) fn parts_of<B: Ledgers, E: EndTypes, R: Wait>(
 }
 
 /// The connection of a service's side that has ended. None where it was given up before.
-pub(crate) fn wire_of<V: Drop, W>(service: Option<Line<V, W>>) -> Option<W> {
+pub(crate) fn wire_of<V: Drop, W>(service: Option<ServiceEnd<V, W>>) -> Option<W> {
     match service {
         Some(line) => {
-            let Line { side: _, wire } = line;
+            let ServiceEnd { side: _, wire } = line;
             wire
         }
         None => None,

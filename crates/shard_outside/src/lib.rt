@@ -12,7 +12,7 @@ mod saying;
 mod whys;
 
 pub use heads::{HeadTurn, head_turn};
-pub use options::{Heard, asker, hear_turn, keep};
+pub use options::{OptionsTurn, asker, hear_turn, keep};
 pub use outside::{Kinds, Lingered, MessageEnd, Outside};
 pub use planning::{Planned, Unplanned, make_plan, waits};
 pub use saying::{Said, say_to};

@@ -27,7 +27,7 @@ pub fn asker<P, O: Outside<P>>(out: &O, point: Point) -> Result<Box<OptionsSide>
 }
 
 /// What a turn at asking heard.
-pub enum Heard {
+pub enum OptionsTurn {
     /// The whole answer.
     Answer(IcapResponse),
     /// Something moved.
@@ -39,13 +39,13 @@ pub enum Heard {
 }
 
 /// A turn at asking over this wire.
-pub fn hear_turn<W: Wire>(side: &mut OptionsSide, wire: &mut W) -> Heard {
+pub fn hear_turn<W: Wire>(side: &mut OptionsSide, wire: &mut W) -> OptionsTurn {
     let before = wire.counts();
     match side.turn(wire) {
-        Ok(Some(answer)) => Heard::Answer(answer),
-        Ok(None) if wire.counts() != before => Heard::More,
-        Ok(None) => Heard::Nothing,
-        Err(fault) => Heard::Fault(fault),
+        Ok(Some(answer)) => OptionsTurn::Answer(answer),
+        Ok(None) if wire.counts() != before => OptionsTurn::More,
+        Ok(None) => OptionsTurn::Nothing,
+        Err(fault) => OptionsTurn::Fault(fault),
     }
 }
 

@@ -1,13 +1,12 @@
 //! A new capacity of the buffer budget, in steps that keep nobody waiting for long.
 
 ghost use Rattle.std.specs.Prelude.{◌≡◌, ◌≤◌, ◌<◌, ◌+◌, ℕ, Err, IfErr};
-ghost use Rattle.adapt_bytes.specs.declared.limits.TheConstants.{MAX_CAPACITY};
+ghost use Rattle.span_bank.specs.declared.limits.TheConstants.{MAX_CAPACITY};
 ghost use Rattle.span_bank.specs.declared.step.CapacityFault.TheVariants.{TooLow};
 ghost use Rattle.shard_report.specs.declared.capacity.TheConstants.{STRIDE};
 
 use crate::log::Log;
-use adapt_bytes::MAX_CAPACITY;
-use span_bank::{Bank, CapacityFault, Ledgers};
+use span_bank::{Bank, CapacityFault, Ledgers, MAX_CAPACITY};
 use std::sync::Wait;
 
 /// How many bytes of capacity come or go at once. Their pages join the others or leave them under the bank's lock, for which

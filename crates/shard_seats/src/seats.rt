@@ -3,11 +3,11 @@
 ghost use Rattle.std.specs.Prelude.{◌≡◌};
 
 use crate::sparing::{Spared, Stay, spared_of};
-use event_loop::{Place, Told};
+use event_loop::{Told, UserPermit};
 use mio::net::TcpStream;
 use mio::{Registry, Token};
 use slab::Slab;
-use socket_wire::{MAX_KEY, Readiness, Role, Side, SocketWire, token_of};
+use socket_wire::{MAX_KEY, Peer, Readiness, Role, SocketWire, token_of};
 use std::alloc::{AllocError, Global};
 use std::mem;
 use std::sync::Arc;
@@ -32,7 +32,7 @@ pub enum Purpose {
 struct Seat {
     purpose: Purpose,
     number: u64,
-    place: Place,
+    permit: UserPermit,
     /// When the user was taken in, in milliseconds.
     came: u64,
     moved: u64,
@@ -130,7 +130,12 @@ impl Seats {
 
     /// Takes a seat for a user's connection of this number at this moment, in milliseconds, and says what it is for. `None` if no
     /// seat is free.
-    pub fn take(&mut self, number: u64, place: Place, millis: u64) -> Option<(usize, Purpose)> {
+    pub fn take(
+        &mut self,
+        number: u64,
+        permit: UserPermit,
+        millis: u64,
+    ) -> Option<(usize, Purpose)> {
         let purpose = self.next_purpose()?;
         let since = self.next_stay();
         if self.all.reserve(1).is_err() || self.all.vacant_key() >= self.bound() {
@@ -139,7 +144,7 @@ impl Seats {
         let key = self.all.insert_reserved(Seat {
             purpose,
             number,
-            place,
+            permit,
             came: millis,
             moved: millis / SECOND,
             stay: match purpose {
@@ -270,14 +275,14 @@ impl Seats {
     }
 
     /// Takes note of an event. False if it says nothing new.
-    pub fn note(&self, key: usize, side: Side, told: Told) -> bool {
+    pub fn note(&self, key: usize, peer: Peer, told: Told) -> bool {
         let Some(seat) = self.all.get(key) else {
             return false;
         };
-        let ready = match side {
-            Side::User => &seat.user,
-            Side::Origin => &seat.origin,
-            Side::Service => &seat.service,
+        let ready = match peer {
+            Peer::User => &seat.user,
+            Peer::Origin => &seat.origin,
+            Peer::Service => &seat.service,
         };
         match ready {
             Some(ready) => {
@@ -292,14 +297,14 @@ impl Seats {
     fn keep(
         &mut self,
         key: usize,
-        side: Side,
+        peer: Peer,
         ready: Option<Arc<Readiness>>,
     ) -> Option<Arc<Readiness>> {
         let seat = self.all.get_mut(key)?;
-        match side {
-            Side::User => mem::replace(&mut seat.user, ready),
-            Side::Origin => mem::replace(&mut seat.origin, ready),
-            Side::Service => mem::replace(&mut seat.service, ready),
+        match peer {
+            Peer::User => mem::replace(&mut seat.user, ready),
+            Peer::Origin => mem::replace(&mut seat.origin, ready),
+            Peer::Service => mem::replace(&mut seat.service, ready),
         }
     }
 
@@ -336,17 +341,17 @@ impl Seats {
         let mut wire = wire;
         if key > MAX_KEY
             || wire
-                .register(registry, Token(token_of(key, P::SIDE)))
+                .register(registry, Token(token_of(key, P::PEER)))
                 .is_err()
         {
             return Err(wire);
         }
-        let _ = self.keep(key, P::SIDE, Some(ready));
+        let _ = self.keep(key, P::PEER, Some(ready));
         Ok(wire)
     }
 
     /// The readiness of a service's connection that leaves the exchange.
     pub fn dismiss(&mut self, key: usize) -> Option<Arc<Readiness>> {
-        self.keep(key, Side::Service, None)
+        self.keep(key, Peer::Service, None)
     }
 }

@@ -11,7 +11,7 @@ use mio::Registry;
 use mio::net::TcpStream;
 use shard_desk::Spot;
 use shard_seats::SECOND;
-use socket_wire::{Dial, Readiness, Side};
+use socket_wire::{Dial, Peer, Readiness};
 use std::alloc::{AllocError, Global};
 use std::io::Write;
 use std::sync::Wait;
@@ -211,12 +211,12 @@ impl<'a, D: Exchanges + Drop, G: Gate> Work for Shard<'a, D, G> {
         let Handed {
             stream,
             number,
-            place,
+            permit,
         } = user;
         if !self.desk.seats().has_room() {
             let _ = self.spare_user(rt, registry, millis);
         }
-        let Some((key, purpose)) = self.desk.seats_mut().take(number, place, millis) else {
+        let Some((key, purpose)) = self.desk.seats_mut().take(number, permit, millis) else {
             turn_away(stream);
             return None;
         };
@@ -260,8 +260,8 @@ impl<'a, D: Exchanges + Drop, G: Gate> Work for Shard<'a, D, G> {
         }
     }
 
-    fn note(&mut self, key: usize, side: Side, told: Told) -> bool {
-        self.desk.seats().note(key, side, told)
+    fn note(&mut self, key: usize, peer: Peer, told: Told) -> bool {
+        self.desk.seats().note(key, peer, told)
     }
 
     fn drive<R: Wait + Dial + Clock>(

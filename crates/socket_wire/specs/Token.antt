@@ -1,9 +1,9 @@
 -- The number of a connection in its exchange's tokens.
 use Rattle.std.specs.Prelude.{ℕ}
-use Rattle.socket_wire.specs.declared.token.Side.{Side}
-use Rattle.socket_wire.specs.declared.token.Side.TheVariants.{User, Origin, Service}
+use Rattle.socket_wire.specs.declared.token.Peer.{Peer}
+use Rattle.socket_wire.specs.declared.token.Peer.TheVariants.{User, Origin, Service}
 
-abbrev pub side_number : Side → ℕ
-side_number User = 0
-side_number Origin = 1
-side_number Service = 2
+abbrev pub peer_number : Peer → ℕ
+peer_number User = 0
+peer_number Origin = 1
+peer_number Service = 2

@@ -11,4 +11,4 @@ pub use dial::Dial;
 pub use ready::Readiness;
 pub use role::{Origin, OriginWire, Role, Service, ServiceWire, User, UserWire};
 pub use socket::{SocketWire, Unread};
-pub use token::{MAX_KEY, Side, names_its_place, place_of, token_of};
+pub use token::{MAX_KEY, Peer, names_its_peer, peer_of, token_of};

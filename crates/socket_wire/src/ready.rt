@@ -43,7 +43,7 @@ impl Readiness {
         reads || writes || ends
     }
 
-    /// Takes note that the connection is gone both ways, as after a reset by the other side. True if that is news.
+    /// Takes note that the connection is gone both ways, as after a reset by the other peer. True if that is news.
     pub fn fail(&self) -> bool {
         raise(&self.failed)
     }

@@ -1,33 +1,33 @@
 //! Whose connection of an exchange it is.
 
 use crate::socket::SocketWire;
-use crate::token::Side;
+use crate::token::Peer;
 
 /// A peer of an exchange.
 pub trait Role {
     /// The connection to it, as tokens name it.
-    const SIDE: Side;
+    const PEER: Peer;
 }
 
 /// The user, who sends requests.
 pub struct User;
 
 impl Role for User {
-    const SIDE: Side = Side::User;
+    const PEER: Peer = Peer::User;
 }
 
 /// The origin server, which answers them.
 pub struct Origin;
 
 impl Role for Origin {
-    const SIDE: Side = Side::Origin;
+    const PEER: Peer = Peer::Origin;
 }
 
 /// A service, which messages are offered to.
 pub struct Service;
 
 impl Role for Service {
-    const SIDE: Side = Side::Service;
+    const PEER: Peer = Peer::Service;
 }
 
 /// A user's connection.

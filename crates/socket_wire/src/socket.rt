@@ -68,7 +68,7 @@ pub enum Unread {
 /// ```
 /// let ready = Arc::new(alloc, Readiness::new())?;
 /// let mut wire: UserWire = SocketWire::new(stream, Arc::clone(&ready)?);
-/// wire.register(poll.registry(), Token(token_of(7, Side::User)))?;
+/// wire.register(poll.registry(), Token(token_of(7, Peer::User)))?;
 /// assert_eq!(rt; wire.try_read(&mut buf), Got::Wait);
 /// // The other side sends five bytes. The poll reports token 28 as readable, and the loop notes it.
 /// assert!(rt; ready.note(true, false, false));

@@ -1,6 +1,6 @@
 -- Which steps the totals of a budget allow, what the totals keep, and their journal.
 use Rattle.std.specs.Prelude.{◌≡◌, ℕ, ◌+◌, ◌≤◌, ◌<◌, List, [], ◌∷◌, ◌++◌, length, ◌==◌, if◌then◌else◌}
-use Rattle.adapt_bytes.specs.declared.limits.TheConstants.{MAX_CAPACITY, MAX_ROWS}
+use Rattle.span_bank.specs.declared.limits.TheConstants.{MAX_CAPACITY, MAX_ROWS}
 use Rattle.span_bank.specs.declared.step.Numbers.{Numbers}
 use Rattle.span_bank.specs.declared.step.BankStep.{BankStep}
 use Rattle.span_bank.specs.declared.step.BankStep.TheVariants.{Open, Grow, Shrink, Reclaim, Close, Capacity}

@@ -1,7 +1,7 @@
 //! The budget, shared by threads. A call with `rt` takes the lock, calls one method of the locked
 //! part, and releases the lock.
 ghost use Rattle.std.specs.Prelude.{◌≡◌, ◌+◌, ◌-◌, ◌≤◌, ◌<◌, ℕ, Err, IfOk, IfErr, IfSome, vec_len};
-ghost use Rattle.adapt_bytes.specs.declared.limits.TheConstants.{MAX_CAPACITY, MAX_ROWS};
+ghost use Rattle.span_bank.specs.declared.limits.TheConstants.{MAX_CAPACITY, MAX_ROWS};
 ghost use Rattle.span_bank.specs.declared.step.CapacityFault.TheVariants.{TooLow};
 ghost use Rattle.span_bank.specs.Stakes.{held_sum, claim_sum, page_sum, most_pages, CountsIn, lent, given_back};
 

@@ -2,7 +2,7 @@
 ghost use Rattle.std.specs.Prelude.{◌≡◌, ◌+◌, ◌≤◌, ◌<◌};
 ghost use Rattle.span_bank.specs.Ledgers.{Amounts, Parted, plus, no_amounts, IsWithin};
 
-use std::marker::{Model, PhantomData};
+use std::marker::Model;
 use std::sync::ledger::{Blank, Book, Ledger, Share};
 
 /// The ledgers of a bank, as one type. Each bank has its own.
@@ -17,12 +17,8 @@ pub trait Ledgers {
     type Pages: Ledger;
 }
 
-/// Four ledgers as the ledgers of a bank.
-pub struct Four<H: Ledger, F: Ledger, S: Ledger, P: Ledger> {
-    marker: PhantomData<(H, F, S, P)>,
-}
-
-impl<H: Ledger, F: Ledger, S: Ledger, P: Ledger> Ledgers for Four<H, F, S, P> {
+/// Four ledgers are the ledgers of a bank.
+impl<H: Ledger, F: Ledger, S: Ledger, P: Ledger> Ledgers for (H, F, S, P) {
     type Held = H;
 
     type Free = F;

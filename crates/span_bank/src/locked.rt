@@ -1,7 +1,7 @@
 //! The locked part of the budget: the totals with their journal, the books of the ledgers, and
 //! the store of pages.
 ghost use Rattle.std.specs.Prelude.{◌≡◌, ◌+◌, ◌-◌, ◌*◌, ◌/◌, ◌≤◌, ◌<◌, ◌↔◌, ℕ, IsOk, IsErr, IfOk, IfErr, OnOk, OnErr, vec_len};
-ghost use Rattle.adapt_bytes.specs.declared.limits.TheConstants.{MAX_CAPACITY, MAX_ROWS};
+ghost use Rattle.span_bank.specs.declared.limits.TheConstants.{MAX_CAPACITY, MAX_ROWS};
 ghost use Rattle.span_bank.specs.declared.step.BankStep.TheVariants.{Open, Grow, Shrink, Reclaim, Close, Capacity};
 ghost use Rattle.span_bank.specs.declared.step.Resized.TheVariants.{Done, TooLow, Short};
 ghost use Rattle.span_bank.specs.Journal.{slid};

@@ -1,6 +1,6 @@
 //! A reservation: one transaction's part of the budget.
 ghost use Rattle.std.specs.Prelude.{◌≡◌, ◌+◌, ◌-◌, ◌*◌, ◌≤◌, ◌<◌};
-ghost use Rattle.adapt_bytes.specs.declared.limits.TheConstants.{MAX_CAPACITY};
+ghost use Rattle.span_bank.specs.declared.limits.TheConstants.{MAX_CAPACITY};
 ghost use Rattle.span_bank.specs.Ledgers.{Amounts, no_amounts, plus};
 ghost use Rattle.span_bank.specs.Stakes.{most_pages};
 
@@ -23,7 +23,7 @@ pub struct Stake<B: Ledgers> {
 impl<B: Ledgers> Model for Stake<B> {
     ghost use Rattle.std.specs.Prelude.{◌≡◌, ◌+◌, ◌*◌, ◌≤◌};
     ghost use Rattle.span_bank.specs.Stakes.{Shown};
-    ghost use Rattle.adapt_bytes.specs.declared.limits.TheConstants.{MAX_CAPACITY};
+    ghost use Rattle.span_bank.specs.declared.limits.TheConstants.{MAX_CAPACITY};
     ghost use Rattle.span_bank.specs.declared.step.TheConstants.{PAGE_BYTES, SPARE_PAGES};
 
     ghost Value = { Shown };

@@ -3,7 +3,7 @@ use std::alloc::AllocError as NoMemory;
 
 /// Where the reading of a text is.
 #[derive(Clone, Copy)]
-enum Place {
+enum Mode {
     Plain,
     /// After a backslash.
     Escape,
@@ -20,7 +20,7 @@ enum Place {
 /// What a text says so far.
 #[derive(Drop)]
 struct Reading<'a> {
-    place: Place,
+    place: Mode,
     said: &'a mut Vec<u8>,
     /// Where the part begins that is to be repeated, and how often.
     part: Option<(usize, usize)>,
@@ -71,7 +71,7 @@ fn repeat(said: &mut Vec<u8>, from: usize, count: usize) -> Result<(), NoMemory>
 
 impl Reading<'_> {
     fn put(&mut self, byte: u8) -> Result<(), NoMemory> {
-        self.place = Place::Plain;
+        self.place = Mode::Plain;
         self.said.push(byte)?;
         Ok(())
     }
@@ -79,7 +79,7 @@ impl Reading<'_> {
     fn step_plain(&mut self, byte: u8) -> Result<(), NoMemory> {
         match (byte, self.part) {
             (b'\\', _) => {
-                self.place = Place::Escape;
+                self.place = Mode::Escape;
                 Ok(())
             }
             (b'}', Some((from, count))) => {
@@ -95,9 +95,9 @@ impl Reading<'_> {
             return self.put(meant);
         }
         self.place = match byte {
-            b'x' => Place::Hex,
-            b'{' if self.part.is_none() => Place::Count(0),
-            _ => Place::Bad,
+            b'x' => Mode::Hex,
+            b'{' if self.part.is_none() => Mode::Count(0),
+            _ => Mode::Bad,
         };
         Ok(())
     }
@@ -105,31 +105,31 @@ impl Reading<'_> {
     fn step_count(&mut self, count: usize, byte: u8) {
         self.place = if byte == b'*' && count != 0 {
             self.part = Some((self.said.len(), count));
-            Place::Plain
+            Mode::Plain
         } else {
             match counted(count, byte) {
-                Some(count) => Place::Count(count),
-                None => Place::Bad,
+                Some(count) => Mode::Count(count),
+                None => Mode::Bad,
             }
         };
     }
 
     fn step(&mut self, byte: u8) -> Result<(), NoMemory> {
         match self.place {
-            Place::Plain => return self.step_plain(byte),
-            Place::Escape => return self.step_escape(byte),
-            Place::Hex => {
+            Mode::Plain => return self.step_plain(byte),
+            Mode::Escape => return self.step_escape(byte),
+            Mode::Hex => {
                 self.place = match hex_digit(byte) {
-                    Some(digit) => Place::SecondHex(digit),
-                    None => Place::Bad,
+                    Some(digit) => Mode::SecondHex(digit),
+                    None => Mode::Bad,
                 };
             }
-            Place::SecondHex(high) => match hex_digit(byte) {
+            Mode::SecondHex(high) => match hex_digit(byte) {
                 Some(low) => return self.put(high.wrapping_mul(16) | low),
-                None => self.place = Place::Bad,
+                None => self.place = Mode::Bad,
             },
-            Place::Count(count) => self.step_count(count, byte),
-            Place::Bad => {}
+            Mode::Count(count) => self.step_count(count, byte),
+            Mode::Bad => {}
         }
         Ok(())
     }
@@ -143,14 +143,14 @@ pub(crate) fn put_text(
     is_whole: bool,
 ) -> Result<bool, NoMemory> {
     let mut reading = Reading {
-        place: Place::Plain,
+        place: Mode::Plain,
         said,
         part: None,
     };
     for byte in written {
         reading.step(*byte)?;
     }
-    let is_read = reading.part.is_none() && matches!(reading.place, Place::Plain);
+    let is_read = reading.part.is_none() && matches!(reading.place, Mode::Plain);
     if is_whole {
         reading.put(b'\n')?;
     }

@@ -1,20 +1,20 @@
 //! The heads that go on, to an origin, to a service and to the user (RFC 9110, section 7.6; RFC 9112, section 3.2).
 use crate::http_heads::put_request;
 use http_side::{
-    Encapsulated, Forward, HttpRequest, Message, Part, encapsulated_head, forward_head,
+    BodyKind, Encapsulated, Forward, HttpRequest, Message, encapsulated_head, forward_head,
     read_request, read_response,
 };
 use std::alloc::Global;
 use test_rows::{NoMemory, Row, put_line, put_shown, says};
 
-fn part_of(row: &Row<'_>) -> Part {
+fn part_of(row: &Row<'_>) -> BodyKind {
     let word = row.get(b"part");
     if says(word, b"null-body") {
-        Part::NullBody
+        BodyKind::NullBody
     } else if says(word, b"body") {
-        Part::Body
+        BodyKind::Body
     } else {
-        Part::Own
+        BodyKind::Own
     }
 }
 
@@ -35,7 +35,7 @@ fn put_to_origin(alloc: Global, out: &mut Vec<u8>, user: &HttpRequest) -> Result
     let forward = Forward {
         user,
         message: Message::Request(user),
-        part: Part::Own,
+        part: BodyKind::Own,
         body_read: true,
     };
     out.extend_from_slice(&forward_head(alloc, &forward)?)

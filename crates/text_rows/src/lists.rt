@@ -1,5 +1,6 @@
 //! Encapsulated lists (RFC 3507, section 4.4.1).
-use encapsulated::{BodyPart, Direction, EncFault, Layout, Method, Part, read, write};
+use adapt_bytes::Method;
+use encapsulated::{BodyPart, Direction, EncFault, Layout, Part, read, write};
 use std::alloc::Global;
 use test_rows::{NoMemory, Row, put_fault, put_line, put_number, put_shown, says};
 

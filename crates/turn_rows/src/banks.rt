@@ -7,7 +7,7 @@ use crate::scenes::{Moving, begin};
 use crate::sides::{Counted, Wires, hop_wire, make_sides, service_wire, source_wire};
 use crate::steps::{first_turns, put_steps};
 use crate::told::put_ended;
-use span_bank::{Bank, Blanks, Four, Ledgers};
+use span_bank::{Bank, Blanks, Ledgers};
 use std::alloc::Global;
 use std::marker::Brand;
 use std::mem;
@@ -163,7 +163,7 @@ fn put_on_bank<H: Ledger, F: Ledger, S: Ledger, P: Ledger, R: Wait>(
     requires slack { (blanks.slack.name ≡ S.name) × (blanks.slack.parts ≡ S.parts) × (blanks.slack.parts ≡ 3) }
     requires pages { (blanks.pages.name ≡ P.name) × (blanks.pages.parts ≡ P.parts) × (blanks.pages.parts ≡ 3) }
 {
-    let bank: Bank<Four<H, F, S, P>> = Bank::new(alloc, blanks, 65536, 2, 16)?;
+    let bank: Bank<(H, F, S, P)> = Bank::new(alloc, blanks, 65536, 2, 16)?;
     let told = put_scene(rt, alloc, &bank, scene, values, out);
     let is_empty = is_empty(alloc, bank);
     told?;

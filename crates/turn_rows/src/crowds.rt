@@ -8,7 +8,7 @@ use crate::sides::Counted;
 use crate::threads::drive_to_end;
 use crate::told::to_service;
 use adapt_turn::Outcome;
-use span_bank::{Bank, Blanks, Four, Ledgers};
+use span_bank::{Bank, Blanks, Ledgers};
 use std::alloc::Global;
 use std::marker::Brand;
 use std::sync::Wait;
@@ -211,7 +211,7 @@ fn put_on_bank<
     requires slack { (blanks.slack.name ≡ S.name) × (blanks.slack.parts ≡ S.parts) × (blanks.slack.parts ≡ 5) }
     requires pages { (blanks.pages.name ≡ P.name) × (blanks.pages.parts ≡ P.parts) × (blanks.pages.parts ≡ 5) }
 {
-    let bank: Bank<Four<H, F, S, P>> = Bank::new(alloc, blanks, CAPACITY, 4, 16)?;
+    let bank: Bank<(H, F, S, P)> = Bank::new(alloc, blanks, CAPACITY, 4, 16)?;
     put_four(rt, alloc, bank, plan, scene, values, out)
 }
 

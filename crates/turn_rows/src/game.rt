@@ -3,7 +3,7 @@
 ghost use Rattle.std.specs.Prelude.{◌≡◌};
 
 use crate::sides::Counted;
-use adapt_turn::{Ends, FreeLine, Line, Outcome, Parts, Side, Turned};
+use adapt_turn::{Ends, FreedConnection, Outcome, Parts, ServiceEnd, Side, Turned};
 use proxy_rules::{Beginning, Running, Wires};
 use span_bank::{Bank, Ledgers, Pages};
 use std::sync::Wait;
@@ -78,7 +78,7 @@ impl<B: Ledgers, A: Wire + Drop, C: Wire + Drop> Game<B> for Running<B, (A, Coun
     }
 
     fn free(&mut self, lines: &mut Lines) -> Option<bool> {
-        let FreeLine { wire, is_reusable } = self.free_line()?;
+        let FreedConnection { wire, is_reusable } = self.freed_connection()?;
         lines.freed = Some(wire);
         Some(is_reusable)
     }
@@ -123,7 +123,7 @@ pub fn end<B: Ledgers, A: Wire + Drop, C: Wire + Drop, R: Wait>(
                 outcome,
                 source: source_wire,
                 service: match service {
-                    Some(Line { side: _, wire }) => wire,
+                    Some(ServiceEnd { side: _, wire }) => wire,
                     None => None,
                 },
                 next_hop: next_wire,

@@ -6,7 +6,7 @@ use span_bank::{Bank, Ledgers};
 use std::alloc::Global;
 use std::sync::Wait;
 use test_rows::{NoMemory, put_line, put_number, put_shown};
-use wire_rows::{Scene, Values, number, parts, place_of};
+use wire_rows::{Scene, Values, index_of, number, parts};
 
 /// Turns of each side.
 pub const ROUND: [Side; 3] = [Side::Source, Side::Service, Side::NextHop];
@@ -23,7 +23,7 @@ struct Counted {
 fn order_of(alloc: Global, words: &[u8]) -> Result<Vec<Side>, NoMemory> {
     let mut order = Vec::new(alloc);
     for word in words.split(|byte| *byte == b' ') {
-        if let Some(place) = place_of(b"source service hop", word)
+        if let Some(place) = index_of(b"source service hop", word)
             && let Some(side) = ROUND.get(place)
         {
             order.push(*side)?;
@@ -37,7 +37,7 @@ pub fn first_turns(alloc: Global, scene: Scene<'_>) -> Result<Vec<(Side, u64)>, 
     let mut turns = Vec::new(alloc);
     for word in scene.get(b"first").split(|byte| *byte == b' ') {
         if let Some((name, moment)) = parts(word, b'@')
-            && let Some(place) = place_of(b"source service hop", name)
+            && let Some(place) = index_of(b"source service hop", name)
             && let Some(side) = ROUND.get(place)
             && let Some(now) = test_rows::number(moment)
         {
@@ -190,7 +190,7 @@ fn put_step<B: Ledgers, G: Game<B>, R: Wait>(
 ) -> Result<(), NoMemory> {
     if let Some((sides, moment)) = parts(word, b'@') {
         let now = number(moment, values).unwrap_or(0);
-        return match place_of(b"source service hop", sides) {
+        return match index_of(b"source service hop", sides) {
             Some(0) => put_turns(rt, bank, game, &[Side::Source], now, out),
             Some(1) => put_turns(rt, bank, game, &[Side::Service], now, out),
             Some(2) => put_turns(rt, bank, game, &[Side::NextHop], now, out),
@@ -199,7 +199,7 @@ fn put_step<B: Ledgers, G: Game<B>, R: Wait>(
     }
     let (name, count) = parts(word, b'=').unwrap_or((word, b"0"));
     let count = number(count, values).unwrap_or(0);
-    match place_of(b"rounds until-over halt free", name) {
+    match index_of(b"rounds until-over halt free", name) {
         Some(0) => match pace.at {
             Some(now) => play_rounds_at(rt, bank, game, pace.order, now, count),
             None => play_rounds(rt, bank, game, lines, pace.order, count),

@@ -10,7 +10,7 @@ use crate::sides::{Counted, Wires, hop_wire, service_wire};
 use crate::steps::ROUND;
 use crate::told::{to_service, wants_memory};
 use adapt_turn::{Side, Turned};
-use span_bank::{Bank, Blanks, Four, Ledgers};
+use span_bank::{Bank, Blanks, Ledgers};
 use std::alloc::Global;
 use std::marker::Brand;
 use std::sync::Wait;
@@ -240,7 +240,7 @@ fn put_on_bank<
     requires slack { (blanks.slack.name ≡ S.name) × (blanks.slack.parts ≡ S.parts) × (blanks.slack.parts ≡ 3) }
     requires pages { (blanks.pages.name ≡ P.name) × (blanks.pages.parts ≡ P.parts) × (blanks.pages.parts ≡ 3) }
 {
-    let bank: Bank<Four<H, F, S, P>> = Bank::new(alloc, blanks, CAPACITY, 2, 16)?;
+    let bank: Bank<(H, F, S, P)> = Bank::new(alloc, blanks, CAPACITY, 2, 16)?;
     put_both(rt, alloc, bank, plan, scene, values, out)
 }
 

@@ -22,4 +22,4 @@ pub use shown::{put_flag, put_text, put_word};
 pub use test_rows::NoMemory;
 pub use values::{Values, number};
 pub use wires::{answers, wire};
-pub use words::{count_after, has_word, is, parts, place_of};
+pub use words::{count_after, has_word, index_of, is, parts};

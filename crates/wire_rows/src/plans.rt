@@ -1,6 +1,6 @@
 //! Plans and events in words.
 use crate::scene::Scene;
-use crate::words::{count_after, has_word, place_of};
+use crate::words::{count_after, has_word, index_of};
 use trace_core::{Event, Kind, Payload, Plan, Point, State};
 
 /// How a message goes to the service.
@@ -53,7 +53,7 @@ pub fn event_of(word: &[u8]) -> Option<Event> {
     if let Some(count) = count_after(word, b"ad") {
         return Some(Event::Ad(count));
     }
-    let place = place_of(b"end stop heard continue nomod mod adend retry", word)?;
+    let place = index_of(b"end stop heard continue nomod mod adend retry", word)?;
     EVENTS.get(place).copied()
 }
 

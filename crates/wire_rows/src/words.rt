@@ -37,7 +37,7 @@ pub fn count_after(words: &[u8], key: &[u8]) -> Option<u64> {
 }
 
 /// The place of a word among these.
-pub fn place_of(words: &[u8], word: &[u8]) -> Option<usize> {
+pub fn index_of(words: &[u8], word: &[u8]) -> Option<usize> {
     let mut place: usize = 0;
     for other in words.split(|byte| *byte == b' ') {
         if other == word {

@@ -12,7 +12,7 @@ use Rattle.world_core.specs.WorldHistory.{Setting, open_at, was_opened, claimed,
 use Rattle.world_core.specs.WorldFaults.{IsLegalWorld, world_fault, first_of}
 use Rattle.world_core.specs.WorldSound.{held_at}
 use Rattle.world_core.proofs.Standing.{row_1, row_3}
-use Rattle.adapt_bytes.specs.declared.limits.TheConstants.{MAX_CAPACITY, MAX_ROWS}
+use Rattle.span_bank.specs.declared.limits.TheConstants.{MAX_CAPACITY, MAX_ROWS}
 use Rattle.span_bank.specs.declared.step.Numbers.{Numbers}
 use Rattle.span_bank.specs.declared.step.BankStep.{BankStep}
 use Rattle.span_bank.specs.declared.step.BankStep.TheVariants as bank

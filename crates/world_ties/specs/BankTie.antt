@@ -8,7 +8,7 @@ use Rattle.world_core.specs.declared.event.WorldEvent.TheVariants.{Lease, Open, 
 use Rattle.world_core.specs.WorldHistory.{Setting, Opened, open_at, opened, claimed, claim_in, capacity_of, with_event}
 use Rattle.world_core.specs.WorldFaults.{shown}
 use Rattle.world_core.specs.WorldSound.{held_at, held_in}
-use Rattle.adapt_bytes.specs.declared.limits.TheConstants.{MAX_CAPACITY, MAX_ROWS}
+use Rattle.span_bank.specs.declared.limits.TheConstants.{MAX_CAPACITY, MAX_ROWS}
 use Rattle.span_bank.specs.declared.step.Numbers.{Numbers}
 use Rattle.span_bank.specs.declared.step.BankStep.{BankStep}
 use Rattle.span_bank.specs.declared.step.BankStep.TheVariants as bank

@@ -11,7 +11,7 @@ ghost use Rattle.world_core.specs.declared.event.WorldFault.TheVariants.{NoRoom,
 ghost use Rattle.world_core.specs.WorldHistory.{Setting, Opened, open_at, was_opened, claimed};
 ghost use Rattle.world_core.specs.WorldFaults.{IsLegalWorld, world_fault, shown};
 ghost use Rattle.world_core.specs.WorldNeeds.{IsBook};
-ghost use Rattle.adapt_bytes.specs.declared.limits.TheConstants.{MAX_CAPACITY};
+ghost use Rattle.span_bank.specs.declared.limits.TheConstants.{MAX_CAPACITY};
 ghost use Rattle.span_bank.specs.declared.step.BankStep.{BankStep};
 ghost use Rattle.span_bank.specs.declared.step.BankStep.TheVariants as bank;
 ghost use Rattle.span_bank.specs.declared.step.OpenFault.TheVariants.{Full};

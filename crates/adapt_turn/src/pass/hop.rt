@@ -7,7 +7,7 @@ ghost use Rattle.adapt_turn.specs.Made.{MakesAt, MakesNoneAt, adapted_of, respon
 ghost use Rattle.adapt_turn.specs.Passes.{Begins, GivesOne, NextPasses, choice_of, writers};
 ghost use Rattle.adapt_turn.specs.Stands.{IsChosen};
 
-use crate::ends::{EndTypes, Line};
+use crate::ends::{EndTypes, ServiceEnd};
 use crate::head::MakesHead;
 use crate::pass::idle;
 use crate::steps::{Passed, close, give};
@@ -28,7 +28,7 @@ pub(crate) fn next_pass<B: Ledgers, E: EndTypes>(
     hold: &mut Hold<B>,
     maker: &mut E::Maker,
     source: &E::Reader,
-    service: &Option<Line<E::Client, E::ServiceWire>>,
+    service: &Option<ServiceEnd<E::Client, E::ServiceWire>>,
     next: &mut E::Writer,
     next_wire: &mut E::NextWire,
     back: &mut E::Writer,
@@ -65,7 +65,7 @@ fn begin<B: Ledgers, E: EndTypes>(
     hold: &Hold<B>,
     maker: &mut E::Maker,
     source: &E::Reader,
-    service: &Option<Line<E::Client, E::ServiceWire>>,
+    service: &Option<ServiceEnd<E::Client, E::ServiceWire>>,
     next: &mut E::Writer,
     back: &mut E::Writer,
 ) -> Result<(), Cause>
@@ -95,7 +95,10 @@ fn begin<B: Ledgers, E: EndTypes>(
 }
 
 /// Whether the adapted message is an answer to the user, though a request was offered.
-fn answers_user<B: Ledgers, V: Service, W>(hold: &Hold<B>, service: &Option<Line<V, W>>) -> bool
+fn answers_user<B: Ledgers, V: Service, W>(
+    hold: &Hold<B>,
+    service: &Option<ServiceEnd<V, W>>,
+) -> bool
     ensures { result ≡ answers_user (shows hold.now.history) (response_of V.is_response service.now) }
 {
     let seen = hold.state().seen();
@@ -118,7 +121,7 @@ fn forwarded<B: Ledgers, E: EndTypes>(
     maker: &mut E::Maker,
     hold: &Hold<B>,
     source: &E::Reader,
-    service: &Option<Line<E::Client, E::ServiceWire>>,
+    service: &Option<ServiceEnd<E::Client, E::ServiceWire>>,
 ) -> Result<(Vec<u8>, <E::Writer as Hop>::Framing), Cause>
     ensures made { IfOk result (λ made. MakesAt (E.Maker.makes maker.new (E.Reader.head source.now)) (adapted_of E.Client.adapted_head service.now) (response_of E.Client.is_response service.now) (shows hold.now.history) made.0.items made.1) }
     ensures none { IfErr result (λ cause. MakesNoneAt (E.Maker.makes_none maker.old (E.Reader.head source.now)) (adapted_of E.Client.adapted_head service.now) (response_of E.Client.is_response service.now) (shows hold.now.history) cause) }

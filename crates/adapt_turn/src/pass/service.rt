@@ -7,7 +7,7 @@ ghost use Rattle.adapt_hold.specs.Holding.{shows, IsRoomy, IsTied};
 ghost use Rattle.adapt_turn.specs.Parts.{Breaks, HasCause, lending, HearPart};
 ghost use Rattle.adapt_turn.specs.Passes.{ServicePasses, LinePasses};
 
-use crate::ends::Line;
+use crate::ends::ServiceEnd;
 use crate::pass::idle;
 use crate::steps::{Passed, send, take_service};
 use adapt_hold::Hold;
@@ -22,7 +22,7 @@ pub(crate) fn service_pass<B: Ledgers, V: Service, W: Wire>(
     rt: &impl Wait,
     bank: &Bank<B>,
     hold: &mut Hold<B>,
-    service: &mut Option<Line<V, W>>,
+    service: &mut Option<ServiceEnd<V, W>>,
     reused: bool,
 ) -> Passed
     requires running { (shows hold.old.history).closed ≡ false }

@@ -4,7 +4,7 @@ ghost use Rattle.std.specs.Prelude.{◌≡◌, ◌+◌, ◌-◌, ◌^◌, min};
 ghost use Rattle.adapt_turn.specs.Made.{on_held};
 ghost use Rattle.adapt_turn.specs.Moved.{AreCounts, counted};
 
-use crate::ends::{EndTypes, Line};
+use crate::ends::{EndTypes, ServiceEnd};
 use crate::tx::Tx;
 use adapt_sides::{Hop, Service, Source};
 use span_bank::Ledgers;
@@ -39,7 +39,7 @@ fn between(before: (u64, u64), after: (u64, u64)) -> u64
 }
 
 /// The bytes that the service's wire gave, and those that it took; none where its connection isn't held.
-fn line_counts<V, W: Wire>(service: &Option<Line<V, W>>) -> (u64, u64)
+fn line_counts<V, W: Wire>(service: &Option<ServiceEnd<V, W>>) -> (u64, u64)
     ensures { on_held service.now ((result.0 ≡ 0) × (result.1 ≡ 0)) (λ wire. AreCounts result (W.past wire)) }
 {
     match service {

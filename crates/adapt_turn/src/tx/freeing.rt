@@ -6,14 +6,14 @@ ghost use Rattle.adapt_turn.specs.Made.{wire_of, without_wire};
 ghost use Rattle.adapt_turn.specs.Freeing.{MayFree};
 ghost use Rattle.adapt_turn.specs.Stands.{Texts};
 
-use crate::ends::{EndTypes, FreeLine, Line};
+use crate::ends::{EndTypes, FreedConnection, ServiceEnd};
 use crate::tx::{Answering, Standing, Tx};
 use adapt_sides::{Hop, Service, Source};
 use span_bank::Ledgers;
 use wire_kit::Wire;
 
 /// Takes the wire, and leaves the side.
-fn take_wire<V: Service, W>(service: &mut Option<Line<V, W>>) -> Option<FreeLine<W>>
+fn take_wire<V: Service, W>(service: &mut Option<ServiceEnd<V, W>>) -> Option<FreedConnection<W>>
     ensures left { service.new ≡ without_wire service.old }
     ensures none { result ≡ None → wire_of service.old ≡ None }
     ensures taken { IfSome result (λ free. wire_of service.old ≡ Some free.wire) }
@@ -21,7 +21,7 @@ fn take_wire<V: Service, W>(service: &mut Option<Line<V, W>>) -> Option<FreeLine
 {
     match service {
         Some(line) => match line.wire.take() {
-            Some(wire) => Some(FreeLine {
+            Some(wire) => Some(FreedConnection {
                 wire,
                 is_reusable: line.side.is_reusable(),
             }),
@@ -32,7 +32,7 @@ fn take_wire<V: Service, W>(service: &mut Option<Line<V, W>>) -> Option<FreeLine
 }
 
 /// Takes the wire alone.
-fn take_held<V: Service, W>(service: &mut Option<Line<V, W>>) -> Option<W>
+fn take_held<V: Service, W>(service: &mut Option<ServiceEnd<V, W>>) -> Option<W>
     ensures left { service.new ≡ without_wire service.old }
     ensures taken { result ≡ wire_of service.old }
 {
@@ -55,7 +55,7 @@ impl<B: Ledgers, E: EndTypes> Tx<B, E> {
     /// Gives up the connection to the service, and says whether it may carry another request. `None` if no connection is held, or
     /// as long as the service's exchange goes on. No byte of this transaction goes over it any more: what its wire took and gave
     /// stays what it was, and later turns of the service find nothing due.
-    pub fn free_line(&mut self) -> Option<FreeLine<E::ServiceWire>>
+    pub fn freed_connection(&mut self) -> Option<FreedConnection<E::ServiceWire>>
         ensures over { IfSome result (λ free. MayFree (shows self.old.hold.history)) }
         ensures due { result ≡ None → MayFree (shows self.old.hold.history) → wire_of self.old.ends.service ≡ None }
         ensures wire { IfSome result (λ free. wire_of self.old.ends.service ≡ Some free.wire) }

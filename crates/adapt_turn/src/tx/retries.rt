@@ -45,7 +45,7 @@ impl<B: Ledgers, E: EndTypes> Tx<B, E> {
         self.pace.reused = false;
         match &mut self.ends.service {
             Some(line) => {
-                line.side.again();
+                line.side.restart();
                 mem::replace(&mut line.wire, Some(wire))
             }
             None => Some(wire),

@@ -2,7 +2,7 @@
 
 use crate::looping::EventLoop;
 use crate::work::Work;
-use socket_wire::{Dial, place_of};
+use socket_wire::{Dial, peer_of};
 use std::io;
 use std::sync::Wait;
 use std::time::{Clock, Duration};
@@ -42,8 +42,8 @@ impl<K: Work> EventLoop<K> {
                 break;
             };
             let event = *event;
-            if let Some((key, side)) = place_of(event.token)
-                && self.work.note(key, side, event.told)
+            if let Some((key, peer)) = peer_of(event.token)
+                && self.work.note(key, peer, event.told)
             {
                 self.drive(rt, key)?;
             }

@@ -202,7 +202,7 @@ impl SourceSide {
         ensures empty { self.new.raw.items ≡ [] → self.new.raw.spare ≡ 0 }
     {
         let result = self.scan_or_read(wire);
-        self.give_back();
+        self.free_memory();
         result
     }
 

@@ -2,8 +2,8 @@
 
 use super::loopback::{Others, Ports};
 use super::player::Deed::{Gets, Says};
-use super::player::Side::{Origin, Service, User};
-use super::player::{Deed, Side, does_all, meet};
+use super::player::Peer::{Origin, Service, User};
+use super::player::{Deed, Peer, does_all, meet};
 use super::scenes::{ADAPTS, ANSWERS, SAYS_PREVIEWS};
 use super::texts::{ADAPTED, REQUEST};
 use std::alloc::Global;
@@ -18,7 +18,7 @@ fn does_each(
     alloc: Global,
     ports: Ports,
     others: &Others,
-    side: Side,
+    side: Peer,
     lists: &[&[Deed]],
 ) -> io::Result<bool> {
     let stream = meet(host, ports, others, side)?;

@@ -14,7 +14,7 @@ pub const TRIES: u32 = 1_000;
 
 /// Who has a connection with the proxy.
 #[derive(Clone, Copy)]
-pub enum Side {
+pub enum Peer {
     User,
     Origin,
     Service,
@@ -43,7 +43,7 @@ pub enum Deed {
 #[derive(Clone, Copy)]
 pub enum Step {
     /// A user connects, or the origin or the service gets a connection; then this is done on it.
-    New(Side, &'static [Deed]),
+    New(Peer, &'static [Deed]),
     /// This is done on a connection.
     On(usize, &'static [Deed]),
     /// A connection is closed.
@@ -162,11 +162,11 @@ pub fn does_all(
 }
 
 /// A user connects, or the origin or the service gets a connection.
-pub fn meet(rt: &HostRuntime, ports: Ports, others: &Others, side: Side) -> io::Result<TcpStream> {
+pub fn meet(rt: &HostRuntime, ports: Ports, others: &Others, side: Peer) -> io::Result<TcpStream> {
     let listener = match side {
-        Side::User => return TcpStream::connect(rt, ports.users),
-        Side::Origin => &others.origin,
-        Side::Service => &others.service,
+        Peer::User => return TcpStream::connect(rt, ports.users),
+        Peer::Origin => &others.origin,
+        Peer::Service => &others.service,
     };
     let (stream, _) = listener.accept()?;
     Ok(stream)

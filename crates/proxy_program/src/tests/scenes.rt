@@ -2,7 +2,7 @@
 
 use super::loopback::Scene;
 use super::player::Deed::{Ends, Gets, GetsOffer, HearsEnd, HearsNothing, Passes, Says};
-use super::player::Side::{Origin, Service, User};
+use super::player::Peer::{Origin, Service, User};
 use super::player::Step::{Admin, Awaits, Closes, New, On, Releases, Stops};
 use super::player::{Deed, Step};
 use super::texts::{

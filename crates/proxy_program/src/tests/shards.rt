@@ -1,7 +1,7 @@
 //! What users of several shards get: one budget and one pool for all of them.
 
 use super::loopback::{Others, Ports};
-use super::player::Side::{Origin, Service, User};
+use super::player::Peer::{Origin, Service, User};
 use super::player::{TRIES, does_all, gets, hears, meet, say, until};
 use super::scenes::{ADAPTS, ANSWERS, ASKS, IS_REFUSED, SAYS_ONE_CONNECTION};
 use super::texts::{ADAPTED, FORWARDED, HEAD_END, REQUEST, RESPONSE, UNAVAILABLE};

@@ -1,6 +1,6 @@
 use Rattle.std.proofs.Common.{◌≡◌, ℕ, List, subst, sym, rules, true}
 use Rattle.std.proofs.lemmas.Result.{err_from_is_err_and}
-use Rattle.encapsulated.specs.declared.message.Method.{Method}
+use Rattle.adapt_bytes.specs.declared.method.Method.{Method}
 use Rattle.encapsulated.specs.declared.message.Direction.{Direction}
 use Rattle.encapsulated.specs.declared.fault.EncFault.{EncFault}
 use Rattle.encapsulated.specs.declared.fault.EncFault.TheVariants.{Syntax, Name, Order, NoBodyPart, Offset}

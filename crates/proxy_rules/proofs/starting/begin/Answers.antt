@@ -2,7 +2,7 @@ use Rattle.std.proofs.Common.{Option, IfSome, [], false, refl, ap, sym, subst, �
 use Rattle.trace_core.specs.History.{History, seen}
 use Rattle.adapt_hold.specs.Holding.{shows}
 use Rattle.adapt_turn.specs.Stands.{no_texts}
-use Rattle.adapt_turn.specs.declared.ends.Line.{Line}
+use Rattle.adapt_turn.specs.declared.ends.ServiceEnd.{ServiceEnd}
 use Rattle.icap_client.specs.Turns.{Service}
 use Rattle.http_relay.specs.Giving.{Hop, gift_of}
 use Rattle.http_relay.specs.declared.side.SourceSide.{SourceSide}
@@ -27,7 +27,7 @@ invariant_of-running g c =
     let begins = has_begun source.result.0 c.args.beginning.message.user source.ensures.arrives (λ e. may.read (sym (ap (λ (s : SourceSide). s.head) source.ensures.side) ∙ e)) in
     let unused : IfSome c.line_of.result (λ line. IsUnused (text_of c.args.beginning.offer.side) line.side) =
     subst (λ (side : Option Service). IfSome c.line_of.result (λ line. IsUnused (text_of side) line.side)) c.into_plan-side.ensures.side
-    (subst (λ (service : Option (Line Service _)). IfSome service (λ line. IsUnused (text_of c.into_plan-side.result.1) line.side)) (sym c.line_of.ensures)
+    (subst (λ (service : Option (ServiceEnd Service _)). IfSome service (λ line. IsUnused (text_of c.into_plan-side.result.1) line.side)) (sym c.line_of.ensures)
     (unused_on plan c.into_plan-side.result.1 c.args.beginning.service_wire c.into_plan-side.ensures.binds)) in
     record {
       runs = ∣ record {
@@ -51,7 +51,7 @@ returns-clause-stands g c =
     let begins = has_begun source.result.0 c.args.beginning.message.user source.ensures.arrives (λ e. may.read (sym (ap (λ (s : SourceSide). s.head) source.ensures.side) ∙ e)) in
     let unused : IfSome c.line_of.result (λ line. IsUnused (text_of c.args.beginning.offer.side) line.side) =
     subst (λ (side : Option Service). IfSome c.line_of.result (λ line. IsUnused (text_of side) line.side)) c.into_plan-side.ensures.side
-    (subst (λ (service : Option (Line Service _)). IfSome service (λ line. IsUnused (text_of c.into_plan-side.result.1) line.side)) (sym c.line_of.ensures)
+    (subst (λ (service : Option (ServiceEnd Service _)). IfSome service (λ line. IsUnused (text_of c.into_plan-side.result.1) line.side)) (sym c.line_of.ensures)
     (unused_on plan c.into_plan-side.result.1 c.args.beginning.service_wire c.into_plan-side.ensures.binds)) in (
       read,
       c.in-Ok.ensures.stands (record { bytes = read; ended = false }) (text_of c.args.beginning.offer.side) (begins (seen plan []) refl refl).0 (nothing_on (text_of c.args.beginning.offer.side) plan c.line_of.result unused)

@@ -1,5 +1,5 @@
 use Rattle.std.proofs.Common.{◌≤◌}
-use Rattle.adapt_bytes.specs.declared.limits.TheConstants.{MAX_CAPACITY}
+use Rattle.span_bank.specs.declared.limits.TheConstants.{MAX_CAPACITY}
 use Rattle.shard_report.proofs.capacity.walk.Given as goal
 
 abbrev pub invariant-loop : goal.invariant-loop

@@ -26,8 +26,8 @@ let_go-requires-clause-adapted_high g c =
     let k = c.in_ok-step.ensures.stepped in
     (adapted_cuts _ c.args.event c.step.new.state c.held_adapted-adapted.result c.self.invariant c.requires k.0 k.1 c.held_adapted-adapted.ensures.held).high
 
-pub settle-requires : goal.settle-requires
-settle-requires g c =
+pub lower_claim-requires : goal.lower_claim-requires
+lower_claim-requires g c =
     let k = c.in_ok-step.ensures.stepped in
     let oe = ap (λ (q : ℕ × ℕ). q.0) (held_then _ c.args.event c.step.new.state c.held_original-original.result c.self.invariant k.0 k.1 c.held_original-original.ensures.held) in
     let ae = ap (λ (q : ℕ × ℕ). q.0) (held_adapted_then _ c.args.event c.step.new.state c.held_adapted-adapted.result c.self.invariant k.0 k.1 c.held_adapted-adapted.ensures.held) in
@@ -41,9 +41,9 @@ invariant_of-self-2 g c =
     let oe = ap (λ (q : ℕ × ℕ). q.0) (held_then _ c.args.event c.step.new.state c.held_original-original.result c.self.invariant k.0 k.1 c.held_original-original.ensures.held) in
     let ae = ap (λ (q : ℕ × ℕ). q.0) (held_adapted_then _ c.args.event c.step.new.state c.held_adapted-adapted.result c.self.invariant k.0 k.1 c.held_adapted-adapted.ensures.held) in
     let h = c.let_go.ensures.held in
-    let s = c.settle.ensures in
+    let s = c.lower_claim.ensures in
     let held = ap (λ (q : Stock). q.held) s in
-    (moves_on _ c.args.event c.step.new.state c.settle.new.store c.self.invariant c.requires k.0 k.1
+    (moves_on _ c.args.event c.step.new.state c.lower_claim.new.store c.self.invariant c.requires k.0 k.1
     (ap (λ (q : Stock). q.original) s ∙ c.let_go.ensures.original ∙ ap (λ (p : ℕ). span_from c.self.inside.store.original p) oe)
     (ap (λ (q : Stock). q.adapted) s ∙ c.let_go.ensures.adapted ∙ ap (λ (p : ℕ). span_from c.self.inside.store.adapted p) ae)
     (omega arith)
@@ -57,9 +57,9 @@ returns g c =
     let oe = ap (λ (q : ℕ × ℕ). q.0) (held_then _ c.args.event c.step.new.state c.held_original-original.result c.self.invariant k.0 k.1 c.held_original-original.ensures.held) in
     let ae = ap (λ (q : ℕ × ℕ). q.0) (held_adapted_then _ c.args.event c.step.new.state c.held_adapted-adapted.result c.self.invariant k.0 k.1 c.held_adapted-adapted.ensures.held) in
     let h = c.let_go.ensures.held in
-    let s = c.settle.ensures in
+    let s = c.lower_claim.ensures in
     let held = ap (λ (q : Stock). q.held) s in
-    let closes = moves_on _ c.args.event c.step.new.state c.settle.new.store c.self.invariant c.requires k.0 k.1
+    let closes = moves_on _ c.args.event c.step.new.state c.lower_claim.new.store c.self.invariant c.requires k.0 k.1
     (ap (λ (q : Stock). q.original) s ∙ c.let_go.ensures.original ∙ ap (λ (p : ℕ). span_from c.self.inside.store.original p) oe)
     (ap (λ (q : Stock). q.adapted) s ∙ c.let_go.ensures.adapted ∙ ap (λ (p : ℕ). span_from c.self.inside.store.adapted p) ae)
     (omega arith)

@@ -21,7 +21,7 @@ use Rattle.std.specs.Prelude.{MatchOption, ⊤}
 use Rattle.adapt_turn.proofs.Paced.{paced_kept}
 use Rattle.adapt_sides.specs.Turns.{FailsGiving}
 use Rattle.adapt_turn.specs.Parts.{fault_of}
-use Rattle.adapt_turn.specs.declared.ends.Line.{Line}
+use Rattle.adapt_turn.specs.declared.ends.ServiceEnd.{ServiceEnd}
 use Rattle.adapt_turn.proofs.Faultless.{unmarked_before, unmarked_now}
 use Rattle.adapt_turn.specs.declared.pace.Pace.{Pace}
 use Rattle.adapt_turn.proofs.Lines.{line_told}
@@ -297,7 +297,7 @@ returns-clause-faultless g c = λ o f.
     let a = c.after_pass.ensures in
     let mid = c.pass-passed.new.self in
     let n = not_failed c.pass-passed.result.failed _ p.any.over (ap (λ (h : Holding). (shows h.history).closed) (sym a.hold) ∙ o) in
-    let of_line = fault_of (λ (l : Line g.row.E-Client.Denot g.row.E-ServiceWire.Denot). g.E.Client.Service.fault l.side) in (
+    let of_line = fault_of (λ (l : ServiceEnd g.row.E-Client.Denot g.row.E-ServiceWire.Denot). g.E.Client.Service.fault l.side) in (
       ap g.E.Reader.Source.fault a.kept.0 ∙ by_side c.args.side (λ side. g.E.Reader.Source.fault mid.ends.source ≡ None)
           (λ s. (p.source s).sound n) (λ s. ap g.E.Reader.Source.fault (p.apart_service s).0 ∙ f.0) (λ s. ap g.E.Reader.Source.fault (p.apart_next s).0 ∙ f.0),
       λ b. ap of_line a.kept.2 ∙ (

@@ -3,4 +3,4 @@ use Rattle.icap_client.proofs.options.OptionsSide.turn_once.Goals as goal
 
 pub returns-clause-asks : goal.returns-clause-asks
 returns-clause-asks g c =
-    asks_let_go c.args.self.now c.try_turn-result.new.self c.give_back.new.self (g.W.Wire.past c.args.wire.now) (g.W.Wire.past c.try_turn-result.new.wire) c.try_turn-result.result c.give_back.ensures c.try_turn-result.ensures.asks
+    asks_let_go c.args.self.now c.try_turn-result.new.self c.free_memory.new.self (g.W.Wire.past c.args.wire.now) (g.W.Wire.past c.try_turn-result.new.wire) c.try_turn-result.result c.free_memory.ensures c.try_turn-result.ensures.asks

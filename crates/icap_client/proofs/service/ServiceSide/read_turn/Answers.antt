@@ -6,7 +6,7 @@ use Rattle.adapt_sides.specs.declared.turn.Turn.{Turn}
 use Rattle.adapt_sides.specs.declared.fault.ClientFault.{ClientFault}
 use Rattle.icap_client.specs.Events.{after_all}
 use Rattle.icap_client.specs.HeadFront.{HasToWait}
-use Rattle.icap_client.specs.Reading.{Side, SideHeard, NothingToRead}
+use Rattle.icap_client.specs.Reading.{ReadSide, SideHeard, NothingToRead}
 use Rattle.icap_client.specs.Turns.{Service, Hears, is_answered, is_flushed}
 use Rattle.icap_client.proofs.LetGo.{flushed_still}
 use Rattle.icap_client.proofs.Both.{hears_all}
@@ -29,7 +29,7 @@ returns-in-Ok-clause-hears g c =
     ∙ ap (λ (es : List Event). is_answered (after_all y es)) slice) in
     let flushed : c.flushed-all_sent.result ≡ is_flushed new.writer = c.flushed-all_sent.ensures ∙ sym (flushed_still c.self.inside.writer new.writer c.let_go.ensures.writer) in
     hears_marked y c.args.self.now new c.args.self.now.replies.fault new.replies.fault (NothingToRead y (is_flushed new.writer) room new.replies.reader.stage) (HasToWait new.replies.reader.stage new.replies.raw room) P Q c.read_turn.new.out result (λ e. c.let_go.ensures.answered ∙ mark)
-    (subst (λ (s : Side). Hears y (λ x adapted read. SideHeard x adapted read c.args.self.now.replies) (λ x adapted read. SideHeard x adapted read s) c.args.self.now.replies.fault s.fault (NothingToRead y (is_flushed new.writer) room s.reader.stage) (HasToWait s.reader.stage s.raw room)
+    (subst (λ (s : ReadSide). Hears y (λ x adapted read. SideHeard x adapted read c.args.self.now.replies) (λ x adapted read. SideHeard x adapted read s) c.args.self.now.replies.fault s.fault (NothingToRead y (is_flushed new.writer) room s.reader.stage) (HasToWait s.reader.stage s.raw room)
     P Q c.read_turn.new.out result) (sym c.let_go.ensures.replies)
     (subst (λ (b : Bool). Hears y (λ x adapted read. SideHeard x adapted read c.args.self.now.replies) (λ x adapted read. SideHeard x adapted read side) c.args.self.now.replies.fault side.fault (NothingToRead y b room side.reader.stage) (HasToWait side.reader.stage side.raw room)
     P Q c.read_turn.new.out result) flushed

@@ -5,7 +5,7 @@ use Rattle.icap_client.specs.Heard.{Reader}
 use Rattle.icap_client.specs.Refused.{Refuses}
 use Rattle.icap_client.specs.Hearing.{ReaderHears, MustWait}
 use Rattle.icap_client.specs.declared.stage.Stage.{Stage}
-use Rattle.icap_client.specs.Reading.{Side}
+use Rattle.icap_client.specs.Reading.{ReadSide}
 use Rattle.icap_client.proofs.Sides.{framed, has_to_wait, refuses_still}
 use Rattle.icap_client.proofs.side.ReplySide.frame_raw.Goals as goal
 
@@ -16,7 +16,7 @@ returns-in-Ok-clause-hears c =
     let events = c.in-Ok.heard.events.items in
     let used = c.in-Ok.heard.used in
     let raw_is : c.as_slice.result.now ≡ old.raw = search rules in
-    let reader_is : c.self.inside.reader ≡ old.reader = ap (λ (s : Side). s.reader) c.self.view_is in
+    let reader_is : c.self.inside.reader ≡ old.reader = ap (λ (s : ReadSide). s.reader) c.self.view_is in
     let rest : c.pass.new.self.bytes ≡ drop used old.raw = search rules in
     framed x old _ events used c.frame.new.out
     (subst (λ (r : Reader). ReaderHears x r c.frame.new.self events (take used old.raw) (take (ad_sum events) c.frame.new.out)) reader_is

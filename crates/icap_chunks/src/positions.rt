@@ -10,7 +10,7 @@ use adapt_bytes::{COUNT_LIMIT, is_blank};
 
 /// The position of the next byte in a chunked body.
 #[derive(Clone, Copy, Debug, PartialEq, Eq)]
-pub enum Place {
+pub enum Position {
     /// In the digits of a size line, or at its start: the bytes of the line so far, and the size so far.
     Digits(u16, u64),
     /// In the blanks after the digits.
@@ -58,146 +58,146 @@ pub(crate) fn size_with(size: u64, digit: u64) -> Option<u64>
 }
 
 #[tactic(auto, unfolding(crate::specs::Machine::in_digits))]
-pub(crate) fn in_digits(count: u16, size: u64, byte: u8) -> Place
+pub(crate) fn in_digits(count: u16, size: u64, byte: u8) -> Position
     ensures { result ≡ in_digits count size byte }
 {
     if byte == b'\r' {
         return if count == 0 {
-            Place::Faulted(ChunkFault::Size)
+            Position::Faulted(ChunkFault::Size)
         } else {
-            Place::LineCr(size, false)
+            Position::LineCr(size, false)
         };
     }
     if byte == b'\n' || count >= MAX_LINE {
-        return Place::Faulted(ChunkFault::Line);
+        return Position::Faulted(ChunkFault::Line);
     }
     if let Some(digit) = (byte as char).to_digit(16) {
         return match size_with(size, u64::from(digit)) {
-            Some(size) => Place::Digits(count + 1, size),
-            None => Place::Faulted(ChunkFault::TooBig),
+            Some(size) => Position::Digits(count + 1, size),
+            None => Position::Faulted(ChunkFault::TooBig),
         };
     }
     if count == 0 {
-        Place::Faulted(ChunkFault::Size)
+        Position::Faulted(ChunkFault::Size)
     } else if is_blank(byte) {
-        Place::Pad(count + 1, size)
+        Position::Pad(count + 1, size)
     } else if byte == b';' {
-        Place::Extension(count + 1, size, Item::Blank, false)
+        Position::Extension(count + 1, size, Item::Blank, false)
     } else {
-        Place::Faulted(ChunkFault::Size)
+        Position::Faulted(ChunkFault::Size)
     }
 }
 
 #[tactic(auto, unfolding(crate::specs::Machine::in_pad))]
-pub(crate) fn in_pad(count: u16, size: u64, byte: u8) -> Place
+pub(crate) fn in_pad(count: u16, size: u64, byte: u8) -> Position
     ensures { result ≡ in_pad count size byte }
 {
     if byte == b'\r' {
-        Place::LineCr(size, false)
+        Position::LineCr(size, false)
     } else if byte == b'\n' || count >= MAX_LINE {
-        Place::Faulted(ChunkFault::Line)
+        Position::Faulted(ChunkFault::Line)
     } else if is_blank(byte) {
-        Place::Pad(count + 1, size)
+        Position::Pad(count + 1, size)
     } else if byte == b';' {
-        Place::Extension(count + 1, size, Item::Blank, false)
+        Position::Extension(count + 1, size, Item::Blank, false)
     } else {
-        Place::Faulted(ChunkFault::Size)
+        Position::Faulted(ChunkFault::Size)
     }
 }
 
 #[tactic(auto, unfolding(crate::specs::Machine::in_extension))]
-pub(crate) fn in_extension(count: u16, size: u64, item: Item, found: bool, byte: u8) -> Place
+pub(crate) fn in_extension(count: u16, size: u64, item: Item, found: bool, byte: u8) -> Position
     ensures { result ≡ in_extension count size item found byte }
 {
     let found_here = found || item.is_word();
     if byte == b'\r' {
-        Place::LineCr(size, found_here)
+        Position::LineCr(size, found_here)
     } else if byte == b'\n' || count >= MAX_LINE {
-        Place::Faulted(ChunkFault::Line)
+        Position::Faulted(ChunkFault::Line)
     } else if byte == b';' {
-        Place::Extension(count + 1, size, Item::Blank, found_here)
+        Position::Extension(count + 1, size, Item::Blank, found_here)
     } else {
-        Place::Extension(count + 1, size, item.with(byte), found)
+        Position::Extension(count + 1, size, item.with(byte), found)
     }
 }
 
 #[tactic(auto, unfolding(crate::specs::Machine::in_data))]
-pub(crate) fn in_data(more: u64) -> Place
+pub(crate) fn in_data(more: u64) -> Position
     ensures { result ≡ in_data more }
 {
     if more > 0 {
-        Place::Data(more - 1)
+        Position::Data(more - 1)
     } else {
-        Place::DataEnd
+        Position::DataEnd
     }
 }
 
 #[tactic(auto, unfolding(crate::specs::Machine::in_data_end))]
-pub(crate) fn in_data_end(byte: u8) -> Place
+pub(crate) fn in_data_end(byte: u8) -> Position
     ensures { result ≡ in_data_end byte }
 {
     if byte == b'\r' {
-        Place::DataCr
+        Position::DataCr
     } else {
-        Place::Faulted(ChunkFault::Break)
+        Position::Faulted(ChunkFault::Break)
     }
 }
 
 #[tactic(auto, unfolding(crate::specs::Machine::in_data_cr))]
-pub(crate) fn in_data_cr(byte: u8) -> Place
+pub(crate) fn in_data_cr(byte: u8) -> Position
     ensures { result ≡ in_data_cr byte }
 {
     if byte == b'\n' {
-        Place::Digits(0, 0)
+        Position::Digits(0, 0)
     } else {
-        Place::Faulted(ChunkFault::Break)
+        Position::Faulted(ChunkFault::Break)
     }
 }
 
 #[tactic(auto, unfolding(crate::specs::Machine::in_trailer_start))]
-pub(crate) fn in_trailer_start(count: u16, ieof: bool, byte: u8) -> Place
+pub(crate) fn in_trailer_start(count: u16, ieof: bool, byte: u8) -> Position
     ensures { result ≡ in_trailer_start count ieof byte }
 {
     if byte == b'\n' || count >= MAX_TRAILERS {
-        Place::Faulted(ChunkFault::Trailers)
+        Position::Faulted(ChunkFault::Trailers)
     } else if byte == b'\r' {
-        Place::LastCr(count + 1, ieof)
+        Position::LastCr(count + 1, ieof)
     } else {
-        Place::Trailer(count + 1, ieof)
+        Position::Trailer(count + 1, ieof)
     }
 }
 
 #[tactic(auto, unfolding(crate::specs::Machine::in_trailer))]
-pub(crate) fn in_trailer(count: u16, ieof: bool, byte: u8) -> Place
+pub(crate) fn in_trailer(count: u16, ieof: bool, byte: u8) -> Position
     ensures { result ≡ in_trailer count ieof byte }
 {
     if byte == b'\n' || count >= MAX_TRAILERS {
-        Place::Faulted(ChunkFault::Trailers)
+        Position::Faulted(ChunkFault::Trailers)
     } else if byte == b'\r' {
-        Place::TrailerCr(count + 1, ieof)
+        Position::TrailerCr(count + 1, ieof)
     } else {
-        Place::Trailer(count + 1, ieof)
+        Position::Trailer(count + 1, ieof)
     }
 }
 
 #[tactic(auto, unfolding(crate::specs::Machine::in_trailer_cr))]
-pub(crate) fn in_trailer_cr(count: u16, ieof: bool, byte: u8) -> Place
+pub(crate) fn in_trailer_cr(count: u16, ieof: bool, byte: u8) -> Position
     ensures { result ≡ in_trailer_cr count ieof byte }
 {
     if byte == b'\n' && count < MAX_TRAILERS {
-        Place::TrailerStart(count + 1, ieof)
+        Position::TrailerStart(count + 1, ieof)
     } else {
-        Place::Faulted(ChunkFault::Trailers)
+        Position::Faulted(ChunkFault::Trailers)
     }
 }
 
 #[tactic(auto, unfolding(crate::specs::Machine::in_last_cr))]
-pub(crate) fn in_last_cr(count: u16, ieof: bool, byte: u8) -> Place
+pub(crate) fn in_last_cr(count: u16, ieof: bool, byte: u8) -> Position
     ensures { result ≡ in_last_cr count ieof byte }
 {
     if byte == b'\n' && count < MAX_TRAILERS {
-        Place::Ended(ieof)
+        Position::Ended(ieof)
     } else {
-        Place::Faulted(ChunkFault::Trailers)
+        Position::Faulted(ChunkFault::Trailers)
     }
 }

@@ -11,7 +11,7 @@ use Rattle.http_relay.specs.Giving.{Hop, BreaksLength, is_message, is_whole, sta
 use Rattle.http_relay.specs.declared.hop.Stage.{Stage}
 use Rattle.http_relay.proofs.Carried.{may_go_on}
 use Rattle.http_relay.proofs.Answering.{turned, turned_let_go, unmoved, faulted, still_wait, still_fault, no_delta_wait, no_delta_fault, no_delta_none, settles_still, settles_by, took_some, none_still, fits_took, fits_wait, fits_none, idle_events, decides_at}
-use Rattle.http_relay.proofs.hop.NextHop.write_turn.Goals as goal
+use Rattle.http_relay.proofs.hop.HopWriter.write_turn.Goals as goal
 
 pub returns-in-Some-clause-turn : goal.returns-in-Some-clause-turn
 returns-in-Some-clause-turn g c =
@@ -64,7 +64,7 @@ returns-in-Some-Wait-clause-turn g c =
     let te = ap (λ (h : Hop). h.touched) c.self.view_is in
     let answer : wrote.answer ≡ Some put.Wait = search rules in
     let still = still_wait wrote.answer wrote.sent wrote.ended answer o.still in
-    turned_let_go x tape c.args.self.now _ c.let_go.new.self _ _ (Ok c.turn_of.result) c.let_go.ensures.still
+    turned_let_go x tape c.args.self.now _ c.drop_text.new.self _ _ (Ok c.turn_of.result) c.drop_text.ensures.still
     (turned x tape next c.args.self.now _ in'.writer in'.framing in'.stage _ _ (Ok c.turn_of.result) wrote.answer wrote.sent wrote.ended false we fe se
     (sound c.args.state.now.plan c.args.state.now.events c.trace.ensures.legal) c.requires c.in-Some-decide.ensures.next o.wire o.silent o.asks o.moves
     (settles_still x next c.args.self.now _ wrote.sent wrote.ended (delta_of text wrote.answer) still (no_delta_wait wrote.answer text answer) fe se te)
@@ -81,19 +81,19 @@ returns-in-Some-Took-clause-turn g c =
     let text = offered in'.writer tape next in
     let o = c.write-wrote.ensures in
     let turn = c.turn_of-in-Some-Took in
-    let done = c.settle-done.result in
-    let e = c.settle-done.ensures in
+    let done = c.count_written-done.result in
+    let e = c.count_written-done.ensures in
     let we = ap (λ (h : Hop). h.writer) c.self.view_is in
     let fe = ap (λ (h : Hop). h.framing) c.self.view_is in
     let se = ap (λ (h : Hop). h.stage) c.self.view_is in
     let answer : wrote.answer ≡ Some (put.Took c.in-Some-Took.field-0-0) = search rules in
-    turned_let_go x tape c.args.self.now c.settle-done.new.self c.let_go-in-Some-Took.new.self _ _ (Ok turn.result) c.let_go-in-Some-Took.ensures.still
-    (turned x tape next c.args.self.now c.settle-done.new.self in'.writer in'.framing in'.stage _ _ (Ok turn.result) wrote.answer wrote.sent wrote.ended done we fe se
+    turned_let_go x tape c.args.self.now c.count_written-done.new.self c.drop_text-in-Some-Took.new.self _ _ (Ok turn.result) c.drop_text-in-Some-Took.ensures.still
+    (turned x tape next c.args.self.now c.count_written-done.new.self in'.writer in'.framing in'.stage _ _ (Ok turn.result) wrote.answer wrote.sent wrote.ended done we fe se
     (sound c.args.state.now.plan c.args.state.now.events c.trace.ensures.legal) c.requires c.in-Some-decide.ensures.next o.wire o.silent o.asks
     (subst (λ (v : Writer). Moves tape next in'.writer wrote.sent wrote.ended (delta_of text wrote.answer) v) (sym (ap (λ (h : Hop). h.writer) e.stage)) o.moves)
-    (settles_by x next c.args.self.now c.settle-done.new.self c.write-wrote.new.self in'.framing in'.stage true in'.fault wrote.sent wrote.sent wrote.ended done c.sendable-may.result.done (delta_of text wrote.answer)
+    (settles_by x next c.args.self.now c.count_written-done.new.self c.write-wrote.new.self in'.framing in'.stage true in'.fault wrote.sent wrote.sent wrote.ended done c.sendable-may.result.done (delta_of text wrote.answer)
     e.stage fe se (λ u. cc) (λ u. inr (took_some text wrote.answer c.in-Some-Took.field-0-0 answer o.wire.fits)) e.done c.sendable-may.ensures.done.0 (λ z. z))
-    turn.ensures.events (λ no. fits_took x c.settle-done.new.self wrote.answer c.in-Some-Took.field-0-0 turn.result answer (λ h. (turn.ensures.waits h).1)))
+    turn.ensures.events (λ no. fits_took x c.count_written-done.new.self wrote.answer c.in-Some-Took.field-0-0 turn.result answer (λ h. (turn.ensures.waits h).1)))
 
 pub returns-in-None-answer-clause-turn : goal.returns-in-None-answer-clause-turn
 returns-in-None-answer-clause-turn g c =
@@ -105,7 +105,7 @@ returns-in-None-answer-clause-turn g c =
     let text = offered in'.writer tape next in
     let o = c.write-wrote.ensures in
     let turn = c.turn_of-in-None-answer in
-    let settle = c.settle-done-in-None-answer in
+    let settle = c.count_written-done-in-None-answer in
     let done = settle.result in
     let e = settle.ensures in
     let we = ap (λ (h : Hop). h.writer) c.self.view_is in
@@ -116,7 +116,7 @@ returns-in-None-answer-clause-turn g c =
     let idle = o.idle answer in
     let s = sound c.args.state.now.plan c.args.state.now.events c.trace.ensures.legal in
     let may = c.sendable-may.ensures.done in
-    turned_let_go x tape c.args.self.now settle.new.self c.let_go-in-None-answer.new.self _ _ (Ok turn.result) c.let_go-in-None-answer.ensures.still
+    turned_let_go x tape c.args.self.now settle.new.self c.drop_text-in-None-answer.new.self _ _ (Ok turn.result) c.drop_text-in-None-answer.ensures.still
     (turned x tape next c.args.self.now settle.new.self in'.writer in'.framing in'.stage _ _ (Ok turn.result) wrote.answer wrote.sent wrote.ended done we fe se
     s c.requires c.in-Some-decide.ensures.next o.wire o.silent o.asks
     (subst (λ (v : Writer). Moves tape next in'.writer wrote.sent wrote.ended (delta_of text wrote.answer) v) (sym (ap (λ (h : Hop). h.writer) e.stage)) o.moves)

@@ -2,7 +2,7 @@ use Rattle.adapt_hold.specs.Holding.{shows}
 use Rattle.adapt_turn.specs.Made.{IsMade, OfHead, WholeOf}
 use Rattle.adapt_turn.specs.Stands.{Stands, HopsAre, IsRefusing, IsDelivered}
 use Rattle.adapt_turn.proofs.Freeing.{freed}
-use Rattle.adapt_turn.proofs.tx.Tx.free_line.Goals as goal
+use Rattle.adapt_turn.proofs.tx.Tx.freed_connection.Goals as goal
 
 pub returns-clause-stands : goal.returns-clause-stands
 returns-clause-stands g c = λ request t s.

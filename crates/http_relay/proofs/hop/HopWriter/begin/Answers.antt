@@ -1,7 +1,7 @@
 use Rattle.std.proofs.Common.{ap}
 use Rattle.http_relay.specs.Giving.{Hop}
 use Rattle.http_relay.specs.Keeping.{begun}
-use Rattle.http_relay.proofs.hop.NextHop.begin.Goals as goal
+use Rattle.http_relay.proofs.hop.HopWriter.begin.Goals as goal
 
 pub returns-clause-given : goal.returns-clause-given
 returns-clause-given c = λ x none body taken h.

@@ -1,7 +1,7 @@
 use Rattle.std.proofs.Common.{◌≡◌, [], rules}
 use Rattle.chunk_writer.specs.Writer.{fresh}
 use Rattle.http_relay.specs.Keeping.{hop_begins, hop_aside}
-use Rattle.http_relay.proofs.hop.NextHop.new.Goals as goal
+use Rattle.http_relay.proofs.hop.HopWriter.new.Goals as goal
 
 pub returns-clause-given : goal.returns-clause-given
 returns-clause-given c = λ x head body u.

@@ -1,7 +1,7 @@
 -- The methods' names in a request line (RFC 3507, section 4.3.2).
 use Rattle.std.specs.Prelude.{◌≢◌, ℕ, List, codes}
-use Rattle.encapsulated.specs.declared.message.Method.{Method}
-use Rattle.encapsulated.specs.declared.message.Method.TheVariants.{Reqmod, Respmod, Options}
+use Rattle.adapt_bytes.specs.declared.method.Method.{Method}
+use Rattle.adapt_bytes.specs.declared.method.Method.TheVariants.{Reqmod, Respmod, Options}
 
 abbrev pub method_name : Method → List ℕ
 method_name Reqmod = codes "REQMOD"

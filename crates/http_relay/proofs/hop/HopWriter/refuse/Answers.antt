@@ -3,7 +3,7 @@ use Rattle.chunk_writer.specs.Writer.{fresh}
 use Rattle.http_side.specs.Refusals.{refusal}
 use Rattle.http_relay.specs.Giving.{Hop}
 use Rattle.http_relay.specs.Keeping.{refused}
-use Rattle.http_relay.proofs.hop.NextHop.refuse.Goals as goal
+use Rattle.http_relay.proofs.hop.HopWriter.refuse.Goals as goal
 
 pub returns-clause-aside : goal.returns-clause-aside
 returns-clause-aside c =
