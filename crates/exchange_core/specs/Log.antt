@@ -277,10 +277,6 @@ is_parting _ = false
 abbrev pub KeepsTo : Why → Place → Type 0
 KeepsTo why place = (place ≡ Refusing why) ⊎ (is_silent place ≡ true)
 
--- a connection or a reservation comes or goes with it
-abbrev pub carries : Event → Bool
-carries event = is_lent event || (is_reserved event || (is_dialed event || is_freeing event))
-
 -- Several connections, a log of each.
 
 abbrev pub AreLegal : List (List Event) → Type 0
