@@ -82,7 +82,8 @@ pub enum Event {
     Sent,
     /// The user has the whole answer, and whether its connection serves further requests.
     Answered { keeps: bool },
-    /// The message, or the connection before it, goes no further.
+    /// The message, or the connection before it, goes no further: a side of it failed, no byte moved for too long, or what it needs
+    /// can't be had, as where no connection of the service came free in time.
     Failed(Why),
     /// The service's connection was put back, or was closed and its lease given up.
     Returned { kept: bool },
@@ -94,12 +95,13 @@ pub enum Event {
     Refused,
     /// The user has closed after all that was said.
     UserClosed,
-    /// The user's connection has failed, or ended where more was to come.
+    /// The user's connection has failed, or ended where more was to come, or its seat went to another user.
     UserLost,
-    /// The proxy closed the user's connection at once: its seat went to another user, or only so does the user see that its
+    /// The proxy closed the user's connection at once: it drains and the user says nothing, or only so does the user see that its
     /// answer isn't whole.
     Dropped,
-    /// No byte moved for too long, or no connection of the service came free in time.
+    /// No byte moved for too long. The proxy tells it of a user that sends no head, takes no refusal, or doesn't close. Of a message
+    /// that waits it tells `Failed` instead.
     Late,
     /// The proxy drains: an answer that is begun from now on is the last one of its connection.
     Drain,
