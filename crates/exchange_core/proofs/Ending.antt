@@ -2,46 +2,56 @@
 use Rattle.std.proofs.Common.{◌≡◌, ℕ, ◌+◌, ◌≤◌, Bool, true, false, List, [], ◌∷◌, ◌++◌, length, refl, ◌∙◌, arith}
 use Rattle.std.proofs.lemmas.Bool.Decides.{nat_tests}
 use Rattle.exchange_core.specs.declared.event.Event.{Event}
-use Rattle.exchange_core.specs.declared.event.Event.TheVariants.{UserLost, Stop}
+use Rattle.exchange_core.specs.declared.event.Event.TheVariants.{Failed, UserLost, Late, Stop}
+use Rattle.exchange_core.specs.declared.event.Why.TheVariants.{Deadline}
 use Rattle.exchange_core.specs.declared.course.Course.{Course}
 use Rattle.exchange_core.specs.declared.place.Place.{Place}
+use Rattle.exchange_core.specs.declared.place.Place.TheVariants.{Gone}
 use Rattle.exchange_core.specs.Course.{after}
 use Rattle.exchange_core.specs.May.{may_come, is_refusing, is_gone}
-use Rattle.exchange_core.specs.Log.{course_of, IsLegal, AllAre, count, one_if, is_late, is_quiet, is_last, is_freeing, is_stop, stands, never, deadlines_from, held_by}
+use Rattle.exchange_core.specs.Dues.{due_of, is_wait, is_for_leave}
+use Rattle.exchange_core.specs.Log.{course_of, IsLegal, AllAre, count, one_if, is_failing, is_quiet, is_last, is_freeing, is_stop, stands, never, failures_from, held_by}
 use Rattle.exchange_core.proofs.Sound.{Sound, sound}
 use Rattle.exchange_core.proofs.Marks.{stopping_stands}
 
-late_step : (c : Course) (event : Event) → may_come c event ≡ true → is_quiet event ≡ true
-    → one_if (is_late event) + deadlines_from (after c event).place ≤ deadlines_from c.place
-late_step c event m q = grind (arith, nat_tests)
+-- one event or the other says that a deadline passed
+pub late_fails : (c : Course) → is_wait (due_of c) ≡ true → is_for_leave (due_of c) ≡ false → after c Late ≡ after c (Failed Deadline)
+late_fails c w l = grind (arith, nat_tests)
+
+pub late_lets_go : (c : Course) → is_for_leave (due_of c) ≡ true → (after c Late).place ≡ Gone
+late_lets_go c l = grind (arith, nat_tests)
+
+failing_step : (c : Course) (event : Event) → may_come c event ≡ true → is_quiet event ≡ true
+    → one_if (is_failing event) + failures_from (after c event).place ≤ failures_from c.place
+failing_step c event m q = grind (arith, nat_tests)
 
 free_step : (c : Course) (event : Event) → may_come c event ≡ true → is_quiet event ≡ true
-    → 1 + held_by (after c event) ≤ one_if (is_late event) + held_by c
+    → 1 + held_by (after c event) ≤ one_if (is_failing event) + held_by c
 free_step c event m q = grind (arith, nat_tests)
 
-pub deadlines_fall : (more events : List Event) → IsLegal (more ++ events) → AllAre is_quiet more
-    → count is_late more + deadlines_from (course_of (more ++ events)).place ≤ deadlines_from (course_of events).place
-deadlines_fall [] events l q = omega arith
-deadlines_fall (event ∷ more) events l q =
-    omega (arith, late_step (course_of (more ++ events)) event l.0 q.0, deadlines_fall more events l.1 q.1)
+pub failures_fall : (more events : List Event) → IsLegal (more ++ events) → AllAre is_quiet more
+    → count is_failing more + failures_from (course_of (more ++ events)).place ≤ failures_from (course_of events).place
+failures_fall [] events l q = omega arith
+failures_fall (event ∷ more) events l q =
+    omega (arith, failing_step (course_of (more ++ events)) event l.0 q.0, failures_fall more events l.1 q.1)
 
 frees : (more events : List Event) → IsLegal (more ++ events) → AllAre is_quiet more
-    → length more + held_by (course_of (more ++ events)) ≤ count is_late more + held_by (course_of events)
+    → length more + held_by (course_of (more ++ events)) ≤ count is_failing more + held_by (course_of events)
 frees [] events l q = omega arith
 frees (event ∷ more) events l q =
     omega (arith, free_step (course_of (more ++ events)) event l.0 q.0, frees more events l.1 q.1)
 
-two : (place : Place) → deadlines_from place ≤ 2
+two : (place : Place) → failures_from place ≤ 2
 two place = grind (arith, nat_tests)
 
 three : (c : Course) → held_by c ≤ 3
 three c = grind (arith, nat_tests)
 
-pub few_deadlines : (more events : List Event) → IsLegal (more ++ events) → AllAre is_quiet more → count is_late more ≤ 2
-few_deadlines more events l q = omega (arith, deadlines_fall more events l q, two (course_of events).place)
+pub few_failures : (more events : List Event) → IsLegal (more ++ events) → AllAre is_quiet more → count is_failing more ≤ 2
+few_failures more events l q = omega (arith, failures_fall more events l q, two (course_of events).place)
 
 pub few_quiet : (more events : List Event) → IsLegal (more ++ events) → AllAre is_quiet more → length more ≤ 5
-few_quiet more events l q = omega (arith, few_deadlines more events l q, frees more events l q, three (course_of events))
+few_quiet more events l q = omega (arith, few_failures more events l q, frees more events l q, three (course_of events))
 
 -- what is left once the proxy stops
 abbrev left : Course → ℕ

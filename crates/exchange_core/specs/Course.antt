@@ -150,11 +150,11 @@ is_mid_text c = c.begun || c.half_told
 abbrev pub place_when_failed : Course → Why → Place
 place_when_failed c why = if is_mid_text c then Closing else Refusing why
 
--- a message that doesn't move has failed, and so has one whose turn in the queue didn't come; a user that sends no head, or takes
--- no refusal, is let go
+-- a message that doesn't move has failed, and so has one that waits for a connection; a user that sends no head, or takes no
+-- refusal, is let go
 abbrev pub late_from : Place → Course → Place
 late_from (Asking point) c = place_when_failed c whys.Deadline
-late_from (InQueue point) c = place_when_failed c whys.Scarce
+late_from (InQueue point) c = place_when_failed c whys.Deadline
 late_from Telling c = place_when_failed c whys.Deadline
 late_from (Moving point offered) c = place_when_failed c whys.Deadline
 late_from Answer c = place_when_failed c whys.Deadline

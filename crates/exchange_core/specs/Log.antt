@@ -1,10 +1,10 @@
 -- A log is the list of the events that happened to a user's connection, the newest first.
 use Rattle.std.specs.Prelude.{◌≡◌, ◌⊎◌, ℕ, ◌+◌, Bool, true, false, not, ◌&&◌, ◌||◌, ⊤, List, [], ◌∷◌, if◌then◌else◌}
 use Rattle.exchange_core.specs.declared.event.Event.{Event}
-use Rattle.exchange_core.specs.declared.event.Event.TheVariants.{RequestRead, ResponseRead, Lent, Asked, Learned, Reserved, HalfTold, Told, Dialed, LetPass, Served, Begun, Sent, Answered, Returned, Released, HungUp, Refused, UserClosed, UserLost, Dropped, Late, Drain, Stop, Tried}
+use Rattle.exchange_core.specs.declared.event.Event.TheVariants.{RequestRead, ResponseRead, Lent, Asked, Learned, Reserved, HalfTold, Told, Dialed, LetPass, Served, Begun, Sent, Answered, Failed, Returned, Released, HungUp, Refused, UserClosed, UserLost, Dropped, Late, Drain, Stop, Tried}
 use Rattle.exchange_core.specs.declared.event.Why.{Why}
 use Rattle.exchange_core.specs.declared.place.Place.{Place}
-use Rattle.exchange_core.specs.declared.place.Place.TheVariants.{Asking, InQueue, Telling, Moving, Answer, Refusing, Closing, Gone}
+use Rattle.exchange_core.specs.declared.place.Place.TheVariants.{Refusing, Closing, Gone}
 use Rattle.exchange_core.specs.declared.course.Course.{Course}
 use Rattle.exchange_core.specs.Course.{start, after, is_leased, closes_after}
 use Rattle.exchange_core.specs.May.{may_come}
@@ -124,17 +124,19 @@ is_drain _ = false
 abbrev pub never : Event → Bool
 never event = false
 
-abbrev pub is_late : Event → Bool
-is_late Late = true
-is_late _ = false
+-- a deadline passed, or the message goes no further
+abbrev pub is_failing : Event → Bool
+is_failing Late = true
+is_failing (Failed why) = true
+is_failing _ = false
 
 -- what was held went back
 abbrev pub is_freeing : Event → Bool
 is_freeing event = is_returned event || (is_released event || is_hung_up event)
 
--- nothing moved: a deadline passed, or what was held went back
+-- nothing moved: a deadline passed, the message failed, or what was held went back
 abbrev pub is_quiet : Event → Bool
-is_quiet event = is_late event || is_freeing event
+is_quiet event = is_failing event || is_freeing event
 
 abbrev pub is_tried : Event → Bool
 is_tried Tried = true
@@ -222,15 +224,12 @@ is_silent Closing = true
 is_silent Gone = true
 is_silent _ = false
 
--- how many deadlines may pass there before the user's connection is over
-abbrev pub deadlines_from : Place → ℕ
-deadlines_from (Asking point) = 2
-deadlines_from (InQueue point) = 2
-deadlines_from Telling = 2
-deadlines_from (Moving point offered) = 2
-deadlines_from Answer = 2
-deadlines_from Gone = 0
-deadlines_from _ = 1
+-- how many deadlines and failures may come there before the user's connection is over
+abbrev pub failures_from : Place → ℕ
+failures_from (Refusing why) = 1
+failures_from Closing = 1
+failures_from Gone = 0
+failures_from _ = 2
 
 -- how much is held
 abbrev pub held_by : Course → ℕ

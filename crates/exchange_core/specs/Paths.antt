@@ -43,7 +43,8 @@ renewed_twice = reverse (
 abbrev pub waited : List Event
 waited = reverse (
     RequestRead ∷ Planned true false ∷ Queued ∷ Lent true ∷ Planned true false ∷ Reserved ∷ Dialed ∷ Started ∷ LetPass
-    ∷ Served false ∷ Returned false ∷ Sent ∷ Released ∷ ResponseRead ∷ Stale ∷ Queued ∷ Late ∷ HungUp ∷ Refused ∷ UserClosed ∷ [])
+    ∷ Served false ∷ Returned false ∷ Sent ∷ Released ∷ ResponseRead ∷ Stale ∷ Queued ∷ Failed whys.Scarce
+    ∷ HungUp ∷ Refused ∷ UserClosed ∷ [])
 
 -- no room for the request: what was leased for it goes back before the refusal is out
 abbrev pub refused : List Event
@@ -58,8 +59,8 @@ cut = reverse (
 -- a service says nothing, and the user doesn't take the refusal
 abbrev pub late : List Event
 late = reverse (
-    RequestRead ∷ Planned true false ∷ Lent false ∷ Reserved ∷ Dialed ∷ Started ∷ LetPass ∷ Late ∷ Late ∷ Returned false ∷ Released
-    ∷ HungUp ∷ [])
+    RequestRead ∷ Planned true false ∷ Lent false ∷ Reserved ∷ Dialed ∷ Started ∷ LetPass ∷ Failed whys.Deadline ∷ Returned false
+    ∷ Released ∷ HungUp ∷ Late ∷ [])
 
 -- the proxy drains while a request goes on, whose answer would keep the connection
 abbrev pub drained : List Event

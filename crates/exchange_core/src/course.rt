@@ -73,15 +73,17 @@ impl Course {
         }
     }
 
-    /// Where a deadline leads.
+    /// Where a deadline leads. A message that waits fails: `Failed(Why::Deadline)`, which the proxy tells there, leads to the same
+    /// place. Any other user is let go.
     fn place_when_late(self) -> Place
         ensures { result ≡ place_when_late self }
     {
         match self.place {
-            Place::InQueue { .. } => self.place_when_failed(Why::Scarce),
-            Place::Asking { .. } | Place::Telling | Place::Answer | Place::Moving { .. } => {
-                self.place_when_failed(Why::Deadline)
-            }
+            Place::Asking { .. }
+            | Place::InQueue { .. }
+            | Place::Telling
+            | Place::Answer
+            | Place::Moving { .. } => self.place_when_failed(Why::Deadline),
             _ => Place::Gone,
         }
     }

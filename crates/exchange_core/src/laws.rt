@@ -2,16 +2,17 @@
 
 ghost use Rattle.std.specs.Prelude.{◌≡◌, ◌≤◌, ◌+◌, ◌*◌, ◌↔◌, ◌||◌, Bool, true, false, List, ◌∷◌, ◌++◌, length};
 ghost use Rattle.exchange_core.specs.declared.event.Why.{Why};
+ghost use Rattle.exchange_core.specs.declared.event.Why.TheVariants.{Deadline};
 ghost use Rattle.exchange_core.specs.declared.event.Event.{Event};
-ghost use Rattle.exchange_core.specs.declared.event.Event.TheVariants.{RequestRead, ResponseRead, Told, Started, Begun, Answered, Returned, UserLost, Late, Drain, Stop};
+ghost use Rattle.exchange_core.specs.declared.event.Event.TheVariants.{RequestRead, ResponseRead, Told, Started, Begun, Answered, Failed, Returned, UserLost, Late, Drain, Stop};
 ghost use Rattle.exchange_core.specs.declared.course.Course.{Course};
 ghost use Rattle.exchange_core.specs.declared.place.Place.TheVariants.{Refusing, Closing, Gone};
 ghost use Rattle.exchange_core.specs.declared.due.Due.TheVariants.{Nothing};
-ghost use Rattle.exchange_core.specs.Course.{is_leased, is_ready, is_offered, point_of};
+ghost use Rattle.exchange_core.specs.Course.{after, is_leased, is_ready, is_offered, point_of};
 ghost use Rattle.exchange_core.specs.May.{may_come, is_in_queue, is_moving, is_refusing, is_gone, is_free, is_request, holds_nothing, waits_of};
-ghost use Rattle.exchange_core.specs.Dues.{due_of, comes_of, fits, is_over, is_wait, is_wait_for_user};
+ghost use Rattle.exchange_core.specs.Dues.{due_of, comes_of, fits, is_over, is_wait, is_wait_for_user, is_for_message, is_for_leave};
 ghost use Rattle.exchange_core.specs.Paths.{plain, adapted, blocked, stuck, renewed_twice, waited, refused, cut, late, drained, left, stopped, turned_away};
-ghost use Rattle.exchange_core.specs.Log.{AreLegal, total, leases_held, stakes_held, course_of, IsLegal, AllAre, count, one_if, is_lent, is_returned, is_reserved, is_released, is_dialed, is_hung_up, is_request_read, is_message_read, is_answered, stands, never, is_pending, is_kept_open, has_request, has_served, has_begun, is_half_out, is_last_answer, is_usable, is_learned, is_begun, is_drain, is_stop, is_let_pass, is_response_read, is_move, is_out, is_told, is_asked, is_refused, is_freeing, is_parting, is_leaving, KeepsTo, is_late, is_quiet, is_last, deadlines_from};
+ghost use Rattle.exchange_core.specs.Log.{AreLegal, total, leases_held, stakes_held, course_of, IsLegal, AllAre, count, one_if, is_lent, is_returned, is_reserved, is_released, is_dialed, is_hung_up, is_request_read, is_message_read, is_answered, stands, never, is_pending, is_kept_open, has_request, has_served, has_begun, is_half_out, is_last_answer, is_usable, is_learned, is_begun, is_drain, is_stop, is_let_pass, is_response_read, is_move, is_out, is_told, is_asked, is_refused, is_freeing, is_parting, is_leaving, KeepsTo, is_failing, is_quiet, is_last, failures_from};
 
 /// Each mark of a course is what the log says: an event that begins it stands, and none that ends it after that.
 pub fn marks_stand_in_the_log()
@@ -109,14 +110,16 @@ pub fn a_connection_in_use_stays()
 {}
 
 /// Something is due until the user's connection is over with nothing held, and what comes of it may come. Where it may have to
-/// wait for somebody else there is a deadline. While the user alone is waited for, nothing is held. While a connection of the
-/// service is waited for, there is no lease and no reservation, and for a request no connection to the origin.
+/// wait for somebody else there is a deadline, and while anything is due for a message it may fail. While the user alone is
+/// waited for, nothing is held. While a connection of the service is waited for, there is no lease and no reservation, and for a
+/// request no connection to the origin.
 pub fn no_exchange_is_forgotten()
     ensures over { (c : Course) → (is_over c ≡ true ↔ due_of c ≡ Nothing) }
     ensures goes_on { (events : List Event) → IsLegal events → is_over (course_of events) ≡ false
         → (event : Event) × (comes_of (due_of (course_of events)) event ≡ true) × (may_come (course_of events) event ≡ true) }
     ensures deadline { (events : List Event) → IsLegal events
         → is_wait (due_of (course_of events)) ≡ true → may_come (course_of events) Late ≡ true }
+    ensures failure { (c : Course) (why : Why) → is_for_message (due_of c) ≡ true → may_come c (Failed why) ≡ true }
     ensures free { (c : Course) → is_wait_for_user (due_of c) ≡ true → holds_nothing c ≡ true }
     ensures queue { (events : List Event) → IsLegal events → is_in_queue (course_of events).place ≡ true
         → is_free (course_of events) ≡ true }
@@ -130,12 +133,15 @@ pub fn what_is_due_may_come()
         → fits (course_of events) event ≡ true → may_come (course_of events) event ≡ true }
 {}
 
-/// Where nothing moves, each deadline brings the end nearer: at most two pass, and with what goes back there are at most five
-/// events.
+/// A deadline of a message is the same as its failure for that reason; any other one lets the user go. Where nothing moves, each
+/// deadline and each failure brings the end nearer: at most two come, and with what goes back there are at most five events.
 pub fn deadlines_end_an_exchange()
+    ensures refused { (c : Course) → is_wait (due_of c) ≡ true → is_for_leave (due_of c) ≡ false
+        → after c Late ≡ after c (Failed Deadline) }
+    ensures let_go { (c : Course) → is_for_leave (due_of c) ≡ true → (after c Late).place ≡ Gone }
     ensures falls { (more events : List Event) → IsLegal (more ++ events) → AllAre is_quiet more
-        → count is_late more + deadlines_from (course_of (more ++ events)).place ≤ deadlines_from (course_of events).place }
-    ensures two { (more events : List Event) → IsLegal (more ++ events) → AllAre is_quiet more → count is_late more ≤ 2 }
+        → count is_failing more + failures_from (course_of (more ++ events)).place ≤ failures_from (course_of events).place }
+    ensures two { (more events : List Event) → IsLegal (more ++ events) → AllAre is_quiet more → count is_failing more ≤ 2 }
     ensures few { (more events : List Event) → IsLegal (more ++ events) → AllAre is_quiet more → length more ≤ 5 }
 {}
 

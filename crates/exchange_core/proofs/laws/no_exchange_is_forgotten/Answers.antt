@@ -1,4 +1,5 @@
 use Rattle.exchange_core.proofs.Going.{over_means_nothing, nothing_means_over, goes_on, wait_has_deadline, user_holds_nothing, queue_is_free}
+use Rattle.exchange_core.proofs.Doing.{fails_there}
 use Rattle.exchange_core.proofs.Dialing.{queue_has_no_origin}
 use Rattle.exchange_core.proofs.laws.no_exchange_is_forgotten.Goals as goal
 
@@ -7,6 +8,7 @@ returns c = record {
   over = λ d. (over_means_nothing d, nothing_means_over d);
   goes_on = goes_on;
   deadline = wait_has_deadline;
+  failure = fails_there;
   free = user_holds_nothing;
   queue = queue_is_free;
   queue_origin = queue_has_no_origin;
