@@ -346,6 +346,7 @@ impl<'a, B: Ledgers> Outside<Moment> for Memory<'a, B> {
     }
 
     fn note_request(&mut self, _at: &Moment, _request: &Incoming) {
+        self.stage.ask();
         self.stage.note(b"has the request");
     }
 

@@ -90,7 +90,10 @@ impl<'a, B: Ledgers> Play<'a, B> {
             b"rested" => self.at.rested = true,
             b"waited" => self.at.waited = true,
             b"drain" => self.exchange.drain(),
-            b"lost" => self.exchange.lose(rt, &self.at, &mut self.memory),
+            b"lost" => {
+                self.stage.lose(Peer::User);
+                self.exchange.lose(rt, &self.at, &mut self.memory);
+            }
             _ => {
                 self.exchange.halt(rt, &self.at, &mut self.memory);
                 self.take_leave(rt);

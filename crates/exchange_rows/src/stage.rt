@@ -1,5 +1,7 @@
-//! What a row's connections share: the bytes that each took, what happened in which order, and how often all have waited.
+//! What a row's connections share: the bytes that each took, what happened in which order, how often all have waited, and whether the
+//! user is owed an answer.
 
+use adapt_bytes::behind;
 use std::alloc::Global;
 use std::cell::{Cell, RefCell};
 use std::fmt::Debug;
@@ -63,6 +65,10 @@ pub struct Stage {
     waits: Cell<u64>,
     /// Whether the user was told that nothing more comes.
     is_finished: Cell<bool>,
+    /// How many bytes the user had taken when its last request was read. `None` before its first one.
+    asked_at: Cell<Option<usize>>,
+    /// Whether nothing more reaches the user: its connection broke, it is lost, or it takes nothing any more.
+    is_user_lost: Cell<bool>,
     /// Whether nothing more is noted.
     is_over: Cell<bool>,
     /// Whether memory was wanting for what is told here.
@@ -80,6 +86,8 @@ impl Stage {
             tells_places: has_word(scene.get(b"tell"), b"places"),
             waits: Cell::new(0),
             is_finished: Cell::new(false),
+            asked_at: Cell::new(None),
+            is_user_lost: Cell::new(false),
             is_over: Cell::new(false),
             is_short: Cell::new(false),
         }
@@ -103,6 +111,32 @@ impl Stage {
     /// The user is told that nothing more comes.
     pub fn finish(&self) {
         self.is_finished.set(true);
+    }
+
+    /// A request of the user was read.
+    pub fn ask(&self) {
+        if let Ok(taken) = self.taken.try_borrow() {
+            self.asked_at.set(Some(taken_by(&taken, Peer::User).len()));
+        }
+    }
+
+    /// Nothing more reaches the other end of a connection.
+    pub fn lose(&self, peer: Peer) {
+        if peer == Peer::User {
+            self.is_user_lost.set(true);
+        }
+    }
+
+    /// Whether a request was read whose user took no byte of an answer, though it wasn't lost. This text is no answer where it is whole.
+    pub fn owes_answer(&self, interim: &[u8]) -> bool {
+        let Some(before) = self.asked_at.get() else {
+            return false;
+        };
+        let Ok(taken) = self.taken.try_borrow() else {
+            return true;
+        };
+        let said = behind(taken_by(&taken, Peer::User), before);
+        !self.is_user_lost.get() && (said.is_empty() || said == interim)
     }
 
     /// Nothing more is noted.
@@ -187,6 +221,16 @@ impl Stage {
             self.keep(put_shown(&mut happenings, what, why));
         }
     }
+}
+
+/// What a connection took; nothing where it was never opened.
+fn taken_by(taken: &[Taken], peer: Peer) -> &[u8] {
+    for each in taken {
+        if each.peer == peer {
+            return each.bytes.as_slice();
+        }
+    }
+    &[]
 }
 
 /// Adds a line of a word and a connection.

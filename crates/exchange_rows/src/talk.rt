@@ -77,6 +77,16 @@ fn read_act<'a>(scene: Scene<'a>, values: Values, word: &'a [u8]) -> Act<'a> {
     }
 }
 
+/// Whether some of these words have bytes taken again.
+fn takes_again(script: &[u8]) -> bool {
+    for word in script.split(|byte| *byte == b' ') {
+        if word.starts_with(b"takes") && word != b"takes=0" {
+            return true;
+        }
+    }
+    false
+}
+
 /// The other end of a connection.
 #[derive(Drop)]
 struct Talk<'a> {
@@ -144,6 +154,16 @@ impl<'a> Talk<'a> {
             self.script = script;
         }
         self.act
+    }
+
+    /// Whether it takes nothing any more, whatever comes.
+    fn is_deaf(&self) -> bool {
+        self.room == 0 && !takes_again(self.script)
+    }
+
+    /// Nothing more reaches it.
+    fn lose(&self) {
+        self.stage.lose(self.peer);
     }
 
     /// How many bytes it gives at most now, after so many.
@@ -252,7 +272,10 @@ impl<'a> Wire for TalkWire<'a> {
         }
         match self.talk.go_on() {
             Act::Ends => Got::Ended,
-            Act::Fails => Got::Fault,
+            Act::Fails => {
+                self.talk.lose();
+                Got::Fault
+            }
             Act::Rests if self.talk.stage.is_finished() => Got::Ended,
             Act::Gives(text) => match self.talk.give(self.read, text, buf) {
                 0 => Got::Wait,
@@ -270,6 +293,7 @@ impl<'a> Wire for TalkWire<'a> {
             return Put::Wait;
         }
         if matches!(self.talk.go_on(), Act::Fails) {
+            self.talk.lose();
             return Put::Fault;
         }
         match self.talk.take(bytes) {
@@ -289,6 +313,9 @@ impl<'a> Wire for TalkWire<'a> {
 impl<'a> Drop for TalkWire<'a> {
     fn drop(self) {
         self.note(b"closes");
+        if self.talk.is_deaf() {
+            self.talk.lose();
+        }
         let TalkWire {
             talk: _,
             read: _,

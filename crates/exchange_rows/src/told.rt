@@ -145,7 +145,13 @@ fn is_known(scene: Scene<'_>, stage: &Stage) -> bool {
     true
 }
 
-/// Adds what the row asks of an exchange that ended at this place: what happened, and what each connection took.
+/// Whether no message is under way at a place, and nothing is left to be said.
+fn is_settled(place: Place) -> bool {
+    matches!(place, Place::Idle | Place::Closing | Place::Gone)
+}
+
+/// Adds what the row asks of an exchange that ended at this place: what happened, and what each connection took. Before that it is told
+/// where a user is owed an answer.
 pub fn put_ended(
     out: &mut Vec<u8>,
     scene: Scene<'_>,
@@ -154,8 +160,11 @@ pub fn put_ended(
 ) -> Result<(), NoMemory> {
     stage.check()?;
     put_happenings(out, stage)?;
+    if stage.owes_answer(scene.get(b"continue")) {
+        put_line(out, b"says nothing to its user")?;
+    }
     let told = scene.get(b"tell");
-    if has_word(told, b"known") && is_known(scene, stage) {
+    if has_word(told, b"known") && is_settled(ended.place) && is_known(scene, stage) {
         return put_held(out, b"known texts", ended);
     }
     if !has_word(told, b"happenings") {
