@@ -5,7 +5,7 @@ ghost use Rattle.std.specs.Prelude.{◌≡◌, ◌≤◌, length};
 use crate::stage::{Peer, Stage};
 use crate::words::first_word;
 use wire_kit::{Got, Put, Wire};
-use wire_rows::{Scene, Values, has_word, number};
+use wire_rows::{Scene, Values, has_word, is, number};
 
 /// What the other end does.
 #[derive(Clone, Copy)]
@@ -80,7 +80,7 @@ fn read_act<'a>(scene: Scene<'a>, values: Values, word: &'a [u8]) -> Act<'a> {
 /// Whether some of these words have bytes taken again.
 fn takes_again(script: &[u8]) -> bool {
     for word in script.split(|byte| *byte == b' ') {
-        if word.starts_with(b"takes") && word != b"takes=0" {
+        if word.starts_with(b"takes") && !is(word, b"takes=0") {
             return true;
         }
     }
