@@ -5,7 +5,7 @@ use crate::memory::Memory;
 use crate::play::Play;
 use crate::stage::Stage;
 use crate::told::{Ended, put_ended};
-use proxy_config::{Config, read_config};
+use proxy_config::{Config, ConfigFault, read_config};
 use shard_exchange::Held;
 use span_bank::{Bank, Blanks, Ledgers, Pages};
 use std::alloc::Global;
@@ -132,6 +132,7 @@ pub fn put_exchange<R: Wait>(
                 out,
             )
         }
+        Err(ConfigFault::NoMemory) => Err(NoMemory),
         Err(_) => put_line(out, b"no configuration"),
     }
 }
