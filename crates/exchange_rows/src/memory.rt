@@ -1,6 +1,6 @@
 //! The surroundings of an exchange, in memory.
 
-ghost use Rattle.std.specs.Prelude.{◌≡◌};
+ghost use Rattle.std.specs.Prelude.{◌≡◌, IfOk};
 
 use crate::services::{NOW, book_of};
 use crate::stage::{Peer, Stage};
@@ -75,7 +75,9 @@ fn key_of(keys: &[&'static [u8]; 4], number: u64) -> &'static [u8] {
 }
 
 /// The right to a connection of a point's service.
-fn lease_of(point: Point, reused: bool) -> Lease {
+fn lease_of(point: Point, reused: bool) -> Lease
+    ensures { result.point ≡ point }
+{
     Lease { point, reused }
 }
 
@@ -151,7 +153,9 @@ impl<'a, B: Ledgers> Memory<'a, B> {
     }
 
     /// A lease: `busy`, `unreached` and `memory` have it fail, and `idle` has its connection be one that was idle.
-    fn lease(&mut self, point: Point) -> Result<(TalkWire<'a>, Lease), LendFault> {
+    fn lease(&mut self, point: Point) -> Result<(TalkWire<'a>, Lease), LendFault>
+        ensures { IfOk result (λ lent. lent.1.point ≡ point) }
+    {
         match self.next_lend() {
             b"busy" => return Err(LendFault::Busy),
             b"unreached" => return Err(LendFault::Unreached),
@@ -166,7 +170,9 @@ impl<'a, B: Ledgers> Memory<'a, B> {
     }
 
     /// A lease, and a note of it.
-    fn lease_noted(&mut self, point: Point) -> Result<(TalkWire<'a>, Lease), LendFault> {
+    fn lease_noted(&mut self, point: Point) -> Result<(TalkWire<'a>, Lease), LendFault>
+        ensures { IfOk result (λ lent. lent.1.point ≡ point) }
+    {
         let leased = self.lease(point);
         match &leased {
             Ok((wire, lease)) => {
@@ -192,6 +198,8 @@ impl<'a, B: Ledgers> Kinds for Memory<'a, B> {
 
 impl<'a, B: Ledgers> Outside<Moment> for Memory<'a, B> {
     ghost is_late = { λ memory at. at.late };
+
+    ghost point_of = { λ lease. lease.point };
 
     fn alloc(&self) -> Global {
         self.alloc

@@ -1,5 +1,9 @@
 //! Connections to services and origins, as the exchanges of a thread use them.
 
+ghost use Rattle.std.specs.Prelude.{◌≡◌, IfOk};
+ghost use Rattle.trace_core.specs.declared.history.Point.{Point as AnyPoint};
+ghost use Rattle.service_lines.specs.Lending.{point_of, IsOf};
+
 use crate::pools::{Berth, Port, dial, pools_of};
 use crate::shared::Shares;
 use crate::spot::Spot;
@@ -23,7 +27,9 @@ type Lent<Q, A> = Result<(ServiceWire, Leased<Q, A>), LendFault>;
 /// What was lent, in two pieces.
 fn lent_of<Q: Ledger, A: Ledger>(
     lent: Result<LeasedConnection<ServiceWire, Q, A>, LendFault>,
-) -> Lent<Q, A> {
+) -> Lent<Q, A>
+    ensures { (point : AnyPoint) → IsOf point lent → IfOk result (λ lent. point_of lent.1 ≡ point) }
+{
     match lent {
         Ok(LeasedConnection { wire, lease }) => Ok((wire, lease)),
         Err(fault) => Err(fault),
@@ -105,7 +111,9 @@ pub(crate) fn lend_now<S: Shares, R: Wait + Dial, G>(
     seats: &mut Seats,
     at: &Spot<'_, R, G>,
     point: Point,
-) -> Lent<S::Requests, S::Responses> {
+) -> Lent<S::Requests, S::Responses>
+    ensures { IfOk result (λ lent. point_of lent.1 ≡ point) }
+{
     let address = address_of(shared.config(), point);
     let mut port = port_of(seats, at, shared.room(), address);
     let lent = pools_of(shared).lend(at.rt, &mut port, point);
@@ -119,7 +127,9 @@ pub(crate) fn lend_waiting<S: Shares, R: Wait + Dial, G>(
     seats: &mut Seats,
     at: &Spot<'_, R, G>,
     point: Point,
-) -> Lent<S::Requests, S::Responses> {
+) -> Lent<S::Requests, S::Responses>
+    ensures { IfOk result (λ lent. point_of lent.1 ≡ point) }
+{
     let waiter = waiter_of(shared, at.key);
     let address = address_of(shared.config(), point);
     let mut port = port_of(seats, at, shared.room(), address);
@@ -134,7 +144,9 @@ pub(crate) fn lend_anew<S: Shares, R: Wait + Dial, G>(
     seats: &mut Seats,
     at: &Spot<'_, R, G>,
     lease: &mut Leased<S::Requests, S::Responses>,
-) -> Result<ServiceWire, LendFault> {
+) -> Result<ServiceWire, LendFault>
+    ensures { point_of lease.new ≡ point_of lease.old }
+{
     let address = address_of(shared.config(), lease.point());
     let mut port = port_of(seats, at, shared.room(), address);
     let wire = pools_of(shared).reopen(at.rt, &mut port, lease);

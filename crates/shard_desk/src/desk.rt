@@ -12,7 +12,7 @@ use shard_seats::{Purpose, Seats};
 use std::alloc::{AllocError, Global};
 use std::sync::Wait;
 use std::time::Clock;
-use trace_core::{Point, Seen};
+use trace_core::Point;
 
 /// What the exchanges of one thread have in common: all but the exchanges themselves.
 #[derive(Drop)]
@@ -89,15 +89,5 @@ impl<S: Shares> Desk<S> {
             key,
             taken,
         );
-    }
-
-    /// The loop ends with an exchange in its midst, and maybe with a message under way: what became of it is noted, and that it was
-    /// stopped.
-    pub fn abandon(&mut self, key: usize, message: Option<Seen>) {
-        if let Some(seen) = message {
-            self.reporter
-                .message(self.shared.tally(), key, &seen, false);
-        }
-        self.reporter.abandon(key);
     }
 }

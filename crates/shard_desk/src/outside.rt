@@ -2,6 +2,7 @@
 
 ghost use Rattle.std.specs.Prelude.{◌≡◌};
 ghost use Rattle.shard_seats.specs.Seats.{is_late};
+ghost use Rattle.service_lines.specs.Lending.{point_of};
 
 use crate::connections::{
     keep_record, lend_anew, lend_now, lend_waiting, open_origin, put_back, waiter_of,
@@ -45,6 +46,8 @@ impl<S: Shares> Kinds for Desk<S> {
 
 impl<'r, S: Shares, R: Wait + Dial + Clock, G: Gate> Outside<Spot<'r, R, G>> for Desk<S> {
     ghost is_late = { λ desk at. is_late desk.seats at.key at.now desk.deadline };
+
+    ghost point_of = { λ lease. point_of lease };
 
     fn alloc(&self) -> Global {
         self.alloc

@@ -1,14 +1,13 @@
-//! Exchanges that end from outside: the proxy stops, or the user is gone.
+//! Exchanges that end from outside: the user is gone, or the loop.
 
 ghost use Rattle.std.specs.Prelude.{◌≡◌, true, false};
 ghost use Rattle.std.specs.Option.{ForSome};
 
 use crate::exchange::Exchange;
+use crate::slots::clear;
 use exchange_core::{Due, Event, Place};
-use http_side::own_refusal;
-use proxy_rules::Reason;
 use shard_message::{Connection, EndedBy, Moving, Room};
-use shard_outside::{Kinds, Lingered, Outside, Said, say_to};
+use shard_outside::{Kinds, Outside};
 use span_bank::{Bank, Stake};
 use std::sync::Wait;
 
@@ -21,43 +20,18 @@ pub struct Held<O: Kinds> {
     pub ghost empty: { ForSome stake (λ stake. (stake.held ≡ 0) × (stake.pages ≡ 0)) },
 }
 
+/// Has a message that waits for a connection of its service wait no more.
+pub(crate) fn leave_queue<P, O: Outside<P>>(at: &P, out: &mut O, course: &exchange_core::Exchange) {
+    if let Place::InQueue { point } = course.course().place {
+        out.leave_queue(at, point);
+    }
+}
+
 impl<O: Kinds> Exchange<O> {
-    ghost use Rattle.exchange_core.specs.declared.event.Event.TheVariants.{Stop};
-    ghost use Rattle.exchange_core.specs.declared.due.Due.TheVariants as dues;
     ghost use Rattle.exchange_core.specs.Course.{is_leased};
-    ghost use Rattle.exchange_core.specs.May.{may_come, is_free, is_gone};
-    ghost use Rattle.exchange_core.specs.Dues.{due_of, is_over};
+    ghost use Rattle.exchange_core.specs.May.{is_free, is_gone};
+    ghost use Rattle.exchange_core.specs.Dues.{is_over};
     ghost use Rattle.exchange_core.specs.Log.{Goes};
-    ghost use Rattle.shard_message.specs.Ends.{moves};
-
-    /// Has a message that waits for a connection of its service wait no more.
-    fn leave_queue<P>(&self, at: &P, out: &mut O)
-    where
-        O: Outside<P>,
-    {
-        if let Place::InQueue { point } = self.course.course().place {
-            out.leave_queue(at, point);
-        }
-    }
-
-    /// Has an exchange end whose message doesn't move, because the proxy stops.
-    fn stop_unmoved<P>(&mut self, at: &P, out: &mut O)
-    where
-        O: Outside<P>,
-        requires still { moves self.old.course ≡ false }
-        requires may { may_come self.old.course Stop ≡ true }
-        ensures { Goes self.old.course self.new.course }
-    {
-        let place = self.course.course().place;
-        if !matches!(
-            place,
-            Place::Idle | Place::Head | Place::Refusing { .. } | Place::Closing
-        ) {
-            self.note(at, out, Reason::Stopping);
-        }
-        self.leave_queue(at, out);
-        self.course.take(Event::Stop);
-    }
 
     /// Puts the service's connection back of a user's connection that is over.
     fn free_connection<P>(&mut self, at: &P, out: &mut O)
@@ -101,7 +75,7 @@ impl<O: Kinds> Exchange<O> {
     }
 
     /// Gives all back that a user's connection holds that is over.
-    fn free<P, R: Wait>(&mut self, rt: &R, at: &P, out: &mut O)
+    pub(crate) fn free<P, R: Wait>(&mut self, rt: &R, at: &P, out: &mut O)
     where
         O: Outside<P>,
         requires { is_gone self.old.course.place ≡ true }
@@ -111,75 +85,6 @@ impl<O: Kinds> Exchange<O> {
         self.free_connection(at, out);
         self.free_room(rt, out);
         self.free_origin();
-    }
-
-    /// Has the exchange stop, with its message.
-    fn stop<P, R: Wait>(&mut self, rt: &R, at: &P, out: &mut O)
-    where
-        O: Outside<P>,
-        requires { may_come self.old.course Stop ≡ true }
-        ensures { Goes self.old.course self.new.course }
-    {
-        if self.tx.is_some() {
-            self.settle(rt, at, out, EndedBy::Stop);
-        } else {
-            self.stop_unmoved(at, out);
-        }
-    }
-
-    /// Ends the exchange because the proxy stops. A message that moves stops. A user to whom no byte of an answer went is to be refused, and
-    /// what is held stays until it has taken the refusal. Else that goes back.
-    pub fn halt<P, R: Wait>(&mut self, rt: &R, at: &P, out: &mut O)
-    where
-        O: Outside<P>,
-        ensures { Goes self.old.course self.new.course }
-    {
-        if !self.course.may(Event::Stop) {
-            return;
-        }
-        self.stop(rt, at, out);
-        if self.course.course().place == Place::Gone {
-            out.note_stop(at);
-            self.free(rt, at, out);
-        }
-    }
-
-    /// Has the user of a stopped exchange take what is left of a refusal that is due. Once there is no more to say, what is held goes back.
-    fn take_refusal<P, R: Wait>(&mut self, rt: &R, at: &P, out: &mut O) -> Option<Lingered>
-    where
-        O: Outside<P>,
-        ensures { Goes self.old.course self.new.course }
-    {
-        let Due::TryRefusal(status) = self.course.due() else {
-            return None;
-        };
-        match say_to(&mut self.user, own_refusal(status), &mut self.refused) {
-            Said::Part(_) => Some(Lingered::CutShort),
-            Said::Nothing => Some(Lingered::Waiting),
-            Said::Whole | Said::Broken => {
-                if let Some(user) = &self.user {
-                    O::finish(user);
-                }
-                self.course.done(Event::Tried);
-                self.free(rt, at, out);
-                None
-            }
-        }
-    }
-
-    /// Has the user of a stopped exchange take its refusal, as far as it does, and drops what it still sends after that.
-    pub fn take_leave<P, R: Wait>(&mut self, rt: &R, at: &P, out: &mut O) -> Lingered
-    where
-        O: Outside<P>,
-        ensures { Goes self.old.course self.new.course }
-    {
-        if let Some(lingered) = self.take_refusal(rt, at, out) {
-            return lingered;
-        }
-        match &mut self.user {
-            Some(user) => out.linger(user),
-            None => Lingered::Over,
-        }
     }
 
     /// Ends the message of a user that is gone.
@@ -197,7 +102,7 @@ impl<O: Kinds> Exchange<O> {
         } else if self.tx.is_some() {
             self.settle(rt, at, out, EndedBy::User);
         } else {
-            self.leave_queue(at, out);
+            leave_queue(at, out, &self.course);
             self.course.take(Event::UserLost);
         }
     }
@@ -210,7 +115,7 @@ impl<O: Kinds> Exchange<O> {
         ensures over { is_over self.new.course ≡ true }
     {
         self.lose_message(rt, at, out);
-        self.user = None;
+        clear(&mut self.user);
         self.free(rt, at, out);
     }
 
@@ -232,7 +137,7 @@ impl<O: Kinds> Exchange<O> {
             asking: _,
             told: _,
             refused: _,
-            ending: _,
+            is_finished: _,
             connection,
             room,
             origin: _,

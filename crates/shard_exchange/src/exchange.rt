@@ -10,10 +10,9 @@ use proxy_rules::Incoming;
 use shard_message::{Connection, Moving, Room};
 use shard_outside::{Kinds, Planned};
 use std::boxed::Box;
-use trace_core::Seen;
 
 /// How far a step came.
-#[derive(Clone, Copy, Debug, PartialEq, Eq)]
+#[derive(Clone, Copy, PartialEq, Eq)]
 pub enum Step {
     /// There may be more to do.
     On,
@@ -21,17 +20,6 @@ pub enum Step {
     Waits,
     /// The user's connection is over, and nothing is held.
     Over,
-}
-
-/// How a user's connection ends.
-#[derive(Clone, Copy, Debug, PartialEq, Eq)]
-pub(crate) enum Ending {
-    /// All that was said is out: that nothing more comes is still to be said.
-    Whole,
-    /// The user is to see that what it got isn't whole.
-    Cut,
-    /// The user knows that nothing more comes.
-    Said,
 }
 
 /// A user's connection, with what is held for it.
@@ -52,7 +40,8 @@ pub struct Exchange<O: Kinds> {
     pub(crate) told: usize,
     /// How many bytes went out of the refusal.
     pub(crate) refused: usize,
-    pub(crate) ending: Ending,
+    /// Whether the user was told that nothing more comes.
+    pub(crate) is_finished: bool,
     /// The leased connection of the service.
     pub(crate) connection: Option<Connection<O>>,
     /// The reservation, where no transaction has it.
@@ -75,6 +64,7 @@ impl<O: Kinds> Exchange<O> {
     ghost use Rattle.exchange_core.specs.declared.event.Event.TheVariants.{Failed};
     ghost use Rattle.exchange_core.specs.declared.event.Why.TheVariants.{Scarce};
     ghost use Rattle.exchange_core.specs.Log.{Goes};
+    ghost use Rattle.shard_message.specs.Ends.{is_stopped};
 
     /// A user's connection for which nothing is held.
     fn new(user: O::User, message: Option<Box<Incoming>>) -> Exchange<O>
@@ -88,7 +78,7 @@ impl<O: Kinds> Exchange<O> {
             asking: None,
             told: 0,
             refused: 0,
-            ending: Ending::Whole,
+            is_finished: false,
             connection: None,
             room: None,
             origin: None,
@@ -142,17 +132,10 @@ impl<O: Kinds> Exchange<O> {
         }
     }
 
-    /// What the history of a message shows that is on its way.
-    pub fn seen(&self) -> Option<Seen> {
-        match &self.tx {
-            Some(tx) => Some(tx.seen()),
-            None => None,
-        }
-    }
-
     /// The proxy drains: an answer that is begun from now on is the last one.
     pub fn drain(&mut self)
-        ensures { Goes self.old.course self.new.course }
+        ensures goes { Goes self.old.course self.new.course }
+        ensures drains { (self.new.course.draining || is_stopped self.new.course) ≡ true }
     {
         if self.course.may(Event::Drain) {
             self.course.take(Event::Drain);

@@ -3,7 +3,7 @@
 ghost use Rattle.std.specs.Prelude.{◌≡◌, false};
 
 use crate::exchange::{Exchange, Step};
-use crate::slots::take_out;
+use crate::slots::{clear, take_out};
 use exchange_core::Event;
 use shard_message::Connection;
 use shard_outside::{Kinds, Outside};
@@ -64,7 +64,7 @@ impl<O: Kinds> Exchange<O> {
         ensures goes { Goes self.old.course self.new.course }
         ensures on { result ≡ Step.On }
     {
-        self.origin = None;
+        clear(&mut self.origin);
         self.course.done(Event::HungUp);
         Step::On
     }

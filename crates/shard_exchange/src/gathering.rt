@@ -3,14 +3,63 @@
 ghost use Rattle.std.specs.Prelude.{◌≡◌};
 
 use crate::exchange::{Exchange, Step};
-use crate::slots::put_in;
+use crate::slots::{lay, put_in};
 use exchange_core::Event;
-use plan_rules::claim;
+use plan_rules::{Limits, claim};
 use proxy_rules::{Reason, open_reason};
 use shard_message::Room;
 use shard_outside::{Kinds, Outside, Planned};
+use span_bank::{Bank, Ledgers};
 use std::boxed::Box;
 use std::sync::Wait;
+
+/// Reserves what a planned message may need.
+fn make_room<B: Ledgers, R: Wait>(
+    rt: &R,
+    bank: &Bank<B>,
+    limits: Limits,
+    planned: &mut Option<Box<Planned>>,
+) -> Result<Room<B>, Reason> {
+    let Some(planned) = planned.take() else {
+        return Err(Reason::NoMemory);
+    };
+    let Planned { offer, address } = Box::into_inner(planned);
+    let bytes = claim(offer.plan(), &limits);
+    if bytes == 0 {
+        return Err(Reason::Full);
+    }
+    match bank.open(rt, bytes) {
+        Ok(stake) => Ok(Room {
+            stake,
+            offer: Some(offer),
+            limits,
+            address,
+        }),
+        Err(fault) => Err(open_reason(fault)),
+    }
+}
+
+/// Opens the connection that a message goes to for which this was reserved.
+fn dial_for<P, O: Outside<P>>(
+    at: &P,
+    out: &mut O,
+    room: &Option<Room<O::Ledgers>>,
+) -> Result<O::Origin, Reason> {
+    let address = match room {
+        Some(room) => room.address,
+        None => None,
+    };
+    let Some(address) = address else {
+        return Err(Reason::UnknownHost);
+    };
+    match out.dial(at, address) {
+        Ok(origin) => {
+            out.note_origin(at, address);
+            Ok(origin)
+        }
+        Err(reason) => Err(reason),
+    }
+}
 
 impl<O: Kinds> Exchange<O> {
     ghost use Rattle.exchange_core.specs.Dues.{due_of};
@@ -25,28 +74,14 @@ impl<O: Kinds> Exchange<O> {
         ensures goes { Goes self.old.course self.new.course }
         ensures on { result ≡ Step.On }
     {
-        let Some(planned) = self.planned.take() else {
-            return self.refuse(at, out, Reason::NoMemory);
-        };
-        let Planned { offer, address } = Box::into_inner(planned);
         let limits = out.limits();
-        let bytes = claim(offer.plan(), &limits);
-        if bytes == 0 {
-            return self.refuse(at, out, Reason::Full);
-        }
-        match out.bank().open(rt, bytes) {
-            Ok(stake) => {
-                let room = Room {
-                    stake,
-                    offer: Some(offer),
-                    limits,
-                    address,
-                };
+        match make_room(rt, out.bank(), limits, &mut self.planned) {
+            Ok(room) => {
                 put_in(&mut self.room, room);
                 self.course.done(Event::Reserved);
                 Step::On
             }
-            Err(fault) => self.refuse(at, out, open_reason(fault)),
+            Err(reason) => self.refuse(at, out, reason),
         }
     }
 
@@ -58,17 +93,9 @@ impl<O: Kinds> Exchange<O> {
         ensures goes { Goes self.old.course self.new.course }
         ensures on { result ≡ Step.On }
     {
-        let address = match &self.room {
-            Some(room) => room.address,
-            None => None,
-        };
-        let Some(address) = address else {
-            return self.refuse(at, out, Reason::UnknownHost);
-        };
-        match out.dial(at, address) {
+        match dial_for(at, out, &self.room) {
             Ok(origin) => {
-                out.note_origin(at, address);
-                self.origin = Some(origin);
+                lay(&mut self.origin, origin);
                 self.course.done(Event::Dialed);
                 Step::On
             }

@@ -1,6 +1,6 @@
 //! Heads of messages: the user's requests, and the origins' responses.
 
-ghost use Rattle.std.specs.Prelude.{◌≡◌, true, false};
+ghost use Rattle.std.specs.Prelude.{◌≡◌, is_some, true, false};
 ghost use Rattle.exchange_core.specs.Dues.{due_of};
 ghost use Rattle.exchange_core.specs.Log.{Goes};
 ghost use Rattle.exchange_core.specs.May.{is_head};
@@ -8,8 +8,29 @@ ghost use Rattle.exchange_core.specs.declared.due.Due.TheVariants as dues;
 
 use crate::exchange::{Exchange, Step};
 use exchange_core::{Event, Place};
-use proxy_rules::{Reason, origin_head_reason, user_head_reason};
+use http_side::HttpFault;
+use proxy_rules::{Incoming, Reason, origin_head_reason, user_head_reason};
 use shard_outside::{HeadTurn, Kinds, Outside, head_turn};
+use std::boxed::Box;
+use wire_kit::Wire;
+
+/// A turn at a message's head over its connection. `None` where either is missing.
+fn turn_on<W: Wire>(message: &mut Option<Box<Incoming>>, wire: &mut Option<W>) -> Option<HeadTurn>
+    ensures { is_some wire.new ≡ is_some wire.old }
+{
+    match (message, wire) {
+        (Some(message), Some(wire)) => Some(head_turn(message, wire)),
+        _ => None,
+    }
+}
+
+/// What is at fault in a message's head.
+fn fault_of(message: &Option<Box<Incoming>>) -> Option<HttpFault> {
+    match message {
+        Some(message) => message.head_fault(),
+        None => None,
+    }
+}
 
 /// The first byte of a further request came, or of the first one.
 fn begin_head(course: &mut exchange_core::Exchange)
@@ -38,32 +59,42 @@ impl<O: Kinds> Exchange<O> {
         ensures goes { Goes self.old.course self.new.course }
         ensures heeds { Heeds (O.is_late out.new at.now) self.new.course result }
     {
-        let (Some(user), Some(message)) = (&mut self.user, &mut self.message) else {
-            return self.lose_user();
-        };
-        match head_turn(message, user) {
-            HeadTurn::Whole => {
-                out.note_request(at, message);
-                self.told = 0;
-                begin_head(&mut self.course);
-                self.course.done(Event::RequestRead);
-                Step::On
-            }
-            HeadTurn::More => {
-                if message.has_begun() {
+        match turn_on(&mut self.message, &mut self.user) {
+            Some(HeadTurn::Whole) => self.has_request(at, out),
+            Some(HeadTurn::More) => {
+                if self.has_begun() {
                     begin_head(&mut self.course);
                 }
                 Step::On
             }
-            HeadTurn::Nothing => self.wait_for_request(at, out),
-            HeadTurn::Fault(fault) => match user_head_reason(fault, message.head_fault()) {
+            Some(HeadTurn::Nothing) => self.wait_for_request(at, out),
+            Some(HeadTurn::Fault(fault)) => match user_head_reason(fault, fault_of(&self.message)) {
                 Some(reason) => self.refuse(at, out, reason),
                 None => self.lose_user(),
             },
+            None => self.lose_user(),
         }
     }
 
-    /// Waits for the next request. A user that says nothing is let go once the proxy drains.
+    /// The head of a request was read.
+    fn has_request<P>(&mut self, at: &P, out: &mut O) -> Step
+    where
+        O: Outside<P>,
+        requires due { due_of self.old.course ≡ dues.ReadRequest }
+        ensures goes { Goes self.old.course self.new.course }
+        ensures on { result ≡ Step.On }
+    {
+        if let Some(message) = &self.message {
+            out.note_request(at, message);
+        }
+        self.told = 0;
+        begin_head(&mut self.course);
+        self.course.done(Event::RequestRead);
+        Step::On
+    }
+
+    /// Waits for what is still to come of the next request. Its first bytes may have come with the request before. A user that says
+    /// nothing is let go once the proxy drains.
     fn wait_for_request<P>(&mut self, at: &P, out: &mut O) -> Step
     where
         O: Outside<P>,
@@ -71,7 +102,11 @@ impl<O: Kinds> Exchange<O> {
         ensures goes { Goes self.old.course self.new.course }
         ensures heeds { Heeds (O.is_late out.new at.now) self.new.course result }
     {
-        if self.course.course().draining && !self.has_begun() && out.has_rested(at) {
+        if self.has_begun() {
+            begin_head(&mut self.course);
+            return self.wait(at, out);
+        }
+        if self.course.course().draining && out.has_rested(at) {
             self.course.dropped();
             return Step::On;
         }
@@ -86,21 +121,21 @@ impl<O: Kinds> Exchange<O> {
         ensures goes { Goes self.old.course self.new.course }
         ensures heeds { Heeds (O.is_late out.new at.now) self.new.course result }
     {
-        let (Some(origin), Some(message)) = (&mut self.origin, &mut self.message) else {
-            return self.refuse(at, out, Reason::NoMemory);
-        };
-        match head_turn(message, origin) {
-            HeadTurn::Whole => {
-                out.note_response(at, message);
+        match turn_on(&mut self.message, &mut self.origin) {
+            Some(HeadTurn::Whole) => {
+                if let Some(message) = &self.message {
+                    out.note_response(at, message);
+                }
                 self.course.done(Event::ResponseRead);
                 Step::On
             }
-            HeadTurn::More => Step::On,
-            HeadTurn::Nothing => self.wait_or_refuse(at, out),
-            HeadTurn::Fault(fault) => {
-                let reason = origin_head_reason(fault, message.head_fault());
+            Some(HeadTurn::More) => Step::On,
+            Some(HeadTurn::Nothing) => self.wait_or_refuse(at, out),
+            Some(HeadTurn::Fault(fault)) => {
+                let reason = origin_head_reason(fault, fault_of(&self.message));
                 self.refuse(at, out, reason)
             }
+            None => self.refuse(at, out, Reason::NoMemory),
         }
     }
 }

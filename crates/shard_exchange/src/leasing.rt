@@ -9,9 +9,13 @@ use proxy_rules::Reason;
 use service_lines::LendFault;
 use shard_message::Connection;
 use shard_outside::{Kinds, Outside, lend_reason};
+use trace_core::Point;
 
 impl<O: Kinds> Exchange<O> {
-    ghost use Rattle.exchange_core.specs.Course.{is_leased};
+    ghost use Rattle.exchange_core.specs.Course.{is_leased, is_mid_text};
+    ghost use Rattle.exchange_core.specs.May.{is_refusing};
+    ghost use Rattle.proxy_rules.specs.Reasons.{status_of};
+    ghost use Rattle.shard_message.specs.Ends.{IsOwed};
     ghost use Rattle.exchange_core.specs.Dues.{due_of, comes_of};
     ghost use Rattle.exchange_core.specs.declared.event.Event.TheVariants.{Lent};
     ghost use Rattle.exchange_core.specs.Log.{Goes};
@@ -54,6 +58,38 @@ impl<O: Kinds> Exchange<O> {
         self.refuse(at, out, lend_reason(fault))
     }
 
+    /// Has a message leave the queue whose turn doesn't come: its user is refused.
+    fn refuse_queued<P>(&mut self, at: &P, out: &mut O, point: Point, reason: Reason) -> Step
+    where
+        O: Outside<P>,
+        requires due { due_of self.old.course ≡ dues.Await }
+        ensures goes { Goes self.old.course self.new.course }
+        ensures owed { IsOwed self.old.course self.new.course (status_of reason) }
+        ensures on { result ≡ Step.On }
+    {
+        out.leave_queue(at, point);
+        self.refuse(at, out, reason)
+    }
+
+    /// Waits on in the queue, unless the message has waited for too long: then its user is refused.
+    fn wait_on<P>(&mut self, at: &P, out: &mut O, point: Point) -> Step
+    where
+        O: Outside<P>,
+        requires due { due_of self.old.course ≡ dues.Await }
+        ensures goes { Goes self.old.course self.new.course }
+        ensures late { O.is_late out.old at.now ≡ true → is_mid_text self.old.course ≡ false
+            → is_refusing self.new.course.place ≡ true }
+        ensures heeds { Heeds (O.is_late out.new at.now) self.new.course result }
+    {
+        if out.has_waited(at) {
+            self.refuse_queued(at, out, point, Reason::Busy)
+        } else if out.is_late(at) {
+            self.refuse_queued(at, out, point, Reason::Deadline)
+        } else {
+            Step::Waits
+        }
+    }
+
     /// Leases a connection once it is the message's turn, and has it wait for that, but not for too long.
     pub(crate) fn wait_in_queue<P>(&mut self, at: &P, out: &mut O) -> Step
     where
@@ -64,14 +100,10 @@ impl<O: Kinds> Exchange<O> {
         ensures heeds { Heeds (O.is_late out.new at.now) self.new.course result }
     {
         let point = self.place().point();
-        let reason = match out.lend_in_turn(at, point) {
-            Ok((wire, lease)) => return self.take_in(wire, lease),
-            Err(LendFault::Busy) if out.has_waited(at) => Reason::Busy,
-            Err(LendFault::Busy) if out.is_late(at) => Reason::Deadline,
-            Err(LendFault::Busy) => return Step::Waits,
-            Err(fault) => lend_reason(fault),
-        };
-        out.leave_queue(at, point);
-        self.refuse(at, out, reason)
+        match out.lend_in_turn(at, point) {
+            Ok((wire, lease)) => self.take_in(wire, lease),
+            Err(LendFault::Busy) => self.wait_on(at, out, point),
+            Err(fault) => self.refuse_queued(at, out, point, lend_reason(fault)),
+        }
     }
 }

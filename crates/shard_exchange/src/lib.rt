@@ -16,6 +16,7 @@ mod planning;
 mod refusing;
 mod slots;
 mod stepping;
+mod stopping;
 mod telling;
 
 pub use ending::Held;

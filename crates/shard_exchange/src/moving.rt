@@ -14,18 +14,28 @@ use shard_message::{
 use shard_outside::{Kinds, Outside};
 use std::sync::Wait;
 
-/// The service's connection for a message, where it is offered.
-fn service_of<O: Kinds>(
-    connection: &mut Option<Connection<O>>,
+/// The connections for a message: the service's one where it is offered. `None` where the user is gone.
+fn take_connections<O: Kinds>(
+    user: &mut Option<O::User>,
+    leased: &mut Option<Connection<O>>,
+    origin: &mut Option<O::Origin>,
     is_offered: bool,
-) -> Option<O::Service>
-    ensures { is_some connection.new ≡ is_some connection.old }
+) -> Option<Connections<O>>
+    requires { is_some origin.old ≡ true }
+    ensures leased { is_some leased.new ≡ is_some leased.old }
+    ensures taken { is_some result ≡ true → origin.new ≡ None }
+    ensures left { is_some result ≡ false → origin.new ≡ origin.old }
 {
-    if is_offered {
-        take_wire(connection)
-    } else {
-        None
-    }
+    let Some(user) = user.take() else {
+        return None;
+    };
+    let service = if is_offered { take_wire(leased) } else { None };
+    let origin = take_out(origin);
+    Some(Connections {
+        user,
+        service,
+        origin,
+    })
 }
 
 impl<O: Kinds> Exchange<O> {
@@ -33,7 +43,7 @@ impl<O: Kinds> Exchange<O> {
     ghost use Rattle.exchange_core.specs.Log.{Goes};
     ghost use Rattle.exchange_core.specs.May.{is_gone};
     ghost use Rattle.exchange_core.specs.declared.due.Due.TheVariants as dues;
-    ghost use Rattle.shard_message.specs.Ends.{moves};
+    ghost use Rattle.shard_message.specs.Ends.{moves, is_stopped};
     ghost use Rattle.shard_exchange.specs.Steps.{Heeds};
 
     /// Starts the transaction of a message that has all that it needs. Where it can't begin, or no memory is found for it, the message
@@ -49,19 +59,17 @@ impl<O: Kinds> Exchange<O> {
         let Some(message) = self.message.take() else {
             return self.refuse(at, out, Reason::NoMemory);
         };
-        let Some(user) = self.user.take() else {
+        let course = self.course.course();
+        let Some(connections) = take_connections(
+            &mut self.user,
+            &mut self.connection,
+            &mut self.origin,
+            course.place.is_offered(),
+        ) else {
             return self.lose_user();
         };
         let room = take_out(&mut self.room);
-        let origin = take_out(&mut self.origin);
-        let course = self.course.course();
         let pace = Pace::of(at, out, course);
-        let service = service_of(&mut self.connection, course.place.is_offered());
-        let connections = Connections {
-            user,
-            service,
-            origin,
-        };
         match Moving::begin(rt, out, message, room, connections, pace) {
             Ok(tx) => {
                 put_in(&mut self.tx, tx);
@@ -195,6 +203,7 @@ impl<O: Kinds> Exchange<O> {
         ensures goes { Goes self.old.course self.new.course }
         ensures over { moves self.new.course ≡ false }
         ensures lost { by ≡ EndedBy.User → is_gone self.new.course.place ≡ true }
+        ensures stops { by ≡ EndedBy.Stop → is_stopped self.new.course ≡ true }
     {
         let tx = take_out(&mut self.tx);
         let Settled {

@@ -1,14 +1,57 @@
 //! Asking a service for its options.
 
-ghost use Rattle.std.specs.Prelude.{◌≡◌, true};
+ghost use Rattle.std.specs.Prelude.{◌≡◌, is_some, true};
 
 use crate::exchange::{Exchange, Step};
+use crate::slots::{clear, lay};
 use adapt_sides::ClientFault;
 use exchange_core::Event;
+use icap_client::OptionsSide;
 use icap_head::IcapResponse;
 use proxy_rules::{Reason, is_reusable_after_options, options_reason};
-use shard_message::{hear_on, is_fresh, renew};
+use shard_message::{Connection, hear_on, is_fresh, renew};
 use shard_outside::{Kinds, OptionsTurn, Outside, asker, keep};
+use std::boxed::Box;
+use trace_core::Point;
+
+/// Begins to ask the service of a point for its options.
+fn begin_asking<P, O: Outside<P>>(
+    out: &O,
+    point: Point,
+    asking: &mut Option<Box<OptionsSide>>,
+) -> Result<(), Reason> {
+    match asker(out, point) {
+        Ok(side) => {
+            lay(asking, side);
+            Ok(())
+        }
+        Err(reason) => Err(reason),
+    }
+}
+
+/// Begins to ask anew, on a fresh connection.
+fn begin_anew<P, O: Outside<P>>(
+    at: &P,
+    out: &mut O,
+    point: Point,
+    asking: &mut Option<Box<OptionsSide>>,
+    leased: &mut Option<Connection<O>>,
+) -> Result<(), Reason>
+    ensures { is_some leased.new ≡ is_some leased.old }
+{
+    match renew(at, out, leased) {
+        Ok(()) => begin_asking(out, point, asking),
+        Err(reason) => Err(reason),
+    }
+}
+
+/// Whether a connection on which this was said may serve again.
+fn is_reusable(asking: &Option<Box<OptionsSide>>, answer: &IcapResponse) -> bool {
+    match asking {
+        Some(side) => is_reusable_after_options(side, answer),
+        None => false,
+    }
+}
 
 impl<O: Kinds> Exchange<O> {
     ghost use Rattle.exchange_core.specs.Dues.{due_of};
@@ -26,9 +69,8 @@ impl<O: Kinds> Exchange<O> {
         ensures goes { Goes self.old.course self.new.course }
         ensures on { result ≡ Step.On }
     {
-        match asker(out, self.place().point()) {
-            Ok(side) => {
-                self.asking = Some(side);
+        match begin_asking(out, self.place().point(), &mut self.asking) {
+            Ok(()) => {
                 self.course.done(Event::Asked);
                 Step::On
             }
@@ -61,13 +103,10 @@ impl<O: Kinds> Exchange<O> {
         ensures goes { Goes self.old.course self.new.course }
         ensures on { result ≡ Step.On }
     {
-        let usable = match &self.asking {
-            Some(side) => is_reusable_after_options(side, answer),
-            None => false,
-        };
+        let usable = is_reusable(&self.asking, answer);
         match keep(at, out, self.place().point(), answer) {
             Ok(()) => {
-                self.asking = None;
+                clear(&mut self.asking);
                 self.course.done(Event::Learned { usable });
                 Step::On
             }
@@ -105,12 +144,9 @@ impl<O: Kinds> Exchange<O> {
         ensures goes { Goes self.old.course self.new.course }
         ensures on { result ≡ Step.On }
     {
-        if let Err(reason) = renew(at, out, &mut self.connection) {
-            return self.refuse(at, out, reason);
-        }
-        match asker(out, self.place().point()) {
-            Ok(side) => {
-                self.asking = Some(side);
+        let point = self.place().point();
+        match begin_anew(at, out, point, &mut self.asking, &mut self.connection) {
+            Ok(()) => {
                 self.course.take(Event::Renewed);
                 Step::On
             }

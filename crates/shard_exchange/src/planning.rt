@@ -3,10 +3,51 @@
 ghost use Rattle.std.specs.Prelude.{◌≡◌};
 
 use crate::exchange::{Exchange, Step};
+use crate::slots::lay;
 use exchange_core::Event;
-use proxy_rules::Reason;
-use shard_outside::{Kinds, Outside, Unplanned, make_plan, waits};
+use proxy_rules::{Incoming, Reason};
+use shard_outside::{Kinds, Outside, Planned, Unplanned, make_plan, waits};
+use std::boxed::Box;
 use trace_core::Point;
+
+/// What a plan says of its message.
+#[derive(Clone, Copy)]
+struct Marks {
+    /// Whether it is offered to its service.
+    offered: bool,
+    /// Whether its user waits to be told to send its body.
+    waits: bool,
+}
+
+/// Why a message is refused that has no plan, though its service was asked.
+fn reason_of(unplanned: Unplanned) -> Reason {
+    match unplanned {
+        Unplanned::Stale => Reason::Service,
+        Unplanned::Refused(reason) => reason,
+    }
+}
+
+/// Plans a message, and keeps its plan.
+fn keep_plan<P, O: Outside<P>>(
+    at: &P,
+    out: &O,
+    message: &Option<Box<Incoming>>,
+    asked: bool,
+    plan: &mut Option<Box<Planned>>,
+) -> Result<Marks, Unplanned> {
+    let Some(message) = message else {
+        return Err(Unplanned::Refused(Reason::NoMemory));
+    };
+    match make_plan(at, out, message, asked) {
+        Ok(planned) => {
+            let offered = planned.offer.is_offered();
+            let waits = waits(message);
+            lay(plan, planned);
+            Ok(Marks { offered, waits })
+        }
+        Err(unplanned) => Err(unplanned),
+    }
+}
 
 impl<O: Kinds> Exchange<O> {
     ghost use Rattle.exchange_core.specs.Dues.{due_of};
@@ -21,15 +62,10 @@ impl<O: Kinds> Exchange<O> {
         ensures goes { Goes self.old.course self.new.course }
         ensures on { result ≡ Step.On }
     {
-        let Some(message) = &self.message else {
-            return self.refuse(at, out, Reason::NoMemory);
-        };
         let course = self.course.course();
-        match make_plan(at, out, message, course.asked) {
-            Ok(planned) => {
-                let offered = planned.offer.is_offered();
-                let waits = course.place.point() == Point::Reqmod && !course.told && waits(message);
-                self.planned = Some(planned);
+        match keep_plan(at, out, &self.message, course.asked, &mut self.planned) {
+            Ok(Marks { offered, waits }) => {
+                let waits = waits && course.place.point() == Point::Reqmod && !course.told;
                 self.course.done(Event::Planned { offered, waits });
                 Step::On
             }
@@ -37,8 +73,7 @@ impl<O: Kinds> Exchange<O> {
                 self.course.done(Event::Stale);
                 Step::On
             }
-            Err(Unplanned::Stale) => self.refuse(at, out, Reason::Service),
-            Err(Unplanned::Refused(reason)) => self.refuse(at, out, reason),
+            Err(unplanned) => self.refuse(at, out, reason_of(unplanned)),
         }
     }
 }

@@ -1,33 +1,56 @@
 //! Messages that go no further, and what is still said to their users.
 
 ghost use Rattle.std.specs.Prelude.{◌≡◌, true, false};
+ghost use Rattle.proxy_rules.specs.Reasons as reasons;
 
-use crate::exchange::{Ending, Exchange, Step};
+use crate::exchange::{Exchange, Step};
+use crate::slots::clear;
 use exchange_core::{Event, Place};
 use http_side::own_refusal;
 use proxy_rules::Reason;
 use shard_outside::{Kinds, Lingered, Outside, Said, say_to, why_of};
 
+/// Takes note of a refusal, where one goes out.
+pub(crate) fn note<P, O: Outside<P>>(
+    at: &P,
+    out: &mut O,
+    course: &exchange_core::Exchange,
+    user: &Option<O::User>,
+    reason: Reason,
+) {
+    let course = course.course();
+    if course.is_mid_text() {
+        return;
+    }
+    let is_asking = matches!(course.place, Place::Asking { .. } | Place::InQueue { .. });
+    if let Some(user) = user {
+        out.note_refusal(at, user, reason, is_asking);
+    }
+}
+
+/// Says to a user that nothing more comes.
+pub(crate) fn finish_user<P, O: Outside<P>>(user: &Option<O::User>) {
+    if let Some(user) = user {
+        O::finish(user);
+    }
+}
+
+/// Drops what a user still sends.
+pub(crate) fn linger_on<P, O: Outside<P>>(user: &mut Option<O::User>, out: &mut O) -> Lingered {
+    match user {
+        Some(user) => out.linger(user),
+        None => Lingered::Over,
+    }
+}
+
 impl<O: Kinds> Exchange<O> {
+    ghost use Rattle.exchange_core.specs.Course.{after};
+    ghost use Rattle.exchange_core.specs.declared.event.Event.TheVariants.{Late};
     ghost use Rattle.exchange_core.specs.Dues.{due_of, is_wait, is_for_message, is_for_user};
     ghost use Rattle.exchange_core.specs.Log.{Goes};
     ghost use Rattle.exchange_core.specs.declared.due.Due.TheVariants as dues;
+    ghost use Rattle.shard_message.specs.Ends.{IsOwed};
     ghost use Rattle.shard_exchange.specs.Steps.{Heeds, is_moved};
-
-    /// Takes note of a refusal, where one goes out.
-    pub(crate) fn note<P>(&self, at: &P, out: &mut O, reason: Reason)
-    where
-        O: Outside<P>,
-    {
-        let course = self.course.course();
-        if course.is_mid_text() {
-            return;
-        }
-        let is_asking = matches!(course.place, Place::Asking { .. } | Place::InQueue { .. });
-        if let Some(user) = &self.user {
-            out.note_refusal(at, user, reason, is_asking);
-        }
-    }
 
     /// Has a message that doesn't move go no further: its user is refused, unless a part of another text is out.
     pub(crate) fn refuse<P>(&mut self, at: &P, out: &mut O, reason: Reason) -> Step
@@ -36,9 +59,10 @@ impl<O: Kinds> Exchange<O> {
         requires message { is_for_message (due_of self.old.course) ≡ true }
         requires still { is_moved (due_of self.old.course) ≡ false }
         ensures goes { Goes self.old.course self.new.course }
+        ensures owed { IsOwed self.old.course self.new.course (reasons.status_of reason) }
         ensures on { result ≡ Step.On }
     {
-        self.note(at, out, reason);
+        note(at, out, &self.course, &self.user, reason);
         self.course.failed(why_of(reason));
         Step::On
     }
@@ -50,19 +74,20 @@ impl<O: Kinds> Exchange<O> {
         ensures goes { Goes self.old.course self.new.course }
         ensures on { result ≡ Step.On }
     {
-        self.user = None;
+        clear(&mut self.user);
         self.course.lost();
         Step::On
     }
 
     /// Waits, unless the deadline has passed: then the user is let go.
-    pub(crate) fn wait<P>(&mut self, at: &P, out: &mut O) -> Step
+    pub(crate) fn wait<P>(&mut self, at: &P, out: &O) -> Step
     where
         O: Outside<P>,
         requires waits { is_wait (due_of self.old.course) ≡ true }
         requires still { is_moved (due_of self.old.course) ≡ false }
         ensures goes { Goes self.old.course self.new.course }
-        ensures heeds { Heeds (O.is_late out.new at.now) self.new.course result }
+        ensures late { O.is_late out.now at.now ≡ true → self.new.course ≡ after self.old.course Late }
+        ensures heeds { Heeds (O.is_late out.now at.now) self.new.course result }
     {
         if out.is_late(at) {
             self.course.late();
@@ -80,6 +105,7 @@ impl<O: Kinds> Exchange<O> {
         requires message { is_for_message (due_of self.old.course) ≡ true }
         requires still { is_moved (due_of self.old.course) ≡ false }
         ensures goes { Goes self.old.course self.new.course }
+        ensures late { O.is_late out.old at.now ≡ true → IsOwed self.old.course self.new.course 504 }
         ensures heeds { Heeds (O.is_late out.new at.now) self.new.course result }
     {
         if out.is_late(at) {
@@ -108,17 +134,6 @@ impl<O: Kinds> Exchange<O> {
         }
     }
 
-    /// Tries the refusal of this status for the last time.
-    pub(crate) fn try_refusal(&mut self, status: u16) -> Step
-        requires due { due_of self.old.course ≡ dues.TryRefusal status }
-        ensures goes { Goes self.old.course self.new.course }
-        ensures on { result ≡ Step.On }
-    {
-        let _ = say_to(&mut self.user, own_refusal(status), &mut self.refused);
-        self.course.done(Event::Tried);
-        Step::On
-    }
-
     /// Closes the user's connection: what the user still sends is dropped until it closes too.
     pub(crate) fn close<P>(&mut self, at: &P, out: &mut O) -> Step
     where
@@ -127,22 +142,12 @@ impl<O: Kinds> Exchange<O> {
         ensures goes { Goes self.old.course self.new.course }
         ensures heeds { Heeds (O.is_late out.new at.now) self.new.course result }
     {
-        let Some(user) = &mut self.user else {
-            return self.lose_user();
-        };
-        match self.ending {
-            Ending::Whole => {
-                O::finish(user);
-                self.ending = Ending::Said;
-                Step::On
-            }
-            Ending::Cut => {
-                O::cut(user);
-                self.course.dropped();
-                Step::On
-            }
-            Ending::Said => self.drop_rest(at, out),
+        if self.is_finished {
+            return self.drop_rest(at, out);
         }
+        finish_user::<P, O>(&self.user);
+        self.is_finished = true;
+        Step::On
     }
 
     /// Drops what the user still sends.
@@ -153,20 +158,16 @@ impl<O: Kinds> Exchange<O> {
         ensures goes { Goes self.old.course self.new.course }
         ensures heeds { Heeds (O.is_late out.new at.now) self.new.course result }
     {
-        let Some(user) = &mut self.user else {
-            return self.lose_user();
-        };
-        if out.is_late(at) {
-            self.course.late();
+        let lingered = linger_on::<P, O>(&mut self.user, out);
+        if lingered == Lingered::Over {
+            self.course.done(Event::UserClosed);
             return Step::On;
         }
-        match out.linger(user) {
-            Lingered::Over => {
-                self.course.done(Event::UserClosed);
-                Step::On
-            }
-            Lingered::Waiting => self.wait(at, out),
-            Lingered::CutShort => Step::On,
+        let step = self.wait(at, out);
+        if lingered == Lingered::CutShort {
+            Step::On
+        } else {
+            step
         }
     }
 }

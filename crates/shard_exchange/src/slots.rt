@@ -26,3 +26,17 @@ pub(crate) fn put_in<T>(slot: &mut Option<T>, held: T)
         Some(_) => unreachable!(),
     }
 }
+
+/// Puts something in, in place of what was held.
+pub(crate) fn lay<T: Drop>(slot: &mut Option<T>, held: T)
+    ensures { slot.new ≡ Some held }
+{
+    *slot = Some(held);
+}
+
+/// Lets go what is held.
+pub(crate) fn clear<T: Drop>(slot: &mut Option<T>)
+    ensures { slot.new ≡ None }
+{
+    *slot = None;
+}

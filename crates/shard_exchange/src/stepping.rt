@@ -58,7 +58,10 @@ impl<O: Kinds> Exchange<O> {
             Due::Release => self.release(rt, out),
             Due::HangUp => self.hang_up(),
             Due::Refuse(status) => self.write_refusal(at, out, status),
-            Due::TryRefusal(status) => self.try_refusal(status),
+            Due::TryRefusal(status) => {
+                let _ = self.try_refusal(rt, at, out, status);
+                Step::On
+            }
             Due::Linger => self.close(at, out),
             Due::Nothing => Step::On,
         }

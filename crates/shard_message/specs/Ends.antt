@@ -1,10 +1,18 @@
--- How the course of an exchange leaves a message that moves.
-use Rattle.std.specs.Prelude.{◌≡◌, Bool, true, false, ◌||◌}
+-- How the course of an exchange leaves a message, and what its user is owed then.
+use Rattle.std.specs.Prelude.{◌≡◌, ℕ, ⊤, Bool, true, false, ◌||◌}
 use Rattle.exchange_core.specs.declared.event.Event.{Event}
 use Rattle.exchange_core.specs.declared.event.Event.TheVariants.{Sent, Answered, UserLost, Stop, Failed}
+use Rattle.exchange_core.specs.declared.event.Why.TheVariants as whys
+use Rattle.exchange_core.specs.declared.place.Place.{Place}
+use Rattle.exchange_core.specs.declared.place.Place.TheVariants.{Refusing}
 use Rattle.exchange_core.specs.declared.course.Course.{Course}
-use Rattle.exchange_core.specs.Course.{is_leased}
-use Rattle.exchange_core.specs.May.{is_at_gate, is_moving}
+use Rattle.exchange_core.specs.Course.{is_leased, is_mid_text}
+use Rattle.exchange_core.specs.May.{is_at_gate, is_moving, is_refusing, is_gone}
+use Rattle.exchange_core.specs.Dues.{status_of}
+use Rattle.shard_message.specs.declared.ended.End.{End}
+use Rattle.shard_message.specs.declared.ended.End.TheVariants as ends
+use Rattle.shard_message.specs.declared.ended.EndedBy.{EndedBy}
+use Rattle.shard_message.specs.declared.ended.EndedBy.TheVariants as ended
 
 -- its transaction stands
 abbrev pub moves : Course → Bool
@@ -30,3 +38,23 @@ Stays old new = Holds old new × (new.place ≡ old.place) × (new.stopping ≡ 
 -- the message is over
 abbrev pub Leaves : Course → Course → Type 0
 Leaves old new = Holds old new × (moves new ≡ false)
+
+-- the status of the refusal that goes to the user, or 0
+abbrev pub refusal_at : Place → ℕ
+refusal_at (Refusing why) = status_of why
+refusal_at _ = 0
+
+-- a refusal of this status follows, unless a part of another text is out
+abbrev pub IsOwed : (old new : Course) → (status : ℕ) → Type 0
+IsOwed old new status = is_mid_text old ≡ false → (is_refusing new.place ≡ true) × (refusal_at new.place ≡ status)
+
+-- nothing is due for the user any more, but for a refusal
+abbrev pub is_stopped : Course → Bool
+is_stopped c = c.stopping || is_gone c.place
+
+-- how a message ends that is ended by this
+abbrev pub EndsBy : EndedBy → End → Type 0
+EndsBy ended.Deadline end = end ≡ ends.Failed whys.Deadline
+EndsBy ended.Stop end = end ≡ ends.Stopped
+EndsBy ended.User end = end ≡ ends.Lost
+EndsBy _ end = ⊤

@@ -1,10 +1,12 @@
 //! What the course of an exchange is told of a transaction that is over.
 
 ghost use Rattle.std.specs.Prelude.{◌≡◌, ◌⊎◌, true, false};
-ghost use Rattle.exchange_core.specs.Course.{after};
+ghost use Rattle.exchange_core.specs.declared.event.Why.{Why as AnyWhy};
+ghost use Rattle.exchange_core.specs.Course.{after, is_mid_text};
+ghost use Rattle.exchange_core.specs.Dues.{status_of};
 ghost use Rattle.exchange_core.specs.May.{may_come, is_gone, is_refusing, is_idle};
 ghost use Rattle.exchange_core.specs.Log.{Goes};
-ghost use Rattle.shard_message.specs.Ends.{moves, ends_message, Stays, Leaves};
+ghost use Rattle.shard_message.specs.Ends.{moves, ends_message, Stays, Leaves, IsOwed, is_stopped};
 
 use crate::ended::{End, Report};
 use exchange_core::{Event, Exchange, Why};
@@ -33,6 +35,7 @@ fn tell_begun(course: &mut Exchange, has_answered: bool) -> bool
     ensures goes { Goes course.old course.new }
     ensures stays { result ≡ true → Stays course.old course.new }
     ensures begun { result ≡ true → has_answered ≡ true → course.new.begun ≡ true }
+    ensures same { has_answered ≡ false → (result ≡ true) × (course.new ≡ course.old) }
     ensures lost { result ≡ false → Leaves course.old course.new × (is_gone course.new.place ≡ true) }
 {
     if !has_answered || course.course().begun {
@@ -50,6 +53,8 @@ fn tell_end(course: &mut Exchange, end: End)
     ensures goes { Goes course.old course.new }
     ensures leaves { Leaves course.old course.new }
     ensures lost { end ≡ End.Lost → is_gone course.new.place ≡ true }
+    ensures stops { end ≡ End.Stopped → is_stopped course.new ≡ true }
+    ensures owed { (why : AnyWhy) → end ≡ End.Failed why → IsOwed course.old course.new (status_of why) }
     ensures alone { course.old.begun ≡ true → is_refusing course.new.place ≡ false }
     ensures keeps { is_idle course.new.place ≡ true → end ≡ End.Answered true }
 {
@@ -73,6 +78,7 @@ fn tell_served(course: &mut Exchange, served: Option<bool>)
     ensures goes { Goes course.old course.new }
     ensures stays { Stays course.old course.new }
     ensures begun { course.new.begun ≡ course.old.begun }
+    ensures text { is_mid_text course.new ≡ is_mid_text course.old }
 {
     if let Some(usable) = served
         && course.may(Event::Served { usable })
@@ -87,6 +93,8 @@ fn tell_cut(course: &mut Exchange, cuts: bool)
     ensures goes { Goes course.old course.new }
     ensures leaves { Leaves course.old course.new }
     ensures gone { is_gone course.old.place ≡ true → is_gone course.new.place ≡ true }
+    ensures stops { is_stopped course.old ≡ true → is_stopped course.new ≡ true }
+    ensures same { cuts ≡ false → course.new ≡ course.old }
     ensures place { (course.new.place ≡ course.old.place) ⊎ (is_gone course.new.place ≡ true) }
 {
     if cuts && course.may(Event::Dropped) {
@@ -94,14 +102,18 @@ fn tell_cut(course: &mut Exchange, cuts: bool)
     }
 }
 
-/// Tells the course of a transaction that is over. A user to whom a byte of an answer went gets no refusal behind it, and a further
-/// request is read only behind an answer that keeps its connection.
+/// Tells the course of a transaction that is over. A user to whom a byte of an answer went gets no refusal behind it. One to whom none
+/// went gets the refusal of the cause by which its message failed. A further request is read only behind an answer that keeps its
+/// connection.
 pub fn tell(course: &mut Exchange, report: Report)
     requires moves { moves course.old ≡ true }
     requires runs { course.old.stopping ≡ false }
     ensures goes { Goes course.old course.new }
     ensures leaves { Leaves course.old course.new }
     ensures lost { report.end ≡ End.Lost → is_gone course.new.place ≡ true }
+    ensures stops { report.end ≡ End.Stopped → is_stopped course.new ≡ true }
+    ensures owed { (why : AnyWhy) → report.end ≡ End.Failed why → report.has_answered ≡ false → report.cuts ≡ false
+        → IsOwed course.old course.new (status_of why) }
     ensures alone { report.has_answered ≡ true → is_refusing course.new.place ≡ false }
     ensures keeps { is_idle course.new.place ≡ true → report.end ≡ End.Answered true }
 {

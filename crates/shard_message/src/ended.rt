@@ -1,6 +1,6 @@
 //! How messages end.
 
-ghost use Rattle.std.specs.Prelude.{◌≡◌};
+ghost use Rattle.shard_message.specs.Ends.{EndsBy};
 
 use adapt_turn::Outcome;
 use exchange_core::Why;
@@ -79,7 +79,7 @@ pub struct Report {
 
 /// How a message ended.
 fn end_of<M>(by: EndedBy, point: Point, sequel: &Sequel<M>) -> End
-    ensures { by ≡ EndedBy.User → result ≡ End.Lost }
+    ensures { EndsBy by result }
 {
     match by {
         EndedBy::Stop => End::Stopped,
@@ -112,7 +112,7 @@ pub(crate) fn report_of<M>(
     is_reusable: bool,
     sequel: &Sequel<M>,
 ) -> Report
-    ensures { by ≡ EndedBy.User → result.end ≡ End.Lost }
+    ensures { EndsBy by result.end }
 {
     let (is_whole, is_old) = match sequel {
         Sequel::Sent(_) | Sequel::Answered(_) => (true, false),

@@ -1,9 +1,10 @@
 //! Messages that move.
 
 ghost use Rattle.std.specs.Prelude.{◌≡◌, is_some, true};
+ghost use Rattle.shard_message.specs.Ends.{EndsBy};
 
 use crate::connection::{Connection, lay_wire};
-use crate::ended::{End, EndedBy};
+use crate::ended::EndedBy;
 use crate::room::Room;
 use crate::settled::{Settled, settle_request, settle_response};
 use crate::start::{Pace, set_out};
@@ -16,7 +17,7 @@ use shard_outside::{Kinds, Outside};
 use span_bank::{Bank, Stake};
 use std::boxed::Box;
 use std::sync::Wait;
-use trace_core::{Point, Seen};
+use trace_core::Point;
 
 /// The types of a request's connections: from the user to the origin.
 type RequestWires<O> = (
@@ -163,14 +164,6 @@ impl<O: Kinds> Moving<O> {
         }
     }
 
-    /// What its history shows.
-    pub fn seen(&self) -> Seen {
-        match self {
-            Moving::Request(tx) => tx.seen(),
-            Moving::Response(tx) => tx.seen(),
-        }
-    }
-
     /// Takes the transaction apart of a message that is over, or ends by this. What became of the message is noted.
     pub fn settle<P, R: Wait>(
         self,
@@ -181,7 +174,7 @@ impl<O: Kinds> Moving<O> {
     ) -> Settled<O, Incoming>
     where
         O: Outside<P>,
-        ensures lost { by ≡ EndedBy.User → result.report.end ≡ End.Lost }
+        ensures { EndsBy by result.report.end }
     {
         match self {
             Moving::Request(tx) => {

@@ -1,6 +1,7 @@
 //! Transactions taken apart: what they stood over, and what comes of their messages.
 
 ghost use Rattle.std.specs.Prelude.{◌≡◌};
+ghost use Rattle.shard_message.specs.Ends.{EndsBy};
 
 use crate::ended::{End, EndedBy, Report, Sequel, message_of, report_of};
 use crate::moving::{Connections, Remains};
@@ -171,7 +172,7 @@ fn settle_taken<P, O: Outside<P>, V: Served, M: Drop>(
     sequel: Sequel<M>,
     by: EndedBy,
 ) -> Settled<O, M>
-    ensures { by ≡ EndedBy.User → result.report.end ≡ End.Lost }
+    ensures { EndsBy by result.report.end }
 {
     let Taken {
         stake,
@@ -216,7 +217,7 @@ pub(crate) fn settle_request<
     >,
     R: Wait,
 >(rt: &R, at: &P, out: &mut O, tx: Tx<O::Ledgers, E>, by: EndedBy) -> Settled<O, S::Message>
-    ensures { by ≡ EndedBy.User → result.report.end ≡ End.Lost }
+    ensures { EndsBy by result.report.end }
 {
     let Parts {
         stake,
@@ -272,7 +273,7 @@ pub(crate) fn settle_response<
     >,
     R: Wait,
 >(rt: &R, at: &P, out: &mut O, tx: Tx<O::Ledgers, E>, by: EndedBy) -> Settled<O, S::Message>
-    ensures { by ≡ EndedBy.User → result.report.end ≡ End.Lost }
+    ensures { EndsBy by result.report.end }
 {
     let Parts {
         stake,

@@ -11,7 +11,7 @@ use std::boxed::Box;
 use trace_core::Point;
 use wire_kit::Wire;
 
-/// Who asks the service of a point for its options. `None` where there is no service, or no memory was found.
+/// Who asks the service of a point for its options. `Err` where there is no service, or no memory was found.
 pub fn asker<P, O: Outside<P>>(out: &O, point: Point) -> Result<Box<OptionsSide>, Reason> {
     let Some(service) = service_of(out.config(), point) else {
         return Err(Reason::Service);

@@ -1,6 +1,7 @@
 //! What an exchange asks of its surroundings: connections, the budget, the clock, and what is noted of it.
 
-ghost use Rattle.std.specs.Prelude.{◌≡◌, Bool};
+ghost use Rattle.std.specs.Prelude.{◌≡◌, Bool, IfOk};
+ghost use Rattle.trace_core.specs.declared.history.Point.{Point as AnyPoint};
 
 use adapt_sides::ClientFault;
 use adapt_turn::Outcome;
@@ -63,6 +64,9 @@ pub trait Outside<P>: Kinds {
     // no byte of the exchange moved for longer than the deadline
     ghost is_late: { Self → P → Bool };
 
+    // the point whose service the lease is of
+    ghost point_of: { Self.Lease → AnyPoint };
+
     fn alloc(&self) -> Global;
 
     fn config(&self) -> &Config;
@@ -94,14 +98,16 @@ pub trait Outside<P>: Kinds {
     fn note_tag(&mut self, point: Point, tag: &[u8]);
 
     /// Leases a connection to a point's service, an idle one first. One that comes while others wait for theirs gets none.
-    fn lend(&mut self, at: &P, point: Point) -> Result<(Self::Service, Self::Lease), LendFault>;
+    fn lend(&mut self, at: &P, point: Point) -> Result<(Self::Service, Self::Lease), LendFault>
+        ensures { IfOk result (λ lent. point_of lent.1 ≡ point) };
 
     /// Leases a connection to a message that waits, once it is its turn. With a connection it has left the queue.
     fn lend_in_turn(
         &mut self,
         at: &P,
         point: Point,
-    ) -> Result<(Self::Service, Self::Lease), LendFault>;
+    ) -> Result<(Self::Service, Self::Lease), LendFault>
+        ensures { IfOk result (λ lent. point_of lent.1 ≡ point) };
 
     /// Has a message wait for a connection. False where it may not.
     fn join_queue(&mut self, at: &P, point: Point) -> bool;
@@ -109,8 +115,9 @@ pub trait Outside<P>: Kinds {
     /// Has a message wait no more.
     fn leave_queue(&mut self, at: &P, point: Point);
 
-    /// A fresh connection in place of a leased one that broke and is closed, where one may be opened.
-    fn reopen(&mut self, at: &P, lease: &mut Self::Lease) -> Result<Self::Service, LendFault>;
+    /// A fresh connection in place of a leased one that broke and is closed, where one may be opened. It is of the same service.
+    fn reopen(&mut self, at: &P, lease: &mut Self::Lease) -> Result<Self::Service, LendFault>
+        ensures { point_of lease.new ≡ point_of lease.old };
 
     /// Whether the leased connection was idle before, and was not replaced since.
     fn is_reused(lease: &Self::Lease) -> bool;
@@ -130,7 +137,7 @@ pub trait Outside<P>: Kinds {
     /// Says to the user that nothing more comes.
     fn finish(user: &Self::User);
 
-    /// Has the user see that what it got isn't whole: its connection is reset once it is closed.
+    /// Has the user see that what it got isn't whole: its connection is reset at once, and what it hasn't got yet is dropped.
     fn cut(user: &Self::User);
 
     /// Reads and drops what the user still sends.

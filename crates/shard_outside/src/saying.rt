@@ -1,6 +1,6 @@
-//! What the proxy itself says to a user: it goes out here alone.
+//! What the proxy itself says to a user that has a seat: a refusal, or that it is to send its body.
 
-ghost use Rattle.std.specs.Prelude.{◌≡◌, IfSome};
+ghost use Rattle.std.specs.Prelude.{◌≡◌, IfSome, is_some, true};
 ghost use Rattle.shard_outside.specs.Saying.{Says, left_at};
 
 use adapt_bytes::behind;
@@ -42,15 +42,17 @@ fn say<W: Wire>(user: &mut W, text: &'static [u8], before: usize) -> Said
 }
 
 /// Says a text to a user, of which so many bytes are out: one write at most, of what is left of it. A user whose connection has failed
-/// is gone.
+/// is gone, and no other.
 pub fn say_to<W: Wire + Drop>(user: &mut Option<W>, text: &'static [u8], out: &mut usize) -> Said
-    ensures { IfSome user.old (λ old. IfSome user.new (λ new.
+    ensures says { IfSome user.old (λ old. IfSome user.new (λ new.
         Says (W.past old) (W.past new) text.now out.old result × (out.new ≡ left_at out.old result))) }
+    ensures kept { (result ≡ Said.Broken → ⊥) → is_some user.new ≡ true }
+    ensures none { is_some user.new ≡ true → is_some user.old ≡ true }
 {
-    let said = match user {
-        Some(user) => say(user, text, *out),
-        None => Said::Broken,
+    let Some(wire) = user else {
+        return Said::Broken;
     };
+    let said = say(wire, text, *out);
     match said {
         Said::Part(count) => *out = count,
         Said::Broken => *user = None,

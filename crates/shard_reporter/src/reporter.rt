@@ -146,7 +146,7 @@ impl Reporter {
     }
 
     /// What became of a message, of whose answer a byte went to the user or not.
-    pub fn message(&mut self, tally: &Tally, key: usize, seen: &Seen, has_answered: bool) {
+    fn message(&mut self, tally: &Tally, key: usize, seen: &Seen, has_answered: bool) {
         let point = seen.plan.point;
         let verdict = verdict_of(seen);
         self.notes.judge(key, point, verdict);
@@ -188,13 +188,6 @@ impl Reporter {
     /// The exchange ends because the proxy stops.
     pub fn stop(&mut self, key: usize) {
         self.ends(key, Why::Stopping);
-    }
-
-    /// The loop ends with an exchange in its midst.
-    pub fn abandon(&mut self, key: usize) {
-        if let Some(note) = self.notes.get_mut(key) {
-            note.why = Some(note.why.unwrap_or(Why::Stopping));
-        }
     }
 
     /// The answer ends for this reason.

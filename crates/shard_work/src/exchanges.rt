@@ -43,9 +43,6 @@ pub trait Exchanges {
     /// The message under this key is over, if one was open: it is counted, and its line added to the log.
     fn report<R: Wait + Clock>(&mut self, rt: &R, key: usize);
 
-    /// The loop ends with this exchange in its midst: what became of its message is noted, and that it was stopped.
-    fn abandon(&mut self, key: usize, exchange: &Self::Exchange);
-
     /// What a user's connection begins with: its first request, or the refusal where there is no room for it, or no memory.
     fn first(&self, user: UserWire, purpose: Purpose) -> Self::Exchange;
 
@@ -65,7 +62,8 @@ pub trait Exchanges {
     )
         ensures { is_over exchange.new ≡ true };
 
-    /// Ends an exchange because the proxy stops. Its user is refused where no byte of an answer is out.
+    /// Ends an exchange because the proxy stops. Its user is refused where a part of its request came, and no byte of an answer is out.
+    /// For any other user it is over.
     fn halt<R: Wait + Dial + Clock, G: Gate>(
         &mut self,
         at: &Spot<'_, R, G>,
@@ -134,10 +132,6 @@ impl<S: Shares> Exchanges for Desk<S> {
 
     fn report<R: Wait + Clock>(&mut self, rt: &R, key: usize) {
         Desk::report(self, rt, key);
-    }
-
-    fn abandon(&mut self, key: usize, exchange: &Exchange<Desk<S>>) {
-        Desk::abandon(self, key, exchange.seen());
     }
 
     fn first(&self, user: UserWire, purpose: Purpose) -> Exchange<Desk<S>> {

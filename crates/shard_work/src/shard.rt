@@ -38,7 +38,8 @@ pub struct Shard<'a, D: Exchanges, G> {
     service: Service,
 }
 
-/// Says to a user for whom there isn't even a seat to spare that it be back later, where that costs nothing.
+/// Says to a user for whom there isn't even a seat to spare that it be back later, where that costs nothing. It has no wire, and no line
+/// of the log.
 fn turn_away(stream: TcpStream) {
     let mut stream = stream;
     let _ = stream.write(own_refusal(503));
@@ -56,7 +57,8 @@ impl<'a, D: Exchanges + Drop, G: Gate> Shard<'a, D, G> {
         })
     }
 
-    /// The slots, once the exchanges that are still open are reported. All else goes.
+    /// The slots, once the exchanges that are still open are reported: those that were stopped, and whose users haven't taken their
+    /// refusal. All else goes.
     pub fn into_slots<R: Wait + Clock>(self, rt: &R) -> Vec<Option<D::Exchange>> {
         let Shard {
             desk,
@@ -66,9 +68,6 @@ impl<'a, D: Exchanges + Drop, G: Gate> Shard<'a, D, G> {
         } = self;
         let mut desk = desk;
         for key in 0..slots.count() {
-            if let Some(exchange) = slots.get(key) {
-                desk.abandon(key, exchange);
-            }
             desk.report(rt, key);
         }
         slots.into_all()
@@ -120,15 +119,19 @@ impl<'a, D: Exchanges + Drop, G: Gate> Shard<'a, D, G> {
         self.desk.leave(at.rt, at.key);
     }
 
-    /// Ends the exchange under this key, because the proxy stops.
+    /// Ends the exchange under this key, because the proxy stops. It stays where its user is still to be refused.
     fn halt_slot<R: Wait + Dial + Clock>(&mut self, at: &Spot<'_, R, G>) {
         let Some(exchange) = self.slots.take(at.key) else {
             return;
         };
         let mut exchange = exchange;
         self.desk.halt(at, &mut exchange);
-        self.desk.report(at.rt, at.key);
-        self.keep(at, exchange);
+        if D::is_over(&exchange) {
+            D::finish(exchange);
+            self.desk.leave(at.rt, at.key);
+        } else {
+            self.keep(at, exchange);
+        }
     }
 
     /// Drives on an exchange that was ended: its user takes its refusal, and may still send. Once it sends no more all is given back.

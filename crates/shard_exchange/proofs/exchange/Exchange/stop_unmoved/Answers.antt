@@ -1,0 +1,5 @@
+use Rattle.exchange_core.proofs.Stepping.{goes_on}
+use Rattle.shard_exchange.proofs.exchange.Exchange.stop_unmoved.Goals as goal
+
+pub returns-clause-goes : goal.returns-clause-goes
+returns-clause-goes g c = goes_on _ _ _ c.take_stop.ensures.goes c.leave_origin.ensures.goes
