@@ -5,7 +5,7 @@ ghost use Rattle.std.specs.Prelude.{◌≡◌, IfOk};
 use crate::services::{NOW, book_of};
 use crate::stage::{Peer, Stage};
 use crate::talk::TalkWire;
-use crate::words::{either, first_word};
+use crate::words::{either, first_word, key_of};
 use adapt_sides::ClientFault;
 use options_book::Record;
 use plan_rules::Limits;
@@ -65,14 +65,6 @@ const SERVICES: [&[u8]; 4] = [b"service", b"service 2", b"service 3", b"service 
 
 /// The keys of what origins do.
 const ORIGINS: [&[u8]; 4] = [b"origin", b"origin 2", b"origin 3", b"origin 4"];
-
-/// The key of this number, from 1 on.
-fn key_of(keys: &[&'static [u8]; 4], number: u64) -> &'static [u8] {
-    match usize::try_from(number.saturating_sub(1)) {
-        Ok(at) if at < 4 => keys[at],
-        _ => b"none",
-    }
-}
 
 /// The right to a connection of a point's service.
 fn lease_of(point: Point, reused: bool) -> Lease

@@ -26,6 +26,14 @@ fn by_point(point: Point, request: &'static [u8], response: &'static [u8]) -> &'
     }
 }
 
+/// The key of this number, from 1 on.
+pub fn key_of(keys: &[&'static [u8]; 4], number: u64) -> &'static [u8] {
+    match usize::try_from(number.saturating_sub(1)) {
+        Ok(at) if at < 4 => keys[at],
+        _ => b"none",
+    }
+}
+
 /// What a place is called.
 pub fn name_of(place: Place) -> &'static [u8] {
     match place {
