@@ -167,6 +167,26 @@ def a_refusal_at_the_stop_is_tried_again(bench):
 
 
 @case
+def a_stop_waits_for_no_idle_user(bench):
+    """At a stop a user between two requests is closed at once, and holds nobody up; one with a half head gets 503."""
+    proxy = bench.proxy(bench.origin())
+    idle, served = User(proxy.port), User(proxy.port)
+    same("before it", served.ask(get("/bytes/3")).body, b"the")
+    start = time.monotonic()
+    same("audit", proxy.stop(), IDLE)
+    seconds = time.monotonic() - start
+    print("      it took %.2f s" % seconds)
+    same("at once", seconds < 0.8, True)
+    same("closed", [user.reader.to_end() for user in (idle, served)], [b"", b""])
+    proxy = bench.proxy(bench.origin())
+    half = User(proxy.port)
+    half.send(get("/bytes/3")[:20])
+    time.sleep(0.3)
+    same("audit", proxy.stop(), IDLE)
+    same("the refusal", half.reader.to_end(), refusal(503))
+
+
+@case
 def a_refusal_and_its_close_share_a_deadline(bench):
     """A refusal that can't be written for a while leaves less of the deadline to the close after it."""
     needs_tools("strace")
