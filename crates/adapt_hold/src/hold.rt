@@ -2,7 +2,6 @@
 
 ghost use Rattle.std.specs.Prelude.{◌≡◌, ◌+◌, ◌-◌, ◌≤◌, ◌<◌, ℕ, List, [], ◌∷◌, ◌++◌, length, Some, None, true, false, OnOk, OnErr, MatchResult};
 ghost use Rattle.span_bank.specs.declared.limits.TheConstants.{MAX_CAPACITY};
-ghost use Rattle.trace_core.specs.History.{seen};
 ghost use Rattle.trace_core.specs.Legal.{MayFollow};
 ghost use Rattle.trace_core.specs.Faults.{first_fault};
 ghost use Rattle.trace_core.specs.Held.{keeps_original, held_places};
@@ -247,7 +246,7 @@ impl<B: Ledgers> Hold<B> {
 
     /// The reservation of a closed transaction, which holds nothing and has no page.
     pub fn into_stake(self) -> Stake<B>
-        requires { (seen self.history.plan self.history.events).closed ≡ true }
+        requires { (shows self.history).closed ≡ true }
         ensures { result ≡ record { held = 0; claim = self.claim; pages = 0 } }
     {
         let Hold {

@@ -4,13 +4,13 @@ ghost use Rattle.std.specs.Prelude.{IsTrue, ◌≡◌, ℕ, ◌<◌, ◌≤◌, 
 ghost use Rattle.trace_core.specs.declared.history.Plan.{Plan};
 ghost use Rattle.trace_core.specs.declared.history.Event.{Event};
 ghost use Rattle.trace_core.specs.declared.history.Seen.{Seen};
-ghost use Rattle.trace_core.specs.History.{seen, in_bytes, ad_bytes};
+ghost use Rattle.trace_core.specs.History.{seen, in_bytes, ad_bytes, shows};
 ghost use Rattle.trace_core.specs.Legal.{Allows, IsLegal};
 ghost use Rattle.trace_core.specs.Turns.{is_of_hop};
 ghost use Rattle.adapt_sides.specs.declared.fault.RelayFault.{RelayFault as Fault};
 ghost use Rattle.adapt_sides.specs.Tapes.{KeepsUndelivered, chosen, chosen_received};
 ghost use Rattle.adapt_sides.specs.Turns.{Gives, Gift, IsExplained, FailsGiving, wire_fault};
-ghost use Rattle.adapt_bytes.specs.OwnStatus.{is_own_status};
+ghost use Rattle.http_side.specs.Refusals.{is_own_status};
 ghost use Rattle.adapt_sides.specs.Turns.Gift.{nothing, message, refusal};
 
 use crate::fault::RelayFault;
@@ -96,16 +96,16 @@ pub trait Hop {
         tape: &SpanTape,
         wire: &mut W,
     ) -> Result<Turn, RelayFault>
-        requires { KeepsUndelivered (seen state.now.plan state.now.events) tape.now }
+        requires { KeepsUndelivered (shows state.now) tape.now }
         ensures gift { gift self.new ≡ gift self.old }
         ensures framing { body_framing self.new ≡ body_framing self.old }
-        ensures turn { Gives (seen state.now.plan state.now.events) tape.now
+        ensures turn { Gives (shows state.now) tape.now
             (λ x head body taken. has_given x head body taken self.old) (λ x head body taken. has_given x head body taken self.new)
             (λ taken. aside taken self.old) (λ taken. aside taken self.new)
             (λ head body taken. is_whole head body taken self.new)
-            (fault self.old) (fault self.new) (rests (seen state.now.plan state.now.events) self.new)
+            (fault self.old) (fault self.new) (rests (shows state.now) self.new)
             (W.past wire.old) (W.past wire.new) result }
-        ensures reason { IsExplained (fault self.old) (FailsGiving ((gift self.new ≡ message) × breaks_length (seen state.now.plan state.now.events) (body_framing self.new))) result };
+        ensures reason { IsExplained (fault self.old) (FailsGiving ((gift self.new ≡ message) × breaks_length (shows state.now) (body_framing self.new))) result };
 
     // the other sides' events leave it; what comes of the chosen message stands after what came before
     ghost others: { (plan : Plan) (before : List Event) (event : Event) (head original adapted bytes more taken : List ℕ) (s : Self)

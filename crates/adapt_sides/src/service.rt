@@ -4,7 +4,7 @@ ghost use Rattle.std.specs.Prelude.{◌≡◌, ℕ, ◌⊎◌, ◌++◌, Bool, L
 ghost use Rattle.trace_core.specs.declared.history.Event.{Event};
 ghost use Rattle.trace_core.specs.declared.history.Event.TheVariants.{Retry};
 ghost use Rattle.trace_core.specs.declared.history.Seen.{Seen};
-ghost use Rattle.trace_core.specs.History.{seen, in_bytes, is_retry, is_preview};
+ghost use Rattle.trace_core.specs.History.{in_bytes, is_retry, is_preview, shows};
 ghost use Rattle.trace_core.specs.Legal.{Allows};
 ghost use Rattle.trace_core.specs.View.{after};
 ghost use Rattle.trace_core.specs.Turns.{is_of_sending, is_of_replies};
@@ -70,13 +70,13 @@ pub trait Service {
         tape: &SpanTape,
         wire: &mut W,
     ) -> Result<Turn, ClientFault>
-        requires { KeepsUnsent (seen state.now.plan state.now.events) tape.now }
+        requires { KeepsUnsent (shows state.now) tape.now }
         ensures heard { (x : Seen) (adapted read : List ℕ) → has_heard x adapted read self.old → has_heard x adapted read self.new }
         ensures head { adapted_head self.new ≡ adapted_head self.old }
         ensures response { is_response self.new ≡ is_response self.old }
-        ensures turn { Sends (seen state.now.plan state.now.events) tape.now
+        ensures turn { Sends (shows state.now) tape.now
             (λ heads x came taken. has_sent heads x came taken self.old) (λ heads x came taken. has_sent heads x came taken self.new)
-            (fault self.old) (fault self.new) (rests_writing (seen state.now.plan state.now.events) self.new)
+            (fault self.old) (fault self.new) (rests_writing (shows state.now) self.new)
             (W.past wire.old) (W.past wire.new) result }
         ensures reason { IsExplained (fault self.old) (λ fault. fault ≡ Device) result };
 
@@ -88,16 +88,16 @@ pub trait Service {
         out: &mut [u8],
     ) -> Result<Turn, ClientFault>
         ensures keeps { length out.new ≡ length out.old }
-        ensures sent { (heads came taken : List ℕ) → has_sent heads (seen state.now.plan state.now.events) came taken self.old
-            → has_sent heads (seen state.now.plan state.now.events) came taken self.new }
+        ensures sent { (heads came taken : List ℕ) → has_sent heads (shows state.now) came taken self.old
+            → has_sent heads (shows state.now) came taken self.new }
         ensures rests { (x : Seen) → rests_writing x self.old → rests_writing x self.new }
-        ensures head { (seen state.now.plan state.now.events).modified ≡ true → adapted_head self.new ≡ adapted_head self.old }
-        ensures response { (seen state.now.plan state.now.events).modified ≡ true → is_response self.new ≡ is_response self.old }
-        ensures turn { Hears (seen state.now.plan state.now.events)
+        ensures head { (shows state.now).modified ≡ true → adapted_head self.new ≡ adapted_head self.old }
+        ensures response { (shows state.now).modified ≡ true → is_response self.new ≡ is_response self.old }
+        ensures turn { Hears (shows state.now)
             (λ x adapted read. has_heard x adapted read self.old) (λ x adapted read. has_heard x adapted read self.new)
-            (fault self.old) (fault self.new) (rests_reading (seen state.now.plan state.now.events) (length out.old) self.new) (is_framed (length out.old) self.new)
+            (fault self.old) (fault self.new) (rests_reading (shows state.now) (length out.old) self.new) (is_framed (length out.old) self.new)
             (W.past wire.old) (W.past wire.new) out.new result }
-        ensures reason { IsExplained (fault self.old) (λ fault. has_reason fault (seen state.now.plan state.now.events) self.new) result };
+        ensures reason { IsExplained (fault self.old) (λ fault. has_reason fault (shows state.now) self.new) result };
 
     /// Begins the request anew, for a fresh connection, if a Retry may follow: all of its text is still kept.
     fn restart(&mut self)

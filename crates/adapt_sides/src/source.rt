@@ -4,7 +4,7 @@ ghost use Rattle.std.specs.Prelude.{◌≡◌, ◌↔◌, ℕ, ◌⊎◌, List, 
 ghost use Rattle.trace_core.specs.declared.history.Plan.{Plan as Planned};
 ghost use Rattle.trace_core.specs.declared.history.Event.{Event};
 ghost use Rattle.trace_core.specs.declared.history.Seen.{Seen};
-ghost use Rattle.trace_core.specs.History.{seen};
+ghost use Rattle.trace_core.specs.History.{seen, shows};
 ghost use Rattle.trace_core.specs.View.{after};
 ghost use Rattle.trace_core.specs.Turns.{is_of_source};
 ghost use Rattle.adapt_sides.specs.declared.fault.RelayFault.{RelayFault as Fault};
@@ -55,8 +55,8 @@ pub trait Source {
 
     /// Whether its numbers are those of this history: the bytes that came, the end, and a known length.
     fn agrees_with(&self, state: &State) -> bool
-        ensures yes { result ≡ true → agrees (seen state.now.plan state.now.events) self.now }
-        ensures no { result ≡ false → agrees (seen state.now.plan state.now.events) self.now → ⊥ };
+        ensures yes { result ≡ true → agrees (shows state.now) self.now }
+        ensures no { result ≡ false → agrees (shows state.now) self.now → ⊥ };
 
     /// Reads what the wire gives. The body bytes go to the beginning of the buffer; the sum of In is their number. With an empty
     /// buffer it asks no wire, and still answers an End that is due. A body whose framing gives no end has ended once the wire has.

@@ -3,7 +3,7 @@
 ghost use Rattle.std.specs.Prelude.{ℕ, Bool, List, Option, IfOk, IfErr, option_copied};
 ghost use Rattle.trace_core.specs.declared.history.Cause.{Cause as Why};
 ghost use Rattle.trace_core.specs.declared.history.Seen.{Seen};
-ghost use Rattle.trace_core.specs.History.{seen};
+ghost use Rattle.trace_core.specs.History.{shows};
 
 use adapt_sides::{Hop, Source};
 use std::alloc::Global;
@@ -28,6 +28,6 @@ pub trait MakesHead<S: Source, K: Hop>: Drop {
         adapted: Option<&[u8]>,
         is_response: bool,
     ) -> Result<(Vec<u8>, K::Framing), Cause>
-        ensures made { IfOk result (λ made. makes self.new (S.head source.now) (seen state.now.plan state.now.events) (option_copied adapted.entry) is_response made.0.items made.1) }
-        ensures refused { IfErr result (λ cause. makes_none self.old (S.head source.now) (seen state.now.plan state.now.events) (option_copied adapted.entry) is_response cause) };
+        ensures made { IfOk result (λ made. makes self.new (S.head source.now) (shows state.now) (option_copied adapted.entry) is_response made.0.items made.1) }
+        ensures refused { IfErr result (λ cause. makes_none self.old (S.head source.now) (shows state.now) (option_copied adapted.entry) is_response cause) };
 }

@@ -1,6 +1,6 @@
 //! Requests as the service's wire takes them, and whole exchanges with it.
 ghost use Rattle.std.specs.Prelude.{◌≡◌, true};
-ghost use Rattle.trace_core.specs.History.{seen};
+ghost use Rattle.trace_core.specs.History.{seen, shows};
 ghost use Rattle.icap_client.specs.Sending.{KeepsUnsent};
 
 use crate::kept::Kept;
@@ -26,7 +26,7 @@ struct Exchange {
 
 /// Whether the tape has what the history may still send.
 fn is_tape_of(state: &State, tape: &SpanTape) -> bool
-    ensures { result ≡ true → KeepsUnsent (seen state.now.plan state.now.events) tape.now }
+    ensures { result ≡ true → KeepsUnsent (shows state.now) tape.now }
 {
     let seen = state.seen();
     tape.end() == seen.received && tape.base() <= seen.sent

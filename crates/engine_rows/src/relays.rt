@@ -1,6 +1,6 @@
 //! Messages on their way from one wire to another.
 ghost use Rattle.std.specs.Prelude.{◌≡◌, true};
-ghost use Rattle.trace_core.specs.History.{seen};
+ghost use Rattle.trace_core.specs.History.{seen, shows};
 ghost use Rattle.adapt_sides.specs.Tapes.{KeepsUndelivered};
 
 use crate::kept::Kept;
@@ -42,7 +42,7 @@ struct Exchange {
 
 /// Whether the tape has what may still go out of the chosen message, and nothing before it.
 pub fn is_in_step(state: &State, tape: &SpanTape) -> bool
-    ensures { result ≡ true → KeepsUndelivered (seen state.now.plan state.now.events) tape.now }
+    ensures { result ≡ true → KeepsUndelivered (shows state.now) tape.now }
 {
     let seen = state.seen();
     let (came, out) = if seen.plan.kind == Kind::Plain || seen.no_mod {

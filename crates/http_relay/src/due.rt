@@ -1,7 +1,7 @@
 //! What may go to the next hop next.
 
 ghost use Rattle.std.specs.Prelude.{◌≡◌, ◌+◌, ◌≤◌, [], IfSome, is_some, true, false, Some, None};
-ghost use Rattle.trace_core.specs.History.{seen};
+ghost use Rattle.trace_core.specs.History.{seen, shows};
 ghost use Rattle.trace_core.specs.Legal.{IsGreatest, MayFollow};
 ghost use Rattle.chunk_writer.specs.Writer.{is_ending, end_text};
 ghost use Rattle.http_relay.specs.Message.{is_chunks, length_of};
@@ -23,8 +23,8 @@ pub(crate) fn decide(
     framing: Framing,
     stage: Stage,
 ) -> Option<Next>
-    ensures next { IfSome result (λ next. Decides (seen state.now.plan state.now.events) writer.now framing stage next) }
-    ensures none { result ≡ None → (is_message stage ≡ true) × BreaksLength (seen state.now.plan state.now.events) framing }
+    ensures next { IfSome result (λ next. Decides (shows state.now) writer.now framing stage next) }
+    ensures none { result ≡ None → (is_message stage ≡ true) × BreaksLength (shows state.now) framing }
 {
     let seen = state.seen();
     let chunked = is_in_chunks(framing);

@@ -2,7 +2,7 @@
 
 ghost use Rattle.std.specs.Prelude.{◌≡◌, ℕ, List, IfSome, IfErr, OnOk, Err, IsTrue, true, false, Some, None, [], ◌⊎◌, not, length};
 ghost use Rattle.trace_core.specs.declared.history.Seen.{Seen};
-ghost use Rattle.trace_core.specs.History.{seen};
+ghost use Rattle.trace_core.specs.History.{shows};
 ghost use Rattle.chunk_writer.specs.Writer.{fresh, waiting, KeepsNoText};
 ghost use Rattle.http_side.specs.Refusals.{is_own_status, refusal};
 ghost use Rattle.adapt_sides.specs.Tapes.{KeepsUndelivered};
@@ -172,8 +172,8 @@ impl HopWriter {
         tape: &SpanTape,
         wire: &mut W,
     ) -> Result<Turn, RelayFault>
-        requires { KeepsUndelivered (seen state.now.plan state.now.events) tape.now }
-        ensures turn { WriteTurn (seen state.now.plan state.now.events) tape.now self.old self.new (W.past wire.old) (W.past wire.new) result }
+        requires { KeepsUndelivered (shows state.now) tape.now }
+        ensures turn { WriteTurn (shows state.now) tape.now self.old self.new (W.past wire.old) (W.past wire.new) result }
 
         // A side that failed keeps its fault, and answers it again; a turn that goes well leaves none.
         ensures faulted { IfSome self.old.fault (λ fault. result ≡ Err fault) }

@@ -1,7 +1,7 @@
 //! The source's side: a message's head, and its body, over a wire.
 
 ghost use Rattle.std.specs.Prelude.{◌≡◌, ◌<◌, ◌≤◌, [], length, take, IfOk, IfErr, OnOk, OnErr, None, true, false, List, ℕ, ◌↔◌, IsTrue, option_copied};
-ghost use Rattle.trace_core.specs.History.{seen};
+ghost use Rattle.trace_core.specs.History.{seen, shows};
 ghost use Rattle.trace_core.specs.Turns.{in_sum};
 ghost use Rattle.adapt_sides.specs.declared.filling.TheConstants.{MAX_READ};
 ghost use Rattle.http_side.specs.Body.{is_over};
@@ -310,7 +310,7 @@ impl SourceSide {
 
     /// Whether its numbers are those of this history: the bytes of the body that were reported, its end, and a known length.
     pub fn agrees_with(&self, state: &State) -> bool
-        ensures { IsTrue result ↔ Agrees (seen state.now.plan state.now.events) self.now.body }
+        ensures { IsTrue result ↔ Agrees (shows state.now) self.now.body }
     {
         self.body.agrees_with(&state.seen())
     }

@@ -1,6 +1,9 @@
 -- The proxy's own error responses.
-use Rattle.std.specs.Prelude.{ℕ, List, ◌++◌, codes, if◌then◌else◌, ◌==◌}
-pub use Rattle.adapt_bytes.specs.OwnStatus.{is_own_status}
+use Rattle.std.specs.Prelude.{ℕ, Bool, List, ◌++◌, codes, if◌then◌else◌, ◌==◌, ◌||◌}
+
+-- the statuses that they have (RFC 9110, sections 15.5 and 15.6)
+abbrev pub is_own_status : ℕ → Bool
+is_own_status status = (status == 400) || ((status == 501) || ((status == 502) || ((status == 503) || (status == 504))))
 
 -- the status and its phrase
 abbrev pub status_text : ℕ → List ℕ

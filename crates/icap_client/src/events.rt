@@ -1,7 +1,7 @@
 //! What the reader of responses answers: events, whether they may come now, and the fault of a head.
 
 ghost use Rattle.std.specs.Prelude.{◌≡◌, ◌≢◌, ◌<◌, ◌⊎◌, [], IfSome, IfNone, IsTrue, ◌↔◌, true, false};
-ghost use Rattle.trace_core.specs.History.{seen};
+ghost use Rattle.trace_core.specs.History.{shows};
 ghost use Rattle.icap_client.specs.Events.{listed, MayHear, MayAllFollow, adapted_events};
 ghost use Rattle.icap_client.specs.Replies.{payload_if};
 
@@ -68,9 +68,9 @@ pub(crate) fn adapted_events(count: usize, ended: bool) -> ArrayVec<Event, 4>
 
 /// Whether these events may come now.
 pub(crate) fn may_all(state: &State, count: usize, ended: bool) -> bool
-    ensures may { IsTrue result → MayAllFollow (seen state.now.plan state.now.events) (adapted_events count ended) }
-    ensures heard { IsTrue result → (adapted_events count ended ≡ []) ⊎ ((seen state.now.plan state.now.events).heard ≡ true) }
-    ensures may_not { result ≡ false → ((0 < count) × (MayHear (seen state.now.plan state.now.events) (Event.Ad count) → ⊥)) ⊎ ((count ≡ 0) × (ended ≡ true) × (MayHear (seen state.now.plan state.now.events) Event.AdEnd → ⊥)) }
+    ensures may { IsTrue result → MayAllFollow (shows state.now) (adapted_events count ended) }
+    ensures heard { IsTrue result → (adapted_events count ended ≡ []) ⊎ ((shows state.now).heard ≡ true) }
+    ensures may_not { result ≡ false → ((0 < count) × (MayHear (shows state.now) (Event.Ad count) → ⊥)) ⊎ ((count ≡ 0) × (ended ≡ true) × (MayHear (shows state.now) Event.AdEnd → ⊥)) }
 {
     if count > 0 {
         return may_hear(state, Event::Ad(count as u64));
@@ -83,7 +83,7 @@ pub(crate) fn may_all(state: &State, count: usize, ended: bool) -> bool
 
 /// Whether the event may come now, after a first byte that was read before.
 fn may_hear(state: &State, event: Event) -> bool
-    ensures { IsTrue result ↔ MayHear (seen state.now.plan state.now.events) event }
+    ensures { IsTrue result ↔ MayHear (shows state.now) event }
 {
     state.seen().heard && state.may(event)
 }

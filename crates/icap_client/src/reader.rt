@@ -4,7 +4,7 @@ ghost use Rattle.std.specs.Prelude.{◌≡◌, ℕ, ◌<◌, ◌≤◌, ◌⊎�
 ghost use Rattle.icap_head.specs.Heads.{Response, HasResponse, response_parts, RefusesIcapHead};
 ghost use Rattle.icap_head.specs.StartLines.{StatusForm};
 ghost use Rattle.icap_head.specs.declared.reading.HeadFault.TheVariants as heads;
-ghost use Rattle.trace_core.specs.History.{seen};
+ghost use Rattle.trace_core.specs.History.{seen, shows};
 ghost use Rattle.icap_client.specs.Events.{listed, MayCome, MayHear, MayAllFollow, ad_sum, adapted_events};
 ghost use Rattle.icap_client.specs.Said.{tag_in, says_close};
 ghost use Rattle.icap_client.specs.Heard.{noted, Reader, in_stage, KeepsLimits, KeepsHead, Stays};
@@ -118,10 +118,10 @@ impl ReplyReader {
         requires said { (self.old.tag ≡ tag_in (response_parts value.now).fields) × (self.old.closes ≡ says_close (response_parts value.now).fields) }
         ensures within { IfOk result (λ framed. framed.used ≤ length raw.now) }
         ensures silent { IfOk result (λ framed. ad_sum (listed framed.event) ≡ 0) }
-        ensures hears { IfOk result (λ framed. ReaderHears (seen state.now.plan state.now.events) self.old self.new (listed framed.event) (take framed.used raw.now) []) }
+        ensures hears { IfOk result (λ framed. ReaderHears (shows state.now) self.old self.new (listed framed.event) (take framed.used raw.now) []) }
         ensures passes { IfOk result (λ framed. framed.event ≡ None → PassesWithoutEvent self.old self.new framed.used raw.now) }
-        ensures refuses { IfErr result (λ fault. RefusesReply fault (seen state.now.plan state.now.events) self.old.point raw.now) }
-        ensures head { KeepsHead (seen state.now.plan state.now.events) self.old self.new }
+        ensures refuses { IfErr result (λ fault. RefusesReply fault (shows state.now) self.old.point raw.now) }
+        ensures head { KeepsHead (shows state.now) self.old self.new }
         ensures stays { IfErr result (λ _. Stays self.old self.new) }
     {
         if !may_reply(state, reply) {
@@ -154,10 +154,10 @@ impl ReplyReader {
         requires { self.old.stage ≡ Stage.Replies }
         ensures within { IfOk result (λ framed. framed.used ≤ length raw.now) }
         ensures silent { IfOk result (λ framed. ad_sum (listed framed.event) ≡ 0) }
-        ensures hears { IfOk result (λ framed. ReaderHears (seen state.now.plan state.now.events) self.old self.new (listed framed.event) (take framed.used raw.now) []) }
+        ensures hears { IfOk result (λ framed. ReaderHears (shows state.now) self.old self.new (listed framed.event) (take framed.used raw.now) []) }
         ensures passes { IfOk result (λ framed. framed.event ≡ None → PassesWithoutEvent self.old self.new framed.used raw.now) }
-        ensures refuses { IfErr result (λ fault. RefusesReply fault (seen state.now.plan state.now.events) self.old.point raw.now) }
-        ensures head { KeepsHead (seen state.now.plan state.now.events) self.old self.new }
+        ensures refuses { IfErr result (λ fault. RefusesReply fault (shows state.now) self.old.point raw.now) }
+        ensures head { KeepsHead (shows state.now) self.old self.new }
         ensures stays { IfErr result (λ _. Stays self.old self.new) }
     {
         match read_response(self.alloc, raw) {
@@ -190,10 +190,10 @@ impl ReplyReader {
         requires { self.old.stage ≡ Stage.Head layout }
         ensures within { IfOk result (λ framed. framed.used ≤ length raw.now) }
         ensures silent { IfOk result (λ framed. ad_sum (listed framed.event) ≡ 0) }
-        ensures hears { IfOk result (λ framed. ReaderHears (seen state.now.plan state.now.events) self.old self.new (listed framed.event) (take framed.used raw.now) []) }
+        ensures hears { IfOk result (λ framed. ReaderHears (shows state.now) self.old self.new (listed framed.event) (take framed.used raw.now) []) }
         ensures waits { IfOk result (λ framed. framed.event ≡ None → (framed.used ≡ 0) × (self.new ≡ self.old) × (length raw.now < layout.offset) × HasNoEmptyLine raw.now) }
-        ensures refuses { IfErr result (λ fault. RefusesHead fault (seen state.now.plan state.now.events) layout raw.now) }
-        ensures head { KeepsHead (seen state.now.plan state.now.events) self.old self.new }
+        ensures refuses { IfErr result (λ fault. RefusesHead fault (shows state.now) layout raw.now) }
+        ensures head { KeepsHead (shows state.now) self.old self.new }
         ensures stays { IfErr result (λ _. Stays self.old self.new) }
     {
         let size = layout.offset as usize;
@@ -214,10 +214,10 @@ impl ReplyReader {
         requires { self.old.stage ≡ Stage.Replies }
         ensures within { IfOk result (λ framed. framed.used ≤ length raw.now) }
         ensures silent { IfOk result (λ framed. ad_sum (listed framed.event) ≡ 0) }
-        ensures hears { IfOk result (λ framed. ReaderHears (seen state.now.plan state.now.events) self.old self.new (listed framed.event) (take framed.used raw.now) []) }
+        ensures hears { IfOk result (λ framed. ReaderHears (shows state.now) self.old self.new (listed framed.event) (take framed.used raw.now) []) }
         ensures waits { IfOk result (λ framed. framed.event ≡ None → (room : ℕ) → MustWait self.new.stage (drop framed.used raw.now) room) }
-        ensures refuses { IfErr result (λ fault. Refuses fault (seen state.now.plan state.now.events) self.old.point Stage.Replies raw.now) }
-        ensures head { KeepsHead (seen state.now.plan state.now.events) self.old self.new }
+        ensures refuses { IfErr result (λ fault. Refuses fault (shows state.now) self.old.point Stage.Replies raw.now) }
+        ensures head { KeepsHead (shows state.now) self.old self.new }
         ensures stays { IfErr result (λ _. Stays self.old self.new) }
     {
         let first = match self.read_reply(state, raw) {
@@ -255,10 +255,10 @@ impl ReplyReader {
     ) -> Result<Heard, ClientFault>
         requires { self.old.stage ≡ Stage.Body chunks }
         ensures within { IfOk result (λ heard. (heard.used ≤ length raw.now) × (ad_sum heard.events.items ≤ length out.old)) }
-        ensures hears { IfOk result (λ heard. ReaderHears (seen state.now.plan state.now.events) self.old self.new heard.events.items (take heard.used raw.now) (take (ad_sum heard.events.items) out.new)) }
+        ensures hears { IfOk result (λ heard. ReaderHears (shows state.now) self.old self.new heard.events.items (take heard.used raw.now) (take (ad_sum heard.events.items) out.new)) }
         ensures waits { IfOk result (λ heard. heard.events.items ≡ [] → MustWait self.new.stage (drop heard.used raw.now) (length out.old)) }
-        ensures refuses { IfErr result (λ fault. RefusesBody fault (seen state.now.plan state.now.events) chunks raw.now) }
-        ensures head { KeepsHead (seen state.now.plan state.now.events) self.old self.new }
+        ensures refuses { IfErr result (λ fault. RefusesBody fault (shows state.now) chunks raw.now) }
+        ensures head { KeepsHead (shows state.now) self.old self.new }
         ensures stays { IfErr result (λ _. Stays self.old self.new) }
     {
         let _ = &self.stage;
@@ -286,14 +286,14 @@ impl ReplyReader {
     /// body go to the beginning of `out`; the events give their number.
     pub fn frame(&mut self, state: &State, raw: &[u8], out: &mut [u8]) -> Result<Heard, ClientFault>
         ensures within { IfOk result (λ heard. (heard.used ≤ length raw.now) × (ad_sum heard.events.items ≤ length out.old)) }
-        ensures hears { IfOk result (λ heard. ReaderHears (seen state.now.plan state.now.events) self.old self.new heard.events.items (take heard.used raw.now) (take (ad_sum heard.events.items) out.new)) }
+        ensures hears { IfOk result (λ heard. ReaderHears (shows state.now) self.old self.new heard.events.items (take heard.used raw.now) (take (ad_sum heard.events.items) out.new)) }
 
         // Without an event no further byte can be framed.
         ensures waits { IfOk result (λ heard. heard.events.items ≡ [] → MustWait self.new.stage (drop heard.used raw.now) (length out.old)) }
 
         // Each fault has its reason in the bytes.
-        ensures refuses { IfErr result (λ fault. Refuses fault (seen state.now.plan state.now.events) self.old.point self.old.stage raw.now) }
-        ensures head { KeepsHead (seen state.now.plan state.now.events) self.old self.new }
+        ensures refuses { IfErr result (λ fault. Refuses fault (shows state.now) self.old.point self.old.stage raw.now) }
+        ensures head { KeepsHead (shows state.now) self.old self.new }
         ensures stays { IfErr result (λ _. Stays self.old self.new) }
     {
         match self.stage {
@@ -332,9 +332,9 @@ impl ReplyReader {
         ensures used { IfOk result (λ framed. framed.used ≡ length head.now) }
         ensures event { IfOk result (λ framed. framed.event ≡ Some (Event.Mod (payload_if (has_body layout.body)))) }
         ensures silent { IfOk result (λ framed. ad_sum (listed framed.event) ≡ 0) }
-        ensures hears { IfOk result (λ framed. ReaderHears (seen state.now.plan state.now.events) self.old self.new (listed framed.event) head.now []) }
-        ensures refuses { IfErr result (λ fault. (fault ≡ ClientFault.NoMemory) ⊎ ((fault ≡ ClientFault.NotLegal) × (MayCome (seen state.now.plan state.now.events) (Event.Mod (payload_if (has_body layout.body))) → ⊥))) }
-        ensures head { KeepsHead (seen state.now.plan state.now.events) self.old self.new }
+        ensures hears { IfOk result (λ framed. ReaderHears (shows state.now) self.old self.new (listed framed.event) head.now []) }
+        ensures refuses { IfErr result (λ fault. (fault ≡ ClientFault.NoMemory) ⊎ ((fault ≡ ClientFault.NotLegal) × (MayCome (shows state.now) (Event.Mod (payload_if (has_body layout.body))) → ⊥))) }
+        ensures head { KeepsHead (shows state.now) self.old self.new }
         ensures stays { IfErr result (λ _. Stays self.old self.new) }
     {
         let body = has_body(layout.body);

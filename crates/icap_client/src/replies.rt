@@ -2,7 +2,7 @@
 
 ghost use Rattle.std.specs.Prelude.{◌≡◌, ◌↔◌, IfOk, IfErr, IsTrue};
 ghost use Rattle.icap_head.specs.Heads.{response_parts};
-ghost use Rattle.trace_core.specs.History.{seen};
+ghost use Rattle.trace_core.specs.History.{shows};
 ghost use Rattle.icap_client.specs.Replies.{HasNothing, lists_of};
 ghost use Rattle.icap_client.specs.Refused.{SpellsReply, SpellsNoReply, MayReply};
 
@@ -54,7 +54,7 @@ fn bare(value: &IcapResponse, point: Point, reply: Reply) -> Result<Reply, Clien
 /// Whether the response may come now: a second 100 may not, nor a 204 once bytes of the body that it leaves as it was were
 /// dropped. A 200 is judged where its other head is read.
 pub(crate) fn may_reply(state: &State, reply: Reply) -> bool
-    ensures { IsTrue result ↔ MayReply (seen state.now.plan state.now.events) reply }
+    ensures { IsTrue result ↔ MayReply (shows state.now) reply }
 {
     match reply {
         Reply::Continue => state.may(Event::Continue),

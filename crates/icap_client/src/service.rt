@@ -3,7 +3,7 @@
 ghost use Rattle.std.specs.Prelude.{option_copied, ◌≡◌, ℕ, List, ◌+◌, ◌≤◌, ◌++◌, ◌∷◌, ◌↔◌, IsTrue, IfSome, is_some, IfOk, Err, true, false, Some, None, ◌⊎◌, [], length, ◌<◌, MatchOption};
 ghost use Rattle.adapt_bytes.specs.declared.limits.TheConstants.{COUNT_LIMIT, MAX_HEAD};
 ghost use Rattle.trace_core.specs.declared.history.Seen.{Seen};
-ghost use Rattle.trace_core.specs.History.{seen};
+ghost use Rattle.trace_core.specs.History.{seen, shows};
 ghost use Rattle.wire_kit.specs.Past.{Past};
 ghost use Rattle.chunk_writer.specs.Writer.{fresh, waiting};
 ghost use Rattle.icap_client.specs.Heard.{KeepsHead};
@@ -37,9 +37,9 @@ fn write_once<W: Wire>(
     tape: &SpanTape,
     wire: &mut W,
 ) -> Result<Turn, ClientFault>
-    requires { KeepsUnsent (seen state.now.plan state.now.events) tape.now }
-    ensures turn { WriteTurn (seen state.now.plan state.now.events) tape.now writer.old writer.new (W.past wire.old) (W.past wire.new) result }
-    ensures last_stop { last_stop.new ≡ (after_all (seen state.now.plan state.now.events) (events_of result)).last_stop }
+    requires { KeepsUnsent (shows state.now) tape.now }
+    ensures turn { WriteTurn (shows state.now) tape.now writer.old writer.new (W.past wire.old) (W.past wire.new) result }
+    ensures last_stop { last_stop.new ≡ (after_all (shows state.now) (events_of result)).last_stop }
     ensures head { writer.new.head ≡ writer.old.head }
 {
     let _ = state.trace();
@@ -238,7 +238,7 @@ impl ServiceSide {
         tape: &SpanTape,
         wire: &mut W,
     ) -> Result<Turn, ClientFault>
-        requires { KeepsUnsent (seen state.now.plan state.now.events) tape.now }
+        requires { KeepsUnsent (shows state.now) tape.now }
         ensures reader { self.new.replies.reader ≡ self.old.replies.reader }
         ensures raw { self.new.replies.raw ≡ self.old.replies.raw }
         ensures room { self.new.replies.room ≡ self.old.replies.room }
@@ -246,10 +246,10 @@ impl ServiceSide {
 
         // One write at most, and what each answer of it means. A turn that goes well leaves no fault, and one that fails keeps its
         // fault (the `fault` of `Sends`).
-        ensures turn { self.old.replies.fault ≡ None → WriteTurn (seen state.now.plan state.now.events) tape.now self.old.writer self.new.writer (W.past wire.old) (W.past wire.new) result }
-        ensures sends { Sends (seen state.now.plan state.now.events) tape.now
+        ensures turn { self.old.replies.fault ≡ None → WriteTurn (shows state.now) tape.now self.old.writer self.new.writer (W.past wire.old) (W.past wire.new) result }
+        ensures sends { Sends (shows state.now) tape.now
             (λ head x came taken. ServiceSent head x came taken self.old) (λ head x came taken. ServiceSent head x came taken self.new)
-            self.old.replies.fault self.new.replies.fault (NothingDue (seen state.now.plan state.now.events) self.new.writer) (W.past wire.old) (W.past wire.new) result }
+            self.old.replies.fault self.new.replies.fault (NothingDue (shows state.now) self.new.writer) (W.past wire.old) (W.past wire.new) result }
 
         // Where it keeps a fault the wire isn't touched again.
         ensures untouched { IfSome self.old.replies.fault (λ fault. (p : Past) → W.past wire.old p → W.past wire.new p) }
@@ -257,8 +257,8 @@ impl ServiceSide {
         // The heads' text is kept as long as the request may begin anew; once it may not, what is out is let go. No other text
         // comes in its place.
         ensures heads { KeepsOrDrops self.old.writer self.new.writer }
-        ensures kept { MayCome (seen state.now.plan state.now.events) Event.Retry → self.new.writer.head ≡ self.old.writer.head }
-        ensures gone { IfOk result (λ _. (MayCome (seen state.now.plan state.now.events) Event.Retry → ⊥) → KeepsNoText self.new.writer) }
+        ensures kept { MayCome (shows state.now) Event.Retry → self.new.writer.head ≡ self.old.writer.head }
+        ensures gone { IfOk result (λ _. (MayCome (shows state.now) Event.Retry → ⊥) → KeepsNoText self.new.writer) }
     {
         if let Some(fault) = self.replies.fault() {
             return Err(fault);
@@ -285,15 +285,15 @@ impl ServiceSide {
     ) -> Result<Turn, ClientFault>
         ensures writer { LetsGo self.old.writer self.new.writer }
         ensures last_stop { self.new.last_stop ≡ self.old.last_stop }
-        ensures answered { IfOk result (λ turn. self.new.answered ≡ is_answered (after_all (seen state.now.plan state.now.events) turn.events.items)) }
-        ensures head { KeepsHead (seen state.now.plan state.now.events) self.old.replies.reader self.new.replies.reader }
+        ensures answered { IfOk result (λ turn. self.new.answered ≡ is_answered (after_all (shows state.now) turn.events.items)) }
+        ensures head { KeepsHead (shows state.now) self.old.replies.reader self.new.replies.reader }
 
         // What the wire gave, what was framed, and why bytes are refused. A turn that goes well leaves no fault, and one that fails
         // keeps its fault (the `fault` of `Hears`).
-        ensures turn { self.old.replies.fault ≡ None → ReadTurn (seen state.now.plan state.now.events) (is_flushed self.old.writer) (length out.old) self.old.replies self.new.replies (W.past wire.old) (W.past wire.new) out.new result }
-        ensures hears { Hears (seen state.now.plan state.now.events)
+        ensures turn { self.old.replies.fault ≡ None → ReadTurn (shows state.now) (is_flushed self.old.writer) (length out.old) self.old.replies self.new.replies (W.past wire.old) (W.past wire.new) out.new result }
+        ensures hears { Hears (shows state.now)
             (λ x adapted read. ServiceHeard x adapted read self.old) (λ x adapted read. ServiceHeard x adapted read self.new)
-            self.old.replies.fault self.new.replies.fault (RestsReading (seen state.now.plan state.now.events) (length out.old) self.new) (HasFramed (length out.old) self.new) (W.past wire.old) (W.past wire.new) out.new result }
+            self.old.replies.fault self.new.replies.fault (RestsReading (shows state.now) (length out.old) self.new) (HasFramed (length out.old) self.new) (W.past wire.old) (W.past wire.new) out.new result }
 
         // Where it keeps a fault the wire isn't touched again.
         ensures untouched { IfSome self.old.replies.fault (λ fault. (p : Past) → W.past wire.old p → W.past wire.new p) }
@@ -304,8 +304,8 @@ impl ServiceSide {
         // The heads' text is kept as long as the request may begin anew, which it may not after a byte of a reply; then what is
         // out is let go. No other text comes in its place.
         ensures heads { KeepsOrDrops self.old.writer self.new.writer }
-        ensures kept { MayCome (seen state.now.plan state.now.events) Event.Retry → self.new.writer.head ≡ self.old.writer.head }
-        ensures gone { IfOk result (λ _. (MayCome (seen state.now.plan state.now.events) Event.Retry → ⊥) → KeepsNoText self.new.writer) }
+        ensures kept { MayCome (shows state.now) Event.Retry → self.new.writer.head ≡ self.old.writer.head }
+        ensures gone { IfOk result (λ _. (MayCome (shows state.now) Event.Retry → ⊥) → KeepsNoText self.new.writer) }
     {
         let all_sent = flushed(&self.writer);
         match self.replies.read_turn(state, all_sent, wire, out) {

@@ -2,7 +2,7 @@
 
 ghost use Rattle.std.specs.Prelude.{option_copied, is_none, not, ◌&&◌, ◌==◌, ◌≡◌, ◌<◌, ◌≤◌, ◌↔◌, [], length, take, IsTrue, IfOk, IfErr, IfSome, OnOk, None, Some, Bool, true, false, Err, MatchOption};
 ghost use Rattle.adapt_bytes.specs.declared.limits.TheConstants.{MAX_HEAD};
-ghost use Rattle.trace_core.specs.History.{seen};
+ghost use Rattle.trace_core.specs.History.{seen, shows};
 ghost use Rattle.icap_client.specs.Events.{MayCome, ad_sum};
 ghost use Rattle.icap_client.specs.HeadFront.{HasToWait, IsHeadFront};
 ghost use Rattle.icap_client.specs.Heard.{KeepsLimits, KeepsHead};
@@ -27,7 +27,7 @@ use wire_kit::Wire;
 
 /// Whether the service may answer now.
 fn may_read(state: &State, all_sent: bool) -> bool
-    ensures { IsTrue result ↔ MayRead (seen state.now.plan state.now.events) all_sent }
+    ensures { IsTrue result ↔ MayRead (shows state.now) all_sent }
 {
     let seen = state.seen();
     match seen.plan.kind {
@@ -165,12 +165,12 @@ impl ReplySide {
         out: &mut [u8],
     ) -> Result<ArrayVec<Event, 4>, ClientFault>
         ensures room { IfOk result (λ events. ad_sum events.items ≤ length out.old) }
-        ensures hears { IfOk result (λ events. SideHears (seen state.now.plan state.now.events) self.old self.new events.items [] (take (ad_sum events.items) out.new)) }
+        ensures hears { IfOk result (λ events. SideHears (shows state.now) self.old self.new events.items [] (take (ad_sum events.items) out.new)) }
         ensures waits { IfOk result (λ events. events.items ≡ [] → HasToWait self.new.reader.stage self.new.raw (length out.old)) }
-        ensures refuses { IfErr result (λ fault. Refuses fault (seen state.now.plan state.now.events) self.new.reader.point self.new.reader.stage self.new.raw) }
+        ensures refuses { IfErr result (λ fault. Refuses fault (shows state.now) self.new.reader.point self.new.reader.stage self.new.raw) }
         ensures fault { self.new.fault ≡ self.old.fault }
-        ensures head { KeepsHead (seen state.now.plan state.now.events) self.old.reader self.new.reader }
-        ensures kept { IfErr result (λ _. SideHears (seen state.now.plan state.now.events) self.old self.new [] [] []) }
+        ensures head { KeepsHead (shows state.now) self.old.reader self.new.reader }
+        ensures kept { IfErr result (λ _. SideHears (shows state.now) self.old self.new [] [] []) }
     {
         if self.is_at_front() {
             return Ok(ArrayVec::new());
@@ -188,8 +188,8 @@ impl ReplySide {
     /// Whether the wire is to be read: the final response isn't whole, there is room, and the service may answer.
     fn is_due(&self, state: &State, all_sent: bool, room: usize) -> bool
         ensures due { IsTrue result → (self.now.reader.stage ≡ Stage.Over → ⊥) × (0 < room) × KeepsLimits self.now.reader.stage }
-        ensures may { result ≡ true → MayRead (seen state.now.plan state.now.events) all_sent }
-        ensures not_due { result ≡ false → NothingToRead (seen state.now.plan state.now.events) all_sent room self.now.reader.stage }
+        ensures may { result ≡ true → MayRead (shows state.now) all_sent }
+        ensures not_due { result ≡ false → NothingToRead (shows state.now) all_sent room self.now.reader.stage }
     {
         if self.reader.is_over() {
             return false;
@@ -211,10 +211,10 @@ impl ReplySide {
         requires waits { HasToWait self.old.reader.stage self.old.raw (length out.old) }
         requires room { 0 < length out.old }
         requires going_on { self.old.reader.stage ≡ Stage.Over → ⊥ }
-        requires may { MayCome (seen state.now.plan state.now.events) Event.Heard }
+        requires may { MayCome (shows state.now) Event.Heard }
         ensures fault { self.new.fault ≡ self.old.fault }
-        ensures turn { (all_sent : Bool) → MayRead (seen state.now.plan state.now.events) all_sent → ReadTurn (seen state.now.plan state.now.events) all_sent (length out.old) self.old self.new (W.past wire.old) (W.past wire.new) out.new result }
-        ensures head { KeepsHead (seen state.now.plan state.now.events) self.old.reader self.new.reader }
+        ensures turn { (all_sent : Bool) → MayRead (shows state.now) all_sent → ReadTurn (shows state.now) all_sent (length out.old) self.old self.new (W.past wire.old) (W.past wire.new) out.new result }
+        ensures head { KeepsHead (shows state.now) self.old.reader self.new.reader }
     {
         match self.raw.fill(wire) {
             Filled::Bytes => {}
@@ -245,10 +245,10 @@ impl ReplySide {
         requires waits { HasToWait self.old.reader.stage self.old.raw (length out.old) }
         requires room { 0 < length out.old }
         requires going_on { self.old.reader.stage ≡ Stage.Over → ⊥ }
-        requires heard { (seen state.now.plan state.now.events).heard ≡ true }
+        requires heard { (shows state.now).heard ≡ true }
         ensures fault { self.new.fault ≡ self.old.fault }
-        ensures turn { (all_sent : Bool) → MayRead (seen state.now.plan state.now.events) all_sent → ReadTurn (seen state.now.plan state.now.events) all_sent (length out.old) self.old self.new (W.past wire.old) (W.past wire.new) out.new result }
-        ensures head { KeepsHead (seen state.now.plan state.now.events) self.old.reader self.new.reader }
+        ensures turn { (all_sent : Bool) → MayRead (shows state.now) all_sent → ReadTurn (shows state.now) all_sent (length out.old) self.old self.new (W.past wire.old) (W.past wire.new) out.new result }
+        ensures head { KeepsHead (shows state.now) self.old.reader self.new.reader }
     {
         match self.raw.fill(wire) {
             Filled::Bytes => match self.frame_raw(state, out) {
@@ -276,9 +276,9 @@ impl ReplySide {
         wire: &mut W,
         out: &mut [u8],
     ) -> Result<Turn, ClientFault>
-        ensures turn { ReadTurn (seen state.now.plan state.now.events) all_sent (length out.old) self.old self.new (W.past wire.old) (W.past wire.new) out.new result }
+        ensures turn { ReadTurn (shows state.now) all_sent (length out.old) self.old self.new (W.past wire.old) (W.past wire.new) out.new result }
         ensures fault { self.new.fault ≡ self.old.fault }
-        ensures head { KeepsHead (seen state.now.plan state.now.events) self.old.reader self.new.reader }
+        ensures head { KeepsHead (shows state.now) self.old.reader self.new.reader }
     {
         let events = match self.frame_raw(state, out) {
             Ok(events) => events,
@@ -320,9 +320,9 @@ impl ReplySide {
         wire: &mut W,
         out: &mut [u8],
     ) -> Result<Turn, ClientFault>
-        ensures turn { ReadTurn (seen state.now.plan state.now.events) all_sent (length out.old) self.old self.new (W.past wire.old) (W.past wire.new) out.new result }
+        ensures turn { ReadTurn (shows state.now) all_sent (length out.old) self.old self.new (W.past wire.old) (W.past wire.new) out.new result }
         ensures fault { self.new.fault ≡ self.old.fault }
-        ensures head { KeepsHead (seen state.now.plan state.now.events) self.old.reader self.new.reader }
+        ensures head { KeepsHead (shows state.now) self.old.reader self.new.reader }
         ensures empty { self.new.raw ≡ [] → self.new.room ≡ 0 }
     {
         let result = self.try_turn(state, all_sent, wire, out);
@@ -342,14 +342,14 @@ impl ReplySide {
         wire: &mut W,
         out: &mut [u8],
     ) -> Result<Turn, ClientFault>
-        ensures turn { self.old.fault ≡ None → ReadTurn (seen state.now.plan state.now.events) all_sent (length out.old) self.old self.new (W.past wire.old) (W.past wire.new) out.new result }
+        ensures turn { self.old.fault ≡ None → ReadTurn (shows state.now) all_sent (length out.old) self.old self.new (W.past wire.old) (W.past wire.new) out.new result }
 
         // A fault is kept and answered again, and then the wire isn't touched.
         ensures stays { IfErr result (λ fault. self.new.fault ≡ Some fault) }
         ensures faulted { IfSome self.old.fault (λ fault. (result ≡ Err fault) × (self.new ≡ self.old)) }
         ensures untouched { IfSome self.old.fault (λ fault. (p : Past) → W.past wire.old p → W.past wire.new p) }
         ensures sound { OnOk result (self.new.fault ≡ None) }
-        ensures head { KeepsHead (seen state.now.plan state.now.events) self.old.reader self.new.reader }
+        ensures head { KeepsHead (shows state.now) self.old.reader self.new.reader }
 
         // No empty room is kept.
         ensures empty { self.old.fault ≡ None → self.new.raw ≡ [] → self.new.room ≡ 0 }

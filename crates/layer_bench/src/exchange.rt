@@ -1,7 +1,7 @@
 //! Whole exchanges with a service over wires in memory: a preview of four bytes, a 100, the rest, and a 200.
 
 ghost use Rattle.std.specs.Prelude.{◌≡◌, true};
-ghost use Rattle.trace_core.specs.History.{seen};
+ghost use Rattle.trace_core.specs.History.{seen, shows};
 ghost use Rattle.adapt_sides.specs.Tapes.{KeepsUnsent};
 
 use crate::budget::PIECE;
@@ -120,7 +120,7 @@ fn step_all(state: &mut State, turn: &Turn) -> bool {
 
 /// Whether the tape has what the history may still send.
 fn is_tape_of(state: &State, body: &SpanTape) -> bool
-    ensures { result ≡ true → KeepsUnsent (seen state.now.plan state.now.events) body.now }
+    ensures { result ≡ true → KeepsUnsent (shows state.now) body.now }
 {
     let seen = state.seen();
     body.end() == seen.received && body.base() <= seen.sent

@@ -1,7 +1,7 @@
 //! The heads of one transaction.
 
 ghost use Rattle.std.specs.Prelude.{◌≡◌, IfOk, IfErr, IfSome, true, false, Some, None, option_copied};
-ghost use Rattle.trace_core.specs.History.{seen};
+ghost use Rattle.trace_core.specs.History.{shows};
 ghost use Rattle.http_relay.specs.Reading.{request_of};
 ghost use Rattle.proxy_rules.specs.Heads.{Makes, MakesNone, Remembers, MakesOf, MakesNoneOf, user_head, body_read_of, carries_on_of};
 
@@ -76,7 +76,7 @@ impl HeadMaker {
 
     /// Whether the user's body was read to its end.
     fn body_read(&self, state: &State) -> bool
-        ensures { IfSome self.now.user (λ user. user.head ≡ SourceHead.Unread → ⊥) → result ≡ body_read_of self.now.user (seen state.now.plan state.now.events) }
+        ensures { IfSome self.now.user (λ user. user.head ≡ SourceHead.Unread → ⊥) → result ≡ body_read_of self.now.user (shows state.now) }
     {
         match &self.user {
             Some(side) => side.ended(),
@@ -86,7 +86,7 @@ impl HeadMaker {
 
     /// Whether the user's connection may carry a further request: its body was read to its end, and the message isn't the last.
     fn carries_on(&self, state: &State) -> bool
-        ensures { IfSome self.now.user (λ user. user.head ≡ SourceHead.Unread → ⊥) → result ≡ carries_on_of self.now.last self.now.user (seen state.now.plan state.now.events) }
+        ensures { IfSome self.now.user (λ user. user.head ≡ SourceHead.Unread → ⊥) → result ≡ carries_on_of self.now.last self.now.user (shows state.now) }
     {
         let read = self.body_read(state);
         !self.last && read
@@ -101,8 +101,8 @@ impl HeadMaker {
         adapted: Option<&[u8]>,
         is_response: bool,
     ) -> Result<Headed, Cause>
-        ensures ok { IfOk result (Makes self.now.last self.now.user source.now.head (seen state.now.plan state.now.events) (option_copied adapted.entry) is_response) }
-        ensures err { IfErr result (MakesNone self.now.user source.now.head (seen state.now.plan state.now.events) (option_copied adapted.entry) is_response) }
+        ensures ok { IfOk result (Makes self.now.last self.now.user source.now.head (shows state.now) (option_copied adapted.entry) is_response) }
+        ensures err { IfErr result (MakesNone self.now.user source.now.head (shows state.now) (option_copied adapted.entry) is_response) }
     {
         let Some(user) = self.asked(source) else {
             return Err(Cause::Source);
@@ -124,8 +124,8 @@ impl HeadMaker {
         adapted: Option<&[u8]>,
         is_response: bool,
     ) -> Result<(Vec<u8>, Framing), Cause>
-        ensures ok { IfOk result (λ made. Remembers self.old.last self.old.user source.now.head (seen state.now.plan state.now.events) (option_copied adapted.entry) is_response made.0.items made.1 self.new.closes) }
-        ensures err { IfErr result (MakesNone self.old.user source.now.head (seen state.now.plan state.now.events) (option_copied adapted.entry) is_response) }
+        ensures ok { IfOk result (λ made. Remembers self.old.last self.old.user source.now.head (shows state.now) (option_copied adapted.entry) is_response made.0.items made.1 self.new.closes) }
+        ensures err { IfErr result (MakesNone self.old.user source.now.head (shows state.now) (option_copied adapted.entry) is_response) }
         ensures user { self.new.user ≡ self.old.user }
         ensures last { self.new.last ≡ self.old.last }
     {

@@ -4,7 +4,7 @@ ghost use Rattle.std.specs.Prelude.{IsTrue, not, ◌≡◌, ℕ, ◌+◌, ◌≤
 ghost use Rattle.trace_core.specs.declared.history.Event.TheVariants.{Fail};
 ghost use Rattle.trace_core.specs.declared.history.Cause.{Cause};
 ghost use Rattle.plan_rules.specs.declared.room.TheConstants.{TURN_BYTES};
-ghost use Rattle.adapt_bytes.specs.OwnStatus.{is_own_status};
+ghost use Rattle.http_side.specs.Refusals.{is_own_status};
 ghost use Rattle.adapt_sides.specs.Turns.{Gift, wire_fault};
 ghost use Rattle.adapt_sides.specs.Turns.Gift.{refusal, message};
 ghost use Rattle.adapt_hold.specs.Holding.{shows, moved};

@@ -1,5 +1,5 @@
 use Rattle.std.proofs.Common.{◌≡◌, ◌≤◌, ◌+◌, IfSome, sym, subst, ap, ◌∙◌, arith}
-use Rattle.trace_core.specs.History.{seen}
+use Rattle.trace_core.specs.History.{seen, shows}
 use Rattle.trace_core.specs.declared.history.Seen.{Seen}
 use Rattle.http_relay.specs.Message.{length_of}
 use Rattle.adapt_sides.specs.Tapes.{chosen_received, chosen_over, chosen_delivered}
@@ -13,7 +13,7 @@ returns-then-not-fits_length-clause-none c h =
 
 pub returns-clause-next : goal.returns-clause-next
 returns-clause-next c =
-    let x = seen c.args.state.now.plan c.args.state.now.events in
+    let x = shows c.args.state.now in
     let here = c.seen-seen.ensures in
     let begun = sym c.is_begun.ensures ∙ c.if-not-is_begun.false in
     let fits = c.fits_length.ensures in

@@ -1,7 +1,7 @@
 use Rattle.std.proofs.Common.{◌≡◌, ◌+◌, ◌&&◌, ◌||◌, subst, ◌∙◌, refl, Some, None, Ok, Err, rules}
 use Rattle.trace_core.specs.declared.history.Seen.{Seen}
 use Rattle.icap_client.specs.Turns.{is_last_at}
-use Rattle.trace_core.specs.History.{seen}
+use Rattle.trace_core.specs.History.{seen, shows}
 use Rattle.trace_core.proofs.Sound.{sound}
 use Rattle.wire_kit.specs.declared.wire.Put.TheVariants as put
 use Rattle.adapt_sides.specs.declared.fault.ClientFault.TheVariants.{Device}
@@ -13,7 +13,7 @@ use Rattle.icap_client.proofs.service.write_once.Goals as goal
 
 pub returns-in-Some-Fault : goal.returns-in-Some-Fault
 returns-in-Some-Fault g c =
-    let x = seen c.args.state.now.plan c.args.state.now.events in
+    let x = shows c.args.state.now in
     let tape = c.args.tape.now in
     let wrote = c.write-wrote.result in
     let next = c.decide-next.result in
@@ -32,7 +32,7 @@ returns-in-Some-Fault g c =
 
 pub returns-in-Some-Took : goal.returns-in-Some-Took
 returns-in-Some-Took g c =
-    let x = seen c.args.state.now.plan c.args.state.now.events in
+    let x = shows c.args.state.now in
     let tape = c.args.tape.now in
     let wrote = c.write-wrote.result in
     let next = c.decide-next.result in
@@ -51,7 +51,7 @@ returns-in-Some-Took g c =
 
 pub returns-in-Some-Wait : goal.returns-in-Some-Wait
 returns-in-Some-Wait g c =
-    let x = seen c.args.state.now.plan c.args.state.now.events in
+    let x = shows c.args.state.now in
     let tape = c.args.tape.now in
     let wrote = c.write-wrote.result in
     let next = c.decide-next.result in
@@ -72,7 +72,7 @@ returns-in-Some-Wait g c =
 
 pub returns-in-None : goal.returns-in-None
 returns-in-None g c =
-    let x = seen c.args.state.now.plan c.args.state.now.events in
+    let x = shows c.args.state.now in
     let tape = c.args.tape.now in
     let wrote = c.write-wrote.result in
     let next = c.decide-next.result in

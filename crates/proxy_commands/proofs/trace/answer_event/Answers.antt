@@ -1,5 +1,5 @@
 use Rattle.std.proofs.Common.{◌∙◌, sym, ap}
-use Rattle.trace_core.specs.History.{seen, shows}
+use Rattle.trace_core.specs.History.{shows}
 use Rattle.trace_core.specs.View.{after}
 use Rattle.trace_core.specs.declared.history.Answer.TheVariants.{Held}
 use Rattle.trace_core.specs.Held.{held_original}
@@ -13,7 +13,7 @@ returns-in-Ok-clause-answer c =
     let seen_then = ap shows c.in-Ok.ensures.taken ∙ taken_shows old.plan old.events c.args.event c.trace-legal.ensures.legal c.in-Ok.ensures.accepted in
     let answer = taken_answer old.plan old.events c.args.event c.trace-legal.ensures.legal c.in-Ok.ensures.accepted in
     ap (λ r. Held r c.shown_adapted.result) (c.held_original.ensures.held ∙ ap held_original seen_then)
-    ∙ ap (Held (held_original (after (seen old.plan old.events) c.args.event))) (c.shown_adapted.ensures ∙ ap shown_adapted seen_then)
+    ∙ ap (Held (held_original (after (shows old) c.args.event))) (c.shown_adapted.ensures ∙ ap shown_adapted seen_then)
     ∙ sym answer
 
 pub returns-in-Ok-clause-after : goal.returns-in-Ok-clause-after

@@ -1,5 +1,5 @@
 use Rattle.std.proofs.Common.{◌≡◌, ap, sym, subst, ◌∙◌, refl, true, false, Some, None, Ok, Err, rules, inl, inr}
-use Rattle.trace_core.specs.History.{seen}
+use Rattle.trace_core.specs.History.{shows}
 use Rattle.trace_core.proofs.Sound.{sound}
 use Rattle.wire_kit.specs.Past.{delta_of}
 use Rattle.wire_kit.specs.declared.wire.Put.TheVariants as put
@@ -15,23 +15,23 @@ use Rattle.http_relay.proofs.hop.HopWriter.write_turn.Goals as goal
 
 pub returns-in-Some-clause-turn : goal.returns-in-Some-clause-turn
 returns-in-Some-clause-turn g c =
-    faulted (seen c.args.state.now.plan c.args.state.now.events) c.args.tape.now c.args.self.now _ c.in-Some.fault (ap (λ (h : Hop). h.fault) (sym c.self.view_is) ∙ c.in-Some.is)
+    faulted (shows c.args.state.now) c.args.tape.now c.args.self.now _ c.in-Some.fault (ap (λ (h : Hop). h.fault) (sym c.self.view_is) ∙ c.in-Some.is)
 
 pub returns-in-None-clause-turn : goal.returns-in-None-clause-turn
 returns-in-None-clause-turn g c =
-    let x = seen c.args.state.now.plan c.args.state.now.events in
+    let x = shows c.args.state.now in
     let none = c.in-None.ensures.none refl in
     unmoved x c.args.tape.now c.args.self.now _ _ Length (ap (λ (h : Hop). h.writer) c.self.view_is) (ap (λ (h : Hop). h.framing) c.self.view_is) (ap (λ (h : Hop). h.stage) c.self.view_is) (ap (λ (h : Hop). h.touched) c.self.view_is)
     (λ no. refl) (λ no. inr (refl, refl, ap (λ (h : Hop). is_message h.stage) (sym c.self.view_is) ∙ none.0, subst (λ (f : Framing). BreaksLength x f) (ap (λ (h : Hop). h.framing) c.self.view_is) none.1))
 
 pub write-wrote-requires : goal.write-wrote-requires
 write-wrote-requires g c =
-    may_go_on (seen c.args.state.now.plan c.args.state.now.events) c.args.tape.now c.self.inside.framing c.self.inside.writer c.self.inside.stage c.in-Some-decide.next
+    may_go_on (shows c.args.state.now) c.args.tape.now c.self.inside.framing c.self.inside.writer c.self.inside.stage c.in-Some-decide.next
     (sound c.args.state.now.plan c.args.state.now.events c.trace.ensures.legal) c.requires c.in-Some-decide.ensures.next
 
 pub returns-in-Some-Fault-clause-turn : goal.returns-in-Some-Fault-clause-turn
 returns-in-Some-Fault-clause-turn g c =
-    let x = seen c.args.state.now.plan c.args.state.now.events in
+    let x = shows c.args.state.now in
     let tape = c.args.tape.now in
     let wrote = c.write-wrote.result in
     let next = c.in-Some-decide.next in
@@ -51,7 +51,7 @@ returns-in-Some-Fault-clause-turn g c =
 
 pub returns-in-Some-Wait-clause-turn : goal.returns-in-Some-Wait-clause-turn
 returns-in-Some-Wait-clause-turn g c =
-    let x = seen c.args.state.now.plan c.args.state.now.events in
+    let x = shows c.args.state.now in
     let tape = c.args.tape.now in
     let wrote = c.write-wrote.result in
     let next = c.in-Some-decide.next in
@@ -73,7 +73,7 @@ returns-in-Some-Wait-clause-turn g c =
 
 pub returns-in-Some-Took-clause-turn : goal.returns-in-Some-Took-clause-turn
 returns-in-Some-Took-clause-turn g c =
-    let x = seen c.args.state.now.plan c.args.state.now.events in
+    let x = shows c.args.state.now in
     let tape = c.args.tape.now in
     let wrote = c.write-wrote.result in
     let next = c.in-Some-decide.next in
@@ -97,7 +97,7 @@ returns-in-Some-Took-clause-turn g c =
 
 pub returns-in-None-answer-clause-turn : goal.returns-in-None-answer-clause-turn
 returns-in-None-answer-clause-turn g c =
-    let x = seen c.args.state.now.plan c.args.state.now.events in
+    let x = shows c.args.state.now in
     let tape = c.args.tape.now in
     let wrote = c.write-wrote.result in
     let next = c.in-Some-decide.next in

@@ -1,5 +1,5 @@
 use Rattle.std.proofs.Common.{◌∙◌, Bool, length, subst, sym}
-use Rattle.trace_core.specs.History.{seen}
+use Rattle.trace_core.specs.History.{shows}
 use Rattle.icap_client.specs.Reading.{IsCause}
 use Rattle.icap_client.proofs.Both.{came_cause}
 use Rattle.icap_client.proofs.LetGo.{sent_still, flushed_still}
@@ -7,14 +7,14 @@ use Rattle.icap_client.proofs.contract.ServiceSideService.read_turn.Goals as goa
 
 pub returns-clause-sent : goal.returns-clause-sent
 returns-clause-sent g c = λ heads came taken h. record {
-  sent = sent_still heads (seen c.args.state.now.plan c.args.state.now.events) came taken c.args.self.now.writer c.read_turn.new.self.writer c.read_turn.ensures.writer h.sent;
+  sent = sent_still heads (shows c.args.state.now) came taken c.args.self.now.writer c.read_turn.new.self.writer c.read_turn.ensures.writer h.sent;
   kept = λ m. c.read_turn.ensures.kept m ∙ h.kept m;
   last_stop = c.read_turn.ensures.last_stop ∙ h.last_stop;
 }
 
 pub returns-clause-reason : goal.returns-clause-reason
 returns-clause-reason g c = λ none fault e.
-    let x = seen c.args.state.now.plan c.args.state.now.events in
+    let x = shows c.args.state.now in
     let old = c.args.self.now in
     let new = c.read_turn.new.self in
     let t = c.read_turn.ensures.turn none in

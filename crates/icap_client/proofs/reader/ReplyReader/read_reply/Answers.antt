@@ -1,5 +1,5 @@
 use Rattle.std.proofs.Common.{rules, take, [], ◌≡◌, subst}
-use Rattle.trace_core.specs.History.{seen}
+use Rattle.trace_core.specs.History.{shows}
 use Rattle.icap_head.specs.Heads.{response_parts, RefusesIcapHead}
 use Rattle.icap_head.specs.StartLines.{StatusForm}
 use Rattle.icap_head.specs.declared.reading.HeadFault.{HeadFault}
@@ -14,7 +14,7 @@ use Rattle.icap_client.proofs.reader.ReplyReader.read_reply.Goals as goal
 
 pub returns-in-Ok-clause-refuses : goal.returns-in-Ok-clause-refuses
 returns-in-Ok-clause-refuses c =
-    refuses_said c.in-Err-reply_of.fault (seen c.args.state.now.plan c.args.state.now.events) c.args.self.now.point c.args.raw.now (response_parts c.in-Ok.head.value) c.in-Ok.head.length
+    refuses_said c.in-Err-reply_of.fault (shows c.args.state.now) c.args.self.now.point c.args.raw.now (response_parts c.in-Ok.head.value) c.in-Ok.head.length
     c.in-Ok.ensures.ok (subst (λ (r : Reader). SpellsNoReply c.in-Err-reply_of.fault r.point (response_parts c.in-Ok.head.value)) c.self.view_is c.in-Err-reply_of.ensures.err)
 
 pub returns-clause-passes : goal.returns-clause-passes
@@ -25,7 +25,7 @@ returns-clause-passes c = λ e.
 
 pub returns-in-Ok-reply_of-clause-hears : goal.returns-in-Ok-reply_of-clause-hears
 returns-in-Ok-reply_of-clause-hears c =
-    let x = seen c.args.state.now.plan c.args.state.now.events in
+    let x = shows c.args.state.now in
     let tag = tag_in (response_parts c.in-Ok.head.value).fields in
     let closes = says_close (response_parts c.in-Ok.head.value).fields in
     let is : c.note.new.self ≡ noted c.args.self.now tag closes = search rules in

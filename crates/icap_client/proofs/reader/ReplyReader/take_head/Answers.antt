@@ -1,5 +1,5 @@
 use Rattle.std.proofs.Common.{◌≡◌, List, ℕ, ap, ◌∙◌, rules}
-use Rattle.trace_core.specs.History.{seen}
+use Rattle.trace_core.specs.History.{shows}
 use Rattle.icap_client.specs.Heard.{Reader, with_head}
 use Rattle.icap_client.specs.declared.stage.Stage.TheVariants.{Body}
 use Rattle.icap_client.proofs.Heads.{hears_mod, keeps_start, keeps_over}
@@ -9,7 +9,7 @@ use Rattle.icap_client.proofs.reader.ReplyReader.take_head.Goals.{then-body, els
 pub returns-clause-hears : goal.returns-clause-hears
 returns-clause-hears c =
     let kept : c.in-Ok.head_bytes.items ≡ c.args.head.now = search rules in
-    hears_mod (seen c.args.state.now.plan c.args.state.now.events) c.args.self.now _ c.args.layout c.args.head.now c.has_body-body.result c.payload_of-payload.result c.if-body.self
+    hears_mod (shows c.args.state.now) c.args.self.now _ c.args.layout c.args.head.now c.has_body-body.result c.payload_of-payload.result c.if-body.self
     c.payload_of-payload.ensures c.has_body-body.ensures
     (λ e. elim c.if-body.branch [ then-body w ↦ w.self-is ∙ ap Body w.new.ensures | else-body w ↦ cc (e, w.if-body.false) ])
     (λ e. elim c.if-body.branch [ then-body w ↦ cc (e, w.if-body.true) | else-body w ↦ w.self-is ])

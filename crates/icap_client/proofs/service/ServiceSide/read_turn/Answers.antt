@@ -1,7 +1,7 @@
 use Rattle.std.proofs.Common.{◌≡◌, ◌∙◌, Bool, List, ap, sym, subst, length, Result, Ok, Err, rules}
 use Rattle.trace_core.specs.declared.history.Event.{Event}
 use Rattle.trace_core.specs.declared.history.Seen.{Seen}
-use Rattle.trace_core.specs.History.{seen}
+use Rattle.trace_core.specs.History.{shows}
 use Rattle.adapt_sides.specs.declared.turn.Turn.{Turn}
 use Rattle.adapt_sides.specs.declared.fault.ClientFault.{ClientFault}
 use Rattle.icap_client.specs.Events.{after_all}
@@ -15,7 +15,7 @@ use Rattle.icap_client.proofs.service.ServiceSide.read_turn.Goals as goal
 
 pub returns-in-Ok-clause-hears : goal.returns-in-Ok-clause-hears
 returns-in-Ok-clause-hears g c =
-    let y = seen c.args.state.now.plan c.args.state.now.events in
+    let y = shows c.args.state.now in
     let room = length c.args.out.now in
     let new = c.let_go.new.self in
     let side = c.read_turn.new.self in
@@ -40,7 +40,7 @@ returns-in-Ok-clause-hears g c =
 
 pub returns-in-Err-clause-hears : goal.returns-in-Err-clause-hears
 returns-in-Err-clause-hears g c =
-    let y = seen c.args.state.now.plan c.args.state.now.events in
+    let y = shows c.args.state.now in
     let room = length c.args.out.now in
     let new = c.read_turn.new.self in
     let result : Result Turn ClientFault = Err c.in-Err.fault in

@@ -1,5 +1,5 @@
 use Rattle.std.proofs.Common.{rules, ◌≡◌, List, ℕ, length, take, drop, ap, sym, subst}
-use Rattle.trace_core.specs.History.{seen}
+use Rattle.trace_core.specs.History.{shows}
 use Rattle.icap_client.specs.Events.{ad_sum}
 use Rattle.icap_client.specs.Heard.{Reader}
 use Rattle.icap_client.specs.Refused.{Refuses}
@@ -11,7 +11,7 @@ use Rattle.icap_client.proofs.side.ReplySide.frame_raw.Goals as goal
 
 pub returns-in-Ok-clause-hears : goal.returns-in-Ok-clause-hears
 returns-in-Ok-clause-hears c =
-    let x = seen c.args.state.now.plan c.args.state.now.events in
+    let x = shows c.args.state.now in
     let old = c.args.self.now in
     let events = c.in-Ok.heard.events.items in
     let used = c.in-Ok.heard.used in
@@ -39,7 +39,7 @@ returns-in-Ok-clause-waits c = λ none.
 
 pub returns-in-Err-clause-refuses : goal.returns-in-Err-clause-refuses
 returns-in-Err-clause-refuses c =
-    let x = seen c.args.state.now.plan c.args.state.now.events in
+    let x = shows c.args.state.now in
     let raw_is : c.as_slice.result.now ≡ c.self.inside.raw.bytes = search rules in
     refuses_still c.in-Err.fault x c.self.inside.reader c.frame.new.self c.self.inside.raw.bytes c.in-Err.ensures.stays
     (subst (λ (t : List ℕ). Refuses c.in-Err.fault x c.self.inside.reader.point c.self.inside.reader.stage t) raw_is c.in-Err.ensures.refuses)
