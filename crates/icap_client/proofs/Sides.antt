@@ -1,5 +1,6 @@
 -- The reading half over its wire.
-use Rattle.std.proofs.Common.{◌≡◌, ℕ, ◌<◌, ◌⊎◌, inl, inr, Bool, true, false, ◌||◌, List, [], ◌∷◌, ◌++◌, length, take, drop, refl, ap, sym, subst, ◌∙◌, append_assoc, append-nil, arith, length-append, nat_lt, if◌then◌else◌}
+use Rattle.std.proofs.Common.{◌≡◌, ℕ, ◌<◌, ◌⊎◌, inl, inr, Bool, true, false, ◌||◌, List, [], ◌∷◌, ◌++◌, length, take, drop, refl, ap, sym, subst, ◌∙◌, append_assoc, append-nil, arith, length-append, lit<, ◌≤◌, nat_lt, if◌then◌else◌}
+use Rattle.std.proofs.lemmas.Bool.{false≢true}
 use Rattle.std.proofs.lemmas.Bool.Decides.{nat_tests}
 use Rattle.std.proofs.lemmas.List.{take-append-drop}
 use Rattle.std.proofs.Math.Seq.{take-length}
@@ -9,6 +10,7 @@ use Rattle.icap_client.specs.HeadFront.{HasToWait}
 use Rattle.icap_head.specs.Heads.{RefusesIcapHead}
 use Rattle.icap_head.specs.StartLines.{StatusForm}
 use Rattle.icap_head.specs.FieldLines.{unended}
+use Rattle.icap_head.specs.declared.reading.HeadFault.{HeadFault}
 use Rattle.icap_head.specs.declared.reading.HeadFault.TheVariants.{More, TooLong}
 use Rattle.trace_core.specs.declared.history.Event.{Event}
 use Rattle.trace_core.specs.declared.history.Seen.{Seen}
@@ -28,8 +30,31 @@ use Rattle.icap_client.specs.Reading.{ReadSide, SideHeard, SideHears, HasBegun, 
 use Rattle.icap_client.specs.declared.stage.Stage.{Stage}
 use Rattle.icap_client.specs.declared.stage.Stage.TheVariants.{Replies, Head, Body, Over}
 
+abbrev is_more : HeadFault → Bool
+is_more More = true
+is_more _ = false
+
+-- a fault isn't another
+differs : (fault : HeadFault) → is_more fault ≡ false → More ≡ fault → ⊥
+differs fault odd alike = false≢true (sym (ap is_more alike ∙ odd))
+
+less : (n limit : ℕ) → nat_lt n limit ≡ true → n < limit
+less n limit e = grind (arith, nat_tests)
+
+below : (n limit most : ℕ) → n < limit → limit ≤ most → n < most
+below n limit most small within = omega arith
+
+none_left : (room : ℕ) → 0 < room → room ≡ 0 → ⊥
+none_left room some none = omega arith
+
+empty_short : (raw : List ℕ) → raw ≡ [] → length raw < 16384
+empty_short raw none = let P : List ℕ → Type 0 = λ t. length t < 16384 in subst P (sym none) (lit< tt)
+
+some_read : (read delta : List ℕ) → 0 < length delta → 0 < length (read ++ delta)
+some_read read delta some = omega (arith, length-append read delta)
+
 unended_by : (b : Bool) (n : ℕ) → nat_lt n 16384 ≡ b → More ≡ (if b then More else TooLong) → n < 16384
-unended_by true n e h = grind (arith, nat_tests)
+unended_by true n e h = less n 16384 e
 unended_by false n e h = cc
 
 unended_more : (n : ℕ) → More ≡ unended n → n < 16384
@@ -38,18 +63,18 @@ unended_more n h = unended_by (nat_lt n 16384) n refl h
 -- a head that isn't whole is short
 pub more_short : (raw : List ℕ) → RefusesIcapHead StatusForm More raw → length raw < 16384
 more_short raw (inl h) = unended_more (length raw) h.0
-more_short raw (inr (line, behind, first, inl (inl h))) = let odd = h.0 in cc
-more_short raw (inr (line, behind, first, inl (inr h))) = let odd = h.0 in cc
-more_short raw (inr (line, behind, first, inr (form, inl h))) = let odd = h.0 in cc
-more_short raw (inr (line, behind, first, inr (form, inr (inl h)))) = let odd = h.0 in cc
+more_short raw (inr (line, behind, first, inl (inl h))) = absurd (differs _ refl h.0)
+more_short raw (inr (line, behind, first, inl (inr h))) = absurd (differs _ refl h.0)
+more_short raw (inr (line, behind, first, inr (form, inl h))) = absurd (differs _ refl h.0)
+more_short raw (inr (line, behind, first, inr (form, inr (inl h)))) = absurd (differs _ refl h.0)
 more_short raw (inr (line, behind, first, inr (form, inr (inr h)))) = unended_more (length raw) h.0
 
 -- where a side has to wait with some room, there is room for raw bytes
 pub wait_short : (s : Stage) (raw : List ℕ) (room : ℕ) → KeepsLimits s → ¬ (s ≡ Over) → 0 < room → HasToWait s raw room → length raw < 16384
 wait_short Replies raw room k o r w = w.short
-wait_short (Head layout) raw room k o r w = omega (arith, k.1, w.0)
-wait_short (Body chunks) raw room k o r (inl e) = omega (arith, ap (λ (t : List ℕ). length t) e)
-wait_short (Body chunks) raw room k o r (inr h) = absurd (omega (arith, h.0))
+wait_short (Head layout) raw room k o r w = below (length raw) layout.offset 16384 w.0 k.1
+wait_short (Body chunks) raw room k o r (inl e) = empty_short raw e
+wait_short (Body chunks) raw room k o r (inr h) = absurd (none_left room r h.0)
 wait_short Over raw room k o r w = absurd (o refl)
 
 none_behind : (raw : List ℕ) → has_line (drop (length raw) raw) ≡ false
@@ -92,7 +117,7 @@ more_read read delta l = omega (arith, l, length-append read delta)
 
 -- a first byte was read before, or wasn't
 both_heard : (x : Seen) → x.heard ≡ true → x.heard ≡ false → ⊥
-both_heard x h n = let odd : true ≡ false = sym h ∙ n in cc
+both_heard x h n = false≢true (sym (sym h ∙ n))
 
 begun_on : (x : Seen) (events : List Event) (adapted read out : List ℕ) → (events ≡ []) ⊎ (x.heard ≡ true) → HasBegun x read ⊎ NotBegun x adapted read
     → HasBegun (after_all x events) (read ++ []) ⊎ NotBegun (after_all x events) (adapted ++ take (ad_sum events) out) (read ++ [])
@@ -177,7 +202,7 @@ filled_more x old new delta was e r = record {
 -- the first bytes of a reply
 pub filled_first : (x : Seen) (old new : ReadSide) (delta out : List ℕ) → MayCome x Heard → 0 < length delta → new.reader ≡ old.reader → new.raw ≡ old.raw ++ delta → SideHears x old new (Heard ∷ []) delta (take (ad_sum (Heard ∷ [])) out)
 filled_first x old new delta out may some e r =
-    let none : ad_sum (Heard ∷ []) ≡ 0 = omega arith in
+    let none : ad_sum (Heard ∷ []) ≡ 0 = refl in
     subst (λ (n : ℕ). SideHears x old new (Heard ∷ []) delta (take n out)) (sym none) (record {
       legal = (may.0, may.1, tt);
       only = (refl, tt);
@@ -186,7 +211,7 @@ filled_first x old new delta out may some e r =
         text_is = ap (λ (t : List ℕ). t ++ delta) s.text_is ∙ (append_assoc s.framed old.raw delta ∙ ap (λ (t : List ℕ). s.framed ++ t) (sym r));
         heard = subst (λ (t : List ℕ). HasHeard (after x Heard) t s.framed new.reader) (sym (append-nil adapted))
             (subst (λ (n : Reader). HasHeard (after x Heard) adapted s.framed n) (sym e) (to_same old.reader.stage x (after x Heard) adapted s.framed old.reader (same_heard x) s.heard));
-        begun = inl (refl, omega (arith, some, length-append read delta));
+        begun = inl (refl, some_read read delta some);
       };
     })
 

@@ -10,3 +10,4 @@ pub mod UnknownKeys
 pub mod ServiceLemmas
 pub mod NoHosts
 pub mod SeenNames
+pub mod Found

@@ -28,6 +28,6 @@ names_so Says Also so (Key found) named = so _ named
 names_so Says Also so NoMemory named = tt
 
 -- a fault that is passed on names what it names
-pub passed_on : (r : Result Config ConfigFault) (fault : ConfigFault) (Says : List ℕ → Type 0) → IsErrAnd r (λ passed. passed ≡ fault) → Names Says fault → IfErr r (Names Says)
-passed_on (Ok config) fault Says is named = tt
+pub passed_on : {T : Type 0} (r : Result T ConfigFault) (fault : ConfigFault) (Says : List ℕ → Type 0) → IsErrAnd r (λ passed. passed ≡ fault) → Names Says fault → IfErr r (Names Says)
+passed_on (Ok value) fault Says is named = tt
 passed_on (Err passed) fault Says is named = let P : ConfigFault → Type 0 = λ f. Names Says f in subst P (sym is) named

@@ -1,5 +1,5 @@
 use Rattle.adapt_turn.proofs.Together.{goes_none, goes_then}
-use Rattle.std.proofs.Common.{inl, inr, sym, ◌∙◌, ap, ◌≡◌, refl, subst, true, false, [], Some, None, arith, rules, ◌+◌, ◌≤◌}
+use Rattle.std.proofs.Common.{inl, inr, sym, ◌∙◌, ap, ◌≡◌, refl, subst, true, false, [], Some, None, ℕ, arith, ◌+◌, ◌-◌, ◌≤◌}
 use Rattle.trace_core.specs.declared.history.Cause.TheVariants.{Deadline, Stopping}
 use Rattle.plan_rules.specs.Room.{original_room, adapted_room}
 use Rattle.adapt_hold.specs.Holding.{Holding, shows}
@@ -26,6 +26,27 @@ use Rattle.adapt_turn.proofs.Faultless.{unmarked_before, unmarked_now}
 use Rattle.adapt_turn.specs.declared.pace.Pace.{Pace}
 use Rattle.adapt_turn.proofs.Lines.{line_told}
 use Rattle.adapt_turn.proofs.tx.Tx.turn.Goals as goal
+
+none_some : {A : Type 0} {a : A} → None ≡ Some a → ⊥
+none_some d = cc
+
+same_cause : {cause other : Cause} → outcomes.Fail cause ≡ outcomes.Fail other → cause ≡ other
+same_cause d = cc
+
+not_stopping : Deadline ≡ Stopping → ⊥
+not_stopping d = cc
+
+moved_not_broken : {n : ℕ} → answers.Moved n ≡ answers.Broken → ⊥
+moved_not_broken d = cc
+
+moved_same : {n m : ℕ} → answers.Moved n ≡ answers.Moved m → n ≡ m
+moved_same d = cc
+
+due_at : (last_moved deadline now : ℕ) → last_moved ≤ now → deadline ≤ now - last_moved → last_moved + deadline ≤ now
+due_at last_moved deadline now after past = omega arith
+
+at_most : (n more : ℕ) → n ≤ n + more
+at_most n more = omega arith
 
 pub returns-then-is_broken-clause-goes : goal.returns-then-is_broken-clause-goes
 returns-then-is_broken-clause-goes g c = goes_none _ _ _ _
@@ -131,7 +152,7 @@ returns-clause-fails g c = λ o.
             cause_kept (λ z fault. g.E.Reader.Source.has_reason fault z) _ _ _ c.pass-passed.new.self.ends.source c.after_pass.new.self.ends.source (ap g.E.Reader.Source.fault c.after_pass.ensures.kept.0) c.after_pass.ensures.kept.0 ((c.pass-passed.ensures.source s).reason),
           ))
           (λ s. (
-            λ n. (let d : None ≡ Some cause = sym (c.pass-passed.ensures.any.idle ((line_told (c.pass-passed.ensures.service s)).absent n)) ∙ f in absurd cc),
+            λ n. none_some (sym (c.pass-passed.ensures.any.idle ((line_told (c.pass-passed.ensures.service s)).absent n)) ∙ f),
             line_blamed_kept (λ l. g.E.Client.Service.fault l.side) (λ l p. MatchOption l.wire ⊥ (λ w. g.E.ServiceWire.Wire.past w p)) cause _ _ c.pass-passed.new.self.ends.service c.after_pass.new.self.ends.service c.after_pass.ensures.kept.2 ((line_told (c.pass-passed.ensures.service s)).blames cause f),
             fails_kept (λ l. g.E.Client.Service.fault l.side) (λ fault x l. g.E.Client.Service.has_reason fault x l.side) cause c.args.self.now.pace.reused c.args.self.now.ends.service c.pass-passed.new.self.hold c.after_pass.new.self.hold c.pass-passed.new.self.ends.service c.after_pass.new.self.ends.service c.after_pass.ensures.hold c.after_pass.ensures.kept.2 ((line_told (c.pass-passed.ensures.service s)).unbroken cause f),
           ))
@@ -155,13 +176,13 @@ pub returns-then-now-self-2-clause-fails : goal.returns-then-now-self-2-clause-f
 returns-then-now-self-2-clause-fails g c = λ o.
     let n = c.fail_by.new.self in
     let p = n.hold.history.plan.point in
-    let due : c.args.self.now.pace.last_moved + c.args.self.now.pace.deadline ≤ c.args.now = search rules in
-    let of_it : (cause : Cause) → c.fail_by.new.self.outcome ≡ outcomes.Fail cause → Deadline ≡ cause = λ cause e. (let same : Deadline ≡ cause = (let d : outcomes.Fail Deadline ≡ outcomes.Fail cause = sym c.fail_by.ensures.outcome ∙ e in cc) in same) in
+    let due : c.args.self.now.pace.last_moved + c.args.self.now.pace.deadline ≤ c.args.now = due_at c.args.self.now.pace.last_moved c.args.self.now.pace.deadline c.args.now c.if-now-self.true c.if-now-self-2.true in
+    let of_it : (cause : Cause) → c.fail_by.new.self.outcome ≡ outcomes.Fail cause → Deadline ≡ cause = λ cause e. same_cause (sym c.fail_by.ensures.outcome ∙ e) in
     record {
       fails = λ cause e. inl (sym (of_it cause e), due);
       refuses = λ cause e. subst (λ (z : Cause). HasRefusal (refusal_status z p) n.refusing (user_gift p (g.E.Writer.Hop.gift n.ends.next) (g.E.Writer.Hop.gift n.ends.back)) (user_untouched p (g.E.Writer.Hop.untouched n.ends.next) (g.E.Writer.Hop.untouched n.ends.back))) (of_it cause e) c.fail_by.ensures.refuses;
       timely = λ e. inl due;
-      unstopped = λ e. (let same = of_it Stopping e in absurd cc);
+      unstopped = λ e. absurd (not_stopping (of_it Stopping e));
     }
 
 pub returns-clause-paces : goal.returns-clause-paces
@@ -208,18 +229,18 @@ pub returns-then-is_closed-clause-closed : goal.returns-then-is_closed-clause-cl
 returns-then-is_closed-clause-closed g c = λ k. let e = c.closed_turn.ensures in record { hold = e.kept.0; outcome = e.kept.1; refusing = e.kept.2; finishes = e.finished; refuses = e.refuses }
 
 pub returns-then-now-self-2-clause-paces : goal.returns-then-now-self-2-clause-paces
-returns-then-now-self-2-clause-paces g c = paces_still _ _ _ _ _ (answers.Moved 0) c.fail_by.ensures.pace (λ b. (let d : answers.Moved 0 ≡ answers.Broken = b in absurd cc)) (λ o. (
+returns-then-now-self-2-clause-paces g c = paces_still _ _ _ _ _ (answers.Moved 0) c.fail_by.ensures.pace (λ b. absurd (moved_not_broken b)) (λ o. (
   moves_none g.E.SourceWire.Wire.past g.E.ServiceWire.Wire.past g.E.NextWire.Wire.past c.args.self.now.ends.source_wire c.fail_by.new.self.ends.source_wire
       c.args.self.now.ends.service c.fail_by.new.self.ends.service c.args.self.now.ends.next_wire c.fail_by.new.self.ends.next_wire _ _ _ 0
       c.counts-before.ensures.source c.counts-before.ensures.service c.counts-before.ensures.next c.fail_by.ensures.kept.0 c.fail_by.ensures.kept.1 c.fail_by.ensures.kept.2 refl,
-  λ m e. (let d : answers.Moved 0 ≡ answers.Moved m = e in cc),
+  λ m e. moved_same (sym e),
 ))
 
 pub returns-then-is_broken-clause-paces : goal.returns-then-is_broken-clause-paces
-returns-then-is_broken-clause-paces g c = paces_still _ _ _ _ _ answers.Broken refl (λ b. search rules) (λ o. (
+returns-then-is_broken-clause-paces g c = paces_still _ _ _ _ _ answers.Broken refl (λ b. (c.is_broken.ensures.0 c.if-is_broken.true).0) (λ o. (
   moves_none g.E.SourceWire.Wire.past g.E.ServiceWire.Wire.past g.E.NextWire.Wire.past c.args.self.now.ends.source_wire c.args.self.now.ends.source_wire c.args.self.now.ends.service c.args.self.now.ends.service c.args.self.now.ends.next_wire c.args.self.now.ends.next_wire _ _ _ 0
       c.counts-before.ensures.source c.counts-before.ensures.service c.counts-before.ensures.next refl refl refl refl,
-  λ m e. (let d : answers.Broken ≡ answers.Moved m = e in absurd cc),
+  λ m e. absurd (moved_not_broken (sym e)),
 ))
 
 pub returns-clause-keeps : goal.returns-clause-keeps
@@ -284,7 +305,7 @@ pub returns-then-is_broken-clause-keeps : goal.returns-then-is_broken-clause-kee
 returns-then-is_broken-clause-keeps g c = (
   λ o. (
     ([], tt, refl),
-    for_side c.args.side _ _ _ (λ s. (refl, refl, omega arith, λ n. (refl, refl))) (λ s. (refl, refl, refl, omega arith, λ n. (refl, refl))) (λ s. (refl, refl, inl refl, λ n. (λ e. refl, λ k. refl))),
+    for_side c.args.side _ _ _ (λ s. (refl, refl, at_most _ _, λ n. (refl, refl))) (λ s. (refl, refl, refl, at_most _ _, λ n. (refl, refl))) (λ s. (refl, refl, inl refl, λ n. (λ e. refl, λ k. refl))),
     λ n m. absurd (idle_no_message _ n m),
     λ n m. absurd (idle_no_message _ n m),
   ),
