@@ -5,6 +5,7 @@ ghost use Rattle.icap_client.specs.Sending.{KeepsUnsent};
 
 use crate::kept::Kept;
 use crate::replies::{MAX_IDLE, ROOM, Told};
+use adapt_sides::{ClientFault, Turn};
 use icap_client::ServiceSide;
 use span_tape::SpanTape;
 use std::alloc::Global;
@@ -13,15 +14,66 @@ use trace_core::{Event, Plan, State};
 use wire_kit::{MemoryWire, Wire};
 use wire_rows::{Scene, Values, count_after, history, index_of, put_flag, put_text, wire};
 
-/// An exchange: the side with its wire, and another wire for a request that begins anew.
+/// The service's side over its wire, as a row plays it.
+trait Line {
+    /// A turn of the writing half.
+    fn write(&mut self, state: &State, tape: &SpanTape) -> Result<Turn, ClientFault>
+        requires { KeepsUnsent (seen state.now.plan state.now.events) tape.now };
+    /// A turn of the reading half.
+    fn read(&mut self, state: &State, out: &mut [u8]) -> Result<Turn, ClientFault>;
+    /// Begins the request anew on another wire.
+    fn restart(&mut self);
+    /// How many bytes the wire gave and took.
+    fn counts(&self) -> (u64, u64);
+    /// What the wire took.
+    fn taken(&self) -> &[u8];
+    /// Adds whether the request is whole, whether its connection may be used again, and whether the request is kept.
+    fn put_marks(&self, out: &mut Vec<u8>) -> Result<(), NoMemory>;
+}
+
+/// The side with its first wire, and another one that comes in its place when the request begins anew.
 #[derive(Drop)]
-struct Exchange {
+struct Wired {
     side: ServiceSide,
-    state: State,
-    wire: MemoryWire,
-    /// The wire that comes in its place.
+    first: MemoryWire,
     other: MemoryWire,
-    told: Told,
+}
+
+impl Line for Wired {
+    fn write(&mut self, state: &State, tape: &SpanTape) -> Result<Turn, ClientFault> {
+        self.side.write_turn(state, tape, &mut self.first)
+    }
+
+    fn read(&mut self, state: &State, out: &mut [u8]) -> Result<Turn, ClientFault> {
+        self.side.read_turn(state, &mut self.first, out)
+    }
+
+    fn restart(&mut self) {
+        self.side.restart();
+        std::mem::swap(&mut self.first, &mut self.other);
+    }
+
+    fn counts(&self) -> (u64, u64) {
+        self.first.counts()
+    }
+
+    fn taken(&self) -> &[u8] {
+        self.first.taken()
+    }
+
+    fn put_marks(&self, out: &mut Vec<u8>) -> Result<(), NoMemory> {
+        put_flag(out, b"request whole", self.side.request_whole())?;
+        put_flag(out, b"reusable", self.side.is_reusable())?;
+        put_flag(out, b"request kept", self.side.request_room() > 0)
+    }
+}
+
+/// An exchange: a line with the history of its message, and what was reported.
+#[derive(Drop)]
+struct Exchange<'a, L> {
+    line: &'a mut L,
+    state: &'a mut State,
+    told: &'a mut Told,
 }
 
 /// Whether the tape has what the history may still send.
@@ -32,40 +84,20 @@ fn is_tape_of(state: &State, tape: &SpanTape) -> bool
     tape.end() == seen.received && tape.base() <= seen.sent
 }
 
-/// A side that offers the row's message.
-fn offer(alloc: Global, plan: &Plan, scene: Scene<'_>) -> Result<Option<ServiceSide>, NoMemory> {
-    let (path, req, res) = (
-        scene.get(b"path"),
-        scene.get(b"request"),
-        scene.get(b"response"),
-    );
-    if req.len() > 65_536 || res.len() > 65_536 {
-        return Ok(None);
-    }
-    Ok(Some(ServiceSide::new(alloc, plan, b"127.0.0.1", 1344, path, req, res)?))
-}
-
-impl Exchange {
+impl<'a, L: Line> Exchange<'a, L> {
     /// A turn of the writing half.
     fn write(&mut self, tape: &SpanTape) {
-        if is_tape_of(&self.state, tape) {
-            let turn = self.side.write_turn(&self.state, tape, &mut self.wire);
-            self.told.step(&mut self.state, turn);
+        if is_tape_of(self.state, tape) {
+            let turn = self.line.write(self.state, tape);
+            self.told.step(self.state, turn);
         }
     }
 
     /// A turn of the reading half.
     fn read(&mut self) {
         let mut out = [0; ROOM];
-        let turn = self.side.read_turn(&self.state, &mut self.wire, &mut out);
-        self.told.take(&mut self.state, turn, &out);
-    }
-
-    /// Begins the request anew on the other wire.
-    fn restart(&mut self) {
-        self.side.restart();
-        let _ = self.state.step(Event::Retry);
-        std::mem::swap(&mut self.wire, &mut self.other);
+        let turn = self.line.read(self.state, &mut out);
+        self.told.take(self.state, turn, &out);
     }
 
     /// Bytes of the body come.
@@ -80,14 +112,11 @@ impl Exchange {
     fn turns(&mut self, kept: &Kept, count: usize) {
         let mut idle: usize = 0;
         for _ in 0..count {
-            let before = self.wire.counts();
+            let before = self.line.counts();
             self.write(kept.tape());
             self.read();
-            idle = if self.wire.counts() == before {
-                idle.saturating_add(1)
-            } else {
-                0
-            };
+            let same = self.line.counts() == before;
+            idle = if same { idle.saturating_add(1) } else { 0 };
             if idle > MAX_IDLE {
                 return;
             }
@@ -104,36 +133,62 @@ impl Exchange {
         }
         match index_of(b"write again end", word) {
             Some(0) => self.write(kept.tape()),
-            Some(1) => self.restart(),
+            Some(1) => {
+                self.line.restart();
+                let _ = self.state.step(Event::Retry);
+            }
             _ => {
                 let _ = self.state.step(Event::End);
             }
         }
     }
 
-    /// Plays the row's steps. After each write it adds how many bytes the wire has taken, where the row wants that.
-    fn play(
+    /// Plays the row's steps, and adds what the wire took, what the service's bytes said, and what is left of the request. After
+    /// each write it adds how many bytes the wire has taken, where the row wants that.
+    fn put_played(
         &mut self,
         scene: Scene<'_>,
+        values: Values,
         kept: &mut Kept,
         out: &mut Vec<u8>,
     ) -> Result<(), NoMemory> {
         for word in scene.get(b"steps").split(|byte| *byte == b' ') {
             self.play_step(scene, kept, word);
             if scene.has(b"counts") && word == b"write".as_slice() {
-                put_number(out, b"taken", self.wire.taken().len() as u64)?;
+                put_number(out, b"taken", self.line.taken().len() as u64)?;
             }
         }
-        Ok(())
-    }
-
-    /// Adds what the wire took, what the service's bytes said, and what is left of the request.
-    fn put(&self, scene: Scene<'_>, values: Values, out: &mut Vec<u8>) -> Result<(), NoMemory> {
-        put_text(out, scene, b"taken", self.wire.taken(), values)?;
+        put_text(out, scene, b"taken", self.line.taken(), values)?;
         self.told.put(scene, values, out)?;
-        put_flag(out, b"request whole", self.side.request_whole())?;
-        put_flag(out, b"reusable", self.side.is_reusable())?;
-        put_flag(out, b"request kept", self.side.request_room() > 0)
+        self.line.put_marks(out)
+    }
+}
+
+/// A side that offers the row's message.
+fn offer(alloc: Global, plan: &Plan, scene: Scene<'_>) -> Result<Option<ServiceSide>, NoMemory> {
+    let (path, req, res) = (
+        scene.get(b"path"),
+        scene.get(b"request"),
+        scene.get(b"response"),
+    );
+    if req.len() > 65_536 || res.len() > 65_536 {
+        return Ok(None);
+    }
+    Ok(Some(ServiceSide::new(alloc, plan, b"127.0.0.1", 1344, path, req, res)?))
+}
+
+/// The row's side with its wires; `None` where a head is too long.
+fn line_of(
+    alloc: Global,
+    plan: &Plan,
+    scene: Scene<'_>,
+    values: Values,
+) -> Result<Option<Wired>, NoMemory> {
+    let first = wire(alloc, scene, b"reply", b"reads", b"writes", values)?;
+    let other = wire(alloc, scene, b"", b"", b"anew", values)?;
+    match offer(alloc, plan, scene)? {
+        Some(side) => Ok(Some(Wired { side, first, other })),
+        None => Ok(None),
     }
 }
 
@@ -145,22 +200,18 @@ pub fn put_exchange(
     kept: &mut Kept,
     out: &mut Vec<u8>,
 ) -> Result<(), NoMemory> {
-    let Some(state) = history(scene) else {
+    let Some(mut state) = history(scene) else {
         return put_line(out, b"no such history");
     };
-    let first = wire(alloc, scene, b"reply", b"reads", b"writes", values)?;
-    let other = wire(alloc, scene, b"", b"", b"anew", values)?;
     let plan = state.seen().plan;
-    let Some(side) = offer(alloc, &plan, scene)? else {
+    let Some(mut line) = line_of(alloc, &plan, scene, values)? else {
         return put_line(out, b"a head that is too long");
     };
+    let mut told = Told::new(alloc);
     let mut exchange = Exchange {
-        side,
-        state,
-        wire: first,
-        other,
-        told: Told::new(alloc),
+        line: &mut line,
+        state: &mut state,
+        told: &mut told,
     };
-    exchange.play(scene, kept, out)?;
-    exchange.put(scene, values, out)
+    exchange.put_played(scene, values, kept, out)
 }

@@ -16,18 +16,17 @@ mod services;
 mod wires;
 
 use std::alloc::Global;
-use std::io::Write;
+use std::io;
 use std::sync::Wait;
 use std::time::Clock;
-use std::{env, fs, io};
-use test_rows::{NoMemory, Report, number, read_table};
+use test_rows::{Driver, NoMemory, Row, judge_files};
 use wire_rows::{Player, Scene, Values, index_of, put_runs};
 
 /// The calls of rows that need no pages, in the order of `put_run`.
 const CALLS: &[u8] = b"reply options serve feed lines service settings wire shared gate";
 
 /// What plays a row.
-#[derive(Clone, Copy)]
+#[derive(Drop)]
 struct Engines<'a, R> {
     rt: &'a R,
     alloc: Global,
@@ -52,41 +51,20 @@ impl<'a, R: Wait + Clock> Player for Engines<'a, R> {
     }
 }
 
-/// The report on a file's rows.
-fn judged<R: Wait + Clock>(rt: &R, alloc: Global, text: &[u8]) -> Result<Report, NoMemory> {
-    let table = read_table(alloc, text)?;
-    let head = table.head();
-    let player = Engines { rt, alloc };
-    let mut report = Report::new(alloc);
-    for at in 1..table.len() {
-        let row = table.row(at);
-        let mut answer = Vec::new(alloc);
-        put_runs(alloc, &player, Scene { head, row }, &mut answer)?;
-        report.judge(&head, &row, &answer)?;
+impl<'a, R: Wait + Clock> Driver for Engines<'a, R> {
+    fn put_answer(&self, head: &Row<'_>, row: &Row<'_>, out: &mut Vec<u8>) -> Result<(), NoMemory> {
+        let scene = Scene {
+            head: *head,
+            row: *row,
+        };
+        put_runs(self.alloc, self, scene, out)
     }
-    report.finish(&head)?;
-    Ok(report)
-}
-
-/// Makes this number of allocations and gives each back, so that any of the later ones can be the one that is refused.
-fn allocate(alloc: Global, count: u64) -> Result<(), NoMemory> {
-    for _ in 0..count {
-        b"a".to_vec(alloc)?;
-    }
-    Ok(())
 }
 
 fn main(rt: HostRuntime) -> io::Result<()> {
-    let mut output = rt.stdout();
-    for path in env::args(&rt)?.skip(1) {
-        match number(path.as_bytes()) {
-            Some(count) => allocate(rt.alloc(), count)?,
-            None => {
-                let text = fs::read(&rt, path.as_str())?;
-                let report = judged(&rt, rt.alloc(), &text)?;
-                output.write_all(report.lines())?;
-            }
-        }
-    }
-    Ok(())
+    let engines = Engines {
+        rt: &rt,
+        alloc: rt.alloc(),
+    };
+    judge_files(&rt, &engines, &mut rt.stdout())
 }

@@ -9,34 +9,6 @@ use test_rows::{NoMemory, put_line, put_number};
 use wire_kit::{MemoryWire, Wire};
 use wire_rows::{Scene, Values, put_text, put_word, wire};
 
-/// Up to this many turns of the side, until nothing moves: the answer's head, and the last fault.
-fn ask(
-    side: &mut OptionsSide,
-    wire: &mut MemoryWire,
-    turns: usize,
-) -> (Option<IcapResponse>, Option<ClientFault>) {
-    let mut answer = None;
-    let mut fault = None;
-    let mut idle: usize = 0;
-    for _ in 0..turns {
-        let before = wire.counts();
-        match side.turn(wire) {
-            Ok(Some(head)) => answer = Some(head),
-            Ok(None) => {}
-            Err(found) => fault = Some(found),
-        }
-        idle = if wire.counts() == before {
-            idle.saturating_add(1)
-        } else {
-            0
-        };
-        if idle > MAX_IDLE {
-            break;
-        }
-    }
-    (answer, fault)
-}
-
 /// Adds what the answer says: its status, and the field that the row names.
 fn put_answer(
     head: &IcapResponse,
@@ -72,6 +44,33 @@ fn put_all(
     }
 }
 
+/// Adds what turns of the side asked until nothing moves, and what they were answered: the head, and the last fault.
+fn put_asked(
+    side: &mut OptionsSide,
+    wire: &mut MemoryWire,
+    scene: Scene<'_>,
+    values: Values,
+    out: &mut Vec<u8>,
+) -> Result<(), NoMemory> {
+    let (mut answer, mut fault) = (None, None);
+    let mut idle: usize = 0;
+    for _ in 0..scene.number_or(b"turns", values, 250) {
+        let before = wire.counts();
+        match side.turn(wire) {
+            Ok(Some(head)) => answer = Some(head),
+            Ok(None) => {}
+            Err(found) => fault = Some(found),
+        }
+        let same = wire.counts() == before;
+        idle = if same { idle.saturating_add(1) } else { 0 };
+        if idle > MAX_IDLE {
+            break;
+        }
+    }
+    put_text(out, scene, b"asked", wire.taken(), values)?;
+    put_all(answer.as_ref(), fault, side.raw_left(), scene, out)
+}
+
 /// Adds what the side asked, and what it was answered.
 pub fn put_options(
     alloc: Global,
@@ -79,10 +78,7 @@ pub fn put_options(
     values: Values,
     out: &mut Vec<u8>,
 ) -> Result<(), NoMemory> {
-    let turns = scene.number_or(b"turns", values, 250);
     let mut wire = wire(alloc, scene, b"answer", b"reads", b"writes", values)?;
     let mut side = OptionsSide::new(alloc, b"127.0.0.1", 1344, b"/respmod/pass")?;
-    let (answer, fault) = ask(&mut side, &mut wire, turns);
-    put_text(out, scene, b"asked", wire.taken(), values)?;
-    put_all(answer.as_ref(), fault, side.raw_left(), scene, out)
+    put_asked(&mut side, &mut wire, scene, values, out)
 }

@@ -29,15 +29,38 @@ pub enum End {
     Waiting,
 }
 
-/// A message between two wires.
+/// A source and a next hop over their wires, as rows pass messages between them.
+trait Ends {
+    /// A turn of the source: before its head was read no turn comes of it, and with the head the message begins.
+    fn read(&mut self, alloc: Global, out: &mut [u8]) -> Result<Option<Turn>, RelayFault>;
+    /// A turn of the next hop's side.
+    fn write(&mut self, state: &State, tape: &SpanTape) -> Result<Turn, RelayFault>
+        requires { KeepsUndelivered (seen state.now.plan state.now.events) tape.now };
+    /// Goes on to the next message, if this one was read to its end.
+    fn go_on(&mut self, alloc: Global);
+    /// How many bytes each wire gave and took.
+    fn counts(&self) -> ((u64, u64), (u64, u64));
+    /// What the next hop took.
+    fn taken(&self) -> &[u8];
+    /// Why the source's head was refused.
+    fn head_fault(&self) -> Option<HttpFault>;
+}
+
+/// Both sides with their wires.
 #[derive(Drop)]
-struct Exchange {
+struct Wired {
     user: Option<HttpRequest>,
     source: SourceSide,
     from: MemoryWire,
     hop: HopWriter,
     to: MemoryWire,
-    state: State,
+}
+
+/// A message between two wires.
+#[derive(Drop)]
+struct Exchange<'a, E> {
+    ends: &'a mut E,
+    state: &'a mut State,
 }
 
 /// Whether the tape has what may still go out of the chosen message, and nothing before it.
@@ -87,7 +110,7 @@ fn forwarded(
     Ok(Some((head, forward.framing())))
 }
 
-impl Exchange {
+impl Wired {
     /// Begins the message, once its head was read.
     fn begin(&mut self, alloc: Global) -> Result<(), NoMemory> {
         let found = forwarded(alloc, &self.source, self.user.as_ref())?;
@@ -98,27 +121,54 @@ impl Exchange {
         }
         Ok(())
     }
+}
 
+impl Ends for Wired {
+    fn read(&mut self, alloc: Global, out: &mut [u8]) -> Result<Option<Turn>, RelayFault> {
+        if !self.hop.is_idle() {
+            return Ok(Some(self.source.read_turn(&mut self.from, out)?));
+        }
+        if self.source.head_turn(&mut self.from)? && self.begin(alloc).is_err() {
+            return Err(RelayFault::NoMemory);
+        }
+        Ok(None)
+    }
+
+    fn write(&mut self, state: &State, tape: &SpanTape) -> Result<Turn, RelayFault> {
+        self.hop.write_turn(state, tape, &mut self.to)
+    }
+
+    fn go_on(&mut self, alloc: Global) {
+        if self.source.ended() {
+            self.source.next();
+        }
+        self.hop = HopWriter::new(alloc);
+    }
+
+    fn counts(&self) -> ((u64, u64), (u64, u64)) {
+        (self.from.counts(), self.to.counts())
+    }
+
+    fn taken(&self) -> &[u8] {
+        self.to.taken()
+    }
+
+    fn head_fault(&self) -> Option<HttpFault> {
+        self.source.head_fault()
+    }
+}
+
+impl<'a, E: Ends> Exchange<'a, E> {
     /// A turn of the source, whose fault it answers.
     fn read(&mut self, alloc: Global, kept: &mut Kept) -> Result<Option<RelayFault>, NoMemory> {
-        if self.hop.is_idle() {
-            return match self.source.head_turn(&mut self.from) {
-                Ok(true) => {
-                    self.begin(alloc)?;
-                    Ok(None)
-                }
-                Ok(false) => Ok(None),
-                Err(RelayFault::NoMemory) => Err(NoMemory),
-                Err(fault) => Ok(Some(fault)),
-            };
-        }
         let mut out = [0; 64];
-        match self.source.read_turn(&mut self.from, &mut out) {
-            Ok(turn) => {
-                let count = step(&mut self.state, &turn);
+        match self.ends.read(alloc, &mut out) {
+            Ok(Some(turn)) => {
+                let count = step(self.state, &turn);
                 kept.append(&out[..count.min(64)]);
                 Ok(None)
             }
+            Ok(None) => Ok(None),
             Err(RelayFault::NoMemory) => Err(NoMemory),
             Err(fault) => Ok(Some(fault)),
         }
@@ -126,12 +176,12 @@ impl Exchange {
 
     /// A turn of the next hop's side, whose fault it answers.
     fn write(&mut self, kept: &mut Kept) -> Option<RelayFault> {
-        if !is_in_step(&self.state, kept.tape()) {
+        if !is_in_step(self.state, kept.tape()) {
             return None;
         }
-        match self.hop.write_turn(&self.state, kept.tape(), &mut self.to) {
+        match self.ends.write(self.state, kept.tape()) {
             Ok(turn) => {
-                let _ = step(&mut self.state, &turn);
+                let _ = step(self.state, &turn);
                 kept.drop_to(self.state.seen().original_delivered);
                 None
             }
@@ -143,7 +193,7 @@ impl Exchange {
     fn pass(&mut self, alloc: Global, kept: &mut Kept, turns: usize) -> Result<End, NoMemory> {
         let mut idle: usize = 0;
         for _ in 0..turns {
-            let before = (self.from.counts(), self.to.counts());
+            let before = self.ends.counts();
             if let Some(fault) = self.read(alloc, kept)? {
                 return Ok(End::Source(fault));
             }
@@ -153,23 +203,13 @@ impl Exchange {
             if self.state.seen().closed {
                 return Ok(End::Done);
             }
-            let same = (self.from.counts(), self.to.counts()) == before;
+            let same = self.ends.counts() == before;
             idle = if same { idle.saturating_add(1) } else { 0 };
             if idle > MAX_IDLE {
                 break;
             }
         }
         Ok(End::Waiting)
-    }
-
-    /// Goes on to the next message on these wires, if this one was read to its end.
-    fn go_on(&mut self, alloc: Global, state: State, kept: &mut Kept) {
-        if self.source.ended() {
-            self.source.next();
-        }
-        self.hop = HopWriter::new(alloc);
-        self.state = state;
-        kept.clear();
     }
 
     /// Passes this many messages on, one after the other, and adds what the next hop took and how the last one ended.
@@ -185,12 +225,14 @@ impl Exchange {
         let mut end = self.pass(alloc, kept, turns)?;
         for _ in 1..scene.number_or(b"messages", values, 1) {
             if let Some(state) = plain() {
-                self.go_on(alloc, state, kept);
+                self.ends.go_on(alloc);
+                *self.state = state;
+                kept.clear();
                 end = self.pass(alloc, kept, turns)?;
             }
         }
-        put_text(out, scene, b"taken", self.to.taken(), values)?;
-        if let Some(why) = self.source.head_fault() {
+        put_text(out, scene, b"taken", self.ends.taken(), values)?;
+        if let Some(why) = self.ends.head_fault() {
             put_shown(out, b"why", &why)?;
         }
         put_shown(out, b"end", &end)
@@ -223,6 +265,21 @@ fn source_of(alloc: Global, user: Option<&HttpRequest>) -> SourceSide {
     }
 }
 
+/// Both sides of the row's messages, with their wires.
+fn ends_of(alloc: Global, scene: Scene<'_>, values: Values) -> Result<Wired, NoMemory> {
+    let from = wire(alloc, scene, b"source", b"reads", b"", values)?;
+    let to = wire(alloc, scene, b"", b"", b"writes", values)?;
+    let user = user_of(alloc, scene)?;
+    let source = source_of(alloc, user.as_ref());
+    Ok(Wired {
+        user,
+        source,
+        from,
+        hop: HopWriter::new(alloc),
+        to,
+    })
+}
+
 /// Adds what the next hop takes of the row's messages: of requests of a user, or of answers to the request that `user` has.
 pub fn put_relayed(
     alloc: Global,
@@ -231,20 +288,13 @@ pub fn put_relayed(
     kept: &mut Kept,
     out: &mut Vec<u8>,
 ) -> Result<(), NoMemory> {
-    let Some(state) = plain() else {
+    let Some(mut state) = plain() else {
         return put_line(out, b"no plan");
     };
-    let from = wire(alloc, scene, b"source", b"reads", b"", values)?;
-    let to = wire(alloc, scene, b"", b"", b"writes", values)?;
-    let user = user_of(alloc, scene)?;
-    let source = source_of(alloc, user.as_ref());
+    let mut ends = ends_of(alloc, scene, values)?;
     let mut exchange = Exchange {
-        user,
-        source,
-        from,
-        hop: HopWriter::new(alloc),
-        to,
-        state,
+        ends: &mut ends,
+        state: &mut state,
     };
     exchange.put_passed(alloc, scene, values, kept, out)
 }

@@ -92,11 +92,6 @@ impl Told {
     }
 }
 
-/// Whether a turn did nothing.
-fn is_waiting(turn: &Result<Turn, ClientFault>) -> bool {
-    matches!(turn, Ok(turn) if turn.waiting)
-}
-
 /// Whether a turn did nothing, or failed.
 fn is_idle(turn: &Result<Turn, ClientFault>) -> bool {
     match turn {
@@ -122,7 +117,7 @@ fn read(
     for turn in 0..turns {
         let mut out = [0; ROOM];
         let found = side.read_turn(state, turn >= early, wire, &mut out[..room.min(ROOM)]);
-        if turn < early && is_waiting(&found) {
+        if turn < early && matches!(&found, Ok(turn) if turn.waiting) {
             told.keep_waiting();
         }
         idle = if is_idle(&found) {
@@ -184,17 +179,6 @@ pub fn put_reply(
     read(
         &mut side, &mut state, &mut wire, &mut told, room, early, turns,
     );
-    put_all(&told, &side, scene, values, out)
-}
-
-/// Adds what was reported, and what the side says.
-fn put_all(
-    told: &Told,
-    side: &ReplySide,
-    scene: Scene<'_>,
-    values: Values,
-    out: &mut Vec<u8>,
-) -> Result<(), NoMemory> {
     told.put(scene, values, out)?;
-    put_side(side, scene, values, out)
+    put_side(&side, scene, values, out)
 }

@@ -51,7 +51,28 @@ fn put_calls(wire: &mut MemoryWire, scene: Scene<'_>, out: &mut Vec<u8>) -> Resu
     put_shown(out, b"buffer", &buf)
 }
 
-/// Adds what two wires answer that share their answers: reads go to the first, and writes to the second.
+/// Adds what two wires answer: reads go to the first, and writes to the second.
+fn put_both(
+    source: &mut SharedWire<'_>,
+    hop: &mut SharedWire<'_>,
+    scene: Scene<'_>,
+    values: Values,
+    out: &mut Vec<u8>,
+) -> Result<(), NoMemory> {
+    let mut buf = [0; 4];
+    for call in scene.get(b"calls").split(|byte| *byte == b' ') {
+        if call == b"read".as_slice() {
+            put_call(source, call, &mut buf, out)?;
+        } else {
+            put_call(hop, call, &mut buf, out)?;
+        }
+    }
+    put_text(out, scene, b"taken", hop.taken(), values)?;
+    put_counts(source, out)?;
+    put_counts(hop, out)
+}
+
+/// Adds what two wires answer that share their answers.
 pub fn put_shared(
     alloc: Global,
     scene: Scene<'_>,
@@ -62,17 +83,7 @@ pub fn put_shared(
     let input = scene.get(b"input").to_vec(alloc)?;
     let mut source = SharedWire::new(alloc, &answers, input, 0)?;
     let mut hop = SharedWire::new(alloc, &answers, Vec::new(alloc), 8)?;
-    let mut buf = [0; 4];
-    for call in scene.get(b"calls").split(|byte| *byte == b' ') {
-        if call == b"read".as_slice() {
-            put_call(&mut source, call, &mut buf, out)?;
-        } else {
-            put_call(&mut hop, call, &mut buf, out)?;
-        }
-    }
-    put_text(out, scene, b"taken", hop.taken(), values)?;
-    put_counts(&source, out)?;
-    put_counts(&hop, out)
+    put_both(&mut source, &mut hop, scene, values, out)
 }
 
 /// Adds whether transactions may pass a gate: each step is a transaction's number, or `answered` once the second was answered.

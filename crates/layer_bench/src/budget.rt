@@ -6,9 +6,10 @@ ghost use Rattle.span_bank.specs.declared.limits.TheConstants.{MAX_CAPACITY};
 ghost use Rattle.span_tape.specs.Tape.{end_of};
 
 use crate::nanos_each;
+use crate::places::{OnBank, Place};
 use crate::threads::rounds_of_two;
 use anyhow::Result;
-use span_bank::{Bank, Ledgers, Pages, Stake};
+use span_bank::{Bank, Ledgers, OpenFault, Pages, Stake};
 use span_tape::SpanTape;
 use std::alloc::Global;
 use std::sync::Wait;
@@ -20,7 +21,7 @@ use std::time::{Clock, Duration, Instant};
 pub const PIECE: u64 = 4096;
 
 /// How long the rounds of growing and shrinking one reservation took, with no other thread.
-fn time_pairs<B: Ledgers, R: Wait + Clock>(
+pub fn time_pairs<B: Ledgers, R: Wait + Clock>(
     rt: &R,
     bank: &Bank<B>,
     rounds: u32,
@@ -73,7 +74,7 @@ fn copy_back(room: &[u8], out: &mut [u8; 4096])
 
 /// How long whole turns took on a tape that keeps this number of pieces: in each a piece comes, is copied
 /// out, and the oldest one goes.
-fn time_tape<B: Ledgers, R: Wait + Clock>(
+pub fn time_tape<B: Ledgers, R: Wait + Clock>(
     rt: &R,
     bank: &Bank<B>,
     rounds: u32,
@@ -138,24 +139,53 @@ fn turn<B: Ledgers>(
     bank.shrink(rt, stake, PIECE, gone);
 }
 
+/// Prints what each of these rounds took.
+fn put_each<R: Eprint>(rt: &R, name: &str, took: Duration, rounds: u32) -> Result<()> {
+    let each = nanos_each(took, rounds);
+    eprintln!(rt; "{name}: {each} ns")?;
+    Ok(())
+}
+
 /// Prints what one thread takes.
-fn time_one<B: Ledgers, R: Wait + Clock + Eprint>(
+fn time_one<P: Place, R: Clock + Eprint>(
     rt: &R,
     alloc: Global,
-    bank: &Bank<B>,
+    place: &P,
     rounds: u32,
 ) -> Result<()> {
-    let pair = nanos_each(time_pairs(rt, bank, rounds)?, rounds);
-    eprintln!(rt; "a grow and a shrink: {pair} ns")?;
-    let copies = nanos_each(time_copies(rt, alloc, rounds)?, rounds);
-    eprintln!(rt; "two copies of 4096 bytes: {copies} ns")?;
-    let empty = nanos_each(time_tape(rt, bank, rounds, 0)?, rounds);
-    eprintln!(rt; "grow, append, copy_out, drop_to and shrink of 4096 bytes: {empty} ns")?;
-    let short = nanos_each(time_tape(rt, bank, rounds, 2)?, rounds);
-    eprintln!(rt; "the same on a tape of 8192 bytes: {short} ns")?;
-    let long = nanos_each(time_tape(rt, bank, rounds, 256)?, rounds);
-    eprintln!(rt; "the same on a tape of 1048576 bytes: {long} ns")?;
-    Ok(())
+    put_each(rt, "a grow and a shrink", place.time_pairs(rounds)?, rounds)?;
+    put_each(
+        rt,
+        "two copies of 4096 bytes",
+        time_copies(rt, alloc, rounds)?,
+        rounds,
+    )?;
+    let empty = "grow, append, copy_out, drop_to and shrink of 4096 bytes";
+    put_each(rt, empty, place.time_tape(rounds, 0)?, rounds)?;
+    let short = "the same on a tape of 8192 bytes";
+    put_each(rt, short, place.time_tape(rounds, 2)?, rounds)?;
+    let long = "the same on a tape of 1048576 bytes";
+    put_each(rt, long, place.time_tape(rounds, 256)?, rounds)
+}
+
+/// The rounds of four threads.
+fn rounds_of_four<B: Ledgers + Send + Sync, R: Threads + Wait + Sync>(
+    rt: &R,
+    bank: &Bank<B>,
+    rounds: u32,
+) -> Result<(), OpenFault>
+where
+    B::Held: Send + Sync,
+    B::Free: Send + Sync,
+    B::Slack: Send + Sync,
+    B::Pages: Send + Sync,
+{
+    let ((first, second), (third, fourth)) = thread::join(
+        rt,
+        move || rounds_of_two(rt, bank, rounds),
+        move || rounds_of_two(rt, bank, rounds),
+    );
+    first.and(second).and(third).and(fourth)
 }
 
 /// Prints what four threads take.
@@ -171,13 +201,9 @@ where
     B::Pages: Send + Sync,
 {
     let start = Instant::now(rt)?;
-    let ((first, second), (third, fourth)) = thread::join(
-        rt,
-        move || rounds_of_two(rt, bank, rounds),
-        move || rounds_of_two(rt, bank, rounds),
-    );
+    let all = rounds_of_four(rt, bank, rounds);
     let step = nanos_each(start.elapsed(rt)?, rounds) / 16;
-    first.and(second).and(third).and(fourth)?;
+    all?;
     eprintln!(rt;
         "four threads, {rounds} rounds of open, grow, shrink and close each: {step} ns a step"
     )?;
@@ -197,7 +223,7 @@ where
     B::Slack: Send + Sync,
     B::Pages: Send + Sync,
 {
-    time_one(rt, alloc, bank, rounds)?;
+    time_one(rt, alloc, &OnBank { rt, bank }, rounds)?;
     time_four(rt, bank, rounds)?;
     println!(rt; "bank: {rounds} rounds")?;
     Ok(())

@@ -16,7 +16,7 @@ use std::alloc::{AllocError, Global};
 use std::sync::Wait;
 use std::time::{Clock, Instant};
 use trace_core::{Event, State};
-use wire_kit::{Calls, CountedWire, MemoryWire, ReadAnswer, WriteAnswer};
+use wire_kit::{Calls, CountedWire, MemoryWire, ReadAnswer, Wire, WriteAnswer};
 
 /// A wire that gives the replies, in two reads.
 fn new_wire(alloc: Global) -> Result<CountedWire<MemoryWire>, AllocError> {
@@ -31,39 +31,53 @@ fn all_of(calls: Calls) -> u64 {
     calls.reads.saturating_add(calls.writes)
 }
 
+/// Makes a wire and a side for an exchange, and uses neither. How often the wire was called; `None` if the side has all of a request.
+fn make_end(alloc: Global) -> Result<Option<u64>, AllocError> {
+    let wire = new_wire(alloc)?;
+    let side = service_side(alloc)?;
+    Ok(if side.request_whole() {
+        None
+    } else {
+        Some(all_of(wire.calls()))
+    })
+}
+
 /// Makes a wire and a side for each exchange, and uses neither.
 fn make_ends(alloc: Global, times: u32) -> Result<u64, AllocError> {
     let mut made: u64 = 0;
     for _ in 0..times {
-        let wire = new_wire(alloc)?;
-        let side = service_side(alloc)?;
-        if !side.request_whole() {
-            made = made.saturating_add(1).saturating_add(all_of(wire.calls()));
+        if let Some(calls) = make_end(alloc)? {
+            made = made.saturating_add(1).saturating_add(calls);
         }
     }
     Ok(made)
+}
+
+/// Makes an exchange, and counts the calls of its wire. `None` if it isn't whole.
+fn call_exchange(alloc: Global, body: &SpanTape) -> Result<Option<u64>, AllocError> {
+    let mut wire = new_wire(alloc)?;
+    let mut side = service_side(alloc)?;
+    Ok(if run_exchange(&mut side, body, &mut wire) {
+        Some(all_of(wire.calls()))
+    } else {
+        None
+    })
 }
 
 /// Makes the exchanges, and counts the calls of their wires. `None` if one isn't whole.
 fn run_exchanges(alloc: Global, body: &SpanTape, times: u32) -> Result<Option<u64>, AllocError> {
     let mut calls: u64 = 0;
     for _ in 0..times {
-        let mut wire = new_wire(alloc)?;
-        let mut side = service_side(alloc)?;
-        if !run_exchange(&mut side, body, &mut wire) {
-            return Ok(None);
+        match call_exchange(alloc, body)? {
+            Some(more) => calls = calls.saturating_add(more),
+            None => return Ok(None),
         }
-        calls = calls.saturating_add(all_of(wire.calls()));
     }
     Ok(Some(calls))
 }
 
 /// One exchange: turns of both halves, until the connection may carry another one.
-fn run_exchange(
-    side: &mut ServiceSide,
-    body: &SpanTape,
-    wire: &mut CountedWire<MemoryWire>,
-) -> bool {
+fn run_exchange<W: Wire>(side: &mut ServiceSide, body: &SpanTape, wire: &mut W) -> bool {
     let mut state = State::begin(the_plan());
     let mut out = [0; 64];
     if state.step(Event::In(6)).is_err() || state.step(Event::End).is_err() {
@@ -81,11 +95,11 @@ fn run_exchange(
 }
 
 /// A turn of the writing half.
-fn write(
+fn write<W: Wire>(
     side: &mut ServiceSide,
     state: &mut State,
     body: &SpanTape,
-    wire: &mut CountedWire<MemoryWire>,
+    wire: &mut W,
 ) -> bool {
     if !is_tape_of(state, body) {
         return false;
@@ -97,12 +111,7 @@ fn write(
 }
 
 /// A turn of the reading half.
-fn read(
-    side: &mut ServiceSide,
-    state: &mut State,
-    wire: &mut CountedWire<MemoryWire>,
-    out: &mut [u8],
-) -> bool {
+fn read<W: Wire>(side: &mut ServiceSide, state: &mut State, wire: &mut W, out: &mut [u8]) -> bool {
     match side.read_turn(state, wire, out) {
         Ok(turn) => step_all(state, &turn),
         Err(_) => false,

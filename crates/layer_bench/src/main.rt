@@ -13,6 +13,7 @@ mod exchange;
 mod heads;
 mod hostile;
 mod offered;
+mod places;
 mod requests;
 mod task;
 mod threads;
@@ -21,8 +22,8 @@ mod turns;
 
 use crate::budget::time_budget;
 use crate::chunks::time_chunks;
-use crate::exchange::time_exchanges;
 use crate::heads::time_heads;
+use crate::places::{OnBank, Place};
 use crate::task::{Layer, Task, read_tasks};
 use crate::turns::time_turns;
 use anyhow::{Result, bail};
@@ -43,6 +44,22 @@ pub fn nanos_each(took: Duration, times: u32) -> u128 {
     took.as_nanos() / u128::from(times.max(1))
 }
 
+/// Measures a layer in one thread.
+fn measure_alone<P: Place, R: Clock + Print + Eprint>(
+    rt: &R,
+    alloc: Global,
+    place: &P,
+    task: Task,
+) -> Result<()> {
+    match task.layer {
+        Layer::Chunks => time_chunks(rt, alloc, task.times),
+        Layer::Heads => time_heads(rt, alloc, task.times),
+        Layer::Exchange => place.time_exchanges(alloc, task.times),
+        Layer::Turns => time_turns(rt, alloc, place, task.times),
+        Layer::Bank => Ok(()),
+    }
+}
+
 /// Measures a layer.
 fn measure<B: Ledgers + Send + Sync, R: Threads + Wait + Clock + Print + Eprint + Sync>(
     rt: &R,
@@ -57,11 +74,8 @@ where
     B::Pages: Send + Sync,
 {
     match task.layer {
-        Layer::Chunks => time_chunks(rt, alloc, task.times),
-        Layer::Heads => time_heads(rt, alloc, task.times),
-        Layer::Exchange => time_exchanges(rt, alloc, bank, task.times),
-        Layer::Turns => time_turns(rt, alloc, bank, task.times),
         Layer::Bank => time_budget(rt, alloc, bank, task.times),
+        _ => measure_alone(rt, alloc, &OnBank { rt, bank }, task),
     }
 }
 

@@ -1,23 +1,18 @@
 //! Whole exchanges by a transaction's turns over wires in memory: the time of the turns, and the calls of the wires.
 use crate::offered::{BODY, GO_ON, RESPONSE, replies};
-use crate::transaction::{Counted, Ended, Moving, Wires, begin, end};
-use adapt_turn::Side;
+use crate::places::Place;
+use crate::transaction::{Counted, Exchanged, Game, Wires};
 use anyhow::{Result, bail};
-use span_bank::{Bank, Ledgers};
 use std::alloc::{AllocError, Global};
-use std::sync::Wait;
+use std::io;
 use std::time::{Clock, Duration, Instant};
-use std::{io, mem};
 use wire_kit::{Calls, CountedWire, MemoryWire, ReadAnswer, WriteAnswer};
-
-/// A turn of each side.
-const ROUND: [Side; 3] = [Side::Source, Side::Service, Side::NextHop];
 
 /// The most rounds that an exchange takes if each wire moves all that it is offered.
 const ROUNDS: usize = 6;
 
 /// What was measured.
-#[derive(Clone, Copy, Debug, Drop)]
+#[derive(Clone, Copy)]
 struct Measured {
     /// How many exchanges were whole.
     whole: u64,
@@ -28,7 +23,7 @@ struct Measured {
 }
 
 /// How often each wire of an exchange was called, in all exchanges.
-#[derive(Clone, Copy, Debug, Drop, PartialEq, Eq)]
+#[derive(Clone, Copy)]
 struct WireCalls {
     origin: Calls,
     service: Calls,
@@ -43,31 +38,21 @@ impl WireCalls {
         user: Calls::NONE,
     };
 
-    /// Those of an exchange that ended.
-    fn of(ended: &Ended<Counted>) -> WireCalls {
+    /// These calls and those of a further exchange.
+    fn and(self, further: Exchanged) -> WireCalls {
         WireCalls {
-            origin: ended.source.calls(),
-            service: ended.service_calls(),
-            user: ended.next_hop.calls(),
-        }
-    }
-
-    /// These calls and further ones.
-    fn and(self, further: WireCalls) -> WireCalls {
-        WireCalls {
-            origin: self.origin.and(further.origin),
+            origin: self.origin.and(further.source),
             service: self.service.and(further.service),
-            user: self.user.and(further.user),
+            user: self.user.and(further.next_hop),
         }
     }
 }
 
 /// What was measured of one exchange.
-#[derive(Clone, Copy, Debug, Drop)]
+#[derive(Clone, Copy)]
 struct Taken {
-    whole: bool,
     time: Duration,
-    calls: WireCalls,
+    exchanged: Exchanged,
 }
 
 /// A wire before its first call, which gives these bytes as `reads` says, and takes bytes as `writes` says.
@@ -80,54 +65,71 @@ fn counted(
     Ok(CountedWire::new(MemoryWire::new(alloc, input, reads, writes)?))
 }
 
-/// The wires of an exchange in which each text goes at once, and which answer no more often than that: the origin gives its
-/// answer, the service reads and answers twice, and the user takes the head and then the body.
-fn wires(alloc: Global) -> Result<Wires<Counted>, AllocError> {
+/// The origin's wire, which gives its answer.
+fn origin(alloc: Global) -> Result<Counted, AllocError> {
     let mut answer = RESPONSE.to_vec(alloc)?;
     answer.extend_from_slice(BODY)?;
     let given = vec![in alloc; ReadAnswer::Bytes(64)]?;
+    counted(alloc, answer, given, Vec::new(alloc))
+}
+
+/// The service's wire, which reads and answers twice.
+fn service(alloc: Global) -> Result<Counted, AllocError> {
     let heard = vec![in alloc; ReadAnswer::Bytes(GO_ON.len()), ReadAnswer::Bytes(512)]?;
     let sent = vec![in alloc; WriteAnswer::Took(512), WriteAnswer::Took(512)]?;
+    counted(alloc, replies(alloc)?, heard, sent)
+}
+
+/// The user's wire, which takes the head and then the body.
+fn user(alloc: Global) -> Result<Counted, AllocError> {
     let taken = vec![in alloc; WriteAnswer::Took(512), WriteAnswer::Took(512)]?;
+    counted(alloc, Vec::new(alloc), Vec::new(alloc), taken)
+}
+
+/// The wires, where all were made.
+fn all_wires<C: Drop>(
+    source: Result<C, AllocError>,
+    service: Result<C, AllocError>,
+    next_hop: Result<C, AllocError>,
+) -> Result<Wires<C>, AllocError> {
     Ok(Wires {
-        source: counted(alloc, answer, given, Vec::new(alloc))?,
-        service: counted(alloc, replies(alloc)?, heard, sent)?,
-        next_hop: counted(alloc, Vec::new(alloc), Vec::new(alloc), taken)?,
+        source: source?,
+        service: service?,
+        next_hop: next_hop?,
     })
 }
 
+/// The wires of an exchange in which each text goes at once, and which answer no more often than that.
+pub fn wires(alloc: Global) -> Result<Wires<Counted>, AllocError> {
+    all_wires(origin(alloc), service(alloc), user(alloc))
+}
+
 /// What the turns of one exchange take. `None` if it can't begin. An error if no memory is found.
-fn one<B: Ledgers, R: Wait + Clock>(
-    rt: &R,
-    alloc: Global,
-    bank: &Bank<B>,
-) -> io::Result<Option<Taken>> {
-    let begun = begin(rt, alloc, bank, wires(alloc)?)?;
-    let Some(mut tx) = begun else {
+fn one<P: Place, R: Clock>(rt: &R, alloc: Global, place: &P) -> io::Result<Option<Taken>> {
+    let Some(mut game) = place.begun(alloc)? else {
         return Ok(None);
     };
     let start = Instant::now(rt);
     for _ in 0..ROUNDS {
-        tx.drive(rt, bank, &ROUND);
+        game.play();
     }
     // A reservation can't be lost, so a clock that fails waits until it has ended.
     let took = match start {
         Ok(start) => start.elapsed(rt),
         Err(error) => Err(error),
     };
-    let ended = end(rt, bank, tx);
+    let exchanged = game.end();
     Ok(Some(Taken {
         time: took?,
-        whole: ended.is_whole(),
-        calls: WireCalls::of(&ended),
+        exchanged,
     }))
 }
 
 /// Runs the exchanges, one after the other.
-fn measure<B: Ledgers, R: Wait + Clock>(
+fn measure<P: Place, R: Clock>(
     rt: &R,
     alloc: Global,
-    bank: &Bank<B>,
+    place: &P,
     times: u32,
 ) -> io::Result<Measured> {
     let mut all = Measured {
@@ -136,32 +138,34 @@ fn measure<B: Ledgers, R: Wait + Clock>(
         calls: WireCalls::NONE,
     };
     for _ in 0..times {
-        if let Some(taken) = one(rt, alloc, bank)? {
+        if let Some(taken) = one(rt, alloc, place)? {
             all.nanos = all.nanos.saturating_add(taken.time.as_nanos());
-            all.calls = all.calls.and(taken.calls);
-            all.whole = all.whole.saturating_add(u64::from(taken.whole));
+            all.calls = all.calls.and(taken.exchanged);
+            all.whole = all
+                .whole
+                .saturating_add(u64::from(taken.exchanged.is_whole));
         }
     }
     Ok(all)
 }
 
 /// Prints what an exchange takes.
-pub fn time_turns<B: Ledgers, R: Wait + Clock + Print + Eprint>(
+pub fn time_turns<P: Place, R: Clock + Print + Eprint>(
     rt: &R,
     alloc: Global,
-    bank: &Bank<B>,
+    place: &P,
     times: u32,
 ) -> Result<()> {
     let Measured {
         whole,
         nanos,
         calls,
-    } = measure(rt, alloc, bank, times)?;
+    } = measure(rt, alloc, place, times)?;
     if whole != u64::from(times) {
         bail!("a transaction was not whole");
     }
     let each = nanos / u128::from(times.max(1));
-    let size = mem::size_of::<Moving<B, Counted>>();
+    let size = place.size();
     eprintln!(rt; "{each} ns an exchange; a transaction has {size} bytes")?;
     let WireCalls {
         origin,

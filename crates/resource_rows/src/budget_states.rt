@@ -2,7 +2,8 @@
 ghost use Rattle.std.specs.Prelude.{◌≡◌, ◌+◌, ◌≤◌, true};
 ghost use Rattle.span_bank.specs.State.{MaySum};
 
-use crate::words::{asked, number_after, pair_after, put_book};
+use crate::steps::{Stage, put_steps};
+use crate::words::{number_after, pair_after, put_book};
 use span_bank::{
     BankState, BankStep, Journal, MAX_CAPACITY, MAX_ROWS, Numbers, RebasingJournal, Window,
 };
@@ -67,30 +68,28 @@ fn put_journal<J: Journal>(out: &mut Vec<u8>, state: &BankState<J>) -> Result<()
     put_line(out, b"and no more")
 }
 
-/// Adds what a step answers, or what a question is.
-fn put_step<J: Journal>(
-    out: &mut Vec<u8>,
-    state: &mut BankState<J>,
-    asks: &[u8],
-) -> Result<(), NoMemory> {
-    if says(asks, b"base") {
-        return put_book(out, state.base());
-    }
-    if says(asks, b"numbers") {
-        return put_book(out, state.numbers());
-    }
-    if says(asks, b"journal") {
-        return put_journal(out, state);
-    }
-    let Some(step) = step_of(asks) else {
-        return put_line(out, b"no step");
-    };
-    if !allows(state.numbers(), step) {
-        return put_line(out, b"not allowed");
-    }
-    match state.apply(step) {
-        Ok(()) => put_line(out, b"done"),
-        Err(fault) => put_shown(out, b"refused", &fault),
+impl<J: Journal> Stage for BankState<J> {
+    /// Adds what a step answers, or what a question is.
+    fn put_step(&mut self, asks: &[u8], out: &mut Vec<u8>) -> Result<(), NoMemory> {
+        if says(asks, b"base") {
+            return put_book(out, self.base());
+        }
+        if says(asks, b"numbers") {
+            return put_book(out, self.numbers());
+        }
+        if says(asks, b"journal") {
+            return put_journal(out, self);
+        }
+        let Some(step) = step_of(asks) else {
+            return put_line(out, b"no step");
+        };
+        if !allows(self.numbers(), step) {
+            return put_line(out, b"not allowed");
+        }
+        match self.apply(step) {
+            Ok(()) => put_line(out, b"done"),
+            Err(fault) => put_shown(out, b"refused", &fault),
+        }
     }
 }
 
@@ -104,15 +103,7 @@ fn put_on<J: Journal>(alloc: Global, row: &Row<'_>, out: &mut Vec<u8>) -> Result
     let rows = row.number(b"rows").unwrap_or(1).max(1).min(MAX_ROWS);
     let journal = row.number(b"steps").unwrap_or(16).max(1).min(16) as usize;
     let mut state: BankState<J> = BankState::new(alloc, capacity, rows, journal)?;
-    for line in row.get(b"want").split(|byte| *byte == b'\n') {
-        let step = asked(line);
-        if step.len() < line.len() {
-            out.extend_from_slice(step)?;
-            out.extend_from_slice(b" = ")?;
-            put_step(out, &mut state, step)?;
-        }
-    }
-    Ok(())
+    put_steps(&mut state, row.get(b"want"), out)
 }
 
 /// Adds what the row's steps answer with the row's journal.

@@ -1,4 +1,5 @@
-//! Calls of a pool whose leases are kept in a list.
+//! A pool, as its rows and threads ask it, and calls whose leases are kept in a list.
+use crate::steps::{Lender, Stage, end_all, keep};
 use crate::words::{number_after, put_back, put_closed};
 use adapt_bytes::MAX_CONNECTIONS;
 use service_pool::{AuditFault, Found, Lease, Pool, Taken};
@@ -7,140 +8,121 @@ use std::sync::Wait;
 use std::sync::ledger::Ledger;
 use test_rows::{NoMemory, put_line, put_number, put_shown, says};
 
-/// Keeps a lease with the others, or gives it up where the list is full.
-pub fn keep<L: Ledger, R: Wait>(
-    rt: &R,
-    pool: &Pool<u32, L>,
-    leases: &mut Vec<Lease<L>>,
-    lease: Lease<L>,
-) {
-    if leases.len() < leases.capacity() {
-        leases.push_reserved(lease);
-    } else {
-        pool.give_up(rt, lease);
+/// A pool, which lends leases.
+pub trait Leasing: Lender {
+    /// Takes a connection: what was found, with its lease.
+    fn take(&self) -> Option<(Found<u32>, Self::Lent)>;
+
+    /// Puts a connection back: the one that is closed, where one is.
+    fn put(&self, connection: u32, lease: Self::Lent) -> Option<u32>;
+
+    /// Opens a connection in place of a lease's: `fresh`, `reused` where the lease still says so, or `over`.
+    fn replace(&self, lease: &mut Self::Lent) -> &'static [u8];
+
+    /// Sets the maximum, within what one may have: the connections that are closed.
+    fn limit(&self, alloc: Global, maximum: u64) -> Result<Vec<u32>, NoMemory>;
+}
+
+/// A pool, and what waits for its lock.
+#[derive(Drop)]
+pub struct Counter<'a, L: Ledger, R> {
+    pub rt: &'a R,
+    pub pool: &'a Pool<u32, L>,
+}
+
+impl<'a, L: Ledger, R: Wait> Lender for Counter<'a, L, R> {
+    type Lent = Lease<L>;
+
+    fn end(&self, lent: Lease<L>) {
+        self.pool.give_up(self.rt, lent);
     }
+}
+
+impl<'a, L: Ledger, R: Wait> Leasing for Counter<'a, L, R> {
+    fn take(&self) -> Option<(Found<u32>, Lease<L>)> {
+        match self.pool.take(self.rt) {
+            Taken::Idle(connection, lease) => Some((Found::Idle(connection), lease)),
+            Taken::Fresh(lease) => Some((Found::Fresh, lease)),
+            Taken::Busy => None,
+        }
+    }
+
+    fn put(&self, connection: u32, lease: Lease<L>) -> Option<u32> {
+        self.pool.put(self.rt, connection, lease)
+    }
+
+    fn replace(&self, lease: &mut Lease<L>) -> &'static [u8] {
+        let answer = self.pool.replace(self.rt, lease);
+        match (answer, lease.reused()) {
+            (Ok(()), false) => b"fresh",
+            (Ok(()), true) => b"reused",
+            (Err(_), _) => b"over",
+        }
+    }
+
+    fn limit(&self, alloc: Global, maximum: u64) -> Result<Vec<u32>, NoMemory> {
+        self.pool
+            .set_max(self.rt, alloc, maximum.min(MAX_CONNECTIONS))
+    }
+}
+
+/// A pool with the leases that a row has.
+#[derive(Drop)]
+pub struct Leased<'a, T: Leasing> {
+    pub pool: &'a T,
+    pub leases: &'a mut Vec<T::Lent>,
 }
 
 /// Takes a connection, keeps its lease with the others, and says what came.
-pub fn take_one<L: Ledger, R: Wait>(
-    rt: &R,
-    pool: &Pool<u32, L>,
-    leases: &mut Vec<Lease<L>>,
-) -> Found<u32> {
-    match pool.take(rt) {
-        Taken::Idle(connection, lease) => {
-            keep(rt, pool, leases, lease);
-            Found::Idle(connection)
+fn take_one<T: Leasing>(pool: &T, leases: &mut Vec<T::Lent>) -> Found<u32> {
+    match pool.take() {
+        Some((found, lease)) => {
+            keep(pool, leases, lease);
+            found
         }
-        Taken::Fresh(lease) => {
-            keep(rt, pool, leases, lease);
-            Found::Fresh
-        }
-        Taken::Busy => Found::Busy,
+        None => Found::Busy,
     }
 }
 
-/// Puts a connection back with the last lease.
-fn put_one<L: Ledger, R: Wait>(
-    rt: &R,
-    pool: &Pool<u32, L>,
-    leases: &mut Vec<Lease<L>>,
-    connection: u32,
-    out: &mut Vec<u8>,
-) -> Result<(), NoMemory> {
-    match leases.pop() {
-        Some(lease) => {
-            let closed = pool.put(rt, connection, lease);
-            put_back(out, closed)
-        }
-        None => put_line(out, b"no lease"),
-    }
-}
-
-/// Opens a connection in place of that of the last lease.
-fn replace_last<L: Ledger, R: Wait>(
-    rt: &R,
-    pool: &Pool<u32, L>,
-    leases: &mut Vec<Lease<L>>,
+/// Adds what a step of the last lease answers: `put 11`, `replace` or `give up`.
+fn put_last<T: Leasing>(
+    pool: &T,
+    leases: &mut Vec<T::Lent>,
+    step: &[u8],
     out: &mut Vec<u8>,
 ) -> Result<(), NoMemory> {
     let Some(mut lease) = leases.pop() else {
         return put_line(out, b"no lease");
     };
-    let answer = pool.replace(rt, &mut lease);
-    let reused = lease.reused();
-    keep(rt, pool, leases, lease);
-    let text: &[u8] = match (answer, reused) {
-        (Ok(()), false) => b"fresh",
-        (Ok(()), true) => b"reused",
-        (Err(_), _) => b"over",
-    };
-    put_line(out, text)
-}
-
-/// Another maximum.
-fn limit<L: Ledger, R: Wait>(
-    rt: &R,
-    alloc: Global,
-    pool: &Pool<u32, L>,
-    maximum: u64,
-    out: &mut Vec<u8>,
-) -> Result<(), NoMemory> {
-    let closed = pool.set_max(rt, alloc, maximum.min(MAX_CONNECTIONS))?;
-    put_closed(out, &closed)
-}
-
-/// Gives up the last lease.
-fn give_up<L: Ledger, R: Wait>(
-    rt: &R,
-    pool: &Pool<u32, L>,
-    leases: &mut Vec<Lease<L>>,
-    out: &mut Vec<u8>,
-) -> Result<(), NoMemory> {
-    match leases.pop() {
-        Some(lease) => {
-            pool.give_up(rt, lease);
-            put_line(out, b"closed")
-        }
-        None => put_line(out, b"no lease"),
-    }
-}
-
-/// Adds what a step answers: `take`, `put 11`, `limit 1`, `replace` or `give up`.
-pub fn put_step<L: Ledger, R: Wait>(
-    rt: &R,
-    alloc: Global,
-    pool: &Pool<u32, L>,
-    leases: &mut Vec<Lease<L>>,
-    step: &[u8],
-    out: &mut Vec<u8>,
-) -> Result<(), NoMemory> {
-    if says(step, b"take") {
-        let found = take_one(rt, pool, leases);
-        return put_shown(out, b"found", &found);
-    }
     if let Some(connection) = number_after(step, b"put") {
-        return put_one(rt, pool, leases, connection.min(1000) as u32, out);
-    }
-    if let Some(maximum) = number_after(step, b"limit") {
-        return limit(rt, alloc, pool, maximum, out);
+        return put_back(out, pool.put(connection.min(1000) as u32, lease));
     }
     if says(step, b"replace") {
-        replace_last(rt, pool, leases, out)
-    } else if says(step, b"give up") {
-        give_up(rt, pool, leases, out)
-    } else {
-        put_line(out, b"no step")
+        let answer = pool.replace(&mut lease);
+        keep(pool, leases, lease);
+        return put_line(out, answer);
     }
+    pool.end(lease);
+    put_line(out, b"closed")
 }
 
-/// Gives up all leases.
-fn give_up_all<L: Ledger, R: Wait>(rt: &R, pool: &Pool<u32, L>, leases: Vec<Lease<L>>) {
-    let mut leases = leases;
-    while let Some(lease) = leases.pop() {
-        pool.give_up(rt, lease);
+impl<'a, T: Leasing> Stage for Leased<'a, T> {
+    /// `take`, `limit 1`, or a step of the last lease.
+    fn put_step(&mut self, step: &[u8], out: &mut Vec<u8>) -> Result<(), NoMemory> {
+        if says(step, b"take") {
+            return put_shown(out, b"found", &take_one(self.pool, self.leases));
+        }
+        if let Some(maximum) = number_after(step, b"limit") {
+            let closed = self.pool.limit(*out.allocator(), maximum)?;
+            return put_closed(out, &closed);
+        }
+        let is_of_lease = number_after(step, b"put").is_some();
+        if is_of_lease || says(step, b"replace") || says(step, b"give up") {
+            put_last(self.pool, self.leases, step, out)
+        } else {
+            put_line(out, b"no step")
+        }
     }
-    leases.destroy_empty();
 }
 
 /// The audit's number, or `None` where a lease is missing.
@@ -152,7 +134,7 @@ pub fn audited<L: Ledger, R: Wait>(
     match pool.audit(leases) {
         Ok(count) => Some(count),
         Err((pool, leases, AuditFault::Missing)) => {
-            give_up_all(rt, &pool, leases);
+            end_all(&Counter { rt, pool: &pool }, leases);
             None
         }
     }

@@ -5,6 +5,7 @@
 //! It ends with status 0 once all rows are judged, whatever their answers: its output says which failed.
 #![tactic(auto)]
 
+mod banks;
 mod budget_states;
 mod budget_threads;
 mod budgets;
@@ -13,12 +14,15 @@ mod pools;
 mod reserved;
 mod sharing;
 mod states;
+mod steps;
 mod tapes;
+mod tasks;
 mod threads;
 mod words;
 
 use std::alloc::Global;
 use std::io::Write;
+use std::rt::{Env, Files};
 use std::sync::Wait;
 use std::thread::Threads;
 use std::{env, fs, io};
@@ -33,26 +37,16 @@ fn put_answer<R: Threads + Wait + Sync>(
     out: &mut Vec<u8>,
 ) -> Result<(), NoMemory> {
     let call = call_of(head, row);
-    if says(call, b"pool") {
-        pools::put_pool(rt, alloc, row, out)
+    if says(call, b"pool") || says(call, b"threads") {
+        pools::put_pool(rt, alloc, call, row, out)
     } else if says(call, b"state") {
         states::put_state(alloc, row, out)
-    } else if says(call, b"budget") {
-        budgets::put_budget(rt, alloc, row, out)
     } else if says(call, b"budget state") {
         budget_states::put_state(alloc, row, out)
     } else if says(call, b"texts") {
         words::put_texts(alloc, out)
-    } else if says(call, b"tape") {
-        tapes::put_tape(rt, alloc, out)
-    } else if says(call, b"threads") {
-        threads::put_pool(rt, alloc, out)
-    } else if says(call, b"threads of a budget") {
-        budget_threads::put_budget(rt, alloc, out)
-    } else if says(call, b"threads of both") {
-        sharing::put_both(rt, alloc, out)
     } else {
-        Ok(())
+        banks::put_bank(rt, alloc, call, row, out)
     }
 }
 
@@ -83,17 +77,24 @@ fn allocate(alloc: Global, count: u64) -> Result<(), NoMemory> {
     Ok(())
 }
 
-fn main(rt: HostRuntime) -> io::Result<()> {
-    let mut output = rt.stdout();
-    for path in env::args(&rt)?.skip(1) {
+/// Prints the report on each file that an argument names.
+fn judge_all<R: Env + Files + AllocGlobal + Threads + Wait + Sync>(
+    rt: &R,
+    output: &mut impl Write,
+) -> io::Result<()> {
+    for path in env::args(rt)?.skip(1) {
         match number(path.as_bytes()) {
             Some(count) => allocate(rt.alloc(), count)?,
             None => {
-                let text = fs::read(&rt, path.as_str())?;
-                let report = judged(&rt, rt.alloc(), &text)?;
+                let text = fs::read(rt, path.as_str())?;
+                let report = judged(rt, rt.alloc(), &text)?;
                 output.write_all(report.lines())?;
             }
         }
     }
     Ok(())
+}
+
+fn main(rt: HostRuntime) -> io::Result<()> {
+    judge_all(&rt, &mut rt.stdout())
 }

@@ -1,64 +1,79 @@
-//! A pool, one call after another through its lock: each line of `want` is a step and what it answers.
-ghost use Rattle.std.specs.Prelude.{◌≡◌};
+//! Calls that need a pool, whose ledger is picked here, once for all. Each line of a row's `want` is a step and what it answers.
+ghost use Rattle.std.specs.Prelude.{◌≡◌, ◌≤◌};
+ghost use Rattle.adapt_bytes.specs.declared.limits.TheConstants.{MAX_CONNECTIONS};
 
-use crate::calls::{audited, put_audit, put_step};
-use crate::words::asked;
+use crate::calls::{Counter, Leased, Leasing, audited, put_audit};
+use crate::steps::put_steps;
+use crate::threads::share;
 use adapt_bytes::MAX_CONNECTIONS;
-use service_pool::{LEDGER_PARTS, Lease, Pool};
+use service_pool::{LEDGER_PARTS, Pool};
 use std::alloc::Global;
 use std::marker::Brand;
 use std::sync::Wait;
 use std::sync::ledger::{Blank, Ledger};
-use test_rows::{NoMemory, Row};
+use std::thread::Threads;
+use test_rows::{NoMemory, Row, put_number, says};
 
 /// The most leases that a row has out.
 const LEASES: usize = 16;
 
-/// Adds each step of the wanted lines with what it answers.
-fn put_steps<L: Ledger, R: Wait>(
+/// Adds what a row's steps answer on a pool; without steps, what threads leave of it.
+fn put_run<T: Leasing + Sync, R: Threads + Sync>(
     rt: &R,
-    alloc: Global,
-    pool: &Pool<u32, L>,
-    leases: &mut Vec<Lease<L>>,
-    lines: &[u8],
+    pool: &T,
+    leases: &mut Vec<T::Lent>,
+    lines: Option<&[u8]>,
     out: &mut Vec<u8>,
-) -> Result<(), NoMemory> {
-    for line in lines.split(|byte| *byte == b'\n') {
-        let step = asked(line);
-        if step.len() < line.len() {
-            out.extend_from_slice(step)?;
-            out.extend_from_slice(b" = ")?;
-            put_step(rt, alloc, pool, leases, step, out)?;
+) -> Result<(), NoMemory>
+where
+    T::Lent: Send,
+{
+    match lines {
+        Some(lines) => put_steps(&mut Leased { pool, leases }, lines, out),
+        None => {
+            share(rt, pool, leases);
+            put_number(out, b"leases", leases.len() as u64)
         }
     }
-    Ok(())
 }
 
-/// Adds what the row's steps answer on a new pool, and its audit.
-fn put_on_pool<L: Ledger, R: Wait>(
+/// Adds what becomes of a new pool, and its audit.
+fn put_on_pool<L: Ledger + Send + Sync, R: Threads + Wait + Sync>(
     rt: &R,
     alloc: Global,
     blank: Blank,
-    row: &Row<'_>,
+    maximum: u64,
+    journal: usize,
+    lines: Option<&[u8]>,
     out: &mut Vec<u8>,
 ) -> Result<(), NoMemory>
-    requires { (blank.name ≡ L.name) × (blank.parts ≡ L.parts) × (blank.parts ≡ LEDGER_PARTS) }
+    requires blank { (blank.name ≡ L.name) × (blank.parts ≡ L.parts) × (blank.parts ≡ LEDGER_PARTS) }
+    requires maximum { maximum ≤ MAX_CONNECTIONS }
+    requires journal { 1 ≤ journal }
 {
-    let maximum = row.number(b"maximum").unwrap_or(0).min(MAX_CONNECTIONS);
-    let pool: Pool<u32, L> = Pool::new(alloc, blank, maximum, 16)?;
+    let pool: Pool<u32, L> = Pool::new(alloc, blank, maximum, journal)?;
     let mut leases = Vec::with_capacity(alloc, LEASES)?;
-    let told = put_steps(rt, alloc, &pool, &mut leases, row.get(b"want"), out);
+    let told = put_run(rt, &Counter { rt, pool: &pool }, &mut leases, lines, out);
     let count = audited(rt, pool, leases);
     told?;
     put_audit(out, count)
 }
 
-/// Adds what the row's steps answer, and the audit at their end.
-pub fn put_pool<R: Wait>(
+/// Adds what the row's steps answer on a new pool, and the audit at their end. Without steps, four threads share a pool of at
+/// most three connections: how many got a lease in the end, and the audit.
+pub fn put_pool<R: Threads + Wait + Sync>(
     rt: &R,
     alloc: Global,
+    call: &[u8],
     row: &Row<'_>,
     out: &mut Vec<u8>,
 ) -> Result<(), NoMemory> {
-    put_on_pool::<Brand, R>(rt, alloc, Blank::new(LEDGER_PARTS), row, out)
+    let (maximum, journal, lines) = if says(call, b"threads") {
+        (3, 64, None)
+    } else {
+        let maximum = row.number(b"maximum").unwrap_or(0);
+        (maximum.min(MAX_CONNECTIONS), 16, Some(row.get(b"want")))
+    };
+    let blank = Blank::new(LEDGER_PARTS);
+    put_on_pool::<Brand, R>(rt, alloc, blank, maximum, journal, lines, out)
 }

@@ -1,5 +1,6 @@
 //! One step a call, on both forms of the journal, and how a full one makes room.
-use crate::words::{asked, number_after, put_back, put_closed, put_numbers};
+use crate::steps::{Stage, put_steps};
+use crate::words::{number_after, put_back, put_closed, put_numbers};
 use adapt_bytes::MAX_CONNECTIONS;
 use service_pool::{Journal, PoolState, RebasingJournal, Window};
 use std::alloc::Global;
@@ -40,29 +41,25 @@ fn put_leased<J: Journal>(
     put_line(out, b"no step")
 }
 
-/// Adds what a step answers, or what a question is.
-fn put_step<J: Journal>(
-    alloc: Global,
-    out: &mut Vec<u8>,
-    state: &mut PoolState<u32, J>,
-    step: &[u8],
-) -> Result<(), NoMemory> {
-    if says(step, b"take") {
-        let found = state.take();
-        return put_shown(out, b"found", &found);
-    }
-    if let Some(maximum) = number_after(step, b"limit") {
-        let closed = state.set_max(alloc, maximum.min(MAX_CONNECTIONS))?;
-        return put_closed(out, &closed);
-    }
-    if says(step, b"base") {
-        put_numbers(out, state.base())
-    } else if says(step, b"numbers") {
-        put_numbers(out, state.numbers())
-    } else if says(step, b"journal") {
-        put_journal(out, state)
-    } else {
-        put_leased(out, state, step)
+impl<J: Journal> Stage for PoolState<u32, J> {
+    /// Adds what a step answers, or what a question is.
+    fn put_step(&mut self, step: &[u8], out: &mut Vec<u8>) -> Result<(), NoMemory> {
+        if says(step, b"take") {
+            return put_shown(out, b"found", &self.take());
+        }
+        if let Some(maximum) = number_after(step, b"limit") {
+            let closed = self.set_max(*out.allocator(), maximum.min(MAX_CONNECTIONS))?;
+            return put_closed(out, &closed);
+        }
+        if says(step, b"base") {
+            put_numbers(out, self.base())
+        } else if says(step, b"numbers") {
+            put_numbers(out, self.numbers())
+        } else if says(step, b"journal") {
+            put_journal(out, self)
+        } else {
+            put_leased(out, self, step)
+        }
     }
 }
 
@@ -71,15 +68,7 @@ fn put_on<J: Journal>(alloc: Global, row: &Row<'_>, out: &mut Vec<u8>) -> Result
     let maximum = row.number(b"maximum").unwrap_or(0).min(MAX_CONNECTIONS);
     let journal = row.number(b"steps").unwrap_or(16).max(1).min(16) as usize;
     let mut state: PoolState<u32, J> = PoolState::new(alloc, maximum, journal)?;
-    for line in row.get(b"want").split(|byte| *byte == b'\n') {
-        let step = asked(line);
-        if step.len() < line.len() {
-            out.extend_from_slice(step)?;
-            out.extend_from_slice(b" = ")?;
-            put_step(alloc, out, &mut state, step)?;
-        }
-    }
-    Ok(())
+    put_steps(&mut state, row.get(b"want"), out)
 }
 
 /// Adds what the row's steps answer with the row's journal.

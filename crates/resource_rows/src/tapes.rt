@@ -1,17 +1,12 @@
 //! Pages that come with bytes and go with them, on a bank's store.
-ghost use Rattle.std.specs.Prelude.{◌≡◌};
-
-use span_bank::{Bank, Blanks, OpenFault, Stake, Store};
+use span_bank::{Bank, Ledgers, Store};
 use span_tape::SpanTape;
-use std::alloc::Global;
-use std::marker::Brand;
 use std::sync::Wait;
-use std::sync::ledger::Ledger;
 use test_rows::{NoMemory, put_count, put_decimal, put_line, put_number};
 
 /// What a tape and its bank showed.
 #[derive(Clone, Copy)]
-struct Seen {
+pub struct Seen {
     stores: [Store; 2],
     needed: [u64; 4],
     given: u64,
@@ -20,21 +15,10 @@ struct Seen {
 }
 
 /// Writes 4,096 bytes and one, lets the first page go, and reads what is left.
-fn write_and_drop<H: Ledger, F: Ledger, S: Ledger, P: Ledger, R: Wait>(
-    rt: &R,
-    alloc: Global,
-    blanks: Blanks,
-) -> Result<Option<Seen>, NoMemory>
-    requires held { (blanks.held.name ≡ H.name) × (blanks.held.parts ≡ H.parts) × (blanks.held.parts ≡ 3) }
-    requires free { (blanks.free.name ≡ F.name) × (blanks.free.parts ≡ F.parts) × (blanks.free.parts ≡ 3) }
-    requires slack { (blanks.slack.name ≡ S.name) × (blanks.slack.parts ≡ S.parts) × (blanks.slack.parts ≡ 3) }
-    requires pages { (blanks.pages.name ≡ P.name) × (blanks.pages.parts ≡ P.parts) × (blanks.pages.parts ≡ 3) }
-{
-    let bank: Bank<(H, F, S, P)> = Bank::new(alloc, blanks, 8192, 2, 16)?;
+pub fn write_and_drop<B: Ledgers, R: Wait>(rt: &R, bank: &Bank<B>) -> Option<Seen> {
     let new = bank.store(rt);
-    let opened: Result<Stake<(H, F, S, P)>, OpenFault> = bank.open(rt, 8192);
-    let Ok(mut stake) = opened else {
-        return Ok(None);
+    let Ok(mut stake) = bank.open(rt, 8192) else {
+        return None;
     };
     let mut tape = SpanTape::new();
     let first = tape.pages_for(4096);
@@ -53,13 +37,13 @@ fn write_and_drop<H: Ledger, F: Ledger, S: Ledger, P: Ledger, R: Wait>(
     let rest = tape.drop_to(4097);
     bank.shrink(rt, &mut stake, 1, rest);
     bank.close(rt, stake, pages);
-    Ok(Some(Seen {
+    Some(Seen {
         stores: [new, used],
         needed,
         given,
         copied,
         byte: out[0],
-    }))
+    })
 }
 
 /// Adds how many pages a store has, and how many are in use.
@@ -71,8 +55,7 @@ fn put_store(out: &mut Vec<u8>, name: &[u8], store: Store) -> Result<(), NoMemor
 }
 
 /// Adds what a tape and its bank show.
-pub fn put_tape<R: Wait>(rt: &R, alloc: Global, out: &mut Vec<u8>) -> Result<(), NoMemory> {
-    let seen = write_and_drop::<Brand, Brand, Brand, Brand, R>(rt, alloc, Blanks::new(3))?;
+pub fn put_seen(out: &mut Vec<u8>, seen: Option<Seen>) -> Result<(), NoMemory> {
     let Some(seen) = seen else {
         return put_line(out, b"no reservation");
     };

@@ -73,12 +73,12 @@ pub fn put_book(out: &mut Vec<u8>, book: Book) -> Result<(), NoMemory> {
 }
 
 /// Adds what a reservation has.
-pub fn put_pages(out: &mut Vec<u8>, held: u64, claim: u64, pages: u64) -> Result<(), NoMemory> {
+pub fn put_pages(out: &mut Vec<u8>, shown: (u64, u64, u64)) -> Result<(), NoMemory> {
     out.extend_from_slice(b"held ")?;
-    put_decimal(out, held)?;
+    put_decimal(out, shown.0)?;
     out.extend_from_slice(b" claim ")?;
-    put_decimal(out, claim)?;
-    put_number(out, b" pages", pages)
+    put_decimal(out, shown.1)?;
+    put_number(out, b" pages", shown.2)
 }
 
 /// Adds the sums of a budget's audit.

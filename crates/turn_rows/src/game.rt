@@ -1,9 +1,9 @@
-//! A transaction in play, whatever its sides are.
+//! A transaction in play, whatever its sides are and whichever budget it is on.
 
 ghost use Rattle.std.specs.Prelude.{◌≡◌};
 
-use crate::sides::Counted;
-use adapt_turn::{Ends, FreedConnection, Outcome, Parts, ServiceEnd, Side, Turned};
+use crate::told::{Recorded, Told, heard_over};
+use adapt_turn::{EndTypes, Ends, FreedConnection, Outcome, Parts, ServiceEnd, Side, Turned};
 use proxy_rules::{Beginning, Running, Wires};
 use span_bank::{Bank, Ledgers, Pages};
 use std::sync::Wait;
@@ -12,125 +12,226 @@ use wire_kit::Wire;
 
 /// The connections of a service beside the one in use.
 #[derive(Drop)]
-pub struct Lines {
+pub struct Lines<C> {
     /// One that comes in the place of a broken one.
-    pub fresh: Option<Counted>,
+    pub fresh: Option<C>,
     /// The broken one.
-    pub broken: Option<Counted>,
+    pub broken: Option<C>,
     /// One that was given up once the service had said all.
-    pub freed: Option<Counted>,
+    pub freed: Option<C>,
     /// How often a broken one failed the transaction.
     pub failed: usize,
 }
 
-/// A transaction in play.
-pub trait Game<B: Ledgers> {
+impl<C> Lines<C> {
+    /// One that comes in the place of a broken one, and no other.
+    pub fn with(fresh: Option<C>) -> Lines<C> {
+        Lines {
+            fresh,
+            broken: None,
+            freed: None,
+            failed: 0,
+        }
+    }
+}
+
+/// What is left of a transaction that ended.
+pub trait Remains {
+    /// How it ended, and what its wires took.
+    fn told(&self) -> Told<'_>;
+}
+
+/// A transaction in play on its budget.
+pub trait Game {
+    /// What is left of it once it has ended.
+    type Ended: Remains + Drop;
+
     /// A turn of a side at a moment.
-    fn take_turn<R: Wait>(&mut self, rt: &R, bank: &Bank<B>, side: Side, now: u64) -> Turned;
+    fn take_turn(&mut self, side: Side, now: u64) -> Turned;
 
     /// Turns of sides at the moment of the last moved byte.
-    fn take_turns<R: Wait>(&mut self, rt: &R, bank: &Bank<B>, order: &[Side]);
+    fn take_turns(&mut self, order: &[Side]);
 
     /// The proxy stops.
-    fn stop<R: Wait>(&mut self, rt: &R, bank: &Bank<B>);
+    fn stop(&mut self);
 
     /// How it ended, once it has.
     fn ending(&self) -> Option<Outcome>;
 
     /// Begins anew on a fresh connection if the service's broke before a byte of a reply; without a fresh one it fails.
-    fn mend<R: Wait>(&mut self, rt: &R, bank: &Bank<B>, lines: &mut Lines);
+    fn mend(&mut self);
 
     /// Gives up the service's connection where the service has said all. Whether it may carry another request; `None` where
     /// it isn't given up.
-    fn free(&mut self, lines: &mut Lines) -> Option<bool>;
+    fn free(&mut self) -> Option<bool>;
+
+    /// Ends it: one that isn't over fails. Its reservation is closed.
+    fn end(self) -> Self::Ended;
 }
 
-impl<B: Ledgers, A: Wire + Drop, C: Wire + Drop> Game<B> for Running<B, (A, Counted, C)> {
-    fn take_turn<R: Wait>(&mut self, rt: &R, bank: &Bank<B>, side: Side, now: u64) -> Turned {
-        self.turn(rt, bank, side, now)
+/// A transaction of the proxy's own sides on a budget, with the service's other connections.
+pub struct Played<'a, B: Ledgers, W: Wires, R> {
+    pub rt: &'a R,
+    pub bank: &'a Bank<B>,
+    pub running: Running<B, W>,
+    pub lines: Lines<W::ServiceWire>,
+}
+
+impl<'a, B: Ledgers, A: Wire + Drop + Recorded, C: Wire + Drop + Recorded, R: Wait> Game
+    for Played<'a, B, (A, C, C), R> {
+    type Ended = Ended<A, C>;
+
+    fn take_turn(&mut self, side: Side, now: u64) -> Turned {
+        take_turn(self.rt, self.bank, &mut self.running, side, now)
     }
 
-    fn take_turns<R: Wait>(&mut self, rt: &R, bank: &Bank<B>, order: &[Side]) {
-        self.drive(rt, bank, order)
+    fn take_turns(&mut self, order: &[Side]) {
+        self.running.drive(self.rt, self.bank, order)
     }
 
-    fn stop<R: Wait>(&mut self, rt: &R, bank: &Bank<B>) {
-        self.halt(rt, bank)
+    fn stop(&mut self) {
+        self.running.halt(self.rt, self.bank)
     }
 
     fn ending(&self) -> Option<Outcome> {
-        self.outcome()
+        self.running.outcome()
     }
 
-    fn mend<R: Wait>(&mut self, rt: &R, bank: &Bank<B>, lines: &mut Lines) {
-        if self.is_broken() {
-            match lines.fresh.take() {
-                Some(fresh) => {
-                    lines.broken = self.take_broken();
-                    drop(self.retry(rt, bank, fresh));
-                }
-                None => {
-                    self.no_retry(rt, bank, Cause::Service);
-                    lines.failed = lines.failed.saturating_add(1);
-                }
+    fn mend(&mut self) {
+        mend(self.rt, self.bank, &mut self.running, &mut self.lines)
+    }
+
+    fn free(&mut self) -> Option<bool> {
+        let FreedConnection { wire, is_reusable } = self.running.freed_connection()?;
+        self.lines.freed = Some(wire);
+        Some(is_reusable)
+    }
+
+    fn end(self) -> Ended<A, C> {
+        let Played {
+            rt,
+            bank,
+            running,
+            lines,
+        } = self;
+        end(rt, bank, running, lines)
+    }
+}
+
+/// A turn of a side at a moment.
+fn take_turn<B: Ledgers, W: Wires, R: Wait>(
+    rt: &R,
+    bank: &Bank<B>,
+    running: &mut Running<B, W>,
+    side: Side,
+    now: u64,
+) -> Turned {
+    running.turn(rt, bank, side, now)
+}
+
+/// Begins anew on a fresh connection if the service's broke before a byte of a reply; without a fresh one it fails.
+fn mend<B: Ledgers, W: Wires, R: Wait>(
+    rt: &R,
+    bank: &Bank<B>,
+    running: &mut Running<B, W>,
+    lines: &mut Lines<W::ServiceWire>,
+) {
+    if running.is_broken() {
+        match lines.fresh.take() {
+            Some(fresh) => {
+                lines.broken = running.take_broken();
+                drop(running.retry(rt, bank, fresh));
+            }
+            None => {
+                running.no_retry(rt, bank, Cause::Service);
+                lines.failed = lines.failed.saturating_add(1);
             }
         }
-    }
-
-    fn free(&mut self, lines: &mut Lines) -> Option<bool> {
-        let FreedConnection { wire, is_reusable } = self.freed_connection()?;
-        lines.freed = Some(wire);
-        Some(is_reusable)
     }
 }
 
 /// How a transaction ended, and its wires.
 #[derive(Drop)]
 pub struct Ended<A, C> {
-    pub outcome: Outcome,
-    pub source: A,
-    pub service: Option<Counted>,
-    pub next_hop: C,
+    outcome: Outcome,
+    source: A,
+    service: Option<C>,
+    next_hop: C,
+    lines: Lines<C>,
+}
+
+impl<A: Recorded, C: Recorded> Remains for Ended<A, C> {
+    fn told(&self) -> Told<'_> {
+        Told {
+            outcome: self.outcome,
+            source: self.source.heard(),
+            service: heard_over(&self.service),
+            next_hop: self.next_hop.heard(),
+            broken: heard_over(&self.lines.broken),
+            freed: heard_over(&self.lines.freed),
+            failed: self.lines.failed,
+        }
+    }
 }
 
 /// Ends a transaction: one that isn't over fails. Its reservation is closed.
-pub fn end<B: Ledgers, A: Wire + Drop, C: Wire + Drop, R: Wait>(
+fn end<B: Ledgers, A: Wire + Drop, C: Wire + Drop, R: Wait>(
     rt: &R,
     bank: &Bank<B>,
-    running: Running<B, (A, Counted, C)>,
+    running: Running<B, (A, C, C)>,
+    lines: Lines<C>,
 ) -> Ended<A, C> {
     let mut running = running;
     running.halt(rt, bank);
     match running.into_tx().into_parts() {
         Ok(parts) => {
-            let Parts {
-                stake,
-                ends,
-                outcome,
-                seen: _,
-            } = parts;
-            bank.close(rt, stake, Pages::none());
-            let Ends {
-                source: _,
-                source_wire,
-                service,
-                next: _,
-                next_wire,
-                back: _,
-                maker: _,
-            } = ends;
+            let (outcome, source, service, next_hop) = take_apart(rt, bank, parts);
             Ended {
                 outcome,
-                source: source_wire,
-                service: match service {
-                    Some(ServiceEnd { side: _, wire }) => wire,
-                    None => None,
-                },
-                next_hop: next_wire,
+                source,
+                service,
+                next_hop,
+                lines,
             }
         }
         Err(_) => unreachable!(),
     }
+}
+
+/// Closes the reservation of a transaction that ended. How it ended, and its wires.
+fn take_apart<B: Ledgers, E: EndTypes, R: Wait>(
+    rt: &R,
+    bank: &Bank<B>,
+    parts: Parts<B, E>,
+) -> (Outcome, E::SourceWire, Option<E::ServiceWire>, E::NextWire)
+where
+    E::Reader: Drop,
+    E::Client: Drop,
+    E::Writer: Drop,
+    E::Maker: Drop,
+    requires { (parts.stake.held ≡ 0) × (parts.stake.pages ≡ 0) }
+{
+    let Parts {
+        stake,
+        ends,
+        outcome,
+        seen: _,
+    } = parts;
+    bank.close(rt, stake, Pages::none());
+    let Ends {
+        source: _,
+        source_wire,
+        service,
+        next: _,
+        next_wire,
+        back: _,
+        maker: _,
+    } = ends;
+    let service_wire = match service {
+        Some(ServiceEnd { side: _, wire }) => wire,
+        None => None,
+    };
+    (outcome, source_wire, service_wire, next_wire)
 }
 
 /// Takes apart what no transaction began with.

@@ -1,7 +1,8 @@
 //! A wire that is held back by a gate.
 
+use crate::told::{Heard, Recorded};
 use std::time::Clock;
-use wire_kit::{Gate, Got, HoldGate, Put, SharedWire, Wire};
+use wire_kit::{Calls, Gate, Got, HoldGate, Put, SharedWire, Wire};
 
 /// A wire that gives its first read at once, and the next one only once the gate is open: till then that read doesn't
 /// answer. A gate that stays shut makes it fail.
@@ -34,5 +35,15 @@ impl<'a, R: Clock> Wire for HeldWire<'a, R> {
 
     fn counts(&self) -> (u64, u64) {
         self.wire.counts()
+    }
+}
+
+impl<'a, R: Clock> Recorded for HeldWire<'a, R> {
+    fn heard(&self) -> Heard<'_> {
+        Heard {
+            taken: self.wire.taken(),
+            calls: Calls::NONE,
+            given: self.wire.counts().0,
+        }
     }
 }

@@ -9,12 +9,16 @@ mod beside;
 mod crowds;
 mod game;
 mod held;
+mod places;
 mod scenes;
+mod shared;
 mod sides;
 mod steps;
 mod threads;
 mod told;
 
+use banks::put_turns;
+use shared::put_threads;
 use std::alloc::Global;
 use std::io::Write;
 use std::sync::Wait;
@@ -22,7 +26,6 @@ use std::thread::Threads;
 use std::time::Clock;
 use std::{env, fs, io};
 use test_rows::{NoMemory, Report, number, read_table};
-use wire_kit::Answer;
 use wire_rows::{Player, Scene, Values, put_runs};
 
 /// What plays a row.
@@ -34,17 +37,15 @@ struct Turns<'a, R> {
 
 impl<'a, R: Wait> Player for Turns<'a, R> {
     fn put_run(&self, scene: Scene<'_>, values: Values, out: &mut Vec<u8>) -> Result<(), NoMemory> {
-        banks::put_turns(self.rt, self.alloc, scene, values, out)
+        put_turns(self.rt, self.alloc, scene, values, out)
     }
 }
 
-/// The letters of a row that names no letters.
-const NO_LETTERS: Values = Values {
-    n: 0,
-    m: 0,
-    s: 0,
-    e: Answer::Wait,
-};
+/// What two transactions in two threads claim: a window and a window, twice.
+const OF_TWO: u64 = 32_768;
+
+/// Of these bytes each transaction of a crowd claims 16,384.
+const OF_CROWD: u64 = 20_000;
 
 /// Adds the answer to a row.
 fn put_answer<R: Threads + Wait + Clock + Sync>(
@@ -54,12 +55,24 @@ fn put_answer<R: Threads + Wait + Clock + Sync>(
     out: &mut Vec<u8>,
 ) -> Result<(), NoMemory> {
     if scene.is(b"call", b"threads") {
-        return threads::put_threads(rt, alloc, scene, NO_LETTERS, out);
+        return put_threads(rt, alloc, OF_TWO, 2, scene, out);
     }
     if scene.is(b"call", b"crowd") {
-        return crowds::put_crowd(rt, alloc, scene, NO_LETTERS, out);
+        return put_threads(rt, alloc, OF_CROWD, 4, scene, out);
     }
     put_runs(alloc, &Turns { rt, alloc }, scene, out)
+}
+
+/// Judges a row.
+fn judge<R: Threads + Wait + Clock + Sync>(
+    rt: &R,
+    alloc: Global,
+    scene: Scene<'_>,
+    report: &mut Report,
+) -> Result<(), NoMemory> {
+    let mut answer = Vec::new(alloc);
+    put_answer(rt, alloc, scene, &mut answer)?;
+    report.judge(&scene.head, &scene.row, &answer)
 }
 
 /// The report on a file's rows.
@@ -73,9 +86,7 @@ fn judged<R: Threads + Wait + Clock + Sync>(
     let mut report = Report::new(alloc);
     for at in 1..table.len() {
         let row = table.row(at);
-        let mut answer = Vec::new(alloc);
-        put_answer(rt, alloc, Scene { head, row }, &mut answer)?;
-        report.judge(&head, &row, &answer)?;
+        judge(rt, alloc, Scene { head, row }, &mut report)?;
     }
     report.finish(&head)?;
     Ok(report)

@@ -21,21 +21,23 @@ const HEAD_TURNS: usize = 300;
 
 /// The wires of a transaction.
 #[derive(Drop)]
-pub struct Wires<A> {
+pub struct Wires<A, C> {
     pub source: A,
-    pub service: Counted,
-    pub next_hop: Counted,
+    pub service: C,
+    /// One that comes in the place of the service's.
+    pub fresh: Option<C>,
+    pub next_hop: C,
 }
 
 /// What stands of a transaction before its reservation.
 #[derive(Drop)]
-pub struct Sides {
-    pub message: Incoming,
-    pub offer: Offer,
+pub struct Sides<O, M> {
+    pub offer: O,
+    pub message: M,
 }
 
 /// The service's wire, or the one that comes in its place.
-pub fn service_wire(
+fn service_wire(
     alloc: Global,
     scene: Scene<'_>,
     values: Values,
@@ -76,22 +78,26 @@ pub fn source_wire(alloc: Global, scene: Scene<'_>, values: Values) -> Result<Co
     Ok(CountedWire::new(wire))
 }
 
-/// The next hop's wire.
-pub fn hop_wire(alloc: Global, scene: Scene<'_>, values: Values) -> Result<Counted, NoMemory> {
-    let wire = wire(alloc, scene, b"", b"", b"hop-writes", values)?;
-    Ok(CountedWire::new(wire))
-}
-
-/// Reads a head. False if there is no head.
-fn read_head(message: &mut Incoming, wire: &mut impl Wire) -> Result<bool, NoMemory> {
-    for _ in 0..HEAD_TURNS {
-        match message.head_turn(wire) {
-            Ok(true) => return Ok(true),
-            Err(RelayFault::NoMemory) => return Err(NoMemory),
-            _ => {}
-        }
-    }
-    Ok(false)
+/// The row's wires, beside this one of the source.
+pub fn wires_with<A: Drop>(
+    alloc: Global,
+    source: A,
+    scene: Scene<'_>,
+    values: Values,
+) -> Result<Wires<A, Counted>, NoMemory> {
+    let fresh = if scene.has(b"fresh-writes") {
+        Some(service_wire(alloc, scene, values, true)?)
+    } else {
+        None
+    };
+    let service = service_wire(alloc, scene, values, false)?;
+    let next_hop = wire(alloc, scene, b"", b"", b"hop-writes", values)?;
+    Ok(Wires {
+        source,
+        service,
+        fresh,
+        next_hop: CountedWire::new(next_hop),
+    })
 }
 
 /// The user's side of an answer, whose request was read to its end.
@@ -107,34 +113,62 @@ fn user_side(alloc: Global, scene: Scene<'_>) -> Result<SourceSide, NoMemory> {
     Ok(side)
 }
 
-/// The message before its first byte.
-fn message_of(alloc: Global, scene: Scene<'_>, point: Point) -> Result<Incoming, NoMemory> {
-    match point {
-        Point::Respmod => Ok(Incoming::response(alloc, user_side(alloc, scene)?)),
-        Point::Reqmod => Ok(Incoming::request(alloc)),
+/// A message whose head is read from a wire.
+pub trait Message {
+    /// The message before its first byte.
+    fn before(alloc: Global, scene: Scene<'_>, point: Point) -> Result<Self, NoMemory>;
+
+    /// Reads its head. False if there is no head.
+    fn reads_head(&mut self, wire: &mut impl Wire) -> Result<bool, NoMemory>;
+}
+
+impl Message for Incoming {
+    fn before(alloc: Global, scene: Scene<'_>, point: Point) -> Result<Incoming, NoMemory> {
+        match point {
+            Point::Respmod => Ok(Incoming::response(alloc, user_side(alloc, scene)?)),
+            Point::Reqmod => Ok(Incoming::request(alloc)),
+        }
+    }
+
+    fn reads_head(&mut self, wire: &mut impl Wire) -> Result<bool, NoMemory> {
+        for _ in 0..HEAD_TURNS {
+            match self.head_turn(wire) {
+                Ok(true) => return Ok(true),
+                Err(RelayFault::NoMemory) => return Err(NoMemory),
+                _ => {}
+            }
+        }
+        Ok(false)
     }
 }
 
-/// The message's offer: of an answer goes the user's request and the answer's head, and of a request that one's head. `None` where
-/// there is none by this plan.
-fn offer_of(alloc: Global, scene: Scene<'_>, plan: &Plan) -> Result<Option<Offer>, NoMemory> {
-    let (request, head) = (scene.get(b"request"), scene.get(b"head"));
-    Offer::new(alloc, *plan, HOST, PORT, scene.get(b"path"), request, head)
+/// A message's offer.
+pub trait Offering {
+    /// The offer by this plan: of an answer goes the user's request and the answer's head, and of a request that one's head. `None`
+    /// where there is none.
+    fn by(alloc: Global, scene: Scene<'_>, plan: &Plan) -> Result<Option<Self>, NoMemory>;
+}
+
+impl Offering for Offer {
+    fn by(alloc: Global, scene: Scene<'_>, plan: &Plan) -> Result<Option<Offer>, NoMemory> {
+        let (request, head) = (scene.get(b"request"), scene.get(b"head"));
+        Offer::new(alloc, *plan, HOST, PORT, scene.get(b"path"), request, head)
+    }
 }
 
 /// All sides of a transaction. `None` where its source has no head, or where there is no offer by this plan.
-pub fn make_sides(
+pub fn make_sides<O: Offering + Drop, M: Message + Drop>(
     alloc: Global,
     scene: Scene<'_>,
     plan: &Plan,
     wire: &mut impl Wire,
-) -> Result<Option<Sides>, NoMemory> {
-    let Some(offer) = offer_of(alloc, scene, plan)? else {
+) -> Result<Option<Sides<O, M>>, NoMemory> {
+    let Some(offer) = O::by(alloc, scene, plan)? else {
         return Ok(None);
     };
-    let mut message = message_of(alloc, scene, plan.point)?;
-    if !read_head(&mut message, wire)? {
+    let mut message = M::before(alloc, scene, plan.point)?;
+    if !message.reads_head(wire)? {
         return Ok(None);
     }
-    Ok(Some(Sides { message, offer }))
+    Ok(Some(Sides { offer, message }))
 }

@@ -1,10 +1,8 @@
 //! The steps of a row, in words.
 
-use crate::game::{Game, Lines};
+use crate::game::Game;
 use adapt_turn::{Side, Turned};
-use span_bank::{Bank, Ledgers};
 use std::alloc::Global;
-use std::sync::Wait;
 use test_rows::{NoMemory, put_line, put_number, put_shown};
 use wire_rows::{Scene, Values, index_of, number, parts};
 
@@ -48,70 +46,41 @@ pub fn first_turns(alloc: Global, scene: Scene<'_>) -> Result<Vec<(Side, u64)>, 
 }
 
 /// Whether the transaction is over, and nothing of a refusal is due any more.
-fn is_finished<B: Ledgers, G: Game<B>, R: Wait>(rt: &R, bank: &Bank<B>, game: &mut G) -> bool {
-    game.ending().is_some()
-        && matches!(
-            game.take_turn(rt, bank, Side::Source, 0),
-            Turned::Finished(_)
-        )
+fn is_finished<G: Game>(game: &mut G) -> bool {
+    game.ending().is_some() && matches!(game.take_turn(Side::Source, 0), Turned::Finished(_))
 }
 
 /// Up to `count` rounds of turns at the moment of the last moved byte, until the transaction is over.
-fn play_rounds<B: Ledgers, G: Game<B>, R: Wait>(
-    rt: &R,
-    bank: &Bank<B>,
-    game: &mut G,
-    lines: &mut Lines,
-    order: &[Side],
-    count: usize,
-) {
+fn play_rounds<G: Game>(game: &mut G, order: &[Side], count: usize) {
     for _ in 0..count {
-        game.take_turns(rt, bank, order);
-        game.mend(rt, bank, lines);
-        if is_finished(rt, bank, game) {
+        game.take_turns(order);
+        game.mend();
+        if is_finished(game) {
             return;
         }
     }
 }
 
 /// `count` rounds of turns at a moment.
-fn play_rounds_at<B: Ledgers, G: Game<B>, R: Wait>(
-    rt: &R,
-    bank: &Bank<B>,
-    game: &mut G,
-    order: &[Side],
-    now: usize,
-    count: usize,
-) {
+fn play_rounds_at<G: Game>(game: &mut G, order: &[Side], now: usize, count: usize) {
     for _ in 0..count {
         for side in order {
-            game.take_turn(rt, bank, *side, now as u64);
+            game.take_turn(*side, now as u64);
         }
     }
 }
 
 /// A turn of each side in order, as long as the transaction isn't over.
-fn play_until_over<B: Ledgers, G: Game<B>, R: Wait>(
-    rt: &R,
-    bank: &Bank<B>,
-    game: &mut G,
-    order: &[Side],
-) {
+fn play_until_over<G: Game>(game: &mut G, order: &[Side]) {
     for side in order {
         if game.ending().is_none() {
-            game.take_turns(rt, bank, &[*side]);
+            game.take_turns(&[*side]);
         }
     }
 }
 
 /// Counts the turns of each side in order, `count` times.
-fn count_turns<B: Ledgers, G: Game<B>, R: Wait>(
-    rt: &R,
-    bank: &Bank<B>,
-    game: &mut G,
-    order: &[Side],
-    count: usize,
-) -> Counted {
+fn count_turns<G: Game>(game: &mut G, order: &[Side], count: usize) -> Counted {
     let mut counted = Counted {
         moved: 0,
         finished: 0,
@@ -119,7 +88,7 @@ fn count_turns<B: Ledgers, G: Game<B>, R: Wait>(
     };
     for _ in 0..count {
         for side in order {
-            let kind = match game.take_turn(rt, bank, *side, 0) {
+            let kind = match game.take_turn(*side, 0) {
                 Turned::Moved(1) => &mut counted.moved,
                 Turned::Finished(_) => &mut counted.finished,
                 _ => &mut counted.other,
@@ -144,16 +113,14 @@ fn put_tally(tally: Counted, values: Values, out: &mut Vec<u8>) -> Result<(), No
 }
 
 /// Turns of these sides at a moment; adds what each answers.
-fn put_turns<B: Ledgers, G: Game<B>, R: Wait>(
-    rt: &R,
-    bank: &Bank<B>,
+fn put_turns<G: Game>(
     game: &mut G,
     order: &[Side],
     now: usize,
     out: &mut Vec<u8>,
 ) -> Result<(), NoMemory> {
     for side in order {
-        let turned = game.take_turn(rt, bank, *side, now as u64);
+        let turned = game.take_turn(*side, now as u64);
         put_shown(out, b"turn", &turned)?;
     }
     Ok(())
@@ -178,11 +145,8 @@ fn put_freed(freed: Option<bool>, out: &mut Vec<u8>) -> Result<(), NoMemory> {
 }
 
 /// Plays a step: `rounds=500`, `tally=80`, `until-over`, `halt`, `free`, or turns whose answers are added, as `source@190` and `each@189`.
-fn put_step<B: Ledgers, G: Game<B>, R: Wait>(
-    rt: &R,
-    bank: &Bank<B>,
+fn put_step<G: Game>(
     game: &mut G,
-    lines: &mut Lines,
     pace: Pace<'_>,
     values: Values,
     word: &[u8],
@@ -191,24 +155,24 @@ fn put_step<B: Ledgers, G: Game<B>, R: Wait>(
     if let Some((sides, moment)) = parts(word, b'@') {
         let now = number(moment, values).unwrap_or(0);
         return match index_of(b"source service hop", sides) {
-            Some(0) => put_turns(rt, bank, game, &[Side::Source], now, out),
-            Some(1) => put_turns(rt, bank, game, &[Side::Service], now, out),
-            Some(2) => put_turns(rt, bank, game, &[Side::NextHop], now, out),
-            _ => put_turns(rt, bank, game, &ROUND, now, out),
+            Some(0) => put_turns(game, &[Side::Source], now, out),
+            Some(1) => put_turns(game, &[Side::Service], now, out),
+            Some(2) => put_turns(game, &[Side::NextHop], now, out),
+            _ => put_turns(game, &ROUND, now, out),
         };
     }
     let (name, count) = parts(word, b'=').unwrap_or((word, b"0"));
     let count = number(count, values).unwrap_or(0);
     match index_of(b"rounds until-over halt free", name) {
         Some(0) => match pace.at {
-            Some(now) => play_rounds_at(rt, bank, game, pace.order, now, count),
-            None => play_rounds(rt, bank, game, lines, pace.order, count),
+            Some(now) => play_rounds_at(game, pace.order, now, count),
+            None => play_rounds(game, pace.order, count),
         },
-        Some(1) => play_until_over(rt, bank, game, pace.order),
-        Some(2) => game.stop(rt, bank),
-        Some(3) => return put_freed(game.free(lines), out),
+        Some(1) => play_until_over(game, pace.order),
+        Some(2) => game.stop(),
+        Some(3) => return put_freed(game.free(), out),
         _ => {
-            let tally = count_turns(rt, bank, game, pace.tally, count);
+            let tally = count_turns(game, pace.tally, count);
             return put_tally(tally, values, out);
         }
     }
@@ -216,12 +180,9 @@ fn put_step<B: Ledgers, G: Game<B>, R: Wait>(
 }
 
 /// Plays the row's steps, and adds what they answer.
-pub fn put_steps<B: Ledgers, G: Game<B>, R: Wait>(
-    rt: &R,
+pub fn put_steps<G: Game>(
     alloc: Global,
-    bank: &Bank<B>,
     game: &mut G,
-    lines: &mut Lines,
     scene: Scene<'_>,
     values: Values,
     out: &mut Vec<u8>,
@@ -234,7 +195,7 @@ pub fn put_steps<B: Ledgers, G: Game<B>, R: Wait>(
         at: number(scene.get(b"at"), values),
     };
     for word in scene.get(b"steps").split(|byte| *byte == b' ') {
-        put_step(rt, bank, game, lines, pace, values, word, out)?;
+        put_step(game, pace, values, word, out)?;
     }
     Ok(())
 }

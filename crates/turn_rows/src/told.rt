@@ -1,12 +1,75 @@
 //! What a row's answer says of a transaction that ended.
 
-use crate::game::{Ended, Lines};
 use crate::sides::Counted;
 use adapt_turn::Outcome;
 use test_rows::{NoMemory, put_decimal, put_number, put_shown};
 use trace_core::Cause;
 use wire_kit::{Calls, Wire};
 use wire_rows::{Scene, Values, put_text};
+
+/// What went over a wire.
+#[derive(Clone, Copy)]
+pub struct Heard<'a> {
+    /// What it took.
+    pub taken: &'a [u8],
+    /// How often it was called.
+    pub calls: Calls,
+    /// How many bytes it gave.
+    pub given: u64,
+}
+
+/// A wire that says what went over it.
+pub trait Recorded {
+    /// What went over it.
+    fn heard(&self) -> Heard<'_>;
+}
+
+/// What went over a wire that may be missing.
+pub fn heard_over<C: Recorded>(wire: &Option<C>) -> Option<Heard<'_>> {
+    match wire {
+        Some(wire) => Some(wire.heard()),
+        None => None,
+    }
+}
+
+impl Recorded for Counted {
+    fn heard(&self) -> Heard<'_> {
+        Heard {
+            taken: self.taken(),
+            calls: self.calls(),
+            given: self.counts().0,
+        }
+    }
+}
+
+/// How a transaction ended, and what went over its wires.
+#[derive(Clone, Copy)]
+pub struct Told<'a> {
+    pub outcome: Outcome,
+    pub source: Heard<'a>,
+    pub service: Option<Heard<'a>>,
+    pub next_hop: Heard<'a>,
+    /// Of a broken connection of the service.
+    pub broken: Option<Heard<'a>>,
+    /// Of one that was given up once the service had said all.
+    pub freed: Option<Heard<'a>>,
+    /// How often a broken connection failed the transaction.
+    pub failed: usize,
+}
+
+impl<'a> Told<'a> {
+    /// What went over the service's wire.
+    pub fn of_service(&self) -> Heard<'a> {
+        match self.service {
+            Some(heard) => heard,
+            None => Heard {
+                taken: &[],
+                calls: Calls::NONE,
+                given: 0,
+            },
+        }
+    }
+}
 
 /// Whether these bytes are a prefix of a text that the row names, of at least a byte.
 fn is_prefix(scene: Scene<'_>, bytes: &[u8]) -> bool {
@@ -43,76 +106,57 @@ fn put_calls(
 }
 
 /// Adds how often each wire was called, and how many bytes the source gave.
-fn put_all_calls(
-    ended: &Ended<Counted, Counted>,
-    place: Option<u64>,
-    out: &mut Vec<u8>,
-) -> Result<(), NoMemory> {
-    let service = match &ended.service {
-        Some(wire) => wire.calls(),
-        None => Calls::NONE,
-    };
-    put_calls(out, b"source's wire", ended.source.calls(), None)?;
-    put_calls(out, b"service's wire", service, None)?;
-    put_calls(out, b"next hop's wire", ended.next_hop.calls(), place)?;
-    let (read, _) = ended.source.counts();
-    put_number(out, b"source's bytes", read)
+fn put_all_calls(told: &Told<'_>, place: Option<u64>, out: &mut Vec<u8>) -> Result<(), NoMemory> {
+    put_calls(out, b"source's wire", told.source.calls, None)?;
+    put_calls(out, b"service's wire", told.of_service().calls, None)?;
+    put_calls(out, b"next hop's wire", told.next_hop.calls, place)?;
+    put_number(out, b"source's bytes", told.source.given)
 }
 
 /// Adds what a broken connection took, and how often one failed the transaction.
 fn put_lines(
-    lines: &Lines,
+    told: &Told<'_>,
     scene: Scene<'_>,
     values: Values,
     out: &mut Vec<u8>,
 ) -> Result<(), NoMemory> {
-    if let Some(broken) = &lines.broken {
-        put_text(out, scene, b"broken", broken.taken(), values)?;
+    if let Some(broken) = told.broken {
+        put_text(out, scene, b"broken", broken.taken, values)?;
     }
-    if let Some(freed) = &lines.freed {
-        put_text(out, scene, b"freed", freed.taken(), values)?;
+    if let Some(freed) = told.freed {
+        put_text(out, scene, b"freed", freed.taken, values)?;
     }
-    if lines.failed > 0 {
-        put_number(out, b"not tried again", lines.failed as u64)?;
+    if told.failed > 0 {
+        put_number(out, b"not tried again", told.failed as u64)?;
     }
     Ok(())
 }
 
-/// What the service's wire took.
-pub fn to_service<A, C>(ended: &Ended<A, C>) -> &[u8] {
-    match &ended.service {
-        Some(wire) => wire.taken(),
-        None => &[],
-    }
-}
-
 /// Adds how a transaction ended, and what its wires took.
 pub fn put_ended(
-    ended: &Ended<Counted, Counted>,
-    lines: &Lines,
+    told: &Told<'_>,
     scene: Scene<'_>,
     values: Values,
     out: &mut Vec<u8>,
 ) -> Result<(), NoMemory> {
-    if wants_memory(ended.outcome, ended.next_hop.taken(), scene)
-        || wants_memory(ended.outcome, ended.source.taken(), scene)
-    {
+    let (user, back) = (told.next_hop.taken, told.source.taken);
+    if wants_memory(told.outcome, user, scene) || wants_memory(told.outcome, back, scene) {
         return Err(NoMemory);
     }
-    put_shown(out, b"outcome", &ended.outcome)?;
-    put_text(out, scene, b"service", to_service(ended), values)?;
-    put_text(out, scene, b"hop", ended.next_hop.taken(), values)?;
-    if !ended.source.taken().is_empty() || scene.is(b"cut", b"back") {
-        put_text(out, scene, b"back", ended.source.taken(), values)?;
+    put_shown(out, b"outcome", &told.outcome)?;
+    put_text(out, scene, b"service", told.of_service().taken, values)?;
+    put_text(out, scene, b"hop", user, values)?;
+    if !back.is_empty() || scene.is(b"cut", b"back") {
+        put_text(out, scene, b"back", back, values)?;
     }
-    put_lines(lines, scene, values, out)?;
+    put_lines(told, scene, values, out)?;
     if scene.has(b"calls") {
         let place = if scene.has(b"n") {
             Some((values.n as u64).saturating_add(1))
         } else {
             None
         };
-        return put_all_calls(ended, place, out);
+        return put_all_calls(told, place, out);
     }
     Ok(())
 }

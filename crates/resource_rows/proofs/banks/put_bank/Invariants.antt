@@ -1,4 +1,4 @@
-use Rattle.turn_rows.proofs.threads.put_threads.Given as goal
+use Rattle.resource_rows.proofs.banks.put_bank.Given as goal
 
 abbrev pub ghosts-put_on_bank-H-Ledger : goal.ghosts-put_on_bank-H-Ledger
 ghosts-put_on_bank-H-Ledger g a = record { name = a.blanks.held.name; parts = a.blanks.held.parts }

@@ -1,4 +1,4 @@
-use Rattle.turn_rows.proofs.crowds.put_crowd.Given as goal
+use Rattle.turn_rows.proofs.shared.put_threads.Given as goal
 
 abbrev pub ghosts-put_on_bank-H-Ledger : goal.ghosts-put_on_bank-H-Ledger
 ghosts-put_on_bank-H-Ledger g a = record { name = a.blanks.held.name; parts = a.blanks.held.parts }
