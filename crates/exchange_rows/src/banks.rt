@@ -2,13 +2,16 @@
 ghost use Rattle.std.specs.Prelude.{◌≡◌};
 
 use crate::memory::Memory;
-use crate::play::Play;
-use crate::stage::Stage;
+use crate::play::{Played, play_row};
+use crate::stage::{Peer, Stage};
+use crate::talk::TalkWire;
 use crate::told::{Ended, put_ended};
 use proxy_config::{Config, ConfigFault, read_config};
+use proxy_rules::Incoming;
 use shard_exchange::Held;
 use span_bank::{Bank, Blanks, Ledgers, Pages};
 use std::alloc::Global;
+use std::boxed::Box;
 use std::marker::Brand;
 use std::sync::Wait;
 use std::sync::ledger::Ledger;
@@ -16,10 +19,18 @@ use test_rows::{NoMemory, put_line};
 use wire_rows::{Scene, Values};
 
 /// What is left of an exchange, which is over, or was stopped. Its reservation is closed.
-fn left_of<'a, B: Ledgers, R: Wait>(rt: &R, bank: &Bank<B>, play: Play<'a, B>) -> Ended {
-    let (exchange, memory) = play.into_parts();
-    let place = exchange.place();
-    let Held { lease, stake } = exchange.into_held(rt, bank);
+fn left_of<'a, B: Ledgers, R: Wait>(
+    rt: &R,
+    bank: &Bank<B>,
+    played: Played<Memory<'a, B>>,
+) -> Ended {
+    let Played {
+        ends: _,
+        place,
+        holdings,
+        memory,
+    } = played;
+    let Held { lease, stake } = holdings.into_held(rt, bank);
     let ended = Ended {
         place,
         lease: lease.is_some(),
@@ -30,6 +41,23 @@ fn left_of<'a, B: Ledgers, R: Wait>(rt: &R, bank: &Bank<B>, play: Play<'a, B>) -
     }
     memory.end(lease);
     ended
+}
+
+/// Plays the row's exchange: whether it came to an end, and what is left.
+fn ended_of<'a, B: Ledgers, R: Wait>(
+    rt: &R,
+    alloc: Global,
+    bank: &Bank<B>,
+    stage: &'a Stage,
+    scene: Scene<'a>,
+    values: Values,
+    memory: Memory<'a, B>,
+) -> Result<(bool, Ended), NoMemory> {
+    let message = Box::new(alloc, Incoming::request(alloc))?;
+    let user = TalkWire::new(stage, scene, values, Peer::User, b"user");
+    let played = play_row(rt, stage, scene, values, user, message, memory);
+    let ends = played.ends;
+    Ok((ends, left_of(rt, bank, played)))
 }
 
 /// Adds what the row's exchange reports on this budget.
@@ -44,9 +72,7 @@ fn put_scene<B: Ledgers, R: Wait>(
 ) -> Result<(), NoMemory> {
     let stage = Stage::new(alloc, scene);
     let memory = Memory::new(alloc, &stage, scene, values, config, bank);
-    let mut play = Play::begin(alloc, &stage, scene, values, memory)?;
-    let ends = play.play(rt);
-    let ended = left_of(rt, bank, play);
+    let (ends, ended) = ended_of(rt, alloc, bank, &stage, scene, values, memory)?;
     put_ended(out, scene, &stage, ended)?;
     if ends {
         Ok(())

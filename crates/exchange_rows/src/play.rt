@@ -1,17 +1,14 @@
 //! A row's exchange, step by step, and what happens to it from outside.
 
-use crate::memory::{Memory, Moment};
+use crate::memory::Moment;
 use crate::stage::{Peer, Stage};
-use crate::talk::TalkWire;
 use crate::words::{first_word, name_of};
 use exchange_core::Place;
 use proxy_rules::Incoming;
-use shard_exchange::{Exchange, Lingered, Step};
-use span_bank::Ledgers;
-use std::alloc::Global;
+use shard_exchange::{Exchange, Holder, Holdings, Kinds, Outside, Step, Task};
+use shard_holdings::Effects;
 use std::boxed::Box;
 use std::sync::Wait;
-use test_rows::NoMemory;
 use wire_rows::{Scene, Values, number, parts};
 
 /// The most steps of a row.
@@ -20,10 +17,75 @@ const STEPS: usize = 20_000;
 /// How often all wait before it is clear that nothing more comes.
 const WAITS: usize = 4;
 
+/// An exchange with its surroundings. What these are made of isn't seen by what plays a row.
+trait Live {
+    /// What the user's connection is in the midst of.
+    fn place(&self) -> Place;
+
+    /// Does a task.
+    fn act<R: Wait>(&mut self, rt: &R, at: Moment, task: Task) -> Step;
+
+    /// The proxy drains.
+    fn drain(&mut self);
+}
+
+/// An exchange, and its surroundings.
+struct LiveExchange<H: Holder> {
+    exchange: Exchange<H>,
+    memory: H::Outside,
+}
+
+impl<H: Effects<Moment>> Live for LiveExchange<H> {
+    fn place(&self) -> Place {
+        self.exchange.place()
+    }
+
+    fn act<R: Wait>(&mut self, rt: &R, at: Moment, task: Task) -> Step {
+        self.exchange.act(rt, &at, &mut self.memory, task)
+    }
+
+    fn drain(&mut self) {
+        self.exchange.drain();
+    }
+}
+
+/// What is left of a row that was played.
+#[must_use]
+pub struct Played<O: Kinds> {
+    /// Whether it came to an end.
+    pub ends: bool,
+    /// Where the exchange stood then.
+    pub place: Place,
+    pub holdings: Holdings<O>,
+    pub memory: O,
+}
+
+/// Plays a row to its end, whose user has sent nothing yet.
+pub fn play_row<O: Outside<Moment>, R: Wait>(
+    rt: &R,
+    stage: &Stage,
+    scene: Scene<'_>,
+    values: Values,
+    user: O::User,
+    message: Box<Incoming>,
+    memory: O,
+) -> Played<O> {
+    let exchange = Exchange::begin(user, message);
+    let mut play = Play::new(stage, scene, values, LiveExchange { exchange, memory });
+    let ends = play.play(rt);
+    let LiveExchange { exchange, memory } = play.into_live();
+    let place = exchange.place();
+    Played {
+        ends,
+        place,
+        holdings: exchange.into_holdings(),
+        memory,
+    }
+}
+
 /// A row's exchange in play.
-pub struct Play<'a, B: Ledgers> {
-    exchange: Exchange<Memory<'a, B>>,
-    memory: Memory<'a, B>,
+struct Play<'a, X: Live> {
+    live: X,
     stage: &'a Stage,
     values: Values,
     /// The words of what happens from outside, and where.
@@ -41,33 +103,24 @@ const IN_TIME: Moment = Moment {
     waited: false,
 };
 
-impl<'a, B: Ledgers> Play<'a, B> {
-    /// The exchange of the row's user, before its first step.
-    pub fn begin(
-        alloc: Global,
-        stage: &'a Stage,
-        scene: Scene<'a>,
-        values: Values,
-        memory: Memory<'a, B>,
-    ) -> Result<Play<'a, B>, NoMemory> {
-        let user = TalkWire::new(stage, scene, values, Peer::User, b"user");
-        let message = Box::new(alloc, Incoming::request(alloc))?;
-        Ok(Play {
-            exchange: Exchange::begin(user, message),
-            memory,
+impl<'a, X: Live> Play<'a, X> {
+    /// Before the first step.
+    fn new(stage: &'a Stage, scene: Scene<'a>, values: Values, live: X) -> Play<'a, X> {
+        Play {
+            live,
             stage,
             values,
             outside: scene.get(b"outside"),
             at: IN_TIME,
             waits: 0,
             place: Place::Head,
-        })
+        }
     }
 
     /// Whether what happens next from outside happens here: `stop@moving` when the exchange is at a place, `stop@~moving` when all
     /// wait there, and `stop@7` before the eighth step.
     fn is_here(&self, place: &[u8], step: usize) -> bool {
-        let here = name_of(self.exchange.place());
+        let here = name_of(self.live.place());
         match place {
             [b'~', place @ ..] => place == here && self.waits > 0,
             place => place == here || number(place, self.values) == Some(step),
@@ -89,13 +142,13 @@ impl<'a, B: Ledgers> Play<'a, B> {
             b"late" => self.at.late = true,
             b"rested" => self.at.rested = true,
             b"waited" => self.at.waited = true,
-            b"drain" => self.exchange.drain(),
+            b"drain" => self.live.drain(),
             b"lost" => {
                 self.stage.lose(Peer::User);
-                self.exchange.lose(rt, &self.at, &mut self.memory);
+                self.live.act(rt, self.at, Task::Lose);
             }
             _ => {
-                self.exchange.halt(rt, &self.at, &mut self.memory);
+                self.live.act(rt, self.at, Task::Halt);
                 self.take_leave(rt);
                 return false;
             }
@@ -107,10 +160,10 @@ impl<'a, B: Ledgers> Play<'a, B> {
     fn take_leave<R: Wait>(&mut self, rt: &R) {
         let mut waits: usize = 0;
         for _ in 0..STEPS {
-            match self.exchange.take_leave(rt, &self.at, &mut self.memory) {
-                Lingered::Over => return,
-                Lingered::CutShort => waits = 0,
-                Lingered::Waiting => {
+            match self.live.act(rt, self.at, Task::TakeLeave) {
+                Step::Over => return,
+                Step::On => waits = 0,
+                Step::Waits => {
                     self.stage.wait();
                     waits = waits.saturating_add(1);
                     if waits == WAITS {
@@ -123,7 +176,7 @@ impl<'a, B: Ledgers> Play<'a, B> {
 
     /// A step. Whether there may be a further one: all wait for something that comes.
     fn goes_on<R: Wait>(&mut self, rt: &R) -> bool {
-        match self.exchange.step(rt, &self.at, &mut self.memory) {
+        match self.live.act(rt, self.at, Task::Step) {
             Step::On => {
                 self.at = IN_TIME;
                 self.waits = 0;
@@ -140,7 +193,7 @@ impl<'a, B: Ledgers> Play<'a, B> {
 
     /// Takes note of the place, where the row asks for it.
     fn note_place(&mut self) {
-        let place = self.exchange.place();
+        let place = self.live.place();
         if place != self.place {
             self.stage.note_place(name_of(place));
             self.place = place;
@@ -161,18 +214,17 @@ impl<'a, B: Ledgers> Play<'a, B> {
     }
 
     /// Plays it to its end. False where it has none.
-    pub fn play<R: Wait>(&mut self, rt: &R) -> bool {
+    fn play<R: Wait>(&mut self, rt: &R) -> bool {
         let ends = self.run(rt);
         self.note_place();
         self.stage.end();
         ends
     }
 
-    /// The exchange and its surroundings.
-    pub fn into_parts(self) -> (Exchange<Memory<'a, B>>, Memory<'a, B>) {
+    /// The exchange with its surroundings.
+    fn into_live(self) -> X {
         let Play {
-            exchange,
-            memory,
+            live,
             stage: _,
             values: _,
             outside: _,
@@ -180,6 +232,6 @@ impl<'a, B: Ledgers> Play<'a, B> {
             waits: _,
             place: _,
         } = self;
-        (exchange, memory)
+        live
     }
 }

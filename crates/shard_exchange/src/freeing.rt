@@ -2,15 +2,12 @@
 
 ghost use Rattle.std.specs.Prelude.{◌≡◌, false};
 
-use crate::exchange::{Exchange, Step};
-use crate::slots::{clear, take_out};
+use crate::exchange::Exchange;
 use exchange_core::Event;
-use shard_message::Connection;
-use shard_outside::{Kinds, Outside};
-use span_bank::Pages;
+use shard_holdings::{Effects, Holder, Step};
 use std::sync::Wait;
 
-impl<O: Kinds> Exchange<O> {
+impl<H: Holder> Exchange<H> {
     ghost use Rattle.exchange_core.specs.declared.event.Event.TheVariants.{Returned, Released, HungUp};
     ghost use Rattle.exchange_core.specs.Course.{after};
     ghost use Rattle.exchange_core.specs.Dues.{due_of};
@@ -18,41 +15,30 @@ impl<O: Kinds> Exchange<O> {
     ghost use Rattle.exchange_core.specs.declared.due.Due.TheVariants as dues;
 
     /// Puts the service's connection back where it may serve again. Else it is closed, and its lease given up.
-    pub(crate) fn give_back<P>(&mut self, at: &P, out: &mut O) -> Step
+    pub(crate) fn give_back<P>(&mut self, at: &P, out: &mut H::Outside) -> Step
     where
-        O: Outside<P>,
+        H: Effects<P>,
         requires due { due_of self.old.course ≡ dues.GiveBack }
         ensures course { self.new.course ≡ after self.old.course (Returned false) }
         ensures goes { Goes self.old.course self.new.course }
         ensures on { result ≡ Step.On }
     {
-        let Connection { wire, lease } = take_out(&mut self.connection);
         let is_ready = self.course.course().connection.is_ready();
-        match wire {
-            Some(wire) if is_ready => {
-                self.course.done(Event::Returned { kept: true });
-                out.put(at, wire, lease);
-            }
-            wire => {
-                self.course.done(Event::Returned { kept: false });
-                drop(wire);
-                out.give_up(at, lease);
-            }
-        }
+        let kept = self.holdings.give_back(at, out, is_ready);
+        self.course.done(Event::Returned { kept });
         Step::On
     }
 
     /// Closes the reservation.
-    pub(crate) fn release<P, R: Wait>(&mut self, rt: &R, out: &mut O) -> Step
+    pub(crate) fn release<P, R: Wait>(&mut self, rt: &R, at: &P, out: &mut H::Outside) -> Step
     where
-        O: Outside<P>,
+        H: Effects<P>,
         requires due { due_of self.old.course ≡ dues.Release }
         ensures course { self.new.course ≡ after self.old.course Released }
         ensures goes { Goes self.old.course self.new.course }
         ensures on { result ≡ Step.On }
     {
-        let room = take_out(&mut self.room);
-        out.bank().close(rt, room.into_stake(), Pages::none());
+        self.holdings.release(rt, at, out);
         self.course.done(Event::Released);
         Step::On
     }
@@ -64,7 +50,7 @@ impl<O: Kinds> Exchange<O> {
         ensures goes { Goes self.old.course self.new.course }
         ensures on { result ≡ Step.On }
     {
-        clear(&mut self.origin);
+        self.holdings.hang_up();
         self.course.done(Event::HungUp);
         Step::On
     }

@@ -1,83 +1,52 @@
-//! What a message needs before it moves: a reservation, and the origin's connection.
+//! What a message needs before it moves: a plan, a reservation, and the origin's connection.
 
 ghost use Rattle.std.specs.Prelude.{◌≡◌};
 
-use crate::exchange::{Exchange, Step};
-use crate::slots::{lay, put_in};
+use crate::exchange::Exchange;
 use exchange_core::Event;
-use plan_rules::{Limits, claim};
-use proxy_rules::{Reason, open_reason};
-use shard_message::Room;
-use shard_outside::{Kinds, Outside, Planned};
-use span_bank::{Bank, Ledgers};
-use std::boxed::Box;
+use shard_holdings::{Effects, Holder, Step};
+use shard_outside::{Marks, Unplanned};
 use std::sync::Wait;
+use trace_core::Point;
 
-/// Reserves what a planned message may need.
-fn make_room<B: Ledgers, R: Wait>(
-    rt: &R,
-    bank: &Bank<B>,
-    limits: Limits,
-    planned: &mut Option<Box<Planned>>,
-) -> Result<Room<B>, Reason> {
-    let Some(planned) = planned.take() else {
-        return Err(Reason::NoMemory);
-    };
-    let Planned { offer, address } = Box::into_inner(planned);
-    let bytes = claim(offer.plan(), &limits);
-    if bytes == 0 {
-        return Err(Reason::Full);
-    }
-    match bank.open(rt, bytes) {
-        Ok(stake) => Ok(Room {
-            stake,
-            offer: Some(offer),
-            limits,
-            address,
-        }),
-        Err(fault) => Err(open_reason(fault)),
-    }
-}
-
-/// Opens the connection that a message goes to for which this was reserved.
-fn dial_for<P, O: Outside<P>>(
-    at: &P,
-    out: &mut O,
-    room: &Option<Room<O::Ledgers>>,
-) -> Result<O::Origin, Reason> {
-    let address = match room {
-        Some(room) => room.address,
-        None => None,
-    };
-    let Some(address) = address else {
-        return Err(Reason::UnknownHost);
-    };
-    match out.dial(at, address) {
-        Ok(origin) => {
-            out.note_origin(at, address);
-            Ok(origin)
-        }
-        Err(reason) => Err(reason),
-    }
-}
-
-impl<O: Kinds> Exchange<O> {
+impl<H: Holder> Exchange<H> {
     ghost use Rattle.exchange_core.specs.Dues.{due_of};
     ghost use Rattle.exchange_core.specs.Log.{Goes};
     ghost use Rattle.exchange_core.specs.declared.due.Due.TheVariants as dues;
 
-    /// Reserves what the message may need.
-    pub(crate) fn reserve<P, R: Wait>(&mut self, rt: &R, at: &P, out: &mut O) -> Step
+    /// Plans the message, or finds that its service is to be asked for its options first.
+    pub(crate) fn plan<P>(&mut self, at: &P, out: &mut H::Outside) -> Step
     where
-        O: Outside<P>,
+        H: Effects<P>,
+        requires due { due_of self.old.course ≡ dues.Plan }
+        ensures goes { Goes self.old.course self.new.course }
+        ensures on { result ≡ Step.On }
+    {
+        let course = self.course.course();
+        match self.holdings.plan(at, out, course.asked) {
+            Ok(Marks { offered, waits }) => {
+                let waits = waits && course.place.point() == Point::Reqmod && !course.told;
+                self.course.done(Event::Planned { offered, waits });
+                Step::On
+            }
+            Err(Unplanned::Stale) if !course.asked => {
+                self.course.done(Event::Stale);
+                Step::On
+            }
+            Err(unplanned) => self.refuse(at, out, unplanned.reason()),
+        }
+    }
+
+    /// Reserves what the message may need.
+    pub(crate) fn reserve<P, R: Wait>(&mut self, rt: &R, at: &P, out: &mut H::Outside) -> Step
+    where
+        H: Effects<P>,
         requires due { due_of self.old.course ≡ dues.Reserve }
         ensures goes { Goes self.old.course self.new.course }
         ensures on { result ≡ Step.On }
     {
-        let limits = out.limits();
-        match make_room(rt, out.bank(), limits, &mut self.planned) {
-            Ok(room) => {
-                put_in(&mut self.room, room);
+        match self.holdings.reserve(rt, at, out) {
+            Ok(()) => {
                 self.course.done(Event::Reserved);
                 Step::On
             }
@@ -86,16 +55,15 @@ impl<O: Kinds> Exchange<O> {
     }
 
     /// Opens the connection that a request goes to.
-    pub(crate) fn dial<P>(&mut self, at: &P, out: &mut O) -> Step
+    pub(crate) fn dial<P>(&mut self, at: &P, out: &mut H::Outside) -> Step
     where
-        O: Outside<P>,
+        H: Effects<P>,
         requires due { due_of self.old.course ≡ dues.Dial }
         ensures goes { Goes self.old.course self.new.course }
         ensures on { result ≡ Step.On }
     {
-        match dial_for(at, out, &self.room) {
-            Ok(origin) => {
-                lay(&mut self.origin, origin);
+        match self.holdings.dial(at, out) {
+            Ok(()) => {
                 self.course.done(Event::Dialed);
                 Step::On
             }

@@ -1,9 +1,10 @@
 //! One exchange: a user's connection, its requests one after another, and what becomes of them.
 //!
-//! The exchange asks its course what is due, does it, and tells the course what came of it. All that it needs beside its own
-//! connections it asks of its surroundings. It has no sockets, no clock and no threads.
+//! The exchange asks its course what is due, has it done over what it holds, and tells the course what came of it. What it holds is one
+//! value to it, which holds just what the course counts. It has no sockets, no clock and no threads.
 #![tactic(auto)]
 
+mod course;
 mod ending;
 mod exchange;
 mod freeing;
@@ -12,13 +13,11 @@ mod heads;
 mod leasing;
 mod moving;
 mod options;
-mod planning;
 mod refusing;
-mod slots;
 mod stepping;
 mod stopping;
 mod telling;
 
-pub use ending::Held;
-pub use exchange::{Exchange, Step};
+pub use exchange::Exchange;
+pub use shard_holdings::{Held, Holder, Holdings, Step, Task};
 pub use shard_outside::{Kinds, Lingered, MessageEnd, Outside};

@@ -3,66 +3,32 @@
 ghost use Rattle.std.specs.Prelude.{◌≡◌, true, false};
 ghost use Rattle.proxy_rules.specs.Reasons as reasons;
 
-use crate::exchange::{Exchange, Step};
-use crate::slots::clear;
-use exchange_core::{Event, Place};
-use http_side::own_refusal;
+use crate::exchange::Exchange;
+use exchange_core::Event;
 use proxy_rules::Reason;
-use shard_outside::{Kinds, Lingered, Outside, Said, say_to, why_of};
+use shard_holdings::{Effects, Holder, Step};
+use shard_outside::{Lingered, Said, why_of};
 
-/// Takes note of a refusal, where one goes out.
-pub(crate) fn note<P, O: Outside<P>>(
-    at: &P,
-    out: &mut O,
-    course: &exchange_core::Exchange,
-    user: &Option<O::User>,
-    reason: Reason,
-) {
-    let course = course.course();
-    if course.is_mid_text() {
-        return;
-    }
-    let is_asking = matches!(course.place, Place::Asking { .. } | Place::InQueue { .. });
-    if let Some(user) = user {
-        out.note_refusal(at, user, reason, is_asking);
-    }
-}
-
-/// Says to a user that nothing more comes.
-pub(crate) fn finish_user<P, O: Outside<P>>(user: &Option<O::User>) {
-    if let Some(user) = user {
-        O::finish(user);
-    }
-}
-
-/// Drops what a user still sends.
-pub(crate) fn linger_on<P, O: Outside<P>>(user: &mut Option<O::User>, out: &mut O) -> Lingered {
-    match user {
-        Some(user) => out.linger(user),
-        None => Lingered::Over,
-    }
-}
-
-impl<O: Kinds> Exchange<O> {
+impl<H: Holder> Exchange<H> {
     ghost use Rattle.exchange_core.specs.Course.{after};
     ghost use Rattle.exchange_core.specs.declared.event.Event.TheVariants.{Late};
     ghost use Rattle.exchange_core.specs.Dues.{due_of, is_wait, is_for_message, is_for_user};
     ghost use Rattle.exchange_core.specs.Log.{Goes};
     ghost use Rattle.exchange_core.specs.declared.due.Due.TheVariants as dues;
-    ghost use Rattle.shard_message.specs.Ends.{IsOwed};
+    ghost use Rattle.shard_exchange.specs.Ends.{IsOwed};
     ghost use Rattle.shard_exchange.specs.Steps.{Heeds, is_moved};
 
     /// Has a message that doesn't move go no further: its user is refused, unless a part of another text is out.
-    pub(crate) fn refuse<P>(&mut self, at: &P, out: &mut O, reason: Reason) -> Step
+    pub(crate) fn refuse<P>(&mut self, at: &P, out: &mut H::Outside, reason: Reason) -> Step
     where
-        O: Outside<P>,
+        H: Effects<P>,
         requires message { is_for_message (due_of self.old.course) ≡ true }
         requires still { is_moved (due_of self.old.course) ≡ false }
         ensures goes { Goes self.old.course self.new.course }
         ensures owed { IsOwed self.old.course self.new.course (reasons.status_of reason) }
         ensures on { result ≡ Step.On }
     {
-        note(at, out, &self.course, &self.user, reason);
+        self.holdings.note_refusal(at, out, &self.course, reason);
         self.course.failed(why_of(reason));
         Step::On
     }
@@ -74,22 +40,22 @@ impl<O: Kinds> Exchange<O> {
         ensures goes { Goes self.old.course self.new.course }
         ensures on { result ≡ Step.On }
     {
-        clear(&mut self.user);
+        self.holdings.lose_user();
         self.course.lost();
         Step::On
     }
 
     /// Waits, unless the deadline has passed: then the user is let go.
-    pub(crate) fn wait<P>(&mut self, at: &P, out: &O) -> Step
+    pub(crate) fn wait<P>(&mut self, at: &P, out: &H::Outside) -> Step
     where
-        O: Outside<P>,
+        H: Effects<P>,
         requires waits { is_wait (due_of self.old.course) ≡ true }
         requires still { is_moved (due_of self.old.course) ≡ false }
         ensures goes { Goes self.old.course self.new.course }
-        ensures late { O.is_late out.now at.now ≡ true → self.new.course ≡ after self.old.course Late }
-        ensures heeds { Heeds (O.is_late out.now at.now) self.new.course result }
+        ensures late { H.is_late out.now at.now ≡ true → self.new.course ≡ after self.old.course Late }
+        ensures heeds { Heeds (H.is_late out.now at.now) self.new.course result }
     {
-        if out.is_late(at) {
+        if H::is_late(at, out) {
             self.course.late();
             Step::On
         } else {
@@ -98,17 +64,17 @@ impl<O: Kinds> Exchange<O> {
     }
 
     /// Waits, unless the deadline has passed: then the user is refused.
-    pub(crate) fn wait_or_refuse<P>(&mut self, at: &P, out: &mut O) -> Step
+    pub(crate) fn wait_or_refuse<P>(&mut self, at: &P, out: &mut H::Outside) -> Step
     where
-        O: Outside<P>,
+        H: Effects<P>,
         requires waits { is_wait (due_of self.old.course) ≡ true }
         requires message { is_for_message (due_of self.old.course) ≡ true }
         requires still { is_moved (due_of self.old.course) ≡ false }
         ensures goes { Goes self.old.course self.new.course }
-        ensures late { O.is_late out.old at.now ≡ true → IsOwed self.old.course self.new.course 504 }
-        ensures heeds { Heeds (O.is_late out.new at.now) self.new.course result }
+        ensures late { H.is_late out.old at.now ≡ true → IsOwed self.old.course self.new.course 504 }
+        ensures heeds { Heeds (H.is_late out.new at.now) self.new.course result }
     {
-        if out.is_late(at) {
+        if H::is_late(at, out) {
             self.refuse(at, out, Reason::Deadline)
         } else {
             Step::Waits
@@ -116,14 +82,14 @@ impl<O: Kinds> Exchange<O> {
     }
 
     /// Writes the refusal of this status.
-    pub(crate) fn write_refusal<P>(&mut self, at: &P, out: &mut O, status: u16) -> Step
+    pub(crate) fn write_refusal<P>(&mut self, at: &P, out: &mut H::Outside, status: u16) -> Step
     where
-        O: Outside<P>,
+        H: Effects<P>,
         requires due { due_of self.old.course ≡ dues.Refuse status }
         ensures goes { Goes self.old.course self.new.course }
-        ensures heeds { Heeds (O.is_late out.new at.now) self.new.course result }
+        ensures heeds { Heeds (H.is_late out.new at.now) self.new.course result }
     {
-        match say_to(&mut self.user, own_refusal(status), &mut self.refused) {
+        match self.holdings.refuse(status) {
             Said::Whole => {
                 self.course.done(Event::Refused);
                 Step::On
@@ -135,30 +101,29 @@ impl<O: Kinds> Exchange<O> {
     }
 
     /// Closes the user's connection: what the user still sends is dropped until it closes too.
-    pub(crate) fn close<P>(&mut self, at: &P, out: &mut O) -> Step
+    pub(crate) fn close<P>(&mut self, at: &P, out: &mut H::Outside) -> Step
     where
-        O: Outside<P>,
+        H: Effects<P>,
         requires due { due_of self.old.course ≡ dues.Linger }
         ensures goes { Goes self.old.course self.new.course }
-        ensures heeds { Heeds (O.is_late out.new at.now) self.new.course result }
+        ensures heeds { Heeds (H.is_late out.new at.now) self.new.course result }
     {
-        if self.is_finished {
+        if self.holdings.is_finished() {
             return self.drop_rest(at, out);
         }
-        finish_user::<P, O>(&self.user);
-        self.is_finished = true;
+        self.holdings.close(at);
         Step::On
     }
 
     /// Drops what the user still sends.
-    fn drop_rest<P>(&mut self, at: &P, out: &mut O) -> Step
+    fn drop_rest<P>(&mut self, at: &P, out: &mut H::Outside) -> Step
     where
-        O: Outside<P>,
+        H: Effects<P>,
         requires due { due_of self.old.course ≡ dues.Linger }
         ensures goes { Goes self.old.course self.new.course }
-        ensures heeds { Heeds (O.is_late out.new at.now) self.new.course result }
+        ensures heeds { Heeds (H.is_late out.new at.now) self.new.course result }
     {
-        let lingered = linger_on::<P, O>(&mut self.user, out);
+        let lingered = self.holdings.linger(at, out);
         if lingered == Lingered::Over {
             self.course.done(Event::UserClosed);
             return Step::On;

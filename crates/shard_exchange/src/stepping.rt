@@ -2,25 +2,51 @@
 
 ghost use Rattle.std.specs.Prelude.{◌≡◌, ◌↔◌, true, false};
 
-use crate::exchange::{Exchange, Step};
+use crate::exchange::Exchange;
 use exchange_core::Due;
-use shard_outside::{Kinds, Outside};
+use shard_holdings::{Effects, Holder, Step, Task};
 use std::sync::Wait;
 
-impl<O: Kinds> Exchange<O> {
+impl<H: Holder> Exchange<H> {
     ghost use Rattle.exchange_core.specs.Dues.{due_of, is_over, is_wait};
     ghost use Rattle.exchange_core.specs.Log.{Goes};
+    ghost use Rattle.shard_exchange.specs.Ends.{is_stopped};
     ghost use Rattle.shard_exchange.specs.Steps.{Heeds};
 
-    /// Does what is due, and says how far that came.
-    pub fn step<P, R: Wait>(&mut self, rt: &R, at: &P, out: &mut O) -> Step
+    /// Does a task, and says how far that came.
+    pub fn act<P, R: Wait>(&mut self, rt: &R, at: &P, out: &mut H::Outside, task: Task) -> Step
     where
-        O: Outside<P>,
+        H: Effects<P>,
+
+        // Each task takes the course along events that may come.
+        ensures goes { Goes self.old.course self.new.course }
+        // A step passes no deadline unheeded.
+        ensures late { task ≡ Task.Step → result ≡ Step.Waits → H.is_late out.new at.now ≡ false }
+        ensures waits { task ≡ Task.Step → result ≡ Step.Waits → is_wait (due_of self.new.course) ≡ true }
+        ensures over { result ≡ Step.Over → is_over self.new.course ≡ true }
+        ensures lost { task ≡ Task.Lose → is_over self.new.course ≡ true }
+        ensures stops { task ≡ Task.Halt → is_stopped self.new.course ≡ true }
+    {
+        match task {
+            Task::Step => self.step(rt, at, out),
+            Task::Lose => {
+                self.lose(rt, at, out);
+                Step::Over
+            }
+            Task::Halt => self.halt(rt, at, out),
+            Task::TakeLeave => self.take_leave(rt, at, out),
+        }
+    }
+
+    /// Does what is due, and says how far that came.
+    fn step<P, R: Wait>(&mut self, rt: &R, at: &P, out: &mut H::Outside) -> Step
+    where
+        H: Effects<P>,
 
         // Each step takes the course along events that may come.
         ensures goes { Goes self.old.course self.new.course }
         // No deadline passes unheeded.
-        ensures late { result ≡ Step.Waits → O.is_late out.new at.now ≡ false }
+        ensures late { result ≡ Step.Waits → H.is_late out.new at.now ≡ false }
         ensures waits { result ≡ Step.Waits → is_wait (due_of self.new.course) ≡ true }
         ensures over { result ≡ Step.Over ↔ is_over self.new.course ≡ true }
     {
@@ -33,11 +59,11 @@ impl<O: Kinds> Exchange<O> {
     }
 
     /// Does what is due.
-    fn do_due<P, R: Wait>(&mut self, rt: &R, at: &P, out: &mut O) -> Step
+    fn do_due<P, R: Wait>(&mut self, rt: &R, at: &P, out: &mut H::Outside) -> Step
     where
-        O: Outside<P>,
+        H: Effects<P>,
         ensures goes { Goes self.old.course self.new.course }
-        ensures heeds { Heeds (O.is_late out.new at.now) self.new.course result }
+        ensures heeds { Heeds (H.is_late out.new at.now) self.new.course result }
     {
         match self.course.due() {
             Due::ReadRequest => self.read_request(at, out),
@@ -55,7 +81,7 @@ impl<O: Kinds> Exchange<O> {
             Due::Turn => self.turn(rt, at, out),
             Due::ReadResponse => self.read_response(at, out),
             Due::GiveBack => self.give_back(at, out),
-            Due::Release => self.release(rt, out),
+            Due::Release => self.release(rt, at, out),
             Due::HangUp => self.hang_up(),
             Due::Refuse(status) => self.write_refusal(at, out, status),
             Due::TryRefusal(status) => {

@@ -2,12 +2,12 @@
 
 ghost use Rattle.std.specs.Prelude.{◌≡◌, true};
 
-use crate::exchange::{Exchange, Step};
+use crate::exchange::Exchange;
 use exchange_core::Event;
-use proxy_rules::interim_continue;
-use shard_outside::{Kinds, Outside, Said, say_to};
+use shard_holdings::{Effects, Holder, Step};
+use shard_outside::Said;
 
-impl<O: Kinds> Exchange<O> {
+impl<H: Holder> Exchange<H> {
     ghost use Rattle.exchange_core.specs.Dues.{due_of, comes_of};
     ghost use Rattle.exchange_core.specs.declared.event.Event.TheVariants.{HalfTold, Told};
     ghost use Rattle.exchange_core.specs.Log.{Goes};
@@ -20,7 +20,6 @@ impl<O: Kinds> Exchange<O> {
         ensures goes { Goes self.old.course self.new.course }
         ensures on { result ≡ Step.On }
     {
-        self.told = 0;
         self.course.done(Event::Told);
         Step::On
     }
@@ -43,7 +42,7 @@ impl<O: Kinds> Exchange<O> {
         ensures goes { Goes self.old.course self.new.course }
         ensures on { result ≡ Step.On }
     {
-        match say_to(&mut self.user, interim_continue(), &mut self.told) {
+        match self.holdings.tell() {
             Said::Whole => self.has_told(),
             Said::Part(_) => self.has_told_part(),
             Said::Nothing => {
@@ -55,14 +54,14 @@ impl<O: Kinds> Exchange<O> {
     }
 
     /// Tells the user to send its body.
-    pub(crate) fn tell<P>(&mut self, at: &P, out: &mut O) -> Step
+    pub(crate) fn tell<P>(&mut self, at: &P, out: &mut H::Outside) -> Step
     where
-        O: Outside<P>,
+        H: Effects<P>,
         requires due { due_of self.old.course ≡ dues.Tell }
         ensures goes { Goes self.old.course self.new.course }
-        ensures heeds { Heeds (O.is_late out.new at.now) self.new.course result }
+        ensures heeds { Heeds (H.is_late out.new at.now) self.new.course result }
     {
-        match say_to(&mut self.user, interim_continue(), &mut self.told) {
+        match self.holdings.tell() {
             Said::Whole => self.has_told(),
             Said::Part(_) => self.has_told_part(),
             Said::Nothing => self.wait_or_refuse(at, out),

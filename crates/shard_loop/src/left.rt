@@ -7,7 +7,7 @@ use adapt_bytes::MAX_CONNECTIONS;
 use service_lines::Leased;
 use service_pool::{Lease, Pool};
 use shard_desk::{Pools, Spare};
-use shard_exchange::{Exchange, Held, Kinds};
+use shard_exchange::{Exchange, Held, Holdings, Kinds};
 use shard_report::{ServeFault, StopAudit, Stopped};
 use span_bank::{Audit, Bank, Ledgers, Pages, Stake};
 use std::alloc::Global;
@@ -130,9 +130,9 @@ impl<B: Ledgers, Q: Ledger, A: Ledger> Left<B, Q, A> {
         rt: &R,
         bank: &Bank<B>,
         pools: &Pools<'_, Q, A>,
-        exchange: Exchange<O>,
+        exchange: Exchange<Holdings<O>>,
     ) {
-        let Held { lease, stake } = exchange.into_held(rt, bank);
+        let Held { lease, stake } = exchange.into_holdings().into_held(rt, bank);
         if let Some(lease) = lease {
             self.keep_lease(rt, pools, lease);
         }
@@ -147,7 +147,7 @@ impl<B: Ledgers, Q: Ledger, A: Ledger> Left<B, Q, A> {
         rt: &R,
         bank: &Bank<B>,
         pools: Pools<'_, Q, A>,
-        slots: Vec<Option<Exchange<O>>>,
+        slots: Vec<Option<Exchange<Holdings<O>>>>,
     ) {
         let mut slots = slots;
         while let Some(slot) = slots.pop() {

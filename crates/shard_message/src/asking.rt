@@ -5,8 +5,9 @@ ghost use Rattle.std.specs.Prelude.{◌≡◌, is_some};
 use crate::connection::{Connection, lay_wire};
 use icap_client::OptionsSide;
 use proxy_rules::Reason;
-use shard_outside::{Kinds, OptionsTurn, Outside, hear_turn, lend_reason};
+use shard_outside::{Kinds, OptionsTurn, Outside, begin_asking, hear_turn, lend_reason};
 use std::boxed::Box;
+use trace_core::Point;
 use wire_kit::Wire;
 
 /// A turn at asking. `None` where nobody asks, or there is no connection for it.
@@ -50,7 +51,7 @@ fn reopen<P, O: Outside<P>>(
 }
 
 /// Puts a fresh connection in place of a leased one.
-pub fn renew<P, O: Outside<P>>(
+fn renew<P, O: Outside<P>>(
     at: &P,
     out: &mut O,
     connection: &mut Option<Connection<O>>,
@@ -66,6 +67,22 @@ pub fn renew<P, O: Outside<P>>(
             lay_wire(connection, wire);
             Ok(())
         }
+        Err(reason) => Err(reason),
+    }
+}
+
+/// Begins to ask anew, on a fresh connection.
+pub fn begin_anew<P, O: Outside<P>>(
+    at: &P,
+    out: &mut O,
+    point: Point,
+    asking: &mut Option<Box<OptionsSide>>,
+    leased: &mut Option<Connection<O>>,
+) -> Result<(), Reason>
+    ensures { is_some leased.new ≡ is_some leased.old }
+{
+    match renew(at, out, leased) {
+        Ok(()) => begin_asking(out, point, asking),
         Err(reason) => Err(reason),
     }
 }

@@ -13,7 +13,7 @@ pub struct Connection<O: Kinds> {
 }
 
 /// Takes the connection from its lease.
-pub fn take_wire<O: Kinds>(connection: &mut Option<Connection<O>>) -> Option<O::Service>
+pub(crate) fn take_wire<O: Kinds>(connection: &mut Option<Connection<O>>) -> Option<O::Service>
     ensures { is_some connection.new ≡ is_some connection.old }
 {
     match connection {

@@ -3,7 +3,6 @@
 
 mod asking;
 mod connection;
-mod course;
 mod ended;
 mod moving;
 mod room;
@@ -14,12 +13,11 @@ mod taken;
 mod turns;
 mod ways;
 
-pub use asking::{hear_on, is_fresh, renew};
-pub use connection::{Connection, lay_wire, take_wire};
-pub use course::tell;
+pub use asking::{begin_anew, hear_on, is_fresh};
+pub use connection::{Connection, lay_wire};
 pub use ended::{End, EndedBy, Report};
-pub use moving::{Connections, Moving, Remains};
-pub use room::Room;
+pub use moving::{Connections, Moving, Remains, take_connections};
+pub use room::{Room, dial_for, make_room};
 pub use settled::Settled;
 pub use start::Pace;
 pub use turns::Round;

@@ -1,9 +1,9 @@
 //! Messages that move.
 
-ghost use Rattle.std.specs.Prelude.{◌≡◌, is_some, true};
+ghost use Rattle.std.specs.Prelude.{◌≡◌, is_some, None, true, false};
 ghost use Rattle.shard_message.specs.Ends.{EndsBy};
 
-use crate::connection::{Connection, lay_wire};
+use crate::connection::{Connection, lay_wire, take_wire};
 use crate::ended::EndedBy;
 use crate::room::Room;
 use crate::settled::{Settled, settle_request, settle_response};
@@ -13,7 +13,7 @@ use crate::turns::{Round, round_of};
 use crate::ways::{Left, Ways};
 use adapt_turn::FreedConnection;
 use proxy_rules::{Incoming, Running};
-use shard_outside::{Kinds, Outside};
+use shard_outside::{Kinds, Outside, take_out};
 use span_bank::{Bank, Stake};
 use std::boxed::Box;
 use std::sync::Wait;
@@ -73,6 +73,30 @@ impl<O: Kinds> Connections<O> {
         *user = Some(back);
         *origin = Some(opened);
     }
+}
+
+/// The connections for a message: the service's one where it is offered. `None` where the user is gone.
+pub fn take_connections<O: Kinds>(
+    user: &mut Option<O::User>,
+    leased: &mut Option<Connection<O>>,
+    origin: &mut Option<O::Origin>,
+    is_offered: bool,
+) -> Option<Connections<O>>
+    requires { is_some origin.old ≡ true }
+    ensures leased { is_some leased.new ≡ is_some leased.old }
+    ensures taken { is_some result ≡ true → origin.new ≡ None }
+    ensures left { is_some result ≡ false → origin.new ≡ origin.old }
+{
+    let Some(user) = user.take() else {
+        return None;
+    };
+    let service = if is_offered { take_wire(leased) } else { None };
+    let origin = take_out(origin);
+    Some(Connections {
+        user,
+        service,
+        origin,
+    })
 }
 
 /// What a message stood over: its reservation, and its connections.

@@ -5,11 +5,13 @@ ghost use Rattle.std.specs.Option.{ForSome};
 ghost use Rattle.span_bank.specs.declared.limits.TheConstants.{MAX_CAPACITY};
 ghost use Rattle.plan_rules.specs.Claims.{claim_of};
 
-use plan_rules::Limits;
-use proxy_rules::Offer;
-use span_bank::{Ledgers, Stake};
+use plan_rules::{Limits, claim};
+use proxy_rules::{Offer, Reason, open_reason};
+use shard_outside::{Outside, Planned};
+use span_bank::{Bank, Ledgers, Stake};
 use std::boxed::Box;
 use std::net::SocketAddrV4;
+use std::sync::Wait;
 
 /// A reservation of which nothing is held, and the message that it was made for: it is just what that may need.
 #[must_use]
@@ -48,5 +50,53 @@ pub(crate) fn room_of<B: Ledgers>(stake: Stake<B>, limits: Limits) -> Room<B>
         offer: None,
         limits,
         address: None,
+    }
+}
+
+/// Reserves what a planned message may need.
+pub fn make_room<B: Ledgers, R: Wait>(
+    rt: &R,
+    bank: &Bank<B>,
+    limits: Limits,
+    planned: &mut Option<Box<Planned>>,
+) -> Result<Room<B>, Reason> {
+    let Some(planned) = planned.take() else {
+        return Err(Reason::NoMemory);
+    };
+    let Planned { offer, address } = Box::into_inner(planned);
+    let bytes = claim(offer.plan(), &limits);
+    if bytes == 0 {
+        return Err(Reason::Full);
+    }
+    match bank.open(rt, bytes) {
+        Ok(stake) => Ok(Room {
+            stake,
+            offer: Some(offer),
+            limits,
+            address,
+        }),
+        Err(fault) => Err(open_reason(fault)),
+    }
+}
+
+/// Opens the connection that a message goes to for which this was reserved.
+pub fn dial_for<P, O: Outside<P>>(
+    at: &P,
+    out: &mut O,
+    room: &Option<Room<O::Ledgers>>,
+) -> Result<O::Origin, Reason> {
+    let address = match room {
+        Some(room) => room.address,
+        None => None,
+    };
+    let Some(address) = address else {
+        return Err(Reason::UnknownHost);
+    };
+    match out.dial(at, address) {
+        Ok(origin) => {
+            out.note_origin(at, address);
+            Ok(origin)
+        }
+        Err(reason) => Err(reason),
     }
 }

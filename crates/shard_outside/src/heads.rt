@@ -1,7 +1,11 @@
 //! Heads of messages: the user's requests, and the origins' responses.
 
+ghost use Rattle.std.specs.Prelude.{◌≡◌, is_some};
+
 use adapt_sides::RelayFault;
+use http_side::HttpFault;
 use proxy_rules::Incoming;
+use std::boxed::Box;
 use wire_kit::Wire;
 
 /// What a turn at a head brought.
@@ -18,12 +22,33 @@ pub enum HeadTurn {
 }
 
 /// A turn at a message's head over this wire.
-pub fn head_turn<W: Wire>(message: &mut Incoming, wire: &mut W) -> HeadTurn {
+fn head_turn<W: Wire>(message: &mut Incoming, wire: &mut W) -> HeadTurn {
     let (before, _) = wire.counts();
     match message.head_turn(wire) {
         Ok(true) => HeadTurn::Whole,
         Ok(false) if wire.counts().0 != before => HeadTurn::More,
         Ok(false) => HeadTurn::Nothing,
         Err(fault) => HeadTurn::Fault(fault),
+    }
+}
+
+/// A turn at a message's head over its connection. `None` where either is missing.
+pub fn turn_on<W: Wire>(
+    message: &mut Option<Box<Incoming>>,
+    wire: &mut Option<W>,
+) -> Option<HeadTurn>
+    ensures { is_some wire.new ≡ is_some wire.old }
+{
+    match (message, wire) {
+        (Some(message), Some(wire)) => Some(head_turn(message, wire)),
+        _ => None,
+    }
+}
+
+/// What is at fault in a message's head.
+pub fn fault_of(message: &Option<Box<Incoming>>) -> Option<HttpFault> {
+    match message {
+        Some(message) => message.head_fault(),
+        None => None,
     }
 }

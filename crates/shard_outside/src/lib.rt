@@ -9,11 +9,15 @@ mod options;
 mod outside;
 mod planning;
 mod saying;
+mod slots;
+mod users;
 mod whys;
 
-pub use heads::{HeadTurn, head_turn};
-pub use options::{OptionsTurn, asker, hear_turn, keep};
+pub use heads::{HeadTurn, fault_of, turn_on};
+pub use options::{OptionsTurn, begin_asking, hear_turn, is_reusable, keep};
 pub use outside::{Kinds, Lingered, MessageEnd, Outside};
-pub use planning::{Planned, Unplanned, make_plan, waits};
+pub use planning::{Marks, Planned, Unplanned, keep_plan};
 pub use saying::{Said, say_to};
+pub use slots::{clear, lay, put_in, take_out};
+pub use users::{finish_user, is_under_way, leave_queue, linger_on, note_refused, note_stopped};
 pub use whys::{lend_reason, why_failed, why_of};

@@ -2,17 +2,18 @@
 
 use crate::outside::Outside;
 use crate::planning::service_of;
+use crate::slots::lay;
 use adapt_sides::ClientFault;
 use icap_client::OptionsSide;
 use icap_head::IcapResponse;
 use options_book::read_record;
-use proxy_rules::{Reason, ask_options, record_reason};
+use proxy_rules::{Reason, ask_options, is_reusable_after_options, record_reason};
 use std::boxed::Box;
 use trace_core::Point;
 use wire_kit::Wire;
 
 /// Who asks the service of a point for its options. `Err` where there is no service, or no memory was found.
-pub fn asker<P, O: Outside<P>>(out: &O, point: Point) -> Result<Box<OptionsSide>, Reason> {
+fn asker<P, O: Outside<P>>(out: &O, point: Point) -> Result<Box<OptionsSide>, Reason> {
     let Some(service) = service_of(out.config(), point) else {
         return Err(Reason::Service);
     };
@@ -23,6 +24,21 @@ pub fn asker<P, O: Outside<P>>(out: &O, point: Point) -> Result<Box<OptionsSide>
     match Box::new(alloc, side) {
         Ok(side) => Ok(side),
         Err(_) => Err(Reason::NoMemory),
+    }
+}
+
+/// Begins to ask the service of a point for its options.
+pub fn begin_asking<P, O: Outside<P>>(
+    out: &O,
+    point: Point,
+    asking: &mut Option<Box<OptionsSide>>,
+) -> Result<(), Reason> {
+    match asker(out, point) {
+        Ok(side) => {
+            lay(asking, side);
+            Ok(())
+        }
+        Err(reason) => Err(reason),
     }
 }
 
@@ -62,5 +78,13 @@ pub fn keep<P, O: Outside<P>>(
             Err(_) => Err(Reason::NoMemory),
         },
         Err(fault) => Err(record_reason(fault)),
+    }
+}
+
+/// Whether a connection on which this was said may serve again.
+pub fn is_reusable(asking: &Option<Box<OptionsSide>>, answer: &IcapResponse) -> bool {
+    match asking {
+        Some(side) => is_reusable_after_options(side, answer),
+        None => false,
     }
 }

@@ -1,6 +1,7 @@
 //! What a message is offered to, by what its service said of its options.
 
 use crate::outside::Outside;
+use crate::slots::lay;
 use options_book::Record;
 use plan_rules::Limits;
 use proxy_config::{Config, ServicePoint};
@@ -91,8 +92,18 @@ pub enum Unplanned {
     Refused(Reason),
 }
 
+impl Unplanned {
+    /// Why a message is refused that has no plan, though its service was asked.
+    pub fn reason(self) -> Reason {
+        match self {
+            Unplanned::Stale => Reason::Service,
+            Unplanned::Refused(reason) => reason,
+        }
+    }
+}
+
 /// Plans a message. What its service said when it was asked for this very message serves, whatever its time.
-pub fn make_plan<P, O: Outside<P>>(
+fn make_plan<P, O: Outside<P>>(
     at: &P,
     out: &O,
     message: &Incoming,
@@ -120,9 +131,40 @@ pub fn make_plan<P, O: Outside<P>>(
 }
 
 /// Whether the user of a message waits to be told to send its body.
-pub fn waits(message: &Incoming) -> bool {
+fn waits(message: &Incoming) -> bool {
     match message.user_head() {
         Some(head) => message.point() == Point::Reqmod && awaits_continue(head),
         None => false,
+    }
+}
+
+/// What a plan says of its message.
+#[derive(Clone, Copy)]
+pub struct Marks {
+    /// Whether it is offered to its service.
+    pub offered: bool,
+    /// Whether its user waits to be told to send its body.
+    pub waits: bool,
+}
+
+/// Plans a message, and keeps its plan.
+pub fn keep_plan<P, O: Outside<P>>(
+    at: &P,
+    out: &O,
+    message: &Option<Box<Incoming>>,
+    asked: bool,
+    plan: &mut Option<Box<Planned>>,
+) -> Result<Marks, Unplanned> {
+    let Some(message) = message else {
+        return Err(Unplanned::Refused(Reason::NoMemory));
+    };
+    match make_plan(at, out, message, asked) {
+        Ok(planned) => {
+            let offered = planned.offer.is_offered();
+            let waits = waits(message);
+            lay(plan, planned);
+            Ok(Marks { offered, waits })
+        }
+        Err(unplanned) => Err(unplanned),
     }
 }

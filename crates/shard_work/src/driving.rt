@@ -6,7 +6,7 @@ use crate::exchanges::Exchanges;
 use event_loop::Driven;
 use exchange_core::Place;
 use shard_desk::Spot;
-use shard_exchange::{Lingered, Step};
+use shard_exchange::{Step, Task};
 use shard_seats::Stay;
 use socket_wire::Dial;
 use std::sync::Wait;
@@ -55,7 +55,7 @@ fn take_step<D: Exchanges, R: Wait + Dial + Clock, G: Gate>(
     ensures { result ≡ Step.Over → D.is_over exchange.new ≡ true }
 {
     let before = stay_of(D::place(exchange));
-    let step = desk.step(at, exchange);
+    let step = desk.act(at, exchange, Task::Step);
     let place = D::place(exchange);
     if step == Step::On && before != Stay::End {
         desk.seats_mut().touch(at.key, at.now);
@@ -78,7 +78,7 @@ pub(crate) fn drive_on<D: Exchanges, R: Wait + Dial + Clock, G: Gate>(
     let mut rounds = 0u32;
     for _ in 0..STEPS {
         if desk.seats().is_gone(at.key) {
-            desk.lose(at, exchange);
+            desk.act(at, exchange, Task::Lose);
             return Driven::Over;
         }
         if is_round(D::place(exchange)) {
@@ -96,18 +96,22 @@ pub(crate) fn drive_on<D: Exchanges, R: Wait + Dial + Clock, G: Gate>(
     Driven::CutShort
 }
 
-/// Has the user of an exchange that was ended take its refusal, and drops what it still sends. `Over` where it is gone, or sends no more.
+/// Has the user of an exchange that was ended take its refusal, and drops what it still sends. `Over` where it is gone, or sends no more:
+/// then nothing is held.
 pub(crate) fn leave_on<D: Exchanges, R: Wait + Dial + Clock, G: Gate>(
     desk: &mut D,
     at: &Spot<'_, R, G>,
     exchange: &mut D::Exchange,
-) -> Driven {
+) -> Driven
+    ensures { result ≡ Driven.Over → D.is_over exchange.new ≡ true }
+{
     if desk.seats().is_gone(at.key) {
+        desk.act(at, exchange, Task::Lose);
         return Driven::Over;
     }
-    match desk.take_leave(at, exchange) {
-        Lingered::Over => Driven::Over,
-        Lingered::Waiting => Driven::Waiting,
-        Lingered::CutShort => Driven::CutShort,
+    match desk.act(at, exchange, Task::TakeLeave) {
+        Step::Over => Driven::Over,
+        Step::Waits => Driven::Waiting,
+        Step::On => Driven::CutShort,
     }
 }

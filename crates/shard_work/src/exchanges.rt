@@ -9,7 +9,7 @@ use mio::net::TcpStream;
 use proxy_rules::Incoming;
 use service_lines::{Edge, POINTS};
 use shard_desk::{Desk, Shares, Spot, pools_of};
-use shard_exchange::{Exchange, Lingered, Step};
+use shard_exchange::{Exchange, Holder, Holdings, Step, Task};
 use shard_seats::{Purpose, Seats};
 use socket_wire::{Dial, Unread, UserWire};
 use std::alloc::Global;
@@ -46,36 +46,15 @@ pub trait Exchanges {
     /// What a user's connection begins with: its first request, or the refusal where there is no room for it, or no memory.
     fn first(&self, user: UserWire, purpose: Purpose) -> Self::Exchange;
 
-    /// A step of an exchange.
-    fn step<R: Wait + Dial + Clock, G: Gate>(
+    /// Has an exchange do a task.
+    fn act<R: Wait + Dial + Clock, G: Gate>(
         &mut self,
         at: &Spot<'_, R, G>,
         exchange: &mut Self::Exchange,
+        task: Task,
     ) -> Step
-        ensures { result ≡ Step.Over → is_over exchange.new ≡ true };
-
-    /// Ends an exchange whose user is gone, or has to go.
-    fn lose<R: Wait + Dial + Clock, G: Gate>(
-        &mut self,
-        at: &Spot<'_, R, G>,
-        exchange: &mut Self::Exchange,
-    )
-        ensures { is_over exchange.new ≡ true };
-
-    /// Ends an exchange because the proxy stops. Its user is refused where a part of its request came, and no byte of an answer is out.
-    /// For any other user it is over.
-    fn halt<R: Wait + Dial + Clock, G: Gate>(
-        &mut self,
-        at: &Spot<'_, R, G>,
-        exchange: &mut Self::Exchange,
-    );
-
-    /// Has the user of an exchange that was halted take its refusal, and drops what it still sends.
-    fn take_leave<R: Wait + Dial + Clock, G: Gate>(
-        &mut self,
-        at: &Spot<'_, R, G>,
-        exchange: &mut Self::Exchange,
-    ) -> Lingered;
+        ensures over { result ≡ Step.Over → is_over exchange.new ≡ true }
+        ensures lost { task ≡ Task.Lose → is_over exchange.new ≡ true };
 
     /// Has an exchange be the last one of its connection.
     fn drain(exchange: &mut Self::Exchange);
@@ -85,10 +64,6 @@ pub trait Exchanges {
 
     /// Whether no byte of a request was read, but some have come that no event has reported yet.
     fn is_wanted(exchange: &Self::Exchange) -> bool;
-
-    /// Whether the user's connection is over, and nothing is held for it.
-    fn is_over(exchange: &Self::Exchange) -> bool
-        ensures { result ≡ is_over exchange.now };
 
     /// Lets an exchange go that is over.
     fn finish(exchange: Self::Exchange)
@@ -106,7 +81,7 @@ pub trait Exchanges {
 }
 
 impl<S: Shares> Exchanges for Desk<S> {
-    type Exchange = Exchange<Desk<S>>;
+    type Exchange = Exchange<Holdings<Desk<S>>>;
 
     ghost is_over = { λ exchange. is_over exchange.course };
 
@@ -134,7 +109,7 @@ impl<S: Shares> Exchanges for Desk<S> {
         Desk::report(self, rt, key);
     }
 
-    fn first(&self, user: UserWire, purpose: Purpose) -> Exchange<Desk<S>> {
+    fn first(&self, user: UserWire, purpose: Purpose) -> Exchange<Holdings<Desk<S>>> {
         match purpose {
             Purpose::Requests => {
                 match Box::new(self.alloc, Incoming::request(self.alloc)) {
@@ -146,61 +121,34 @@ impl<S: Shares> Exchanges for Desk<S> {
         }
     }
 
-    fn step<R: Wait + Dial + Clock, G: Gate>(
+    fn act<R: Wait + Dial + Clock, G: Gate>(
         &mut self,
         at: &Spot<'_, R, G>,
-        exchange: &mut Exchange<Desk<S>>,
+        exchange: &mut Exchange<Holdings<Desk<S>>>,
+        task: Task,
     ) -> Step {
-        exchange.step(at.rt, at, self)
+        exchange.act(at.rt, at, self, task)
     }
 
-    fn lose<R: Wait + Dial + Clock, G: Gate>(
-        &mut self,
-        at: &Spot<'_, R, G>,
-        exchange: &mut Exchange<Desk<S>>,
-    ) {
-        exchange.lose(at.rt, at, self);
-    }
-
-    fn halt<R: Wait + Dial + Clock, G: Gate>(
-        &mut self,
-        at: &Spot<'_, R, G>,
-        exchange: &mut Exchange<Desk<S>>,
-    ) {
-        exchange.halt(at.rt, at, self);
-    }
-
-    fn take_leave<R: Wait + Dial + Clock, G: Gate>(
-        &mut self,
-        at: &Spot<'_, R, G>,
-        exchange: &mut Exchange<Desk<S>>,
-    ) -> Lingered {
-        exchange.take_leave(at.rt, at, self)
-    }
-
-    fn drain(exchange: &mut Exchange<Desk<S>>) {
+    fn drain(exchange: &mut Exchange<Holdings<Desk<S>>>) {
         exchange.drain();
     }
 
-    fn place(exchange: &Exchange<Desk<S>>) -> Place {
+    fn place(exchange: &Exchange<Holdings<Desk<S>>>) -> Place {
         exchange.place()
     }
 
-    fn is_wanted(exchange: &Exchange<Desk<S>>) -> bool {
-        if exchange.has_begun() {
+    fn is_wanted(exchange: &Exchange<Holdings<Desk<S>>>) -> bool {
+        if exchange.holdings().has_begun() {
             return false;
         }
-        match exchange.user() {
+        match exchange.holdings().user() {
             Some(user) => user.unread() == Unread::Bytes,
             None => false,
         }
     }
 
-    fn is_over(exchange: &Exchange<Desk<S>>) -> bool {
-        exchange.is_over()
-    }
-
-    fn finish(exchange: Exchange<Desk<S>>) {
+    fn finish(exchange: Exchange<Holdings<Desk<S>>>) {
         exchange.finish();
     }
 

@@ -6,10 +6,12 @@ ghost use Rattle.shard_work.specs.Slots.{ChangesOnly};
 use crate::driving::{drive_on, leave_on};
 use crate::exchanges::Exchanges;
 use event_loop::{Driven, Handed, Request, Slots, Told, Work};
+use exchange_core::Place;
 use http_side::own_refusal;
 use mio::Registry;
 use mio::net::TcpStream;
 use shard_desk::Spot;
+use shard_exchange::{Step, Task};
 use shard_seats::SECOND;
 use socket_wire::{Dial, Peer, Readiness};
 use std::alloc::{AllocError, Global};
@@ -79,7 +81,7 @@ impl<'a, D: Exchanges + Drop, G: Gate> Shard<'a, D, G> {
     {
         if let Some(old) = self.slots.place(at.key, exchange) {
             let mut old = old;
-            self.desk.lose(at, &mut old);
+            self.desk.act(at, &mut old, Task::Lose);
             D::finish(old);
         }
     }
@@ -113,20 +115,21 @@ impl<'a, D: Exchanges + Drop, G: Gate> Shard<'a, D, G> {
     fn end_slot<R: Wait + Dial + Clock>(&mut self, at: &Spot<'_, R, G>) {
         if let Some(exchange) = self.slots.take(at.key) {
             let mut exchange = exchange;
-            self.desk.lose(at, &mut exchange);
+            self.desk.act(at, &mut exchange, Task::Lose);
             D::finish(exchange);
         }
         self.desk.leave(at.rt, at.key);
     }
 
-    /// Ends the exchange under this key, because the proxy stops. It stays where its user is still to be refused.
+    /// Ends the exchange under this key, because the proxy stops. It stays where its user is still to be refused, or has got all and
+    /// may still send: were its connection closed now, it might lose what it hasn't read yet.
     fn halt_slot<R: Wait + Dial + Clock>(&mut self, at: &Spot<'_, R, G>) {
         let Some(exchange) = self.slots.take(at.key) else {
             return;
         };
         let mut exchange = exchange;
-        self.desk.halt(at, &mut exchange);
-        if D::is_over(&exchange) {
+        let stays = D::place(&exchange) == Place::Closing;
+        if !stays && self.desk.act(at, &mut exchange, Task::Halt) == Step::Over {
             D::finish(exchange);
             self.desk.leave(at.rt, at.key);
         } else {
@@ -142,7 +145,6 @@ impl<'a, D: Exchanges + Drop, G: Gate> Shard<'a, D, G> {
         let mut exchange = exchange;
         match leave_on(&mut self.desk, at, &mut exchange) {
             Driven::Over => {
-                self.desk.lose(at, &mut exchange);
                 D::finish(exchange);
                 self.desk.leave(at.rt, at.key);
                 Driven::Over

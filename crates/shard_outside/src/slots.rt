@@ -5,7 +5,7 @@
 ghost use Rattle.std.specs.Prelude.{◌≡◌, is_some, Some, None, true, false};
 
 /// Takes out what is held.
-pub(crate) fn take_out<T>(slot: &mut Option<T>) -> T
+pub fn take_out<T>(slot: &mut Option<T>) -> T
     requires { is_some slot.old ≡ true }
     ensures taken { slot.old ≡ Some result }
     ensures none { slot.new ≡ None }
@@ -17,7 +17,7 @@ pub(crate) fn take_out<T>(slot: &mut Option<T>) -> T
 }
 
 /// Puts something where nothing is held.
-pub(crate) fn put_in<T>(slot: &mut Option<T>, held: T)
+pub fn put_in<T>(slot: &mut Option<T>, held: T)
     requires { is_some slot.old ≡ false }
     ensures { slot.new ≡ Some held }
 {
@@ -28,14 +28,14 @@ pub(crate) fn put_in<T>(slot: &mut Option<T>, held: T)
 }
 
 /// Puts something in, in place of what was held.
-pub(crate) fn lay<T: Drop>(slot: &mut Option<T>, held: T)
+pub fn lay<T: Drop>(slot: &mut Option<T>, held: T)
     ensures { slot.new ≡ Some held }
 {
     *slot = Some(held);
 }
 
 /// Lets go what is held.
-pub(crate) fn clear<T: Drop>(slot: &mut Option<T>)
+pub fn clear<T: Drop>(slot: &mut Option<T>)
     ensures { slot.new ≡ None }
 {
     *slot = None;

@@ -4,8 +4,8 @@ use Rattle.exchange_core.specs.Course.{is_mid_text}
 use Rattle.exchange_core.specs.Dues.{status_of}
 use Rattle.exchange_core.specs.May.{is_refusing}
 use Rattle.exchange_core.proofs.Stepping.{goes_on}
-use Rattle.shard_message.specs.Ends.{refusal_at}
-use Rattle.shard_message.proofs.course.tell.Goals as goal
+use Rattle.shard_exchange.specs.Ends.{refusal_at}
+use Rattle.shard_exchange.proofs.course.tell.Goals as goal
 
 pub returns-then-tell_begun-clause-goes : goal.returns-then-tell_begun-clause-goes
 returns-then-tell_begun-clause-goes c = goes_on _ _ _ c.tell_begun.ensures.goes

@@ -1,15 +1,17 @@
-//! What the course of an exchange is told of a transaction that is over.
+//! What the course of an exchange is told: that a head begins, how a message ended, and that the proxy stops.
 
 ghost use Rattle.std.specs.Prelude.{◌≡◌, ◌⊎◌, true, false};
 ghost use Rattle.exchange_core.specs.declared.event.Why.{Why as AnyWhy};
 ghost use Rattle.exchange_core.specs.Course.{after, is_mid_text};
-ghost use Rattle.exchange_core.specs.Dues.{status_of};
-ghost use Rattle.exchange_core.specs.May.{may_come, is_gone, is_refusing, is_idle};
+ghost use Rattle.exchange_core.specs.Dues.{due_of, status_of};
+ghost use Rattle.exchange_core.specs.declared.due.Due.TheVariants as dues;
+ghost use Rattle.exchange_core.specs.declared.event.Event.TheVariants.{Stop};
+ghost use Rattle.exchange_core.specs.May.{may_come, is_gone, is_head, is_idle, is_refusing};
 ghost use Rattle.exchange_core.specs.Log.{Goes};
-ghost use Rattle.shard_message.specs.Ends.{moves, ends_message, Stays, Leaves, IsOwed, is_stopped};
+ghost use Rattle.shard_exchange.specs.Ends.{moves, ends_message, Stays, Leaves, IsOwed, is_stopped};
 
-use crate::ended::{End, Report};
-use exchange_core::{Event, Exchange, Why};
+use exchange_core::{Event, Exchange, Place, Why};
+use shard_message::{End, Report};
 
 /// Takes an event that ends a message, where it may come. Else the exchange is lost: nothing more is said to its user.
 fn take_or_lose(course: &mut Exchange, event: Event)
@@ -105,7 +107,7 @@ fn tell_cut(course: &mut Exchange, cuts: bool)
 /// Tells the course of a transaction that is over. A user to whom a byte of an answer went gets no refusal behind it. One to whom none
 /// went gets the refusal of the cause by which its message failed. A further request is read only behind an answer that keeps its
 /// connection.
-pub fn tell(course: &mut Exchange, report: Report)
+pub(crate) fn tell(course: &mut Exchange, report: Report)
     requires moves { moves course.old ≡ true }
     requires runs { course.old.stopping ≡ false }
     ensures goes { Goes course.old course.new }
@@ -121,5 +123,34 @@ pub fn tell(course: &mut Exchange, report: Report)
         tell_served(course, report.served);
         tell_end(course, report.end);
         tell_cut(course, report.cuts);
+    }
+}
+
+/// The first byte of a further request came, or of the first one.
+pub(crate) fn begin_head(course: &mut exchange_core::Exchange)
+    requires { due_of course.old ≡ dues.ReadRequest }
+    ensures goes { Goes course.old course.new }
+    ensures due { due_of course.new ≡ dues.ReadRequest }
+    ensures head { is_head course.new.place ≡ true }
+    ensures kept { (course.new.connection ≡ course.old.connection) × (course.new.stake ≡ course.old.stake) × (course.new.origin ≡ course.old.origin) }
+{
+    if course.course().place == Place::Idle {
+        course.done(Event::HeadBegun);
+    }
+}
+
+/// Takes it that the proxy stops. A request of whose head a part came goes no further: so its user is refused.
+pub(crate) fn take_stop(course: &mut exchange_core::Exchange, is_in_head: bool)
+    requires still { moves course.old ≡ false }
+    requires may { may_come course.old Stop ≡ true }
+    ensures goes { Goes course.old course.new }
+    ensures leaves { Leaves course.old course.new }
+    ensures stops { is_stopped course.new ≡ true }
+{
+    if is_in_head && course.may(Event::Failed(Why::Stopping)) {
+        course.take(Event::Failed(Why::Stopping));
+        course.take(Event::Stop);
+    } else {
+        course.take(Event::Stop);
     }
 }

@@ -1,0 +1,48 @@
+-- How the course of an exchange leaves a message, and what its user is owed then.
+use Rattle.std.specs.Prelude.{◌≡◌, ℕ, Bool, true, false, ◌||◌}
+use Rattle.exchange_core.specs.declared.event.Event.{Event}
+use Rattle.exchange_core.specs.declared.event.Event.TheVariants.{Sent, Answered, UserLost, Stop, Failed}
+use Rattle.exchange_core.specs.declared.place.Place.{Place}
+use Rattle.exchange_core.specs.declared.place.Place.TheVariants.{Refusing}
+use Rattle.exchange_core.specs.declared.course.Course.{Course}
+use Rattle.exchange_core.specs.Course.{is_leased, is_mid_text}
+use Rattle.exchange_core.specs.May.{is_at_gate, is_moving, is_refusing, is_gone}
+use Rattle.exchange_core.specs.Dues.{status_of}
+
+-- its transaction stands
+abbrev pub moves : Course → Bool
+moves c = is_at_gate c.place || is_moving c.place
+
+-- with it a message is over
+abbrev pub ends_message : Event → Bool
+ends_message Sent = true
+ends_message (Answered keeps) = true
+ends_message (Failed why) = true
+ends_message UserLost = true
+ends_message Stop = true
+ends_message _ = false
+
+-- what is held is the same
+abbrev pub Holds : Course → Course → Type 0
+Holds old new = (is_leased new.connection ≡ is_leased old.connection) × (new.stake ≡ old.stake) × (new.origin ≡ old.origin)
+
+-- the message goes on
+abbrev pub Stays : Course → Course → Type 0
+Stays old new = Holds old new × (new.place ≡ old.place) × (new.stopping ≡ old.stopping)
+
+-- the message is over
+abbrev pub Leaves : Course → Course → Type 0
+Leaves old new = Holds old new × (moves new ≡ false)
+
+-- the status of the refusal that goes to the user, or 0
+abbrev pub refusal_at : Place → ℕ
+refusal_at (Refusing why) = status_of why
+refusal_at _ = 0
+
+-- a refusal of this status follows, unless a part of another text is out
+abbrev pub IsOwed : (old new : Course) → (status : ℕ) → Type 0
+IsOwed old new status = is_mid_text old ≡ false → (is_refusing new.place ≡ true) × (refusal_at new.place ≡ status)
+
+-- nothing is due for the user any more, but for a refusal
+abbrev pub is_stopped : Course → Bool
+is_stopped c = c.stopping || is_gone c.place

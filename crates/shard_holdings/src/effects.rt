@@ -1,0 +1,230 @@
+//! What an exchange asks of what it holds.
+
+ghost use Rattle.std.specs.Prelude.{◌≡◌, Bool, IsTrue, is_ok, true, false};
+ghost use Rattle.http_side.specs.Refusals.{is_own_status};
+ghost use Rattle.shard_holdings.specs.Hand.{Hand, IsEmpty, Keeps, KeepsButLease, KeepsButRoom, KeepsButOrigin, SetsOut, ComesBack};
+ghost use Rattle.shard_message.specs.Ends.{EndsBy};
+
+use adapt_sides::ClientFault;
+use exchange_core::{Course, Exchange};
+use http_side::HttpFault;
+use icap_head::IcapResponse;
+use proxy_rules::Reason;
+use service_lines::LendFault;
+use shard_message::{EndedBy, Report, Round};
+use shard_outside::{HeadTurn, Lingered, Marks, OptionsTurn, Said, Unplanned};
+use std::sync::Wait;
+use trace_core::Point;
+
+/// What came of starting a message's transaction.
+#[derive(Clone, Copy, Debug, PartialEq, Eq)]
+pub enum Started {
+    /// The message moves.
+    Moves,
+    /// It can't begin, or no memory was found for it.
+    Fails,
+    /// Its user is gone.
+    NoUser,
+}
+
+/// What an exchange holds beside its course: the connections, the message, its plan, its reservation and its transaction.
+pub trait Holder {
+    /// The surroundings of the exchanges of a thread.
+    type Outside;
+
+    // what is held of what the course counts
+    ghost hand: { Self → Hand };
+
+    /// Whether a byte of the head came that is read.
+    fn has_begun(&self) -> bool;
+
+    /// What is at fault in the head that is read.
+    fn head_fault(&self) -> Option<HttpFault>;
+
+    /// Whether a message's transaction is held.
+    fn is_moving(&self) -> bool
+        ensures { result ≡ (hand self.now).moving };
+
+    /// A turn at the head of the user's request. `None` where nobody reads it, or the user is gone.
+    fn read_request(&mut self) -> Option<HeadTurn>
+        ensures { Keeps (hand self.old) (hand self.new) };
+
+    /// A turn at the head of the origin's response. `None` where nobody reads it, or there is no connection.
+    fn read_response(&mut self) -> Option<HeadTurn>
+        ensures { Keeps (hand self.old) (hand self.new) };
+
+    /// A turn at asking the service for its options. `None` where nobody asks, or there is no connection for it.
+    fn hear(&mut self) -> Option<OptionsTurn>
+        ensures { Keeps (hand self.old) (hand self.new) };
+
+    /// Tells the user to send its body, as far as it takes the text.
+    fn tell(&mut self) -> Said
+        ensures { Keeps (hand self.old) (hand self.new) };
+
+    /// Says the refusal of this status to the user, as far as it takes it. The proxy has one of that status.
+    fn refuse(&mut self, status: u16) -> Said
+        requires { IsTrue (is_own_status status) }
+        ensures { Keeps (hand self.old) (hand self.new) };
+
+    /// Whether the user was told that nothing more comes.
+    fn is_finished(&self) -> bool;
+
+    /// Closes the user's connection.
+    fn lose_user(&mut self)
+        ensures { Keeps (hand self.old) (hand self.new) };
+
+    /// Closes the origin's connection.
+    fn hang_up(&mut self)
+        ensures hung { (hand self.new).origin ≡ false }
+        ensures kept { KeepsButOrigin (hand self.old) (hand self.new) };
+
+    /// Whether a byte of an answer went to the user.
+    fn has_answered(&self) -> bool
+        requires { (hand self.now).moving ≡ true };
+
+    /// Takes the service's connection back from the transaction once the service has said all: whether it may carry another request.
+    fn free_service(&mut self) -> Option<bool>
+        requires { (hand self.old).moving ≡ true }
+        ensures { Keeps (hand self.old) (hand self.new) };
+
+    /// Lets all go of an exchange that is over.
+    fn finish(self)
+        requires { IsEmpty (hand self) };
+}
+
+/// All that an exchange may have to do. `P` is its place in its surroundings: its key, the moment, and what reaches the system.
+pub trait Effects<P>: Holder {
+    // no byte of the exchange moved for longer than the deadline
+    ghost is_late: { Self.Outside → P → Bool };
+
+    /// Whether no byte moved for longer than the deadline.
+    fn is_late(at: &P, out: &Self::Outside) -> bool
+        ensures { result ≡ is_late out.now at.now };
+
+    /// Whether the user has said nothing for so long that a proxy that drains lets it go.
+    fn has_rested(at: &P, out: &Self::Outside) -> bool;
+
+    /// Whether the message has waited for a connection to its service as long as it may.
+    fn has_waited(at: &P, out: &Self::Outside) -> bool;
+
+    /// Whether a question for options may be asked anew.
+    fn may_retry(at: &P, out: &Self::Outside) -> bool;
+
+    /// Whether the transaction of a message may move.
+    fn may_pass(at: &P, out: &mut Self::Outside) -> bool;
+
+    /// Plans the message, and keeps its plan.
+    fn plan(&mut self, at: &P, out: &Self::Outside, asked: bool) -> Result<Marks, Unplanned>
+        ensures { Keeps (Self.hand self.old) (Self.hand self.new) };
+
+    /// Leases a connection of the point's service: whether it was idle before.
+    fn lend(&mut self, at: &P, out: &mut Self::Outside, point: Point) -> Result<bool, LendFault>
+        requires { (Self.hand self.old).leased ≡ false }
+        ensures lent { is_ok result ≡ (Self.hand self.new).leased }
+        ensures kept { KeepsButLease (Self.hand self.old) (Self.hand self.new) };
+
+    /// Leases a connection to a message that waits, once it is its turn. With a connection it has left the queue.
+    fn lend_in_turn(
+        &mut self,
+        at: &P,
+        out: &mut Self::Outside,
+        point: Point,
+    ) -> Result<bool, LendFault>
+        requires { (Self.hand self.old).leased ≡ false }
+        ensures lent { is_ok result ≡ (Self.hand self.new).leased }
+        ensures kept { KeepsButLease (Self.hand self.old) (Self.hand self.new) };
+
+    /// Has a message wait for a connection. False where it may not.
+    fn join_queue(at: &P, out: &mut Self::Outside, point: Point) -> bool;
+
+    /// Has a message wait no more, where it waits for a connection.
+    fn leave_queue(at: &P, out: &mut Self::Outside, course: &Exchange);
+
+    /// Begins to ask the point's service for its options.
+    fn ask(&mut self, at: &P, out: &Self::Outside, point: Point) -> Result<(), Reason>
+        ensures { Keeps (Self.hand self.old) (Self.hand self.new) };
+
+    /// Begins to ask anew, on a fresh connection.
+    fn ask_anew(&mut self, at: &P, out: &mut Self::Outside, point: Point) -> Result<(), Reason>
+        ensures { Keeps (Self.hand self.old) (Self.hand self.new) };
+
+    /// Keeps what the point's service said of its options: whether its connection may serve again.
+    fn learn(
+        &mut self,
+        at: &P,
+        out: &mut Self::Outside,
+        point: Point,
+        answer: &IcapResponse,
+    ) -> Result<bool, Reason>
+        ensures { Keeps (Self.hand self.old) (Self.hand self.new) };
+
+    /// Takes note that the service's connection failed while it was asked.
+    fn blame(&self, at: &P, out: &mut Self::Outside, fault: ClientFault);
+
+    /// Reserves what the planned message may need.
+    fn reserve<R: Wait>(&mut self, rt: &R, at: &P, out: &mut Self::Outside) -> Result<(), Reason>
+        requires { ((Self.hand self.old).room ≡ false) × ((Self.hand self.old).moving ≡ false) }
+        ensures reserved { is_ok result ≡ (Self.hand self.new).room }
+        ensures kept { KeepsButRoom (Self.hand self.old) (Self.hand self.new) };
+
+    /// Opens the connection that a request goes to for which this was reserved.
+    fn dial(&mut self, at: &P, out: &mut Self::Outside) -> Result<(), Reason>
+        requires { ((Self.hand self.old).origin ≡ false) × ((Self.hand self.old).moving ≡ false) }
+        ensures opened { is_ok result ≡ (Self.hand self.new).origin }
+        ensures kept { KeepsButOrigin (Self.hand self.old) (Self.hand self.new) };
+
+    /// Starts the transaction of a message that has all that it needs. Where it can't, what it would have stood over stays here.
+    fn start<R: Wait>(&mut self, rt: &R, at: &P, out: &mut Self::Outside, course: Course) -> Started
+        requires needs { ((Self.hand self.old).room ≡ true) × ((Self.hand self.old).origin ≡ true) }
+        requires still { (Self.hand self.old).moving ≡ false }
+        ensures moves { result ≡ Started.Moves → SetsOut (Self.hand self.old) (Self.hand self.new) }
+        ensures fails { result ≡ Started.Fails → Keeps (Self.hand self.old) (Self.hand self.new) }
+        ensures gone { result ≡ Started.NoUser → Keeps (Self.hand self.old) (Self.hand self.new) };
+
+    /// A round of turns of the message's transaction.
+    fn round<R: Wait>(&mut self, rt: &R, at: &P, out: &mut Self::Outside, may_renew: bool) -> Round
+        requires { (Self.hand self.old).moving ≡ true }
+        ensures kept { Keeps (Self.hand self.old) (Self.hand self.new) }
+        ensures renewed { result ≡ Round.Broken → may_renew ≡ true };
+
+    /// Takes the transaction apart of a message that is over, or ends by this. What it stood over comes back.
+    fn settle<R: Wait>(&mut self, rt: &R, at: &P, out: &mut Self::Outside, by: EndedBy) -> Report
+        requires { (Self.hand self.old).moving ≡ true }
+        ensures back { ComesBack (Self.hand self.old) (Self.hand self.new) }
+        ensures ends { EndsBy by result.end };
+
+    /// Puts the service's connection back where it is ready to serve again. Else it is closed, and its lease given up. Says whether
+    /// it was put back.
+    fn give_back(&mut self, at: &P, out: &mut Self::Outside, is_ready: bool) -> bool
+        requires { (Self.hand self.old).leased ≡ true }
+        ensures back { (Self.hand self.new).leased ≡ false }
+        ensures kept { KeepsButLease (Self.hand self.old) (Self.hand self.new) }
+        ensures ready { result ≡ true → is_ready ≡ true };
+
+    /// Closes the reservation.
+    fn release<R: Wait>(&mut self, rt: &R, at: &P, out: &mut Self::Outside)
+        requires { (Self.hand self.old).room ≡ true }
+        ensures released { (Self.hand self.new).room ≡ false }
+        ensures kept { KeepsButRoom (Self.hand self.old) (Self.hand self.new) };
+
+    /// Says to the user that nothing more comes.
+    fn close(&mut self, at: &P)
+        ensures { Keeps (Self.hand self.old) (Self.hand self.new) };
+
+    /// Drops what the user still sends.
+    fn linger(&mut self, at: &P, out: &mut Self::Outside) -> Lingered
+        ensures { Keeps (Self.hand self.old) (Self.hand self.new) };
+
+    /// The head of a request was read. Its user was told nothing yet.
+    fn note_request(&mut self, at: &P, out: &mut Self::Outside)
+        ensures { Keeps (Self.hand self.old) (Self.hand self.new) };
+
+    /// The head of the origin's response was read.
+    fn note_response(&self, at: &P, out: &mut Self::Outside);
+
+    /// The user is refused for this reason, where a refusal goes out at this course.
+    fn note_refusal(&self, at: &P, out: &mut Self::Outside, course: &Exchange, reason: Reason);
+
+    /// An answer ends unfinished because the proxy stops, where it does at this course.
+    fn note_stop(at: &P, out: &mut Self::Outside, course: &Exchange);
+}

@@ -1,0 +1,93 @@
+//! What is done over what is held alone.
+
+ghost use Rattle.std.specs.Prelude.{is_some};
+ghost use Rattle.shard_holdings.specs.Hand.{hand_of};
+
+use crate::effects::Holder;
+use crate::holdings::Holdings;
+use adapt_turn::FreedConnection;
+use http_side::{HttpFault, own_refusal};
+use proxy_rules::interim_continue;
+use shard_message::{hear_on, lay_wire};
+use shard_outside::{HeadTurn, Kinds, OptionsTurn, Said, clear, fault_of, say_to, turn_on};
+
+impl<O: Kinds> Holder for Holdings<O> {
+    type Outside = O;
+
+    ghost hand = { λ held. hand_of (is_some held.connection) (is_some held.room) (is_some held.origin) (is_some held.tx) };
+
+    fn has_begun(&self) -> bool {
+        match &self.message {
+            Some(message) => message.has_begun(),
+            None => false,
+        }
+    }
+
+    fn head_fault(&self) -> Option<HttpFault> {
+        fault_of(&self.message)
+    }
+
+    fn is_moving(&self) -> bool {
+        self.tx.is_some()
+    }
+
+    fn read_request(&mut self) -> Option<HeadTurn> {
+        turn_on(&mut self.message, &mut self.user)
+    }
+
+    fn read_response(&mut self) -> Option<HeadTurn> {
+        turn_on(&mut self.message, &mut self.origin)
+    }
+
+    fn hear(&mut self) -> Option<OptionsTurn> {
+        hear_on(&mut self.asking, &mut self.connection)
+    }
+
+    fn tell(&mut self) -> Said {
+        let said = say_to(&mut self.user, interim_continue(), &mut self.told);
+        if said == Said::Whole {
+            self.told = 0;
+        }
+        said
+    }
+
+    fn refuse(&mut self, status: u16) -> Said {
+        say_to(&mut self.user, own_refusal(status), &mut self.refused)
+    }
+
+    fn is_finished(&self) -> bool {
+        self.is_finished
+    }
+
+    fn lose_user(&mut self) {
+        clear(&mut self.user);
+    }
+
+    fn hang_up(&mut self) {
+        clear(&mut self.origin);
+    }
+
+    fn has_answered(&self) -> bool {
+        match &self.tx {
+            Some(tx) => tx.has_answered(),
+            None => unreachable!(),
+        }
+    }
+
+    fn free_service(&mut self) -> Option<bool> {
+        let Some(tx) = &mut self.tx else {
+            unreachable!();
+        };
+        let FreedConnection { wire, is_reusable } = tx.freed_connection()?;
+        lay_wire(&mut self.connection, wire);
+        Some(is_reusable)
+    }
+
+    fn finish(self) {
+        let (connection, room, tx) = self.into_parts();
+        match (connection, room, tx) {
+            (None, None, None) => {}
+            _ => unreachable!(),
+        }
+    }
+}

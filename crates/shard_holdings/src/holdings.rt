@@ -1,0 +1,133 @@
+//! What an exchange holds.
+
+ghost use Rattle.std.specs.Prelude.{◌≡◌, ◌&&◌, is_some, None, true, false};
+ghost use Rattle.std.specs.Option.{ForSome};
+
+use icap_client::OptionsSide;
+use proxy_rules::Incoming;
+use shard_message::{Connection, Moving, Remains, Room};
+use shard_outside::{Kinds, Planned, put_in};
+use span_bank::{Bank, Stake};
+use std::boxed::Box;
+use std::sync::Wait;
+
+/// What an exchange holds beside its course.
+#[must_use]
+pub struct Holdings<O: Kinds> {
+    /// The user's connection, where no transaction has it.
+    pub(crate) user: Option<O::User>,
+    /// The message whose head comes, or was read, where no transaction has it.
+    pub(crate) message: Option<Box<Incoming>>,
+    /// What it was planned to be, until something is reserved for it.
+    pub(crate) planned: Option<Box<Planned>>,
+    /// Who asks the service for its options.
+    pub(crate) asking: Option<Box<OptionsSide>>,
+    /// How many bytes went out of the text that tells the user to send its body.
+    pub(crate) told: usize,
+    /// How many bytes went out of the refusal.
+    pub(crate) refused: usize,
+    /// Whether the user was told that nothing more comes.
+    pub(crate) is_finished: bool,
+    /// The leased connection of the service.
+    pub(crate) connection: Option<Connection<O>>,
+    /// The reservation, where no transaction has it.
+    pub(crate) room: Option<Room<O::Ledgers>>,
+    /// The connection to the origin, where no transaction has it.
+    pub(crate) origin: Option<O::Origin>,
+    /// The transaction of the message.
+    pub(crate) tx: Option<Moving<O>>,
+    // a transaction has the reservation and the origin's connection
+    pub(crate) ghost apart: { (is_some room && is_some tx) ≡ false },
+    pub(crate) ghost aside: { (is_some origin && is_some tx) ≡ false },
+}
+
+/// What is still out of an exchange that isn't over.
+#[must_use]
+pub struct Held<O: Kinds> {
+    pub lease: Option<O::Lease>,
+    pub stake: Option<Stake<O::Ledgers>>,
+    // the reservation holds nothing
+    pub ghost empty: { ForSome stake (λ stake. (stake.held ≡ 0) × (stake.pages ≡ 0)) },
+}
+
+impl<O: Kinds> Holdings<O> {
+    /// The user's connection, and the message whose head is to be read.
+    pub fn new(user: O::User, message: Option<Box<Incoming>>) -> Holdings<O>
+        ensures { (result.connection ≡ None) × (result.room ≡ None) × (result.origin ≡ None) × (result.tx ≡ None) }
+    {
+        Holdings {
+            user: Some(user),
+            message,
+            planned: None,
+            asking: None,
+            told: 0,
+            refused: 0,
+            is_finished: false,
+            connection: None,
+            room: None,
+            origin: None,
+            tx: None,
+        }
+    }
+
+    /// The user's connection, where no transaction has it.
+    pub fn user(&self) -> Option<&O::User> {
+        match &self.user {
+            Some(user) => Some(user),
+            None => None,
+        }
+    }
+
+    /// Takes back what a message stood over that doesn't move.
+    pub(crate) fn take_back(&mut self, remains: Remains<O>)
+        requires { (is_some self.old.room ≡ false) × (is_some self.old.tx ≡ false) }
+        ensures leased { is_some self.new.connection ≡ is_some self.old.connection }
+        ensures back { (is_some self.new.room ≡ true) × (is_some self.new.origin ≡ true) × (self.new.tx ≡ None) }
+    {
+        let Remains { room, connections } = remains;
+        put_in(&mut self.room, room);
+        connections.put_back(&mut self.user, &mut self.connection, &mut self.origin);
+    }
+
+    /// What has no `Drop`.
+    pub(crate) fn into_parts(
+        self,
+    ) -> (
+        Option<Connection<O>>,
+        Option<Room<O::Ledgers>>,
+        Option<Moving<O>>,
+    )
+        ensures { (result.0 ≡ self.connection) × (result.1 ≡ self.room) × (result.2 ≡ self.tx) }
+    {
+        let Holdings {
+            user: _,
+            message: _,
+            planned: _,
+            asking: _,
+            told: _,
+            refused: _,
+            is_finished: _,
+            connection,
+            room,
+            origin: _,
+            tx,
+        } = self;
+        (connection, room, tx)
+    }
+
+    /// What is still out. All connections are closed, and a transaction ends.
+    pub fn into_held<R: Wait>(self, rt: &R, bank: &Bank<O::Ledgers>) -> Held<O> {
+        let (connection, room, tx) = self.into_parts();
+        let lease = match connection {
+            Some(Connection { wire: _, lease }) => Some(lease),
+            None => None,
+        };
+        let stake = match (room, tx) {
+            (Some(room), None) => Some(room.into_stake()),
+            (None, Some(tx)) => Some(tx.into_stake(rt, bank)),
+            (None, None) => None,
+            (Some(_), Some(_)) => unreachable!(),
+        };
+        Held { lease, stake }
+    }
+}

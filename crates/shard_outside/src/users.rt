@@ -1,0 +1,60 @@
+//! What an exchange has its surroundings do by its course: for a user that is refused or closes, and for a message that waits.
+
+use crate::outside::{Lingered, Outside};
+use exchange_core::{Exchange, Place};
+use proxy_rules::Reason;
+
+/// Takes note of a refusal, where one goes out.
+pub fn note_refused<P, O: Outside<P>>(
+    at: &P,
+    out: &mut O,
+    course: &Exchange,
+    user: &Option<O::User>,
+    reason: Reason,
+) {
+    let course = course.course();
+    if course.is_mid_text() {
+        return;
+    }
+    let is_asking = matches!(course.place, Place::Asking { .. } | Place::InQueue { .. });
+    if let Some(user) = user {
+        out.note_refusal(at, user, reason, is_asking);
+    }
+}
+
+/// Says to a user that nothing more comes.
+pub fn finish_user<P, O: Outside<P>>(user: &Option<O::User>) {
+    if let Some(user) = user {
+        O::finish(user);
+    }
+}
+
+/// Drops what a user still sends.
+pub fn linger_on<P, O: Outside<P>>(user: &mut Option<O::User>, out: &mut O) -> Lingered {
+    match user {
+        Some(user) => out.linger(user),
+        None => Lingered::Over,
+    }
+}
+
+/// Has a message that waits for a connection of its service wait no more.
+pub fn leave_queue<P, O: Outside<P>>(at: &P, out: &mut O, course: &Exchange) {
+    if let Place::InQueue { point } = course.course().place {
+        out.leave_queue(at, point);
+    }
+}
+
+/// Whether a message is under way whose head was read.
+pub fn is_under_way(place: Place) -> bool {
+    !matches!(
+        place,
+        Place::Idle | Place::Head | Place::Refusing { .. } | Place::Closing
+    )
+}
+
+/// Takes note that an answer ends unfinished, where it does.
+pub fn note_stopped<P, O: Outside<P>>(at: &P, out: &mut O, course: &Exchange) {
+    if course.course().place == Place::Gone {
+        out.note_stop(at);
+    }
+}
