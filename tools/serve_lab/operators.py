@@ -545,6 +545,7 @@ def the_counters_count(bench):
     same("unknown", ask(proxy.port, b"GET http://x.test/ HTTP/1.1\r\nHost: x.test\r\n\r\n").status, 502)
     comes("the refused one's end", lambda: stats(proxy)["adaptproxy_requests_total"] == 6)
     comes("the idle connection", lambda: stats(proxy)['adaptproxy_service_connections{point="respmod",state="idle"}'] == 1)
+    comes("the refused one's leave", lambda: stats(proxy)["adaptproxy_users"] == 1)
     found = stats(proxy)
     wanted = {
         "adaptproxy_requests_total": 6, 'adaptproxy_answers_total{class="2xx"}': 5,
