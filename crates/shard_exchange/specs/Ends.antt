@@ -3,7 +3,7 @@ use Rattle.std.specs.Prelude.{◌≡◌, ℕ, Bool, true, false, ◌||◌}
 use Rattle.exchange_core.specs.declared.event.Event.{Event}
 use Rattle.exchange_core.specs.declared.event.Event.TheVariants.{Sent, Answered, UserLost, Stop, Failed}
 use Rattle.exchange_core.specs.declared.place.Place.{Place}
-use Rattle.exchange_core.specs.declared.place.Place.TheVariants.{Refusing}
+use Rattle.exchange_core.specs.declared.place.Place.TheVariants.{Refusing, Closing}
 use Rattle.exchange_core.specs.declared.course.Course.{Course}
 use Rattle.exchange_core.specs.Course.{is_leased, is_mid_text}
 use Rattle.exchange_core.specs.May.{is_at_gate, is_moving, is_refusing, is_gone}
@@ -46,3 +46,8 @@ IsOwed old new status = is_mid_text old ≡ false → (is_refusing new.place ≡
 -- nothing is due for the user any more, but for a refusal
 abbrev pub is_stopped : Course → Bool
 is_stopped c = c.stopping || is_gone c.place
+
+-- nothing is left to do but to close the user's connection
+abbrev pub is_closing : Place → Bool
+is_closing Closing = true
+is_closing _ = false

@@ -1,40 +1,47 @@
 //! The steps of an exchange: what is due is done.
 
 ghost use Rattle.std.specs.Prelude.{◌≡◌, ◌↔◌, true, false};
+ghost use Rattle.shard_exchange.specs.Ends.{is_closing, is_stopped};
 
 use crate::exchange::Exchange;
-use exchange_core::Due;
+use exchange_core::{Due, Place};
 use shard_holdings::{Effects, Holder, Step, Task};
 use std::sync::Wait;
+
+/// Whether nothing is left to do but to close the user's connection.
+fn is_closing(place: Place) -> bool
+    ensures { result ≡ is_closing place }
+{
+    matches!(place, Place::Closing)
+}
 
 impl<H: Holder> Exchange<H> {
     ghost use Rattle.exchange_core.specs.Dues.{due_of, is_over, is_wait};
     ghost use Rattle.exchange_core.specs.Log.{Goes};
-    ghost use Rattle.shard_exchange.specs.Ends.{is_stopped};
     ghost use Rattle.shard_exchange.specs.Steps.{Heeds};
 
-    /// Does a task, and says how far that came.
+    /// Does a task, and says how far that came. An exchange that only closes isn't stopped: it goes on with that.
     pub fn act<P, R: Wait>(&mut self, rt: &R, at: &P, out: &mut H::Outside, task: Task) -> Step
     where
         H: Effects<P>,
-
         // Each task takes the course along events that may come.
         ensures goes { Goes self.old.course self.new.course }
-        // A step passes no deadline unheeded.
         ensures late { task ≡ Task.Step → result ≡ Step.Waits → H.is_late out.new at.now ≡ false }
         ensures waits { task ≡ Task.Step → result ≡ Step.Waits → is_wait (due_of self.new.course) ≡ true }
         ensures over { result ≡ Step.Over → is_over self.new.course ≡ true }
         ensures lost { task ≡ Task.Lose → is_over self.new.course ≡ true }
-        ensures stops { task ≡ Task.Halt → is_stopped self.new.course ≡ true }
+        ensures stops { task ≡ Task.Halt → is_closing self.old.course.place ≡ false → is_stopped self.new.course ≡ true }
     {
+        let closes = is_closing(self.course.course().place);
         match task {
-            Task::Step => self.step(rt, at, out),
             Task::Lose => {
                 self.lose(rt, at, out);
                 Step::Over
             }
+            Task::Halt if closes => Step::On,
             Task::Halt => self.halt(rt, at, out),
-            Task::TakeLeave => self.take_leave(rt, at, out),
+            Task::TakeLeave if !closes => self.take_leave(rt, at, out),
+            Task::Step | Task::TakeLeave => self.step(rt, at, out),
         }
     }
 
@@ -42,10 +49,7 @@ impl<H: Holder> Exchange<H> {
     fn step<P, R: Wait>(&mut self, rt: &R, at: &P, out: &mut H::Outside) -> Step
     where
         H: Effects<P>,
-
-        // Each step takes the course along events that may come.
         ensures goes { Goes self.old.course self.new.course }
-        // No deadline passes unheeded.
         ensures late { result ≡ Step.Waits → H.is_late out.new at.now ≡ false }
         ensures waits { result ≡ Step.Waits → is_wait (due_of self.new.course) ≡ true }
         ensures over { result ≡ Step.Over ↔ is_over self.new.course ≡ true }

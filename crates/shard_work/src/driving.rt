@@ -96,8 +96,8 @@ pub(crate) fn drive_on<D: Exchanges, R: Wait + Dial + Clock, G: Gate>(
     Driven::CutShort
 }
 
-/// Has the user of an exchange that was ended take its refusal, and drops what it still sends. `Over` where it is gone, or sends no more:
-/// then nothing is held.
+/// Has the user of an exchange take its refusal at a stop, and drops what it still sends. `Over` where it is gone, or sends no more: then
+/// nothing is held.
 pub(crate) fn leave_on<D: Exchanges, R: Wait + Dial + Clock, G: Gate>(
     desk: &mut D,
     at: &Spot<'_, R, G>,

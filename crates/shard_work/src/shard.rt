@@ -6,7 +6,6 @@ ghost use Rattle.shard_work.specs.Slots.{ChangesOnly};
 use crate::driving::{drive_on, leave_on};
 use crate::exchanges::Exchanges;
 use event_loop::{Driven, Handed, Request, Slots, Told, Work};
-use exchange_core::Place;
 use http_side::own_refusal;
 use mio::Registry;
 use mio::net::TcpStream;
@@ -27,7 +26,7 @@ enum Service {
     Full,
     /// Each exchange is the last one of its connection.
     Draining,
-    /// None: all exchanges were ended.
+    /// None: all exchanges were ended, but for those that only close.
     Stopped,
 }
 
@@ -59,8 +58,8 @@ impl<'a, D: Exchanges + Drop, G: Gate> Shard<'a, D, G> {
         })
     }
 
-    /// The slots, once the exchanges that are still open are reported: those that were stopped, and whose users haven't taken their
-    /// refusal. All else goes.
+    /// The slots, once the exchanges that are still open are reported: those whose users haven't taken
+    /// their refusal at the stop, or whose connections are still being closed. All else goes.
     pub fn into_slots<R: Wait + Clock>(self, rt: &R) -> Vec<Option<D::Exchange>> {
         let Shard {
             desk,
@@ -122,14 +121,13 @@ impl<'a, D: Exchanges + Drop, G: Gate> Shard<'a, D, G> {
     }
 
     /// Ends the exchange under this key, because the proxy stops. It stays where its user is still to be refused, or has got all and
-    /// may still send: were its connection closed now, it might lose what it hasn't read yet.
+    /// its connection is being closed: were it closed at once, the user might lose what it hasn't read yet.
     fn halt_slot<R: Wait + Dial + Clock>(&mut self, at: &Spot<'_, R, G>) {
         let Some(exchange) = self.slots.take(at.key) else {
             return;
         };
         let mut exchange = exchange;
-        let stays = D::place(&exchange) == Place::Closing;
-        if !stays && self.desk.act(at, &mut exchange, Task::Halt) == Step::Over {
+        if self.desk.act(at, &mut exchange, Task::Halt) == Step::Over {
             D::finish(exchange);
             self.desk.leave(at.rt, at.key);
         } else {
@@ -137,7 +135,7 @@ impl<'a, D: Exchanges + Drop, G: Gate> Shard<'a, D, G> {
         }
     }
 
-    /// Drives on an exchange that was ended: its user takes its refusal, and may still send. Once it sends no more all is given back.
+    /// Drives on an exchange at a stop: its user takes its refusal, and may still send. Once it sends no more all is given back.
     fn take_leave<R: Wait + Dial + Clock>(&mut self, at: &Spot<'_, R, G>) -> Driven {
         let Some(exchange) = self.slots.take(at.key) else {
             return Driven::Over;
