@@ -36,6 +36,7 @@ pub struct Office<'a, S, F: Append> {
 }
 
 impl<'a, S: Shares, F: Append> Office<'a, S, F> {
+    /// Answers from what its thread shares and what all loops counted; `files` opens the log's file anew.
     pub fn new(alloc: Global, shared: S, tallies: &'a [Tally], files: &'a F) -> Office<'a, S, F> {
         Office {
             alloc,

@@ -2,9 +2,6 @@
 
 ghost use Rattle.std.specs.Prelude.{◌≡◌};
 
-use crate::board::{BothPools, Common, PoolPair, board_of};
-use crate::left::Left;
-use crate::office::Office;
 use event_loop::{
     Base, Ended, Entrance, Inbox, LoopFault, Work, add_loop, name_thread, run_loop, stop_all,
 };
@@ -12,6 +9,7 @@ use mio::net::TcpListener;
 use proxy_config::{Config, MAX_SHARDS};
 use service_lines::Waiting;
 use service_pool::Pool;
+use shard_common::{BothPools, Common, Left, Office, PoolPair, board_of};
 use shard_desk::{Desk, Loops, Pools, Shared, Shares, Spare};
 use shard_report::{Append, ServeFault};
 use shard_work::{Exchanges, Shard};
@@ -86,13 +84,13 @@ fn loop_fault(fault: LoopFault) -> ServeFault
     }
 }
 
-/// A place from which a thread takes the base of its loop.
-trait Place {
+/// What a thread takes the base of its loop from.
+trait HasBase {
     /// The base, once.
     fn take_base(&mut self) -> Option<Base>;
 }
 
-impl Place for Option<Base> {
+impl HasBase for Option<Base> {
     fn take_base(&mut self) -> Option<Base> {
         self.take()
     }
@@ -108,7 +106,7 @@ fn run_on<
     Q: Ledger + Send + Sync,
     A: Ledger + Send + Sync,
     G: Gate + Sync,
-    K: Place + Send,
+    K: HasBase + Send,
     P: BothPools<Q, A> + Sync,
     N: Common + Sync,
     R: Threads + Wait + Dial + Append + Clock + Sync,
@@ -121,7 +119,7 @@ fn run_on<
     gate: &G,
     common: &N,
     left: &Mutex<Left<B, Q, A>>,
-    places: &mut [K],
+    bases: &mut [K],
 )
 where
     B::Held: Send + Sync,
@@ -131,9 +129,9 @@ where
 {
     thread::for_each_mut(
         rt,
-        places,
+        bases,
         MAX_SHARDS as usize + 1,
-        &|number, place| {
+        &|number, slot| {
             run_one(
                 rt,
                 alloc,
@@ -145,7 +143,7 @@ where
                 common,
                 left,
                 number,
-                place,
+                slot,
             )
         },
     );
@@ -239,13 +237,35 @@ where
     Ok(())
 }
 
-/// Runs a loop on the base in this place, if there is one.
+/// The connections to services of both points, and those who wait for one.
+fn pools_for<'a, Q: Ledger, A: Ledger, N: Common>(
+    config: &Config,
+    request: &'a Pool<Spare, Q>,
+    response: &'a Pool<Spare, A>,
+    common: &'a N,
+) -> Pools<'a, Q, A> {
+    let edge = Loops {
+        inboxes: common.inboxes(),
+        room: common.room(),
+    };
+    Pools {
+        request,
+        response,
+        waiting: Waiting {
+            queues: common.queues(),
+            edge,
+            seconds: config.wait,
+        },
+    }
+}
+
+/// Runs a loop on the base in this slot, if there is one.
 fn run_one<
     B: Ledgers,
     Q: Ledger,
     A: Ledger,
     G: Gate,
-    K: Place,
+    K: HasBase,
     N: Common,
     R: Wait + Dial + Append + Clock,
 >(
@@ -259,50 +279,35 @@ fn run_one<
     common: &N,
     left: &Mutex<Left<B, Q, A>>,
     number: usize,
-    place: &mut K,
+    slot: &mut K,
 ) {
-    let Some(base) = place.take_base() else {
+    let Some(base) = slot.take_base() else {
         return;
     };
-    let Some(tally) = common
-        .tallies()
-        .get(number.min(common.tallies().len().saturating_sub(1)))
-    else {
+    let tallies = common.tallies();
+    let Some(tally) = tallies.get(number.min(tallies.len().saturating_sub(1))) else {
         return;
     };
     let inboxes = common.inboxes();
-    let queues = common.queues();
-    let room = common.room();
-    let log = common.log();
     let shared = Shared {
         config,
         bank,
         requests,
         responses,
-        queues,
+        queues: common.queues(),
         inboxes,
-        room,
+        room: common.room(),
         number,
         tally,
-        log,
+        log: common.log(),
     };
-    if number < common.tallies().len() {
-        let edge = Loops { inboxes, room };
-        let waiting = Waiting {
-            queues,
-            edge,
-            seconds: config.wait,
-        };
-        let pools = Pools {
-            request: requests,
-            response: responses,
-            waiting,
-        };
+    if number < tallies.len() {
+        let pools = pools_for(config, requests, responses, common);
         run_base(
             rt, alloc, shared, gate, number, base, inboxes, bank, pools, left,
         );
     } else {
-        let office = Office::new(alloc, shared, common.tallies(), rt);
+        let office = Office::new(alloc, shared, tallies, rt);
         run_office(rt, alloc, office, number, base, inboxes, left);
     }
 }
