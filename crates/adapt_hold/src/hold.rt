@@ -239,7 +239,7 @@ impl<B: Ledgers> Hold<B> {
         step(&mut self.state, event)?;
         let original = self.state.held_original().0;
         let adapted = self.state.held_adapted().0;
-        self.store.let_go(rt, bank, original, adapted);
+        self.store.drop_to(rt, bank, original, adapted);
         lower_claim(rt, bank, &mut self.store, &self.state, &self.limits, event);
         Ok(())
     }

@@ -76,7 +76,7 @@ fn shrink<B: Ledgers>(
 }
 
 /// Lets go of the bytes of a tape before a place; returns their number, and the pages without a kept byte.
-fn release(tape: &mut SpanTape, place: u64) -> (u64, Pages)
+fn drop_before(tape: &mut SpanTape, place: u64) -> (u64, Pages)
     requires low { tape.old.base ≤ place }
     requires high { place ≤ end_of tape.old }
     requires paged { IsPaged tape.old }
@@ -161,7 +161,7 @@ impl<B: Ledgers> Store<B> {
     }
 
     /// Lets go of what stands before a place of the original and before one of the adapted body.
-    pub(crate) fn let_go(&mut self, rt: &impl Wait, bank: &Bank<B>, original: u64, adapted: u64)
+    pub(crate) fn drop_to(&mut self, rt: &impl Wait, bank: &Bank<B>, original: u64, adapted: u64)
         requires original_low { self.old.original.base ≤ original }
         requires original_high { original ≤ span_end self.old.original }
         requires adapted_low { self.old.adapted.base ≤ adapted }
@@ -171,8 +171,8 @@ impl<B: Ledgers> Store<B> {
         ensures held { self.new.held + ((original - self.old.original.base) + (adapted - self.old.adapted.base)) ≡ self.old.held }
         ensures claim { self.new.claim ≡ self.old.claim }
     {
-        let (freed, pages) = release(&mut self.original, original);
-        let (more, others) = release(&mut self.adapted, adapted);
+        let (freed, pages) = drop_before(&mut self.original, original);
+        let (more, others) = drop_before(&mut self.adapted, adapted);
         let mut pages = pages;
         pages.join(others);
         shrink(rt, bank, &mut self.stake, freed + more, pages);

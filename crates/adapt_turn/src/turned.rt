@@ -25,7 +25,7 @@ pub enum Outcome {
 /// What a turn did.
 #[derive(Clone, Copy, Debug, PartialEq, Eq)]
 pub enum Turned {
-    /// The wires gave and took this many bytes.
+    /// The wires gave and took this many bytes. Where it was none, an event was stepped, or the transaction failed.
     Moved(u64),
     /// Each wire that the turn may use answered Wait, or nothing was due.
     Waiting,

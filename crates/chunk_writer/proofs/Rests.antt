@@ -2,7 +2,7 @@
 use Rattle.std.proofs.Common.{◌≡◌, ℕ, Bool, List, [], ◌++◌, refl, ap, sym, subst, ◌∙◌, append_assoc, append-nil}
 use Rattle.icap_chunks.specs.Grammar.{chunk_head, last_chunk, crlf}
 use Rattle.chunk_writer.specs.Behind.{IsBehind, WaitsBehind}
-use Rattle.chunk_writer.specs.Behind.IsBehind.{nothing, chunk_end, next_chunk, zero_chunk}
+use Rattle.chunk_writer.specs.Behind.IsBehind.{nothing, chunk_end, next_chunk, the_last_chunk}
 
 -- a part of what waited went out
 pub waits_passed : (HasBody : List ℕ → ℕ → Type 0) (fixed part waits old : List ℕ) → part ++ waits ≡ old → WaitsBehind HasBody fixed old → WaitsBehind HasBody fixed waits
@@ -32,4 +32,4 @@ pub waits_next : (HasBody : List ℕ → ℕ → Type 0) (text : List ℕ) (n : 
 waits_next HasBody text n h = record { body_text = text; out = []; fixed_is = refl; framing = next_chunk h n }
 
 pub waits_last : (HasBody : List ℕ → ℕ → Type 0) (text : List ℕ) (ieof : Bool) → HasBody text 0 → WaitsBehind HasBody (text ++ last_chunk ieof) (last_chunk ieof)
-waits_last HasBody text ieof h = record { body_text = text; out = []; fixed_is = refl; framing = zero_chunk h ieof }
+waits_last HasBody text ieof h = record { body_text = text; out = []; fixed_is = refl; framing = the_last_chunk h ieof }

@@ -9,7 +9,7 @@ pub data IsBehind (HasBody : List ℕ → ℕ → Type 0) : List ℕ → List �
   nothing : {text : List ℕ} {left : ℕ} → HasBody text left → IsBehind HasBody text []
   chunk_end : {text : List ℕ} → HasBody (text ++ crlf) 0 → IsBehind HasBody text crlf
   next_chunk : {text : List ℕ} → HasBody text 0 → (n : ℕ) → IsBehind HasBody text (chunk_head n)
-  zero_chunk : {text : List ℕ} → HasBody text 0 → (ieof : Bool) → IsBehind HasBody text (last_chunk ieof)
+  the_last_chunk : {text : List ℕ} → HasBody text 0 → (ieof : Bool) → IsBehind HasBody text (last_chunk ieof)
 
 -- What waits of a fixed text: all that has the body's bytes is out, and of the framing text after it a part.
 pub record WaitsBehind (HasBody : List ℕ → ℕ → Type 0) (fixed waits : List ℕ) : Type 0 where

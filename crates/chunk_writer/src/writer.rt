@@ -85,14 +85,14 @@ impl ChunkWriter {
         }
     }
 
-    /// Gives back the head's memory, once all of it is out.
+    /// Drops the head, once all of it is out: its memory is given back.
     #[tactic(auto, using(crate::proofs::Texts::some_left))]
-    pub fn release(&mut self)
+    pub fn drop_text(&mut self)
         ensures waiting { waiting self.new ≡ waiting self.old }
         ensures framing { self.new.framing ≡ self.old.framing }
         ensures left { self.new.left ≡ self.old.left }
         ensures head { (self.new.head ≡ self.old.head) ⊎ (self.new.head ≡ []) }
-        ensures released { self.old.head_out ≡ length self.old.head → self.new.head ≡ [] }
+        ensures dropped { self.old.head_out ≡ length self.old.head → self.new.head ≡ [] }
         ensures out { KeepsNoText self.new }
     {
         if self.head_out == self.head.as_slice().len() {

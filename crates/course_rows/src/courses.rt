@@ -50,8 +50,8 @@ fn put_next(out: &mut Vec<u8>, exchange: &Exchange) -> Result<(), NoMemory> {
 /// Adds the answer to a question.
 fn put_told(out: &mut Vec<u8>, question: &[u8], exchange: &Exchange) -> Result<(), NoMemory> {
     let course = exchange.course();
-    if says(question, b"place") {
-        put_shown(out, b"", &course.place)
+    if says(question, b"phase") {
+        put_shown(out, b"", &course.phase)
     } else if says(question, b"connection") {
         put_shown(out, b"", &course.connection)
     } else if says(question, b"marks") {

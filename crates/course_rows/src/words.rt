@@ -1,5 +1,5 @@
 //! The words of events.
-use exchange_core::{Event, Why};
+use exchange_core::{Event, RefusalCause};
 use test_rows::says;
 
 /// A word, and the event that it means.
@@ -139,27 +139,27 @@ pub const WORDS: [Word; COUNT] = [
     },
     Word {
         word: b"failed 400",
-        event: Event::Failed(Why::Faulty),
+        event: Event::Failed(RefusalCause::Faulty),
     },
     Word {
         word: b"failed 501",
-        event: Event::Failed(Why::Unserved),
+        event: Event::Failed(RefusalCause::Unserved),
     },
     Word {
         word: b"failed 502",
-        event: Event::Failed(Why::Elsewhere),
+        event: Event::Failed(RefusalCause::Elsewhere),
     },
     Word {
         word: b"failed 503",
-        event: Event::Failed(Why::Scarce),
+        event: Event::Failed(RefusalCause::Scarce),
     },
     Word {
         word: b"failed 504",
-        event: Event::Failed(Why::Deadline),
+        event: Event::Failed(RefusalCause::Deadline),
     },
     Word {
         word: b"failed stopping",
-        event: Event::Failed(Why::Stopping),
+        event: Event::Failed(RefusalCause::Stopping),
     },
     Word {
         word: b"closed",

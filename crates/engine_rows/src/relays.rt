@@ -96,13 +96,13 @@ fn forwarded(
             user: request,
             message: Message::Request(request),
             part: BodyKind::Own,
-            body_read: true,
+            carries_on: true,
         },
         (None, Some(response), Some(user)) => Forward {
             user,
             message: Message::Response(response),
             part: BodyKind::Own,
-            body_read: true,
+            carries_on: true,
         },
         _ => return Ok(None),
     };

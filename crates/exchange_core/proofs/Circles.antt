@@ -4,12 +4,12 @@ use Rattle.std.proofs.lemmas.Bool.Decides.{nat_tests}
 use Rattle.trace_core.specs.declared.history.Point.{Point}
 use Rattle.trace_core.specs.declared.history.Point.TheVariants.{Reqmod, Respmod}
 use Rattle.exchange_core.specs.declared.event.Event.{Event}
-use Rattle.exchange_core.specs.declared.event.Why.{Why}
+use Rattle.exchange_core.specs.declared.event.RefusalCause.{RefusalCause}
 use Rattle.exchange_core.specs.declared.event.Event.TheVariants.{HeadBegun, RequestRead, ResponseRead, Stale, Queued, Lent, Asked, Learned, Planned, Reserved, HalfTold, Stuck, Told, Dialed, Started, LetPass, Renewed, Served, Begun, Sent, Answered, Failed, Returned, Released, HungUp, Refused, UserClosed, UserLost, Dropped, Late, Drain, Stop, Tried}
 use Rattle.exchange_core.specs.declared.connection.Connection.{Connection}
 use Rattle.exchange_core.specs.declared.connection.Connection.TheVariants.{Absent, Ready, InUse, Spent}
-use Rattle.exchange_core.specs.declared.place.Place.{Place}
-use Rattle.exchange_core.specs.declared.place.Place.TheVariants.{Idle, Head, Planning, Asking, InQueue, Preparing, Telling, AtGate, Moving, Answer, Refusing, Closing, Gone}
+use Rattle.exchange_core.specs.declared.phase.Phase.{Phase}
+use Rattle.exchange_core.specs.declared.phase.Phase.TheVariants.{Idle, Head, Planning, Asking, InQueue, Preparing, Telling, AtGate, Moving, Answer, Refusing, Closing, Gone}
 use Rattle.exchange_core.specs.declared.course.Course.{Course}
 use Rattle.exchange_core.specs.Course.{after, late_from, renewed, is_in_use, is_reused}
 use Rattle.exchange_core.specs.May.{may_come, may_wait}
@@ -46,8 +46,8 @@ base Respmod told = 6
 base Reqmod true = 20
 base Reqmod false = 32
 
--- the places that are still ahead, counted down
-abbrev stage : Place → (asked told : Bool) → Connection → ℕ
+-- the phases that are still ahead, counted down
+abbrev stage : Phase → (asked told : Bool) → Connection → ℕ
 stage Gone asked told connection = 0
 stage Closing asked told connection = 1
 stage (Refusing why) asked told connection = 2
@@ -77,40 +77,40 @@ coming Spent = 1
 coming (Ready reused) = 3 + one_if reused
 coming (InUse reused) = 1 + one_if reused
 
-abbrev connection_left : Place → Connection → ℕ
+abbrev connection_left : Phase → Connection → ℕ
 connection_left (Asking point) connection = coming connection
 connection_left _ connection = going connection
 
 -- what a reservation or an origin's connection has ahead
-abbrev held_left : Place → Bool → ℕ
+abbrev held_left : Phase → Bool → ℕ
 held_left (Preparing point offered waits) held = one_if (not held)
 held_left _ held = one_if held
 
 abbrev aside : Course → ℕ
-aside c = connection_left c.place c.connection + (held_left c.place c.stake + (held_left c.place c.origin
+aside c = connection_left c.phase c.connection + (held_left c.phase c.stake + (held_left c.phase c.origin
     + (one_if (not c.begun) + (one_if (not c.half_told) + (one_if (not c.draining) + one_if (not c.stopping))))))
 
 abbrev stage_of : Course → ℕ
-stage_of c = stage c.place c.asked c.told c.connection
+stage_of c = stage c.phase c.asked c.told c.connection
 
 abbrev left : Course → ℕ
 left c = 12 * stage_of c + aside c
 
--- what is aside weighs less than a place
-connection_small : (place : Place) (connection : Connection) → connection_left place connection ≤ 5
-connection_small place connection = grind (arith, nat_tests)
+-- what is aside weighs less than a phase
+connection_small : (phase : Phase) (connection : Connection) → connection_left phase connection ≤ 5
+connection_small phase connection = grind (arith, nat_tests)
 
-held_small : (place : Place) (held : Bool) → held_left place held ≤ 1
-held_small place held = grind (arith, nat_tests)
+held_small : (phase : Phase) (held : Bool) → held_left phase held ≤ 1
+held_small phase held = grind (arith, nat_tests)
 
 one_small : (b : Bool) → one_if b ≤ 1
 one_small b = grind (arith, nat_tests)
 
 aside_small : (c : Course) → aside c ≤ 11
 aside_small c =
-    omega (arith, connection_small c.place c.connection, held_small c.place c.stake, held_small c.place c.origin, one_small (not c.begun), one_small (not c.half_told), one_small (not c.draining), one_small (not c.stopping))
+    omega (arith, connection_small c.phase c.connection, held_small c.phase c.stake, held_small c.phase c.origin, one_small (not c.begun), one_small (not c.half_told), one_small (not c.draining), one_small (not c.stopping))
 
--- an event that leads to a later place
+-- an event that leads to a later phase
 further : (c d : Course) → 1 + stage_of d ≤ stage_of c → 1 + left d ≤ left c
 further c d f = omega (arith, f, aside_small d)
 
@@ -147,10 +147,10 @@ started_stage c m = grind (arith, nat_tests)
 let_pass_stage : (c : Course) → may_come c LetPass ≡ true → 1 + stage_of (after c LetPass) ≤ stage_of c
 let_pass_stage c m = grind (arith, nat_tests)
 
-failed_stage : (c : Course) (why : Why) → may_come c (Failed why) ≡ true → 1 + stage_of (after c (Failed why)) ≤ stage_of c
+failed_stage : (c : Course) (why : RefusalCause) → may_come c (Failed why) ≡ true → 1 + stage_of (after c (Failed why)) ≤ stage_of c
 failed_stage c why m = grind (arith, nat_tests)
 
-late_at : (place : Place) (c : Course) → may_wait place ≡ true → 1 + stage (late_from place c) c.asked c.told c.connection ≤ stage place c.asked c.told c.connection
+late_at : (phase : Phase) (c : Course) → may_wait phase ≡ true → 1 + stage (late_from phase c) c.asked c.told c.connection ≤ stage phase c.asked c.told c.connection
 late_at Idle c w = grind (arith, nat_tests)
 late_at Head c w = grind (arith, nat_tests)
 late_at (Planning point) c w = grind (arith, nat_tests)
@@ -165,21 +165,21 @@ late_at (Refusing why) c w = grind (arith, nat_tests)
 late_at Closing c w = grind (arith, nat_tests)
 late_at Gone c w = grind (arith, nat_tests)
 
-late_waits : (c : Course) → may_come c Late ≡ true → may_wait c.place ≡ true
+late_waits : (c : Course) → may_come c Late ≡ true → may_wait c.phase ≡ true
 late_waits c m = grind (arith, nat_tests)
 
 late_stage : (c : Course) → may_come c Late ≡ true → 1 + stage_of (after c Late) ≤ stage_of c
-late_stage c m = late_at c.place c (late_waits c m)
+late_stage c m = late_at c.phase c (late_waits c m)
 
 -- a fresh connection leaves all but the connection
-renewed_level : (place : Place) (asked told : Bool) (connection : Connection) → stage place asked told (renewed connection) ≤ stage place asked told connection
-renewed_level place asked told Absent = omega arith
-renewed_level place asked told (Ready reused) = omega arith
-renewed_level place asked told (InUse reused) = grind (arith, nat_tests)
-renewed_level place asked told Spent = omega arith
+renewed_level : (phase : Phase) (asked told : Bool) (connection : Connection) → stage phase asked told (renewed connection) ≤ stage phase asked told connection
+renewed_level phase asked told Absent = omega arith
+renewed_level phase asked told (Ready reused) = omega arith
+renewed_level phase asked told (InUse reused) = grind (arith, nat_tests)
+renewed_level phase asked told Spent = omega arith
 
-renewed_connection : (place : Place) (connection : Connection) → is_in_use connection ≡ true → is_reused connection ≡ true → 1 + connection_left place (renewed connection) ≤ connection_left place connection
-renewed_connection place connection u r = grind (arith, nat_tests)
+renewed_connection : (phase : Phase) (connection : Connection) → is_in_use connection ≡ true → is_reused connection ≡ true → 1 + connection_left phase (renewed connection) ≤ connection_left phase connection
+renewed_connection phase connection u r = grind (arith, nat_tests)
 
 renewed_at : (c : Course) → may_come c Renewed ≡ true → (is_in_use c.connection ≡ true) × (is_reused c.connection ≡ true)
 renewed_at c m = grind (arith, nat_tests)
@@ -187,7 +187,7 @@ renewed_at c m = grind (arith, nat_tests)
 renewed_left : (c : Course) → may_come c Renewed ≡ true → 1 + left (after c Renewed) ≤ left c
 renewed_left c m =
     let h = renewed_at c m in
-    omega (arith, renewed_level c.place c.asked c.told c.connection, renewed_connection c.place c.connection h.0 h.1)
+    omega (arith, renewed_level c.phase c.asked c.told c.connection, renewed_connection c.phase c.connection h.0 h.1)
 
 left_step : (c : Course) (event : Event) → Sound c → may_come c event ≡ true → 1 + left (after c event) ≤ left c + 600 * one_if (is_request_read event)
 left_step c HeadBegun s m = grind (arith, nat_tests)

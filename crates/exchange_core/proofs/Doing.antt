@@ -4,7 +4,7 @@ use Rattle.std.proofs.lemmas.Bool.Decides.{nat_tests}
 use Rattle.exchange_core.specs.declared.event.Event.{Event}
 use Rattle.exchange_core.specs.declared.event.Event.TheVariants.{HeadBegun, RequestRead, ResponseRead, Stale, Queued, Lent, Asked, Learned, Planned, Reserved, HalfTold, Stuck, Told, Dialed, Started, LetPass, Renewed, Served, Begun, Sent, Answered, Failed, Returned, Released, HungUp, Refused, UserClosed, UserLost, Dropped, Late, Drain, Stop, Tried}
 use Rattle.exchange_core.specs.declared.due.Due.TheVariants.{Await, Start, Turn, ReadResponse}
-use Rattle.exchange_core.specs.declared.event.Why.{Why}
+use Rattle.exchange_core.specs.declared.event.RefusalCause.{RefusalCause}
 use Rattle.exchange_core.specs.declared.course.Course.{Course}
 use Rattle.exchange_core.specs.May.{is_refusing, is_gone, may_come, is_free}
 use Rattle.exchange_core.specs.Dues.{due_of, comes_of, fits, is_wait, is_for_message, is_for_user, is_for_leave}
@@ -76,7 +76,7 @@ starts_there c r d = starts_at c (sound_there c r) d
 pub turns_there : (c : Course) → IsReached c → due_of c ≡ Turn → (c.stake ≡ true) × (c.origin ≡ true)
 turns_there c r d = turns_at c (sound_there c r) d
 
-pub fails_there : (c : Course) (why : Why) → is_for_message (due_of c) ≡ true → may_come c (Failed why) ≡ true
+pub fails_there : (c : Course) (why : RefusalCause) → is_for_message (due_of c) ≡ true → may_come c (Failed why) ≡ true
 fails_there c why d = grind (arith, nat_tests)
 
 serves_at : (c : Course) → Sound c → is_for_user (due_of c) ≡ true → c.stopping ≡ false
@@ -106,5 +106,5 @@ leaves_there c r d = leaves_at c (sound_there c r) d
 pub hears_there : (c : Course) → IsReached c → due_of c ≡ ReadResponse → c.origin ≡ true
 hears_there c r d = hears_at c (sound_there c r) d
 
-pub stops_there : (c : Course) → IsReached c → c.stopping ≡ true → (is_refusing c.place || is_gone c.place) ≡ true
+pub stops_there : (c : Course) → IsReached c → c.stopping ≡ true → (is_refusing c.phase || is_gone c.phase) ≡ true
 stops_there c r = (sound_there c r).stopped

@@ -3,7 +3,7 @@ use Rattle.std.proofs.Common.{◌≡◌, ◌+◌, ◌≤◌, Bool, true, not, �
 use Rattle.std.proofs.lemmas.Bool.Decides.{nat_tests}
 use Rattle.exchange_core.specs.declared.event.Event.{Event}
 use Rattle.exchange_core.specs.declared.event.Event.TheVariants.{Answered, Drain}
-use Rattle.exchange_core.specs.declared.place.Place.TheVariants.{Closing}
+use Rattle.exchange_core.specs.declared.phase.Phase.TheVariants.{Closing}
 use Rattle.exchange_core.specs.declared.course.Course.{Course}
 use Rattle.exchange_core.specs.Course.{after}
 use Rattle.exchange_core.specs.May.{may_come, is_idle, is_head, is_moving}
@@ -13,7 +13,7 @@ use Rattle.exchange_core.proofs.Marks.{closes_stands}
 
 -- one more request may be read
 abbrev may_ask_more : Course → Bool
-may_ask_more c = is_idle c.place || (is_head c.place || (is_moving c.place && (c.begun && not c.closes)))
+may_ask_more c = is_idle c.phase || (is_head c.phase || (is_moving c.phase && (c.begun && not c.closes)))
 
 one_step : (c : Course) (event : Event) → Sound c → c.draining ≡ true → may_come c event ≡ true
     → one_if (is_request_read event) + one_if (may_ask_more (after c event)) ≤ one_if (may_ask_more c)
@@ -38,9 +38,9 @@ one b = grind (arith, nat_tests)
 pub one_more : (more events : List Event) → IsLegal (more ++ Drain ∷ events) → count is_request_read more ≤ 1
 one_more more events l = omega (arith, one_room more events l, one (may_ask_more (course_of (Drain ∷ events))))
 
-closes_at : (c : Course) (keeps : Bool) → c.closes ≡ true → (after c (Answered keeps)).place ≡ Closing
+closes_at : (c : Course) (keeps : Bool) → c.closes ≡ true → (after c (Answered keeps)).phase ≡ Closing
 closes_at c keeps d = grind (arith, nat_tests)
 
 pub closes : (events : List Event) (keeps : Bool) → IsLegal (Answered keeps ∷ events)
-    → is_last_answer events ≡ true → (course_of (Answered keeps ∷ events)).place ≡ Closing
+    → is_last_answer events ≡ true → (course_of (Answered keeps ∷ events)).phase ≡ Closing
 closes events keeps l d = closes_at (course_of events) keeps (closes_stands events ∙ d)

@@ -3,10 +3,10 @@ use Rattle.std.proofs.Common.{◌≡◌, ℕ, ◌+◌, ◌≤◌, Bool, true, fa
 use Rattle.std.proofs.lemmas.Bool.Decides.{nat_tests}
 use Rattle.exchange_core.specs.declared.event.Event.{Event}
 use Rattle.exchange_core.specs.declared.event.Event.TheVariants.{Failed, UserLost, Late, Stop}
-use Rattle.exchange_core.specs.declared.event.Why.TheVariants.{Deadline}
+use Rattle.exchange_core.specs.declared.event.RefusalCause.TheVariants.{Deadline}
 use Rattle.exchange_core.specs.declared.course.Course.{Course}
-use Rattle.exchange_core.specs.declared.place.Place.{Place}
-use Rattle.exchange_core.specs.declared.place.Place.TheVariants.{Gone}
+use Rattle.exchange_core.specs.declared.phase.Phase.{Phase}
+use Rattle.exchange_core.specs.declared.phase.Phase.TheVariants.{Gone}
 use Rattle.exchange_core.specs.Course.{after}
 use Rattle.exchange_core.specs.May.{may_come, is_refusing, is_gone}
 use Rattle.exchange_core.specs.Dues.{due_of, is_wait, is_for_leave}
@@ -18,11 +18,11 @@ use Rattle.exchange_core.proofs.Marks.{stopping_stands}
 pub late_fails : (c : Course) → is_wait (due_of c) ≡ true → is_for_leave (due_of c) ≡ false → after c Late ≡ after c (Failed Deadline)
 late_fails c w l = grind (arith, nat_tests)
 
-pub late_lets_go : (c : Course) → is_for_leave (due_of c) ≡ true → (after c Late).place ≡ Gone
+pub late_lets_go : (c : Course) → is_for_leave (due_of c) ≡ true → (after c Late).phase ≡ Gone
 late_lets_go c l = grind (arith, nat_tests)
 
 failing_step : (c : Course) (event : Event) → may_come c event ≡ true → is_quiet event ≡ true
-    → one_if (is_failing event) + failures_from (after c event).place ≤ failures_from c.place
+    → one_if (is_failing event) + failures_from (after c event).phase ≤ failures_from c.phase
 failing_step c event m q = grind (arith, nat_tests)
 
 free_step : (c : Course) (event : Event) → may_come c event ≡ true → is_quiet event ≡ true
@@ -30,7 +30,7 @@ free_step : (c : Course) (event : Event) → may_come c event ≡ true → is_qu
 free_step c event m q = grind (arith, nat_tests)
 
 pub failures_fall : (more events : List Event) → IsLegal (more ++ events) → AllAre is_quiet more
-    → count is_failing more + failures_from (course_of (more ++ events)).place ≤ failures_from (course_of events).place
+    → count is_failing more + failures_from (course_of (more ++ events)).phase ≤ failures_from (course_of events).phase
 failures_fall [] events l q = omega arith
 failures_fall (event ∷ more) events l q =
     omega (arith, failing_step (course_of (more ++ events)) event l.0 q.0, failures_fall more events l.1 q.1)
@@ -41,21 +41,21 @@ frees [] events l q = omega arith
 frees (event ∷ more) events l q =
     omega (arith, free_step (course_of (more ++ events)) event l.0 q.0, frees more events l.1 q.1)
 
-two : (place : Place) → failures_from place ≤ 2
-two place = grind (arith, nat_tests)
+two : (phase : Phase) → failures_from phase ≤ 2
+two phase = grind (arith, nat_tests)
 
 three : (c : Course) → held_by c ≤ 3
 three c = grind (arith, nat_tests)
 
 pub few_failures : (more events : List Event) → IsLegal (more ++ events) → AllAre is_quiet more → count is_failing more ≤ 2
-few_failures more events l q = omega (arith, failures_fall more events l q, two (course_of events).place)
+few_failures more events l q = omega (arith, failures_fall more events l q, two (course_of events).phase)
 
 pub few_quiet : (more events : List Event) → IsLegal (more ++ events) → AllAre is_quiet more → length more ≤ 5
 few_quiet more events l q = omega (arith, few_failures more events l q, frees more events l q, three (course_of events))
 
 -- what is left once the proxy stops
 abbrev left : Course → ℕ
-left c = one_if (is_refusing c.place) + held_by c
+left c = one_if (is_refusing c.phase) + held_by c
 
 last_step : (c : Course) (event : Event) → Sound c → c.stopping ≡ true → may_come c event ≡ true → is_last event ≡ true
 last_step c event s p m = grind (arith, nat_tests)
@@ -89,39 +89,39 @@ one b = grind (arith, nat_tests)
 
 pub few_last : (more events : List Event) → IsLegal (more ++ Stop ∷ events) → length more ≤ 4
 few_last more events l =
-    omega (arith, left_falls more events l, three (course_of (Stop ∷ events)), one (is_refusing (course_of (Stop ∷ events)).place))
+    omega (arith, left_falls more events l, three (course_of (Stop ∷ events)), one (is_refusing (course_of (Stop ∷ events)).phase))
 
 -- after a user's connection is over
-gone_step : (c : Course) (event : Event) → may_come c event ≡ true → is_gone c.place ≡ true → is_freeing event ≡ true
+gone_step : (c : Course) (event : Event) → may_come c event ≡ true → is_gone c.phase ≡ true → is_freeing event ≡ true
 gone_step c event m g = grind (arith, nat_tests)
 
-gone_stays_at : (c : Course) (event : Event) → may_come c event ≡ true → is_gone c.place ≡ true → is_gone (after c event).place ≡ true
+gone_stays_at : (c : Course) (event : Event) → may_come c event ≡ true → is_gone c.phase ≡ true → is_gone (after c event).phase ≡ true
 gone_stays_at c event m g = grind (arith, nat_tests)
 
-gone_frees : (c : Course) (event : Event) → may_come c event ≡ true → is_gone c.place ≡ true → 1 + held_by (after c event) ≤ held_by c
+gone_frees : (c : Course) (event : Event) → may_come c event ≡ true → is_gone c.phase ≡ true → 1 + held_by (after c event) ≤ held_by c
 gone_frees c event m g = grind (arith, nat_tests)
 
-gone_stays : (more events : List Event) → IsLegal (more ++ events) → is_gone (course_of events).place ≡ true → is_gone (course_of (more ++ events)).place ≡ true
+gone_stays : (more events : List Event) → IsLegal (more ++ events) → is_gone (course_of events).phase ≡ true → is_gone (course_of (more ++ events)).phase ≡ true
 gone_stays [] events l g = g
 gone_stays (event ∷ more) events l g = gone_stays_at (course_of (more ++ events)) event l.0 (gone_stays more events l.1 g)
 
-pub only_frees : (more events : List Event) → IsLegal (more ++ events) → is_gone (course_of events).place ≡ true → AllAre is_freeing more
+pub only_frees : (more events : List Event) → IsLegal (more ++ events) → is_gone (course_of events).phase ≡ true → AllAre is_freeing more
 only_frees [] events l g = tt
 only_frees (event ∷ more) events l g =
     (gone_step (course_of (more ++ events)) event l.0 (gone_stays more events l.1 g), only_frees more events l.1 g)
 
-held_falls : (more events : List Event) → IsLegal (more ++ events) → is_gone (course_of events).place ≡ true
+held_falls : (more events : List Event) → IsLegal (more ++ events) → is_gone (course_of events).phase ≡ true
     → length more + held_by (course_of (more ++ events)) ≤ held_by (course_of events)
 held_falls [] events l g = omega arith
 held_falls (event ∷ more) events l g =
     omega (arith, gone_frees (course_of (more ++ events)) event l.0 (gone_stays more events l.1 g), held_falls more events l.1 g)
 
-pub few_after_gone : (more events : List Event) → IsLegal (more ++ events) → is_gone (course_of events).place ≡ true → length more ≤ 3
+pub few_after_gone : (more events : List Event) → IsLegal (more ++ events) → is_gone (course_of events).phase ≡ true → length more ≤ 3
 few_after_gone more events l g = omega (arith, held_falls more events l g, three (course_of events))
 
-lost_at : (c : Course) → is_gone c.place ≡ false → c.stopping ≡ false → may_come c UserLost ≡ true
+lost_at : (c : Course) → is_gone c.phase ≡ false → c.stopping ≡ false → may_come c UserLost ≡ true
 lost_at c g p = grind (arith, nat_tests)
 
-pub lost_at_once : (events : List Event) → IsLegal events → is_gone (course_of events).place ≡ false
+pub lost_at_once : (events : List Event) → IsLegal events → is_gone (course_of events).phase ≡ false
     → stands is_stop never events ≡ false → may_come (course_of events) UserLost ≡ true
 lost_at_once events l g p = lost_at (course_of events) g (stopping_stands events ∙ p)

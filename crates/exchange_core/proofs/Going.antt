@@ -20,7 +20,7 @@ nothing_means_over c d = grind (arith, nat_tests)
 
 -- one thing that may come of it
 abbrev outcome : Due → Course → Event
-outcome ReadRequest c = if is_idle c.place then happens.HeadBegun else happens.RequestRead
+outcome ReadRequest c = if is_idle c.phase then happens.HeadBegun else happens.RequestRead
 outcome Plan c = happens.Planned false false
 outcome Lend c = happens.Lent false
 outcome Await c = happens.Lent false
@@ -35,7 +35,7 @@ outcome AskGate c = happens.LetPass
 outcome Turn c =
     if is_in_use c.connection then happens.Served true
     else (if c.begun then happens.Answered false
-    else (if is_request (point_of c.place) then happens.Sent else happens.Begun))
+    else (if is_request (point_of c.phase) then happens.Sent else happens.Begun))
 outcome ReadResponse c = happens.ResponseRead
 outcome GiveBack c = happens.Returned false
 outcome Release c = happens.Released
@@ -69,8 +69,8 @@ wait_has_deadline events l w = waits_late (course_of events) (sound events l) w
 pub user_holds_nothing : (c : Course) → is_wait_for_user (due_of c) ≡ true → holds_nothing c ≡ true
 user_holds_nothing c w = grind (arith, nat_tests)
 
-queue_at : (c : Course) → Sound c → is_in_queue c.place ≡ true → is_free c ≡ true
+queue_at : (c : Course) → Sound c → is_in_queue c.phase ≡ true → is_free c ≡ true
 queue_at c s q = s.queues q
 
-pub queue_is_free : (events : List Event) → IsLegal events → is_in_queue (course_of events).place ≡ true → is_free (course_of events) ≡ true
+pub queue_is_free : (events : List Event) → IsLegal events → is_in_queue (course_of events).phase ≡ true → is_free (course_of events) ≡ true
 queue_is_free events l q = queue_at (course_of events) (sound events l) q

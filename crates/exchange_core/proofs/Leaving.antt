@@ -2,7 +2,7 @@
 use Rattle.std.proofs.Common.{◌≡◌, ◌+◌, ◌≤◌, true, false, not, List, [], ◌∷◌, ◌++◌, sym, ◌∙◌, arith}
 use Rattle.std.proofs.lemmas.Bool.Decides.{nat_tests}
 use Rattle.exchange_core.specs.declared.event.Event.{Event}
-use Rattle.exchange_core.specs.declared.event.Why.{Why}
+use Rattle.exchange_core.specs.declared.event.RefusalCause.{RefusalCause}
 use Rattle.exchange_core.specs.declared.course.Course.{Course}
 use Rattle.exchange_core.specs.Course.{after}
 use Rattle.exchange_core.specs.May.{may_come, is_refusing}
@@ -10,48 +10,48 @@ use Rattle.exchange_core.specs.Log.{course_of, IsLegal, AllAre, count, one_if, i
 use Rattle.exchange_core.proofs.Sound.{Sound, sound}
 use Rattle.exchange_core.proofs.Marks.{begun_stands, half_told_stands}
 
-untouched_at : (c : Course) → Sound c → is_refusing c.place ≡ true → c.begun ≡ false
+untouched_at : (c : Course) → Sound c → is_refusing c.phase ≡ true → c.begun ≡ false
 untouched_at c s r = grind (arith, nat_tests)
 
-pub untouched : (events : List Event) → IsLegal events → is_refusing (course_of events).place ≡ true → has_begun events ≡ false
+pub untouched : (events : List Event) → IsLegal events → is_refusing (course_of events).phase ≡ true → has_begun events ≡ false
 untouched events l r = sym (begun_stands events) ∙ untouched_at (course_of events) (sound events l) r
 
-whole_at : (c : Course) → Sound c → is_refusing c.place ≡ true → c.half_told ≡ false
+whole_at : (c : Course) → Sound c → is_refusing c.phase ≡ true → c.half_told ≡ false
 whole_at c s r = grind (arith, nat_tests)
 
-pub whole : (events : List Event) → IsLegal events → is_refusing (course_of events).place ≡ true → is_half_out events ≡ false
+pub whole : (events : List Event) → IsLegal events → is_refusing (course_of events).phase ≡ true → is_half_out events ≡ false
 whole events l r = sym (half_told_stands events) ∙ whole_at (course_of events) (sound events l) r
 
-parting_step : (c : Course) (event : Event) → may_come c event ≡ true → is_leaving c.place ≡ true → is_parting event ≡ true
+parting_step : (c : Course) (event : Event) → may_come c event ≡ true → is_leaving c.phase ≡ true → is_parting event ≡ true
 parting_step c event m v = grind (arith, nat_tests)
 
-leaving_step : (c : Course) (event : Event) → may_come c event ≡ true → is_leaving c.place ≡ true → is_leaving (after c event).place ≡ true
+leaving_step : (c : Course) (event : Event) → may_come c event ≡ true → is_leaving c.phase ≡ true → is_leaving (after c event).phase ≡ true
 leaving_step c event m v = grind (arith, nat_tests)
 
-pub leaving_stays : (more events : List Event) → IsLegal (more ++ events) → is_leaving (course_of events).place ≡ true → is_leaving (course_of (more ++ events)).place ≡ true
+pub leaving_stays : (more events : List Event) → IsLegal (more ++ events) → is_leaving (course_of events).phase ≡ true → is_leaving (course_of (more ++ events)).phase ≡ true
 leaving_stays [] events l v = v
 leaving_stays (event ∷ more) events l v = leaving_step (course_of (more ++ events)) event l.0 (leaving_stays more events l.1 v)
 
-pub parting : (more events : List Event) → IsLegal (more ++ events) → is_leaving (course_of events).place ≡ true → AllAre is_parting more
+pub parting : (more events : List Event) → IsLegal (more ++ events) → is_leaving (course_of events).phase ≡ true → AllAre is_parting more
 parting [] events l v = tt
 parting (event ∷ more) events l v =
     (parting_step (course_of (more ++ events)) event l.0 (leaving_stays more events l.1 v), parting more events l.1 v)
 
-silent_step : (c : Course) (event : Event) → may_come c event ≡ true → is_silent c.place ≡ true → is_silent (after c event).place ≡ true
+silent_step : (c : Course) (event : Event) → may_come c event ≡ true → is_silent c.phase ≡ true → is_silent (after c event).phase ≡ true
 silent_step c event m v = grind (arith, nat_tests)
 
-keeps_to_step : (c : Course) (event : Event) (why : Why) → may_come c event ≡ true → KeepsTo why c.place → KeepsTo why (after c event).place
+keeps_to_step : (c : Course) (event : Event) (why : RefusalCause) → may_come c event ≡ true → KeepsTo why c.phase → KeepsTo why (after c event).phase
 keeps_to_step c event why m b = grind (arith, nat_tests)
 
-pub keeps_to : (more events : List Event) (why : Why) → IsLegal (more ++ events) → KeepsTo why (course_of events).place → KeepsTo why (course_of (more ++ events)).place
+pub keeps_to : (more events : List Event) (why : RefusalCause) → IsLegal (more ++ events) → KeepsTo why (course_of events).phase → KeepsTo why (course_of (more ++ events)).phase
 keeps_to [] events why l b = b
 keeps_to (event ∷ more) events why l b = keeps_to_step (course_of (more ++ events)) event why l.0 (keeps_to more events why l.1 b)
 
 refused_step : (c : Course) (event : Event) → may_come c event ≡ true
-    → one_if (is_refused event) + one_if (not (is_silent (after c event).place)) ≤ one_if (not (is_silent c.place))
+    → one_if (is_refused event) + one_if (not (is_silent (after c event).phase)) ≤ one_if (not (is_silent c.phase))
 refused_step c event m = grind (arith, nat_tests)
 
-refused_room : (events : List Event) → IsLegal events → count is_refused events + one_if (not (is_silent (course_of events).place)) ≤ 1
+refused_room : (events : List Event) → IsLegal events → count is_refused events + one_if (not (is_silent (course_of events).phase)) ≤ 1
 refused_room [] l = omega arith
 refused_room (event ∷ before) l = omega (arith, refused_step (course_of before) event l.0, refused_room before l.1)
 

@@ -12,7 +12,7 @@ use Rattle.exchange_core.proofs.Marks.{begun_stands}
 
 -- a request goes on whose user wasn't told yet
 abbrev may_be_told : Course → Bool
-may_be_told c = not c.told && not (is_idle c.place || (is_head c.place || is_leaving c.place))
+may_be_told c = not c.told && not (is_idle c.phase || (is_head c.phase || is_leaving c.phase))
 
 told_step : (c : Course) (event : Event) → may_come c event ≡ true
     → one_if (is_told event) + one_if (may_be_told (after c event)) ≤ one_if (is_request_read event) + one_if (may_be_told c)
@@ -28,7 +28,7 @@ told_once events l = omega (arith, told_room events l)
 -- a message is to be planned for which its service wasn't asked
 abbrev may_ask : Course → Bool
 may_ask c = not c.asked
-    && (is_planning c.place || (is_preparing c.place || (is_telling c.place || (is_in_queue c.place || (is_asking c.place && not (is_in_use c.connection))))))
+    && (is_planning c.phase || (is_preparing c.phase || (is_telling c.phase || (is_in_queue c.phase || (is_asking c.phase && not (is_in_use c.connection))))))
 
 asked_step : (c : Course) (event : Event) → Sound c → may_come c event ≡ true
     → one_if (is_asked event) + one_if (may_ask (after c event)) ≤ one_if (is_message_read event) + one_if (may_ask c)
@@ -49,8 +49,8 @@ told_before_answer events l = sym (begun_stands events) ∙ told_at (course_of e
 
 -- a user is told once a reservation was made for its request
 abbrev has_room : Course → Bool
-has_room c = is_telling c.place
-    || ((is_planning c.place || (is_asking c.place || (is_in_queue c.place || is_preparing c.place))) && c.stake)
+has_room c = is_telling c.phase
+    || ((is_planning c.phase || (is_asking c.phase || (is_in_queue c.phase || is_preparing c.phase))) && c.stake)
 
 room_step : (c : Course) (made : Bool) (event : Event) → may_come c event ≡ true → (has_room c ≡ true → made ≡ true)
     → has_room (after c event) ≡ true → (is_reserved event || (not (is_request_read event) && made)) ≡ true

@@ -10,30 +10,30 @@ use Rattle.exchange_core.specs.Log.{course_of, IsLegal, has_served, usable_after
 
 -- at the gate the connection is ready; after it either the service still has to say something, or it has said all
 pub record Serves (c : Course) (served : Bool) : Type 0 where
-  pub gate : is_at_gate c.place ≡ true → is_offered c.place ≡ true → is_ready c.connection ≡ true
-  pub rest : is_moving c.place ≡ true → is_leased c.connection ≡ true → is_in_use c.connection ≡ false → served ≡ true
-  pub quiet : is_moving c.place ≡ true → is_offered c.place ≡ true → is_in_use c.connection ≡ false → served ≡ true
-  pub plain : is_moving c.place ≡ true → is_offered c.place ≡ false → is_leased c.connection ≡ false
-  pub plain_gate : is_at_gate c.place ≡ true → is_offered c.place ≡ false → is_leased c.connection ≡ false
+  pub gate : is_at_gate c.phase ≡ true → is_offered c.phase ≡ true → is_ready c.connection ≡ true
+  pub rest : is_moving c.phase ≡ true → is_leased c.connection ≡ true → is_in_use c.connection ≡ false → served ≡ true
+  pub quiet : is_moving c.phase ≡ true → is_offered c.phase ≡ true → is_in_use c.connection ≡ false → served ≡ true
+  pub plain : is_moving c.phase ≡ true → is_offered c.phase ≡ false → is_leased c.connection ≡ false
+  pub plain_gate : is_at_gate c.phase ≡ true → is_offered c.phase ≡ false → is_leased c.connection ≡ false
 
 gate_step : (c : Course) (before : List Event) (event : Event) → Serves c (has_served before) → may_come c event ≡ true
-    → is_at_gate (after c event).place ≡ true → is_offered (after c event).place ≡ true → is_ready (after c event).connection ≡ true
+    → is_at_gate (after c event).phase ≡ true → is_offered (after c event).phase ≡ true → is_ready (after c event).connection ≡ true
 gate_step c before event s m = grind (arith, nat_tests)
 
 rest_step : (c : Course) (before : List Event) (event : Event) → Serves c (has_served before) → may_come c event ≡ true
-    → is_moving (after c event).place ≡ true → is_leased (after c event).connection ≡ true → is_in_use (after c event).connection ≡ false → has_served (event ∷ before) ≡ true
+    → is_moving (after c event).phase ≡ true → is_leased (after c event).connection ≡ true → is_in_use (after c event).connection ≡ false → has_served (event ∷ before) ≡ true
 rest_step c before event s m = grind (arith, nat_tests)
 
 quiet_step : (c : Course) (before : List Event) (event : Event) → Serves c (has_served before) → may_come c event ≡ true
-    → is_moving (after c event).place ≡ true → is_offered (after c event).place ≡ true → is_in_use (after c event).connection ≡ false → has_served (event ∷ before) ≡ true
+    → is_moving (after c event).phase ≡ true → is_offered (after c event).phase ≡ true → is_in_use (after c event).connection ≡ false → has_served (event ∷ before) ≡ true
 quiet_step c before event s m = grind (arith, nat_tests)
 
 plain_step : (c : Course) (before : List Event) (event : Event) → Serves c (has_served before) → may_come c event ≡ true
-    → is_moving (after c event).place ≡ true → is_offered (after c event).place ≡ false → is_leased (after c event).connection ≡ false
+    → is_moving (after c event).phase ≡ true → is_offered (after c event).phase ≡ false → is_leased (after c event).connection ≡ false
 plain_step c before event s m = grind (arith, nat_tests)
 
 plain_gate_step : (c : Course) (before : List Event) (event : Event) → Serves c (has_served before) → may_come c event ≡ true
-    → is_at_gate (after c event).place ≡ true → is_offered (after c event).place ≡ false → is_leased (after c event).connection ≡ false
+    → is_at_gate (after c event).phase ≡ true → is_offered (after c event).phase ≡ false → is_leased (after c event).connection ≡ false
 plain_gate_step c before event s m = grind (arith, nat_tests)
 
 pub serves : (events : List Event) → IsLegal events → Serves (course_of events) (has_served events)
@@ -53,12 +53,12 @@ serves (event ∷ before) l =
       plain_gate = plain_gate_step (course_of before) before event s l.0;
     }
 
-returned_at : (c : Course) (served kept : Bool) → Serves c served → may_come c (Returned kept) ≡ true → is_moving c.place ≡ true → served ≡ true
+returned_at : (c : Course) (served kept : Bool) → Serves c served → may_come c (Returned kept) ≡ true → is_moving c.phase ≡ true → served ≡ true
 returned_at c served kept s m v = grind (arith, nat_tests)
 
 -- a connection goes back in the midst of a message only once the service has said all
 pub returned_once_served : (events : List Event) (kept : Bool) → IsLegal (Returned kept ∷ events)
-    → is_moving (course_of events).place ≡ true → has_served events ≡ true
+    → is_moving (course_of events).phase ≡ true → has_served events ≡ true
 returned_once_served events kept l v = returned_at (course_of events) (has_served events) kept (serves events l.1) l.0 v
 
 pub kept_if_ready : (c : Course) → may_come c (Returned true) ≡ true → is_ready c.connection ≡ true
@@ -77,10 +77,10 @@ pub kept_if_usable : (events : List Event) → IsLegal (Returned true ∷ events
 kept_if_usable events l = usable_at events l.1 (kept_if_ready (course_of events) l.0)
 
 out_at : (c : Course) (served : Bool) (event : Event) → Serves c served → may_come c event ≡ true → is_out event ≡ true
-    → is_offered c.place ≡ true → served ≡ true
+    → is_offered c.phase ≡ true → served ≡ true
 out_at c served event s m o f = grind (arith, nat_tests)
 
 -- an offered message is out only once the service has said all
 pub out_once_served : (events : List Event) (event : Event) → IsLegal (event ∷ events) → is_out event ≡ true
-    → is_offered (course_of events).place ≡ true → has_served events ≡ true
+    → is_offered (course_of events).phase ≡ true → has_served events ≡ true
 out_once_served events event l o f = out_at (course_of events) (has_served events) event (serves events l.1) l.0 o f

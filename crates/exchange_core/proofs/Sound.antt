@@ -9,92 +9,92 @@ use Rattle.exchange_core.specs.Log.{course_of, IsLegal, is_leaving, is_silent}
 
 pub record Sound (c : Course) : Type 0 where
   -- a byte of an answer is out only while the answer goes on, or after the end
-  pub begun : c.begun ≡ true → (is_moving c.place || is_silent c.place) ≡ true
+  pub begun : c.begun ≡ true → (is_moving c.phase || is_silent c.phase) ≡ true
   -- a request to the service is under way where one is asked or offered something, or after a failure
-  pub talks : is_in_use c.connection ≡ true → (is_asking c.place || (is_moving c.place || is_leaving c.place)) ≡ true
+  pub talks : is_in_use c.connection ≡ true → (is_asking c.phase || (is_moving c.phase || is_leaving c.phase)) ≡ true
   -- a connection that may not serve again isn't used
-  pub spends : is_spent c.connection ≡ true → (is_asking c.place || (is_in_queue c.place || (is_preparing c.place || is_at_gate c.place))) ≡ false
+  pub spends : is_spent c.connection ≡ true → (is_asking c.phase || (is_in_queue c.phase || (is_preparing c.phase || is_at_gate c.phase))) ≡ false
   -- the origin is there
-  pub responds : is_request (point_of c.place) ≡ false → c.origin ≡ true
-  pub moves : (is_at_gate c.place || (is_moving c.place || is_answer c.place)) ≡ true → c.origin ≡ true
+  pub responds : is_request (point_of c.phase) ≡ false → c.origin ≡ true
+  pub moves : (is_at_gate c.phase || (is_moving c.phase || is_answer c.phase)) ≡ true → c.origin ≡ true
   -- and the reservation
-  pub staked : (is_at_gate c.place || is_moving c.place) ≡ true → c.stake ≡ true
+  pub staked : (is_at_gate c.phase || is_moving c.phase) ≡ true → c.stake ≡ true
   -- only a request's user waits to be told
-  pub waits : waits_of c.place ≡ true → is_request (point_of c.place) ≡ true
-  pub untold : is_telling c.place ≡ true → c.told ≡ false
+  pub waits : waits_of c.phase ≡ true → is_request (point_of c.phase) ≡ true
+  pub untold : is_telling c.phase ≡ true → c.told ≡ false
   -- half of the text is out only while the rest waits, or after the end
-  pub half : c.half_told ≡ true → (is_silent c.place || (not c.told && (is_telling c.place || (waits_of c.place && is_provided c)))) ≡ true
+  pub half : c.half_told ≡ true → (is_silent c.phase || (not c.told && (is_telling c.phase || (waits_of c.phase && is_provided c)))) ≡ true
   -- a service is asked only before it has said its options
-  pub asks : is_asking c.place ≡ true → c.asked ≡ false
+  pub asks : is_asking c.phase ≡ true → c.asked ≡ false
   -- the origin isn't opened while a request is planned, or while its user waits
-  pub plans_first : is_request (point_of c.place) ≡ true → (is_planning c.place || (is_asking c.place || is_in_queue c.place)) ≡ true → c.origin ≡ false
-  pub tells_first : waits_of c.place ≡ true → c.told ≡ false → c.origin ≡ false
-  pub tells_alone : is_telling c.place ≡ true → c.origin ≡ false
+  pub plans_first : is_request (point_of c.phase) ≡ true → (is_planning c.phase || (is_asking c.phase || is_in_queue c.phase)) ≡ true → c.origin ≡ false
+  pub tells_first : waits_of c.phase ≡ true → c.told ≡ false → c.origin ≡ false
+  pub tells_alone : is_telling c.phase ≡ true → c.origin ≡ false
   -- who waits in the queue holds nothing else
-  pub queues : is_in_queue c.place ≡ true → is_free c ≡ true
-  pub stopped : c.stopping ≡ true → (is_refusing c.place || is_gone c.place) ≡ true
+  pub queues : is_in_queue c.phase ≡ true → is_free c ≡ true
+  pub stopped : c.stopping ≡ true → (is_refusing c.phase || is_gone c.phase) ≡ true
 
 begun_step : (c : Course) (event : Event) → Sound c → may_come c event ≡ true
-    → (after c event).begun ≡ true → (is_moving (after c event).place || is_silent (after c event).place) ≡ true
+    → (after c event).begun ≡ true → (is_moving (after c event).phase || is_silent (after c event).phase) ≡ true
 begun_step c event s m = grind (arith, nat_tests)
 
 talks_step : (c : Course) (event : Event) → Sound c → may_come c event ≡ true
-    → is_in_use (after c event).connection ≡ true → (is_asking (after c event).place || (is_moving (after c event).place || is_leaving (after c event).place)) ≡ true
+    → is_in_use (after c event).connection ≡ true → (is_asking (after c event).phase || (is_moving (after c event).phase || is_leaving (after c event).phase)) ≡ true
 talks_step c event s m = grind (arith, nat_tests)
 
 spends_step : (c : Course) (event : Event) → Sound c → may_come c event ≡ true
     → is_spent (after c event).connection ≡ true
-    → (is_asking (after c event).place || (is_in_queue (after c event).place || (is_preparing (after c event).place || is_at_gate (after c event).place))) ≡ false
+    → (is_asking (after c event).phase || (is_in_queue (after c event).phase || (is_preparing (after c event).phase || is_at_gate (after c event).phase))) ≡ false
 spends_step c event s m = grind (arith, nat_tests)
 
 responds_step : (c : Course) (event : Event) → Sound c → may_come c event ≡ true
-    → is_request (point_of (after c event).place) ≡ false → (after c event).origin ≡ true
+    → is_request (point_of (after c event).phase) ≡ false → (after c event).origin ≡ true
 responds_step c event s m = grind (arith, nat_tests)
 
 moves_step : (c : Course) (event : Event) → Sound c → may_come c event ≡ true
-    → (is_at_gate (after c event).place || (is_moving (after c event).place || is_answer (after c event).place)) ≡ true → (after c event).origin ≡ true
+    → (is_at_gate (after c event).phase || (is_moving (after c event).phase || is_answer (after c event).phase)) ≡ true → (after c event).origin ≡ true
 moves_step c event s m = grind (arith, nat_tests)
 
 staked_step : (c : Course) (event : Event) → Sound c → may_come c event ≡ true
-    → (is_at_gate (after c event).place || is_moving (after c event).place) ≡ true → (after c event).stake ≡ true
+    → (is_at_gate (after c event).phase || is_moving (after c event).phase) ≡ true → (after c event).stake ≡ true
 staked_step c event s m = grind (arith, nat_tests)
 
 waits_step : (c : Course) (event : Event) → Sound c → may_come c event ≡ true
-    → waits_of (after c event).place ≡ true → is_request (point_of (after c event).place) ≡ true
+    → waits_of (after c event).phase ≡ true → is_request (point_of (after c event).phase) ≡ true
 waits_step c event s m = grind (arith, nat_tests)
 
 untold_step : (c : Course) (event : Event) → Sound c → may_come c event ≡ true
-    → is_telling (after c event).place ≡ true → (after c event).told ≡ false
+    → is_telling (after c event).phase ≡ true → (after c event).told ≡ false
 untold_step c event s m = grind (arith, nat_tests)
 
 half_step : (c : Course) (event : Event) → Sound c → may_come c event ≡ true
     → (after c event).half_told ≡ true
-    → (is_silent (after c event).place || (not (after c event).told && (is_telling (after c event).place || (waits_of (after c event).place && is_provided (after c event))))) ≡ true
+    → (is_silent (after c event).phase || (not (after c event).told && (is_telling (after c event).phase || (waits_of (after c event).phase && is_provided (after c event))))) ≡ true
 half_step c event s m = grind (arith, nat_tests)
 
 asks_step : (c : Course) (event : Event) → Sound c → may_come c event ≡ true
-    → is_asking (after c event).place ≡ true → (after c event).asked ≡ false
+    → is_asking (after c event).phase ≡ true → (after c event).asked ≡ false
 asks_step c event s m = grind (arith, nat_tests)
 
 plans_first_step : (c : Course) (event : Event) → Sound c → may_come c event ≡ true
-    → is_request (point_of (after c event).place) ≡ true
-    → (is_planning (after c event).place || (is_asking (after c event).place || is_in_queue (after c event).place)) ≡ true → (after c event).origin ≡ false
+    → is_request (point_of (after c event).phase) ≡ true
+    → (is_planning (after c event).phase || (is_asking (after c event).phase || is_in_queue (after c event).phase)) ≡ true → (after c event).origin ≡ false
 plans_first_step c event s m = grind (arith, nat_tests)
 
 tells_first_step : (c : Course) (event : Event) → Sound c → may_come c event ≡ true
-    → waits_of (after c event).place ≡ true → (after c event).told ≡ false → (after c event).origin ≡ false
+    → waits_of (after c event).phase ≡ true → (after c event).told ≡ false → (after c event).origin ≡ false
 tells_first_step c event s m = grind (arith, nat_tests)
 
 tells_alone_step : (c : Course) (event : Event) → Sound c → may_come c event ≡ true
-    → is_telling (after c event).place ≡ true → (after c event).origin ≡ false
+    → is_telling (after c event).phase ≡ true → (after c event).origin ≡ false
 tells_alone_step c event s m = grind (arith, nat_tests)
 
 queues_step : (c : Course) (event : Event) → Sound c → may_come c event ≡ true
-    → is_in_queue (after c event).place ≡ true → is_free (after c event) ≡ true
+    → is_in_queue (after c event).phase ≡ true → is_free (after c event) ≡ true
 queues_step c event s m = grind (arith, nat_tests)
 
 stopped_step : (c : Course) (event : Event) → Sound c → may_come c event ≡ true
-    → (after c event).stopping ≡ true → (is_refusing (after c event).place || is_gone (after c event).place) ≡ true
+    → (after c event).stopping ≡ true → (is_refusing (after c event).phase || is_gone (after c event).phase) ≡ true
 stopped_step c event s m = grind (arith, nat_tests)
 
 pub sound_after : (c : Course) (event : Event) → Sound c → may_come c event ≡ true → Sound (after c event)

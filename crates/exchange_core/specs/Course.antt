@@ -2,14 +2,14 @@
 use Rattle.std.specs.Prelude.{Bool, true, false, not, ◌&&◌, ◌||◌, if◌then◌else◌}
 use Rattle.trace_core.specs.declared.history.Point.{Point}
 use Rattle.trace_core.specs.declared.history.Point.TheVariants.{Reqmod, Respmod}
-use Rattle.exchange_core.specs.declared.event.Why.{Why}
-use Rattle.exchange_core.specs.declared.event.Why.TheVariants as whys
+use Rattle.exchange_core.specs.declared.event.RefusalCause.{RefusalCause}
+use Rattle.exchange_core.specs.declared.event.RefusalCause.TheVariants as causes
 use Rattle.exchange_core.specs.declared.event.Event.{Event}
 use Rattle.exchange_core.specs.declared.event.Event.TheVariants.{HeadBegun, RequestRead, ResponseRead, Stale, Queued, Lent, Asked, Learned, Planned, Reserved, HalfTold, Stuck, Told, Dialed, Started, LetPass, Renewed, Served, Begun, Sent, Answered, Failed, Returned, Released, HungUp, Refused, UserClosed, UserLost, Dropped, Late, Drain, Stop, Tried}
 use Rattle.exchange_core.specs.declared.connection.Connection.{Connection}
 use Rattle.exchange_core.specs.declared.connection.Connection.TheVariants.{Absent, Ready, InUse, Spent}
-use Rattle.exchange_core.specs.declared.place.Place.{Place}
-use Rattle.exchange_core.specs.declared.place.Place.TheVariants.{Idle, Head, Planning, Asking, InQueue, Preparing, Telling, AtGate, Moving, Answer, Refusing, Closing, Gone}
+use Rattle.exchange_core.specs.declared.phase.Phase.{Phase}
+use Rattle.exchange_core.specs.declared.phase.Phase.TheVariants.{Idle, Head, Planning, Asking, InQueue, Preparing, Telling, AtGate, Moving, Answer, Refusing, Closing, Gone}
 use Rattle.exchange_core.specs.declared.course.Course.{Course}
 
 -- The service's connection.
@@ -124,9 +124,9 @@ abbrev pub stopping_after : Bool → Event → Bool
 stopping_after stopping Stop = true
 stopping_after stopping _ = stopping
 
--- The place.
+-- The phase.
 
-abbrev pub point_of : Place → Point
+abbrev pub point_of : Phase → Point
 point_of (Planning point) = point
 point_of (Asking point) = point
 point_of (InQueue point) = point
@@ -136,7 +136,7 @@ point_of (Moving point offered) = point
 point_of _ = Reqmod
 
 -- the message is offered to its service
-abbrev pub is_offered : Place → Bool
+abbrev pub is_offered : Phase → Bool
 is_offered (Preparing point offered waits) = offered
 is_offered (AtGate point offered) = offered
 is_offered (Moving point offered) = offered
@@ -147,74 +147,74 @@ abbrev pub is_mid_text : Course → Bool
 is_mid_text c = c.begun || c.half_told
 
 -- a refusal is due exactly where it stands alone; else the connection is cut
-abbrev pub place_when_failed : Course → Why → Place
-place_when_failed c why = if is_mid_text c then Closing else Refusing why
+abbrev pub phase_when_failed : Course → RefusalCause → Phase
+phase_when_failed c why = if is_mid_text c then Closing else Refusing why
 
 -- a message that doesn't move has failed, and so has one that waits for a connection; a user that sends no head, or takes no
 -- refusal, is let go
-abbrev pub late_from : Place → Course → Place
-late_from (Asking point) c = place_when_failed c whys.Deadline
-late_from (InQueue point) c = place_when_failed c whys.Deadline
-late_from Telling c = place_when_failed c whys.Deadline
-late_from (Moving point offered) c = place_when_failed c whys.Deadline
-late_from Answer c = place_when_failed c whys.Deadline
+abbrev pub late_from : Phase → Course → Phase
+late_from (Asking point) c = phase_when_failed c causes.Deadline
+late_from (InQueue point) c = phase_when_failed c causes.Deadline
+late_from Telling c = phase_when_failed c causes.Deadline
+late_from (Moving point offered) c = phase_when_failed c causes.Deadline
+late_from Answer c = phase_when_failed c causes.Deadline
 late_from _ c = Gone
 
-abbrev pub place_when_late : Course → Place
-place_when_late c = late_from c.place c
+abbrev pub phase_when_late : Course → Phase
+phase_when_late c = late_from c.phase c
 
--- a refusal that goes out is tried once more; a request to which nothing was answered is refused
-abbrev pub stop_from : Place → Course → Place
+-- a refusal that goes out stays due; a request to which nothing was answered is refused
+abbrev pub stop_from : Phase → Course → Phase
 stop_from (Refusing why) c = Refusing why
 stop_from Idle c = Gone
 stop_from Head c = Gone
 stop_from Closing c = Gone
 stop_from Gone c = Gone
-stop_from _ c = if is_mid_text c then Gone else Refusing whys.Stopping
+stop_from _ c = if is_mid_text c then Gone else Refusing causes.Stopping
 
-abbrev pub place_when_stopping : Course → Place
-place_when_stopping c = stop_from c.place c
+abbrev pub phase_when_stopping : Course → Phase
+phase_when_stopping c = stop_from c.phase c
 
 -- a message that waited for a connection is planned anew
-abbrev pub lent_from : Place → Place
+abbrev pub lent_from : Phase → Phase
 lent_from (InQueue point) = Planning point
-lent_from place = place
+lent_from phase = phase
 
 -- so is the request of a user that had to be waited for until it was told
-abbrev pub told_from : Place → Place
+abbrev pub told_from : Phase → Phase
 told_from Telling = Planning Reqmod
-told_from place = place
+told_from phase = phase
 
-abbrev pub place_after : Course → Event → Place
-place_after c HeadBegun = Head
-place_after c RequestRead = Planning Reqmod
-place_after c ResponseRead = Planning Respmod
-place_after c Stale = Asking (point_of c.place)
-place_after c Queued = InQueue (point_of c.place)
-place_after c (Lent reused) = lent_from c.place
-place_after c (Learned usable) = Planning (point_of c.place)
-place_after c (Planned offered waits) = Preparing (point_of c.place) offered waits
-place_after c Stuck = Telling
-place_after c Told = told_from c.place
-place_after c Started = AtGate (point_of c.place) (is_offered c.place)
-place_after c LetPass = Moving (point_of c.place) (is_offered c.place)
-place_after c Sent = Answer
-place_after c (Answered keeps) = if keeps && not c.closes then Idle else Closing
-place_after c (Failed why) = place_when_failed c why
-place_after c Refused = Closing
-place_after c UserClosed = Gone
-place_after c UserLost = Gone
-place_after c Dropped = Gone
-place_after c Late = place_when_late c
-place_after c Stop = place_when_stopping c
-place_after c Tried = Gone
-place_after c _ = c.place
+abbrev pub phase_after : Course → Event → Phase
+phase_after c HeadBegun = Head
+phase_after c RequestRead = Planning Reqmod
+phase_after c ResponseRead = Planning Respmod
+phase_after c Stale = Asking (point_of c.phase)
+phase_after c Queued = InQueue (point_of c.phase)
+phase_after c (Lent reused) = lent_from c.phase
+phase_after c (Learned usable) = Planning (point_of c.phase)
+phase_after c (Planned offered waits) = Preparing (point_of c.phase) offered waits
+phase_after c Stuck = Telling
+phase_after c Told = told_from c.phase
+phase_after c Started = AtGate (point_of c.phase) (is_offered c.phase)
+phase_after c LetPass = Moving (point_of c.phase) (is_offered c.phase)
+phase_after c Sent = Answer
+phase_after c (Answered keeps) = if keeps && not c.closes then Idle else Closing
+phase_after c (Failed why) = phase_when_failed c why
+phase_after c Refused = Closing
+phase_after c UserClosed = Gone
+phase_after c UserLost = Gone
+phase_after c Dropped = Gone
+phase_after c Late = phase_when_late c
+phase_after c Stop = phase_when_stopping c
+phase_after c Tried = Gone
+phase_after c _ = c.phase
 
 -- All of it.
 
 abbrev pub after : Course → Event → Course
 after c event = record {
-  place = place_after c event;
+  phase = phase_after c event;
   connection = connection_after c.connection event;
   stake = stake_after c.stake event;
   origin = origin_after c.origin event;
@@ -230,7 +230,7 @@ after c event = record {
 -- before the first event
 abbrev pub start : Course
 start = record {
-  place = Head;
+  phase = Head;
   connection = Absent;
   stake = false;
   origin = false;

@@ -1,28 +1,28 @@
 -- What is due.
 use Rattle.std.specs.Prelude.{ℕ, Bool, true, false, not, ◌&&◌, ◌||◌, if◌then◌else◌}
 use Rattle.trace_core.specs.declared.history.Point.{Point}
-use Rattle.exchange_core.specs.declared.event.Why.{Why}
-use Rattle.exchange_core.specs.declared.event.Why.TheVariants as whys
+use Rattle.exchange_core.specs.declared.event.RefusalCause.{RefusalCause}
+use Rattle.exchange_core.specs.declared.event.RefusalCause.TheVariants as causes
 use Rattle.exchange_core.specs.declared.event.Event.{Event}
 use Rattle.exchange_core.specs.declared.event.Event.TheVariants as happens
 use Rattle.exchange_core.specs.declared.due.Due.{Due}
 use Rattle.exchange_core.specs.declared.due.Due.TheVariants.{ReadRequest, Plan, Lend, Await, Ask, Hear, Reserve, TryTell, Tell, Dial, Start, AskGate, Turn, ReadResponse, GiveBack, Release, HangUp, Refuse, TryRefusal, Linger, Nothing}
 use Rattle.exchange_core.specs.declared.connection.Connection.{Connection}
 use Rattle.exchange_core.specs.declared.connection.Connection.TheVariants.{Absent, Ready, InUse, Spent}
-use Rattle.exchange_core.specs.declared.place.Place.{Place}
-use Rattle.exchange_core.specs.declared.place.Place.TheVariants.{Idle, Head, Planning, Asking, InQueue, Preparing, Telling, AtGate, Moving, Answer, Refusing, Closing, Gone}
+use Rattle.exchange_core.specs.declared.phase.Phase.{Phase}
+use Rattle.exchange_core.specs.declared.phase.Phase.TheVariants.{Idle, Head, Planning, Asking, InQueue, Preparing, Telling, AtGate, Moving, Answer, Refusing, Closing, Gone}
 use Rattle.exchange_core.specs.declared.course.Course.{Course}
 use Rattle.exchange_core.specs.Course.{is_leased, is_ready, is_in_use, is_spent, point_of, is_offered}
 use Rattle.exchange_core.specs.May.{is_request, is_idle, is_head, is_gone, is_free, holds_nothing}
 
 -- the status of a refusal (RFC 9110, section 15)
-abbrev pub status_of : Why → ℕ
-status_of whys.Faulty = 400
-status_of whys.Unserved = 501
-status_of whys.Elsewhere = 502
-status_of whys.Scarce = 503
-status_of whys.Deadline = 504
-status_of whys.Stopping = 503
+abbrev pub status_of : RefusalCause → ℕ
+status_of causes.Faulty = 400
+status_of causes.Unserved = 501
+status_of causes.Elsewhere = 502
+status_of causes.Scarce = 503
+status_of causes.Deadline = 504
+status_of causes.Stopping = 503
 
 -- what is held goes back before anything else is done
 abbrev pub freed_first : Course → Due → Due
@@ -46,7 +46,7 @@ asks (Ready reused) = Ask
 asks (InUse reused) = Hear
 asks Spent = GiveBack
 
-abbrev pub due_at : Place → Course → Due
+abbrev pub due_at : Phase → Course → Due
 due_at Idle c = freed_first c ReadRequest
 due_at Head c = freed_first c ReadRequest
 -- a connection that may not serve again goes back at once
@@ -64,11 +64,11 @@ due_at Closing c = freed_first c Linger
 due_at Gone c = freed_first c Nothing
 
 abbrev pub due_of : Course → Due
-due_of c = due_at c.place c
+due_of c = due_at c.phase c
 
 -- the user's connection is over, and nothing is held
 abbrev pub is_over : Course → Bool
-is_over c = is_gone c.place && holds_nothing c
+is_over c = is_gone c.phase && holds_nothing c
 
 -- the event is what comes of doing it
 abbrev pub comes_of : Due → Event → Bool
@@ -105,15 +105,15 @@ comes_of _ _ = false
 
 -- of the events that may come of it, this one fits what is there
 abbrev pub fits : Course → Event → Bool
-fits c happens.HeadBegun = is_idle c.place
-fits c happens.RequestRead = is_head c.place
+fits c happens.HeadBegun = is_idle c.phase
+fits c happens.RequestRead = is_head c.phase
 fits c happens.Stale = not c.asked
-fits c happens.Queued = is_free c && (not (is_request (point_of c.place)) || not c.origin)
-fits c (happens.Planned offered waits) = not waits || (is_request (point_of c.place) && not c.told)
+fits c happens.Queued = is_free c && (not (is_request (point_of c.phase)) || not c.origin)
+fits c (happens.Planned offered waits) = not waits || (is_request (point_of c.phase) && not c.told)
 fits c happens.HalfTold = not c.half_told
 fits c (happens.Served usable) = is_in_use c.connection
-fits c happens.Begun = not c.begun && (not (is_request (point_of c.place)) || is_offered c.place)
-fits c happens.Sent = is_request (point_of c.place) && (not c.begun && not (is_in_use c.connection))
+fits c happens.Begun = not c.begun && (not (is_request (point_of c.phase)) || is_offered c.phase)
+fits c happens.Sent = is_request (point_of c.phase) && (not c.begun && not (is_in_use c.connection))
 fits c (happens.Answered keeps) = c.begun && not (is_in_use c.connection)
 fits c (happens.Returned kept) = not kept || is_ready c.connection
 fits c _ = true

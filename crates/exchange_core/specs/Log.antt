@@ -2,9 +2,9 @@
 use Rattle.std.specs.Prelude.{◌≡◌, ◌⊎◌, ℕ, ◌+◌, Bool, true, false, not, ◌&&◌, ◌||◌, ⊤, List, [], ◌∷◌, if◌then◌else◌}
 use Rattle.exchange_core.specs.declared.event.Event.{Event}
 use Rattle.exchange_core.specs.declared.event.Event.TheVariants.{RequestRead, ResponseRead, Lent, Asked, Learned, Reserved, HalfTold, Told, Dialed, LetPass, Served, Begun, Sent, Answered, Failed, Returned, Released, HungUp, Refused, UserClosed, UserLost, Dropped, Late, Drain, Stop, Tried}
-use Rattle.exchange_core.specs.declared.event.Why.{Why}
-use Rattle.exchange_core.specs.declared.place.Place.{Place}
-use Rattle.exchange_core.specs.declared.place.Place.TheVariants.{Refusing, Closing, Gone}
+use Rattle.exchange_core.specs.declared.event.RefusalCause.{RefusalCause}
+use Rattle.exchange_core.specs.declared.phase.Phase.{Phase}
+use Rattle.exchange_core.specs.declared.phase.Phase.TheVariants.{Refusing, Closing, Gone}
 use Rattle.exchange_core.specs.declared.course.Course.{Course}
 use Rattle.exchange_core.specs.Course.{start, after, is_leased, closes_after}
 use Rattle.exchange_core.specs.May.{may_come}
@@ -212,20 +212,20 @@ is_kept_open (event ∷ before) = if is_answered event then is_keeping event els
 -- The end of a connection.
 
 -- no further request is read
-abbrev pub is_leaving : Place → Bool
+abbrev pub is_leaving : Phase → Bool
 is_leaving (Refusing why) = true
 is_leaving Closing = true
 is_leaving Gone = true
 is_leaving _ = false
 
 -- all is said, also the refusal
-abbrev pub is_silent : Place → Bool
+abbrev pub is_silent : Phase → Bool
 is_silent Closing = true
 is_silent Gone = true
 is_silent _ = false
 
 -- how many deadlines and failures may come there before the user's connection is over
-abbrev pub failures_from : Place → ℕ
+abbrev pub failures_from : Phase → ℕ
 failures_from (Refusing why) = 1
 failures_from Closing = 1
 failures_from Gone = 0
@@ -273,8 +273,8 @@ is_parting HungUp = true
 is_parting _ = false
 
 -- the same refusal goes on, or all is said
-abbrev pub KeepsTo : Why → Place → Type 0
-KeepsTo why place = (place ≡ Refusing why) ⊎ (is_silent place ≡ true)
+abbrev pub KeepsTo : RefusalCause → Phase → Type 0
+KeepsTo why phase = (phase ≡ Refusing why) ⊎ (is_silent phase ≡ true)
 
 -- Several connections, a log of each.
 

@@ -4,60 +4,60 @@ use Rattle.trace_core.specs.declared.history.Point.{Point}
 use Rattle.trace_core.specs.declared.history.Point.TheVariants.{Reqmod, Respmod}
 use Rattle.exchange_core.specs.declared.event.Event.{Event}
 use Rattle.exchange_core.specs.declared.event.Event.TheVariants.{HeadBegun, RequestRead, ResponseRead, Stale, Queued, Lent, Asked, Learned, Planned, Reserved, HalfTold, Stuck, Told, Dialed, Started, LetPass, Renewed, Served, Begun, Sent, Answered, Failed, Returned, Released, HungUp, Refused, UserClosed, UserLost, Dropped, Late, Drain, Stop, Tried}
-use Rattle.exchange_core.specs.declared.place.Place.{Place}
-use Rattle.exchange_core.specs.declared.place.Place.TheVariants.{Idle, Head, Planning, Asking, InQueue, Preparing, Telling, AtGate, Moving, Answer, Refusing, Closing, Gone}
+use Rattle.exchange_core.specs.declared.phase.Phase.{Phase}
+use Rattle.exchange_core.specs.declared.phase.Phase.TheVariants.{Idle, Head, Planning, Asking, InQueue, Preparing, Telling, AtGate, Moving, Answer, Refusing, Closing, Gone}
 use Rattle.exchange_core.specs.declared.course.Course.{Course}
 use Rattle.exchange_core.specs.Course.{is_leased, is_ready, is_in_use, is_spent, is_reused, point_of, is_offered}
 
-abbrev pub is_idle : Place → Bool
+abbrev pub is_idle : Phase → Bool
 is_idle Idle = true
 is_idle _ = false
 
-abbrev pub is_head : Place → Bool
+abbrev pub is_head : Phase → Bool
 is_head Head = true
 is_head _ = false
 
-abbrev pub is_planning : Place → Bool
+abbrev pub is_planning : Phase → Bool
 is_planning (Planning point) = true
 is_planning _ = false
 
-abbrev pub is_asking : Place → Bool
+abbrev pub is_asking : Phase → Bool
 is_asking (Asking point) = true
 is_asking _ = false
 
-abbrev pub is_in_queue : Place → Bool
+abbrev pub is_in_queue : Phase → Bool
 is_in_queue (InQueue point) = true
 is_in_queue _ = false
 
-abbrev pub is_preparing : Place → Bool
+abbrev pub is_preparing : Phase → Bool
 is_preparing (Preparing point offered waits) = true
 is_preparing _ = false
 
-abbrev pub is_telling : Place → Bool
+abbrev pub is_telling : Phase → Bool
 is_telling Telling = true
 is_telling _ = false
 
-abbrev pub is_at_gate : Place → Bool
+abbrev pub is_at_gate : Phase → Bool
 is_at_gate (AtGate point offered) = true
 is_at_gate _ = false
 
-abbrev pub is_moving : Place → Bool
+abbrev pub is_moving : Phase → Bool
 is_moving (Moving point offered) = true
 is_moving _ = false
 
-abbrev pub is_answer : Place → Bool
+abbrev pub is_answer : Phase → Bool
 is_answer Answer = true
 is_answer _ = false
 
-abbrev pub is_refusing : Place → Bool
+abbrev pub is_refusing : Phase → Bool
 is_refusing (Refusing why) = true
 is_refusing _ = false
 
-abbrev pub is_closing : Place → Bool
+abbrev pub is_closing : Phase → Bool
 is_closing Closing = true
 is_closing _ = false
 
-abbrev pub is_gone : Place → Bool
+abbrev pub is_gone : Phase → Bool
 is_gone Gone = true
 is_gone _ = false
 
@@ -67,7 +67,7 @@ is_request Reqmod = true
 is_request Respmod = false
 
 -- its user waits to be told
-abbrev pub waits_of : Place → Bool
+abbrev pub waits_of : Phase → Bool
 waits_of (Preparing point offered waits) = waits
 waits_of _ = false
 
@@ -80,14 +80,14 @@ abbrev pub holds_nothing : Course → Bool
 holds_nothing c = is_free c && not c.origin
 
 -- one leased connection serves the question for options, or the offer
-abbrev pub wants_connection : Place → Bool
+abbrev pub wants_connection : Phase → Bool
 wants_connection (Asking point) = true
 wants_connection (Preparing point offered waits) = offered
 wants_connection _ = false
 
 -- A service's connection in use isn't given back: one that is asked, one that a plan or an offer waits for, and one on which the
 -- service still has to say something of a message that goes on.
-abbrev pub needs_connection : Place → (in_use : Bool) → Bool
+abbrev pub needs_connection : Phase → (in_use : Bool) → Bool
 needs_connection (Planning point) in_use = true
 needs_connection (Asking point) in_use = true
 needs_connection (Preparing point offered waits) in_use = offered
@@ -96,11 +96,11 @@ needs_connection (Moving point offered) in_use = in_use
 needs_connection _ in_use = false
 
 -- a reservation stays open as long as its message goes on
-abbrev pub needs_stake : Place → Bool
-needs_stake place = is_preparing place || (is_at_gate place || is_moving place)
+abbrev pub needs_stake : Phase → Bool
+needs_stake phase = is_preparing phase || (is_at_gate phase || is_moving phase)
 
 -- an origin's connection lasts from the request to the answer, or until either fails
-abbrev pub needs_origin : Place → Bool
+abbrev pub needs_origin : Phase → Bool
 needs_origin Idle = false
 needs_origin Head = false
 needs_origin Telling = false
@@ -111,26 +111,26 @@ needs_origin _ = true
 
 -- the connection that an offer wants is there, or none, and the reservation
 abbrev pub is_provided : Course → Bool
-is_provided c = is_preparing c.place
-    && ((if is_offered c.place then is_ready c.connection else not (is_leased c.connection)) && c.stake)
+is_provided c = is_preparing c.phase
+    && ((if is_offered c.phase then is_ready c.connection else not (is_leased c.connection)) && c.stake)
 
 -- its user doesn't wait, or was told
 abbrev pub is_bidden : Course → Bool
-is_bidden c = not (waits_of c.place) || c.told
+is_bidden c = not (waits_of c.phase) || c.told
 
 -- the text that tells a user is due: a connection and a reservation are there, or were there and nothing is held
 abbrev pub may_tell : Course → Bool
-may_tell c = not c.told && ((waits_of c.place && is_provided c) || (is_telling c.place && holds_nothing c))
+may_tell c = not c.told && ((waits_of c.phase && is_provided c) || (is_telling c.phase && holds_nothing c))
 
 -- a message, or the head before it, may go no further
-abbrev pub may_fail : Place → Bool
+abbrev pub may_fail : Phase → Bool
 may_fail (Refusing why) = false
 may_fail Closing = false
 may_fail Gone = false
 may_fail _ = true
 
 -- the exchange waits for somebody else there
-abbrev pub may_wait : Place → Bool
+abbrev pub may_wait : Phase → Bool
 may_wait (Planning point) = false
 may_wait (Preparing point offered waits) = false
 may_wait (AtGate point offered) = false
@@ -138,7 +138,7 @@ may_wait Gone = false
 may_wait _ = true
 
 -- the user's connection may be closed at once there: no request of it is under way
-abbrev pub may_drop : Place → Bool
+abbrev pub may_drop : Phase → Bool
 may_drop Idle = true
 may_drop Head = true
 may_drop (Refusing why) = true
@@ -172,46 +172,46 @@ goes_on_with event = ends_with event
 
 abbrev pub may_come : Course → Event → Bool
 -- the next request is read once nothing of the one before is held
-may_come c HeadBegun = is_idle c.place && holds_nothing c
-may_come c RequestRead = is_head c.place && holds_nothing c
-may_come c ResponseRead = is_answer c.place && is_free c
+may_come c HeadBegun = is_idle c.phase && holds_nothing c
+may_come c RequestRead = is_head c.phase && holds_nothing c
+may_come c ResponseRead = is_answer c.phase && is_free c
 -- options: learned at most once for a message, on a connection that is leased for it
-may_come c Stale = is_planning c.place && (not c.asked && not (is_spent c.connection))
+may_come c Stale = is_planning c.phase && (not c.asked && not (is_spent c.connection))
 -- who waits for a connection has no other one, but for the origin whose response waits
-may_come c Queued = wants_connection c.place && (is_free c && (not (is_request (point_of c.place)) || not c.origin))
-may_come c (Lent reused) = (wants_connection c.place || is_in_queue c.place) && not (is_leased c.connection)
-may_come c Asked = is_asking c.place && is_ready c.connection
-may_come c (Learned usable) = is_asking c.place && is_in_use c.connection
+may_come c Queued = wants_connection c.phase && (is_free c && (not (is_request (point_of c.phase)) || not c.origin))
+may_come c (Lent reused) = (wants_connection c.phase || is_in_queue c.phase) && not (is_leased c.connection)
+may_come c Asked = is_asking c.phase && is_ready c.connection
+may_come c (Learned usable) = is_asking c.phase && is_in_use c.connection
 -- a response's user isn't told to send a body, nor one that was told before
-may_come c (Planned offered waits) = is_planning c.place
-    && (not (is_spent c.connection) && (not waits || (is_request (point_of c.place) && not c.told)))
-may_come c Reserved = is_preparing c.place && not c.stake
+may_come c (Planned offered waits) = is_planning c.phase
+    && (not (is_spent c.connection) && (not waits || (is_request (point_of c.phase) && not c.told)))
+may_come c Reserved = is_preparing c.phase && not c.stake
 may_come c HalfTold = may_tell c && not c.half_told
-may_come c Stuck = waits_of c.place && (is_provided c && not c.told)
+may_come c Stuck = waits_of c.phase && (is_provided c && not c.told)
 may_come c Told = may_tell c
 -- the origin is opened last: once for a request
-may_come c Dialed = is_provided c && (is_bidden c && (is_request (point_of c.place) && not c.origin))
+may_come c Dialed = is_provided c && (is_bidden c && (is_request (point_of c.phase) && not c.origin))
 may_come c Started = is_provided c && (is_bidden c && c.origin)
-may_come c LetPass = is_at_gate c.place
+may_come c LetPass = is_at_gate c.phase
 -- a connection that was used before may have been closed meanwhile: a fresh one takes its place, once
-may_come c Renewed = is_in_use c.connection && (is_reused c.connection && (is_asking c.place || (is_moving c.place && not c.begun)))
-may_come c (Served usable) = is_moving c.place && is_in_use c.connection
+may_come c Renewed = is_in_use c.connection && (is_reused c.connection && (is_asking c.phase || (is_moving c.phase && not c.begun)))
+may_come c (Served usable) = is_moving c.phase && is_in_use c.connection
 -- an answer is the origin's, or that of the service which was offered the request
-may_come c Begun = is_moving c.place && (not c.begun && (not (is_request (point_of c.place)) || is_offered c.place))
-may_come c Sent = is_moving c.place && (is_request (point_of c.place) && (not c.begun && not (is_in_use c.connection)))
-may_come c (Answered keeps) = is_moving c.place && (c.begun && not (is_in_use c.connection))
-may_come c (Failed why) = may_fail c.place
+may_come c Begun = is_moving c.phase && (not c.begun && (not (is_request (point_of c.phase)) || is_offered c.phase))
+may_come c Sent = is_moving c.phase && (is_request (point_of c.phase) && (not c.begun && not (is_in_use c.connection)))
+may_come c (Answered keeps) = is_moving c.phase && (c.begun && not (is_in_use c.connection))
+may_come c (Failed why) = may_fail c.phase
 -- what is held goes back once nothing needs it; a connection is kept only where it may serve again
 may_come c (Returned kept) = is_leased c.connection
-    && ((is_spent c.connection || not (needs_connection c.place (is_in_use c.connection))) && (not kept || is_ready c.connection))
-may_come c Released = c.stake && not (needs_stake c.place)
-may_come c HungUp = c.origin && not (needs_origin c.place)
+    && ((is_spent c.connection || not (needs_connection c.phase (is_in_use c.connection))) && (not kept || is_ready c.connection))
+may_come c Released = c.stake && not (needs_stake c.phase)
+may_come c HungUp = c.origin && not (needs_origin c.phase)
 -- the user is waited for with nothing held
-may_come c Refused = is_refusing c.place && (holds_nothing c && not c.stopping)
-may_come c UserClosed = is_closing c.place && holds_nothing c
-may_come c UserLost = not (is_gone c.place) && not c.stopping
-may_come c Dropped = may_drop c.place && not c.stopping
-may_come c Late = may_wait c.place && not c.stopping
-may_come c Drain = not (is_gone c.place) && (not c.draining && not c.stopping)
-may_come c Stop = not (is_gone c.place) && not c.stopping
-may_come c Tried = is_refusing c.place && c.stopping
+may_come c Refused = is_refusing c.phase && (holds_nothing c && not c.stopping)
+may_come c UserClosed = is_closing c.phase && holds_nothing c
+may_come c UserLost = not (is_gone c.phase) && not c.stopping
+may_come c Dropped = may_drop c.phase && not c.stopping
+may_come c Late = may_wait c.phase && not c.stopping
+may_come c Drain = not (is_gone c.phase) && (not c.draining && not c.stopping)
+may_come c Stop = not (is_gone c.phase) && not c.stopping
+may_come c Tried = is_refusing c.phase && c.stopping

@@ -1,6 +1,6 @@
 -- Logs of whole exchanges, the newest event first.
 use Rattle.std.specs.Prelude.{true, false, List, [], ◌∷◌, reverse}
-use Rattle.exchange_core.specs.declared.event.Why.TheVariants as whys
+use Rattle.exchange_core.specs.declared.event.RefusalCause.TheVariants as causes
 use Rattle.exchange_core.specs.declared.event.Event.{Event}
 use Rattle.exchange_core.specs.declared.event.Event.TheVariants.{HeadBegun, RequestRead, ResponseRead, Stale, Queued, Lent, Asked, Learned, Planned, Reserved, HalfTold, Stuck, Told, Dialed, Started, LetPass, Renewed, Served, Begun, Sent, Answered, Failed, Returned, Released, HungUp, Refused, UserClosed, UserLost, Dropped, Late, Drain, Stop, Tried}
 
@@ -24,42 +24,42 @@ adapted = reverse (
 abbrev pub blocked : List Event
 blocked = reverse (
     RequestRead ∷ Planned true false ∷ Lent true ∷ Reserved ∷ Dialed ∷ Started ∷ LetPass ∷ Begun ∷ Served true ∷ Answered true
-    ∷ Returned true ∷ Released ∷ HungUp ∷ HeadBegun ∷ RequestRead ∷ Failed whys.Elsewhere ∷ Refused ∷ UserClosed ∷ [])
+    ∷ Returned true ∷ Released ∷ HungUp ∷ HeadBegun ∷ RequestRead ∷ Failed causes.Elsewhere ∷ Refused ∷ UserClosed ∷ [])
 
 -- the user doesn't take at once that it is told to send its body
 abbrev pub stuck : List Event
 stuck = reverse (
     RequestRead ∷ Planned true true ∷ Lent false ∷ Reserved ∷ HalfTold ∷ Stuck ∷ Returned true ∷ Released ∷ Told
-    ∷ Planned true false ∷ Lent true ∷ Reserved ∷ Dialed ∷ Started ∷ LetPass ∷ Failed whys.Elsewhere ∷ Returned false ∷ Released
+    ∷ Planned true false ∷ Lent true ∷ Reserved ∷ Dialed ∷ Started ∷ LetPass ∷ Failed causes.Elsewhere ∷ Returned false ∷ Released
     ∷ HungUp ∷ Refused ∷ UserClosed ∷ [])
 
 -- idle connections turn out to be closed
 abbrev pub renewed_twice : List Event
 renewed_twice = reverse (
     RequestRead ∷ Stale ∷ Lent true ∷ Asked ∷ Renewed ∷ Learned false ∷ Returned false ∷ Planned true false ∷ Lent true ∷ Reserved
-    ∷ Dialed ∷ Started ∷ LetPass ∷ Renewed ∷ Failed whys.Elsewhere ∷ HungUp ∷ Returned false ∷ Released ∷ Refused ∷ UserClosed ∷ [])
+    ∷ Dialed ∷ Started ∷ LetPass ∷ Renewed ∷ Failed causes.Elsewhere ∷ HungUp ∷ Returned false ∷ Released ∷ Refused ∷ UserClosed ∷ [])
 
 -- all connections are leased: the request waits for one, is planned anew, and its response waits in vain
 abbrev pub waited : List Event
 waited = reverse (
     RequestRead ∷ Planned true false ∷ Queued ∷ Lent true ∷ Planned true false ∷ Reserved ∷ Dialed ∷ Started ∷ LetPass
-    ∷ Served false ∷ Returned false ∷ Sent ∷ Released ∷ ResponseRead ∷ Stale ∷ Queued ∷ Failed whys.Scarce
+    ∷ Served false ∷ Returned false ∷ Sent ∷ Released ∷ ResponseRead ∷ Stale ∷ Queued ∷ Failed causes.Scarce
     ∷ HungUp ∷ Refused ∷ UserClosed ∷ [])
 
 -- no room for the request: what was leased for it goes back before the refusal is out
 abbrev pub refused : List Event
-refused = reverse (RequestRead ∷ Planned true false ∷ Lent true ∷ Failed whys.Scarce ∷ Returned true ∷ Refused ∷ UserClosed ∷ [])
+refused = reverse (RequestRead ∷ Planned true false ∷ Lent true ∷ Failed causes.Scarce ∷ Returned true ∷ Refused ∷ UserClosed ∷ [])
 
 -- the origin breaks off in the midst of its answer
 abbrev pub cut : List Event
 cut = reverse (
     RequestRead ∷ Planned false false ∷ Reserved ∷ Dialed ∷ Started ∷ LetPass ∷ Sent ∷ Released
-    ∷ ResponseRead ∷ Planned false false ∷ Reserved ∷ Started ∷ LetPass ∷ Begun ∷ Failed whys.Elsewhere ∷ HungUp ∷ Released ∷ Dropped ∷ [])
+    ∷ ResponseRead ∷ Planned false false ∷ Reserved ∷ Started ∷ LetPass ∷ Begun ∷ Failed causes.Elsewhere ∷ HungUp ∷ Released ∷ Dropped ∷ [])
 
 -- a service says nothing, and the user doesn't take the refusal
 abbrev pub late : List Event
 late = reverse (
-    RequestRead ∷ Planned true false ∷ Lent false ∷ Reserved ∷ Dialed ∷ Started ∷ LetPass ∷ Failed whys.Deadline ∷ Returned false
+    RequestRead ∷ Planned true false ∷ Lent false ∷ Reserved ∷ Dialed ∷ Started ∷ LetPass ∷ Failed causes.Deadline ∷ Returned false
     ∷ Released ∷ HungUp ∷ Late ∷ [])
 
 -- the proxy drains while a request goes on, whose answer would keep the connection
@@ -79,4 +79,4 @@ stopped = reverse (
 
 -- a user for whom there is no room
 abbrev pub turned_away : List Event
-turned_away = reverse (Failed whys.Scarce ∷ Refused ∷ UserClosed ∷ [])
+turned_away = reverse (Failed causes.Scarce ∷ Refused ∷ UserClosed ∷ [])

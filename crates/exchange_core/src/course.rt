@@ -3,14 +3,14 @@
 ghost use Rattle.std.specs.Prelude.{◌≡◌};
 
 use crate::connection::Connection;
-use crate::event::{Event, Why};
-use crate::place::Place;
+use crate::event::{Event, RefusalCause};
+use crate::phase::Phase;
 use trace_core::Point;
 
 /// Where a user's connection stands, and what it holds: a lease, a reservation, and a connection to the origin.
 #[derive(Clone, Copy, Debug, PartialEq, Eq)]
 pub struct Course {
-    pub place: Place,
+    pub phase: Phase,
     /// The service's connection.
     pub connection: Connection,
     /// A reservation is open.
@@ -34,14 +34,14 @@ pub struct Course {
 }
 
 impl Course {
-    ghost use Rattle.exchange_core.specs.Course.{start, after, is_mid_text, place_when_late, place_when_stopping, place_when_failed, place_after};
+    ghost use Rattle.exchange_core.specs.Course.{start, after, is_mid_text, phase_when_late, phase_when_stopping, phase_when_failed, phase_after};
 
     /// Before the first event.
     pub fn start() -> Course
         ensures { result ≡ start }
     {
         Course {
-            place: Place::Head,
+            phase: Phase::Head,
             connection: Connection::Absent,
             stake: false,
             origin: false,
@@ -63,78 +63,80 @@ impl Course {
     }
 
     /// Where what goes no further goes: to a refusal, where that stands alone.
-    fn place_when_failed(self, why: Why) -> Place
-        ensures { result ≡ place_when_failed self why }
+    fn phase_when_failed(self, why: RefusalCause) -> Phase
+        ensures { result ≡ phase_when_failed self why }
     {
         if self.is_mid_text() {
-            Place::Closing
+            Phase::Closing
         } else {
-            Place::Refusing { why }
+            Phase::Refusing { why }
         }
     }
 
-    /// Where a deadline leads. A message that waits fails: `Failed(Why::Deadline)`, which the proxy tells there, leads to the same
-    /// place. Any other user is let go.
-    fn place_when_late(self) -> Place
-        ensures { result ≡ place_when_late self }
+    /// Where a deadline leads. A message that waits fails: `Failed(RefusalCause::Deadline)`, which the proxy tells there, leads to the same
+    /// phase. Any other user is let go.
+    fn phase_when_late(self) -> Phase
+        ensures { result ≡ phase_when_late self }
     {
-        match self.place {
-            Place::Asking { .. }
-            | Place::InQueue { .. }
-            | Place::Telling
-            | Place::Answer
-            | Place::Moving { .. } => self.place_when_failed(Why::Deadline),
-            _ => Place::Gone,
+        match self.phase {
+            Phase::Asking { .. }
+            | Phase::InQueue { .. }
+            | Phase::Telling
+            | Phase::Answer
+            | Phase::Moving { .. } => self.phase_when_failed(RefusalCause::Deadline),
+            _ => Phase::Gone,
         }
     }
 
     /// Where the end of the proxy leads.
-    fn place_when_stopping(self) -> Place
-        ensures { result ≡ place_when_stopping self }
+    fn phase_when_stopping(self) -> Phase
+        ensures { result ≡ phase_when_stopping self }
     {
-        match self.place {
-            Place::Refusing { why } => Place::Refusing { why },
-            Place::Idle | Place::Head | Place::Closing | Place::Gone => Place::Gone,
-            _ if self.is_mid_text() => Place::Gone,
-            _ => Place::Refusing { why: Why::Stopping },
+        match self.phase {
+            Phase::Refusing { why } => Phase::Refusing { why },
+            Phase::Idle | Phase::Head | Phase::Closing | Phase::Gone => Phase::Gone,
+            _ if self.is_mid_text() => Phase::Gone,
+            _ => Phase::Refusing {
+                why: RefusalCause::Stopping,
+            },
         }
     }
 
     /// Where an event leads.
-    fn place_after(self, event: Event) -> Place
-        ensures { result ≡ place_after self event }
+    fn phase_after(self, event: Event) -> Phase
+        ensures { result ≡ phase_after self event }
     {
-        let point = self.place.point();
-        let offered = self.place.is_offered();
+        let point = self.phase.point();
+        let offered = self.phase.is_offered();
         match event {
-            Event::HeadBegun => Place::Head,
-            Event::RequestRead => Place::Planning {
+            Event::HeadBegun => Phase::Head,
+            Event::RequestRead => Phase::Planning {
                 point: Point::Reqmod,
             },
-            Event::ResponseRead => Place::Planning {
+            Event::ResponseRead => Phase::Planning {
                 point: Point::Respmod,
             },
-            Event::Stale => Place::Asking { point },
-            Event::Queued => Place::InQueue { point },
-            Event::Lent { .. } => self.place.lent(),
-            Event::Learned { .. } => Place::Planning { point },
-            Event::Planned { offered, waits } => Place::Preparing {
+            Event::Stale => Phase::Asking { point },
+            Event::Queued => Phase::InQueue { point },
+            Event::Lent { .. } => self.phase.lent(),
+            Event::Learned { .. } => Phase::Planning { point },
+            Event::Planned { offered, waits } => Phase::Preparing {
                 point,
                 offered,
                 waits,
             },
-            Event::Stuck => Place::Telling,
-            Event::Told => self.place.told(),
-            Event::Started => Place::AtGate { point, offered },
-            Event::LetPass => Place::Moving { point, offered },
-            Event::Sent => Place::Answer,
-            Event::Answered { keeps } if keeps && !self.closes => Place::Idle,
-            Event::Answered { .. } | Event::Refused => Place::Closing,
-            Event::Failed(why) => self.place_when_failed(why),
-            Event::UserClosed | Event::UserLost | Event::Dropped | Event::Tried => Place::Gone,
-            Event::Late => self.place_when_late(),
-            Event::Stop => self.place_when_stopping(),
-            _ => self.place,
+            Event::Stuck => Phase::Telling,
+            Event::Told => self.phase.told(),
+            Event::Started => Phase::AtGate { point, offered },
+            Event::LetPass => Phase::Moving { point, offered },
+            Event::Sent => Phase::Answer,
+            Event::Answered { keeps } if keeps && !self.closes => Phase::Idle,
+            Event::Answered { .. } | Event::Refused => Phase::Closing,
+            Event::Failed(why) => self.phase_when_failed(why),
+            Event::UserClosed | Event::UserLost | Event::Dropped | Event::Tried => Phase::Gone,
+            Event::Late => self.phase_when_late(),
+            Event::Stop => self.phase_when_stopping(),
+            _ => self.phase,
         }
     }
 
@@ -143,7 +145,7 @@ impl Course {
         ensures { result ≡ after self event }
     {
         let mut course = self;
-        course.place = self.place_after(event);
+        course.phase = self.phase_after(event);
         match event {
             Event::RequestRead => {
                 course.asked = false;
@@ -181,7 +183,7 @@ impl Course {
             Event::HungUp => course.origin = false,
             Event::Drain => course.draining = true,
             Event::Stop => course.stopping = true,
-            // These change the place alone.
+            // These change the phase alone.
             Event::HeadBegun
             | Event::Stale
             | Event::Queued

@@ -5,7 +5,7 @@ ghost use Rattle.exchange_core.specs.Dues.{due_of, freed_first, gathers, asks, i
 
 use crate::connection::Connection;
 use crate::course::Course;
-use crate::place::Place;
+use crate::phase::Phase;
 use trace_core::Point;
 
 /// What is due. What may have to wait for somebody else has its deadline.
@@ -47,7 +47,7 @@ pub enum Due {
     HangUp,
     /// To write the refusal of this status.
     Refuse(u16),
-    /// To try it for the last time.
+    /// To write it at a stop, as far as the user takes it. Once it is out, or the user is gone, all that is held goes back.
     TryRefusal(u16),
     /// To drop what the user still sends, until it closes.
     Linger,
@@ -79,7 +79,7 @@ impl Course {
     pub fn is_over(self) -> bool
         ensures { result ≡ is_over self }
     {
-        self.place == Place::Gone && self.holds_nothing()
+        self.phase == Phase::Gone && self.holds_nothing()
     }
 
     /// To let go what is held, or else this.
@@ -132,30 +132,30 @@ impl Course {
     pub fn due(self) -> Due
         ensures { result ≡ due_of self }
     {
-        match self.place {
-            Place::Idle | Place::Head => self.freed_first(Due::ReadRequest),
-            Place::Planning { .. } if self.connection.is_spent() => Due::GiveBack,
-            Place::Planning { .. } => Due::Plan,
-            Place::Asking { .. } => self.asks(),
-            Place::InQueue { .. } => Due::Await,
-            Place::Preparing {
+        match self.phase {
+            Phase::Idle | Phase::Head => self.freed_first(Due::ReadRequest),
+            Phase::Planning { .. } if self.connection.is_spent() => Due::GiveBack,
+            Phase::Planning { .. } => Due::Plan,
+            Phase::Asking { .. } => self.asks(),
+            Phase::InQueue { .. } => Due::Await,
+            Phase::Preparing {
                 point,
                 offered,
                 waits,
             } => self.gathers(point, offered, waits),
-            Place::Telling => self.freed_first(Due::Tell),
-            Place::AtGate { .. } => Due::AskGate,
-            Place::Moving { .. } if self.connection.is_leased() && !self.connection.is_in_use() => {
+            Phase::Telling => self.freed_first(Due::Tell),
+            Phase::AtGate { .. } => Due::AskGate,
+            Phase::Moving { .. } if self.connection.is_leased() && !self.connection.is_in_use() => {
                 Due::GiveBack
             }
-            Place::Moving { .. } => Due::Turn,
-            Place::Answer if self.connection.is_leased() => Due::GiveBack,
-            Place::Answer if self.stake => Due::Release,
-            Place::Answer => Due::ReadResponse,
-            Place::Refusing { why } if self.stopping => Due::TryRefusal(why.status()),
-            Place::Refusing { why } => self.freed_first(Due::Refuse(why.status())),
-            Place::Closing => self.freed_first(Due::Linger),
-            Place::Gone => self.freed_first(Due::Nothing),
+            Phase::Moving { .. } => Due::Turn,
+            Phase::Answer if self.connection.is_leased() => Due::GiveBack,
+            Phase::Answer if self.stake => Due::Release,
+            Phase::Answer => Due::ReadResponse,
+            Phase::Refusing { why } if self.stopping => Due::TryRefusal(why.status()),
+            Phase::Refusing { why } => self.freed_first(Due::Refuse(why.status())),
+            Phase::Closing => self.freed_first(Due::Linger),
+            Phase::Gone => self.freed_first(Due::Nothing),
         }
     }
 }

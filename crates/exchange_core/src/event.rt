@@ -5,7 +5,7 @@ ghost use Rattle.exchange_core.specs.Dues.{status_of};
 
 /// Why a user gets the proxy's own refusal.
 #[derive(Clone, Copy, Debug, PartialEq, Eq)]
-pub enum Why {
+pub enum RefusalCause {
     /// Its request is faulty, or broke off.
     Faulty,
     /// Its request is understood, but not served.
@@ -20,17 +20,17 @@ pub enum Why {
     Stopping,
 }
 
-impl Why {
+impl RefusalCause {
     /// The status of the refusal (RFC 9110, section 15).
     pub fn status(self) -> u16
         ensures { result ≡ status_of self }
     {
         match self {
-            Why::Faulty => 400,
-            Why::Unserved => 501,
-            Why::Elsewhere => 502,
-            Why::Scarce | Why::Stopping => 503,
-            Why::Deadline => 504,
+            RefusalCause::Faulty => 400,
+            RefusalCause::Unserved => 501,
+            RefusalCause::Elsewhere => 502,
+            RefusalCause::Scarce | RefusalCause::Stopping => 503,
+            RefusalCause::Deadline => 504,
         }
     }
 }
@@ -84,7 +84,7 @@ pub enum Event {
     Answered { keeps: bool },
     /// The message, or the connection before it, goes no further: a side of it failed, no byte moved for too long, or what it needs
     /// can't be had, as where no connection of the service came free in time.
-    Failed(Why),
+    Failed(RefusalCause),
     /// The service's connection was put back, or was closed and its lease given up.
     Returned { kept: bool },
     /// The reservation was closed.
@@ -107,6 +107,6 @@ pub enum Event {
     Drain,
     /// The proxy stops.
     Stop,
-    /// A refusal was tried for the last time.
+    /// A refusal at a stop is out, or its user takes no more of it.
     Tried,
 }

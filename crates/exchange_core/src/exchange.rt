@@ -4,7 +4,7 @@ ghost use Rattle.std.specs.Prelude.{◌≡◌, ◌||◌, true, false};
 
 use crate::course::Course;
 use crate::due::Due;
-use crate::event::{Event, Why};
+use crate::event::{Event, RefusalCause};
 use std::marker::Model;
 
 /// One user's connection. To a contract it is its course, to which some legal log of events leads: so the laws hold of it.
@@ -88,7 +88,7 @@ impl Exchange {
     }
 
     /// Takes it that the message, or the head before it, goes no further.
-    pub fn failed(&mut self, why: Why)
+    pub fn failed(&mut self, why: RefusalCause)
         requires { is_for_message (due_of self.old) ≡ true }
         ensures after { self.new ≡ after self.old (Failed why) }
         ensures goes { Goes self.old self.new }
@@ -131,7 +131,7 @@ impl Exchange {
     pub fn course(&self) -> Course
         ensures same { result ≡ self.now }
         ensures reached { IsReached result }
-        ensures stops { result.stopping ≡ true → (is_refusing result.place || is_gone result.place) ≡ true }
+        ensures stops { result.stopping ≡ true → (is_refusing result.phase || is_gone result.phase) ≡ true }
     {
         self.course
     }

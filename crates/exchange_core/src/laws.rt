@@ -1,12 +1,12 @@
 //! What holds of every legal log, the newest event first. Each law is the contract of a function that does nothing.
 
 ghost use Rattle.std.specs.Prelude.{◌≡◌, ◌≤◌, ◌+◌, ◌*◌, ◌↔◌, ◌||◌, Bool, true, false, List, ◌∷◌, ◌++◌, length};
-ghost use Rattle.exchange_core.specs.declared.event.Why.{Why};
-ghost use Rattle.exchange_core.specs.declared.event.Why.TheVariants.{Deadline};
+ghost use Rattle.exchange_core.specs.declared.event.RefusalCause.{RefusalCause};
+ghost use Rattle.exchange_core.specs.declared.event.RefusalCause.TheVariants.{Deadline};
 ghost use Rattle.exchange_core.specs.declared.event.Event.{Event};
 ghost use Rattle.exchange_core.specs.declared.event.Event.TheVariants.{RequestRead, ResponseRead, Told, Started, Begun, Answered, Failed, Returned, UserLost, Late, Drain, Stop};
 ghost use Rattle.exchange_core.specs.declared.course.Course.{Course};
-ghost use Rattle.exchange_core.specs.declared.place.Place.TheVariants.{Refusing, Closing, Gone};
+ghost use Rattle.exchange_core.specs.declared.phase.Phase.TheVariants.{Refusing, Closing, Gone};
 ghost use Rattle.exchange_core.specs.declared.due.Due.TheVariants.{Nothing};
 ghost use Rattle.exchange_core.specs.Course.{after, is_leased, is_ready, is_offered, point_of};
 ghost use Rattle.exchange_core.specs.May.{may_come, is_in_queue, is_moving, is_refusing, is_gone, is_free, is_request, holds_nothing, waits_of};
@@ -68,8 +68,8 @@ pub fn a_message_moves_with_all_it_needs()
     ensures origin { (events : List Event) (event : Event) → IsLegal (event ∷ events) → is_move event ≡ true
         → stands is_dialed is_hung_up events ≡ true }
     ensures answer { (events : List Event) → IsLegal (Begun ∷ events)
-        → (stands is_response_read is_request_read events || is_offered (course_of events).place) ≡ true }
-    ensures told { (events : List Event) → IsLegal (Started ∷ events) → waits_of (course_of events).place ≡ true
+        → (stands is_response_read is_request_read events || is_offered (course_of events).phase) ≡ true }
+    ensures told { (events : List Event) → IsLegal (Started ∷ events) → waits_of (course_of events).phase ≡ true
         → stands is_told is_request_read events ≡ true }
 {}
 
@@ -87,14 +87,14 @@ pub fn each_is_told_asked_and_dialed_once()
 /// body. There is at most one, it stays the one that it was, and nothing but the end comes after it, or after a cut.
 pub fn a_refusal_stands_alone()
     ensures untouched { (events : List Event) → IsLegal events
-        → is_refusing (course_of events).place ≡ true → has_begun events ≡ false }
+        → is_refusing (course_of events).phase ≡ true → has_begun events ≡ false }
     ensures whole { (events : List Event) → IsLegal events
-        → is_refusing (course_of events).place ≡ true → is_half_out events ≡ false }
-    ensures same { (more events : List Event) (why : Why) → IsLegal (more ++ events)
-        → KeepsTo why (course_of events).place → KeepsTo why (course_of (more ++ events)).place }
+        → is_refusing (course_of events).phase ≡ true → is_half_out events ≡ false }
+    ensures same { (more events : List Event) (why : RefusalCause) → IsLegal (more ++ events)
+        → KeepsTo why (course_of events).phase → KeepsTo why (course_of (more ++ events)).phase }
     ensures once { (events : List Event) → IsLegal events → count is_refused events ≤ 1 }
     ensures last { (more events : List Event) → IsLegal (more ++ events)
-        → is_leaving (course_of events).place ≡ true → AllAre is_parting more }
+        → is_leaving (course_of events).phase ≡ true → AllAre is_parting more }
 {}
 
 /// A service's connection goes back in the midst of a message only once the service has said all of it. It is kept only where
@@ -102,11 +102,11 @@ pub fn a_refusal_stands_alone()
 /// out only once the service has said all.
 pub fn a_connection_in_use_stays()
     ensures served { (events : List Event) (kept : Bool) → IsLegal (Returned kept ∷ events)
-        → is_moving (course_of events).place ≡ true → has_served events ≡ true }
+        → is_moving (course_of events).phase ≡ true → has_served events ≡ true }
     ensures kept { (events : List Event) → IsLegal (Returned true ∷ events) → is_ready (course_of events).connection ≡ true }
     ensures usable { (events : List Event) → IsLegal (Returned true ∷ events) → is_usable events ≡ true }
     ensures out { (events : List Event) (event : Event) → IsLegal (event ∷ events) → is_out event ≡ true
-        → is_offered (course_of events).place ≡ true → has_served events ≡ true }
+        → is_offered (course_of events).phase ≡ true → has_served events ≡ true }
 {}
 
 /// Something is due until the user's connection is over with nothing held, and what comes of it may come. Where it may have to
@@ -119,12 +119,12 @@ pub fn no_exchange_is_forgotten()
         → (event : Event) × (comes_of (due_of (course_of events)) event ≡ true) × (may_come (course_of events) event ≡ true) }
     ensures deadline { (events : List Event) → IsLegal events
         → is_wait (due_of (course_of events)) ≡ true → may_come (course_of events) Late ≡ true }
-    ensures failure { (c : Course) (why : Why) → is_for_message (due_of c) ≡ true → may_come c (Failed why) ≡ true }
+    ensures failure { (c : Course) (why : RefusalCause) → is_for_message (due_of c) ≡ true → may_come c (Failed why) ≡ true }
     ensures free { (c : Course) → is_wait_for_user (due_of c) ≡ true → holds_nothing c ≡ true }
-    ensures queue { (events : List Event) → IsLegal events → is_in_queue (course_of events).place ≡ true
+    ensures queue { (events : List Event) → IsLegal events → is_in_queue (course_of events).phase ≡ true
         → is_free (course_of events) ≡ true }
-    ensures queue_origin { (events : List Event) → IsLegal events → is_in_queue (course_of events).place ≡ true
-        → is_request (point_of (course_of events).place) ≡ true → (course_of events).origin ≡ false }
+    ensures queue_origin { (events : List Event) → IsLegal events → is_in_queue (course_of events).phase ≡ true
+        → is_request (point_of (course_of events).phase) ≡ true → (course_of events).origin ≡ false }
 {}
 
 /// What comes of doing what is due may come, where it fits what is there: so who drives an exchange needs no test of its own.
@@ -138,21 +138,21 @@ pub fn what_is_due_may_come()
 pub fn deadlines_end_an_exchange()
     ensures refused { (c : Course) → is_wait (due_of c) ≡ true → is_for_leave (due_of c) ≡ false
         → after c Late ≡ after c (Failed Deadline) }
-    ensures let_go { (c : Course) → is_for_leave (due_of c) ≡ true → (after c Late).place ≡ Gone }
+    ensures let_go { (c : Course) → is_for_leave (due_of c) ≡ true → (after c Late).phase ≡ Gone }
     ensures falls { (more events : List Event) → IsLegal (more ++ events) → AllAre is_quiet more
-        → count is_failing more + failures_from (course_of (more ++ events)).place ≤ failures_from (course_of events).place }
+        → count is_failing more + failures_from (course_of (more ++ events)).phase ≤ failures_from (course_of events).phase }
     ensures two { (more events : List Event) → IsLegal (more ++ events) → AllAre is_quiet more → count is_failing more ≤ 2 }
     ensures few { (more events : List Event) → IsLegal (more ++ events) → AllAre is_quiet more → length more ≤ 5 }
 {}
 
 /// A user that is lost ends its exchange at once, wherever it is: all that comes after it is that what is held goes back.
 pub fn a_lost_user_ends_an_exchange()
-    ensures at_once { (events : List Event) → IsLegal events → is_gone (course_of events).place ≡ false
+    ensures at_once { (events : List Event) → IsLegal events → is_gone (course_of events).phase ≡ false
         → stands is_stop never events ≡ false → may_come (course_of events) UserLost ≡ true }
-    ensures gone { (events : List Event) → (course_of (UserLost ∷ events)).place ≡ Gone }
-    ensures frees { (more events : List Event) → IsLegal (more ++ events) → is_gone (course_of events).place ≡ true
+    ensures gone { (events : List Event) → (course_of (UserLost ∷ events)).phase ≡ Gone }
+    ensures frees { (more events : List Event) → IsLegal (more ++ events) → is_gone (course_of events).phase ≡ true
         → AllAre is_freeing more }
-    ensures few { (more events : List Event) → IsLegal (more ++ events) → is_gone (course_of events).place ≡ true
+    ensures few { (more events : List Event) → IsLegal (more ++ events) → is_gone (course_of events).phase ≡ true
         → length more ≤ 3 }
 {}
 
@@ -160,12 +160,12 @@ pub fn a_lost_user_ends_an_exchange()
 /// that was on its way, or that of a user whose answer had been begun before.
 pub fn a_drain_ends_an_exchange()
     ensures closes { (events : List Event) (keeps : Bool) → IsLegal (Answered keeps ∷ events)
-        → is_last_answer events ≡ true → (course_of (Answered keeps ∷ events)).place ≡ Closing }
+        → is_last_answer events ≡ true → (course_of (Answered keeps ∷ events)).phase ≡ Closing }
     ensures one { (more events : List Event) → IsLegal (more ++ Drain ∷ events) → count is_request_read more ≤ 1 }
 {}
 
-/// Once the proxy stops, nothing is read, leased, reserved, opened or begun: a refusal that is due is tried once, and what is
-/// held may go back.
+/// Once the proxy stops, nothing is read, leased, reserved, opened or begun: a refusal that is due is written, and what is held
+/// may go back.
 pub fn a_stop_ends_an_exchange()
     ensures last { (more events : List Event) → IsLegal (more ++ Stop ∷ events) → AllAre is_last more }
     ensures few { (more events : List Event) → IsLegal (more ++ Stop ∷ events) → length more ≤ 4 }

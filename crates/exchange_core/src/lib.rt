@@ -11,11 +11,11 @@ mod event;
 mod exchange;
 pub mod laws;
 mod may;
-mod place;
+mod phase;
 
 pub use connection::Connection;
 pub use course::Course;
 pub use due::Due;
-pub use event::{Event, Why};
+pub use event::{Event, RefusalCause};
 pub use exchange::Exchange;
-pub use place::Place;
+pub use phase::Phase;

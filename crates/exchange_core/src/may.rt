@@ -5,7 +5,7 @@ ghost use Rattle.exchange_core.specs.May.{may_come, is_free, holds_nothing, is_p
 
 use crate::course::Course;
 use crate::event::Event;
-use crate::place::Place;
+use crate::phase::Phase;
 
 impl Course {
     /// Neither a lease nor a reservation is out.
@@ -26,27 +26,27 @@ impl Course {
     fn is_provided(self) -> bool
         ensures { result ≡ is_provided self }
     {
-        let connection = if self.place.is_offered() {
+        let connection = if self.phase.is_offered() {
             self.connection.is_ready()
         } else {
             !self.connection.is_leased()
         };
-        matches!(self.place, Place::Preparing { .. }) && connection && self.stake
+        matches!(self.phase, Phase::Preparing { .. }) && connection && self.stake
     }
 
     /// Whether its user doesn't wait to be told to send its body, or was told.
     fn is_bidden(self) -> bool
         ensures { result ≡ is_bidden self }
     {
-        !self.place.waits() || self.told
+        !self.phase.waits() || self.told
     }
 
     /// Whether a byte of the text that tells it may go out.
     fn may_tell(self) -> bool
         ensures { result ≡ may_tell self }
     {
-        let waits = self.place.waits() && self.is_provided();
-        let is_told = self.place == Place::Telling && self.holds_nothing();
+        let waits = self.phase.waits() && self.is_provided();
+        let is_told = self.phase == Phase::Telling && self.holds_nothing();
         !self.told && (waits || is_told)
     }
 
@@ -54,39 +54,39 @@ impl Course {
     pub fn may(self, event: Event) -> bool
         ensures { result ≡ may_come self event }
     {
-        let place = self.place;
+        let phase = self.phase;
         let connection = self.connection;
         match event {
-            Event::HeadBegun => place == Place::Idle && self.holds_nothing(),
-            Event::RequestRead => place == Place::Head && self.holds_nothing(),
-            Event::ResponseRead => place == Place::Answer && self.is_free(),
+            Event::HeadBegun => phase == Phase::Idle && self.holds_nothing(),
+            Event::RequestRead => phase == Phase::Head && self.holds_nothing(),
+            Event::ResponseRead => phase == Phase::Answer && self.is_free(),
             Event::Stale => {
-                matches!(place, Place::Planning { .. }) && !self.asked && !connection.is_spent()
+                matches!(phase, Phase::Planning { .. }) && !self.asked && !connection.is_spent()
             }
             Event::Queued => {
-                place.wants_connection() && self.is_free() && (!place.is_request() || !self.origin)
+                phase.wants_connection() && self.is_free() && (!phase.is_request() || !self.origin)
             }
             Event::Lent { .. } => {
-                (place.wants_connection() || matches!(place, Place::InQueue { .. }))
+                (phase.wants_connection() || matches!(phase, Phase::InQueue { .. }))
                     && !connection.is_leased()
             }
-            Event::Asked => matches!(place, Place::Asking { .. }) && connection.is_ready(),
-            Event::Learned { .. } => matches!(place, Place::Asking { .. })
+            Event::Asked => matches!(phase, Phase::Asking { .. }) && connection.is_ready(),
+            Event::Learned { .. } => matches!(phase, Phase::Asking { .. })
                 && connection.is_in_use(),
             Event::Planned { waits, .. } => {
-                matches!(place, Place::Planning { .. })
+                matches!(phase, Phase::Planning { .. })
                     && !connection.is_spent()
-                    && (!waits || (place.is_request() && !self.told))
+                    && (!waits || (phase.is_request() && !self.told))
             }
-            Event::Reserved => matches!(place, Place::Preparing { .. }) && !self.stake,
+            Event::Reserved => matches!(phase, Phase::Preparing { .. }) && !self.stake,
             Event::HalfTold => self.may_tell() && !self.half_told,
-            Event::Stuck => place.waits() && self.is_provided() && !self.told,
+            Event::Stuck => phase.waits() && self.is_provided() && !self.told,
             Event::Told => self.may_tell(),
             Event::Dialed => {
-                self.is_provided() && self.is_bidden() && place.is_request() && !self.origin
+                self.is_provided() && self.is_bidden() && phase.is_request() && !self.origin
             }
             Event::Started => self.is_provided() && self.is_bidden() && self.origin,
-            Event::Failed(_) => place.may_fail(),
+            Event::Failed(_) => phase.may_fail(),
             _ => self.may_go_on(event),
         }
     }
@@ -95,32 +95,32 @@ impl Course {
     fn may_go_on(self, event: Event) -> bool
         ensures { goes_on_with event ≡ true → result ≡ may_come self event }
     {
-        let place = self.place;
+        let phase = self.phase;
         let connection = self.connection;
-        let is_moving = matches!(place, Place::Moving { .. });
+        let is_moving = matches!(phase, Phase::Moving { .. });
         match event {
-            Event::LetPass => matches!(place, Place::AtGate { .. }),
+            Event::LetPass => matches!(phase, Phase::AtGate { .. }),
             Event::Renewed => {
                 connection.is_in_use()
                     && connection.is_reused()
-                    && (matches!(place, Place::Asking { .. }) || (is_moving && !self.begun))
+                    && (matches!(phase, Phase::Asking { .. }) || (is_moving && !self.begun))
             }
             Event::Served { .. } => is_moving && connection.is_in_use(),
             Event::Begun => {
-                is_moving && !self.begun && (!place.is_request() || place.is_offered())
+                is_moving && !self.begun && (!phase.is_request() || phase.is_offered())
             }
             Event::Sent => is_moving
-                && place.is_request()
+                && phase.is_request()
                 && !self.begun
                 && !connection.is_in_use(),
             Event::Answered { .. } => is_moving && self.begun && !connection.is_in_use(),
             Event::Returned { kept } => {
                 connection.is_leased()
-                    && (connection.is_spent() || !place.needs_connection(connection.is_in_use()))
+                    && (connection.is_spent() || !phase.needs_connection(connection.is_in_use()))
                     && (!kept || connection.is_ready())
             }
-            Event::Released => self.stake && !place.needs_stake(),
-            Event::HungUp => self.origin && !place.needs_origin(),
+            Event::Released => self.stake && !phase.needs_stake(),
+            Event::HungUp => self.origin && !phase.needs_origin(),
             _ => self.may_end(event),
         }
     }
@@ -129,16 +129,16 @@ impl Course {
     fn may_end(self, event: Event) -> bool
         ensures { ends_with event ≡ true → result ≡ may_come self event }
     {
-        let place = self.place;
-        let is_refusing = matches!(place, Place::Refusing { .. });
+        let phase = self.phase;
+        let is_refusing = matches!(phase, Phase::Refusing { .. });
         match event {
             Event::Refused => is_refusing && self.holds_nothing() && !self.stopping,
-            Event::UserClosed => place == Place::Closing && self.holds_nothing(),
-            Event::UserLost => place != Place::Gone && !self.stopping,
-            Event::Dropped => place.may_drop() && !self.stopping,
-            Event::Late => place.may_wait() && !self.stopping,
-            Event::Drain => place != Place::Gone && !self.draining && !self.stopping,
-            Event::Stop => place != Place::Gone && !self.stopping,
+            Event::UserClosed => phase == Phase::Closing && self.holds_nothing(),
+            Event::UserLost => phase != Phase::Gone && !self.stopping,
+            Event::Dropped => phase.may_drop() && !self.stopping,
+            Event::Late => phase.may_wait() && !self.stopping,
+            Event::Drain => phase != Phase::Gone && !self.draining && !self.stopping,
+            Event::Stop => phase != Phase::Gone && !self.stopping,
             Event::Tried => is_refusing && self.stopping,
             _ => false,
         }

@@ -4,13 +4,13 @@ ghost use Rattle.std.specs.Prelude.{◌≡◌};
 ghost use Rattle.exchange_core.specs.Course.{point_of, is_offered, lent_from, told_from};
 ghost use Rattle.exchange_core.specs.May.{is_request, waits_of, wants_connection, needs_connection, needs_stake, needs_origin, may_fail, may_wait, may_drop};
 
-use crate::event::Why;
+use crate::event::RefusalCause;
 use trace_core::Point;
 
-/// What a user's connection is in the midst of. Most places are the same for a request and for a response: their point says
+/// What a user's connection is in the midst of. Most phases are the same for a request and for a response: their point says
 /// which it is.
 #[derive(Clone, Copy, Debug, PartialEq, Eq)]
-pub enum Place {
+pub enum Phase {
     /// Between two requests: no byte of the next one's head has come.
     Idle,
     /// The head of a request comes.
@@ -51,7 +51,7 @@ pub enum Place {
     Answer,
     /// The proxy's own refusal goes to the user.
     Refusing {
-        why: Why,
+        why: RefusalCause,
     },
     /// All is said, and what the user still sends is dropped.
     Closing,
@@ -59,18 +59,18 @@ pub enum Place {
     Gone,
 }
 
-impl Place {
+impl Phase {
     /// Which message it is about. A request where it is about none.
     pub fn point(self) -> Point
         ensures { result ≡ point_of self }
     {
         match self {
-            Place::Planning { point }
-            | Place::Asking { point }
-            | Place::InQueue { point }
-            | Place::Preparing { point, .. }
-            | Place::AtGate { point, .. }
-            | Place::Moving { point, .. } => point,
+            Phase::Planning { point }
+            | Phase::Asking { point }
+            | Phase::InQueue { point }
+            | Phase::Preparing { point, .. }
+            | Phase::AtGate { point, .. }
+            | Phase::Moving { point, .. } => point,
             _ => Point::Reqmod,
         }
     }
@@ -80,9 +80,9 @@ impl Place {
         ensures { result ≡ is_offered self }
     {
         match self {
-            Place::Preparing { offered, .. }
-            | Place::AtGate { offered, .. }
-            | Place::Moving { offered, .. } => offered,
+            Phase::Preparing { offered, .. }
+            | Phase::AtGate { offered, .. }
+            | Phase::Moving { offered, .. } => offered,
             _ => false,
         }
     }
@@ -92,7 +92,7 @@ impl Place {
         ensures { result ≡ waits_of self }
     {
         match self {
-            Place::Preparing { waits, .. } => waits,
+            Phase::Preparing { waits, .. } => waits,
             _ => false,
         }
     }
@@ -109,8 +109,8 @@ impl Place {
         ensures { result ≡ wants_connection self }
     {
         match self {
-            Place::Asking { .. } => true,
-            Place::Preparing { offered, .. } => offered,
+            Phase::Asking { .. } => true,
+            Phase::Preparing { offered, .. } => offered,
             _ => false,
         }
     }
@@ -120,9 +120,9 @@ impl Place {
         ensures { result ≡ needs_connection self in_use }
     {
         match self {
-            Place::Planning { .. } | Place::Asking { .. } | Place::AtGate { .. } => true,
-            Place::Preparing { offered, .. } => offered,
-            Place::Moving { .. } => in_use,
+            Phase::Planning { .. } | Phase::Asking { .. } | Phase::AtGate { .. } => true,
+            Phase::Preparing { offered, .. } => offered,
+            Phase::Moving { .. } => in_use,
             _ => false,
         }
     }
@@ -133,7 +133,7 @@ impl Place {
     {
         matches!(
             self,
-            Place::Preparing { .. } | Place::AtGate { .. } | Place::Moving { .. }
+            Phase::Preparing { .. } | Phase::AtGate { .. } | Phase::Moving { .. }
         )
     }
 
@@ -143,12 +143,12 @@ impl Place {
     {
         !matches!(
             self,
-            Place::Idle
-                | Place::Head
-                | Place::Telling
-                | Place::Refusing { .. }
-                | Place::Closing
-                | Place::Gone
+            Phase::Idle
+                | Phase::Head
+                | Phase::Telling
+                | Phase::Refusing { .. }
+                | Phase::Closing
+                | Phase::Gone
         )
     }
 
@@ -156,7 +156,7 @@ impl Place {
     pub(crate) fn may_fail(self) -> bool
         ensures { result ≡ may_fail self }
     {
-        !matches!(self, Place::Refusing { .. } | Place::Closing | Place::Gone)
+        !matches!(self, Phase::Refusing { .. } | Phase::Closing | Phase::Gone)
     }
 
     /// Whether the exchange waits for somebody else here.
@@ -165,7 +165,7 @@ impl Place {
     {
         !matches!(
             self,
-            Place::Planning { .. } | Place::Preparing { .. } | Place::AtGate { .. } | Place::Gone
+            Phase::Planning { .. } | Phase::Preparing { .. } | Phase::AtGate { .. } | Phase::Gone
         )
     }
 
@@ -175,29 +175,29 @@ impl Place {
     {
         matches!(
             self,
-            Place::Idle | Place::Head | Place::Refusing { .. } | Place::Closing
+            Phase::Idle | Phase::Head | Phase::Refusing { .. } | Phase::Closing
         )
     }
 
     /// Where a lease leads.
-    pub(crate) fn lent(self) -> Place
+    pub(crate) fn lent(self) -> Phase
         ensures { result ≡ lent_from self }
     {
         match self {
-            Place::InQueue { point } => Place::Planning { point },
-            place => place,
+            Phase::InQueue { point } => Phase::Planning { point },
+            phase => phase,
         }
     }
 
     /// Where a user that was told leads.
-    pub(crate) fn told(self) -> Place
+    pub(crate) fn told(self) -> Phase
         ensures { result ≡ told_from self }
     {
         match self {
-            Place::Telling => Place::Planning {
+            Phase::Telling => Phase::Planning {
                 point: Point::Reqmod,
             },
-            place => place,
+            phase => phase,
         }
     }
 }

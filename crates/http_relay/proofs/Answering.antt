@@ -25,7 +25,7 @@ use Rattle.http_relay.specs.declared.hop.Stage.TheVariants as at
 use Rattle.adapt_sides.specs.declared.fault.RelayFault.{RelayFault}
 use Rattle.adapt_sides.specs.declared.fault.RelayFault.TheVariants.{Length}
 use Rattle.adapt_sides.specs.Tapes.{chosen_delivered}
-use Rattle.http_relay.specs.Giving.{Hop, LetsGo, GivesMessage, HasGiven, GivenAt, IsAside, AsideAt, Decides, NothingDue, hop_events, stage_then, is_message, is_whole, gift_of}
+use Rattle.http_relay.specs.Giving.{Hop, DropsText, GivesMessage, HasGiven, GivenAt, IsAside, AsideAt, Decides, NothingDue, hop_events, stage_then, is_message, is_whole, gift_of}
 use Rattle.adapt_sides.specs.Tapes.{IsUndelivered}
 use Rattle.trace_core.specs.Turns.{after_all}
 use Rattle.adapt_sides.specs.Tapes.{Follows, KeepsUndelivered}
@@ -145,40 +145,40 @@ goes_same x tape old new w f s t = record {
   gift = ap gift_of s;
 }
 
-let_go_at : (stage : Stage) (x : Seen) (f : Framing) (head body taken : List ℕ) (v w : Writer) → waiting w ≡ waiting v → w.left ≡ v.left → GivenAt stage x f head body taken v → GivenAt stage x f head body taken w
-let_go_at at.Empty x f head body taken v w e l g = (ap (λ (xs : List ℕ). taken ++ xs) e ∙ g.0, g.1)
-let_go_at at.Message x f head body taken v w e l g = subst (λ (xs : List ℕ). GivesMessage x f false head body xs w) (append-nil taken) (gives_passed x f false head body taken [] v w e l g)
-let_go_at at.Whole x f head body taken v w e l g = subst (λ (xs : List ℕ). GivesMessage x f true head body xs w) (append-nil taken) (gives_passed x f true head body taken [] v w e l g)
-let_go_at (at.Refusal status) x f head body taken v w e l g = absurd g
+drop_text_at : (stage : Stage) (x : Seen) (f : Framing) (head body taken : List ℕ) (v w : Writer) → waiting w ≡ waiting v → w.left ≡ v.left → GivenAt stage x f head body taken v → GivenAt stage x f head body taken w
+drop_text_at at.Empty x f head body taken v w e l g = (ap (λ (xs : List ℕ). taken ++ xs) e ∙ g.0, g.1)
+drop_text_at at.Message x f head body taken v w e l g = subst (λ (xs : List ℕ). GivesMessage x f false head body xs w) (append-nil taken) (gives_passed x f false head body taken [] v w e l g)
+drop_text_at at.Whole x f head body taken v w e l g = subst (λ (xs : List ℕ). GivesMessage x f true head body xs w) (append-nil taken) (gives_passed x f true head body taken [] v w e l g)
+drop_text_at (at.Refusal status) x f head body taken v w e l g = absurd g
 
-aside_let_go_at : (stage : Stage) (taken : List ℕ) (v w : Writer) → waiting w ≡ waiting v → AsideAt stage taken v → AsideAt stage taken w
-aside_let_go_at at.Empty taken v w e a = ap (λ (xs : List ℕ). taken ++ xs) e ∙ a
-aside_let_go_at at.Message taken v w e a = absurd a
-aside_let_go_at at.Whole taken v w e a = absurd a
-aside_let_go_at (at.Refusal status) taken v w e a = ap (λ (xs : List ℕ). taken ++ xs) e ∙ a
+aside_drop_text_at : (stage : Stage) (taken : List ℕ) (v w : Writer) → waiting w ≡ waiting v → AsideAt stage taken v → AsideAt stage taken w
+aside_drop_text_at at.Empty taken v w e a = ap (λ (xs : List ℕ). taken ++ xs) e ∙ a
+aside_drop_text_at at.Message taken v w e a = absurd a
+aside_drop_text_at at.Whole taken v w e a = absurd a
+aside_drop_text_at (at.Refusal status) taken v w e a = ap (λ (xs : List ℕ). taken ++ xs) e ∙ a
 
 -- memory that is given back changes nothing of what was given
-let_go_given : (x : Seen) (head body taken : List ℕ) (old new : Hop) → LetsGo old new → HasGiven x head body taken old → HasGiven x head body taken new
-let_go_given x head body taken old new l h = record {
+drop_text_given : (x : Seen) (head body taken : List ℕ) (old new : Hop) → DropsText old new → HasGiven x head body taken old → HasGiven x head body taken new
+drop_text_given x head body taken old new l h = record {
   given = subst (λ (stage : Stage). GivenAt stage x new.framing head body taken new.writer) (sym l.stage)
       (subst (λ (f : Framing). GivenAt old.stage x f head body taken new.writer) (sym l.framing)
-      (let_go_at old.stage x old.framing head body taken old.writer new.writer l.waiting_is l.left h.given));
+      (drop_text_at old.stage x old.framing head body taken old.writer new.writer l.waiting_is l.left h.given));
   untouched = λ n. h.untouched (sym l.touched ∙ n);
   touched = λ n. h.touched (sym l.touched ∙ n);
 }
 
-let_go_aside : (taken : List ℕ) (old new : Hop) → LetsGo old new → IsAside taken old → IsAside taken new
-let_go_aside taken old new l a = record {
-  text = subst (λ (stage : Stage). AsideAt stage taken new.writer) (sym l.stage) (aside_let_go_at old.stage taken old.writer new.writer l.waiting_is a.text);
+drop_text_aside : (taken : List ℕ) (old new : Hop) → DropsText old new → IsAside taken old → IsAside taken new
+drop_text_aside taken old new l a = record {
+  text = subst (λ (stage : Stage). AsideAt stage taken new.writer) (sym l.stage) (aside_drop_text_at old.stage taken old.writer new.writer l.waiting_is a.text);
   untouched = λ n. a.untouched (sym l.touched ∙ n);
   touched = λ n. a.touched (sym l.touched ∙ n);
 }
 
-goes_let_go : (x : Seen) (tape : Tape) (old mid new : Hop) (events : List Event) (delta : List ℕ) → LetsGo mid new → GoesOn x tape old mid events delta → GoesOn x tape old new events delta
-goes_let_go x tape old mid new events delta l g = record {
+goes_drop_text : (x : Seen) (tape : Tape) (old mid new : Hop) (events : List Event) (delta : List ℕ) → DropsText mid new → GoesOn x tape old mid events delta → GoesOn x tape old new events delta
+goes_drop_text x tape old mid new events delta l g = record {
   legal = g.legal;
-  given = λ head body taken f h. let_go_given (after_all x events) head body (taken ++ delta) mid new l (g.given head body taken f h);
-  aside = λ taken a. let_go_aside (taken ++ delta) mid new l (g.aside taken a);
+  given = λ head body taken f h. drop_text_given (after_all x events) head body (taken ++ delta) mid new l (g.given head body taken f h);
+  aside = λ taken a. drop_text_aside (taken ++ delta) mid new l (g.aside taken a);
   sent = g.sent;
   done = g.done;
   events_are = g.events_are;
@@ -188,34 +188,34 @@ goes_let_go x tape old mid new events delta l g = record {
   gift = ap gift_of l.stage ∙ g.gift;
 }
 
-due_let_go : (x : Seen) (old new : Hop) → LetsGo old new → NothingDue x old → NothingDue x new
-due_let_go x old new l d = record {
+due_drop_text : (x : Seen) (old new : Hop) → DropsText old new → NothingDue x old → NothingDue x new
+due_drop_text x old new l d = record {
   one = d.one;
   flushed = l.waiting_is ∙ d.flushed;
   none = λ m. d.none (ap is_message (sym l.stage) ∙ m);
   no_done = λ m. d.no_done (ap (λ (stage : Stage). is_message stage || is_whole stage) (sym l.stage) ∙ m);
 }
 
-fits_let_go : (x : Seen) (old mid new : Hop) (answer : Option Put) (result : Result Turn RelayFault) → LetsGo mid new → FitsOffer x old mid answer result → FitsOffer x old new answer result
-fits_let_go x old mid new answer (Ok turn) l f = record {
+fits_drop_text : (x : Seen) (old mid new : Hop) (answer : Option Put) (result : Result Turn RelayFault) → DropsText mid new → FitsOffer x old mid answer result → FitsOffer x old new answer result
+fits_drop_text x old mid new answer (Ok turn) l f = record {
   no_fault = f.no_fault;
   wait = f.wait;
-  idle = λ a n. due_let_go x mid new l (f.idle a n);
+  idle = λ a n. due_drop_text x mid new l (f.idle a n);
   waiting_is = f.waiting_is;
   moved = f.moved;
   woke = f.woke;
 }
-fits_let_go x old mid new answer (Err fault) l f = f
+fits_drop_text x old mid new answer (Err fault) l f = f
 
 -- the same turn, and then memory is given back
-pub turned_let_go : (x : Seen) (tape : Tape) (old mid new : Hop) (before after' : Past → Type 0) (result : Result Turn RelayFault) → LetsGo mid new → WriteTurn x tape old mid before after' result → WriteTurn x tape old new before after' result
-turned_let_go x tape old mid new before after' result l t = record {
+pub turned_drop_text : (x : Seen) (tape : Tape) (old mid new : Hop) (before after' : Past → Type 0) (result : Result Turn RelayFault) → DropsText mid new → WriteTurn x tape old mid before after' result → WriteTurn x tape old new before after' result
+turned_drop_text x tape old mid new before after' result l t = record {
   text = t.text;
   answer = t.answer;
   wire = t.wire;
-  goes_on = goes_let_go x tape old mid new (events_of result) (delta_of t.text t.answer) l t.goes_on;
+  goes_on = goes_drop_text x tape old mid new (events_of result) (delta_of t.text t.answer) l t.goes_on;
   offers = t.offers;
-  fits = λ n. fits_let_go x old mid new t.answer result l (t.fits n);
+  fits = λ n. fits_drop_text x old mid new t.answer result l (t.fits n);
 }
 
 pub decides_at : (x : Seen) (old : Hop) (v : Writer) (f : Framing) (stage : Stage) (next : Next) → v ≡ old.writer → f ≡ old.framing → stage ≡ old.stage → Decides x v f stage next → Decides x old.writer old.framing old.stage next

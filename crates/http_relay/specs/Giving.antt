@@ -147,7 +147,7 @@ abbrev pub is_flushed : Hop → Bool
 is_flushed h = length (waiting h.writer) == 0
 
 -- memory was given back, and nothing else
-pub record LetsGo (old new : Hop) : Type 0 where
+pub record DropsText (old new : Hop) : Type 0 where
   pub waiting_is : waiting new.writer ≡ waiting old.writer
   pub left : new.writer.left ≡ old.writer.left
   pub framing : new.framing ≡ old.framing

@@ -7,7 +7,7 @@ ghost use Rattle.chunk_writer.specs.Writer.{fresh, waiting, KeepsNoText};
 ghost use Rattle.http_side.specs.Refusals.{is_own_status, refusal};
 ghost use Rattle.adapt_sides.specs.Tapes.{KeepsUndelivered};
 ghost use Rattle.adapt_sides.specs.Turns.{wire_fault};
-ghost use Rattle.http_relay.specs.Giving.{Hop, HasGiven, IsAside, LetsGo, is_flushed, is_whole, is_empty, stage_then};
+ghost use Rattle.http_relay.specs.Giving.{Hop, HasGiven, IsAside, DropsText, is_flushed, is_whole, is_empty, stage_then};
 ghost use Rattle.adapt_sides.specs.Tapes.{IsUndelivered};
 ghost use Rattle.http_relay.specs.Writing.{WriteTurn};
 
@@ -140,12 +140,12 @@ impl HopWriter {
         self.writer.is_out()
     }
 
-    /// Gives back the head's memory, once all of it is out.
+    /// Drops the head, once all of it is out: its memory is given back.
     fn drop_text(&mut self)
-        ensures still { LetsGo self.old self.new }
+        ensures still { DropsText self.old self.new }
         ensures gone { KeepsNoText self.new.writer }
     {
-        self.writer.release();
+        self.writer.drop_text();
     }
 
     /// Counts what a turn wrote, and says whether the whole message is out with it.

@@ -2,12 +2,12 @@
 #![tactic(auto)]
 
 mod body;
+mod contract;
 mod due;
 mod hop;
 pub mod laws;
 mod side;
 mod source_body;
-mod traits;
 
 pub use adapt_sides::{RelayFault, Turn};
 pub use hop::{HopWriter, Stage};

@@ -147,7 +147,7 @@ impl SourceSide {
     }
 
     /// Runs [`SourceSide::frame_or_read`], and then keeps no empty room.
-    fn try_turn<W: Wire>(&mut self, wire: &mut W, out: &mut [u8]) -> Result<Turn, RelayFault>
+    fn turn_once<W: Wire>(&mut self, wire: &mut W, out: &mut [u8]) -> Result<Turn, RelayFault>
         ensures turn { ReadTurn (length out.old) self.old self.new (W.past wire.old) (W.past wire.new) out.new result }
         ensures kept { length self.old.raw.items < length self.new.raw.items → length self.new.raw.items ≤ MAX_READ }
         ensures fault { self.new.fault ≡ self.old.fault }
@@ -177,7 +177,7 @@ impl SourceSide {
         if let Some(fault) = self.fault {
             return Err(fault);
         }
-        match self.try_turn(wire, out) {
+        match self.turn_once(wire, out) {
             Ok(turn) => Ok(turn),
             Err(fault) => {
                 self.fault = Some(fault);

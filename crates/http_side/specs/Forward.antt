@@ -229,10 +229,10 @@ abbrev pub is_chunks : Framing → Bool
 is_chunks Chunked = true
 is_chunks _ = false
 
--- the user's connection ends after the answer: an old user, `close` in the request, a body that isn't read, or an answer
+-- the user's connection ends after the answer: an old user, `close` in the request, no further request may come, or an answer
 -- that the close ends
 abbrev pub closes : Forward → Bool
-closes f = (f.user.now.minor == 0) || (is_named_by f.user.now.fields (codes "close") || (not f.body_read || is_close (next_framing f)))
+closes f = (f.user.now.minor == 0) || (is_named_by f.user.now.fields (codes "close") || (not f.carries_on || is_close (next_framing f)))
 
 -- an answer without a body and without a length gets `Content-Length: 0`
 abbrev pub is_none : {A : Type 0} → Option A → Bool

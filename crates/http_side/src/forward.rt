@@ -44,8 +44,9 @@ pub struct Forward<'u, 'm> {
     pub message: Message<'m>,
     /// What follows its head.
     pub part: BodyKind,
-    /// Whether the body of the user's request has been read to its end.
-    pub body_read: bool,
+    /// Whether the user's connection may carry a further request: the body of its request was read to its end, and the message isn't
+    /// the last one of the connection.
+    pub carries_on: bool,
 }
 
 /// A message on its way to a service, within an ICAP message.
@@ -169,7 +170,7 @@ impl<'u, 'm> Forward<'u, 'm> {
     {
         self.user.minor() == 0
             || (is_named_by(&self.user.fields(), b"close")
-                || (!self.body_read || self.framing() == Framing::Close))
+                || (!self.carries_on || self.framing() == Framing::Close))
     }
 
     /// Whether the head gets `Content-Length: 0`.

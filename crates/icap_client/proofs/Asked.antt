@@ -330,5 +330,5 @@ pub asks_kept : (old new kept : Asker) (P Q : Past → Type 0) (result : Result 
     → Asks old new P Q result → Asks old kept P Q result
 asks_kept old new kept P Q result w s r e a = asks_as old new kept P Q result (record { waiting = w; stage = s; response = r; raw = e }) a
 
-pub asks_let_go : (old new kept : Asker) (P Q : Past → Type 0) (result : Result (Option IcapResponse) ClientFault) → LetsRoomGo new kept → Asks old new P Q result → Asks old kept P Q result
-asks_let_go old new kept P Q result l a = asks_as old new kept P Q result (record { waiting = l.waiting; stage = l.stage; response = l.response; raw = l.raw }) a
+pub asks_drop_text : (old new kept : Asker) (P Q : Past → Type 0) (result : Result (Option IcapResponse) ClientFault) → LetsRoomGo new kept → Asks old new P Q result → Asks old kept P Q result
+asks_drop_text old new kept P Q result l a = asks_as old new kept P Q result (record { waiting = l.waiting; stage = l.stage; response = l.response; raw = l.raw }) a

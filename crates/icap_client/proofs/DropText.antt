@@ -13,10 +13,10 @@ use Rattle.chunk_writer.specs.Moves.Moves.{start, passed, begun_chunk, sent, end
 use Rattle.adapt_sides.specs.declared.turn.Turn.{Turn}
 use Rattle.adapt_sides.specs.declared.fault.ClientFault.{ClientFault}
 use Rattle.icap_client.specs.Front.{Front, HasBody}
-use Rattle.icap_client.specs.Sending.{HasSent, LetsGo, NothingDue}
+use Rattle.icap_client.specs.Sending.{HasSent, DropsText, NothingDue}
 use Rattle.icap_client.specs.Turns.{WriteTurn, FitsOffer, is_flushed}
 
-pub sent_still : (head : List ℕ) (x : Seen) (came taken : List ℕ) (old new : Writer) → LetsGo old new → HasSent head x came taken old → HasSent head x came taken new
+pub sent_still : (head : List ℕ) (x : Seen) (came taken : List ℕ) (old new : Writer) → DropsText old new → HasSent head x came taken old → HasSent head x came taken new
 sent_still head x came taken old new l h = record {
   chunks = h.chunks;
   fixed = ap (λ (t : List ℕ). taken ++ t) l.waiting_is ∙ h.fixed;
@@ -27,13 +27,13 @@ sent_still head x came taken old new l h = record {
   waits = λ some. subst (WaitsBehind (HasBody (take x.sent came)) h.chunks) (sym l.waiting_is) (h.waits some);
 }
 
-pub due_still : (x : Seen) (old new : Writer) → LetsGo old new → NothingDue x old → NothingDue x new
+pub due_still : (x : Seen) (old new : Writer) → DropsText old new → NothingDue x old → NothingDue x new
 due_still x old new l n = record { flushed = l.waiting_is ∙ n.flushed; none = n.none; no_stop = n.no_stop }
 
-pub flushed_still : (old new : Writer) → LetsGo old new → is_flushed new ≡ is_flushed old
+pub flushed_still : (old new : Writer) → DropsText old new → is_flushed new ≡ is_flushed old
 flushed_still old new l = ap (λ (t : List ℕ). length t == 0) l.waiting_is
 
-fits_still : (x : Seen) (mid new : Writer) (answer : Option Put) (result : Result Turn ClientFault) → LetsGo mid new → FitsOffer x mid answer result → FitsOffer x new answer result
+fits_still : (x : Seen) (mid new : Writer) (answer : Option Put) (result : Result Turn ClientFault) → DropsText mid new → FitsOffer x mid answer result → FitsOffer x new answer result
 fits_still x mid new answer (Ok turn) l f = record {
   no_fault = f.no_fault;
   wait = f.wait;
@@ -44,7 +44,7 @@ fits_still x mid new answer (Ok turn) l f = record {
 }
 fits_still x mid new answer (Err fault) l f = f
 
-pub write_still : (x : Seen) (tape : Tape) (old mid new : Writer) (P Q : Past → Type 0) (result : Result Turn ClientFault) → LetsGo mid new → WriteTurn x tape old mid P Q result → WriteTurn x tape old new P Q result
+pub write_still : (x : Seen) (tape : Tape) (old mid new : Writer) (P Q : Past → Type 0) (result : Result Turn ClientFault) → DropsText mid new → WriteTurn x tape old mid P Q result → WriteTurn x tape old new P Q result
 write_still x tape old mid new P Q result l t = record {
   next = t.next;
   answer = t.answer;

@@ -33,8 +33,8 @@ pub record HasSent (head : List ℕ) (x : Seen) (came taken : List ℕ) (w : Wri
   -- once a byte of the body is out, all that were counted are, and what waits is framing text after them
   pub waits : 0 < x.sent → WaitsBehind (HasBody (take x.sent came)) chunks (waiting w)
 
--- The text of a request's heads, as it is let go once it is out: what waits stays.
-pub record LetsGo (old new : Writer) : Type 0 where
+-- The text of a request's heads, as it is dropped once it is out: what waits stays.
+pub record DropsText (old new : Writer) : Type 0 where
   pub waiting_is : waiting new ≡ waiting old
   pub framing : new.framing ≡ old.framing
   pub left : new.left ≡ old.left

@@ -10,16 +10,16 @@ use arrayvec::ArrayVec;
 use icap_head::HeadFault;
 use trace_core::{Event, Payload, State};
 
-/// What was framed of the offered bytes: how many of the first ones, and the event that they are.
+/// What was framed of a head in the offered bytes: how many of the first ones, and the event that they are.
 #[derive(Clone, Copy, Debug, PartialEq, Eq)]
-pub(crate) struct Framed {
+pub(crate) struct FramedHead {
     pub(crate) used: usize,
     pub(crate) event: Option<Event>,
 }
 
-/// What was heard in the offered bytes: how many of the first ones were framed, and the events that they are.
+/// What was framed of the offered bytes: how many of the first ones, and the events that they are.
 #[derive(Drop)]
-pub struct Heard {
+pub struct Framed {
     pub used: usize,
     pub events: ArrayVec<Event, 4>,
 }

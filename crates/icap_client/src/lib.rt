@@ -5,7 +5,7 @@ mod answered;
 mod blank_line;
 mod body;
 mod contract;
-mod decide;
+mod due;
 mod events;
 mod kept;
 pub mod laws;
@@ -19,7 +19,7 @@ mod service;
 mod side;
 mod stage;
 
-pub use events::Heard;
+pub use events::Framed;
 pub use options::{OptionsSide, OptionsStage};
 pub use reader::ReplyReader;
 pub use said::says_close;

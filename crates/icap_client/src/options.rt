@@ -268,7 +268,7 @@ impl OptionsSide {
     }
 
     /// One step of [`OptionsSide::turn`].
-    fn try_turn<W: Wire>(&mut self, wire: &mut W) -> Result<Option<IcapResponse>, ClientFault>
+    fn write_or_read<W: Wire>(&mut self, wire: &mut W) -> Result<Option<IcapResponse>, ClientFault>
         ensures asks { Asks self.old self.new (W.past wire.old) (W.past wire.new) result }
         ensures fault { self.new.fault ≡ self.old.fault }
     {
@@ -292,13 +292,13 @@ impl OptionsSide {
         self.raw.free_memory(self.alloc);
     }
 
-    /// Runs [`OptionsSide::try_turn`], and then keeps no empty room.
+    /// Runs [`OptionsSide::write_or_read`], and then keeps no empty room.
     fn turn_once<W: Wire>(&mut self, wire: &mut W) -> Result<Option<IcapResponse>, ClientFault>
         ensures asks { Asks self.old self.new (W.past wire.old) (W.past wire.new) result }
         ensures fault { self.new.fault ≡ self.old.fault }
         ensures empty { self.new.raw ≡ [] → self.new.room ≡ 0 }
     {
-        let result = self.try_turn(wire);
+        let result = self.write_or_read(wire);
         self.free_memory();
         result
     }

@@ -18,7 +18,7 @@ mod shown;
 
 use crate::blank_line::head_end;
 use crate::body::read_body;
-use crate::events::{Framed, Heard, adapted_events, event_list, may_all, payload_of, refusal};
+use crate::events::{Framed, FramedHead, adapted_events, event_list, may_all, payload_of, refusal};
 use crate::lists::has_body;
 use crate::replies::{Reply, may_reply, reply_of};
 use crate::said::says_close;
@@ -110,7 +110,7 @@ impl ReplyReader {
         value: &IcapResponse,
         raw: &[u8],
         size: usize,
-    ) -> Result<Framed, ClientFault>
+    ) -> Result<FramedHead, ClientFault>
         requires stage { self.old.stage ≡ Stage.Replies }
         requires limits { LimitsOf reply }
         requires head { HasResponse raw.now (response_parts value.now) size }
@@ -128,20 +128,20 @@ impl ReplyReader {
             return Err(ClientFault::NotLegal);
         }
         match reply {
-            Reply::Continue => Ok(Framed {
+            Reply::Continue => Ok(FramedHead {
                 used: size,
                 event: Some(Event::Continue),
             }),
             Reply::NoMod => {
                 self.stage = Stage::Over;
-                Ok(Framed {
+                Ok(FramedHead {
                     used: size,
                     event: Some(Event::NoMod),
                 })
             }
             Reply::Mod(layout) => {
                 self.stage = Stage::Head(layout);
-                Ok(Framed {
+                Ok(FramedHead {
                     used: size,
                     event: None,
                 })
@@ -150,7 +150,7 @@ impl ReplyReader {
     }
 
     /// Reads the ICAP head of a response, if it is there.
-    fn read_reply(&mut self, state: &State, raw: &[u8]) -> Result<Framed, ClientFault>
+    fn read_reply(&mut self, state: &State, raw: &[u8]) -> Result<FramedHead, ClientFault>
         requires { self.old.stage ≡ Stage.Replies }
         ensures within { IfOk result (λ framed. framed.used ≤ length raw.now) }
         ensures silent { IfOk result (λ framed. ad_sum (listed framed.event) ≡ 0) }
@@ -172,7 +172,7 @@ impl ReplyReader {
             },
             Err(fault) => match refusal(fault) {
                 Some(fault) => Err(fault),
-                None => Ok(Framed {
+                None => Ok(FramedHead {
                     used: 0,
                     event: None,
                 }),
@@ -186,7 +186,7 @@ impl ReplyReader {
         state: &State,
         layout: Layout,
         raw: &[u8],
-    ) -> Result<Framed, ClientFault>
+    ) -> Result<FramedHead, ClientFault>
         requires { self.old.stage ≡ Stage.Head layout }
         ensures within { IfOk result (λ framed. framed.used ≤ length raw.now) }
         ensures silent { IfOk result (λ framed. ad_sum (listed framed.event) ≡ 0) }
@@ -202,7 +202,7 @@ impl ReplyReader {
             Some(end) if end == size => self.take_head(state, layout, seen),
             Some(_) => Err(ClientFault::Layout),
             None if raw.len() >= size => Err(ClientFault::Layout),
-            None => Ok(Framed {
+            None => Ok(FramedHead {
                 used: 0,
                 event: None,
             }),
@@ -210,7 +210,7 @@ impl ReplyReader {
     }
 
     /// Reads the heads of a response, as far as they are there.
-    fn read_heads(&mut self, state: &State, raw: &[u8]) -> Result<Framed, ClientFault>
+    fn read_heads(&mut self, state: &State, raw: &[u8]) -> Result<FramedHead, ClientFault>
         requires { self.old.stage ≡ Stage.Replies }
         ensures within { IfOk result (λ framed. framed.used ≤ length raw.now) }
         ensures silent { IfOk result (λ framed. ad_sum (listed framed.event) ≡ 0) }
@@ -230,7 +230,7 @@ impl ReplyReader {
                 Stage::Head(layout) => {
                     let rest = behind(raw, first.used);
                     match self.read_head(state, layout, rest) {
-                        Ok(second) => Ok(Framed {
+                        Ok(second) => Ok(FramedHead {
                             used: first.used + second.used,
                             event: second.event,
                         }),
@@ -252,7 +252,7 @@ impl ReplyReader {
         chunks: ChunkReader,
         raw: &[u8],
         out: &mut [u8],
-    ) -> Result<Heard, ClientFault>
+    ) -> Result<Framed, ClientFault>
         requires { self.old.stage ≡ Stage.Body chunks }
         ensures within { IfOk result (λ heard. (heard.used ≤ length raw.now) × (ad_sum heard.events.items ≤ length out.old)) }
         ensures hears { IfOk result (λ heard. ReaderHears (shows state.now) self.old self.new heard.events.items (take heard.used raw.now) (take (ad_sum heard.events.items) out.new)) }
@@ -273,7 +273,7 @@ impl ReplyReader {
                 } else {
                     Stage::Body(next)
                 };
-                Ok(Heard {
+                Ok(Framed {
                     used: copied.used,
                     events: adapted_events(copied.count, copied.ended),
                 })
@@ -284,7 +284,12 @@ impl ReplyReader {
 
     /// Frames what can be framed of the raw bytes, which come after those that were framed before. The bytes of the adapted
     /// body go to the beginning of `out`; the events give their number.
-    pub fn frame(&mut self, state: &State, raw: &[u8], out: &mut [u8]) -> Result<Heard, ClientFault>
+    pub fn frame(
+        &mut self,
+        state: &State,
+        raw: &[u8],
+        out: &mut [u8],
+    ) -> Result<Framed, ClientFault>
         ensures within { IfOk result (λ heard. (heard.used ≤ length raw.now) × (ad_sum heard.events.items ≤ length out.old)) }
         ensures hears { IfOk result (λ heard. ReaderHears (shows state.now) self.old self.new heard.events.items (take heard.used raw.now) (take (ad_sum heard.events.items) out.new)) }
 
@@ -298,21 +303,21 @@ impl ReplyReader {
     {
         match self.stage {
             Stage::Replies => match self.read_heads(state, raw) {
-                Ok(framed) => Ok(Heard {
+                Ok(framed) => Ok(Framed {
                     used: framed.used,
                     events: event_list(framed.event),
                 }),
                 Err(fault) => Err(fault),
             },
             Stage::Head(layout) => match self.read_head(state, layout, raw) {
-                Ok(framed) => Ok(Heard {
+                Ok(framed) => Ok(Framed {
                     used: framed.used,
                     events: event_list(framed.event),
                 }),
                 Err(fault) => Err(fault),
             },
             Stage::Body(chunks) => self.read_on(state, chunks, raw, out),
-            Stage::Over => Ok(Heard {
+            Stage::Over => Ok(Framed {
                 used: 0,
                 events: ArrayVec::new(),
             }),
@@ -325,7 +330,7 @@ impl ReplyReader {
         state: &State,
         layout: Layout,
         head: &[u8],
-    ) -> Result<Framed, ClientFault>
+    ) -> Result<FramedHead, ClientFault>
         requires stage { self.old.stage ≡ Stage.Head layout }
         requires head { IsEncapsulatedHead head.now }
         requires size { length head.now ≡ layout.offset }
@@ -352,7 +357,7 @@ impl ReplyReader {
         } else {
             Stage::Over
         };
-        Ok(Framed {
+        Ok(FramedHead {
             used: head.len(),
             event: Some(Event::Mod(payload)),
         })

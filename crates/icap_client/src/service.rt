@@ -10,12 +10,12 @@ ghost use Rattle.icap_client.specs.Heard.{KeepsHead};
 ghost use Rattle.icap_client.specs.Laws.{first_reader};
 ghost use Rattle.icap_client.specs.Reading.{ReadTurn};
 ghost use Rattle.icap_client.specs.Events.{after_all, MayCome};
-ghost use Rattle.icap_client.specs.Sending.{KeepsUnsent, NothingDue, count_of, sending_events, LetsGo, KeepsOrDrops, KeepsNoText};
+ghost use Rattle.icap_client.specs.Sending.{KeepsUnsent, NothingDue, count_of, sending_events, DropsText, KeepsOrDrops, KeepsNoText};
 ghost use Rattle.icap_client.specs.RequestHead.{request_head};
 ghost use Rattle.icap_client.specs.Turns.{ServiceSent, ServiceHeard, is_whole_request, is_reusable, is_answered, WriteTurn, Sends, Hears, RestsReading, HasFramed, events_of, is_flushed};
 
 use crate::answered::is_answered;
-use crate::decide::{decide, has_last_stop};
+use crate::due::{decide, has_last_stop};
 use crate::request::request_head;
 use crate::side::ReplySide;
 use crate::stage::Stage;
@@ -209,25 +209,25 @@ impl ServiceSide {
         flushed(&self.writer)
     }
 
-    /// The memory that the text of the request's heads holds, in bytes: 0 once it was let go.
+    /// The memory that the text of the request's heads holds, in bytes: 0 once it was dropped.
     pub fn request_room(&self) -> usize
         ensures { self.now.writer.head ≡ [] → result ≡ 0 }
     {
         self.writer.head_room()
     }
 
-    /// Lets go of the heads' text that is out, unless the request may begin anew.
-    fn let_go(&mut self, may_retry: bool)
+    /// Drops the text of the heads that is out, unless the request may begin anew.
+    fn drop_text(&mut self, may_retry: bool)
         ensures replies { self.new.replies ≡ self.old.replies }
         ensures last_stop { self.new.last_stop ≡ self.old.last_stop }
         ensures answered { self.new.answered ≡ self.old.answered }
-        ensures writer { LetsGo self.old.writer self.new.writer }
+        ensures writer { DropsText self.old.writer self.new.writer }
         ensures heads { KeepsOrDrops self.old.writer self.new.writer }
         ensures kept { may_retry ≡ true → self.new.writer.head ≡ self.old.writer.head }
         ensures gone { may_retry ≡ false → KeepsNoText self.new.writer }
     {
         if !may_retry {
-            self.writer.release();
+            self.writer.drop_text();
         }
     }
 
@@ -254,7 +254,7 @@ impl ServiceSide {
         // Where it keeps a fault the wire isn't touched again.
         ensures untouched { IfSome self.old.replies.fault (λ fault. (p : Past) → W.past wire.old p → W.past wire.new p) }
 
-        // The heads' text is kept as long as the request may begin anew; once it may not, what is out is let go. No other text
+        // The heads' text is kept as long as the request may begin anew; once it may not, what is out is dropped. No other text
         // comes in its place.
         ensures heads { KeepsOrDrops self.old.writer self.new.writer }
         ensures kept { MayCome (shows state.now) Event.Retry → self.new.writer.head ≡ self.old.writer.head }
@@ -265,7 +265,7 @@ impl ServiceSide {
         }
         match write_once(&mut self.writer, &mut self.last_stop, state, tape, wire) {
             Ok(turn) => {
-                self.let_go(state.may(Event::Retry));
+                self.drop_text(state.may(Event::Retry));
                 Ok(turn)
             }
             Err(fault) => {
@@ -283,7 +283,7 @@ impl ServiceSide {
         wire: &mut W,
         out: &mut [u8],
     ) -> Result<Turn, ClientFault>
-        ensures writer { LetsGo self.old.writer self.new.writer }
+        ensures writer { DropsText self.old.writer self.new.writer }
         ensures last_stop { self.new.last_stop ≡ self.old.last_stop }
         ensures answered { IfOk result (λ turn. self.new.answered ≡ is_answered (after_all (shows state.now) turn.events.items)) }
         ensures head { KeepsHead (shows state.now) self.old.replies.reader self.new.replies.reader }
@@ -302,7 +302,7 @@ impl ServiceSide {
         ensures empty { self.old.replies.fault ≡ None → self.new.replies.raw ≡ [] → self.new.replies.room ≡ 0 }
 
         // The heads' text is kept as long as the request may begin anew, which it may not after a byte of a reply; then what is
-        // out is let go. No other text comes in its place.
+        // out is dropped. No other text comes in its place.
         ensures heads { KeepsOrDrops self.old.writer self.new.writer }
         ensures kept { MayCome (shows state.now) Event.Retry → self.new.writer.head ≡ self.old.writer.head }
         ensures gone { IfOk result (λ _. (MayCome (shows state.now) Event.Retry → ⊥) → KeepsNoText self.new.writer) }
@@ -311,7 +311,7 @@ impl ServiceSide {
         match self.replies.read_turn(state, all_sent, wire, out) {
             Ok(turn) => {
                 self.answered = is_answered(&state.seen(), turn.events.as_slice());
-                self.let_go(state.may(Event::Retry));
+                self.drop_text(state.may(Event::Retry));
                 Ok(turn)
             }
             Err(fault) => Err(fault),

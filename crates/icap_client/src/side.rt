@@ -13,7 +13,7 @@ ghost use Rattle.adapt_sides.specs.Filling.{IsFilled};
 ghost use Rattle.icap_client.specs.Turns.{is_over};
 ghost use Rattle.wire_kit.specs.Past.{Past};
 
-use crate::events::{Heard, event_list};
+use crate::events::{Framed, event_list};
 use crate::kept::Kept;
 use crate::reader::ReplyReader;
 use crate::stage::Stage;
@@ -37,7 +37,7 @@ fn may_read(state: &State, all_sent: bool) -> bool
 }
 
 /// Whether all bytes were judged to be a prefix of a response's head.
-fn awaits_more(reader: &ReplyReader, heard: &Heard) -> bool
+fn awaits_more(reader: &ReplyReader, heard: &Framed) -> bool
     ensures none { result ≡ true → heard.now.events.items ≡ [] }
     ensures stage { result ≡ true → reader.now.stage ≡ Stage.Replies }
 {
@@ -269,7 +269,7 @@ impl ReplySide {
     }
 
     /// Frames the raw bytes, and reads the wire once if nothing of them can be framed.
-    fn try_turn<W: Wire>(
+    fn frame_or_read<W: Wire>(
         &mut self,
         state: &State,
         all_sent: bool,
@@ -312,7 +312,7 @@ impl ReplySide {
         self.raw.free_memory(self.reader.allocator());
     }
 
-    /// Runs [`ReplySide::try_turn`], and then keeps no empty room.
+    /// Runs [`ReplySide::frame_or_read`], and then keeps no empty room.
     fn turn_once<W: Wire>(
         &mut self,
         state: &State,
@@ -325,7 +325,7 @@ impl ReplySide {
         ensures head { KeepsHead (shows state.now) self.old.reader self.new.reader }
         ensures empty { self.new.raw ≡ [] → self.new.room ≡ 0 }
     {
-        let result = self.try_turn(state, all_sent, wire, out);
+        let result = self.frame_or_read(state, all_sent, wire, out);
         self.free_memory();
         result
     }

@@ -36,7 +36,7 @@ pub fn read_and_forward(alloc: Global, text: &[u8], times: u32) -> u64 {
                 user: &head.value,
                 message: Message::Request(&head.value),
                 part: BodyKind::Own,
-                body_read: true,
+                carries_on: true,
             };
             if let Ok(text) = forward_head(alloc, &forward) {
                 bytes = bytes.saturating_add(text.len() as u64);

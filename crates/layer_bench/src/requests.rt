@@ -45,7 +45,7 @@ pub fn read_and_write(alloc: Global, times: u32) -> u64 {
                 user,
                 message,
                 part: BodyKind::Own,
-                body_read: true,
+                carries_on: true,
             };
             if let Ok(text) = forward_head(alloc, &forward) {
                 bytes = bytes.saturating_add(text.len() as u64);

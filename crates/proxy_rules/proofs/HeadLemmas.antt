@@ -18,7 +18,7 @@ was_read None source asked e = tt
 was_read (Some side) source asked e = λ unread. (let found : request_of heads.Unread ≡ Some asked = rw unread at e in cc)
 
 pub makes : (r : Result Headed Cause) (last : Bool) (user : Option SourceSide) (source : SourceHead) (x : Seen) (adapted : Option (List ℕ)) (is_response : Bool)
-    (asked : RequestParts) (body_read has_body : Bool) → request_of (user_head user source) ≡ Some asked → body_read ≡ carries_on_of last user x → has_body ≡ x.has_body
-    → IfOk r (MakesOf source asked body_read adapted is_response has_body) → IfOk r (Makes last user source x adapted is_response)
-makes (Ok headed) last user source x adapted is_response asked body_read has_body e b f m = record { asked = asked; asked_is = e; makes = rw (b, f) at m }
-makes (Err cause) last user source x adapted is_response asked body_read has_body e b f m = tt
+    (asked : RequestParts) (carries_on has_body : Bool) → request_of (user_head user source) ≡ Some asked → carries_on ≡ carries_on_of last user x → has_body ≡ x.has_body
+    → IfOk r (MakesOf source asked carries_on adapted is_response has_body) → IfOk r (Makes last user source x adapted is_response)
+makes (Ok headed) last user source x adapted is_response asked carries_on has_body e b f m = record { asked = asked; asked_is = e; makes = rw (b, f) at m }
+makes (Err cause) last user source x adapted is_response asked carries_on has_body e b f m = tt

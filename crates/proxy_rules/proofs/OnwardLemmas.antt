@@ -12,17 +12,17 @@ use Rattle.http_side.specs.Forward.{forwarded, next_framing, closes}
 use Rattle.http_side.specs.Heads.{RequestParts, ResponseParts}
 use Rattle.http_side.specs.Requests.{IsRead}
 use Rattle.http_side.specs.Responses.{IsResponseRead}
-use Rattle.proxy_rules.specs.Onward.{GoesOn, IsRequest, IsResponse, IsAdaptedRequest, IsAdaptedResponse, cause_of, may_answer}
+use Rattle.proxy_rules.specs.Onward.{IsForwarded, IsRequest, IsResponse, IsAdaptedRequest, IsAdaptedResponse, cause_of, may_answer}
 use Rattle.proxy_rules.specs.declared.onward.Headed.{Headed}
 
 -- a head of a message is one of each kind that the message is of
 pub goes_on : (r : Result Headed Cause) (f : Forward) (is_it : Message → Type 0) → is_it f.message
     → IfOk r (λ headed. headed.head.items ≡ forwarded f) → IfOk r (λ headed. headed.framing ≡ next_framing f) → IfOk r (λ headed. headed.closes ≡ closes f)
-    → IfOk r (GoesOn f.user.now f.body_read f.part is_it)
+    → IfOk r (IsForwarded f.user.now f.carries_on f.part is_it)
 goes_on (Ok headed) f is_it m head framing ends = record {
   forward = f;
   user_is = refl;
-  body_read_is = refl;
+  carries_on_is = refl;
   part_is = refl;
   message_is = m;
   head_is = head;
@@ -32,20 +32,20 @@ goes_on (Ok headed) f is_it m head framing ends = record {
 goes_on (Err cause) f is_it m head framing ends = tt
 
 -- and of each wider kind
-pub widened : (r : Result Headed Cause) (user : RequestParts) (body_read : Bool) (part other : BodyKind) (is_it is_wide : Message → Type 0)
+pub widened : (r : Result Headed Cause) (user : RequestParts) (carries_on : Bool) (part other : BodyKind) (is_it is_wide : Message → Type 0)
     → ((m : Message) → is_it m → is_wide m) → part ≡ other
-    → IfOk r (GoesOn user body_read part is_it) → IfOk r (GoesOn user body_read other is_wide)
-widened (Ok headed) user body_read part other is_it is_wide wide e g = record {
+    → IfOk r (IsForwarded user carries_on part is_it) → IfOk r (IsForwarded user carries_on other is_wide)
+widened (Ok headed) user carries_on part other is_it is_wide wide e g = record {
   forward = g.forward;
   user_is = g.user_is;
-  body_read_is = g.body_read_is;
+  carries_on_is = g.carries_on_is;
   part_is = g.part_is ∙ e;
   message_is = wide g.forward.message g.message_is;
   head_is = g.head_is;
   framing_is = g.framing_is;
   closes_is = g.closes_is;
 }
-widened (Err cause) user body_read part other is_it is_wide wide e g = tt
+widened (Err cause) user carries_on part other is_it is_wide wide e g = tt
 
 pub adapted_request_is : (text : List ℕ) (parts : RequestParts) (len : ℕ) → IsRead true text parts len → len ≡ length text
     → (m : Message) → IsRequest parts m → IsAdaptedRequest text m

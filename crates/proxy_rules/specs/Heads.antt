@@ -12,7 +12,7 @@ use Rattle.http_relay.specs.declared.side.SourceHead.TheVariants as heads
 use Rattle.http_relay.specs.declared.side.SourceSide.{SourceSide}
 use Rattle.http_relay.specs.Reading.{request_of}
 use Rattle.proxy_rules.specs.Users.{is_head_request}
-use Rattle.proxy_rules.specs.Onward.{GoesOn, IsRequest, IsResponse, IsAdaptedRequest, IsAdaptedResponse, NoAdaptedRequest, NoAdaptedResponse, part_of}
+use Rattle.proxy_rules.specs.Onward.{IsForwarded, IsRequest, IsResponse, IsAdaptedRequest, IsAdaptedResponse, NoAdaptedRequest, NoAdaptedResponse, part_of}
 use Rattle.proxy_rules.specs.declared.onward.Headed.{Headed}
 
 -- the original is what the source's head says
@@ -23,9 +23,9 @@ IsOriginal (heads.Response r) message = IsResponse r message
 
 -- the chosen message: the original, or the one whose head a service sent
 abbrev pub MakesOf : SourceHead → RequestParts → Bool → Option (List ℕ) → Bool → Bool → Headed → Type 0
-MakesOf source user body_read None is_response has_body headed = GoesOn user body_read Own (IsOriginal source) headed
-MakesOf source user body_read (Some text) true has_body headed = GoesOn user body_read (part_of has_body) (IsAdaptedResponse (is_head_request user) has_body text) headed
-MakesOf source user body_read (Some text) false has_body headed = GoesOn user body_read (part_of has_body) (IsAdaptedRequest text) headed
+MakesOf source user carries_on None is_response has_body headed = IsForwarded user carries_on Own (IsOriginal source) headed
+MakesOf source user carries_on (Some text) true has_body headed = IsForwarded user carries_on (part_of has_body) (IsAdaptedResponse (is_head_request user) has_body text) headed
+MakesOf source user carries_on (Some text) false has_body headed = IsForwarded user carries_on (part_of has_body) (IsAdaptedRequest text) headed
 
 -- what the user's side read: the head of the request, which is the source's own, or of the one that is answered
 abbrev pub user_head : Option SourceSide → SourceHead → SourceHead

@@ -55,12 +55,12 @@ NoAdaptedRequest text = (parts : RequestParts) → IsRead true text parts (lengt
 abbrev pub NoAdaptedResponse : Bool → Bool → List ℕ → Type 0
 NoAdaptedResponse to_head has_body text = (parts : ResponseParts) → IsAnswerOf to_head has_body text parts → ⊥
 
--- The head of a message of this kind, for a user with this request, whose body was read to its end or not: its text, how its body
--- goes, and whether the user's connection ends after it.
-pub record GoesOn (user : RequestParts) (body_read : Bool) (part : BodyKind) (is_it : Message → Type 0) (headed : Headed) : Type 0 where
+-- The head of a message of this kind, for a user with this request, whose connection may carry a further one or not: its text, how
+-- its body goes, and whether the user's connection ends after it.
+pub record IsForwarded (user : RequestParts) (carries_on : Bool) (part : BodyKind) (is_it : Message → Type 0) (headed : Headed) : Type 0 where
   pub forward : Forward
   pub user_is : forward.user.now ≡ user
-  pub body_read_is : forward.body_read ≡ body_read
+  pub carries_on_is : forward.carries_on ≡ carries_on
   pub part_is : forward.part ≡ part
   pub message_is : is_it forward.message
   pub head_is : headed.head.items ≡ forwarded forward

@@ -109,7 +109,7 @@ impl HeadMaker {
         };
         let asked = Asked {
             user,
-            body_read: self.carries_on(state),
+            carries_on: self.carries_on(state),
         };
         let has_body = state.seen().has_body;
         chosen(alloc, asked, source, adapted, is_response, has_body)
@@ -137,7 +137,7 @@ impl HeadMaker {
 
 /// The head of the original.
 fn original(alloc: Global, asked: Asked<'_>, source: &SourceSide) -> Result<Headed, Cause>
-    ensures ok { IfOk result (MakesOf source.now.head asked.entry.user.now asked.entry.body_read None false false) }
+    ensures ok { IfOk result (MakesOf source.now.head asked.entry.user.now asked.entry.carries_on None false false) }
     ensures err { IfErr result (MakesNoneOf source.now.head asked.entry.user.now None false false) }
 {
     if let Some(request) = source.request_head() {
@@ -158,7 +158,7 @@ fn chosen(
     is_response: bool,
     has_body: bool,
 ) -> Result<Headed, Cause>
-    ensures ok { IfOk result (MakesOf source.now.head asked.entry.user.now asked.entry.body_read (option_copied adapted.entry) is_response has_body) }
+    ensures ok { IfOk result (MakesOf source.now.head asked.entry.user.now asked.entry.carries_on (option_copied adapted.entry) is_response has_body) }
     ensures err { IfErr result (MakesNoneOf source.now.head asked.entry.user.now (option_copied adapted.entry) is_response has_body) }
 {
     match adapted {

@@ -4,7 +4,7 @@ ghost use Rattle.std.specs.Prelude.{◌≡◌, ◌⊎◌, IfOk, IfErr};
 ghost use Rattle.http_side.specs.Forward.{forwarded, next_framing, closes};
 ghost use Rattle.trace_core.specs.declared.history.Cause.TheVariants as causes;
 ghost use Rattle.proxy_rules.specs.Users.{is_head_request};
-ghost use Rattle.proxy_rules.specs.Onward.{GoesOn, IsRequest, IsResponse, IsAdaptedRequest, IsAdaptedResponse, NoAdaptedRequest, NoAdaptedResponse, part_of, cause_of, may_answer};
+ghost use Rattle.proxy_rules.specs.Onward.{IsForwarded, IsRequest, IsResponse, IsAdaptedRequest, IsAdaptedResponse, NoAdaptedRequest, NoAdaptedResponse, part_of, cause_of, may_answer};
 
 use crate::expect::is_head_request;
 use http_side::{
@@ -25,11 +25,11 @@ pub struct Headed {
     pub closes: bool,
 }
 
-/// The user whose request is served, and whether its body was read to its end.
+/// The user whose request is served, and whether its connection may carry a further one.
 #[derive(Clone, Copy, Debug)]
 pub(crate) struct Asked<'a> {
     pub user: &'a HttpRequest,
-    pub body_read: bool,
+    pub carries_on: bool,
 }
 
 /// What follows an adapted message's head.
@@ -77,14 +77,14 @@ pub(crate) fn request_onward(
     request: &HttpRequest,
     part: BodyKind,
 ) -> Result<Headed, Cause>
-    ensures ok { IfOk result (GoesOn asked.entry.user.now asked.entry.body_read part (IsRequest request.now)) }
+    ensures ok { IfOk result (IsForwarded asked.entry.user.now asked.entry.carries_on part (IsRequest request.now)) }
     ensures err { IfErr result (λ cause. cause ≡ causes.Memory) }
 {
     let forward = Forward {
         user: asked.user,
         message: Message::Request(request),
         part,
-        body_read: asked.body_read,
+        carries_on: asked.carries_on,
     };
     onward(alloc, &forward)
 }
@@ -96,14 +96,14 @@ pub(crate) fn response_onward(
     response: &HttpResponse,
     part: BodyKind,
 ) -> Result<Headed, Cause>
-    ensures ok { IfOk result (GoesOn asked.entry.user.now asked.entry.body_read part (IsResponse response.now)) }
+    ensures ok { IfOk result (IsForwarded asked.entry.user.now asked.entry.carries_on part (IsResponse response.now)) }
     ensures err { IfErr result (λ cause. cause ≡ causes.Memory) }
 {
     let forward = Forward {
         user: asked.user,
         message: Message::Response(response),
         part,
-        body_read: asked.body_read,
+        carries_on: asked.carries_on,
     };
     onward(alloc, &forward)
 }
@@ -115,7 +115,7 @@ pub(crate) fn adapted_request(
     text: &[u8],
     has_body: bool,
 ) -> Result<Headed, Cause>
-    ensures ok { IfOk result (GoesOn asked.entry.user.now asked.entry.body_read (part_of has_body) (IsAdaptedRequest text.now)) }
+    ensures ok { IfOk result (IsForwarded asked.entry.user.now asked.entry.carries_on (part_of has_body) (IsAdaptedRequest text.now)) }
 
     // The service is blamed only if its head can't go on.
     ensures err { IfErr result (λ cause. (cause ≡ causes.Memory) ⊎ ((cause ≡ causes.Service) × NoAdaptedRequest text.now)) }
@@ -146,7 +146,7 @@ pub(crate) fn adapted_response(
     text: &[u8],
     has_body: bool,
 ) -> Result<Headed, Cause>
-    ensures ok { IfOk result (GoesOn asked.entry.user.now asked.entry.body_read (part_of has_body) (IsAdaptedResponse (is_head_request asked.entry.user.now) has_body text.now)) }
+    ensures ok { IfOk result (IsForwarded asked.entry.user.now asked.entry.carries_on (part_of has_body) (IsAdaptedResponse (is_head_request asked.entry.user.now) has_body text.now)) }
 
     // The service is blamed only if its head can't go on.
     ensures err { IfErr result (λ cause. (cause ≡ causes.Memory) ⊎ ((cause ≡ causes.Service) × NoAdaptedResponse (is_head_request asked.entry.user.now) has_body text.now)) }

@@ -2,8 +2,8 @@
 use Rattle.std.specs.Prelude.{◌≡◌, ℕ, Bool, true, false, ◌||◌}
 use Rattle.exchange_core.specs.declared.event.Event.{Event}
 use Rattle.exchange_core.specs.declared.event.Event.TheVariants.{Sent, Answered, UserLost, Stop, Failed}
-use Rattle.exchange_core.specs.declared.place.Place.{Place}
-use Rattle.exchange_core.specs.declared.place.Place.TheVariants.{Refusing, Closing}
+use Rattle.exchange_core.specs.declared.phase.Phase.{Phase}
+use Rattle.exchange_core.specs.declared.phase.Phase.TheVariants.{Refusing, Closing}
 use Rattle.exchange_core.specs.declared.course.Course.{Course}
 use Rattle.exchange_core.specs.Course.{is_leased, is_mid_text}
 use Rattle.exchange_core.specs.May.{is_at_gate, is_moving, is_refusing, is_gone}
@@ -11,7 +11,7 @@ use Rattle.exchange_core.specs.Dues.{status_of}
 
 -- its transaction stands
 abbrev pub moves : Course → Bool
-moves c = is_at_gate c.place || is_moving c.place
+moves c = is_at_gate c.phase || is_moving c.phase
 
 -- with it a message is over
 abbrev pub ends_message : Event → Bool
@@ -28,26 +28,26 @@ Holds old new = (is_leased new.connection ≡ is_leased old.connection) × (new.
 
 -- the message goes on
 abbrev pub Stays : Course → Course → Type 0
-Stays old new = Holds old new × (new.place ≡ old.place) × (new.stopping ≡ old.stopping)
+Stays old new = Holds old new × (new.phase ≡ old.phase) × (new.stopping ≡ old.stopping)
 
 -- the message is over
 abbrev pub Leaves : Course → Course → Type 0
 Leaves old new = Holds old new × (moves new ≡ false)
 
 -- the status of the refusal that goes to the user, or 0
-abbrev pub refusal_at : Place → ℕ
+abbrev pub refusal_at : Phase → ℕ
 refusal_at (Refusing why) = status_of why
 refusal_at _ = 0
 
 -- a refusal of this status follows, unless a part of another text is out
 abbrev pub IsOwed : (old new : Course) → (status : ℕ) → Type 0
-IsOwed old new status = is_mid_text old ≡ false → (is_refusing new.place ≡ true) × (refusal_at new.place ≡ status)
+IsOwed old new status = is_mid_text old ≡ false → (is_refusing new.phase ≡ true) × (refusal_at new.phase ≡ status)
 
 -- nothing is due for the user any more, but for a refusal
 abbrev pub is_stopped : Course → Bool
-is_stopped c = c.stopping || is_gone c.place
+is_stopped c = c.stopping || is_gone c.phase
 
 -- nothing is left to do but to close the user's connection
-abbrev pub is_closing : Place → Bool
+abbrev pub is_closing : Phase → Bool
 is_closing Closing = true
 is_closing _ = false

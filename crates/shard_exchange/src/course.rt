@@ -1,7 +1,7 @@
 //! What the course of an exchange is told: that a head begins, how a message ended, and that the proxy stops.
 
 ghost use Rattle.std.specs.Prelude.{◌≡◌, ◌⊎◌, true, false};
-ghost use Rattle.exchange_core.specs.declared.event.Why.{Why as AnyWhy};
+ghost use Rattle.exchange_core.specs.declared.event.RefusalCause.{RefusalCause as AnyCause};
 ghost use Rattle.exchange_core.specs.Course.{after, is_mid_text};
 ghost use Rattle.exchange_core.specs.Dues.{due_of, status_of};
 ghost use Rattle.exchange_core.specs.declared.due.Due.TheVariants as dues;
@@ -10,7 +10,7 @@ ghost use Rattle.exchange_core.specs.May.{may_come, is_gone, is_head, is_idle, i
 ghost use Rattle.exchange_core.specs.Log.{Goes};
 ghost use Rattle.shard_exchange.specs.Ends.{moves, ends_message, Stays, Leaves, IsOwed, is_stopped};
 
-use exchange_core::{Event, Exchange, Place, Why};
+use exchange_core::{Event, Exchange, Phase, RefusalCause};
 use shard_message::{End, Report};
 
 /// Takes an event that ends a message, where it may come. Else the exchange is lost: nothing more is said to its user.
@@ -21,7 +21,7 @@ fn take_or_lose(course: &mut Exchange, event: Event)
     ensures goes { Goes course.old course.new }
     ensures leaves { Leaves course.old course.new }
     ensures taken { may_come course.old event ≡ true → course.new ≡ after course.old event }
-    ensures lost { may_come course.old event ≡ false → is_gone course.new.place ≡ true }
+    ensures lost { may_come course.old event ≡ false → is_gone course.new.phase ≡ true }
 {
     if course.may(event) {
         course.take(event);
@@ -38,7 +38,7 @@ fn tell_begun(course: &mut Exchange, has_answered: bool) -> bool
     ensures stays { result ≡ true → Stays course.old course.new }
     ensures begun { result ≡ true → has_answered ≡ true → course.new.begun ≡ true }
     ensures same { has_answered ≡ false → (result ≡ true) × (course.new ≡ course.old) }
-    ensures lost { result ≡ false → Leaves course.old course.new × (is_gone course.new.place ≡ true) }
+    ensures lost { result ≡ false → Leaves course.old course.new × (is_gone course.new.phase ≡ true) }
 {
     if !has_answered || course.course().begun {
         return true;
@@ -54,17 +54,17 @@ fn tell_end(course: &mut Exchange, end: End)
     requires runs { course.old.stopping ≡ false }
     ensures goes { Goes course.old course.new }
     ensures leaves { Leaves course.old course.new }
-    ensures lost { end ≡ End.Lost → is_gone course.new.place ≡ true }
+    ensures lost { end ≡ End.Lost → is_gone course.new.phase ≡ true }
     ensures stops { end ≡ End.Stopped → is_stopped course.new ≡ true }
-    ensures owed { (why : AnyWhy) → end ≡ End.Failed why → IsOwed course.old course.new (status_of why) }
-    ensures alone { course.old.begun ≡ true → is_refusing course.new.place ≡ false }
-    ensures keeps { is_idle course.new.place ≡ true → end ≡ End.Answered true }
+    ensures owed { (why : AnyCause) → end ≡ End.Failed why → IsOwed course.old course.new (status_of why) }
+    ensures alone { course.old.begun ≡ true → is_refusing course.new.phase ≡ false }
+    ensures keeps { is_idle course.new.phase ≡ true → end ≡ End.Answered true }
 {
     match end {
         End::Sent { has_memory } => {
             take_or_lose(course, Event::Sent);
-            if !has_memory && course.may(Event::Failed(Why::Scarce)) {
-                course.take(Event::Failed(Why::Scarce));
+            if !has_memory && course.may(Event::Failed(RefusalCause::Scarce)) {
+                course.take(Event::Failed(RefusalCause::Scarce));
             }
         }
         End::Answered { keeps } => take_or_lose(course, Event::Answered { keeps }),
@@ -94,30 +94,30 @@ fn tell_cut(course: &mut Exchange, cuts: bool)
     requires { moves course.old ≡ false }
     ensures goes { Goes course.old course.new }
     ensures leaves { Leaves course.old course.new }
-    ensures gone { is_gone course.old.place ≡ true → is_gone course.new.place ≡ true }
+    ensures gone { is_gone course.old.phase ≡ true → is_gone course.new.phase ≡ true }
     ensures stops { is_stopped course.old ≡ true → is_stopped course.new ≡ true }
     ensures same { cuts ≡ false → course.new ≡ course.old }
-    ensures place { (course.new.place ≡ course.old.place) ⊎ (is_gone course.new.place ≡ true) }
+    ensures phase { (course.new.phase ≡ course.old.phase) ⊎ (is_gone course.new.phase ≡ true) }
 {
     if cuts && course.may(Event::Dropped) {
         course.take(Event::Dropped);
     }
 }
 
-/// Tells the course of a transaction that is over. A user to whom a byte of an answer went gets no refusal behind it. One to whom none
-/// went gets the refusal of the cause by which its message failed. A further request is read only behind an answer that keeps its
+/// Tells the course of a transaction that is over. A user to whom a byte of an answer went gets no refusal after it. One to whom none
+/// went gets the refusal of the cause by which its message failed. A further request is read only after an answer that keeps its
 /// connection.
 pub(crate) fn tell(course: &mut Exchange, report: Report)
     requires moves { moves course.old ≡ true }
     requires runs { course.old.stopping ≡ false }
     ensures goes { Goes course.old course.new }
     ensures leaves { Leaves course.old course.new }
-    ensures lost { report.end ≡ End.Lost → is_gone course.new.place ≡ true }
+    ensures lost { report.end ≡ End.Lost → is_gone course.new.phase ≡ true }
     ensures stops { report.end ≡ End.Stopped → is_stopped course.new ≡ true }
-    ensures owed { (why : AnyWhy) → report.end ≡ End.Failed why → report.has_answered ≡ false → report.cuts ≡ false
+    ensures owed { (why : AnyCause) → report.end ≡ End.Failed why → report.has_answered ≡ false → report.cuts ≡ false
         → IsOwed course.old course.new (status_of why) }
-    ensures alone { report.has_answered ≡ true → is_refusing course.new.place ≡ false }
-    ensures keeps { is_idle course.new.place ≡ true → report.end ≡ End.Answered true }
+    ensures alone { report.has_answered ≡ true → is_refusing course.new.phase ≡ false }
+    ensures keeps { is_idle course.new.phase ≡ true → report.end ≡ End.Answered true }
 {
     if tell_begun(course, report.has_answered) {
         tell_served(course, report.served);
@@ -127,28 +127,28 @@ pub(crate) fn tell(course: &mut Exchange, report: Report)
 }
 
 /// The first byte of a further request came, or of the first one.
-pub(crate) fn begin_head(course: &mut exchange_core::Exchange)
+pub(crate) fn begin_head(course: &mut Exchange)
     requires { due_of course.old ≡ dues.ReadRequest }
     ensures goes { Goes course.old course.new }
     ensures due { due_of course.new ≡ dues.ReadRequest }
-    ensures head { is_head course.new.place ≡ true }
+    ensures head { is_head course.new.phase ≡ true }
     ensures kept { (course.new.connection ≡ course.old.connection) × (course.new.stake ≡ course.old.stake) × (course.new.origin ≡ course.old.origin) }
 {
-    if course.course().place == Place::Idle {
+    if course.course().phase == Phase::Idle {
         course.done(Event::HeadBegun);
     }
 }
 
 /// Takes it that the proxy stops. A request of whose head a part came goes no further: so its user is refused.
-pub(crate) fn take_stop(course: &mut exchange_core::Exchange, is_in_head: bool)
+pub(crate) fn take_stop(course: &mut Exchange, is_in_head: bool)
     requires still { moves course.old ≡ false }
     requires may { may_come course.old Stop ≡ true }
     ensures goes { Goes course.old course.new }
     ensures leaves { Leaves course.old course.new }
     ensures stops { is_stopped course.new ≡ true }
 {
-    if is_in_head && course.may(Event::Failed(Why::Stopping)) {
-        course.take(Event::Failed(Why::Stopping));
+    if is_in_head && course.may(Event::Failed(RefusalCause::Stopping)) {
+        course.take(Event::Failed(RefusalCause::Stopping));
         course.take(Event::Stop);
     } else {
         course.take(Event::Stop);

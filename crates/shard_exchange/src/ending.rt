@@ -18,9 +18,9 @@ impl<H: Holder> Exchange<H> {
     fn free_connection<P>(&mut self, at: &P, out: &mut H::Outside)
     where
         H: Effects<P>,
-        requires { is_gone self.old.course.place ≡ true }
+        requires { is_gone self.old.course.phase ≡ true }
         ensures goes { Goes self.old.course self.new.course }
-        ensures gone { is_gone self.new.course.place ≡ true }
+        ensures gone { is_gone self.new.course.phase ≡ true }
         ensures free { is_leased self.new.course.connection ≡ false }
     {
         if self.course.due() == Due::GiveBack {
@@ -32,10 +32,10 @@ impl<H: Holder> Exchange<H> {
     fn free_room<P, R: Wait>(&mut self, rt: &R, at: &P, out: &mut H::Outside)
     where
         H: Effects<P>,
-        requires gone { is_gone self.old.course.place ≡ true }
+        requires gone { is_gone self.old.course.phase ≡ true }
         requires free { is_leased self.old.course.connection ≡ false }
         ensures goes { Goes self.old.course self.new.course }
-        ensures gone { is_gone self.new.course.place ≡ true }
+        ensures gone { is_gone self.new.course.phase ≡ true }
         ensures free { is_free self.new.course ≡ true }
     {
         if self.course.course().stake {
@@ -45,7 +45,7 @@ impl<H: Holder> Exchange<H> {
 
     /// Closes the origin's connection.
     fn free_origin(&mut self)
-        requires gone { is_gone self.old.course.place ≡ true }
+        requires gone { is_gone self.old.course.phase ≡ true }
         requires free { is_free self.old.course ≡ true }
         ensures goes { Goes self.old.course self.new.course }
         ensures over { is_over self.new.course ≡ true }
@@ -59,7 +59,7 @@ impl<H: Holder> Exchange<H> {
     pub(crate) fn free<P, R: Wait>(&mut self, rt: &R, at: &P, out: &mut H::Outside)
     where
         H: Effects<P>,
-        requires { is_gone self.old.course.place ≡ true }
+        requires { is_gone self.old.course.phase ≡ true }
         ensures goes { Goes self.old.course self.new.course }
         ensures over { is_over self.new.course ≡ true }
     {
@@ -73,7 +73,7 @@ impl<H: Holder> Exchange<H> {
     where
         H: Effects<P>,
         ensures goes { Goes self.old.course self.new.course }
-        ensures gone { is_gone self.new.course.place ≡ true }
+        ensures gone { is_gone self.new.course.phase ≡ true }
     {
         let _ = self.course.course();
         if !self.course.may(Event::UserLost) {

@@ -4,9 +4,9 @@ ghost use Rattle.std.specs.Prelude.{◌≡◌, ◌&&◌, ◌||◌, true, false};
 ghost use Rattle.exchange_core.specs.Course.{is_leased};
 ghost use Rattle.exchange_core.specs.May.{is_at_gate, is_moving};
 
-use exchange_core::{Event, Place, Why};
+use exchange_core::{Event, Phase, RefusalCause};
 use proxy_rules::Incoming;
-use shard_holdings::{Holder, Holdings};
+use shard_holdings::{Holder, Holdings, InHand};
 use shard_outside::Kinds;
 use std::boxed::Box;
 
@@ -14,12 +14,12 @@ use std::boxed::Box;
 ///
 /// Its course says what is due, and what is held: a lease, a reservation, and a connection to an origin. None of them is lost.
 #[must_use]
-pub struct Exchange<H: Holder> {
+pub struct Exchange<H: InHand> {
     pub(crate) course: exchange_core::Exchange,
     pub(crate) holdings: H,
     // just what the course counts is held
     pub(crate) ghost leased: { (H.hand holdings).leased ≡ is_leased course.connection },
-    pub(crate) ghost moves: { (H.hand holdings).moving ≡ (is_at_gate course.place || is_moving course.place) },
+    pub(crate) ghost moves: { (H.hand holdings).moving ≡ (is_at_gate course.phase || is_moving course.phase) },
     pub(crate) ghost staked: { ((H.hand holdings).room || (H.hand holdings).moving) ≡ course.stake },
     pub(crate) ghost opened: { ((H.hand holdings).origin || (H.hand holdings).moving) ≡ course.origin },
 }
@@ -27,7 +27,7 @@ pub struct Exchange<H: Holder> {
 impl<O: Kinds> Exchange<Holdings<O>> {
     ghost use Rattle.exchange_core.specs.Course.{start, after};
     ghost use Rattle.exchange_core.specs.declared.event.Event.TheVariants.{Failed};
-    ghost use Rattle.exchange_core.specs.declared.event.Why.TheVariants.{Scarce};
+    ghost use Rattle.exchange_core.specs.declared.event.RefusalCause.TheVariants.{Scarce};
 
     /// Before the first byte of the user's first request.
     pub fn begin(user: O::User, message: Box<Incoming>) -> Exchange<Holdings<O>>
@@ -41,14 +41,13 @@ impl<O: Kinds> Exchange<Holdings<O>> {
         ensures { result.course ≡ after start (Failed Scarce) }
     {
         let mut exchange = Exchange::new(Holdings::new(user, None));
-        exchange.course.failed(Why::Scarce);
+        exchange.course.failed(RefusalCause::Scarce);
         exchange
     }
 }
 
-impl<H: Holder> Exchange<H> {
+impl<H: InHand> Exchange<H> {
     ghost use Rattle.exchange_core.specs.Course.{start};
-    ghost use Rattle.exchange_core.specs.Dues.{is_over};
     ghost use Rattle.exchange_core.specs.Log.{Goes};
     ghost use Rattle.shard_holdings.specs.Hand.{IsEmpty};
     ghost use Rattle.shard_exchange.specs.Ends.{is_stopped};
@@ -65,14 +64,16 @@ impl<H: Holder> Exchange<H> {
     }
 
     /// What the user's connection is in the midst of.
-    pub fn place(&self) -> Place
-        ensures { result ≡ self.now.course.place }
+    pub fn phase(&self) -> Phase
+        ensures { result ≡ self.now.course.phase }
     {
-        self.course.course().place
+        self.course.course().phase
     }
 
     /// What is held.
-    pub fn holdings(&self) -> &H {
+    pub fn holdings(&self) -> &H
+        ensures { result.now ≡ self.now.holdings }
+    {
         &self.holdings
     }
 
@@ -87,13 +88,6 @@ impl<H: Holder> Exchange<H> {
         holdings
     }
 
-    /// Ends an exchange that is over. Nothing is held, so nothing is lost.
-    pub fn finish(self)
-        requires { is_over self.course ≡ true }
-    {
-        self.into_holdings().finish();
-    }
-
     /// The proxy drains: an answer that is begun from now on is the last one.
     pub fn drain(&mut self)
         ensures goes { Goes self.old.course self.new.course }
@@ -102,5 +96,16 @@ impl<H: Holder> Exchange<H> {
         if self.course.may(Event::Drain) {
             self.course.take(Event::Drain);
         }
+    }
+}
+
+impl<H: Holder> Exchange<H> {
+    ghost use Rattle.exchange_core.specs.Dues.{is_over};
+
+    /// Ends an exchange that is over. Nothing is held, so nothing is lost.
+    pub fn finish(self)
+        requires { is_over self.course ≡ true }
+    {
+        self.into_holdings().finish();
     }
 }

@@ -25,7 +25,7 @@ impl<H: Holder> Exchange<H> {
         let course = self.course.course();
         match self.holdings.plan(at, out, course.asked) {
             Ok(Marks { offered, waits }) => {
-                let waits = waits && course.place.point() == Point::Reqmod && !course.told;
+                let waits = waits && course.phase.point() == Point::Reqmod && !course.told;
                 self.course.done(Event::Planned { offered, waits });
                 Step::On
             }

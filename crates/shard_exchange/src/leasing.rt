@@ -28,7 +28,7 @@ impl<H: Holder> Exchange<H> {
         ensures goes { Goes self.old.course self.new.course }
         ensures on { result ≡ Step.On }
     {
-        let point = self.place().point();
+        let point = self.phase().point();
         match self.holdings.lend(at, out, point) {
             Ok(reused) => {
                 self.course.done(Event::Lent { reused });
@@ -74,7 +74,7 @@ impl<H: Holder> Exchange<H> {
         requires due { due_of self.old.course ≡ dues.Await }
         ensures goes { Goes self.old.course self.new.course }
         ensures late { H.is_late out.old at.now ≡ true → is_mid_text self.old.course ≡ false
-            → is_refusing self.new.course.place ≡ true }
+            → is_refusing self.new.course.phase ≡ true }
         ensures heeds { Heeds (H.is_late out.new at.now) self.new.course result }
     {
         if H::has_waited(at, out) {
@@ -95,7 +95,7 @@ impl<H: Holder> Exchange<H> {
         ensures goes { Goes self.old.course self.new.course }
         ensures heeds { Heeds (H.is_late out.new at.now) self.new.course result }
     {
-        let point = self.place().point();
+        let point = self.phase().point();
         match self.holdings.lend_in_turn(at, out, point) {
             Ok(reused) => {
                 self.course.done(Event::Lent { reused });

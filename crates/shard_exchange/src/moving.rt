@@ -142,7 +142,7 @@ impl<H: Holder> Exchange<H> {
         requires runs { self.old.course.stopping ≡ false }
         ensures goes { Goes self.old.course self.new.course }
         ensures over { moves self.new.course ≡ false }
-        ensures lost { by ≡ EndedBy.User → is_gone self.new.course.place ≡ true }
+        ensures lost { by ≡ EndedBy.User → is_gone self.new.course.phase ≡ true }
         ensures stops { by ≡ EndedBy.Stop → is_stopped self.new.course ≡ true }
     {
         let report = self.holdings.settle(rt, at, out, by);

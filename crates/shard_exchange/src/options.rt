@@ -26,7 +26,7 @@ impl<H: Holder> Exchange<H> {
         ensures goes { Goes self.old.course self.new.course }
         ensures on { result ≡ Step.On }
     {
-        let point = self.place().point();
+        let point = self.phase().point();
         match self.holdings.ask(at, out, point) {
             Ok(()) => {
                 self.course.done(Event::Asked);
@@ -61,7 +61,7 @@ impl<H: Holder> Exchange<H> {
         ensures goes { Goes self.old.course self.new.course }
         ensures on { result ≡ Step.On }
     {
-        let point = self.place().point();
+        let point = self.phase().point();
         match self.holdings.learn(at, out, point, answer) {
             Ok(usable) => {
                 self.course.done(Event::Learned { usable });
@@ -98,7 +98,7 @@ impl<H: Holder> Exchange<H> {
         ensures goes { Goes self.old.course self.new.course }
         ensures on { result ≡ Step.On }
     {
-        let point = self.place().point();
+        let point = self.phase().point();
         match self.holdings.ask_anew(at, out, point) {
             Ok(()) => {
                 self.course.take(Event::Renewed);

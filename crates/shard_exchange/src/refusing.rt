@@ -7,7 +7,7 @@ use crate::exchange::Exchange;
 use exchange_core::Event;
 use proxy_rules::Reason;
 use shard_holdings::{Effects, Holder, Step};
-use shard_outside::{Lingered, Said, why_of};
+use shard_outside::{Lingered, Said, refusal_cause_of};
 
 impl<H: Holder> Exchange<H> {
     ghost use Rattle.exchange_core.specs.Course.{after};
@@ -29,7 +29,7 @@ impl<H: Holder> Exchange<H> {
         ensures on { result ≡ Step.On }
     {
         self.holdings.note_refusal(at, out, &self.course, reason);
-        self.course.failed(why_of(reason));
+        self.course.failed(refusal_cause_of(reason));
         Step::On
     }
 

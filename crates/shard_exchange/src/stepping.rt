@@ -4,15 +4,15 @@ ghost use Rattle.std.specs.Prelude.{◌≡◌, ◌↔◌, true, false};
 ghost use Rattle.shard_exchange.specs.Ends.{is_closing, is_stopped};
 
 use crate::exchange::Exchange;
-use exchange_core::{Due, Place};
+use exchange_core::{Due, Phase};
 use shard_holdings::{Effects, Holder, Step, Task};
 use std::sync::Wait;
 
 /// Whether nothing is left to do but to close the user's connection.
-fn is_closing(place: Place) -> bool
-    ensures { result ≡ is_closing place }
+fn is_closing(phase: Phase) -> bool
+    ensures { result ≡ is_closing phase }
 {
-    matches!(place, Place::Closing)
+    matches!(phase, Phase::Closing)
 }
 
 impl<H: Holder> Exchange<H> {
@@ -30,9 +30,9 @@ impl<H: Holder> Exchange<H> {
         ensures waits { task ≡ Task.Step → result ≡ Step.Waits → is_wait (due_of self.new.course) ≡ true }
         ensures over { result ≡ Step.Over → is_over self.new.course ≡ true }
         ensures lost { task ≡ Task.Lose → is_over self.new.course ≡ true }
-        ensures stops { task ≡ Task.Halt → is_closing self.old.course.place ≡ false → is_stopped self.new.course ≡ true }
+        ensures stops { task ≡ Task.Halt → is_closing self.old.course.phase ≡ false → is_stopped self.new.course ≡ true }
     {
-        let closes = is_closing(self.course.course().place);
+        let closes = is_closing(self.course.course().phase);
         match task {
             Task::Lose => {
                 self.lose(rt, at, out);

@@ -10,7 +10,7 @@ ghost use Rattle.shard_exchange.specs.Ends.{moves, is_stopped};
 
 use crate::course::take_stop;
 use crate::exchange::Exchange;
-use exchange_core::{Due, Event, Place};
+use exchange_core::{Due, Event, Phase};
 use proxy_rules::Reason;
 use shard_holdings::{Effects, Holder, Step};
 use shard_message::EndedBy;
@@ -46,7 +46,7 @@ impl<H: Holder> Exchange<H> {
 
     /// Whether a part of a request's head came, and not all of it.
     fn is_in_head(&self) -> bool {
-        matches!(self.course.course().place, Place::Idle | Place::Head) && self.holdings.has_begun()
+        matches!(self.course.course().phase, Phase::Idle | Phase::Head) && self.holdings.has_begun()
     }
 
     /// Takes note of the refusal of a request that was read, or of whose head a part came.
@@ -54,7 +54,7 @@ impl<H: Holder> Exchange<H> {
     where
         H: Effects<P>,
     {
-        if is_in_head || is_under_way(self.course.course().place) {
+        if is_in_head || is_under_way(self.course.course().phase) {
             self.holdings
                 .note_refusal(at, out, &self.course, Reason::Stopping);
         }
@@ -100,9 +100,9 @@ impl<H: Holder> Exchange<H> {
         H: Effects<P>,
         ensures goes { Goes self.old.course self.new.course }
         ensures stops { is_stopped self.old.course ≡ true → is_stopped self.new.course ≡ true }
-        ensures over { is_gone self.new.course.place ≡ true → is_over self.new.course ≡ true }
+        ensures over { is_gone self.new.course.phase ≡ true → is_over self.new.course ≡ true }
     {
-        if self.course.course().place == Place::Gone {
+        if self.course.course().phase == Phase::Gone {
             self.free(rt, at, out);
         }
     }
@@ -113,7 +113,7 @@ impl<H: Holder> Exchange<H> {
         H: Effects<P>,
         ensures goes { Goes self.old.course self.new.course }
         ensures stops { is_stopped self.new.course ≡ true }
-        ensures gone { is_gone self.new.course.place ≡ true → is_over self.new.course ≡ true }
+        ensures gone { is_gone self.new.course.phase ≡ true → is_over self.new.course ≡ true }
         ensures over { result ≡ Step.Over → is_over self.new.course ≡ true }
     {
         self.stop(rt, at, out);

@@ -146,7 +146,7 @@ impl<P, O: Outside<P>> Effects<P> for Holdings<O> {
             &mut self.user,
             &mut self.connection,
             &mut self.origin,
-            course.place.is_offered(),
+            course.phase.is_offered(),
         ) else {
             return Started::NoUser;
         };

@@ -27,13 +27,16 @@ pub enum Started {
     NoUser,
 }
 
+/// What is held of what the course of an exchange counts.
+pub trait InHand {
+    // what is held
+    ghost hand: { Self → Hand };
+}
+
 /// What an exchange holds beside its course: the connections, the message, its plan, its reservation and its transaction.
-pub trait Holder {
+pub trait Holder: InHand {
     /// The surroundings of the exchanges of a thread.
     type Outside;
-
-    // what is held of what the course counts
-    ghost hand: { Self → Hand };
 
     /// Whether a byte of the head came that is read.
     fn has_begun(&self) -> bool;
@@ -43,53 +46,53 @@ pub trait Holder {
 
     /// Whether a message's transaction is held.
     fn is_moving(&self) -> bool
-        ensures { result ≡ (hand self.now).moving };
+        ensures { result ≡ (Self.hand self.now).moving };
 
     /// A turn at the head of the user's request. `None` where nobody reads it, or the user is gone.
     fn read_request(&mut self) -> Option<HeadTurn>
-        ensures { Keeps (hand self.old) (hand self.new) };
+        ensures { Keeps (Self.hand self.old) (Self.hand self.new) };
 
     /// A turn at the head of the origin's response. `None` where nobody reads it, or there is no connection.
     fn read_response(&mut self) -> Option<HeadTurn>
-        ensures { Keeps (hand self.old) (hand self.new) };
+        ensures { Keeps (Self.hand self.old) (Self.hand self.new) };
 
     /// A turn at asking the service for its options. `None` where nobody asks, or there is no connection for it.
     fn hear(&mut self) -> Option<OptionsTurn>
-        ensures { Keeps (hand self.old) (hand self.new) };
+        ensures { Keeps (Self.hand self.old) (Self.hand self.new) };
 
     /// Tells the user to send its body, as far as it takes the text.
     fn tell(&mut self) -> Said
-        ensures { Keeps (hand self.old) (hand self.new) };
+        ensures { Keeps (Self.hand self.old) (Self.hand self.new) };
 
     /// Says the refusal of this status to the user, as far as it takes it. The proxy has one of that status.
     fn refuse(&mut self, status: u16) -> Said
         requires { IsTrue (is_own_status status) }
-        ensures { Keeps (hand self.old) (hand self.new) };
+        ensures { Keeps (Self.hand self.old) (Self.hand self.new) };
 
     /// Whether the user was told that nothing more comes.
     fn is_finished(&self) -> bool;
 
     /// Closes the user's connection.
     fn lose_user(&mut self)
-        ensures { Keeps (hand self.old) (hand self.new) };
+        ensures { Keeps (Self.hand self.old) (Self.hand self.new) };
 
     /// Closes the origin's connection.
     fn hang_up(&mut self)
-        ensures hung { (hand self.new).origin ≡ false }
-        ensures kept { KeepsButOrigin (hand self.old) (hand self.new) };
+        ensures hung { (Self.hand self.new).origin ≡ false }
+        ensures kept { KeepsButOrigin (Self.hand self.old) (Self.hand self.new) };
 
     /// Whether a byte of an answer went to the user.
     fn has_answered(&self) -> bool
-        requires { (hand self.now).moving ≡ true };
+        requires { (Self.hand self.now).moving ≡ true };
 
     /// Takes the service's connection back from the transaction once the service has said all: whether it may carry another request.
     fn free_service(&mut self) -> Option<bool>
-        requires { (hand self.old).moving ≡ true }
-        ensures { Keeps (hand self.old) (hand self.new) };
+        requires { (Self.hand self.old).moving ≡ true }
+        ensures { Keeps (Self.hand self.old) (Self.hand self.new) };
 
     /// Lets all go of an exchange that is over.
     fn finish(self)
-        requires { IsEmpty (hand self) };
+        requires { IsEmpty (Self.hand self) };
 }
 
 /// All that an exchange may have to do. `P` is its place in its surroundings: its key, the moment, and what reaches the system.

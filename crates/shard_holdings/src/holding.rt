@@ -3,7 +3,7 @@
 ghost use Rattle.std.specs.Prelude.{is_some};
 ghost use Rattle.shard_holdings.specs.Hand.{hand_of};
 
-use crate::effects::Holder;
+use crate::effects::{Holder, InHand};
 use crate::holdings::Holdings;
 use adapt_turn::FreedConnection;
 use http_side::{HttpFault, own_refusal};
@@ -11,10 +11,12 @@ use proxy_rules::interim_continue;
 use shard_message::{hear_on, lay_wire};
 use shard_outside::{HeadTurn, Kinds, OptionsTurn, Said, clear, fault_of, say_to, turn_on};
 
+impl<O: Kinds> InHand for Holdings<O> {
+    ghost hand = { λ held. hand_of (is_some held.connection) (is_some held.room) (is_some held.origin) (is_some held.tx) };
+}
+
 impl<O: Kinds> Holder for Holdings<O> {
     type Outside = O;
-
-    ghost hand = { λ held. hand_of (is_some held.connection) (is_some held.room) (is_some held.origin) (is_some held.tx) };
 
     fn has_begun(&self) -> bool {
         match &self.message {

@@ -10,6 +10,6 @@ mod holding;
 mod holdings;
 mod tasks;
 
-pub use effects::{Effects, Holder, Started};
+pub use effects::{Effects, Holder, InHand, Started};
 pub use holdings::{Held, Holdings};
 pub use tasks::{Step, Task};

@@ -1,6 +1,6 @@
 -- How a message ends.
 use Rattle.std.specs.Prelude.{◌≡◌, ⊤}
-use Rattle.exchange_core.specs.declared.event.Why.TheVariants as whys
+use Rattle.exchange_core.specs.declared.event.RefusalCause.TheVariants as causes
 use Rattle.shard_message.specs.declared.ended.End.{End}
 use Rattle.shard_message.specs.declared.ended.End.TheVariants as ends
 use Rattle.shard_message.specs.declared.ended.EndedBy.{EndedBy}
@@ -8,7 +8,7 @@ use Rattle.shard_message.specs.declared.ended.EndedBy.TheVariants as ended
 
 -- how a message ends that is ended by this
 abbrev pub EndsBy : EndedBy → End → Type 0
-EndsBy ended.Deadline end = end ≡ ends.Failed whys.Deadline
+EndsBy ended.Deadline end = end ≡ ends.Failed causes.Deadline
 EndsBy ended.Stop end = end ≡ ends.Stopped
 EndsBy ended.User end = end ≡ ends.Lost
 EndsBy _ end = ⊤

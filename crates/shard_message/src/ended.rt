@@ -3,8 +3,8 @@
 ghost use Rattle.shard_message.specs.Ends.{EndsBy};
 
 use adapt_turn::Outcome;
-use exchange_core::Why;
-use shard_outside::why_failed;
+use exchange_core::RefusalCause;
+use shard_outside::refusal_cause_after;
 use std::boxed::Box;
 use trace_core::{Cause, Point};
 
@@ -58,7 +58,7 @@ pub enum End {
     /// The user has the whole answer, and its connection serves further requests or not.
     Answered { keeps: bool },
     /// The message goes no further.
-    Failed(Why),
+    Failed(RefusalCause),
     /// The proxy stops.
     Stopped,
     /// The user's connection has failed.
@@ -84,7 +84,7 @@ fn end_of<M>(by: EndedBy, point: Point, sequel: &Sequel<M>) -> End
     match by {
         EndedBy::Stop => End::Stopped,
         EndedBy::User => End::Lost,
-        EndedBy::Deadline => End::Failed(Why::Deadline),
+        EndedBy::Deadline => End::Failed(RefusalCause::Deadline),
         EndedBy::Itself | EndedBy::Gate => match sequel {
             Sequel::Sent(response) => End::Sent {
                 has_memory: response.is_some(),
@@ -96,7 +96,7 @@ fn end_of<M>(by: EndedBy, point: Point, sequel: &Sequel<M>) -> End
                 if *cause == Cause::NextHop && point == Point::Respmod {
                     End::Lost
                 } else {
-                    End::Failed(why_failed(*cause, point))
+                    End::Failed(refusal_cause_after(*cause, point))
                 }
             }
         },

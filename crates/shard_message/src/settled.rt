@@ -6,7 +6,7 @@ ghost use Rattle.shard_message.specs.Ends.{EndsBy};
 use crate::ended::{End, EndedBy, Report, Sequel, message_of, report_of};
 use crate::moving::{Connections, Remains};
 use crate::room::room_of;
-use crate::sides::{Asked, Headed, Served};
+use crate::sides::{Asked, MadeHead, Served};
 use crate::taken::{parts_of, wire_of};
 use adapt_sides::{ClientFault, Hop};
 use adapt_turn::{EndTypes, Ends, MakesHead, Outcome, Parts, ServiceEnd, Tx};
@@ -205,7 +205,7 @@ pub(crate) fn settle_request<
     S: Asked,
     V: Served,
     K: Hop + Drop,
-    F: MakesHead<S, K> + Headed<S>,
+    F: MakesHead<S, K> + MadeHead<S>,
     E: EndTypes<
         Reader = S,
         Client = V,
@@ -261,7 +261,7 @@ pub(crate) fn settle_response<
     S: Asked,
     V: Served,
     K: Hop + Drop,
-    F: MakesHead<S, K> + Headed<S>,
+    F: MakesHead<S, K> + MadeHead<S>,
     E: EndTypes<
         Reader = S,
         Client = V,

@@ -70,7 +70,7 @@ impl Asked for SourceSide {
 }
 
 /// What made the head that went on.
-pub(crate) trait Headed<S>: Drop {
+pub(crate) trait MadeHead<S>: Drop {
     /// Whether the user's connection ends after the answer.
     fn closes(&self) -> bool;
 
@@ -78,7 +78,7 @@ pub(crate) trait Headed<S>: Drop {
     fn into_asked(self) -> Option<S>;
 }
 
-impl Headed<SourceSide> for HeadMaker {
+impl MadeHead<SourceSide> for HeadMaker {
     fn closes(&self) -> bool {
         HeadMaker::closes(self)
     }

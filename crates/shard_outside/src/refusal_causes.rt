@@ -5,39 +5,39 @@ ghost use Rattle.exchange_core.specs.Dues as dues;
 ghost use Rattle.proxy_rules.specs.Reasons as reasons;
 ghost use Rattle.adapt_turn.specs.Refusals.{refusal_status};
 
-use exchange_core::Why;
+use exchange_core::RefusalCause;
 use http_side::HttpFault;
 use proxy_rules::Reason;
 use service_lines::LendFault;
 use trace_core::{Cause, Point};
 
 /// Why the course of a message ends that is refused for this reason: with the same status.
-pub fn why_of(reason: Reason) -> Why
+pub fn refusal_cause_of(reason: Reason) -> RefusalCause
     ensures { dues.status_of result ≡ reasons.status_of reason }
 {
     match reason {
-        Reason::Request(HttpFault::Coding | HttpFault::Connect) => Why::Unserved,
-        Reason::Request(HttpFault::NoMemory) => Why::Scarce,
-        Reason::Request(_) => Why::Faulty,
+        Reason::Request(HttpFault::Coding | HttpFault::Connect) => RefusalCause::Unserved,
+        Reason::Request(HttpFault::NoMemory) => RefusalCause::Scarce,
+        Reason::Request(_) => RefusalCause::Faulty,
         Reason::UnknownHost | Reason::NoOrigin | Reason::OriginHead | Reason::Service => {
-            Why::Elsewhere
+            RefusalCause::Elsewhere
         }
-        Reason::Busy | Reason::Full | Reason::NoRow | Reason::NoMemory => Why::Scarce,
-        Reason::Deadline => Why::Deadline,
-        Reason::Stopping => Why::Stopping,
+        Reason::Busy | Reason::Full | Reason::NoRow | Reason::NoMemory => RefusalCause::Scarce,
+        Reason::Deadline => RefusalCause::Deadline,
+        Reason::Stopping => RefusalCause::Stopping,
     }
 }
 
 /// Why the course of a message ends whose transaction failed by this cause: with the same status.
-pub fn why_failed(cause: Cause, point: Point) -> Why
+pub fn refusal_cause_after(cause: Cause, point: Point) -> RefusalCause
     ensures { dues.status_of result ≡ refusal_status cause point }
 {
     match cause {
-        Cause::Source if point == Point::Reqmod => Why::Faulty,
-        Cause::Source | Cause::Service | Cause::NextHop => Why::Elsewhere,
-        Cause::Memory => Why::Scarce,
-        Cause::Deadline => Why::Deadline,
-        Cause::Stopping => Why::Stopping,
+        Cause::Source if point == Point::Reqmod => RefusalCause::Faulty,
+        Cause::Source | Cause::Service | Cause::NextHop => RefusalCause::Elsewhere,
+        Cause::Memory => RefusalCause::Scarce,
+        Cause::Deadline => RefusalCause::Deadline,
+        Cause::Stopping => RefusalCause::Stopping,
     }
 }
 

@@ -1,7 +1,7 @@
 //! What an exchange has its surroundings do by its course: for a user that is refused or closes, and for a message that waits.
 
 use crate::outside::{Lingered, Outside};
-use exchange_core::{Exchange, Place};
+use exchange_core::{Exchange, Phase};
 use proxy_rules::Reason;
 
 /// Takes note of a refusal, where one goes out.
@@ -16,7 +16,7 @@ pub fn note_refused<P, O: Outside<P>>(
     if course.is_mid_text() {
         return;
     }
-    let is_asking = matches!(course.place, Place::Asking { .. } | Place::InQueue { .. });
+    let is_asking = matches!(course.phase, Phase::Asking { .. } | Phase::InQueue { .. });
     if let Some(user) = user {
         out.note_refusal(at, user, reason, is_asking);
     }
@@ -39,22 +39,22 @@ pub fn linger_on<P, O: Outside<P>>(user: &mut Option<O::User>, out: &mut O) -> L
 
 /// Has a message that waits for a connection of its service wait no more.
 pub fn leave_queue<P, O: Outside<P>>(at: &P, out: &mut O, course: &Exchange) {
-    if let Place::InQueue { point } = course.course().place {
+    if let Phase::InQueue { point } = course.course().phase {
         out.leave_queue(at, point);
     }
 }
 
 /// Whether a message is under way whose head was read.
-pub fn is_under_way(place: Place) -> bool {
+pub fn is_under_way(phase: Phase) -> bool {
     !matches!(
-        place,
-        Place::Idle | Place::Head | Place::Refusing { .. } | Place::Closing
+        phase,
+        Phase::Idle | Phase::Head | Phase::Refusing { .. } | Phase::Closing
     )
 }
 
 /// Takes note that an answer ends unfinished, where it does.
 pub fn note_stopped<P, O: Outside<P>>(at: &P, out: &mut O, course: &Exchange) {
-    if course.course().place == Place::Gone {
+    if course.course().phase == Phase::Gone {
         out.note_stop(at);
     }
 }

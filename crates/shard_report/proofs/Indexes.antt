@@ -1,14 +1,14 @@
--- Each number that a loop counts has a place of its own: the list of all has it there.
+-- Each number that a loop counts has an index of its own: the list of all has it there.
 use Rattle.std.proofs.Common.{◌≡◌, ℕ, List, [], ◌∷◌, get_or, refl, sym, ap, ◌∙◌}
 use Rattle.exchange_report.specs.declared.verdict.Reply.TheVariants.{Plain, Unchanged, Changed, Missing}
 use Rattle.exchange_report.specs.declared.why.Why.TheVariants.{Served, BadRequest, NotServed, RequestBroken, UnknownHost, OriginRefused, OriginBroken, OriginDeadline, ServiceRefused, ServiceStatus, ServiceBroken, ServiceDeadline, Busy, Full, NoRow, NoSeat, NoMemory, UserDeadline, UserGone, Stopping}
-use Rattle.shard_report.specs.Places.{place_of}
+use Rattle.shard_report.specs.Indexes.{index_of}
 use Rattle.shard_report.specs.declared.tally.Class.TheVariants.{Informational, Successful, Redirection, ClientError, ServerError, Other}
 use Rattle.shard_report.specs.declared.tally.Count.{Count}
 use Rattle.shard_report.specs.declared.tally.Count.TheVariants.{Requests, Retries, Read, Sent, Users, Answers, Messages, Refusals}
 use Rattle.trace_core.specs.declared.history.Point.TheVariants.{Reqmod, Respmod}
 
--- all of them, in the order of their places
+-- all of them, in the order of their indexes
 abbrev all : List Count
 all = Requests ∷ Retries ∷ Read ∷ Sent ∷ Users
     ∷ Answers Informational ∷ Answers Successful ∷ Answers Redirection ∷ Answers ClientError ∷ Answers ServerError ∷ Answers Other
@@ -21,9 +21,9 @@ all = Requests ∷ Retries ∷ Read ∷ Sent ∷ Users
     ∷ Refusals UserDeadline ∷ Refusals UserGone ∷ Refusals Stopping ∷ []
 
 abbrev at : ℕ → Count
-at place = get_or all place Requests
+at index = get_or all index Requests
 
-found : (count : Count) → at (place_of count) ≡ count
+found : (count : Count) → at (index_of count) ≡ count
 found Requests = refl
 found Retries = refl
 found Read = refl
@@ -64,5 +64,5 @@ found (Refusals UserDeadline) = refl
 found (Refusals UserGone) = refl
 found (Refusals Stopping) = refl
 
-pub one_place : (one other : Count) → place_of one ≡ place_of other → one ≡ other
-one_place one other e = sym (found one) ∙ ap at e ∙ found other
+pub one_index : (one other : Count) → index_of one ≡ index_of other → one ≡ other
+one_index one other e = sym (found one) ∙ ap at e ∙ found other

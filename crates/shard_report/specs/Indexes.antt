@@ -1,4 +1,4 @@
--- The place of each number that a loop counts.
+-- The index of each number that a loop counts.
 use Rattle.std.specs.Prelude.{ℕ, ◌+◌, ◌*◌, ◌/◌, ◌==◌, if◌then◌else◌}
 use Rattle.exchange_report.specs.declared.verdict.Reply.{Reply}
 use Rattle.exchange_report.specs.declared.verdict.Reply.TheVariants.{Plain, Unchanged, Changed, Missing}
@@ -61,12 +61,12 @@ why_number UserGone = 18
 why_number Stopping = 19
 
 -- five numbers, then those of the classes, of the points with four replies each, and of the reasons
-abbrev pub place_of : Count → ℕ
-place_of Requests = 0
-place_of Retries = 1
-place_of Read = 2
-place_of Sent = 3
-place_of Users = 4
-place_of (Answers class) = 5 + class_number class
-place_of (Messages point reply) = 11 + 4 * point_number point + reply_number reply
-place_of (Refusals why) = 19 + why_number why
+abbrev pub index_of : Count → ℕ
+index_of Requests = 0
+index_of Retries = 1
+index_of Read = 2
+index_of Sent = 3
+index_of Users = 4
+index_of (Answers class) = 5 + class_number class
+index_of (Messages point reply) = 11 + 4 * point_number point + reply_number reply
+index_of (Refusals why) = 19 + why_number why

@@ -1,3 +1,3 @@
+pub mod Indexes
 pub mod Notes
-pub mod Places
 pub mod Reasons

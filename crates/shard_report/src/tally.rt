@@ -1,7 +1,7 @@
 //! What a loop counts. It alone adds; the administrator's loop reads.
 
 ghost use Rattle.std.specs.Prelude.{◌≡◌, ◌<◌};
-ghost use Rattle.shard_report.specs.Places.{class_of, class_number, point_number, reply_number, why_number, place_of};
+ghost use Rattle.shard_report.specs.Indexes.{class_of, class_number, point_number, reply_number, why_number, index_of};
 ghost use Rattle.shard_report.specs.declared.tally.TheConstants.{COUNTS};
 
 use exchange_report::{Reply, Why};
@@ -126,9 +126,9 @@ fn why_number(why: Why) -> usize
     }
 }
 
-/// The place of a number among all of a loop. No two share one.
-fn place(count: Count) -> usize
-    ensures place { result ≡ place_of count }
+/// The index of a number among all of a loop. No two share one.
+fn index(count: Count) -> usize
+    ensures index { result ≡ index_of count }
     ensures within { result < COUNTS }
 {
     match count {
@@ -170,21 +170,21 @@ impl Tally {
 
     /// Adds to a number.
     pub fn add(&self, count: Count, more: u64) {
-        if let Some(number) = self.all.get(place(count)) {
+        if let Some(number) = self.all.get(index(count)) {
             let _ = number.fetch_add(more, Ordering::SeqCst);
         }
     }
 
     /// Takes from a number.
     pub fn take(&self, count: Count, fewer: u64) {
-        if let Some(number) = self.all.get(place(count)) {
+        if let Some(number) = self.all.get(index(count)) {
             let _ = number.fetch_sub(fewer, Ordering::SeqCst);
         }
     }
 
     /// A number.
     pub fn get(&self, count: Count) -> u64 {
-        match self.all.get(place(count)) {
+        match self.all.get(index(count)) {
             Some(number) => number.load(Ordering::SeqCst),
             None => 0,
         }

@@ -2,9 +2,9 @@
 
 ghost use Rattle.std.specs.Prelude.{◌≡◌, true};
 
-use crate::exchanges::Exchanges;
+use crate::exchanges::{Exchanges, Slotted};
 use event_loop::Driven;
-use exchange_core::Place;
+use exchange_core::Phase;
 use shard_desk::Spot;
 use shard_exchange::{Step, Task};
 use shard_seats::Stay;
@@ -20,28 +20,28 @@ const ROUNDS: u32 = 8;
 const STEPS: u32 = 64;
 
 /// What a user's connection is in the midst of, as far as it may be spared.
-fn stay_of(place: Place) -> Stay {
-    match place {
-        Place::Idle => Stay::Idle,
-        Place::Head => Stay::Head,
-        Place::Refusing { .. } | Place::Closing | Place::Gone => Stay::End,
+fn stay_of(phase: Phase) -> Stay {
+    match phase {
+        Phase::Idle => Stay::Idle,
+        Phase::Head => Stay::Head,
+        Phase::Refusing { .. } | Phase::Closing | Phase::Gone => Stay::End,
         _ => Stay::Exchange,
     }
 }
 
 /// Whether a step here is one at a connection: a message is read, moves, or waits.
-fn is_round(place: Place) -> bool {
+fn is_round(phase: Phase) -> bool {
     !matches!(
-        place,
-        Place::Planning { .. } | Place::Preparing { .. } | Place::AtGate { .. }
+        phase,
+        Phase::Planning { .. } | Phase::Preparing { .. } | Phase::AtGate { .. }
     )
 }
 
 /// Whether no message is under way: no request was read, or its answer is over.
-fn is_between(place: Place) -> bool {
+fn is_between(phase: Phase) -> bool {
     matches!(
-        place,
-        Place::Idle | Place::Head | Place::Closing | Place::Gone
+        phase,
+        Phase::Idle | Phase::Head | Phase::Closing | Phase::Gone
     )
 }
 
@@ -52,16 +52,16 @@ fn take_step<D: Exchanges, R: Wait + Dial + Clock, G: Gate>(
     at: &Spot<'_, R, G>,
     exchange: &mut D::Exchange,
 ) -> Step
-    ensures { result ≡ Step.Over → D.is_over exchange.new ≡ true }
+    ensures { result ≡ Step.Over → D.Exchange.is_over exchange.new ≡ true }
 {
-    let before = stay_of(D::place(exchange));
+    let before = stay_of(exchange.phase());
     let step = desk.act(at, exchange, Task::Step);
-    let place = D::place(exchange);
+    let phase = exchange.phase();
     if step == Step::On && before != Stay::End {
         desk.seats_mut().touch(at.key, at.now);
     }
-    desk.seats_mut().begin_stay(at.key, stay_of(place));
-    if is_between(place) {
+    desk.seats_mut().begin_stay(at.key, stay_of(phase));
+    if is_between(phase) {
         desk.report(at.rt, at.key);
     }
     step
@@ -73,7 +73,7 @@ pub(crate) fn drive_on<D: Exchanges, R: Wait + Dial + Clock, G: Gate>(
     at: &Spot<'_, R, G>,
     exchange: &mut D::Exchange,
 ) -> Driven
-    ensures { result ≡ Driven.Over → D.is_over exchange.new ≡ true }
+    ensures { result ≡ Driven.Over → D.Exchange.is_over exchange.new ≡ true }
 {
     let mut rounds = 0u32;
     for _ in 0..STEPS {
@@ -81,7 +81,7 @@ pub(crate) fn drive_on<D: Exchanges, R: Wait + Dial + Clock, G: Gate>(
             desk.act(at, exchange, Task::Lose);
             return Driven::Over;
         }
-        if is_round(D::place(exchange)) {
+        if is_round(exchange.phase()) {
             if rounds >= ROUNDS {
                 return Driven::CutShort;
             }
@@ -103,7 +103,7 @@ pub(crate) fn leave_on<D: Exchanges, R: Wait + Dial + Clock, G: Gate>(
     at: &Spot<'_, R, G>,
     exchange: &mut D::Exchange,
 ) -> Driven
-    ensures { result ≡ Driven.Over → D.is_over exchange.new ≡ true }
+    ensures { result ≡ Driven.Over → D.Exchange.is_over exchange.new ≡ true }
 {
     if desk.seats().is_gone(at.key) {
         desk.act(at, exchange, Task::Lose);

@@ -3,30 +3,58 @@
 ghost use Rattle.std.specs.Prelude.{◌≡◌, Bool, true};
 ghost use Rattle.exchange_core.specs.Dues.{is_over};
 
+use crate::acting::{act_on, first_of, unheard};
 use event_loop::USER;
-use exchange_core::Place;
+use exchange_core::Phase;
 use mio::net::TcpStream;
-use proxy_rules::Incoming;
 use service_lines::{Edge, POINTS};
 use shard_desk::{Desk, Shares, Spot, pools_of};
 use shard_exchange::{Exchange, Holder, Holdings, Step, Task};
 use shard_seats::{Purpose, Seats};
 use socket_wire::{Dial, Unread, UserWire};
 use std::alloc::Global;
-use std::boxed::Box;
 use std::sync::Wait;
 use std::time::Clock;
 use wire_kit::Gate;
 
-/// The exchanges of a thread: what they have in common, and what becomes of each.
+/// A user's connection, with what is held for it, as it lies in a slot.
 ///
-/// An exchange may have a reservation or a lease, so it has no `Drop`: it is let go only once it is over.
+/// It may have a reservation or a lease, so it has no `Drop`: it is let go only once it is over.
+pub trait Slotted {
+    // the user's connection is over, and nothing is held for it
+    ghost is_over: { Self → Bool };
+
+    /// Has it be the last exchange of its connection.
+    fn drain(&mut self);
+
+    /// What the user's connection is in the midst of.
+    fn phase(&self) -> Phase;
+
+    /// Lets it go, once it is over.
+    fn finish(self)
+        requires { is_over self ≡ true };
+}
+
+impl<H: Holder> Slotted for Exchange<H> {
+    ghost is_over = { λ exchange. is_over exchange.course };
+
+    fn drain(&mut self) {
+        Exchange::drain(self);
+    }
+
+    fn phase(&self) -> Phase {
+        Exchange::phase(self)
+    }
+
+    fn finish(self) {
+        Exchange::finish(self);
+    }
+}
+
+/// The exchanges of a thread: what they have in common, and what becomes of each.
 pub trait Exchanges {
     /// A user's connection, with what is held for it.
-    type Exchange;
-
-    // the user's connection is over, and nothing is held for it
-    ghost is_over: { Self.Exchange → Bool };
+    type Exchange: Slotted;
 
     fn alloc(&self) -> Global;
 
@@ -53,21 +81,11 @@ pub trait Exchanges {
         exchange: &mut Self::Exchange,
         task: Task,
     ) -> Step
-        ensures over { result ≡ Step.Over → is_over exchange.new ≡ true }
-        ensures lost { task ≡ Task.Lose → is_over exchange.new ≡ true };
-
-    /// Has an exchange be the last one of its connection.
-    fn drain(exchange: &mut Self::Exchange);
-
-    /// What the user's connection is in the midst of.
-    fn place(exchange: &Self::Exchange) -> Place;
+        ensures over { result ≡ Step.Over → Self.Exchange.is_over exchange.new ≡ true }
+        ensures lost { task ≡ Task.Lose → Self.Exchange.is_over exchange.new ≡ true };
 
     /// Whether no byte of a request was read, but some have come that no event has reported yet.
     fn is_wanted(exchange: &Self::Exchange) -> bool;
-
-    /// Lets an exchange go that is over.
-    fn finish(exchange: Self::Exchange)
-        requires { is_over exchange ≡ true };
 
     /// Closes idle connections to services, where they keep the next user out, and says whether it has room then. `None` where they
     /// don't.
@@ -82,8 +100,6 @@ pub trait Exchanges {
 
 impl<S: Shares> Exchanges for Desk<S> {
     type Exchange = Exchange<Holdings<Desk<S>>>;
-
-    ghost is_over = { λ exchange. is_over exchange.course };
 
     fn alloc(&self) -> Global {
         self.alloc
@@ -110,15 +126,7 @@ impl<S: Shares> Exchanges for Desk<S> {
     }
 
     fn first(&self, user: UserWire, purpose: Purpose) -> Exchange<Holdings<Desk<S>>> {
-        match purpose {
-            Purpose::Requests => {
-                match Box::new(self.alloc, Incoming::request(self.alloc)) {
-                    Ok(message) => Exchange::begin(user, message),
-                    Err(_) => Exchange::turn_away(user),
-                }
-            }
-            Purpose::Refusal => Exchange::turn_away(user),
-        }
+        first_of(self.alloc, user, purpose)
     }
 
     fn act<R: Wait + Dial + Clock, G: Gate>(
@@ -127,29 +135,14 @@ impl<S: Shares> Exchanges for Desk<S> {
         exchange: &mut Exchange<Holdings<Desk<S>>>,
         task: Task,
     ) -> Step {
-        exchange.act(at.rt, at, self, task)
-    }
-
-    fn drain(exchange: &mut Exchange<Holdings<Desk<S>>>) {
-        exchange.drain();
-    }
-
-    fn place(exchange: &Exchange<Holdings<Desk<S>>>) -> Place {
-        exchange.place()
+        act_on(at.rt, at, self, exchange, task)
     }
 
     fn is_wanted(exchange: &Exchange<Holdings<Desk<S>>>) -> bool {
-        if exchange.holdings().has_begun() {
-            return false;
-        }
-        match exchange.holdings().user() {
+        match unheard(exchange) {
             Some(user) => user.unread() == Unread::Bytes,
             None => false,
         }
-    }
-
-    fn finish(exchange: Exchange<Holdings<Desk<S>>>) {
-        exchange.finish();
     }
 
     fn close_idle<R: Wait>(&mut self, rt: &R) -> Option<bool> {

@@ -4,7 +4,7 @@ ghost use Rattle.std.specs.Prelude.{◌≡◌, true};
 ghost use Rattle.shard_work.specs.Slots.{ChangesOnly};
 
 use crate::driving::{drive_on, leave_on};
-use crate::exchanges::Exchanges;
+use crate::exchanges::{Exchanges, Slotted};
 use event_loop::{Driven, Handed, Request, Slots, Told, Work};
 use http_side::own_refusal;
 use mio::Registry;
@@ -81,7 +81,7 @@ impl<'a, D: Exchanges + Drop, G: Gate> Shard<'a, D, G> {
         if let Some(old) = self.slots.place(at.key, exchange) {
             let mut old = old;
             self.desk.act(at, &mut old, Task::Lose);
-            D::finish(old);
+            old.finish();
         }
     }
 
@@ -95,11 +95,11 @@ impl<'a, D: Exchanges + Drop, G: Gate> Shard<'a, D, G> {
         };
         let mut exchange = exchange;
         if self.service == Service::Draining {
-            D::drain(&mut exchange);
+            exchange.drain();
         }
         match drive_on(&mut self.desk, at, &mut exchange) {
             Driven::Over => {
-                D::finish(exchange);
+                exchange.finish();
                 self.desk.leave(at.rt, at.key);
                 Driven::Over
             }
@@ -115,7 +115,7 @@ impl<'a, D: Exchanges + Drop, G: Gate> Shard<'a, D, G> {
         if let Some(exchange) = self.slots.take(at.key) {
             let mut exchange = exchange;
             self.desk.act(at, &mut exchange, Task::Lose);
-            D::finish(exchange);
+            exchange.finish();
         }
         self.desk.leave(at.rt, at.key);
     }
@@ -128,7 +128,7 @@ impl<'a, D: Exchanges + Drop, G: Gate> Shard<'a, D, G> {
         };
         let mut exchange = exchange;
         if self.desk.act(at, &mut exchange, Task::Halt) == Step::Over {
-            D::finish(exchange);
+            exchange.finish();
             self.desk.leave(at.rt, at.key);
         } else {
             self.keep(at, exchange);
@@ -143,7 +143,7 @@ impl<'a, D: Exchanges + Drop, G: Gate> Shard<'a, D, G> {
         let mut exchange = exchange;
         match leave_on(&mut self.desk, at, &mut exchange) {
             Driven::Over => {
-                D::finish(exchange);
+                exchange.finish();
                 self.desk.leave(at.rt, at.key);
                 Driven::Over
             }

@@ -134,7 +134,7 @@ impl<B: Ledgers> Locked<B> {
         ensures sound { IsKept self.new.state }
     {
         // The ledgers come first: they show that the sums allow the step, and that the store has the pages.
-        stake.charge(&mut self.books, n, k);
+        stake.grow(&mut self.books, n, k);
         apply_fitting(&mut self.state, BankStep::Grow(n));
         self.used += k;
         self.store.cut(k)
@@ -153,7 +153,7 @@ impl<B: Ledgers> Locked<B> {
         ensures sound { IsKept self.new.state }
     {
         let count = pages.count();
-        stake.release(&mut self.books, n, count);
+        stake.shrink(&mut self.books, n, count);
         apply_fitting(&mut self.state, BankStep::Shrink(n));
         self.used -= count;
         self.store.join(pages);
@@ -173,7 +173,7 @@ impl<B: Ledgers> Locked<B> {
         if claim == old {
             return;
         }
-        stake.lower(&mut self.books, claim);
+        stake.reclaim(&mut self.books, claim);
         apply_fitting(&mut self.state, BankStep::Reclaim(old, claim));
     }
 
@@ -188,7 +188,7 @@ impl<B: Ledgers> Locked<B> {
     {
         let claim = stake.claim();
         let count = pages.count();
-        stake.give_back(&mut self.books, &mut self.rest);
+        stake.close(&mut self.books, &mut self.rest);
         apply_fitting(&mut self.state, BankStep::Close(claim));
         self.used -= count;
         self.store.join(pages);

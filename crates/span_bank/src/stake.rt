@@ -89,7 +89,7 @@ impl<B: Ledgers> Stake<B> {
     }
 
     // Holds `n` bytes more, with `k` pages more.
-    pub(crate) fn charge(&mut self, books: &mut Books<B>, n: u64, k: u64)
+    pub(crate) fn grow(&mut self, books: &mut Books<B>, n: u64, k: u64)
         requires room { self.old.held + n ≤ self.old.claim }
         requires pages { self.old.pages + k ≤ most_pages (self.old.held + n) }
         ensures stake { self.new ≡ record self.old { held = self.old.held + n; pages = self.old.pages + k } }
@@ -122,7 +122,7 @@ impl<B: Ledgers> Stake<B> {
     }
 
     // Holds `n` bytes fewer, with `k` pages fewer.
-    pub(crate) fn release(&mut self, books: &mut Books<B>, n: u64, k: u64)
+    pub(crate) fn shrink(&mut self, books: &mut Books<B>, n: u64, k: u64)
         requires held { n ≤ self.old.held }
         requires pages { k ≤ self.old.pages }
         requires left { self.old.pages ≤ most_pages (self.old.held - n) + k }
@@ -156,7 +156,7 @@ impl<B: Ledgers> Stake<B> {
     }
 
     // Lowers the claim, in the book of the rest of the claims.
-    pub(crate) fn lower(&mut self, books: &mut Books<B>, claim: u64)
+    pub(crate) fn reclaim(&mut self, books: &mut Books<B>, claim: u64)
         requires held { self.old.held ≤ claim }
         requires lower { claim ≤ self.old.claim }
         ensures stake { self.new ≡ record self.old { claim = claim } }
@@ -173,7 +173,7 @@ impl<B: Ledgers> Stake<B> {
     }
 
     // Ends a reservation that holds nothing; its parts go back to those that stay under the lock.
-    pub(crate) fn give_back(self, books: &mut Books<B>, rest: &mut Parts<B>)
+    pub(crate) fn close(self, books: &mut Books<B>, rest: &mut Parts<B>)
         requires held { self.held ≡ 0 }
         ensures free { books.new.free + self.claim ≡ books.old.free }
         ensures held { books.new.held ≡ books.old.held }

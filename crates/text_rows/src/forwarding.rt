@@ -36,7 +36,7 @@ fn put_to_origin(alloc: Global, out: &mut Vec<u8>, user: &HttpRequest) -> Result
         user,
         message: Message::Request(user),
         part: BodyKind::Own,
-        body_read: true,
+        carries_on: true,
     };
     out.extend_from_slice(&forward_head(alloc, &forward)?)
 }
@@ -66,7 +66,7 @@ fn put_adapted(
                 user,
                 message: Message::Request(&adapted.value),
                 part: part_of(row),
-                body_read: true,
+                carries_on: true,
             };
             put_forward(alloc, out, &forward)
         }
@@ -86,7 +86,7 @@ fn put_to_user(
                 user,
                 message: Message::Response(&response.value),
                 part: part_of(row),
-                body_read: !row.has(b"early"),
+                carries_on: !row.has(b"early"),
             };
             put_forward(alloc, out, &forward)
         }

@@ -1,4 +1,4 @@
-//! The end of a loop: users get their refusals.
+//! The end of a loop: users get their refusals, and connections that only close are closed.
 
 use crate::looping::EventLoop;
 use crate::work::Work;
@@ -11,7 +11,8 @@ use std::time::{Clock, Duration};
 const FAREWELL: u64 = 1000;
 
 impl<K: Work> EventLoop<K> {
-    /// Drives on the exchanges whose users get a refusal, until all are over, for a while at most.
+    /// Drives on the exchanges whose users get a refusal, or whose connections are being closed, until all are over, for a while at
+    /// most.
     pub(super) fn take_leave<R: Wait + Dial + Clock>(&mut self, rt: &R) -> io::Result<()> {
         self.read_clock(rt)?;
         let end = self.elapsed.saturating_add(FAREWELL);

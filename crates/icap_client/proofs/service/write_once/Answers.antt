@@ -7,7 +7,7 @@ use Rattle.wire_kit.specs.declared.wire.Put.TheVariants as put
 use Rattle.adapt_sides.specs.declared.fault.ClientFault.TheVariants.{Device}
 use Rattle.chunk_writer.proofs.Moving.{reaches}
 use Rattle.icap_client.proofs.Marked.{last_after}
-use Rattle.icap_client.proofs.LetGo.{head_kept}
+use Rattle.icap_client.proofs.DropText.{head_kept}
 use Rattle.icap_client.proofs.Answering.{turned, fits_took, fits_wait, fits_none, none_at_wait, none_at_fault, idle_events}
 use Rattle.icap_client.proofs.service.write_once.Goals as goal
 

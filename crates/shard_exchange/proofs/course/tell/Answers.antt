@@ -17,4 +17,4 @@ returns-then-tell_begun-clause-owed c why fails unanswered uncut no_text =
     let begun = (c.tell_begun.ensures.same unanswered).1 in
     let text = c.tell_served.ensures.text ∙ (ap (λ (d : Course). is_mid_text d) begun ∙ no_text) in
     let owed = c.tell_end.ensures.owed why fails text in
-    subst (λ (d : Course). (is_refusing d.place ≡ true) × (refusal_at d.place ≡ status_of why)) (sym (c.tell_cut.ensures.same uncut)) owed
+    subst (λ (d : Course). (is_refusing d.phase ≡ true) × (refusal_at d.phase ≡ status_of why)) (sym (c.tell_cut.ensures.same uncut)) owed

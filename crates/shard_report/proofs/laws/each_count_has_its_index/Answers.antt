@@ -1,5 +1,5 @@
-use Rattle.shard_report.proofs.Places.{one_place}
-use Rattle.shard_report.proofs.laws.each_count_has_its_place.Goals as goal
+use Rattle.shard_report.proofs.Indexes.{one_index}
+use Rattle.shard_report.proofs.laws.each_count_has_its_index.Goals as goal
 
 pub returns : goal.returns
-returns c = one_place
+returns c = one_index

@@ -3,7 +3,7 @@ use Rattle.trace_core.specs.History.{shows}
 use Rattle.adapt_sides.specs.declared.turn.Turn.{Turn}
 use Rattle.adapt_sides.specs.declared.fault.RelayFault.{RelayFault}
 use Rattle.http_relay.proofs.Gives.{as_gives, fails_giving}
-use Rattle.http_relay.proofs.traits.HopWriterHop.write_turn.Goals as goal
+use Rattle.http_relay.proofs.contract.HopWriterHop.write_turn.Goals as goal
 
 pub returns-clause-gift : goal.returns-clause-gift
 returns-clause-gift g c = c.write_turn.ensures.turn.goes_on.gift

@@ -1,7 +1,7 @@
 use Rattle.std.proofs.Common.{[], inl, inr, refl}
 use Rattle.std.proofs.lemmas.Bool.{cases_Bool}
 use Rattle.trace_core.specs.History.{seen}
-use Rattle.http_relay.proofs.traits.SourceSideSource.begins.Goals as goal
+use Rattle.http_relay.proofs.contract.SourceSideSource.begins.Goals as goal
 
 pub returns-clause-may : goal.returns-clause-may
 returns-clause-may c = (

@@ -1,4 +1,4 @@
-use Rattle.http_relay.proofs.traits.SourceSideSource.read_turn.Goals as goal
+use Rattle.http_relay.proofs.contract.SourceSideSource.read_turn.Goals as goal
 
 pub returns-clause-reason : goal.returns-clause-reason
 returns-clause-reason g c = λ none fault e. (c.read_turn.ensures.turn none).cause fault e

@@ -10,7 +10,7 @@ use Rattle.adapt_sides.specs.declared.fault.RelayFault.TheVariants.{Device, Leng
 use Rattle.http_relay.specs.Giving.{Hop, BreaksLength, is_message, is_whole, stage_then}
 use Rattle.http_relay.specs.declared.hop.Stage.{Stage}
 use Rattle.http_relay.proofs.Carried.{may_go_on}
-use Rattle.http_relay.proofs.Answering.{turned, turned_let_go, unmoved, faulted, still_wait, still_fault, no_delta_wait, no_delta_fault, no_delta_none, settles_still, settles_by, took_some, none_still, fits_took, fits_wait, fits_none, idle_events, decides_at}
+use Rattle.http_relay.proofs.Answering.{turned, turned_drop_text, unmoved, faulted, still_wait, still_fault, no_delta_wait, no_delta_fault, no_delta_none, settles_still, settles_by, took_some, none_still, fits_took, fits_wait, fits_none, idle_events, decides_at}
 use Rattle.http_relay.proofs.hop.HopWriter.write_turn.Goals as goal
 
 pub returns-in-Some-clause-turn : goal.returns-in-Some-clause-turn
@@ -64,7 +64,7 @@ returns-in-Some-Wait-clause-turn g c =
     let te = ap (λ (h : Hop). h.touched) c.self.view_is in
     let answer : wrote.answer ≡ Some put.Wait = search rules in
     let still = still_wait wrote.answer wrote.sent wrote.ended answer o.still in
-    turned_let_go x tape c.args.self.now _ c.drop_text.new.self _ _ (Ok c.turn_of.result) c.drop_text.ensures.still
+    turned_drop_text x tape c.args.self.now _ c.drop_text.new.self _ _ (Ok c.turn_of.result) c.drop_text.ensures.still
     (turned x tape next c.args.self.now _ in'.writer in'.framing in'.stage _ _ (Ok c.turn_of.result) wrote.answer wrote.sent wrote.ended false we fe se
     (sound c.args.state.now.plan c.args.state.now.events c.trace.ensures.legal) c.requires c.in-Some-decide.ensures.next o.wire o.silent o.asks o.moves
     (settles_still x next c.args.self.now _ wrote.sent wrote.ended (delta_of text wrote.answer) still (no_delta_wait wrote.answer text answer) fe se te)
@@ -87,7 +87,7 @@ returns-in-Some-Took-clause-turn g c =
     let fe = ap (λ (h : Hop). h.framing) c.self.view_is in
     let se = ap (λ (h : Hop). h.stage) c.self.view_is in
     let answer : wrote.answer ≡ Some (put.Took c.in-Some-Took.field-0-0) = search rules in
-    turned_let_go x tape c.args.self.now c.count_written-done.new.self c.drop_text-in-Some-Took.new.self _ _ (Ok turn.result) c.drop_text-in-Some-Took.ensures.still
+    turned_drop_text x tape c.args.self.now c.count_written-done.new.self c.drop_text-in-Some-Took.new.self _ _ (Ok turn.result) c.drop_text-in-Some-Took.ensures.still
     (turned x tape next c.args.self.now c.count_written-done.new.self in'.writer in'.framing in'.stage _ _ (Ok turn.result) wrote.answer wrote.sent wrote.ended done we fe se
     (sound c.args.state.now.plan c.args.state.now.events c.trace.ensures.legal) c.requires c.in-Some-decide.ensures.next o.wire o.silent o.asks
     (subst (λ (v : Writer). Moves tape next in'.writer wrote.sent wrote.ended (delta_of text wrote.answer) v) (sym (ap (λ (h : Hop). h.writer) e.stage)) o.moves)
@@ -116,7 +116,7 @@ returns-in-None-answer-clause-turn g c =
     let idle = o.idle answer in
     let s = sound c.args.state.now.plan c.args.state.now.events c.trace.ensures.legal in
     let may = c.sendable-may.ensures.done in
-    turned_let_go x tape c.args.self.now settle.new.self c.drop_text-in-None-answer.new.self _ _ (Ok turn.result) c.drop_text-in-None-answer.ensures.still
+    turned_drop_text x tape c.args.self.now settle.new.self c.drop_text-in-None-answer.new.self _ _ (Ok turn.result) c.drop_text-in-None-answer.ensures.still
     (turned x tape next c.args.self.now settle.new.self in'.writer in'.framing in'.stage _ _ (Ok turn.result) wrote.answer wrote.sent wrote.ended done we fe se
     s c.requires c.in-Some-decide.ensures.next o.wire o.silent o.asks
     (subst (λ (v : Writer). Moves tape next in'.writer wrote.sent wrote.ended (delta_of text wrote.answer) v) (sym (ap (λ (h : Hop). h.writer) e.stage)) o.moves)

@@ -1,6 +1,6 @@
 use Rattle.std.proofs.Common.{length}
 use Rattle.http_relay.proofs.Turning.{turn_kept}
-use Rattle.http_relay.proofs.side.SourceSide.try_turn.Goals as goal
+use Rattle.http_relay.proofs.side.SourceSide.turn_once.Goals as goal
 
 pub returns-clause-turn : goal.returns-clause-turn
 returns-clause-turn g c =

@@ -2,7 +2,7 @@ use Rattle.std.proofs.Common.{◌∙◌, Bool, length, subst, sym}
 use Rattle.trace_core.specs.History.{shows}
 use Rattle.icap_client.specs.Reading.{IsCause}
 use Rattle.icap_client.proofs.Both.{came_cause}
-use Rattle.icap_client.proofs.LetGo.{sent_still, flushed_still}
+use Rattle.icap_client.proofs.DropText.{sent_still, flushed_still}
 use Rattle.icap_client.proofs.contract.ServiceSideService.read_turn.Goals as goal
 
 pub returns-clause-sent : goal.returns-clause-sent

@@ -1,7 +1,7 @@
 use Rattle.std.proofs.Common.{rules, ◌≡◌}
 use Rattle.icap_client.specs.declared.options.OptionsStage.TheVariants.{Over}
 use Rattle.icap_client.proofs.Asked.{asks_over, asks_told, asks_refused, asks_behind}
-use Rattle.icap_client.proofs.options.OptionsSide.try_turn.Goals as goal
+use Rattle.icap_client.proofs.options.OptionsSide.write_or_read.Goals as goal
 
 pub returns-in-Over-clause-asks : goal.returns-in-Over-clause-asks
 returns-in-Over-clause-asks g c = asks_over c.args.self.now (g.W.Wire.past c.args.wire.now) (search rules) (search rules)

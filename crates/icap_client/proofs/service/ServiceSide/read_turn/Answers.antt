@@ -8,7 +8,7 @@ use Rattle.icap_client.specs.Events.{after_all}
 use Rattle.icap_client.specs.HeadFront.{HasToWait}
 use Rattle.icap_client.specs.Reading.{ReadSide, SideHeard, NothingToRead}
 use Rattle.icap_client.specs.Turns.{Service, Hears, is_answered, is_flushed}
-use Rattle.icap_client.proofs.LetGo.{flushed_still}
+use Rattle.icap_client.proofs.DropText.{flushed_still}
 use Rattle.icap_client.proofs.Both.{hears_all}
 use Rattle.icap_client.proofs.Marked.{hears_marked}
 use Rattle.icap_client.proofs.service.ServiceSide.read_turn.Goals as goal
@@ -17,7 +17,7 @@ pub returns-in-Ok-clause-hears : goal.returns-in-Ok-clause-hears
 returns-in-Ok-clause-hears g c =
     let y = shows c.args.state.now in
     let room = length c.args.out.now in
-    let new = c.let_go.new.self in
+    let new = c.drop_text.new.self in
     let side = c.read_turn.new.self in
     let P = g.W.Wire.past c.args.wire.now in
     let Q = g.W.Wire.past c.read_turn.new.wire in
@@ -27,10 +27,10 @@ returns-in-Ok-clause-hears g c =
     c.is_answered-self-inside.ensures
     ∙ (ap (λ (s : Seen). is_answered (after_all s c.as_slice.result.now)) c.seen.ensures
     ∙ ap (λ (es : List Event). is_answered (after_all y es)) slice) in
-    let flushed : c.flushed-all_sent.result ≡ is_flushed new.writer = c.flushed-all_sent.ensures ∙ sym (flushed_still c.self.inside.writer new.writer c.let_go.ensures.writer) in
-    hears_marked y c.args.self.now new c.args.self.now.replies.fault new.replies.fault (NothingToRead y (is_flushed new.writer) room new.replies.reader.stage) (HasToWait new.replies.reader.stage new.replies.raw room) P Q c.read_turn.new.out result (λ e. c.let_go.ensures.answered ∙ mark)
+    let flushed : c.flushed-all_sent.result ≡ is_flushed new.writer = c.flushed-all_sent.ensures ∙ sym (flushed_still c.self.inside.writer new.writer c.drop_text.ensures.writer) in
+    hears_marked y c.args.self.now new c.args.self.now.replies.fault new.replies.fault (NothingToRead y (is_flushed new.writer) room new.replies.reader.stage) (HasToWait new.replies.reader.stage new.replies.raw room) P Q c.read_turn.new.out result (λ e. c.drop_text.ensures.answered ∙ mark)
     (subst (λ (s : ReadSide). Hears y (λ x adapted read. SideHeard x adapted read c.args.self.now.replies) (λ x adapted read. SideHeard x adapted read s) c.args.self.now.replies.fault s.fault (NothingToRead y (is_flushed new.writer) room s.reader.stage) (HasToWait s.reader.stage s.raw room)
-    P Q c.read_turn.new.out result) (sym c.let_go.ensures.replies)
+    P Q c.read_turn.new.out result) (sym c.drop_text.ensures.replies)
     (subst (λ (b : Bool). Hears y (λ x adapted read. SideHeard x adapted read c.args.self.now.replies) (λ x adapted read. SideHeard x adapted read side) c.args.self.now.replies.fault side.fault (NothingToRead y b room side.reader.stage) (HasToWait side.reader.stage side.raw room)
     P Q c.read_turn.new.out result) flushed
     (subst (λ (s : Service). Hears y (λ x adapted read. SideHeard x adapted read s.replies) (λ x adapted read. SideHeard x adapted read side) s.replies.fault side.fault (NothingToRead y c.flushed-all_sent.result room side.reader.stage) (HasToWait side.reader.stage side.raw room)

@@ -4,7 +4,7 @@ use Rattle.trace_core.specs.History.{seen, shows}
 use Rattle.icap_client.specs.Events.{ad_sum}
 use Rattle.icap_client.specs.Reading.{SideHears, MayRead, ReadTurn}
 use Rattle.icap_client.proofs.ReadTurns.{turn_refused, turn_behind, turn_unheard}
-use Rattle.icap_client.proofs.side.ReplySide.try_turn.Goals as goal
+use Rattle.icap_client.proofs.side.ReplySide.frame_or_read.Goals as goal
 
 pub returns-in-Err-clause-turn : goal.returns-in-Err-clause-turn
 returns-in-Err-clause-turn g c =

@@ -12,4 +12,4 @@ no_drain false false false may h k = cc
 
 pub returns-else-may-clause-drains : goal.returns-else-may-clause-drains
 returns-else-may-clause-drains g c =
-    let d = c.args.self.now.course in no_drain (is_gone d.place) d.draining d.stopping c.may.result c.may.ensures c.if-may.false
+    let d = c.args.self.now.course in no_drain (is_gone d.phase) d.draining d.stopping c.may.result c.may.ensures c.if-may.false

@@ -10,4 +10,4 @@ no_stop false false may h k = cc
 
 pub returns-then-not-may-clause-stops : goal.returns-then-not-may-clause-stops
 returns-then-not-may-clause-stops g c =
-    let d = c.args.self.now.course in no_stop (is_gone d.place) d.stopping c.may.result c.may.ensures c.if-not-may.true
+    let d = c.args.self.now.course in no_stop (is_gone d.phase) d.stopping c.may.result c.may.ensures c.if-not-may.true
