@@ -12,26 +12,27 @@ use Rattle.adapt_turn.specs.declared.turned.Outcome.TheVariants as outcomes
 use Rattle.adapt_turn.specs.declared.turned.Turned.{Turned}
 use Rattle.adapt_turn.specs.declared.turned.Turned.TheVariants as answers
 use Rattle.adapt_turn.specs.declared.pace.Pace.{Pace}
-use Rattle.adapt_turn.specs.ByTurn.{BySide, OfWriter, ByAnswer, Paces, Drives}
+use Rattle.adapt_turn.specs.ByTurn.{BySide, OfWriter, OnAnswer, ByAnswer, Paces, Drives}
 
-pub by_answer : (turned : Turned) (waiting : Type 0) (moved : ℕ → Type 0) (broken : Type 0) (finished : Outcome → Type 0)
-    → (turned ≡ answers.Waiting → waiting) → ((n : ℕ) → turned ≡ answers.Moved n → moved n) → (turned ≡ answers.Broken → broken) → ((outcome : Outcome) → turned ≡ answers.Finished outcome → finished outcome)
-    → ByAnswer turned waiting moved broken finished
-by_answer answers.Waiting waiting moved broken finished w m b f = w refl
-by_answer (answers.Moved n) waiting moved broken finished w m b f = m n refl
-by_answer answers.Broken waiting moved broken finished w m b f = b refl
-by_answer (answers.Finished outcome) waiting moved broken finished w m b f = f outcome refl
+pub by_answer : (turned : Turned) (on : OnAnswer)
+    → (turned ≡ answers.Waiting → on.waiting) → ((n : ℕ) → turned ≡ answers.Moved n → on.moved n) → (turned ≡ answers.Broken → on.broken) → ((outcome : Outcome) → turned ≡ answers.Finished outcome → on.finished outcome)
+    → ByAnswer turned on
+by_answer answers.Waiting on w m b f = w refl
+by_answer (answers.Moved n) on w m b f = m n refl
+by_answer answers.Broken on w m b f = b refl
+by_answer (answers.Finished outcome) on w m b f = f outcome refl
 
 -- what follows of each answer follows
-pub answer_on : (turned : Turned) (w w' : Type 0) (m m' : ℕ → Type 0) (b b' : Type 0) (f f' : Outcome → Type 0) → ByAnswer turned w m b f → (w → w') → ((n : ℕ) → m n → m' n) → (b → b') → ((o : Outcome) → f o → f' o) → ByAnswer turned w' m' b' f'
-answer_on answers.Waiting w w' m m' b b' f f' a on_w on_m on_b on_f = on_w a
-answer_on (answers.Moved n) w w' m m' b b' f f' a on_w on_m on_b on_f = on_m n a
-answer_on answers.Broken w w' m m' b b' f f' a on_w on_m on_b on_f = on_b a
-answer_on (answers.Finished outcome) w w' m m' b b' f f' a on_w on_m on_b on_f = on_f outcome a
+pub answer_on : (turned : Turned) (on on' : OnAnswer) → ByAnswer turned on
+    → (on.waiting → on'.waiting) → ((n : ℕ) → on.moved n → on'.moved n) → (on.broken → on'.broken) → ((o : Outcome) → on.finished o → on'.finished o) → ByAnswer turned on'
+answer_on answers.Waiting on on' a w m b f = w a
+answer_on (answers.Moved n) on on' a w m b f = m n a
+answer_on answers.Broken on on' a w m b f = b a
+answer_on (answers.Finished outcome) on on' a w m b f = f outcome a
 
 -- An answer of a closed one is none that its connection broke.
-pub not_broken : (turned : Turned) (w : Type 0) (m : ℕ → Type 0) (f : Outcome → Type 0) → ByAnswer turned w m ⊥ f → turned ≡ answers.Broken → ⊥
-not_broken turned w m f a e = subst (λ (z : Turned). ByAnswer z w m ⊥ f) e a
+pub not_broken : (turned : Turned) (on : OnAnswer) → ByAnswer turned on → (on.broken → ⊥) → turned ≡ answers.Broken → ⊥
+not_broken turned on a none e = none (subst (λ (z : Turned). ByAnswer z on) e a)
 
 -- a turn in which no byte moved leaves the clock and the marks, if it answers Broken only where the connection was marked
 pub paces_still : (closed : Bool) (old new : Pace) (now : ℕ) (moves : ℕ → Type 0) (said : Turned) → new ≡ old → (said ≡ answers.Broken → old.broken ≡ true)

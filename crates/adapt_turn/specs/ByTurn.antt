@@ -24,12 +24,19 @@ BySide NextHop source service next = next
 abbrev pub OfWriter : (back_gift : Gift) → (next back : Type 0) → Type 0
 OfWriter back_gift next back = (back_gift ≡ nothing → next) × ((back_gift ≡ nothing → ⊥) → back)
 
--- what is so for each answer
-abbrev pub ByAnswer : Turned → (waiting : Type 0) → (moved : ℕ → Type 0) → (broken : Type 0) → (finished : Outcome → Type 0) → Type 0
-ByAnswer answers.Waiting waiting moved broken finished = waiting
-ByAnswer (answers.Moved n) waiting moved broken finished = moved n
-ByAnswer answers.Broken waiting moved broken finished = broken
-ByAnswer (answers.Finished outcome) waiting moved broken finished = finished outcome
+-- What is so for each answer.
+pub record OnAnswer : Type 1 where
+  pub waiting : Type 0
+  pub moved : ℕ → Type 0
+  pub broken : Type 0
+  pub finished : Outcome → Type 0
+
+-- and what is so for this one
+abbrev pub ByAnswer : Turned → OnAnswer → Type 0
+ByAnswer answers.Waiting on = on.waiting
+ByAnswer (answers.Moved n) on = on.moved n
+ByAnswer answers.Broken on = on.broken
+ByAnswer (answers.Finished outcome) on = on.finished outcome
 
 -- What a turn answers, by what its pass did and how many bytes the wires moved.
 pub record IsAnswerTo (passed : Passed) (bytes : ℕ) (said : Turned) : Type 0 where
@@ -51,22 +58,45 @@ pub record Paces (closed : Bool) (old new : Pace) (now : ℕ) (moves : ℕ → T
   pub marked : new.broken ≡ true ↔ (old.broken ≡ true) ⊎ (said ≡ answers.Broken)
   pub reused : new.reused ≡ old.reused
 
+-- How a transaction ends, at one moment.
+pub record Ending : Type 1 where
+  pub hold : Holding
+  pub outcome : Outcome
+  -- a refusal is due
+  pub refusing : Bool
+  -- it is out, or its wire has failed
+  pub is_over : Type 0
+  -- the user has the refusal of this cause, or a byte of an answer has gone out
+  pub refuses : Cause → Type 0
+
 -- What a turn leaves of a transaction that was closed: how it ended, and whether a refusal is due, and which. It answers Finished once none is due, or
 -- the one that is due is over.
-pub record StaysClosed (old_hold new_hold : Holding) (old_outcome new_outcome : Outcome) (old_due new_due : Bool) (over : Type 0) (old_refuses new_refuses : Cause → Type 0) (said : Turned) : Type 0 where
-  pub hold : new_hold ≡ old_hold
-  pub outcome : new_outcome ≡ old_outcome
-  pub refusing : new_due ≡ old_due
-  pub finishes : (old_due ≡ false) ⊎ over → said ≡ answers.Finished old_outcome
-  pub refuses : (cause : Cause) → old_refuses cause → new_refuses cause
+pub record StaysClosed (old new : Ending) (said : Turned) : Type 0 where
+  pub hold : new.hold ≡ old.hold
+  pub outcome : new.outcome ≡ old.outcome
+  pub refusing : new.refusing ≡ old.refusing
+  pub finishes : (old.refusing ≡ false) ⊎ old.is_over → said ≡ answers.Finished old.outcome
+  pub refuses : (cause : Cause) → old.refuses cause → new.refuses cause
 
--- Why a transaction failed, where that is how it ended: `blame` says so of the cause, and the user has the refusal of that cause. It
+-- How a transaction ends after a turn, and what may be the reason.
+pub record Failing : Type 1 where
+  pub outcome : Outcome
+  -- the deadline has passed
+  pub late : Type 0
+  -- the deadline or a side is the reason for this cause
+  pub blame : Cause → Type 0
+  -- the user has the refusal of this cause, or a byte of an answer has gone out
+  pub refuses : Cause → Type 0
+  -- no head could be made, for this cause
+  pub unmade : Cause → Type 0
+
+-- Why a transaction failed, where that is how it ended: there is a reason for the cause, and the user has the refusal of that cause. It
 -- fails as Deadline only where that has passed, and as Stopping never, but where no head could be made for just that cause.
-pub record WhyFailed (outcome : Outcome) (passed : Type 0) (blame refusal unmade : Cause → Type 0) : Type 0 where
-  pub fails : (cause : Cause) → outcome ≡ outcomes.Fail cause → blame cause
-  pub refuses : (cause : Cause) → outcome ≡ outcomes.Fail cause → refusal cause
-  pub timely : outcome ≡ outcomes.Fail Deadline → passed ⊎ unmade Deadline
-  pub unstopped : outcome ≡ outcomes.Fail Stopping → unmade Stopping
+pub record WhyFailed (f : Failing) : Type 0 where
+  pub fails : (cause : Cause) → f.outcome ≡ outcomes.Fail cause → f.blame cause
+  pub refuses : (cause : Cause) → f.outcome ≡ outcomes.Fail cause → f.refuses cause
+  pub timely : f.outcome ≡ outcomes.Fail Deadline → f.late ⊎ f.unmade Deadline
+  pub unstopped : f.outcome ≡ outcomes.Fail Stopping → f.unmade Stopping
 
 -- a turn for each side of the schedule, in its order, and no other
 abbrev pub Drives : {T : Type 0} → (T → Side → T → Type 0) → T → List Side → T → Type 0

@@ -14,4 +14,4 @@ pub use head::MakesHead;
 pub use pace::Pace;
 pub use steps::Passed;
 pub use turned::{Outcome, Side, Turned};
-pub use tx::{Answering, Going, Refusing, Standing, Tx};
+pub use tx::{Answering, Going, Making, Refusing, Standing, Tx};

@@ -27,7 +27,7 @@ use crate::pace::Pace;
 use crate::turned::Outcome;
 use adapt_hold::Hold;
 use adapt_sides::{Hop, Service, Source};
-pub use answers::Answering;
+pub use answers::{Answering, Making};
 use plan_rules::{Limits, Plan};
 use span_bank::{Ledgers, Stake};
 use std::alloc::Global;

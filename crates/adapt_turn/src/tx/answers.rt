@@ -21,13 +21,19 @@ ghost use Rattle.adapt_turn.specs.Made.{MakesNoneAt, wire_of, on_held, adapted_o
 ghost use Rattle.adapt_turn.specs.Parts.{Breaks, HasCause, FailsFor, source_cause, fault_of};
 ghost use Rattle.adapt_turn.specs.Rows.{may_step, TookBy, Advances};
 ghost use Rattle.adapt_turn.specs.Stands.{IsChosen, IsDone, Waited, WaitedBoth, Blamed, BlamedWriter, BlamedService};
-ghost use Rattle.adapt_turn.specs.ByTurn.{BySide, OfWriter, ByAnswer};
+ghost use Rattle.adapt_turn.specs.ByTurn.{BySide, OfWriter, ByAnswer, Ending};
 
 use crate::ends::EndTypes;
 use crate::tx::{Going, Refusing, Tx};
 use adapt_sides::{Hop, Service, Source};
 use span_bank::Ledgers;
 use wire_kit::Wire;
+
+/// How the chosen message of a transaction goes on.
+pub trait Making {
+    // no head can be made for it, for this cause
+    ghost unmade: { Self → Cause → Type 0 };
+}
 
 /// What a turn of a side answers, and why a transaction fails in it.
 pub trait Answering {
@@ -48,13 +54,20 @@ pub trait Answering {
     // reason: its wire failed or ended in this turn, there was no memory, or what was read, or the chosen body, is at fault.
     ghost fails: { Self → Side → ℕ → Self → Cause → Type 0 };
 
+    // how it ends: what it holds, the outcome, and the refusal that is due
+    ghost ending: { Self → Ending };
+
     // no side has a fault; the service's may have one where its connection broke
     ghost faultless: { Self → Type 0 };
 }
 
+impl<B: Ledgers, E: EndTypes> Making for Tx<B, E> {
+    ghost unmade = { λ tx cause. MakesNoneAt (E.Maker.makes_none tx.ends.maker (E.Reader.head tx.ends.source)) (adapted_of E.Client.adapted_head tx.ends.service) (response_of E.Client.is_response tx.ends.service) (shows tx.hold.history) cause };
+}
+
 impl<B: Ledgers, E: EndTypes> Answering for Tx<B, E> {
-    ghost answers = { λ old side new turned. ByAnswer turned
-        ((new.hold ≡ old.hold) × ⟦<Tx<B, E> as Going>⟧.moves old new 0
+    ghost answers = { λ old side new turned. ByAnswer turned (record {
+        waiting = (new.hold ≡ old.hold) × ⟦<Tx<B, E> as Going>⟧.moves old new 0
         × ((shows old.hold.history).closed ≡ true → ⟦<Tx<B, E> as Refusing>⟧.refusal_waits old new)
         × ((shows old.hold.history).closed ≡ false → BySide side
         ((Waited (E.Reader.rests (original_room (shows old.hold.history) old.hold.claim old.hold.limits.window) new.ends.source) (λ past. past.read_waits) (E.SourceWire.past old.ends.source_wire) (E.SourceWire.past new.ends.source_wire)) × E.Reader.is_framed (original_room (shows old.hold.history) old.hold.claim old.hold.limits.window) new.ends.source)
@@ -63,14 +76,14 @@ impl<B: Ledgers, E: EndTypes> Answering for Tx<B, E> {
         × MatchOption new.ends.service ⊤ (λ line. MatchOption line.wire ⊤ (λ wire. E.Client.is_framed (adapted_room (shows old.hold.history) old.hold.limits.window) line.side)))
         ((IsChosen (shows old.hold.history) → ⊥) ⊎ ((E.Writer.gift new.ends.next ≡ nothing → E.Writer.gift new.ends.back ≡ nothing → ⊥) × OfWriter (E.Writer.gift new.ends.back)
         (Waited (E.Writer.rests (shows old.hold.history) new.ends.next) (λ past. past.write_waits) (E.NextWire.past old.ends.next_wire) (E.NextWire.past new.ends.next_wire))
-        (Waited (E.Writer.rests (shows old.hold.history) new.ends.back) (λ past. past.write_waits) (E.SourceWire.past old.ends.source_wire) (E.SourceWire.past new.ends.source_wire))))))
-        (λ n. ⟦<Tx<B, E> as Going>⟧.moves old new n
+        (Waited (E.Writer.rests (shows old.hold.history) new.ends.back) (λ past. past.write_waits) (E.SourceWire.past old.ends.source_wire) (E.SourceWire.past new.ends.source_wire)))));
+        moved = λ n. ⟦<Tx<B, E> as Going>⟧.moves old new n
         × (n ≡ 0 → (p q r : Past) → E.SourceWire.past old.ends.source_wire p → on_held old.ends.service ⊤ (λ wire. E.ServiceWire.past wire q) → E.NextWire.past old.ends.next_wire r
-        → ((shows old.hold.history).closed ≡ false) × Advances (may_step side) old.hold new.hold))
-        ((side ≡ sides.Service) × ((shows old.hold.history).closed ≡ false) × MayFollow new.hold.history.plan new.hold.history.events Retry
-        × ((old.pace.broken ≡ true) ⊎ MatchOption new.ends.service ⊥ (λ line. Breaks new.hold.history old.pace.reused (E.Client.fault line.side))))
-        (λ outcome. ((shows old.hold.history).closed ≡ true) × (outcome ≡ old.outcome) × ((old.refusing ≡ false) ⊎ ⟦<Tx<B, E> as Refusing>⟧.refusal_is_over new)
-        × (outcome ≡ outcomes.Done → IsDone new.hold.history)) };
+        → ((shows old.hold.history).closed ≡ false) × Advances (may_step side) old.hold new.hold);
+        broken = (side ≡ sides.Service) × ((shows old.hold.history).closed ≡ false) × MayFollow new.hold.history.plan new.hold.history.events Retry
+        × ((old.pace.broken ≡ true) ⊎ MatchOption new.ends.service ⊥ (λ line. Breaks new.hold.history old.pace.reused (E.Client.fault line.side)));
+        finished = λ outcome. ((shows old.hold.history).closed ≡ true) × (outcome ≡ old.outcome) × ((old.refusing ≡ false) ⊎ ⟦<Tx<B, E> as Refusing>⟧.refusal_is_over new)
+        × (outcome ≡ outcomes.Done → IsDone new.hold.history) }) };
 
     ghost keeps = { λ old side new. ((shows old.hold.history).closed ≡ false → TookBy (may_step side) old.hold new.hold
         × BySide side ((new.ends.service ≡ old.ends.service) × (new.ends.next_wire ≡ old.ends.next_wire)
@@ -94,9 +107,11 @@ impl<B: Ledgers, E: EndTypes> Answering for Tx<B, E> {
         (λ p. on_held old.ends.service ⊥ (λ wire. E.ServiceWire.past wire p)) (λ p. on_held new.ends.service ⊥ (λ wire. E.ServiceWire.past wire p))
         × FailsFor (λ line. E.Client.fault line.side) (λ fault x line. E.Client.has_reason fault x line.side) cause old.pace.reused old.ends.service new.ends.service new.hold)
         ((IsChosen (shows old.hold.history) × (E.Writer.gift old.ends.next ≡ nothing) × (E.Writer.gift old.ends.back ≡ nothing)
-        × MakesNoneAt (E.Maker.makes_none old.ends.maker (E.Reader.head old.ends.source)) (adapted_of E.Client.adapted_head old.ends.service) (response_of E.Client.is_response old.ends.service) (shows old.hold.history) cause)
+        × ⟦<Tx<B, E> as Making>⟧.unmade old cause)
         ⊎ (BlamedWriter cause (FailsGiving (E.Writer.breaks_length (shows old.hold.history) (E.Writer.body_framing new.ends.next))) (E.Writer.fault old.ends.next) (E.NextWire.past old.ends.next_wire) (E.NextWire.past new.ends.next_wire)
         ⊎ BlamedWriter cause (FailsGiving (E.Writer.breaks_length (shows old.hold.history) (E.Writer.body_framing new.ends.back))) (E.Writer.fault old.ends.back) (E.SourceWire.past old.ends.source_wire) (E.SourceWire.past new.ends.source_wire))) };
+
+    ghost ending = { λ tx. record { hold = tx.hold; outcome = tx.outcome; refusing = tx.refusing; is_over = ⟦<Tx<B, E> as Refusing>⟧.refusal_is_over tx; refuses = ⟦<Tx<B, E> as Refusing>⟧.refuses tx } };
 
     ghost faultless = { λ tx. (E.Reader.fault tx.ends.source ≡ None) × (tx.pace.broken ≡ false → fault_of (λ line. E.Client.fault line.side) tx.ends.service ≡ None) × (E.Writer.fault tx.ends.next ≡ None) × (E.Writer.fault tx.ends.back ≡ None) };
 }

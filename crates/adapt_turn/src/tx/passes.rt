@@ -2,7 +2,7 @@
 
 ghost use Rattle.std.specs.Prelude.{◌≡◌, false, None};
 ghost use Rattle.adapt_hold.specs.Holding.{shows};
-ghost use Rattle.adapt_turn.specs.Made.{MakesNoneAt, wire_of, adapted_of, response_of};
+ghost use Rattle.adapt_turn.specs.Made.{wire_of};
 ghost use Rattle.adapt_turn.specs.Parts.{lending, outcome_by};
 ghost use Rattle.adapt_turn.specs.Passes.{AnyPasses, LinePasses, NextPasses, SourcePasses, choice_of, writers};
 
@@ -12,7 +12,7 @@ use crate::pass::service::service_pass;
 use crate::pass::source::source_pass;
 use crate::steps::{Passed, outcome_by};
 use crate::turned::Side;
-use crate::tx::{Going, Tx};
+use crate::tx::{Going, Making, Tx};
 use adapt_sides::{Hop, Service, Source};
 use span_bank::{Bank, Ledgers};
 use std::sync::Wait;
@@ -30,8 +30,7 @@ impl<B: Ledgers, E: EndTypes> Tx<B, E> {
     pub(crate) fn pass(&mut self, rt: &impl Wait, bank: &Bank<B>, side: Side) -> Passed
         requires running { (shows self.old.hold.history).closed ≡ false }
         ensures goes { ⟦<Self as Going>⟧.goes self.old self.new }
-        ensures any { AnyPasses E.Client.Service self.old.pace.reused (MakesNoneAt (E.Maker.makes_none self.old.ends.maker (E.Reader.head self.old.ends.source)) (adapted_of E.Client.adapted_head self.old.ends.service) (response_of E.Client.is_response self.old.ends.service) (shows self.old.hold.history))
-            side self.old.hold self.new.hold self.new.ends.service result }
+        ensures any { AnyPasses E.Client.Service self.old.pace.reused (⟦<Self as Making>⟧.unmade self.old) side self.old.hold self.new.hold self.new.ends.service result }
         ensures source { side ≡ Side.Source → SourcePasses E.Reader.Source E.SourceWire.Wire (lending self.old.hold self.old.ends.source self.old.ends.source_wire) (lending self.new.hold self.new.ends.source self.new.ends.source_wire) result }
         ensures service { side ≡ Side.Service → LinePasses E.Client.Service E.ServiceWire.Wire self.old.pace.reused self.old.hold self.old.ends.service self.new.hold self.new.ends.service result }
         ensures next { side ≡ Side.NextHop → NextPasses E.Writer.Hop E.SourceWire.Wire E.NextWire.Wire (choice_of E.Client.Service (E.Maker.makes self.new.ends.maker (E.Reader.head self.old.ends.source)) (E.Maker.makes_none self.old.ends.maker (E.Reader.head self.old.ends.source)) (self.new.ends.maker ≡ self.old.ends.maker) self.old.ends.service (shows self.old.hold.history))

@@ -9,7 +9,6 @@ ghost use Rattle.trace_core.specs.Legal.{MayFollow};
 ghost use Rattle.adapt_sides.specs.Turns.{Gift};
 ghost use Rattle.adapt_sides.specs.Turns.Gift.{message};
 ghost use Rattle.adapt_hold.specs.Holding.{shows, moved};
-ghost use Rattle.adapt_turn.specs.Made.{MakesNoneAt, adapted_of, response_of};
 ghost use Rattle.adapt_turn.specs.declared.turned.Turned.{Turned as TurnAnswer};
 ghost use Rattle.adapt_turn.specs.Parts.{outcome_by};
 ghost use Rattle.adapt_turn.specs.ByTurn.{Drives, IsAnswerTo, Paces, StaysClosed, WhyFailed};
@@ -17,7 +16,7 @@ ghost use Rattle.adapt_turn.specs.ByTurn.{Drives, IsAnswerTo, Paces, StaysClosed
 use crate::ends::EndTypes;
 use crate::steps::Passed;
 use crate::turned::{Outcome, Side, Turned};
-use crate::tx::{Answering, Going, Refusing, Tx};
+use crate::tx::{Answering, Going, Making, Refusing, Tx};
 use adapt_sides::{Hop, Service, Source};
 use span_bank::{Bank, Ledgers};
 use std::sync::Wait;
@@ -58,14 +57,12 @@ impl<B: Ledgers, E: EndTypes> Tx<B, E> {
         ensures keeps { ⟦<Self as Answering>⟧.keeps self.old side self.new }
         ensures deadline { (shows self.old.hold.history).closed ≡ false → self.old.pace.last_moved + self.old.pace.deadline ≤ now
             → (self.new.hold ≡ moved self.old.hold (Fail Deadline) []) × (result ≡ Turned.Moved 0) × (self.new.outcome ≡ Outcome.Fail Deadline) }
-        ensures closed { (shows self.old.hold.history).closed ≡ true → StaysClosed self.old.hold self.new.hold self.old.outcome self.new.outcome self.old.refusing self.new.refusing
-            (⟦<Self as Refusing>⟧.refusal_is_over self.old) (λ cause. ⟦<Self as Refusing>⟧.refuses self.old cause) (λ cause. ⟦<Self as Refusing>⟧.refuses self.new cause) result }
+        ensures closed { (shows self.old.hold.history).closed ≡ true → StaysClosed (⟦<Self as Answering>⟧.ending self.old) (⟦<Self as Answering>⟧.ending self.new) result }
         ensures paces { Paces (shows self.old.hold.history).closed self.old.pace self.new.pace now (λ n. ⟦<Self as Going>⟧.moves self.old self.new n) result }
         ensures breaks_on { (shows self.old.hold.history).closed ≡ false → now < self.old.pace.last_moved + self.old.pace.deadline → side ≡ Side.Service
             → self.old.pace.broken ≡ true → MayFollow self.old.hold.history.plan self.old.hold.history.events Retry → result ≡ Turned.Broken }
-        ensures fails { (shows self.old.hold.history).closed ≡ false → WhyFailed self.new.outcome (self.old.pace.last_moved + self.old.pace.deadline ≤ now)
-            (λ cause. ⟦<Self as Answering>⟧.fails self.old side now self.new cause) (λ cause. ⟦<Self as Refusing>⟧.refuses self.new cause)
-            (λ cause. (side ≡ Side.NextHop) × MakesNoneAt (E.Maker.makes_none self.old.ends.maker (E.Reader.head self.old.ends.source)) (adapted_of E.Client.adapted_head self.old.ends.service) (response_of E.Client.is_response self.old.ends.service) (shows self.old.hold.history) cause) }
+        ensures fails { (shows self.old.hold.history).closed ≡ false → WhyFailed (record { outcome = self.new.outcome; late = self.old.pace.last_moved + self.old.pace.deadline ≤ now;
+            blame = ⟦<Self as Answering>⟧.fails self.old side now self.new; refuses = ⟦<Self as Refusing>⟧.refuses self.new; unmade = λ cause. (side ≡ Side.NextHop) × ⟦<Self as Making>⟧.unmade self.old cause }) }
         ensures faultless { (shows self.new.hold.history).closed ≡ false → ⟦<Self as Answering>⟧.faultless self.old → ⟦<Self as Answering>⟧.faultless self.new }
         ensures told { (shows self.old.hold.history).closed ≡ false → side ≡ Side.Source → (result ≡ Turned.Broken → ⊥) → ((cause : Cause) → self.new.outcome ≡ Outcome.Fail cause → ⊥)
             → E.Reader.is_over self.new.ends.source → (shows self.new.hold.history).ended ≡ true }

@@ -55,7 +55,7 @@ pub returns-clause-goes : goal.returns-clause-goes
 returns-clause-goes g c = goes_then _ _ _ _ _ _ _ _ _ _ _ _ c.pass-passed.ensures.goes c.after_pass.ensures.goes
 
 pub returns-clause-answers : goal.returns-clause-answers
-returns-clause-answers g c = by_answer c.after_pass.result _ _ _ _
+returns-clause-answers g c = by_answer c.after_pass.result _
     (λ w. (
       c.after_pass.ensures.hold ∙ c.pass-passed.ensures.any.still (c.after_pass.ensures.said.waiting w).0,
       moves_of g.E.SourceWire.Wire.past g.E.ServiceWire.Wire.past g.E.NextWire.Wire.past c.args.self.now.ends.source_wire c.pass-passed.new.self.ends.source_wire c.after_pass.new.self.ends.source_wire
@@ -108,7 +108,7 @@ pub returns-then-is_closed-clause-answers : goal.returns-then-is_closed-clause-a
 returns-then-is_closed-clause-answers g c =
     let over = sym c.is_closed.ensures ∙ c.if-is_closed.true in
     let kept = c.closed_turn.ensures.kept in
-    answer_on c.closed_turn.result _ _ _ _ _ _ _ _ c.closed_turn.ensures.answers
+    answer_on c.closed_turn.result _ _ c.closed_turn.ensures.answers
     (λ w. (kept.0, w.0, λ k. w.1, λ o. absurd (false≢true (sym o ∙ over))))
     (λ n m. (
       m.0,
@@ -223,7 +223,7 @@ returns-clause-paces g c =
 
 pub returns-then-is_closed-clause-paces : goal.returns-then-is_closed-clause-paces
 returns-then-is_closed-clause-paces g c =
-    paces_still _ _ _ _ _ _ c.closed_turn.ensures.pace (λ b. absurd (not_broken c.closed_turn.result _ _ _ c.closed_turn.ensures.answers b)) (λ o. absurd (false≢true (sym o ∙ (sym c.is_closed.ensures ∙ c.if-is_closed.true))))
+    paces_still _ _ _ _ _ _ c.closed_turn.ensures.pace (λ b. absurd (not_broken c.closed_turn.result _ c.closed_turn.ensures.answers (λ none. none) b)) (λ o. absurd (false≢true (sym o ∙ (sym c.is_closed.ensures ∙ c.if-is_closed.true))))
 
 pub returns-then-is_closed-clause-closed : goal.returns-then-is_closed-clause-closed
 returns-then-is_closed-clause-closed g c = λ k. let e = c.closed_turn.ensures in record { hold = e.kept.0; outcome = e.kept.1; refusing = e.kept.2; finishes = e.finished; refuses = e.refuses }
