@@ -18,12 +18,12 @@ use Rattle.adapt_hold.specs.Holding.{Holding, IsTied, shows}
 use Rattle.adapt_turn.specs.declared.steps.Passed.{Passed}
 use Rattle.adapt_turn.specs.Parts.{Lent, GivesOn, HopPart, stepped}
 use Rattle.adapt_turn.specs.Made.{OfHead, WholeOf, answers_user, is_reqmod}
-use Rattle.adapt_turn.specs.Stands.{Stands, Goes, HopsAre, IsRefusing, user_gift, TakesAside, IsDone, IsDelivered}
+use Rattle.adapt_turn.specs.Stands.{Stands, Pasts, Goes, HopsAre, IsRefusing, user_gift, TakesAside, IsDone, IsDelivered}
 use Rattle.adapt_turn.proofs.Advance.{Others, give_stands}
 use Rattle.adapt_turn.proofs.Stepped.{part_shows}
 use Rattle.adapt_turn.proofs.Made.{KeepsMade, made_all}
 use Rattle.adapt_turn.proofs.Hops.{next_gives, back_gives, next_whole, back_whole, next_begins, back_begins, BeginsWith, next_refuses, back_refuses, next_refuses_on, back_refuses_on, other_of_next, other_of_back, other_at_respmod, other_at_reqmod}
-use Rattle.adapt_turn.proofs.Together.{goes_still, of_five, no_given, given_still, still, still_source, rehop}
+use Rattle.adapt_turn.proofs.Together.{on_wires, goes_still, of_five, no_given, given_still, still, still_source, rehop}
 
 -- What a writer did to a message whose head is a made one.
 
@@ -56,7 +56,7 @@ pub next_goes : {K G W : Type 0} (hop : Hop K G) (w : Wire W) (old new : Lent K 
     → Others agrees read sent heard (HopsAre ng' bg gn an bgiven baside) (IsRefusing refusing ng' bg) → IsTied old.hold → (shows old.hold.history).closed ≡ false → bg ≡ nothing → (ng ≡ nothing → ⊥) → ng' ≡ ng
     → (d : HopPart hop w old new passed) → GivesOn old.hold d.reported d.delta go gn whole
     → Goes (Stands old.hold agrees read sent heard (HopsAre ng bg go ao bgiven baside) (IsRefusing refusing ng bg) before_done) (Stands new.hold agrees read sent heard (HopsAre ng' bg gn an bgiven baside) (IsRefusing refusing ng' bg) (IsDelivered refusing ng' bg whole an bwhole baside))
-    source source service service (w.past old.wire) (w.past new.wire)
+    (on_wires source service (w.past old.wire)) (on_wires source service (w.past new.wire))
 next_goes hop w old new agrees read sent heard ng ng' bg go gn bgiven ao an baside refusing whole bwhole before_done source service passed u tied c idle busy same d gives = record {
   delta = record { source_read = no_given; service_read = []; service_taken = []; next_taken = d.delta; back_taken = [] };
   stands = λ request t o. of_five (Stands new.hold agrees read sent heard (HopsAre ng' bg gn an bgiven baside) (IsRefusing refusing ng' bg) (IsDelivered refusing ng' bg whole an bwhole baside) request) _ _ _ _ _ _ _ _ _ _
@@ -79,7 +79,7 @@ pub back_goes : {K G W : Type 0} (hop : Hop K G) (w : Wire W) (old new : Lent K 
     → Others agrees read sent heard (HopsAre ng bg' ngiven naside gn an) (IsRefusing refusing ng bg') → IsTied old.hold → (shows old.hold.history).closed ≡ false → (bg ≡ nothing → ⊥) → bg' ≡ bg
     → (d : HopPart hop w old new passed) → GivesOn old.hold d.reported d.delta go gn whole
     → Goes (Stands old.hold agrees read sent heard (HopsAre ng bg ngiven naside go ao) (IsRefusing refusing ng bg) before_done) (Stands new.hold agrees read sent heard (HopsAre ng bg' ngiven naside gn an) (IsRefusing refusing ng bg') (IsDelivered refusing ng bg' nwhole naside whole an))
-    (w.past old.wire) (w.past new.wire) service service next next
+    (on_wires (w.past old.wire) service next) (on_wires (w.past new.wire) service next)
 back_goes hop w old new agrees read sent heard ng bg bg' go gn ngiven ao an naside refusing whole nwhole before_done service next passed u tied c busy same d gives = record {
   delta = record { source_read = no_given; service_read = []; service_taken = []; next_taken = []; back_taken = d.delta };
   stands = λ request t o. of_five (Stands new.hold agrees read sent heard (HopsAre ng bg' ngiven naside gn an) (IsRefusing refusing ng bg') (IsDelivered refusing ng bg' nwhole naside whole an) request) _ _ _ _ _ _ _ _ _ _
@@ -115,21 +115,21 @@ next_open refusing ng ng' bg x c m r = (λ e. absurd (false≢true (sym c ∙ (r
 back_open : (refusing : Bool) (ng bg bg' : Gift) (x : Seen) → x.closed ≡ false → (x.plan.point ≡ Respmod → ⊥) → bg' ≡ message → IsRefusing refusing ng bg x → IsRefusing refusing ng bg' x
 back_open refusing ng bg bg' x c p m r = (λ e. absurd (false≢true (sym c ∙ (r.0 e).0)), other_of_back x.plan.point ng bg bg' m r.1, λ q w. absurd (p q))
 
-pub next_begin_goes : (h : Holding) (agrees : Seen → Type 0) (read : Seen → List ℕ → Given → Type 0) (sent : List ℕ → Seen → List ℕ → List ℕ → Type 0) (heard : Seen → List ℕ → List ℕ → Type 0) (ng ng' bg : Gift) (go gn bgo bgn : Seen → List ℕ → List ℕ → List ℕ → Type 0) (ao an baside : List ℕ → Type 0) (refusing : Bool) (done done' : List ℕ → List ℕ → List ℕ → Type 0) (head : List ℕ) (source service next : Past → Type 0)
+pub next_begin_goes : (h : Holding) (agrees : Seen → Type 0) (read : Seen → List ℕ → Given → Type 0) (sent : List ℕ → Seen → List ℕ → List ℕ → Type 0) (heard : Seen → List ℕ → List ℕ → Type 0) (ng ng' bg : Gift) (go gn bgo bgn : Seen → List ℕ → List ℕ → List ℕ → Type 0) (ao an baside : List ℕ → Type 0) (refusing : Bool) (done done' : List ℕ → List ℕ → List ℕ → Type 0) (head : List ℕ) (wires : Pasts)
     → (shows h.history).closed ≡ false → ng ≡ nothing → bg ≡ nothing → ng' ≡ message → BeginsWith (shows h.history) head ao gn
     → Goes (Stands h agrees read sent heard (HopsAre ng bg go ao bgo baside) (IsRefusing refusing ng bg) done) (Stands h agrees read sent heard (HopsAre ng' bg gn an bgn baside) (IsRefusing refusing ng' bg) done')
-    source source service service next next
-next_begin_goes h agrees read sent heard ng ng' bg go gn bgo bgn ao an baside refusing done done' head source service next c n b m begin =
-    goes_still _ _ source service next (λ request t o. rehop h agrees read sent heard (HopsAre ng bg go ao bgo baside) (HopsAre ng' bg gn an bgn baside) (IsRefusing refusing ng bg) (IsRefusing refusing ng' bg) done done' request t t.next_taken t.back_taken
+    wires wires
+next_begin_goes h agrees read sent heard ng ng' bg go gn bgo bgn ao an baside refusing done done' head wires c n b m begin =
+    goes_still (λ request t o. rehop h agrees read sent heard (HopsAre ng bg go ao bgo baside) (HopsAre ng' bg gn an bgn baside) (IsRefusing refusing ng bg) (IsRefusing refusing ng' bg) done done' request t t.next_taken t.back_taken
     (λ body p. next_begins ng ng' bg go gn bgo bgn ao an baside (shows h.history) head body t.next_taken t.back_taken c n b m begin p)
     (next_open refusing ng ng' bg (shows h.history) c m) (λ w body p. absurd (false≢true (sym c ∙ w.0))) o)
 
-pub back_begin_goes : (h : Holding) (agrees : Seen → Type 0) (read : Seen → List ℕ → Given → Type 0) (sent : List ℕ → Seen → List ℕ → List ℕ → Type 0) (heard : Seen → List ℕ → List ℕ → Type 0) (ng bg bg' : Gift) (go gn ngo ngn : Seen → List ℕ → List ℕ → List ℕ → Type 0) (ao an naside : List ℕ → Type 0) (refusing : Bool) (done done' : List ℕ → List ℕ → List ℕ → Type 0) (head : List ℕ) (source service next : Past → Type 0)
+pub back_begin_goes : (h : Holding) (agrees : Seen → Type 0) (read : Seen → List ℕ → Given → Type 0) (sent : List ℕ → Seen → List ℕ → List ℕ → Type 0) (heard : Seen → List ℕ → List ℕ → Type 0) (ng bg bg' : Gift) (go gn ngo ngn : Seen → List ℕ → List ℕ → List ℕ → Type 0) (ao an naside : List ℕ → Type 0) (refusing : Bool) (done done' : List ℕ → List ℕ → List ℕ → Type 0) (head : List ℕ) (wires : Pasts)
     → (shows h.history).closed ≡ false → ((shows h.history).plan.point ≡ Respmod → ⊥) → ng ≡ nothing → bg ≡ nothing → bg' ≡ message → BeginsWith (shows h.history) head ao gn
     → Goes (Stands h agrees read sent heard (HopsAre ng bg ngo naside go ao) (IsRefusing refusing ng bg) done) (Stands h agrees read sent heard (HopsAre ng bg' ngn naside gn an) (IsRefusing refusing ng bg') done')
-    source source service service next next
-back_begin_goes h agrees read sent heard ng bg bg' go gn ngo ngn ao an naside refusing done done' head source service next c p0 n b m begin =
-    goes_still _ _ source service next (λ request t o. rehop h agrees read sent heard (HopsAre ng bg ngo naside go ao) (HopsAre ng bg' ngn naside gn an) (IsRefusing refusing ng bg) (IsRefusing refusing ng bg') done done' request t t.next_taken t.back_taken
+    wires wires
+back_begin_goes h agrees read sent heard ng bg bg' go gn ngo ngn ao an naside refusing done done' head wires c p0 n b m begin =
+    goes_still (λ request t o. rehop h agrees read sent heard (HopsAre ng bg ngo naside go ao) (HopsAre ng bg' ngn naside gn an) (IsRefusing refusing ng bg) (IsRefusing refusing ng bg') done done' request t t.next_taken t.back_taken
     (λ body p. back_begins ng bg bg' go gn ngo ngn ao an naside (shows h.history) head body t.next_taken t.back_taken c n b m begin p)
     (back_open refusing ng bg bg' (shows h.history) c p0 m) (λ w body p. absurd (false≢true (sym c ∙ w.0))) o)
 
@@ -139,42 +139,42 @@ refusal_no_message : (g : Gift) (status : ℕ) → g ≡ refusal status → g �
 refusal_no_message g status e f = let d : refusal status ≡ message = sym e ∙ f in absurd cc
 
 pub next_refuse_goes : {K : Type 0} (given : Seen → List ℕ → List ℕ → List ℕ → K → Type 0) (aside : List ℕ → K → Type 0) (gift : K → Gift) (untouched : K → Bool)
-    (h : Holding) (agrees : Seen → Type 0) (read : Seen → List ℕ → Given → Type 0) (sent : List ℕ → Seen → List ℕ → List ℕ → Type 0) (heard : Seen → List ℕ → List ℕ → Type 0) (next next' back : K) (refusing r : Bool) (done done' : List ℕ → List ℕ → List ℕ → Type 0) (status : ℕ) (source service wire : Past → Type 0)
+    (h : Holding) (agrees : Seen → Type 0) (read : Seen → List ℕ → Given → Type 0) (sent : List ℕ → Seen → List ℕ → List ℕ → Type 0) (heard : Seen → List ℕ → List ℕ → Type 0) (next next' back : K) (refusing r : Bool) (done done' : List ℕ → List ℕ → List ℕ → Type 0) (status : ℕ) (wires : Pasts)
     → ((x : Seen) (head body taken : List ℕ) (s : K) → untouched s ≡ true → given x head body taken s → (taken ≡ []) × (x.original_delivered ≡ 0) × (x.adapted_delivered ≡ 0))
     → ((taken : List ℕ) (s : K) → untouched s ≡ true → aside taken s → taken ≡ [])
     → (shows h.history).closed ≡ true → (IsDone h.history → ⊥) → (shows h.history).plan.point ≡ Respmod
     → (r ≡ true → untouched next ≡ true) → (r ≡ true → gift next' ≡ refusal status) → (r ≡ true → aside [] next') → (r ≡ false → next' ≡ next)
     → Goes (Stands h agrees read sent heard (HopsAre (gift next) (gift back) (λ x head body taken. given x head body taken next) (λ taken. aside taken next) (λ x head body taken. given x head body taken back) (λ taken. aside taken back)) (IsRefusing refusing (gift next) (gift back)) done)
     (Stands h agrees read sent heard (HopsAre (gift next') (gift back) (λ x head body taken. given x head body taken next') (λ taken. aside taken next') (λ x head body taken. given x head body taken back) (λ taken. aside taken back)) (IsRefusing r (gift next') (gift back)) done')
-    source source service service wire wire
-next_refuse_goes {K} given aside gift untouched h agrees read sent heard next next' back refusing true done done' status source service wire lg la c undone point u g a same =
-    goes_still _ _ source service wire (λ request t o. rehop h agrees read sent heard _ _ (IsRefusing refusing (gift next) (gift back)) (IsRefusing true (gift next') (gift back)) done done' request t t.next_taken t.back_taken
+    wires wires
+next_refuse_goes {K} given aside gift untouched h agrees read sent heard next next' back refusing true done done' status wires lg la c undone point u g a same =
+    goes_still (λ request t o. rehop h agrees read sent heard _ _ (IsRefusing refusing (gift next) (gift back)) (IsRefusing true (gift next') (gift back)) done done' request t t.next_taken t.back_taken
     (λ body p. next_refuses (gift next) (gift next') (gift back) (λ x head body taken. given x head body taken next) (λ x head body taken. given x head body taken next') (λ x head body taken. given x head body taken back)
     (λ taken. aside taken next) (λ taken. aside taken next') (λ taken. aside taken back) (shows h.history) body t.next_taken t.back_taken c
     (λ x head body taken q. lg x head body taken next (u refl) q) (λ taken q. la taken next (u refl) q) (a refl) p)
     (λ r. (λ e. (c, λ m. refusal_no_message (gift next') status (g refl) (subst (λ (z : Point). user_gift z (gift next') (gift back) ≡ message) point m)), other_at_respmod (shows h.history).plan.point (gift next) (gift next') (gift back) point r.1, r.2)) (λ w body p. absurd (undone w)) o)
-next_refuse_goes {K} given aside gift untouched h agrees read sent heard next next' back refusing false done done' status source service wire lg la c undone point u g a same =
-    goes_still _ _ source service wire (λ request t o.
+next_refuse_goes {K} given aside gift untouched h agrees read sent heard next next' back refusing false done done' status wires lg la c undone point u g a same =
+    goes_still (λ request t o.
     subst (λ (z : K). Stands h agrees read sent heard (HopsAre (gift z) (gift back) (λ x head body taken. given x head body taken z) (λ taken. aside taken z) (λ x head body taken. given x head body taken back) (λ taken. aside taken back)) (IsRefusing false (gift z) (gift back)) done' request t) (sym (same refl))
     (rehop h agrees read sent heard _ _ (IsRefusing refusing (gift next) (gift back)) (IsRefusing false (gift next) (gift back)) done done' request t t.next_taken t.back_taken (λ body p. p) (λ r. (λ e. absurd (false≢true e), r.1, r.2)) (λ w body p. absurd (undone w)) o))
 
 pub back_refuse_goes : {K : Type 0} (given : Seen → List ℕ → List ℕ → List ℕ → K → Type 0) (aside : List ℕ → K → Type 0) (gift : K → Gift) (untouched : K → Bool)
-    (h : Holding) (agrees : Seen → Type 0) (read : Seen → List ℕ → Given → Type 0) (sent : List ℕ → Seen → List ℕ → List ℕ → Type 0) (heard : Seen → List ℕ → List ℕ → Type 0) (next back back' : K) (refusing r : Bool) (done done' : List ℕ → List ℕ → List ℕ → Type 0) (status : ℕ) (source service wire : Past → Type 0)
+    (h : Holding) (agrees : Seen → Type 0) (read : Seen → List ℕ → Given → Type 0) (sent : List ℕ → Seen → List ℕ → List ℕ → Type 0) (heard : Seen → List ℕ → List ℕ → Type 0) (next back back' : K) (refusing r : Bool) (done done' : List ℕ → List ℕ → List ℕ → Type 0) (status : ℕ) (wires : Pasts)
     → ((x : Seen) (head body taken : List ℕ) (s : K) → untouched s ≡ true → given x head body taken s → (taken ≡ []) × (x.original_delivered ≡ 0) × (x.adapted_delivered ≡ 0))
     → ((taken : List ℕ) (s : K) → untouched s ≡ true → aside taken s → taken ≡ [])
     → (shows h.history).closed ≡ true → (IsDone h.history → ⊥) → (shows h.history).plan.point ≡ Reqmod
     → (r ≡ true → untouched back ≡ true) → (r ≡ true → gift back' ≡ refusal status) → (r ≡ true → aside [] back') → (r ≡ false → back' ≡ back)
     → Goes (Stands h agrees read sent heard (HopsAre (gift next) (gift back) (λ x head body taken. given x head body taken next) (λ taken. aside taken next) (λ x head body taken. given x head body taken back) (λ taken. aside taken back)) (IsRefusing refusing (gift next) (gift back)) done)
     (Stands h agrees read sent heard (HopsAre (gift next) (gift back') (λ x head body taken. given x head body taken next) (λ taken. aside taken next) (λ x head body taken. given x head body taken back') (λ taken. aside taken back')) (IsRefusing r (gift next) (gift back')) done')
-    source source service service wire wire
-back_refuse_goes {K} given aside gift untouched h agrees read sent heard next back back' refusing true done done' status source service wire lg la c undone point u g a same =
-    goes_still _ _ source service wire (λ request t o. rehop h agrees read sent heard _ _ (IsRefusing refusing (gift next) (gift back)) (IsRefusing true (gift next) (gift back')) done done' request t t.next_taken t.back_taken
+    wires wires
+back_refuse_goes {K} given aside gift untouched h agrees read sent heard next back back' refusing true done done' status wires lg la c undone point u g a same =
+    goes_still (λ request t o. rehop h agrees read sent heard _ _ (IsRefusing refusing (gift next) (gift back)) (IsRefusing true (gift next) (gift back')) done done' request t t.next_taken t.back_taken
     (λ body p. back_refuses (gift next) (gift back) (gift back') (λ x head body taken. given x head body taken back) (λ x head body taken. given x head body taken back') (λ x head body taken. given x head body taken next)
     (λ taken. aside taken back) (λ taken. aside taken back') (λ taken. aside taken next) (shows h.history) body t.next_taken t.back_taken c
     (λ x head body taken q. lg x head body taken back (u refl) q) (λ taken q. la taken back (u refl) q) (a refl) p)
     (λ r. (λ e. (c, λ m. refusal_no_message (gift back') status (g refl) (subst (λ (z : Point). user_gift z (gift next) (gift back') ≡ message) point m)), other_at_reqmod (shows h.history).plan.point (gift next) (gift back) (gift back') point r.1, λ q m. refusal_no_message (gift back') status (g refl) m)) (λ w body p. absurd (undone w)) o)
-back_refuse_goes {K} given aside gift untouched h agrees read sent heard next back back' refusing false done done' status source service wire lg la c undone point u g a same =
-    goes_still _ _ source service wire (λ request t o.
+back_refuse_goes {K} given aside gift untouched h agrees read sent heard next back back' refusing false done done' status wires lg la c undone point u g a same =
+    goes_still (λ request t o.
     subst (λ (z : K). Stands h agrees read sent heard (HopsAre (gift next) (gift z) (λ x head body taken. given x head body taken next) (λ taken. aside taken next) (λ x head body taken. given x head body taken z) (λ taken. aside taken z)) (IsRefusing false (gift next) (gift z)) done' request t) (sym (same refl))
     (rehop h agrees read sent heard _ _ (IsRefusing refusing (gift next) (gift back)) (IsRefusing false (gift next) (gift back)) done done' request t t.next_taken t.back_taken (λ body p. p) (λ r. (λ e. absurd (false≢true e), r.1, r.2)) (λ w body p. absurd (undone w)) o))
 
@@ -186,7 +186,7 @@ aside_still aside wire = record { delta = []; aside = λ taken a. subst aside (s
 pub next_refusal_goes : (h : Holding) (agrees : Seen → Type 0) (read : Seen → List ℕ → Given → Type 0) (sent : List ℕ → Seen → List ℕ → List ℕ → Type 0) (heard : Seen → List ℕ → List ℕ → Type 0) (ng ng' bg : Gift) (go gn bgiven : Seen → List ℕ → List ℕ → List ℕ → Type 0) (ao an baside : List ℕ → Type 0) (refusing : Bool) (done done' : List ℕ → List ℕ → List ℕ → Type 0) (source service before after_ : Past → Type 0)
     → refusing ≡ true → ((body next back : List ℕ) → done body next back → refusing ≡ false) → (shows h.history).plan.point ≡ Respmod → ng' ≡ ng → TakesAside ao an before after_
     → Goes (Stands h agrees read sent heard (HopsAre ng bg go ao bgiven baside) (IsRefusing refusing ng bg) done) (Stands h agrees read sent heard (HopsAre ng' bg gn an bgiven baside) (IsRefusing refusing ng' bg) done')
-    source source service service before after_
+    (on_wires source service before) (on_wires source service after_)
 next_refusal_goes h agrees read sent heard ng ng' bg go gn bgiven ao an baside refusing done done' source service before after_ due none point same d = record {
   delta = record { source_read = no_given; service_read = []; service_taken = []; next_taken = d.delta; back_taken = [] };
   stands = λ request t o. of_five (Stands h agrees read sent heard (HopsAre ng' bg gn an bgiven baside) (IsRefusing refusing ng' bg) done' request) _ _ _ _ _ _ _ _ _ _
@@ -203,7 +203,7 @@ next_refusal_goes h agrees read sent heard ng ng' bg go gn bgiven ao an baside r
 pub back_refusal_goes : (h : Holding) (agrees : Seen → Type 0) (read : Seen → List ℕ → Given → Type 0) (sent : List ℕ → Seen → List ℕ → List ℕ → Type 0) (heard : Seen → List ℕ → List ℕ → Type 0) (ng bg bg' : Gift) (go gn ngiven : Seen → List ℕ → List ℕ → List ℕ → Type 0) (ao an naside : List ℕ → Type 0) (refusing : Bool) (done done' : List ℕ → List ℕ → List ℕ → Type 0) (before after_ service next : Past → Type 0)
     → refusing ≡ true → ((body next back : List ℕ) → done body next back → refusing ≡ false) → (shows h.history).plan.point ≡ Reqmod → bg' ≡ bg → TakesAside ao an before after_
     → Goes (Stands h agrees read sent heard (HopsAre ng bg ngiven naside go ao) (IsRefusing refusing ng bg) done) (Stands h agrees read sent heard (HopsAre ng bg' ngiven naside gn an) (IsRefusing refusing ng bg') done')
-    before after_ service service next next
+    (on_wires before service next) (on_wires after_ service next)
 back_refusal_goes h agrees read sent heard ng bg bg' go gn ngiven ao an naside refusing done done' before after_ service next due none point same d = record {
   delta = record { source_read = no_given; service_read = []; service_taken = []; next_taken = []; back_taken = d.delta };
   stands = λ request t o. of_five (Stands h agrees read sent heard (HopsAre ng bg' ngiven naside gn an) (IsRefusing refusing ng bg') done' request) _ _ _ _ _ _ _ _ _ _

@@ -25,7 +25,7 @@ use Rattle.adapt_turn.specs.declared.steps.Passed.{Passed}
 use Rattle.adapt_turn.specs.declared.ends.ServiceEnd.{ServiceEnd}
 use Rattle.adapt_turn.specs.Parts.{Lent, SourcePart, SendPart, HearPart}
 use Rattle.adapt_turn.specs.Passes.{Disagrees, SourcePasses, WritesDue, ReadsReplies, ServicePasses, LinePasses, line_of}
-use Rattle.adapt_turn.specs.Stands.{Texts, joined, no_texts, Stands, Goes, HopsAre, IsRefusing, IsDelivered, IsDone}
+use Rattle.adapt_turn.specs.Stands.{Texts, joined, no_texts, Stands, Pasts, Goes, HopsAre, IsRefusing, IsDelivered, IsDone}
 use Rattle.adapt_turn.specs.Made.{OfHead, on_held}
 use Rattle.adapt_turn.proofs.Carry.{off_sending, off_replies, not_true, both_not}
 use Rattle.adapt_turn.proofs.Passes.{fail_runs}
@@ -146,22 +146,25 @@ still wire p w = (p, w, no_later p)
 pub still_source : (wire : Past → Type 0) (p : Past) → wire p → (q : Past) × wire q × IsLater p [] [] q × (no_given.ended ≡ true → p.ends < q.ends)
 still_source wire p w = (p, w, no_later p, λ e. cc)
 
+abbrev pub on_wires : (source service next : Past → Type 0) → Pasts
+on_wires source service next = record { source = source; service = service; next = next }
+
 -- what stands stands on, where no wire was touched
-pub goes_still : (old new : List ℕ → Texts → Type 0) (source service next : Past → Type 0) → ((request : List ℕ) (t : Texts) → old request t → new request t) → Goes old new source source service service next next
-goes_still old new source service next on_ = record {
+pub goes_still : {old new : List ℕ → Texts → Type 0} {wires : Pasts} → ((request : List ℕ) (t : Texts) → old request t → new request t) → Goes old new wires wires
+goes_still {old} {new} {wires} on_ = record {
   delta = no_texts;
   stands = λ request t o. of_five (new request) _ _ _ _ _ _ _ _ _ _
       (given_still t.source_read) (sym (append-nil t.service_read)) (sym (append-nil t.service_taken)) (sym (append-nil t.next_taken)) (sym (append-nil t.back_taken)) (on_ request t o);
-  source = λ p b. still_source source p b;
-  service = λ p b. still service p b;
-  next = λ p b. still next p b;
+  source = λ p b. still_source wires.source p b;
+  service = λ p b. still wires.service p b;
+  next = λ p b. still wires.next p b;
 }
 
-pub goes_none : (stands : List ℕ → Texts → Type 0) (source service next : Past → Type 0) → Goes stands stands source source service service next next
-goes_none stands source service next = goes_still stands stands source service next (λ request t o. o)
+pub goes_none : {stands : List ℕ → Texts → Type 0} {wires : Pasts} → Goes stands stands wires wires
+goes_none = goes_still (λ request t o. o)
 
-pub goes_then : (s0 s1 s2 : List ℕ → Texts → Type 0) (a0 a1 a2 b0 b1 b2 c0 c1 c2 : Past → Type 0) → Goes s0 s1 a0 a1 b0 b1 c0 c1 → Goes s1 s2 a1 a2 b1 b2 c1 c2 → Goes s0 s2 a0 a2 b0 b2 c0 c2
-goes_then s0 s1 s2 a0 a1 a2 b0 b1 b2 c0 c1 c2 f g = record {
+pub goes_then : {s0 s1 s2 : List ℕ → Texts → Type 0} {p0 p1 p2 : Pasts} → Goes s0 s1 p0 p1 → Goes s1 s2 p1 p2 → Goes s0 s2 p0 p2
+goes_then {s0} {s1} {s2} f g = record {
   delta = joined f.delta g.delta;
   stands = λ request t o. of_five (s2 request) _ _ _ _ _ _ _ _ _ _
       (given_assoc t.source_read f.delta.source_read g.delta.source_read)
@@ -213,7 +216,7 @@ source_goes : {S H W : Type 0} (s : Source S H) (w : Wire W) (old new : Lent S W
     → ((body next back : List ℕ) → hopso (shows old.hold.history) body next back → hops (shows old.hold.history) body next back) → Others (λ x. s.agrees x new.side) (λ x body read. s.has_read x body read new.side) sent heard hops refuses
     → IsTied old.hold → (shows old.hold.history).closed ≡ false → SourcePart s w old new passed
     → Goes (Stands old.hold (λ x. s.agrees x old.side) (λ x body read. s.has_read x body read old.side) sent heard hopso refuses done)
-    (Stands new.hold (λ x. s.agrees x new.side) (λ x body read. s.has_read x body read new.side) sent heard hops refuses delivered) (w.past old.wire) (w.past new.wire) service service next next
+    (Stands new.hold (λ x. s.agrees x new.side) (λ x body read. s.has_read x body read new.side) sent heard hops refuses delivered) (on_wires (w.past old.wire) service next) (on_wires (w.past new.wire) service next)
 source_goes s w old new sent heard hopso hops refuses done delivered service next passed conv u tied c d = record {
   delta = record { source_read = d.delta; service_read = []; service_taken = []; next_taken = []; back_taken = [] };
   stands = λ request t o. of_five (Stands new.hold (λ x. s.agrees x new.side) (λ x body read. s.has_read x body read new.side) sent heard hops refuses delivered request) _ _ _ _ _ _ _ _ _ _ refl (sym (append-nil t.service_read)) (sym (append-nil t.service_taken)) (sym (append-nil t.next_taken)) (sym (append-nil t.back_taken))
@@ -224,27 +227,27 @@ source_goes s w old new sent heard hopso hops refuses done delivered service nex
 }
 
 pub fail_goes : (h k : Holding) (cause : Cause) (agrees : Seen → Type 0) (read : Seen → List ℕ → Given → Type 0) (sent : List ℕ → Seen → List ℕ → List ℕ → Type 0) (heard : Seen → List ℕ → List ℕ → Type 0) (hopso hops : Seen → List ℕ → List ℕ → List ℕ → Type 0) (refuses : Seen → Type 0) (done delivered : List ℕ → List ℕ → List ℕ → Type 0)
-    (source service next : Past → Type 0)
+    (wires : Pasts)
     → ((body next back : List ℕ) → hopso (shows h.history) body next back → hops (shows h.history) body next back) → Others agrees read sent heard hops refuses → IsTied h → IsRoomy h → (shows h.history).closed ≡ false → k ≡ moved h (Fail cause) []
-    → Goes (Stands h agrees read sent heard hopso refuses done) (Stands k agrees read sent heard hops refuses delivered) source source service service next next
-fail_goes h k cause agrees read sent heard hopso hops refuses done delivered source service next conv u tied roomy c is =
-    goes_still _ _ source service next (λ request t o. fail_stands h k cause agrees read sent heard hops refuses delivered request t u tied (fail_runs h cause [] roomy c) c is (reopen h agrees read sent heard hopso hops refuses done delivered request t c conv o))
+    → Goes (Stands h agrees read sent heard hopso refuses done) (Stands k agrees read sent heard hops refuses delivered) wires wires
+fail_goes h k cause agrees read sent heard hopso hops refuses done delivered wires conv u tied roomy c is =
+    goes_still (λ request t o. fail_stands h k cause agrees read sent heard hops refuses delivered request t u tied (fail_runs h cause [] roomy c) c is (reopen h agrees read sent heard hopso hops refuses done delivered request t c conv o))
 
 -- a source that doesn't agree never stood
 disagree_goes : {S H W : Type 0} (s : Source S H) (w : Wire W) (old new : Lent S W) (read : Seen → List ℕ → Given → Type 0) (sent : List ℕ → Seen → List ℕ → List ℕ → Type 0) (heard : Seen → List ℕ → List ℕ → Type 0) (hops : Seen → List ℕ → List ℕ → List ℕ → Type 0) (refuses : Seen → Type 0) (delivered : List ℕ → List ℕ → List ℕ → Type 0)
     (stands : List ℕ → Texts → Type 0) (service next : Past → Type 0) (passed : Passed)
     → (shows old.hold.history).closed ≡ false → Disagrees s old new passed
-    → Goes (Stands old.hold (λ x. s.agrees x old.side) read sent heard hops refuses delivered) stands (w.past old.wire) (w.past new.wire) service service next next
+    → Goes (Stands old.hold (λ x. s.agrees x old.side) read sent heard hops refuses delivered) stands (on_wires (w.past old.wire) service next) (on_wires (w.past new.wire) service next)
 disagree_goes {S} {H} {W} s w old new read sent heard hops refuses delivered stands service next passed c d =
-    subst (λ (z : W). Goes (Stands old.hold (λ x. s.agrees x old.side) read sent heard hops refuses delivered) stands (w.past old.wire) (w.past z) service service next next) (sym d.wire)
-    (goes_still _ stands (w.past old.wire) service next (λ request t o. absurd (d.no (o.agrees_is c))))
+    subst (λ (z : W). Goes (Stands old.hold (λ x. s.agrees x old.side) read sent heard hops refuses delivered) stands (on_wires (w.past old.wire) service next) (on_wires (w.past z) service next)) (sym d.wire)
+    (goes_still (λ request t o. absurd (d.no (o.agrees_is c))))
 
 pub source_passes_go : {S H W : Type 0} (s : Source S H) (w : Wire W) (old new : Lent S W) (sent : List ℕ → Seen → List ℕ → List ℕ → Type 0) (heard : Seen → List ℕ → List ℕ → Type 0) (hopso hops : Seen → List ℕ → List ℕ → List ℕ → Type 0) (refuses : Seen → Type 0) (done delivered : List ℕ → List ℕ → List ℕ → Type 0)
     (service next : Past → Type 0) (passed : Passed)
     → ((body next back : List ℕ) → hopso (shows old.hold.history) body next back → hops (shows old.hold.history) body next back) → Others (λ x. s.agrees x new.side) (λ x body read. s.has_read x body read new.side) sent heard hops refuses
     → (shows old.hold.history).closed ≡ false → SourcePasses s w old new passed
     → Goes (Stands old.hold (λ x. s.agrees x old.side) (λ x body read. s.has_read x body read old.side) sent heard hopso refuses done)
-    (Stands new.hold (λ x. s.agrees x new.side) (λ x body read. s.has_read x body read new.side) sent heard hops refuses delivered) (w.past old.wire) (w.past new.wire) service service next next
+    (Stands new.hold (λ x. s.agrees x new.side) (λ x body read. s.has_read x body read new.side) sent heard hops refuses delivered) (on_wires (w.past old.wire) service next) (on_wires (w.past new.wire) service next)
 source_passes_go s w old new sent heard hopso hops refuses done delivered service next passed conv u c p = elim p.did [
   | inl a ↦ source_goes s w old new sent heard hopso hops refuses done delivered service next passed conv u p.tied c a.1
   | inr d ↦ disagree_goes s w old new _ sent heard hopso refuses done _ service next passed c d
@@ -267,9 +270,9 @@ send_goes : {V W : Type 0} (v : Service V) (w : Wire W) (line : Option (ServiceE
     → Others agrees read (sent_by v new.side) (heard_by v new.side) hops refuses → ((x : Seen) (adapted text : List ℕ) → v.has_heard x adapted text old.side → v.has_heard x adapted text new.side) → IsTied old.hold
     → (shows old.hold.history).closed ≡ false → SendPart v w old new passed
     → Goes (Stands old.hold agrees read (sent_on v line) (heard_on v line) hopso refuses done) (Stands new.hold agrees read (sent_by v new.side) (heard_by v new.side) hops refuses delivered)
-    source source (past_on w line) (w.past new.wire) next next
+    (on_wires source (past_on w line) next) (on_wires source (w.past new.wire) next)
 send_goes {V} {W} v w line old new agrees read hopso hops refuses done delivered source next passed e conv u same tied c d =
-    subst (λ (z : Option (ServiceEnd V W)). Goes (Stands old.hold agrees read (sent_on v z) (heard_on v z) hopso refuses done) (Stands new.hold agrees read (sent_by v new.side) (heard_by v new.side) hops refuses delivered) source source (past_on w z) (w.past new.wire) next next) (sym e)
+    subst (λ (z : Option (ServiceEnd V W)). Goes (Stands old.hold agrees read (sent_on v z) (heard_on v z) hopso refuses done) (Stands new.hold agrees read (sent_by v new.side) (heard_by v new.side) hops refuses delivered) (on_wires source (past_on w z) next) (on_wires source (w.past new.wire) next)) (sym e)
     (record {
       delta = record { source_read = no_given; service_read = []; service_taken = d.delta; next_taken = []; back_taken = [] };
       stands = λ request t o. of_five (Stands new.hold agrees read (sent_by v new.side) (heard_by v new.side) hops refuses delivered request) _ _ _ _ _ _ _ _ _ _ (given_still t.source_read) (sym (append-nil t.service_read)) refl (sym (append-nil t.next_taken)) (sym (append-nil t.back_taken))
@@ -285,9 +288,9 @@ hear_goes : {V W : Type 0} (v : Service V) (w : Wire W) (line : Option (ServiceE
     → Others agrees read (sent_by v new.side) (heard_by v new.side) hops refuses → ((heads came text : List ℕ) → v.has_sent heads (shows old.hold.history) came text old.side → v.has_sent heads (shows old.hold.history) came text new.side) → IsTied old.hold
     → (shows old.hold.history).closed ≡ false → HearPart v w old new passed
     → Goes (Stands old.hold agrees read (sent_on v line) (heard_on v line) hopso refuses done) (Stands new.hold agrees read (sent_by v new.side) (heard_by v new.side) hops refuses delivered)
-    source source (past_on w line) (w.past new.wire) next next
+    (on_wires source (past_on w line) next) (on_wires source (w.past new.wire) next)
 hear_goes {V} {W} v w line old new agrees read hopso hops refuses done delivered source next passed e conv u same tied c d =
-    subst (λ (z : Option (ServiceEnd V W)). Goes (Stands old.hold agrees read (sent_on v z) (heard_on v z) hopso refuses done) (Stands new.hold agrees read (sent_by v new.side) (heard_by v new.side) hops refuses delivered) source source (past_on w z) (w.past new.wire) next next) (sym e)
+    subst (λ (z : Option (ServiceEnd V W)). Goes (Stands old.hold agrees read (sent_on v z) (heard_on v z) hopso refuses done) (Stands new.hold agrees read (sent_by v new.side) (heard_by v new.side) hops refuses delivered) (on_wires source (past_on w z) next) (on_wires source (w.past new.wire) next)) (sym e)
     (record {
       delta = record { source_read = no_given; service_read = d.delta; service_taken = []; next_taken = []; back_taken = [] };
       stands = λ request t o. of_five (Stands new.hold agrees read (sent_by v new.side) (heard_by v new.side) hops refuses delivered request) _ _ _ _ _ _ _ _ _ _ (given_still t.source_read) refl (sym (append-nil t.service_taken)) (sym (append-nil t.next_taken)) (sym (append-nil t.back_taken))
@@ -307,7 +310,7 @@ module _ {V W : Type 0} (v : Service V) (w : Wire W) (agrees : Seen → Type 0) 
   stands_on h line = Stands h agrees read (sent_on v line) (heard_on v line) (hops line) refuses (delivered h line)
 
   abbrev goes_on : Holding → Option (ServiceEnd V W) → Holding → Option (ServiceEnd V W) → Type 0
-  goes_on h line k line' = Goes (stands_on h line) (stands_on k line') source source (past_on w line) (past_on w line') next next
+  goes_on h line k line' = Goes (stands_on h line) (stands_on k line') (on_wires source (past_on w line) next) (on_wires source (past_on w line') next)
 
   write_goes : (reused : Bool) (old new : Lent V W) (passed : Passed) → IsTied old.hold → (shows old.hold.history).closed ≡ false → WritesDue v w reused old new passed
       → goes_on old.hold (Some (line_of old.side old.wire)) new.hold (Some (line_of new.side new.wire))
@@ -325,12 +328,12 @@ module _ {V W : Type 0} (v : Service V) (w : Wire W) (agrees : Seen → Type 0) 
       → goes_on old.hold (Some (line_of old.side old.wire)) new.hold (Some (line_of new.side new.wire))
   side_goes reused old new passed c p = elim p.did [
     | inl d ↦ write_goes reused old new passed p.tied c d
-    | inr d ↦ goes_then _ _ _ _ _ _ _ _ _ _ _ _ (write_goes reused old d.mid d.first p.tied c d.writes) (read_goes reused d.mid new d.second d.tied d.running d.reads)
+    | inr d ↦ goes_then (write_goes reused old d.mid d.first p.tied c d.writes) (read_goes reused d.mid new d.second d.tied d.running d.reads)
   ]
 
   pub line_passes_go : (reused : Bool) (h : Holding) (line : Option (ServiceEnd V W)) (k : Holding) (line' : Option (ServiceEnd V W)) (passed : Passed) → (shows h.history).closed ≡ false → LinePasses v w reused h line k line' passed → goes_on h line k line'
   line_passes_go reused h line k line' passed c p = elim p.did [
-    | inl n ↦ subst (λ (y : Holding). goes_on h line y line') (sym n.2) (subst (λ (z : Option (ServiceEnd V W)). goes_on h line h z) (sym n.1) (goes_none (stands_on h line) source (past_on w line) next))
+    | inl n ↦ subst (λ (y : Holding). goes_on h line y line') (sym n.2) (subst (λ (z : Option (ServiceEnd V W)). goes_on h line h z) (sym n.1) goes_none)
     | inr m ↦ subst (λ (z : Option (ServiceEnd V W)). goes_on h z k line') (sym m.4) (subst (λ (z : Option (ServiceEnd V W)). goes_on h (Some (line_of m.0 m.2)) k z) (sym m.5)
         (side_goes reused (record { hold = h; side = m.0; wire = m.2 }) (record { hold = k; side = m.1; wire = m.3 }) passed c m.6))
   ]

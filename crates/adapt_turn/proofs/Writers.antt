@@ -26,7 +26,7 @@ use Rattle.adapt_turn.proofs.Made.{KeepsMade, hops_of, heads_idle}
 use Rattle.adapt_turn.proofs.Reasons.{part_idle, part_still, part_waits, part_blames, writer_blamed}
 use Rattle.adapt_turn.proofs.Rows.{part_took, part_acts, of_hop, untouched_or, fail_advances, took_fail}
 use Rattle.adapt_turn.proofs.Stepped.{part_over, failed_closed}
-use Rattle.adapt_turn.proofs.Together.{fail_goes, goes_none, goes_then}
+use Rattle.adapt_turn.proofs.Together.{on_wires, fail_goes, goes_none, goes_then}
 use Rattle.adapt_turn.proofs.Told.{part_told, open_done, failed_told}
 
 hop_side : (fault : RelayFault) → IsOfSide (hop_cause fault)
@@ -175,7 +175,7 @@ module _ {K G A C F : Type 0} (f f' : F) (k : Hop K G) (a : Wire A) (c : Wire C)
       (WholeOf (made m back (shows h.history)) (λ head body taken. k.is_whole head body taken back)) (λ taken. k.aside taken back))
 
   abbrev writers_go : F → Writers K A C → F → Writers K A C → Type 0
-  writers_go m old m' new = Goes (stands_with m old.hold old.next old.back) (stands_with m' new.hold new.next new.back) (a.past old.back_wire) (a.past new.back_wire) service service (c.past old.next_wire) (c.past new.next_wire)
+  writers_go m old m' new = Goes (stands_with m old.hold old.next old.back) (stands_with m' new.hold new.next new.back) (on_wires (a.past old.back_wire) service (c.past old.next_wire)) (on_wires (a.past new.back_wire) service (c.past new.next_wire))
 
   begins_go : (choice : Choice G) (old : Writers K A C) (next back : K) → (shows old.hold.history).closed ≡ false → (choice.unasked → f' ≡ f)
       → ((head : List ℕ) (hop : K) → choice.makes head (k.body_framing hop) → made f' hop (shows old.hold.history) head)
@@ -184,26 +184,26 @@ module _ {K G A C F : Type 0} (f f' : F) (k : Hop K G) (a : Wire A) (c : Wire C)
   begins_go choice old next back running same makes reqmod begins = elim begins [
     | inl h ↦ subst (λ (z : F). writers_go f old z (writers old.hold next old.next_wire back old.back_wire)) (sym (same h.unasked))
         (subst (λ (z : K). writers_go f old f (writers old.hold z old.next_wire back old.back_wire)) (sym h.next_is)
-        (subst (λ (z : K). writers_go f old f (writers old.hold old.next old.next_wire z old.back_wire)) (sym h.back_is) (goes_none _ _ _ _)))
+        (subst (λ (z : K). writers_go f old f (writers old.hold old.next old.next_wire z old.back_wire)) (sym h.back_is) goes_none))
     | inr (inl o) ↦ subst (λ (z : K). writers_go f old f' (writers old.hold next old.next_wire z old.back_wire)) (sym o.other_is)
-        (next_begin_goes old.hold agrees read sent heard (k.gift old.next) (k.gift next) (k.gift old.back) _ _ _ _ _ _ _ refusing _ _ o.head _ _ _ running o.idle o.other_idle o.gift
+        (next_begin_goes old.hold agrees read sent heard (k.gift old.next) (k.gift next) (k.gift old.back) _ _ _ _ _ _ _ refusing _ _ o.head _ running o.idle o.other_idle o.gift
         (λ body taken q z w. (makes o.head next o.made, o.given (shows old.hold.history) [] body taken (idle_given (shows old.hold.history) [] body taken old.next o.idle q z w))))
     | inr (inr o) ↦ subst (λ (z : K). writers_go f old f' (writers old.hold z old.next_wire back old.back_wire)) (sym o.other_is)
-        (back_begin_goes old.hold agrees read sent heard (k.gift old.next) (k.gift old.back) (k.gift back) _ _ _ _ _ _ _ refusing _ _ o.head _ _ _ running (reqmod o.way) o.other_idle o.idle o.gift
+        (back_begin_goes old.hold agrees read sent heard (k.gift old.next) (k.gift old.back) (k.gift back) _ _ _ _ _ _ _ refusing _ _ o.head _ running (reqmod o.way) o.other_idle o.idle o.gift
         (λ body taken q z w. (makes o.head back o.made, o.given (shows old.hold.history) [] body taken (idle_given (shows old.hold.history) [] body taken old.back o.idle q z w))))
   ]
 
   gives_go : (old new : Writers K A C) (passed : Passed) → IsTied old.hold → (shows old.hold.history).closed ≡ false → (k.gift old.next ≡ nothing → k.gift old.back ≡ nothing → ⊥)
       → GivesOne k a c old new passed → writers_go f' old f' new
   gives_go old new passed tied running busy gives = elim gives [
-    | inl (idle, m, same, wire) ↦ subst (λ (z : K). Goes (stands_with f' old.hold old.next old.back) (stands_with f' new.hold new.next z) (a.past old.back_wire) (a.past new.back_wire) service service (c.past old.next_wire) (c.past new.next_wire)) (sym same)
-        (subst (λ (z : A). Goes (stands_with f' old.hold old.next old.back) (stands_with f' new.hold new.next old.back) (a.past old.back_wire) (a.past z) service service (c.past old.next_wire) (c.past new.next_wire)) (sym wire)
+    | inl (idle, m, same, wire) ↦ subst (λ (z : K). Goes (stands_with f' old.hold old.next old.back) (stands_with f' new.hold new.next z) (on_wires (a.past old.back_wire) service (c.past old.next_wire)) (on_wires (a.past new.back_wire) service (c.past new.next_wire))) (sym same)
+        (subst (λ (z : A). Goes (stands_with f' old.hold old.next old.back) (stands_with f' new.hold new.next old.back) (on_wires (a.past old.back_wire) service (c.past old.next_wire)) (on_wires (a.past z) service (c.past new.next_wire))) (sym wire)
         (next_goes k c (lending old.hold old.next old.next_wire) (lending new.hold new.next new.next_wire) agrees read sent heard (k.gift old.next) (k.gift new.next) (k.gift old.back) _ _ _ _ _ _ refusing _
         (WholeOf (made f' old.back (shows new.hold.history)) (λ head body taken. k.is_whole head body taken old.back)) _ _ _ passed
         (others new.next old.back) tied running idle (λ n. busy n idle) m.gift m.part
         (with_heads k c (lending old.hold old.next old.next_wire) (lending new.hold new.next new.next_wire) (made f' old.next) (made f' new.next) passed tied (λ head q. frames old.next new.next _ head m.framing q) (keep new.next) m.part)))
-    | inr (idle, m, same, wire) ↦ subst (λ (z : K). Goes (stands_with f' old.hold old.next old.back) (stands_with f' new.hold z new.back) (a.past old.back_wire) (a.past new.back_wire) service service (c.past old.next_wire) (c.past new.next_wire)) (sym same)
-        (subst (λ (z : C). Goes (stands_with f' old.hold old.next old.back) (stands_with f' new.hold old.next new.back) (a.past old.back_wire) (a.past new.back_wire) service service (c.past old.next_wire) (c.past z)) (sym wire)
+    | inr (idle, m, same, wire) ↦ subst (λ (z : K). Goes (stands_with f' old.hold old.next old.back) (stands_with f' new.hold z new.back) (on_wires (a.past old.back_wire) service (c.past old.next_wire)) (on_wires (a.past new.back_wire) service (c.past new.next_wire))) (sym same)
+        (subst (λ (z : C). Goes (stands_with f' old.hold old.next old.back) (stands_with f' new.hold old.next new.back) (on_wires (a.past old.back_wire) service (c.past old.next_wire)) (on_wires (a.past new.back_wire) service (c.past z))) (sym wire)
         (back_goes k a (lending old.hold old.back old.back_wire) (lending new.hold new.back new.back_wire) agrees read sent heard (k.gift old.next) (k.gift old.back) (k.gift new.back) _ _ _ _ _ _ refusing _
         (WholeOf (made f' old.next (shows new.hold.history)) (λ head body taken. k.is_whole head body taken old.next)) _ _ _ passed
         (others old.next new.back) tied running idle m.gift m.part
@@ -215,11 +215,11 @@ module _ {K G A C F : Type 0} (f f' : F) (k : Hop K G) (a : Wire A) (c : Wire C)
       → (choice.answers ≡ true → (shows old.hold.history).plan.point ≡ Respmod → ⊥)
       → NextPasses k a c choice old new passed → writers_go f old f' new
   next_passes_go choice old new passed roomy running same makes reqmod p = elim p.did [
-    | inl n ↦ subst (λ (z : F). writers_go f old z new) (sym (same n.unasked)) (subst (λ (z : Writers K A C). writers_go f old f z) (sym n.same) (goes_none _ _ _ _))
+    | inl n ↦ subst (λ (z : F). writers_go f old z new) (sym (same n.unasked)) (subst (λ (z : Writers K A C). writers_go f old f z) (sym n.same) goes_none)
     | inr (inl d) ↦ subst (λ (z : Writers K A C). writers_go f old f' z) (sym d.new_is)
-        (fail_goes old.hold _ d.cause _ _ _ _ _ _ _ _ _ _ _ _ (heads_idle k.gift k.has_given k.aside (made f) (made f') old.next old.back (shows old.hold.history) running d.next_idle d.back_idle)
+        (fail_goes old.hold _ d.cause _ _ _ _ _ _ _ _ _ _ (heads_idle k.gift k.has_given k.aside (made f) (made f') old.next old.back (shows old.hold.history) running d.next_idle d.back_idle)
         (others old.next old.back) p.tied roomy running refl)
-    | inr (inr d) ↦ goes_then _ _ _ _ _ _ _ _ _ _ _ _
+    | inr (inr d) ↦ goes_then
         (begins_go choice old d.next d.back running same (λ head hop m. makes head hop d.chosen m) reqmod d.begins)
         (gives_go (writers old.hold d.next old.next_wire d.back old.back_wire) new passed p.tied running (is_begun k choice old.next old.back d.next d.back d.begins).busy d.gives)
   ]

@@ -135,13 +135,19 @@ pub record Stands (h : Holding) (agrees : Seen → Type 0) (read : Seen → List
   pub refuses_is : refuses (shows h.history)
   pub done_is : IsDone h.history → delivered (chosen (shows h.history) original adapted) t.next_taken t.back_taken
 
+-- What may have happened on the three wires so far.
+pub record Pasts : Type 1 where
+  pub source : Past → Type 0
+  pub service : Past → Type 0
+  pub next : Past → Type 0
+
 -- A pass over the three wires: they gave and took these bytes, and what stood before them, with one request, stands with them.
-pub record Goes (old_stands new_stands : List ℕ → Texts → Type 0) (source_old source_new service_old service_new next_old next_new : Past → Type 0) : Type 0 where
+pub record Goes (old_stands new_stands : List ℕ → Texts → Type 0) (old new : Pasts) : Type 0 where
   pub delta : Texts
   pub stands : (request : List ℕ) (t : Texts) → old_stands request t → new_stands request (joined t delta)
-  pub source : (p : Past) → source_old p → (q : Past) × source_new q × IsLater p delta.source_read.bytes delta.back_taken q × (delta.source_read.ended ≡ true → p.ends < q.ends)
-  pub service : (p : Past) → service_old p → (q : Past) × service_new q × IsLater p delta.service_read delta.service_taken q
-  pub next : (p : Past) → next_old p → (q : Past) × next_new q × IsLater p [] delta.next_taken q
+  pub source : (p : Past) → old.source p → (q : Past) × new.source q × IsLater p delta.source_read.bytes delta.back_taken q × (delta.source_read.ended ≡ true → p.ends < q.ends)
+  pub service : (p : Past) → old.service p → (q : Past) × new.service q × IsLater p delta.service_read delta.service_taken q
+  pub next : (p : Past) → old.next p → (q : Past) × new.next q × IsLater p [] delta.next_taken q
 
 -- a wire took these bytes of a refusal
 pub record TakesAside (old_aside new_aside : List ℕ → Type 0) (before after : Past → Type 0) : Type 0 where

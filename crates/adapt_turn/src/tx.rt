@@ -12,7 +12,7 @@ ghost use Rattle.adapt_sides.specs.Turns.{Gift, Given};
 ghost use Rattle.adapt_sides.specs.Turns.Gift.{nothing};
 ghost use Rattle.adapt_turn.specs.Parts.{outcome_of, fault_of};
 ghost use Rattle.adapt_turn.specs.Refusals.{IsDue, user_fault};
-ghost use Rattle.adapt_turn.specs.Stands.{Texts, no_texts, user_gift};
+ghost use Rattle.adapt_turn.specs.Stands.{Pasts, Texts, no_texts, user_gift};
 
 mod answers;
 mod counts;
@@ -40,6 +40,9 @@ pub trait Standing {
     // the source's spell the original, the service's the adapted body, and what was taken is of that request, and of one message
     // or of a refusal alone
     ghost stands: { Self → List ℕ → Texts → Type 0 };
+
+    // what may have happened on its wires so far; none is the service's where its connection isn't held
+    ghost pasts: { Self → Pasts };
 }
 
 /// What a call does to a transaction and its wires.
@@ -95,7 +98,7 @@ impl<B: Ledgers, E: EndTypes> Standing for Tx<B, E> {
     ghost use Rattle.std.specs.Prelude.{◌≡◌, [], MatchOption};
     ghost use Rattle.trace_core.specs.declared.history.Seen.{Seen};
     ghost use Rattle.adapt_turn.specs.Stands.{Stands, HopsAre, IsRefusing, IsDelivered};
-    ghost use Rattle.adapt_turn.specs.Made.{IsMade, OfHead, WholeOf, adapted_of, response_of};
+    ghost use Rattle.adapt_turn.specs.Made.{IsMade, OfHead, WholeOf, adapted_of, response_of, on_held};
 
     ghost stands = { λ tx request t.
         let made : E.Writer → Seen → List ℕ → Type 0 = λ hop x head. IsMade (E.Maker.makes tx.ends.maker (E.Reader.head tx.ends.source)) (adapted_of E.Client.adapted_head tx.ends.service) (response_of E.Client.is_response tx.ends.service) (E.Writer.body_framing hop) x head in
@@ -107,6 +110,8 @@ impl<B: Ledgers, E: EndTypes> Standing for Tx<B, E> {
         (IsRefusing tx.refusing (E.Writer.gift tx.ends.next) (E.Writer.gift tx.ends.back))
         (IsDelivered tx.refusing (E.Writer.gift tx.ends.next) (E.Writer.gift tx.ends.back) (WholeOf (made tx.ends.next (shows tx.hold.history)) (λ head body taken. E.Writer.is_whole head body taken tx.ends.next)) (λ taken. E.Writer.aside taken tx.ends.next)
         (WholeOf (made tx.ends.back (shows tx.hold.history)) (λ head body taken. E.Writer.is_whole head body taken tx.ends.back)) (λ taken. E.Writer.aside taken tx.ends.back)) request t };
+
+    ghost pasts = { λ tx. record { source = E.SourceWire.past tx.ends.source_wire; service = λ p. on_held tx.ends.service ⊥ (λ wire. E.ServiceWire.past wire p); next = E.NextWire.past tx.ends.next_wire } };
 }
 
 impl<B: Ledgers, E: EndTypes> Going for Tx<B, E> {
@@ -116,9 +121,7 @@ impl<B: Ledgers, E: EndTypes> Going for Tx<B, E> {
     ghost use Rattle.adapt_turn.specs.Moved.{SumsBytes, MovesOver};
 
     ghost goes = { λ old new. Goes (⟦<Tx<B, E> as Standing>⟧.stands old) (⟦<Tx<B, E> as Standing>⟧.stands new)
-        (E.SourceWire.past old.ends.source_wire) (E.SourceWire.past new.ends.source_wire)
-        (λ p. on_held old.ends.service ⊥ (λ wire. E.ServiceWire.past wire p)) (λ p. on_held new.ends.service ⊥ (λ wire. E.ServiceWire.past wire p))
-        (E.NextWire.past old.ends.next_wire) (E.NextWire.past new.ends.next_wire) };
+        (⟦<Tx<B, E> as Standing>⟧.pasts old) (⟦<Tx<B, E> as Standing>⟧.pasts new) };
 
     ghost moves = { λ old new n. SumsBytes (MovesOver (E.SourceWire.past old.ends.source_wire) (E.SourceWire.past new.ends.source_wire))
         (λ k. on_held old.ends.service (k ≡ 0) (λ wire. MovesOver (E.ServiceWire.past wire) (λ p. on_held new.ends.service ⊥ (λ later. E.ServiceWire.past later p)) k))

@@ -5,7 +5,6 @@ use Rattle.trace_core.specs.declared.history.Seen.{Seen}
 use Rattle.trace_core.specs.declared.history.Cause.{Cause}
 use Rattle.trace_core.specs.declared.history.Event.TheVariants.{Retry}
 use Rattle.trace_core.specs.Legal.{MayFollow}
-use Rattle.wire_kit.specs.Past.{Past}
 use Rattle.adapt_hold.specs.Holding.{Holding, IsTied, shows, history_then, moved}
 use Rattle.adapt_hold.proofs.Closes.{then_shows}
 use Rattle.adapt_turn.specs.declared.turned.Side.{Side}
@@ -13,7 +12,7 @@ use Rattle.adapt_turn.specs.declared.turned.Outcome.{Outcome}
 use Rattle.adapt_turn.specs.declared.turned.Outcome.TheVariants as outcomes
 use Rattle.adapt_turn.specs.Made.{on_held}
 use Rattle.adapt_turn.specs.Refusals.{refusal_status, user_untouched, HasRefusal}
-use Rattle.adapt_turn.specs.Stands.{Texts, Goes, joined, user_gift}
+use Rattle.adapt_turn.specs.Stands.{Texts, Pasts, Goes, joined, user_gift}
 use Rattle.http_relay.specs.Giving.{Hop, gift_of}
 use Rattle.icap_client.specs.Turns.{Service}
 use Rattle.proxy_rules.specs.Beginnings.{line_with}
@@ -35,9 +34,9 @@ refuses_then true old_outcome new_outcome old_refuses new_refuses same fresh on 
 refuses_then false old_outcome new_outcome old_refuses new_refuses same fresh on before cause e = fresh refl cause e
 
 -- a call that keeps what stands
-pub runs_on : {old_stands new_stands : List ℕ → Texts → Type 0} {old_source new_source old_service new_service old_next new_next : Past → Type 0} (old_closed new_closed : Bool)
+pub runs_on : {old_stands new_stands : List ℕ → Texts → Type 0} {old_wires new_wires : Pasts} (old_closed new_closed : Bool)
     {old_faultless new_faultless : Type 0} (old_outcome new_outcome : Outcome) (old_refuses new_refuses : Cause → Type 0)
-    → Goes old_stands new_stands old_source new_source old_service new_service old_next new_next
+    → Goes old_stands new_stands old_wires new_wires
     → (old_closed ≡ true → new_closed ≡ true) → (new_closed ≡ false → old_faultless → new_faultless) → (old_closed ≡ true → new_outcome ≡ old_outcome)
     → (old_closed ≡ false → (cause : Cause) → new_outcome ≡ outcomes.Fail cause → new_refuses cause)
     → (old_closed ≡ true → (cause : Cause) → old_refuses cause → new_refuses cause)
@@ -55,9 +54,9 @@ cause_is : (refuses : Cause → Type 0) (outcome : Outcome) (cause other : Cause
 cause_is refuses outcome cause other e r f = let is : cause ≡ other = cc in subst refuses is r
 
 -- a call that fails it where it isn't closed
-pub runs_failed : {old_stands new_stands : List ℕ → Texts → Type 0} {old_source new_source old_service new_service old_next new_next : Past → Type 0} (old_closed new_closed : Bool)
+pub runs_failed : {old_stands new_stands : List ℕ → Texts → Type 0} {old_wires new_wires : Pasts} (old_closed new_closed : Bool)
     {old_faultless new_faultless : Type 0} (old_outcome new_outcome : Outcome) (old_refuses new_refuses : Cause → Type 0) (why : Cause)
-    → Goes old_stands new_stands old_source new_source old_service new_service old_next new_next → new_closed ≡ true → (old_closed ≡ true → new_outcome ≡ old_outcome)
+    → Goes old_stands new_stands old_wires new_wires → new_closed ≡ true → (old_closed ≡ true → new_outcome ≡ old_outcome)
     → (old_closed ≡ false → new_outcome ≡ outcomes.Fail why) → (old_closed ≡ false → new_refuses why)
     → (old_closed ≡ true → (cause : Cause) → old_refuses cause → new_refuses cause)
     → Runs old_stands old_closed old_faultless old_outcome old_refuses → Runs new_stands new_closed new_faultless new_outcome new_refuses

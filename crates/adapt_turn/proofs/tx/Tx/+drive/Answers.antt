@@ -10,11 +10,11 @@ use Rattle.adapt_turn.proofs.ByTurn.{drives_none, drives_more}
 use Rattle.adapt_turn.proofs.tx.Tx.+drive.Goals as goal
 
 pub returns-in-empty-clause-goes : goal.returns-in-empty-clause-goes
-returns-in-empty-clause-goes g t c = goes_none _ _ _ _
+returns-in-empty-clause-goes g t c = goes_none
 
 pub returns-in-len1-up : goal.returns-in-len1-up
 returns-in-len1-up g t c = record {
-  goes = goes_then _ _ _ _ _ _ _ _ _ _ _ _ c.turn.ensures.goes c.drive.ensures.goes;
+  goes = goes_then c.turn.ensures.goes c.drive.ensures.goes;
   timed = (c.drive.ensures.timed.0 ∙ same_moment _ _ c.turn.ensures.paces.moment, c.drive.ensures.timed.1 ∙ c.turn.ensures.paces.limit);
   turns = drives_more _ _ c.turn.new.self _ c.args.schedule.now _ c.in-len1-up.len_at_least (c.turn.result, c.turn.ensures.answers, c.turn.ensures.keeps, c.turn.ensures.paces.marked, c.turn.ensures.paces.reused, c.turn.ensures.faultless, λ o. (c.turn.ensures.fails o).fails) c.drive.ensures.turns;
   closed = λ e. (let w = c.turn.ensures.closed e in let v = c.drive.ensures.closed (subst (λ (y : Holding). (shows y.history).closed ≡ true) (sym w.hold) e) in (v.0 ∙ w.hold, v.1 ∙ w.outcome, v.2 ∙ w.refusing));

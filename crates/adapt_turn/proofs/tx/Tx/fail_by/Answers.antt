@@ -7,8 +7,8 @@ use Rattle.adapt_turn.proofs.tx.Tx.fail_by.Goals as goal
 
 pub returns-clause-goes : goal.returns-clause-goes
 returns-clause-goes g c =
-    goes_then _ _ _ _ _ _ _ _ _ _ _ _
-    (fail_goes c.args.self.now.hold c.fail.new.hold c.args.cause _ _ _ _ _ _ _ _ _ _ _ _
+    goes_then
+    (fail_goes c.args.self.now.hold c.fail.new.hold c.args.cause _ _ _ _ _ _ _ _ _ _
     (λ body taken elsewhere p. p)
     (others_of g.E.Reader.Source.agrees g.E.Reader.Source.has_read g.E.Client.Service.has_sent g.E.Client.Service.has_heard g.E.Writer.Hop.has_given g.E.Writer.Hop.gift g.E.Writer.Hop.aside (made_by (g.E.Maker.MakesHead.makes c.args.self.now.ends.maker) g.E.Writer.Hop.body_framing g.E.Client.Service.adapted_head g.E.Client.Service.is_response (g.E.Reader.Source.head c.args.self.now.ends.source) c.args.self.now.ends.service) g.met.E.Reader.Source.others_agree g.met.E.Reader.Source.others g.met.E.Client.Service.others_sent g.met.E.Client.Service.others_heard g.met.E.Writer.Hop.others (λ k. made_on _ _ _ _) c.args.self.now.ends.source c.args.self.now.ends.service c.args.self.now.ends.next c.args.self.now.ends.back c.args.self.now.refusing)
     c.state-state.ensures.tied c.args.self.now.roomy c.requires.running c.fail.ensures.moved)

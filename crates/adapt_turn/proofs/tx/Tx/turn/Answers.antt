@@ -49,10 +49,10 @@ at_most : (n more : ℕ) → n ≤ n + more
 at_most n more = omega arith
 
 pub returns-then-is_broken-clause-goes : goal.returns-then-is_broken-clause-goes
-returns-then-is_broken-clause-goes g c = goes_none _ _ _ _
+returns-then-is_broken-clause-goes g c = goes_none
 
 pub returns-clause-goes : goal.returns-clause-goes
-returns-clause-goes g c = goes_then _ _ _ _ _ _ _ _ _ _ _ _ c.pass-passed.ensures.goes c.after_pass.ensures.goes
+returns-clause-goes g c = goes_then c.pass-passed.ensures.goes c.after_pass.ensures.goes
 
 pub returns-clause-answers : goal.returns-clause-answers
 returns-clause-answers g c = by_answer c.after_pass.result _
