@@ -10,7 +10,7 @@ use Rattle.adapt_hold.specs.Holding.{Holding, IsTied, shows}
 use Rattle.adapt_turn.specs.declared.steps.Passed.{Passed}
 use Rattle.adapt_turn.specs.declared.ends.ServiceEnd.{ServiceEnd}
 use Rattle.adapt_turn.specs.declared.turned.Side.TheVariants as sides
-use Rattle.adapt_turn.specs.Made.{wire_of, on_held}
+use Rattle.adapt_turn.specs.Made.{wire_of, side_of, on_held}
 use Rattle.adapt_turn.specs.Parts.{Lent, lending, View, Report, Part, Breaks, FailsFor, IsOfSide, service_room, fault_of, outcome_by, outcome_of}
 use Rattle.adapt_turn.specs.Passes.{WritesDue, ReadsReplies, ServicePasses, LinePasses, line_of}
 use Rattle.adapt_turn.specs.Rows.{may_step, TookBy, Advances, BytesOr}
@@ -96,7 +96,7 @@ pub record LineTold {V W : Type 0} (v : Service V) (w : Wire W) (reused : Bool) 
   pub took : TookBy (may_step sides.Service) old new
   pub active : passed.waiting ≡ false → passed.broken ≡ false → BytesOr (Advances (may_step sides.Service) old new) (λ p. on_held line ⊥ (λ wire. w.past wire p)) (λ p. on_held line' ⊥ (λ wire. w.past wire p))
   pub blames : (cause : Cause) → passed.failed ≡ Some cause → BlamedService cause (fault_of (λ l. v.fault l.side) line) (fault_of (λ l. v.fault l.side) line') (λ p. on_held line ⊥ (λ wire. w.past wire p)) (λ p. on_held line' ⊥ (λ wire. w.past wire p))
-  pub unbroken : (cause : Cause) → passed.failed ≡ Some cause → FailsFor (λ l. v.fault l.side) (λ fault x l. v.has_reason fault x l.side) cause reused line line' new
+  pub unbroken : (cause : Cause) → passed.failed ≡ Some cause → FailsFor v cause reused (side_of line) (side_of line') new
   pub of_side : (cause : Cause) → passed.failed ≡ Some cause → IsOfSide cause
   pub over : (cause : Cause) → passed.failed ≡ Some cause → (shows new.history).closed ≡ true
   pub ends : (shows old.history).closed ≡ false → outcome_by passed.failed ≡ outcome_of new.history.events

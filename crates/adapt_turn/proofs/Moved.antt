@@ -4,7 +4,7 @@ use Rattle.std.specs.Prelude.{MatchOption, ⊤, min}
 use Rattle.wire_kit.specs.Past.{Past}
 use Rattle.adapt_turn.specs.declared.ends.ServiceEnd.{ServiceEnd}
 use Rattle.adapt_turn.specs.Made.{wire_of, on_held}
-use Rattle.adapt_turn.specs.Moved.{MovesOver, SumsBytes, AreCounts, counted}
+use Rattle.adapt_turn.specs.Moved.{MovesOver, Moves, SumsBytes, AreCounts, counted}
 use Rattle.adapt_turn.specs.Rows.{BytesOr}
 
 moves_over : (before after_ : Past → Type 0) (c d : ℕ × ℕ) → AreCounts c before → AreCounts d after_ → MovesOver before after_ (counted c d)
@@ -32,6 +32,14 @@ over_line {V} {W} past None (Some m) c d f g none = over_wire past None m.wire c
 over_line {V} {W} past (Some l) None c d f g none = over_wire past l.wire None c d f g none
 over_line {V} {W} past (Some l) (Some m) c d f g none = over_wire past l.wire m.wire c d f g none
 
+-- what went over the wires, by their pasts
+abbrev over_wires : {A C V W : Type 0} → (A → Past → Type 0) → (W → Past → Type 0) → (C → Past → Type 0) → A → A → Option (ServiceEnd V W) → Option (ServiceEnd V W) → C → C → Moves
+over_wires on_source on_wire on_next a a' line line' x x' = record {
+  source = MovesOver (on_source a) (on_source a');
+  service = λ k. on_held line (k ≡ 0) (λ w. MovesOver (on_wire w) (λ p. on_held line' ⊥ (λ m. on_wire m p)) k);
+  next = MovesOver (on_next x) (on_next x');
+}
+
 -- what the counts before and after a call say
 pub moves_of : {A C V W : Type 0} (on_source : A → Past → Type 0) (on_wire : W → Past → Type 0) (on_next : C → Past → Type 0) (a a' a2 : A) (line line' line2 : Option (ServiceEnd V W)) (x x' x2 : C) (c0 d0 c1 d1 c2 d2 : ℕ × ℕ) (n : ℕ)
     → AreCounts c0 (on_source a) → AreCounts d0 (on_source a')
@@ -39,11 +47,11 @@ pub moves_of : {A C V W : Type 0} (on_source : A → Past → Type 0) (on_wire :
     → AreCounts c2 (on_next x) → AreCounts d2 (on_next x')
     → (wire_of line ≡ None → wire_of line' ≡ None) → a2 ≡ a' → line2 ≡ line' → x2 ≡ x'
     → n ≡ min (counted c0 d0 + counted c1 d1 + counted c2 d2) (2 ^ 64 - 1)
-    → SumsBytes (MovesOver (on_source a) (on_source a2)) (λ k. on_held line (k ≡ 0) (λ w. MovesOver (on_wire w) (λ p. on_held line2 ⊥ (λ m. on_wire m p)) k)) (MovesOver (on_next x) (on_next x2)) n
+    → SumsBytes (over_wires on_source on_wire on_next a a2 line line2 x x2) n
 moves_of {A} {C} {V} {W} on_source on_wire on_next a a' a2 line line' line2 x x' x2 c0 d0 c1 d1 c2 d2 n f0 g0 f1 g1 f2 g2 none ea el ex e =
-    subst (λ (z : A). SumsBytes (MovesOver (on_source a) (on_source z)) (λ k. on_held line (k ≡ 0) (λ w. MovesOver (on_wire w) (λ p. on_held line2 ⊥ (λ m. on_wire m p)) k)) (MovesOver (on_next x) (on_next x2)) n) (sym ea)
-    (subst (λ (z : Option (ServiceEnd V W)). SumsBytes (MovesOver (on_source a) (on_source a')) (λ k. on_held line (k ≡ 0) (λ w. MovesOver (on_wire w) (λ p. on_held z ⊥ (λ m. on_wire m p)) k)) (MovesOver (on_next x) (on_next x2)) n) (sym el)
-    (subst (λ (z : C). SumsBytes (MovesOver (on_source a) (on_source a')) (λ k. on_held line (k ≡ 0) (λ w. MovesOver (on_wire w) (λ p. on_held line' ⊥ (λ m. on_wire m p)) k)) (MovesOver (on_next x) (on_next z)) n) (sym ex)
+    subst (λ (z : A). SumsBytes (over_wires on_source on_wire on_next a z line line2 x x2) n) (sym ea)
+    (subst (λ (z : Option (ServiceEnd V W)). SumsBytes (over_wires on_source on_wire on_next a a' line z x x2) n) (sym el)
+    (subst (λ (z : C). SumsBytes (over_wires on_source on_wire on_next a a' line line' x z) n) (sym ex)
     (record {
       source = counted c0 d0;
       service = counted c1 d1;
@@ -61,18 +69,18 @@ none_counted c0 c1 c2 = let e : 0 ≡ counted c0 c0 + counted c1 c1 + counted c2
 pub moves_none : {A C V W : Type 0} (on_source : A → Past → Type 0) (on_wire : W → Past → Type 0) (on_next : C → Past → Type 0) (a a' : A) (line line' : Option (ServiceEnd V W)) (x x' : C) (c0 c1 c2 : ℕ × ℕ) (n : ℕ)
     → AreCounts c0 (on_source a) → on_held line ((c1.0 ≡ 0) × (c1.1 ≡ 0)) (λ w. AreCounts c1 (on_wire w)) → AreCounts c2 (on_next x)
     → a' ≡ a → line' ≡ line → x' ≡ x → n ≡ 0
-    → SumsBytes (MovesOver (on_source a) (on_source a')) (λ k. on_held line (k ≡ 0) (λ w. MovesOver (on_wire w) (λ p. on_held line' ⊥ (λ m. on_wire m p)) k)) (MovesOver (on_next x) (on_next x')) n
+    → SumsBytes (over_wires on_source on_wire on_next a a' line line' x x') n
 moves_none {A} {C} {V} {W} on_source on_wire on_next a a' line line' x x' c0 c1 c2 n f0 f1 f2 ea el ex e =
     moves_of on_source on_wire on_next a a a' line line line' x x x' c0 c0 c1 c1 c2 c2 n f0 f0 f1 f1 f2 f2 (λ none. none) ea el ex (e ∙ none_counted c0 c1 c2)
 
 -- where none went over all of them, none went over each
-pub none_over : (source service next : ℕ → Type 0) (n : ℕ) → n ≡ 0 → SumsBytes source service next n → source 0 × service 0 × next 0
-none_over source service next n z w =
+pub none_over : (over : Moves) (n : ℕ) → n ≡ 0 → SumsBytes over n → over.source 0 × over.service 0 × over.next 0
+none_over over n z w =
     let e = w.sum in
     let a : w.source ≡ 0 = omega (arith, e, z) in
     let b : w.service ≡ 0 = omega (arith, e, z) in
     let c : w.next ≡ 0 = omega (arith, e, z) in
-    (subst source a w.source_is, subst service b w.service_is, subst next c w.next_is)
+    (subst over.source a w.source_is, subst over.service b w.service_is, subst over.next c w.next_is)
 
 pub waiting_not : (waiting : Bool) → (waiting ≡ true → 0 < 0) → waiting ≡ false
 waiting_not true n = absurd (let e = n refl in omega (arith, e))

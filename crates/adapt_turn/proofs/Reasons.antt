@@ -4,7 +4,6 @@ use Rattle.std.proofs.lemmas.Bool.{false≢true}
 use Rattle.std.specs.Prelude.{MatchOption, ⊤}
 use Rattle.trace_core.specs.declared.history.Event.{Event}
 use Rattle.trace_core.specs.declared.history.Cause.{Cause}
-use Rattle.trace_core.specs.declared.history.Seen.{Seen}
 use Rattle.trace_core.specs.declared.history.Event.TheVariants.{Fail, Retry}
 use Rattle.trace_core.specs.Legal.{MayFollow}
 use Rattle.wire_kit.specs.Past.{Past, IsLater}
@@ -12,7 +11,10 @@ use Rattle.adapt_sides.specs.declared.fault.ClientFault.{ClientFault}
 use Rattle.adapt_sides.specs.declared.fault.ClientFault.TheVariants as client
 use Rattle.adapt_hold.specs.Holding.{Holding, moved}
 use Rattle.adapt_hold.specs.Steps.{moved_all}
+use Rattle.adapt_sides.specs.declared.service.Service.{Ghosts as Service}
+use Rattle.adapt_turn.specs.declared.ends.ServiceEnd.{ServiceEnd}
 use Rattle.adapt_turn.specs.declared.steps.Passed.{Passed}
+use Rattle.adapt_turn.specs.Made.{side_of}
 use Rattle.adapt_turn.specs.declared.turned.Outcome.{Outcome}
 use Rattle.adapt_turn.specs.declared.turned.Outcome.TheVariants as outcomes
 use Rattle.adapt_sides.specs.declared.turn.Turn.{Turn}
@@ -150,10 +152,10 @@ pub line_blamed_kept : {L : Type 0} (fault : L → Option ClientFault) (past : L
     → BlamedService cause f0 (fault_of fault l) before (λ p. MatchOption l ⊥ (λ z. past z p)) → BlamedService cause f0 (fault_of fault l') before (λ p. MatchOption l' ⊥ (λ z. past z p))
 line_blamed_kept {L} fault past cause f0 before l l' e w = subst (λ (z : Option L). BlamedService cause f0 (fault_of fault z) before (λ p. MatchOption z ⊥ (λ y. past y p))) (sym e) w
 
-pub fails_kept : {L : Type 0} (fault : L → Option ClientFault) (reason : ClientFault → Seen → L → Type 0) (cause : Cause) (reused : Bool) (old : Option L) (h h' : Holding) (l l' : Option L) → h' ≡ h → l' ≡ l
-    → FailsFor fault reason cause reused old l h → FailsFor fault reason cause reused old l' h'
-fails_kept {L} fault reason cause reused old h h' l l' e f w =
-    subst (λ (k : Holding). FailsFor fault reason cause reused old l' k) (sym e) (subst (λ (z : Option L). FailsFor fault reason cause reused old z h) (sym f) w)
+pub fails_kept : {V W : Type 0} (v : Service V) (cause : Cause) (reused : Bool) (old : Option V) (h h' : Holding) (l l' : Option (ServiceEnd V W)) → h' ≡ h → l' ≡ l
+    → FailsFor v cause reused old (side_of l) h → FailsFor v cause reused old (side_of l') h'
+fails_kept {V} {W} v cause reused old h h' l l' e f w =
+    subst (λ (k : Holding). FailsFor v cause reused old (side_of l') k) (sym e) (subst (λ (z : Option (ServiceEnd V W)). FailsFor v cause reused old (side_of z) h) (sym f) w)
 
 pub both_waited : (h m : Holding) (before mid after_ : Past → Type 0) (w0 w1 : Type 0) (r : Holding → Type 0) → m ≡ h → (w0 → w1)
     → WaitedBeside w0 (λ q. q.write_waits) (λ q. q.read_waits) before mid → WaitedBeside (r m) (λ q. q.read_waits) (λ q. q.write_waits) mid after_ → WaitedBoth w1 (r h) before after_

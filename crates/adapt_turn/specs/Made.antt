@@ -16,6 +16,11 @@ abbrev pub wire_of : {V W : Type 0} → Option (ServiceEnd V W) → Option W
 wire_of None = None
 wire_of (Some line) = line.wire
 
+-- the service's side, where there is a service
+abbrev pub side_of : {V W : Type 0} → Option (ServiceEnd V W) → Option V
+side_of None = None
+side_of (Some line) = Some line.side
+
 -- the same side, and its connection is given up
 abbrev pub without_wire : {V W : Type 0} → Option (ServiceEnd V W) → Option (ServiceEnd V W)
 without_wire None = None

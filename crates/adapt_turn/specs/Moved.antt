@@ -10,14 +10,20 @@ bytes_between p q = (length q.read - length p.read) + (length q.taken - length p
 abbrev pub MovesOver : (before after : Past → Type 0) → ℕ → Type 0
 MovesOver before after n = (p q : Past) → before p → after q → bytes_between p q ≡ n
 
+-- How many bytes went over each of the three wires.
+pub record Moves : Type 1 where
+  pub source : ℕ → Type 0
+  pub service : ℕ → Type 0
+  pub next : ℕ → Type 0
+
 -- n is the sum over the three wires, as far as 64 bits count
-pub record SumsBytes (over_source over_service over_next : ℕ → Type 0) (n : ℕ) : Type 0 where
+pub record SumsBytes (over : Moves) (n : ℕ) : Type 0 where
   pub source : ℕ
   pub service : ℕ
   pub next : ℕ
-  pub source_is : over_source source
-  pub service_is : over_service service
-  pub next_is : over_next next
+  pub source_is : over.source source
+  pub service_is : over.service service
+  pub next_is : over.next next
   pub sum : n ≡ min (source + service + next) (2 ^ 64 - 1)
 
 -- these are a wire's counts: the bytes that it gave, and those that it took

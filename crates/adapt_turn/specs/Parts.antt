@@ -65,15 +65,15 @@ abbrev pub HasCause : {F : Type 0} → (old_fault new_fault : Option F) → (rea
 HasCause {F} old_fault new_fault reason = old_fault ≡ None → (fault : F) → new_fault ≡ Some fault → reason fault
 
 -- why the service fails first: its wire failed in a write, or what was read of it has its reason
-abbrev pub FailsService : {L : Type 0} → (reason : ClientFault → Seen → L → Type 0) → Option L → Seen → ClientFault → Type 0
-FailsService reason line x fault = (fault ≡ client.Device) ⊎ MatchOption line ⊥ (λ l. reason fault x l)
+abbrev pub FailsService : {V : Type 0} → Service V → Option V → Seen → ClientFault → Type 0
+FailsService v side x fault = (fault ≡ client.Device) ⊎ MatchOption side ⊥ (v.has_reason fault x)
 
 -- It was closed by that cause where the request might not begin anew: its connection wasn't used before, or hadn't ended or failed,
 -- or the plan or a byte of a reply forbids it. A fault that the service didn't have before has its reason by what was seen then.
-abbrev pub FailsFor : {L : Type 0} → (fault : L → Option ClientFault) → (reason : ClientFault → Seen → L → Type 0) → Cause → Bool → (old_line line : Option L) → Holding → Type 0
-FailsFor fault reason cause reused old_line line new =
-    (mid : Holding) × (new ≡ moved mid (Fail cause) []) × (Breaks mid.history reused (fault_of fault line) → ⊥)
-    × HasCause (fault_of fault old_line) (fault_of fault line) (FailsService reason line (shows mid.history))
+abbrev pub FailsFor : {V : Type 0} → Service V → Cause → (reused : Bool) → (old_side side : Option V) → Holding → Type 0
+FailsFor v cause reused old_side side new =
+    (mid : Holding) × (new ≡ moved mid (Fail cause) []) × (Breaks mid.history reused (fault_of v.fault side) → ⊥)
+    × HasCause (fault_of v.fault old_side) (fault_of v.fault side) (FailsService v side (shows mid.history))
 
 -- how a transaction ends that this failed, if anything did
 abbrev pub outcome_by : Option Cause → Outcome

@@ -105,7 +105,7 @@ pub record ServicePasses {V W : Type 0} (v : Service V) (w : Wire W) (reused : B
   pub active : passed.waiting ≡ false → passed.broken ≡ false → BytesOr (Advances (may_step sides.Service) old.hold new.hold) (w.past old.wire) (w.past new.wire)
   pub blames : (cause : Cause) → passed.failed ≡ Some cause → BlamedService cause (v.fault old.side) (v.fault new.side) (w.past old.wire) (w.past new.wire)
   -- it fails only where the request might not begin anew
-  pub unbroken : (cause : Cause) → passed.failed ≡ Some cause → FailsFor v.fault v.has_reason cause reused (Some old.side) (Some new.side) new.hold
+  pub unbroken : (cause : Cause) → passed.failed ≡ Some cause → FailsFor v cause reused (Some old.side) (Some new.side) new.hold
   pub of_side : (cause : Cause) → passed.failed ≡ Some cause → IsOfSide cause
   pub over : (cause : Cause) → passed.failed ≡ Some cause → (shows new.hold.history).closed ≡ true
   pub ends : outcome_by passed.failed ≡ outcome_of new.hold.history.events

@@ -123,20 +123,19 @@ impl<B: Ledgers, E: EndTypes> Going for Tx<B, E> {
     ghost goes = { λ old new. Goes (⟦<Tx<B, E> as Standing>⟧.stands old) (⟦<Tx<B, E> as Standing>⟧.stands new)
         (⟦<Tx<B, E> as Standing>⟧.pasts old) (⟦<Tx<B, E> as Standing>⟧.pasts new) };
 
-    ghost moves = { λ old new n. SumsBytes (MovesOver (E.SourceWire.past old.ends.source_wire) (E.SourceWire.past new.ends.source_wire))
-        (λ k. on_held old.ends.service (k ≡ 0) (λ wire. MovesOver (E.ServiceWire.past wire) (λ p. on_held new.ends.service ⊥ (λ later. E.ServiceWire.past later p)) k))
-        (MovesOver (E.NextWire.past old.ends.next_wire) (E.NextWire.past new.ends.next_wire)) n };
+    ghost moves = { λ old new n. SumsBytes (record { source = MovesOver (E.SourceWire.past old.ends.source_wire) (E.SourceWire.past new.ends.source_wire);
+        service = λ k. on_held old.ends.service (k ≡ 0) (λ wire. MovesOver (E.ServiceWire.past wire) (λ p. on_held new.ends.service ⊥ (λ later. E.ServiceWire.past later p)) k);
+        next = MovesOver (E.NextWire.past old.ends.next_wire) (E.NextWire.past new.ends.next_wire) }) n };
 }
 
 impl<B: Ledgers, E: EndTypes> Refusing for Tx<B, E> {
     ghost use Rattle.std.specs.Prelude.{◌≡◌};
     ghost use Rattle.trace_core.specs.declared.history.Point.TheVariants.{Reqmod, Respmod};
-    ghost use Rattle.adapt_turn.specs.Refusals.{refusal_status, user_untouched, HasRefusal, IsOver};
+    ghost use Rattle.adapt_turn.specs.Refusals.{refusal_status, user_view, HasRefusal, IsOver};
     ghost use Rattle.adapt_turn.specs.Rows.{BytesOr};
-    ghost use Rattle.adapt_turn.specs.Stands.{Waited, user_gift};
+    ghost use Rattle.adapt_turn.specs.Stands.{Waited};
 
-    ghost refuses = { λ tx cause. HasRefusal (refusal_status cause tx.hold.history.plan.point) tx.refusing (user_gift tx.hold.history.plan.point (E.Writer.gift tx.ends.next) (E.Writer.gift tx.ends.back))
-        (user_untouched tx.hold.history.plan.point (E.Writer.untouched tx.ends.next) (E.Writer.untouched tx.ends.back)) };
+    ghost refuses = { λ tx cause. HasRefusal (refusal_status cause tx.hold.history.plan.point) (user_view E.Writer.Hop tx.hold.history.plan.point tx.refusing tx.ends.next tx.ends.back) };
 
     ghost refusal_waits = { λ old new. (old.hold.history.plan.point ≡ Respmod → Waited (E.Writer.rests (shows old.hold.history) new.ends.next) (λ past. past.write_waits) (E.NextWire.past old.ends.next_wire) (E.NextWire.past new.ends.next_wire))
         × (old.hold.history.plan.point ≡ Reqmod → Waited (E.Writer.rests (shows old.hold.history) new.ends.back) (λ past. past.write_waits) (E.SourceWire.past old.ends.source_wire) (E.SourceWire.past new.ends.source_wire)) };

@@ -1,5 +1,5 @@
 -- What a transaction that runs keeps.
-use Rattle.std.proofs.Common.{◌≡◌, ℕ, ◌-◌, ◌<◌, ◌≤◌, Bool, true, false, not, List, [], ◌∷◌, length, take, drop, get_or, Option, Some, None, MatchOption, is_some, arith, refl, sym, ap, subst, ◌∙◌}
+use Rattle.std.proofs.Common.{◌≡◌, ℕ, ◌-◌, ◌<◌, ◌≤◌, Bool, true, false, List, [], ◌∷◌, length, take, drop, get_or, Option, Some, None, MatchOption, is_some, arith, refl, sym, ap, subst, ◌∙◌}
 use Rattle.std.proofs.Math.Seq.{take-length}
 use Rattle.trace_core.specs.declared.history.Seen.{Seen}
 use Rattle.trace_core.specs.declared.history.Cause.{Cause}
@@ -11,12 +11,11 @@ use Rattle.adapt_turn.specs.declared.turned.Side.{Side}
 use Rattle.adapt_turn.specs.declared.turned.Outcome.{Outcome}
 use Rattle.adapt_turn.specs.declared.turned.Outcome.TheVariants as outcomes
 use Rattle.adapt_turn.specs.Made.{on_held}
-use Rattle.adapt_turn.specs.Refusals.{refusal_status, user_untouched, HasRefusal}
-use Rattle.adapt_turn.specs.Stands.{Texts, Pasts, Goes, joined, user_gift}
-use Rattle.http_relay.specs.Giving.{Hop, gift_of}
+use Rattle.adapt_turn.specs.Stands.{Texts, Pasts, Goes, joined}
+use Rattle.http_relay.specs.Giving.{Hop}
 use Rattle.icap_client.specs.Turns.{Service}
 use Rattle.proxy_rules.specs.Beginnings.{line_with}
-use Rattle.proxy_rules.specs.Running.{Runs, TakesTurns}
+use Rattle.proxy_rules.specs.Running.{Runs, RefusesFor, TakesTurns}
 
 pub not_both : {P : Type 0} (b : Bool) → b ≡ true → b ≡ false → P
 not_both b t f = let e : true ≡ false = sym t ∙ f in cc
@@ -71,15 +70,12 @@ retry_open h k t m e =
 
 -- a refusal goes by the history, whether it is due, and both writers
 pub refuses_by : (cause : Cause) (h k : Holding) (due still : Bool) (next_old next_new back_old back_new : Hop) → k ≡ h → still ≡ due → next_new ≡ next_old → back_new ≡ back_old
-    → HasRefusal (refusal_status cause h.history.plan.point) due (user_gift h.history.plan.point (gift_of next_old.stage) (gift_of back_old.stage)) (user_untouched h.history.plan.point (not next_old.touched) (not back_old.touched))
-    → HasRefusal (refusal_status cause k.history.plan.point) still (user_gift k.history.plan.point (gift_of next_new.stage) (gift_of back_new.stage)) (user_untouched k.history.plan.point (not next_new.touched) (not back_new.touched))
+    → RefusesFor h due next_old back_old cause → RefusesFor k still next_new back_new cause
 refuses_by cause h k due still next_old next_new back_old back_new e d n b r =
-    let refuses : Holding → Bool → Hop → Hop → Type 0 =
-    λ x f next back. HasRefusal (refusal_status cause x.history.plan.point) f (user_gift x.history.plan.point (gift_of next.stage) (gift_of back.stage)) (user_untouched x.history.plan.point (not next.touched) (not back.touched)) in
-    subst (λ (x : Holding). refuses x still next_new back_new) (sym e)
-    (subst (λ (f : Bool). refuses h f next_new back_new) (sym d)
-    (subst (λ (x : Hop). refuses h due x back_new) (sym n)
-    (subst (λ (x : Hop). refuses h due next_old x) (sym b) r)))
+    subst (λ (x : Holding). RefusesFor x still next_new back_new cause) (sym e)
+    (subst (λ (f : Bool). RefusesFor h f next_new back_new cause) (sym d)
+    (subst (λ (x : Hop). RefusesFor h due x back_new cause) (sym n)
+    (subst (λ (x : Hop). RefusesFor h due next_old x cause) (sym b) r)))
 
 -- Turns in a row.
 

@@ -45,8 +45,11 @@ IsFaultless source service broken next back =
 -- the user's writer has the refusal of this cause, or a byte has gone out to the user
 abbrev pub RefusesFor : Holding → (refusing : Bool) → (next back : Hop) → Cause → Type 0
 RefusesFor hold refusing next back cause =
-    HasRefusal (refusal_status cause hold.history.plan.point) refusing (user_gift hold.history.plan.point (gift_of next.stage) (gift_of back.stage))
-    (user_untouched hold.history.plan.point (not next.touched) (not back.touched))
+    HasRefusal (refusal_status cause hold.history.plan.point) (record {
+      refusing = refusing;
+      gift = user_gift hold.history.plan.point (gift_of next.stage) (gift_of back.stage);
+      untouched = user_untouched hold.history.plan.point (not next.touched) (not back.touched);
+    })
 
 -- Some request and texts stand between it and its wires. As long as it is open no side has a fault, but for a service whose connection
 -- broke; and where it failed, it refuses for the cause.

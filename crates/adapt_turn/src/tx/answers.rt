@@ -17,7 +17,7 @@ ghost use Rattle.adapt_turn.specs.declared.turned.Side.{Side};
 ghost use Rattle.adapt_turn.specs.declared.turned.Side.TheVariants as sides;
 ghost use Rattle.adapt_turn.specs.declared.turned.Turned.{Turned};
 ghost use Rattle.adapt_turn.specs.declared.turned.Outcome.TheVariants as outcomes;
-ghost use Rattle.adapt_turn.specs.Made.{MakesNoneAt, wire_of, on_held, adapted_of, response_of, answers_user};
+ghost use Rattle.adapt_turn.specs.Made.{MakesNoneAt, wire_of, side_of, on_held, adapted_of, response_of, answers_user};
 ghost use Rattle.adapt_turn.specs.Parts.{Breaks, HasCause, FailsFor, source_cause, fault_of};
 ghost use Rattle.adapt_turn.specs.Rows.{may_step, TookBy, Advances};
 ghost use Rattle.adapt_turn.specs.Stands.{IsChosen, IsDone, Waited, WaitedBoth, Blamed, BlamedWriter, BlamedService};
@@ -105,7 +105,7 @@ impl<B: Ledgers, E: EndTypes> Answering for Tx<B, E> {
         × HasCause (E.Reader.fault old.ends.source) (E.Reader.fault new.ends.source) (λ fault. E.Reader.has_reason fault new.ends.source))
         ((wire_of old.ends.service ≡ None → ⊥) × BlamedService cause (fault_of (λ line. E.Client.fault line.side) old.ends.service) (fault_of (λ line. E.Client.fault line.side) new.ends.service)
         (λ p. on_held old.ends.service ⊥ (λ wire. E.ServiceWire.past wire p)) (λ p. on_held new.ends.service ⊥ (λ wire. E.ServiceWire.past wire p))
-        × FailsFor (λ line. E.Client.fault line.side) (λ fault x line. E.Client.has_reason fault x line.side) cause old.pace.reused old.ends.service new.ends.service new.hold)
+        × FailsFor E.Client.Service cause old.pace.reused (side_of old.ends.service) (side_of new.ends.service) new.hold)
         ((IsChosen (shows old.hold.history) × (E.Writer.gift old.ends.next ≡ nothing) × (E.Writer.gift old.ends.back ≡ nothing)
         × ⟦<Tx<B, E> as Making>⟧.unmade old cause)
         ⊎ (BlamedWriter cause (FailsGiving (E.Writer.breaks_length (shows old.hold.history) (E.Writer.body_framing new.ends.next))) (E.Writer.fault old.ends.next) (E.NextWire.past old.ends.next_wire) (E.NextWire.past new.ends.next_wire)

@@ -11,12 +11,11 @@ use Rattle.std.proofs.lemmas.Bool.{false≢true}
 use Rattle.adapt_turn.specs.Rows.{may_step, TookBy, Advances}
 use Rattle.adapt_turn.proofs.Rows.{by_side, fail_advances, took_fail}
 use Rattle.trace_core.specs.declared.history.Cause.{Cause}
-use Rattle.adapt_turn.specs.Stands.{user_gift}
-use Rattle.adapt_turn.specs.Refusals.{refusal_status, user_untouched, HasRefusal}
+use Rattle.adapt_turn.specs.Refusals.{refusal_status, user_view, HasRefusal}
 use Rattle.adapt_turn.proofs.Refusals.{by_point}
 use Rattle.adapt_turn.proofs.ByTurn.{unfailed, by_answer, answer_on, not_broken, paces_still, for_side, of_either, of_one, idle_no_message}
 use Rattle.adapt_turn.specs.declared.turned.Turned.TheVariants as answers
-use Rattle.adapt_turn.specs.Made.{response_of, answers_user}
+use Rattle.adapt_turn.specs.Made.{side_of, response_of, answers_user}
 use Rattle.std.specs.Prelude.{MatchOption, ⊤}
 use Rattle.adapt_turn.proofs.Paced.{paced_kept}
 use Rattle.adapt_sides.specs.Turns.{FailsGiving}
@@ -87,7 +86,7 @@ returns-clause-answers g c = by_answer c.after_pass.result _
           let e = m ∙ ap answers.Moved z in (
             o,
             let w = waiting_not c.pass-passed.result.waiting (c.after_pass.ensures.said.active 0 e).0 in
-                let k = none_over _ _ _ 0 refl (moves_of g.E.SourceWire.Wire.past g.E.ServiceWire.Wire.past g.E.NextWire.Wire.past c.args.self.now.ends.source_wire c.pass-passed.new.self.ends.source_wire c.pass-passed.new.self.ends.source_wire
+                let k = none_over _ 0 refl (moves_of g.E.SourceWire.Wire.past g.E.ServiceWire.Wire.past g.E.NextWire.Wire.past c.args.self.now.ends.source_wire c.pass-passed.new.self.ends.source_wire c.pass-passed.new.self.ends.source_wire
                 c.args.self.now.ends.service c.pass-passed.new.self.ends.service c.pass-passed.new.self.ends.service c.args.self.now.ends.next_wire c.pass-passed.new.self.ends.next_wire c.pass-passed.new.self.ends.next_wire _ _ _ _ _ _ 0
                 c.counts-before.ensures.source c.counts.ensures.source c.counts-before.ensures.service c.counts.ensures.service c.counts-before.ensures.next c.counts.ensures.next
                 c.pass-passed.ensures.served refl refl refl (c.after_pass.ensures.said.moved 0 e ∙ c.since-moved.ensures)) in
@@ -113,7 +112,7 @@ returns-then-is_closed-clause-answers g c =
     (λ n m. (
       m.0,
       λ z p q r a b d.
-          absurd (let k = none_over _ _ _ n z m.0 in
+          absurd (let k = none_over _ n z m.0 in
           let w = m.1 z in
           by_point c.args.self.now.hold.history.plan.point ⊥
           (λ s. let v = w.0 s r d in v.4 (k.2 r v.0 d v.1))
@@ -154,7 +153,7 @@ returns-clause-fails g c = λ o.
           (λ s. (
             λ n. none_some (sym (c.pass-passed.ensures.any.idle ((line_told (c.pass-passed.ensures.service s)).absent n)) ∙ f),
             line_blamed_kept (λ l. g.E.Client.Service.fault l.side) (λ l p. MatchOption l.wire ⊥ (λ w. g.E.ServiceWire.Wire.past w p)) cause _ _ c.pass-passed.new.self.ends.service c.after_pass.new.self.ends.service c.after_pass.ensures.kept.2 ((line_told (c.pass-passed.ensures.service s)).blames cause f),
-            fails_kept (λ l. g.E.Client.Service.fault l.side) (λ fault x l. g.E.Client.Service.has_reason fault x l.side) cause c.args.self.now.pace.reused c.args.self.now.ends.service c.pass-passed.new.self.hold c.after_pass.new.self.hold c.pass-passed.new.self.ends.service c.after_pass.new.self.ends.service c.after_pass.ensures.hold c.after_pass.ensures.kept.2 ((line_told (c.pass-passed.ensures.service s)).unbroken cause f),
+            fails_kept g.E.Client.Service cause c.args.self.now.pace.reused (side_of c.args.self.now.ends.service) c.pass-passed.new.self.hold c.after_pass.new.self.hold c.pass-passed.new.self.ends.service c.after_pass.new.self.ends.service c.after_pass.ensures.hold c.after_pass.ensures.kept.2 ((line_told (c.pass-passed.ensures.service s)).unbroken cause f),
           ))
           (λ s.
           let x = shows c.args.self.now.hold.history in
@@ -180,7 +179,7 @@ returns-then-now-self-2-clause-fails g c = λ o.
     let of_it : (cause : Cause) → c.fail_by.new.self.outcome ≡ outcomes.Fail cause → Deadline ≡ cause = λ cause e. same_cause (sym c.fail_by.ensures.outcome ∙ e) in
     record {
       fails = λ cause e. inl (sym (of_it cause e), due);
-      refuses = λ cause e. subst (λ (z : Cause). HasRefusal (refusal_status z p) n.refusing (user_gift p (g.E.Writer.Hop.gift n.ends.next) (g.E.Writer.Hop.gift n.ends.back)) (user_untouched p (g.E.Writer.Hop.untouched n.ends.next) (g.E.Writer.Hop.untouched n.ends.back))) (of_it cause e) c.fail_by.ensures.refuses;
+      refuses = λ cause e. subst (λ (z : Cause). HasRefusal (refusal_status z p) (user_view g.E.Writer.Hop p n.refusing n.ends.next n.ends.back)) (of_it cause e) c.fail_by.ensures.refuses;
       timely = λ e. inl due;
       unstopped = λ e. absurd (not_stopping (of_it Stopping e));
     }
