@@ -15,17 +15,17 @@ use Rattle.trace_core.specs.Turns.{is_of_hop}
 use Rattle.adapt_sides.specs.Tapes.{chosen, IsUndelivered}
 use Rattle.adapt_sides.specs.Turns.{Gift}
 use Rattle.adapt_sides.specs.Turns.Gift.{nothing, message, refusal}
-use Rattle.adapt_turn.specs.Stands.{HopsAre, IsRefusing, other_gift, IsDelivered}
+use Rattle.adapt_turn.specs.Stands.{WriterView, HopsAre, IsRefusing, other_gift, IsDelivered}
 use Rattle.adapt_turn.proofs.Carry.{off_hop, not_true, KeepsChosen}
 
 -- what a writer says of the events of others
-abbrev pub KeepsGiven : (Seen → List ℕ → List ℕ → List ℕ → Type 0) → Type 0
-KeepsGiven given = (plan : Plan) (before : List Event) (event : Event) (head original adapted bytes more taken : List ℕ)
+abbrev pub KeepsGiven : WriterView → Type 0
+KeepsGiven own = (plan : Plan) (before : List Event) (event : Event) (head original adapted bytes more taken : List ℕ)
     → IsLegal plan (event ∷ before) → is_of_hop event ≡ false
     → length original ≡ (seen plan before).received → length adapted ≡ (seen plan before).adapted_received
     → length bytes ≡ in_bytes event → length more ≡ ad_bytes event
-    → given (seen plan before) head (chosen (seen plan before) original adapted) taken
-    → given (seen plan (event ∷ before)) head (chosen (seen plan (event ∷ before)) (original ++ bytes) (adapted ++ more)) taken
+    → own.given (seen plan before) head (chosen (seen plan before) original adapted) taken
+    → own.given (seen plan (event ∷ before)) head (chosen (seen plan (event ∷ before)) (original ++ bytes) (adapted ++ more)) taken
 
 zero_if : (c : Bool) (m n : ℕ) → m ≡ 0 → n ≡ 0 → (if c then m else 0) + n ≡ 0
 zero_if true m n e f = omega (arith, e, f)
@@ -39,9 +39,8 @@ none_out : (x : Seen) (event : Event) → off_hop event ≡ true → IsUndeliver
 none_out x event o u =
     (zero_if (is_plain x.plan.kind || x.no_mod) (usr_bytes event) x.original_delivered (none_given event o) u.0, zero_if x.modified (usr_bytes event) x.adapted_delivered (none_given event o) u.1)
 
-pub hops_others : (ng bg : Gift) (ngiven bgiven : Seen → List ℕ → List ℕ → List ℕ → Type 0) (naside baside : List ℕ → Type 0) → KeepsGiven ngiven → KeepsGiven bgiven
-    → (next back : List ℕ) → KeepsChosen (λ x body. HopsAre ng bg ngiven naside bgiven baside x body next back)
-hops_others ng bg ngiven bgiven naside baside nk bk next back plan before event original adapted bytes more legal o lo la lb lm p =
+pub hops_others : (next back : WriterView) → KeepsGiven next → KeepsGiven back → (to_next to_back : List ℕ) → KeepsChosen (λ x body. HopsAre next back x body to_next to_back)
+hops_others next back nk bk to_next to_back plan before event original adapted bytes more legal o lo la lb lm p =
     elim p [
       | inl none ↦ inl (record {
         next_is = none.next_is;
@@ -54,23 +53,22 @@ hops_others ng bg ngiven bgiven naside baside nk bk next back plan before event 
         begun = on.begun;
         alone = λ c. on.alone legal.0.0;
         head = on.head;
-        given_is = nk plan before event on.head original adapted bytes more next legal (not_true (is_of_hop event) o) lo la lb lm on.given_is;
+        given_is = nk plan before event on.head original adapted bytes more to_next legal (not_true (is_of_hop event) o) lo la lb lm on.given_is;
         aside_is = on.aside_is;
       }))
       | inr (inr (inl on)) ↦ inr (inr (inl (record {
         begun = on.begun;
         alone = λ c. on.alone legal.0.0;
         head = on.head;
-        given_is = bk plan before event on.head original adapted bytes more back legal (not_true (is_of_hop event) o) lo la lb lm on.given_is;
+        given_is = bk plan before event on.head original adapted bytes more to_back legal (not_true (is_of_hop event) o) lo la lb lm on.given_is;
         aside_is = on.aside_is;
       })))
       | inr (inr (inr over)) ↦ absurd (false≢true (sym legal.0.0 ∙ over.over))
     ]
 
 -- the two wires, named the other way round
-pub hops_swap : (ng bg : Gift) (ngiven bgiven : Seen → List ℕ → List ℕ → List ℕ → Type 0) (naside baside : List ℕ → Type 0) (x : Seen) (body next back : List ℕ)
-    → HopsAre ng bg ngiven naside bgiven baside x body next back → HopsAre bg ng bgiven baside ngiven naside x body back next
-hops_swap ng bg ngiven bgiven naside baside x body next back p =
+pub hops_swap : (next back : WriterView) (x : Seen) (body to_next to_back : List ℕ) → HopsAre next back x body to_next to_back → HopsAre back next x body to_back to_next
+hops_swap next back x body to_next to_back p =
     elim p [
       | inl none ↦ inl (record { next_is = none.back_is; back_is = none.next_is; none = none.none; next_aside_is = none.back_aside_is; back_aside_is = none.next_aside_is })
       | inr (inl on) ↦ inr (inr (inl on))
@@ -79,11 +77,11 @@ hops_swap ng bg ngiven bgiven naside baside x body next back p =
     ]
 
 -- the source's wire took more of an answer
-pub back_gives : (ng bg bg' : Gift) (go gn ngiven : Seen → List ℕ → List ℕ → List ℕ → Type 0) (ao an naside : List ℕ → Type 0) (x y : Seen) (body next back delta : List ℕ)
-    → x.closed ≡ false → (bg ≡ nothing → ⊥) → bg' ≡ bg
-    → ((head taken : List ℕ) → go x head body taken → gn y head body (taken ++ delta))
-    → HopsAre ng bg ngiven naside go ao x body next back → HopsAre ng bg' ngiven naside gn an y body next (back ++ delta)
-back_gives ng bg bg' go gn ngiven ao an naside x y body next back delta c busy same on_ p =
+pub back_gives : (next back back' : WriterView) (x y : Seen) (body to_next to_back delta : List ℕ)
+    → x.closed ≡ false → (back.gift ≡ nothing → ⊥) → back'.gift ≡ back.gift
+    → ((head taken : List ℕ) → back.given x head body taken → back'.given y head body (taken ++ delta))
+    → HopsAre next back x body to_next to_back → HopsAre next back' y body to_next (to_back ++ delta)
+back_gives next back back' x y body to_next to_back delta c busy same on_ p =
     elim p [
       | inl none ↦ absurd (busy none.back_is)
       | inr (inl on) ↦ absurd (busy (on.alone c))
@@ -91,50 +89,50 @@ back_gives ng bg bg' go gn ngiven ao an naside x y body next back delta c busy s
         begun = same ∙ on.begun;
         alone = λ w. on.alone c;
         head = on.head;
-        given_is = on_ on.head back on.given_is;
+        given_is = on_ on.head to_back on.given_is;
         aside_is = on.aside_is;
       })))
       | inr (inr (inr over)) ↦ absurd (false≢true (sym c ∙ over.over))
     ]
 
 -- the next hop's wire took more of the message
-pub next_gives : (ng ng' bg : Gift) (go gn bgiven : Seen → List ℕ → List ℕ → List ℕ → Type 0) (ao an baside : List ℕ → Type 0) (x y : Seen) (body next back delta : List ℕ)
-    → x.closed ≡ false → bg ≡ nothing → (ng ≡ nothing → ⊥) → ng' ≡ ng
-    → ((head taken : List ℕ) → go x head body taken → gn y head body (taken ++ delta))
-    → HopsAre ng bg go ao bgiven baside x body next back → HopsAre ng' bg gn an bgiven baside y body (next ++ delta) back
-next_gives ng ng' bg go gn bgiven ao an baside x y body next back delta c idle busy same on_ p =
-    hops_swap bg ng' bgiven gn baside an y body back (next ++ delta) (back_gives bg ng ng' go gn bgiven ao an baside x y body back next delta c busy same on_ (hops_swap ng bg go bgiven ao baside x body next back p))
+pub next_gives : (next next' back : WriterView) (x y : Seen) (body to_next to_back delta : List ℕ)
+    → x.closed ≡ false → back.gift ≡ nothing → (next.gift ≡ nothing → ⊥) → next'.gift ≡ next.gift
+    → ((head taken : List ℕ) → next.given x head body taken → next'.given y head body (taken ++ delta))
+    → HopsAre next back x body to_next to_back → HopsAre next' back y body (to_next ++ delta) to_back
+next_gives next next' back x y body to_next to_back delta c idle busy same on_ p =
+    hops_swap back next' y body to_back (to_next ++ delta) (back_gives back next next' x y body to_back to_next delta c busy same on_ (hops_swap next back x body to_next to_back p))
 
 -- and where the history is closed by it, the whole message
 
-not_refusing : (refusing : Bool) (ng bg : Gift) (x : Seen) → x.closed ≡ false → IsRefusing refusing ng bg x → refusing ≡ false
-not_refusing true ng bg x c r = absurd (false≢true (sym c ∙ (r.0 refl).0))
-not_refusing false ng bg x c r = refl
+not_refusing : (refusing : Bool) (next back : WriterView) (x : Seen) → x.closed ≡ false → IsRefusing refusing next back x → refusing ≡ false
+not_refusing true next back x c r = absurd (false≢true (sym c ∙ (r.0 refl).0))
+not_refusing false next back x c r = refl
 
-pub next_whole : (refusing : Bool) (ng ng' bg : Gift) (go bgiven : Seen → List ℕ → List ℕ → List ℕ → Type 0) (whole bwhole : List ℕ → List ℕ → List ℕ → Type 0) (ao an baside : List ℕ → Type 0) (x : Seen) (body next back delta : List ℕ)
-    → x.closed ≡ false → bg ≡ nothing → (ng ≡ nothing → ⊥) → ng' ≡ ng → IsRefusing refusing ng bg x
-    → ((head taken : List ℕ) → go x head body taken → whole head body (taken ++ delta))
-    → HopsAre ng bg go ao bgiven baside x body next back → IsDelivered refusing ng' bg whole an bwhole baside body (next ++ delta) back
-next_whole refusing ng ng' bg go bgiven whole bwhole ao an baside x body next back delta c idle busy same r on_ p = (
-  not_refusing refusing ng bg x c r,
+pub next_whole : (refusing : Bool) (next next' back : WriterView) (x y : Seen) (body to_next to_back delta : List ℕ)
+    → x.closed ≡ false → back.gift ≡ nothing → (next.gift ≡ nothing → ⊥) → next'.gift ≡ next.gift → IsRefusing refusing next back x
+    → ((head taken : List ℕ) → next.given x head body taken → next'.whole y head body (taken ++ delta))
+    → HopsAre next back x body to_next to_back → IsDelivered refusing next' back y body (to_next ++ delta) to_back
+next_whole refusing next next' back x y body to_next to_back delta c idle busy same r on_ p = (
+  not_refusing refusing next back x c r,
   elim p [
     | inl none ↦ absurd (busy none.next_is)
-    | inr (inl on) ↦ inl (record { begun = same ∙ on.begun; head = on.head; whole_is = on_ on.head next on.given_is; aside_is = on.aside_is })
+    | inr (inl on) ↦ inl (record { begun = same ∙ on.begun; head = on.head; whole_is = on_ on.head to_next on.given_is; aside_is = on.aside_is })
     | inr (inr (inl on)) ↦ absurd (let e : nothing ≡ message = sym idle ∙ on.begun in cc)
     | inr (inr (inr over)) ↦ absurd (false≢true (sym c ∙ over.over))
   ],
 )
 
-pub back_whole : (refusing : Bool) (ng bg bg' : Gift) (go ngiven : Seen → List ℕ → List ℕ → List ℕ → Type 0) (whole nwhole : List ℕ → List ℕ → List ℕ → Type 0) (ao an naside : List ℕ → Type 0) (x : Seen) (body next back delta : List ℕ)
-    → x.closed ≡ false → (bg ≡ nothing → ⊥) → bg' ≡ bg → IsRefusing refusing ng bg x
-    → ((head taken : List ℕ) → go x head body taken → whole head body (taken ++ delta))
-    → HopsAre ng bg ngiven naside go ao x body next back → IsDelivered refusing ng bg' nwhole naside whole an body next (back ++ delta)
-back_whole refusing ng bg bg' go ngiven whole nwhole ao an naside x body next back delta c busy same r on_ p = (
-  not_refusing refusing ng bg x c r,
+pub back_whole : (refusing : Bool) (next back back' : WriterView) (x y : Seen) (body to_next to_back delta : List ℕ)
+    → x.closed ≡ false → (back.gift ≡ nothing → ⊥) → back'.gift ≡ back.gift → IsRefusing refusing next back x
+    → ((head taken : List ℕ) → back.given x head body taken → back'.whole y head body (taken ++ delta))
+    → HopsAre next back x body to_next to_back → IsDelivered refusing next back' y body to_next (to_back ++ delta)
+back_whole refusing next back back' x y body to_next to_back delta c busy same r on_ p = (
+  not_refusing refusing next back x c r,
   elim p [
     | inl none ↦ absurd (busy none.back_is)
     | inr (inl on) ↦ absurd (busy (on.alone c))
-    | inr (inr (inl on)) ↦ inr (record { begun = same ∙ on.begun; head = on.head; whole_is = on_ on.head back on.given_is; aside_is = on.aside_is })
+    | inr (inr (inl on)) ↦ inr (record { begun = same ∙ on.begun; head = on.head; whole_is = on_ on.head to_back on.given_is; aside_is = on.aside_is })
     | inr (inr (inr over)) ↦ absurd (false≢true (sym c ∙ over.over))
   ],
 )
@@ -166,80 +164,85 @@ other_idle Respmod ng bg n b status e = let d : nothing ≡ refusal status = sym
 
 -- a message is begun
 
--- from nothing, a wire took a front of it
-abbrev pub BeginsWith : Seen → List ℕ → (List ℕ → Type 0) → (Seen → List ℕ → List ℕ → List ℕ → Type 0) → Type 0
-BeginsWith x head aside given = (body taken : List ℕ) → aside taken → x.original_delivered ≡ 0 → x.adapted_delivered ≡ 0 → given x head body taken
+-- from nothing, a wire took a prefix of it
+abbrev pub BeginsWith : Seen → List ℕ → (own own' : WriterView) → Type 0
+BeginsWith x head own own' = (body taken : List ℕ) → own.aside taken → x.original_delivered ≡ 0 → x.adapted_delivered ≡ 0 → own'.given x head body taken
 
-pub next_begins : (ng ng' bg : Gift) (go gn bgo bgn : Seen → List ℕ → List ℕ → List ℕ → Type 0) (ao an baside : List ℕ → Type 0) (x : Seen) (head body next back : List ℕ)
-    → x.closed ≡ false → ng ≡ nothing → bg ≡ nothing → ng' ≡ message → BeginsWith x head ao gn
-    → HopsAre ng bg go ao bgo baside x body next back → HopsAre ng' bg gn an bgn baside x body next back
-next_begins ng ng' bg go gn bgo bgn ao an baside x head body next back c n b m begin p =
+-- the other writer stays, whatever heads are made for it
+pub record StaysAside (other other' : WriterView) : Type 0 where
+  pub gift : other'.gift ≡ other.gift
+  pub aside : (taken : List ℕ) → other.aside taken → other'.aside taken
+
+pub next_begins : (next next' back back' : WriterView) (x : Seen) (head body to_next to_back : List ℕ)
+    → x.closed ≡ false → next.gift ≡ nothing → back.gift ≡ nothing → next'.gift ≡ message → StaysAside back back' → BeginsWith x head next next'
+    → HopsAre next back x body to_next to_back → HopsAre next' back' x body to_next to_back
+next_begins next next' back back' x head body to_next to_back c n b m stays begin p =
     elim p [
       | inl none ↦ inr (inl (record {
         begun = m;
-        alone = λ w. b;
+        alone = λ w. stays.gift ∙ b;
         head = head;
-        given_is = begin body next none.next_aside_is none.none.0 none.none.1;
-        aside_is = none.back_aside_is;
+        given_is = begin body to_next none.next_aside_is none.none.0 none.none.1;
+        aside_is = stays.aside to_back none.back_aside_is;
       }))
       | inr (inl on) ↦ absurd (let e : nothing ≡ message = sym n ∙ on.begun in cc)
       | inr (inr (inl on)) ↦ absurd (let e : nothing ≡ message = sym b ∙ on.begun in cc)
       | inr (inr (inr over)) ↦ absurd (false≢true (sym c ∙ over.over))
     ]
 
-pub back_begins : (ng bg bg' : Gift) (go gn ngo ngn : Seen → List ℕ → List ℕ → List ℕ → Type 0) (ao an naside : List ℕ → Type 0) (x : Seen) (head body next back : List ℕ)
-    → x.closed ≡ false → ng ≡ nothing → bg ≡ nothing → bg' ≡ message → BeginsWith x head ao gn
-    → HopsAre ng bg ngo naside go ao x body next back → HopsAre ng bg' ngn naside gn an x body next back
-back_begins ng bg bg' go gn ngo ngn ao an naside x head body next back c n b m begin p =
-    hops_swap bg' ng gn ngn an naside x body back next (next_begins bg bg' ng go gn ngo ngn ao an naside x head body back next c b n m begin (hops_swap ng bg ngo go naside ao x body next back p))
+pub back_begins : (next next' back back' : WriterView) (x : Seen) (head body to_next to_back : List ℕ)
+    → x.closed ≡ false → next.gift ≡ nothing → back.gift ≡ nothing → back'.gift ≡ message → StaysAside next next' → BeginsWith x head back back'
+    → HopsAre next back x body to_next to_back → HopsAre next' back' x body to_next to_back
+back_begins next next' back back' x head body to_next to_back c n b m stays begin p =
+    hops_swap back' next' x body to_back to_next (next_begins back back' next next' x head body to_back to_next c b n m stays begin (hops_swap next back x body to_next to_back p))
 
 -- a refusal is put in the message's place
 
-abbrev pub UntouchedGives : (Seen → List ℕ → List ℕ → List ℕ → Type 0) → Type 0
-UntouchedGives given = (x : Seen) (head body taken : List ℕ) → given x head body taken → (taken ≡ []) × (x.original_delivered ≡ 0) × (x.adapted_delivered ≡ 0)
+abbrev pub UntouchedGives : WriterView → Type 0
+UntouchedGives own = (x : Seen) (head body taken : List ℕ) → own.given x head body taken → (taken ≡ []) × (x.original_delivered ≡ 0) × (x.adapted_delivered ≡ 0)
 
-pub next_refuses : (ng ng' bg : Gift) (go gn bgiven : Seen → List ℕ → List ℕ → List ℕ → Type 0) (ao an baside : List ℕ → Type 0) (x : Seen) (body next back : List ℕ)
-    → x.closed ≡ true → UntouchedGives go → ((taken : List ℕ) → ao taken → taken ≡ []) → an []
-    → HopsAre ng bg go ao bgiven baside x body next back → HopsAre ng' bg gn an bgiven baside x body next back
-next_refuses ng ng' bg go gn bgiven ao an baside x body next back c given aside none p =
+pub next_refuses : (next next' back : WriterView) (x : Seen) (body to_next to_back : List ℕ)
+    → x.closed ≡ true → UntouchedGives next → ((taken : List ℕ) → next.aside taken → taken ≡ []) → next'.aside []
+    → HopsAre next back x body to_next to_back → HopsAre next' back x body to_next to_back
+next_refuses next next' back x body to_next to_back c given aside none p =
     elim p [
-      | inl idle ↦ inr (inr (inr (record { over = c; none = idle.none; next_aside_is = empty next (aside next idle.next_aside_is); back_aside_is = idle.back_aside_is })))
+      | inl idle ↦ inr (inr (inr (record { over = c; none = idle.none; next_aside_is = empty to_next (aside to_next idle.next_aside_is); back_aside_is = idle.back_aside_is })))
       | inr (inl on) ↦
-          (let w = given x on.head body next on.given_is in inr (inr (inr (record { over = c; none = (w.1, w.2); next_aside_is = empty next w.0; back_aside_is = on.aside_is }))))
+          (let w = given x on.head body to_next on.given_is in inr (inr (inr (record { over = c; none = (w.1, w.2); next_aside_is = empty to_next w.0; back_aside_is = on.aside_is }))))
       | inr (inr (inl on)) ↦ inr (inr (inl (record {
         begun = on.begun;
         alone = λ w. absurd (false≢true (sym w ∙ c));
         head = on.head;
         given_is = on.given_is;
-        aside_is = empty next (aside next on.aside_is);
+        aside_is = empty to_next (aside to_next on.aside_is);
       })))
-      | inr (inr (inr over)) ↦ inr (inr (inr (record { over = c; none = over.none; next_aside_is = empty next (aside next over.next_aside_is); back_aside_is = over.back_aside_is })))
+      | inr (inr (inr over)) ↦ inr (inr (inr (record { over = c; none = over.none; next_aside_is = empty to_next (aside to_next over.next_aside_is); back_aside_is = over.back_aside_is })))
     ]
   where
-    empty : (taken : List ℕ) → taken ≡ [] → an taken
-    empty taken e = subst an (sym e) none
+    empty : (taken : List ℕ) → taken ≡ [] → next'.aside taken
+    empty taken e = subst next'.aside (sym e) none
 
-pub back_refuses : (ng bg bg' : Gift) (go gn ngiven : Seen → List ℕ → List ℕ → List ℕ → Type 0) (ao an naside : List ℕ → Type 0) (x : Seen) (body next back : List ℕ)
-    → x.closed ≡ true → UntouchedGives go → ((taken : List ℕ) → ao taken → taken ≡ []) → an []
-    → HopsAre ng bg ngiven naside go ao x body next back → HopsAre ng bg' ngiven naside gn an x body next back
-back_refuses ng bg bg' go gn ngiven ao an naside x body next back c given aside none p =
-    hops_swap bg' ng gn ngiven an naside x body back next (next_refuses bg bg' ng go gn ngiven ao an naside x body back next c given aside none (hops_swap ng bg ngiven go naside ao x body next back p))
+pub back_refuses : (next back back' : WriterView) (x : Seen) (body to_next to_back : List ℕ)
+    → x.closed ≡ true → UntouchedGives back → ((taken : List ℕ) → back.aside taken → taken ≡ []) → back'.aside []
+    → HopsAre next back x body to_next to_back → HopsAre next back' x body to_next to_back
+back_refuses next back back' x body to_next to_back c given aside none p =
+    hops_swap back' next x body to_back to_next (next_refuses back back' next x body to_back to_next c given aside none (hops_swap next back x body to_next to_back p))
 
 -- more of a refusal goes out
 
-pub next_refuses_on : (ng ng' bg : Gift) (go gn bgiven : Seen → List ℕ → List ℕ → List ℕ → Type 0) (ao an baside : List ℕ → Type 0) (x : Seen) (body next back delta : List ℕ)
-    → (ng ≡ message → ⊥) → ng' ≡ ng → ((taken : List ℕ) → ao taken → an (taken ++ delta))
-    → HopsAre ng bg go ao bgiven baside x body next back → HopsAre ng' bg gn an bgiven baside x body (next ++ delta) back
-next_refuses_on ng ng' bg go gn bgiven ao an baside x body next back delta un same aside p =
+pub next_refuses_on : (next next' back : WriterView) (x : Seen) (body to_next to_back delta : List ℕ)
+    → (next.gift ≡ message → ⊥) → next'.gift ≡ next.gift → ((taken : List ℕ) → next.aside taken → next'.aside (taken ++ delta))
+    → HopsAre next back x body to_next to_back → HopsAre next' back x body (to_next ++ delta) to_back
+next_refuses_on next next' back x body to_next to_back delta un same aside p =
     elim p [
-      | inl idle ↦ inl (record { next_is = same ∙ idle.next_is; back_is = idle.back_is; none = idle.none; next_aside_is = aside next idle.next_aside_is; back_aside_is = idle.back_aside_is })
+      | inl idle ↦ inl (record { next_is = same ∙ idle.next_is; back_is = idle.back_is; none = idle.none; next_aside_is = aside to_next idle.next_aside_is; back_aside_is = idle.back_aside_is })
       | inr (inl on) ↦ absurd (un on.begun)
-      | inr (inr (inl on)) ↦ inr (inr (inl (record { begun = on.begun; alone = λ w. same ∙ on.alone w; head = on.head; given_is = on.given_is; aside_is = aside next on.aside_is })))
-      | inr (inr (inr over)) ↦ inr (inr (inr (record { over = over.over; none = over.none; next_aside_is = aside next over.next_aside_is; back_aside_is = over.back_aside_is })))
+      | inr (inr (inl on)) ↦ inr (inr (inl (record { begun = on.begun; alone = λ w. same ∙ on.alone w; head = on.head; given_is = on.given_is; aside_is = aside to_next on.aside_is })))
+      | inr (inr (inr over)) ↦ inr (inr (inr (record { over = over.over; none = over.none; next_aside_is = aside to_next over.next_aside_is; back_aside_is = over.back_aside_is })))
     ]
 
-pub back_refuses_on : (ng bg bg' : Gift) (go gn ngiven : Seen → List ℕ → List ℕ → List ℕ → Type 0) (ao an naside : List ℕ → Type 0) (x : Seen) (body next back delta : List ℕ)
-    → (bg ≡ message → ⊥) → bg' ≡ bg → ((taken : List ℕ) → ao taken → an (taken ++ delta))
-    → HopsAre ng bg ngiven naside go ao x body next back → HopsAre ng bg' ngiven naside gn an x body next (back ++ delta)
-back_refuses_on ng bg bg' go gn ngiven ao an naside x body next back delta un same aside p =
-    hops_swap bg' ng gn ngiven an naside x body (back ++ delta) next (next_refuses_on bg bg' ng go gn ngiven ao an naside x body back next delta un same aside (hops_swap ng bg ngiven go naside ao x body next back p))
+pub back_refuses_on : (next back back' : WriterView) (x : Seen) (body to_next to_back delta : List ℕ)
+    → (back.gift ≡ message → ⊥) → back'.gift ≡ back.gift → ((taken : List ℕ) → back.aside taken → back'.aside (taken ++ delta))
+    → HopsAre next back x body to_next to_back → HopsAre next back' x body to_next (to_back ++ delta)
+back_refuses_on next back back' x body to_next to_back delta un same aside p =
+    hops_swap back' next x body (to_back ++ delta) to_next (next_refuses_on back back' next x body to_back to_next delta un same aside (hops_swap next back x body to_next to_back p))

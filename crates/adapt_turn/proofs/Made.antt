@@ -10,12 +10,13 @@ use Rattle.trace_core.specs.Legal.{Allows, IsLegal, MayFollow}
 use Rattle.trace_core.specs.View.{after}
 use Rattle.trace_core.specs.Turns.{after_all, MayAllFollow}
 use Rattle.trace_core.proofs.Sound.{sound}
-use Rattle.adapt_sides.specs.Turns.{Gift}
+use Rattle.adapt_sides.specs.declared.hop.Hop.{Ghosts as Hop}
+use Rattle.adapt_sides.specs.declared.service.Service.{Ghosts as Service}
 use Rattle.adapt_sides.specs.Turns.Gift.{nothing, message}
 use Rattle.adapt_turn.specs.declared.ends.ServiceEnd.{ServiceEnd}
 use Rattle.adapt_hold.specs.Holding.{shows}
-use Rattle.adapt_turn.specs.Stands.{HopsAre, IsChosen}
-use Rattle.adapt_turn.specs.Made.{IsMade, OfHead, MakesAt, adapted_of, response_of}
+use Rattle.adapt_turn.specs.Stands.{HopsAre, IsChosen, writer_of}
+use Rattle.adapt_turn.specs.Made.{IsMade, MakesAt, adapted_of, response_of}
 
 -- it stays so with each event
 abbrev pub KeepsMade : (Seen → List ℕ → Type 0) → Type 0
@@ -87,59 +88,50 @@ made_told makes a a' r r' framing x head same m = record {
       (λ e. same (subst (λ (y : Seen). y.modified ≡ true) (sym m.now) (still_modified m.since (seen x.plan m.before) e))) m.made;
 }
 
--- so the message on a wire keeps its head
-pub hops_told : (ng bg : Gift) (nm nm' bm bm' : Seen → List ℕ → Type 0) (ngiven bgiven : Seen → List ℕ → List ℕ → List ℕ → Type 0) (naside baside : List ℕ → Type 0) (x : Seen) (body next back : List ℕ)
-    → ((head : List ℕ) → nm x head → nm' x head) → ((head : List ℕ) → bm x head → bm' x head)
-    → HopsAre ng bg (OfHead nm ngiven) naside (OfHead bm bgiven) baside x body next back → HopsAre ng bg (OfHead nm' ngiven) naside (OfHead bm' bgiven) baside x body next back
-hops_told ng bg nm nm' bm bm' ngiven bgiven naside baside x body next back f g p =
-    elim p [
-      | inl none ↦ inl none
-      | inr (inl on) ↦ inr (inl (record { begun = on.begun; alone = on.alone; head = on.head; given_is = (f on.head on.given_is.0, on.given_is.1); aside_is = on.aside_is }))
-      | inr (inr (inl on)) ↦ inr (inr (inl (record { begun = on.begun; alone = on.alone; head = on.head; given_is = (g on.head on.given_is.0, on.given_is.1); aside_is = on.aside_is })))
-      | inr (inr (inr over)) ↦ inr (inr (inr over))
-    ]
-
 -- The same of a transaction's two writers, by its maker, its source's head and its service's line.
 
-abbrev pub made_by : {Head Framing V W K : Type 0} → (Head → Seen → Option (List ℕ) → Bool → List ℕ → Framing → Type 0) → (K → Framing) → (V → Option (List ℕ)) → (V → Bool) → Head → Option (ServiceEnd V W) → K → Seen → List ℕ → Type 0
-made_by makes framing adapted_head is_response source line k x head = IsMade (makes source) (adapted_of adapted_head line) (response_of is_response line) (framing k) x head
+abbrev pub made_by : {Head G V W K : Type 0} → Hop K G → Service V → (Head → Seen → Option (List ℕ) → Bool → List ℕ → G → Type 0) → Head → Option (ServiceEnd V W) → K → Seen → List ℕ → Type 0
+made_by k v makes source line hop x head = IsMade (makes source) (adapted_of v.adapted_head line) (response_of v.is_response line) (k.body_framing hop) x head
 
-abbrev pub hops_of : {K : Type 0} → (K → Gift) → (Seen → List ℕ → List ℕ → List ℕ → K → Type 0) → (List ℕ → K → Type 0) → (K → Seen → List ℕ → Type 0) → K → K → Seen → List ℕ → List ℕ → List ℕ → Type 0
-hops_of gift given aside made next back = HopsAre (gift next) (gift back)
-    (OfHead (made next) (λ x head body taken. given x head body taken next)) (λ taken. aside taken next)
-    (OfHead (made back) (λ x head body taken. given x head body taken back)) (λ taken. aside taken back)
+abbrev pub hops_of : {K G : Type 0} → Hop K G → (made : K → Seen → List ℕ → Type 0) → (next back : K) → Seen → List ℕ → List ℕ → List ℕ → Type 0
+hops_of k made next back = HopsAre (writer_of k (made next) next) (writer_of k (made back) back)
 
-pub heads_then : {K : Type 0} (gift : K → Gift) (given : Seen → List ℕ → List ℕ → List ℕ → K → Type 0) (aside : List ℕ → K → Type 0) (made made' : K → Seen → List ℕ → Type 0) (next back : K) (x : Seen)
-    → ((k : K) (head : List ℕ) → made k x head → made' k x head) → (body taken elsewhere : List ℕ)
-    → hops_of gift given aside made next back x body taken elsewhere → hops_of gift given aside made' next back x body taken elsewhere
-heads_then gift given aside made made' next back x f body taken elsewhere p =
-    hops_told (gift next) (gift back) (made next) (made' next) (made back) (made' back) (λ y head bs cs. given y head bs cs next) (λ y head bs cs. given y head bs cs back)
-    (λ cs. aside cs next) (λ cs. aside cs back) x body taken elsewhere (f next) (f back) p
+-- the message on a wire keeps its head
+pub heads_then : {K G : Type 0} (k : Hop K G) (made made' : K → Seen → List ℕ → Type 0) (next back : K) (x : Seen)
+    → ((hop : K) (head : List ℕ) → made hop x head → made' hop x head) → (body to_next to_back : List ℕ)
+    → hops_of k made next back x body to_next to_back → hops_of k made' next back x body to_next to_back
+heads_then k made made' next back x f body to_next to_back p =
+    elim p [
+      | inl none ↦ inl (record { next_is = none.next_is; back_is = none.back_is; none = none.none; next_aside_is = none.next_aside_is; back_aside_is = none.back_aside_is })
+      | inr (inl on) ↦ inr (inl (record { begun = on.begun; alone = on.alone; head = on.head; given_is = (f next on.head on.given_is.0, on.given_is.1); aside_is = on.aside_is }))
+      | inr (inr (inl on)) ↦ inr (inr (inl (record { begun = on.begun; alone = on.alone; head = on.head; given_is = (f back on.head on.given_is.0, on.given_is.1); aside_is = on.aside_is })))
+      | inr (inr (inr over)) ↦ inr (inr (inr (record { over = over.over; none = over.none; next_aside_is = over.next_aside_is; back_aside_is = over.back_aside_is })))
+    ]
 
 -- where nothing is begun, no head counts
-pub heads_idle : {K : Type 0} (gift : K → Gift) (given : Seen → List ℕ → List ℕ → List ℕ → K → Type 0) (aside : List ℕ → K → Type 0) (made made' : K → Seen → List ℕ → Type 0) (next back : K) (x : Seen)
-    → x.closed ≡ false → gift next ≡ nothing → gift back ≡ nothing → (body taken elsewhere : List ℕ)
-    → hops_of gift given aside made next back x body taken elsewhere → hops_of gift given aside made' next back x body taken elsewhere
-heads_idle gift given aside made made' next back x c n b body taken elsewhere p =
+pub heads_idle : {K G : Type 0} (k : Hop K G) (made made' : K → Seen → List ℕ → Type 0) (next back : K) (x : Seen)
+    → x.closed ≡ false → k.gift next ≡ nothing → k.gift back ≡ nothing → (body to_next to_back : List ℕ)
+    → hops_of k made next back x body to_next to_back → hops_of k made' next back x body to_next to_back
+heads_idle k made made' next back x c n b body to_next to_back p =
     elim p [
-      | inl none ↦ inl none
+      | inl none ↦ inl (record { next_is = none.next_is; back_is = none.back_is; none = none.none; next_aside_is = none.next_aside_is; back_aside_is = none.back_aside_is })
       | inr (inl on) ↦ absurd (let e : nothing ≡ message = sym n ∙ on.begun in cc)
       | inr (inr (inl on)) ↦ absurd (let e : nothing ≡ message = sym b ∙ on.begun in cc)
       | inr (inr (inr over)) ↦ absurd (false≢true (sym c ∙ over.over))
     ]
 
 -- the source keeps its head
-pub source_heads : {Head Framing V W K : Type 0} (makes : Head → Seen → Option (List ℕ) → Bool → List ℕ → Framing → Type 0) (framing : K → Framing) (adapted_head : V → Option (List ℕ)) (is_response : V → Bool)
-    (s s' : Head) (line : Option (ServiceEnd V W)) (x : Seen) → s' ≡ s → (k : K) (head : List ℕ) → made_by makes framing adapted_head is_response s line k x head → made_by makes framing adapted_head is_response s' line k x head
-source_heads {Head} makes framing adapted_head is_response s s' line x e k head m = subst (λ (z : Head). made_by makes framing adapted_head is_response z line k x head) (sym e) m
+pub source_heads : {Head G V W K : Type 0} (k : Hop K G) (v : Service V) (makes : Head → Seen → Option (List ℕ) → Bool → List ℕ → G → Type 0)
+    (s s' : Head) (line : Option (ServiceEnd V W)) (x : Seen) → s' ≡ s → (hop : K) (head : List ℕ) → made_by k v makes s line hop x head → made_by k v makes s' line hop x head
+source_heads {Head} k v makes s s' line x e hop head m = subst (λ (z : Head). made_by k v makes z line hop x head) (sym e) m
 
 -- the service's side keeps its own, once its message is chosen
-pub line_heads : {Head Framing V W K : Type 0} (makes : Head → Seen → Option (List ℕ) → Bool → List ℕ → Framing → Type 0) (framing : K → Framing) (adapted_head : V → Option (List ℕ)) (is_response : V → Bool)
-    (s : Head) (line : Option (ServiceEnd V W)) (l m : ServiceEnd V W) (x : Seen) → line ≡ Some l → (x.modified ≡ true → adapted_head m.side ≡ adapted_head l.side) → (x.modified ≡ true → is_response m.side ≡ is_response l.side)
-    → (k : K) (head : List ℕ) → made_by makes framing adapted_head is_response s line k x head → made_by makes framing adapted_head is_response s (Some m) k x head
-line_heads {Head} {Framing} {V} {W} makes framing adapted_head is_response s line l m x e f g k head p =
-    made_told (makes s) (adapted_head l.side) (adapted_head m.side) (is_response l.side) (is_response m.side) (framing k) x head (λ c. (f c, g c))
-    (subst (λ (z : Option (ServiceEnd V W)). made_by makes framing adapted_head is_response s z k x head) e p)
+pub line_heads : {Head G V W K : Type 0} (k : Hop K G) (v : Service V) (makes : Head → Seen → Option (List ℕ) → Bool → List ℕ → G → Type 0)
+    (s : Head) (line : Option (ServiceEnd V W)) (l m : ServiceEnd V W) (x : Seen) → line ≡ Some l → (x.modified ≡ true → v.adapted_head m.side ≡ v.adapted_head l.side) → (x.modified ≡ true → v.is_response m.side ≡ v.is_response l.side)
+    → (hop : K) (head : List ℕ) → made_by k v makes s line hop x head → made_by k v makes s (Some m) hop x head
+line_heads {Head} {G} {V} {W} k v makes s line l m x e f g hop head p =
+    made_told (makes s) (v.adapted_head l.side) (v.adapted_head m.side) (v.is_response l.side) (v.is_response m.side) (k.body_framing hop) x head (λ c. (f c, g c))
+    (subst (λ (z : Option (ServiceEnd V W)). made_by k v makes s z hop x head) e p)
 
 -- before a byte of a reply no adapted message is chosen
 

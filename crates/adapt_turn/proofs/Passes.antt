@@ -476,10 +476,8 @@ hop_took k w old new history tape turn events passed r c chooses he te e b0 is w
       reported = turn.events.items;
       part = took_part turn b.delta went b.wire b.only (hop_runs h turn.events.items r b.legal b.only)
           (λ d. (refl, d)) (λ d. d.1) b.waiting (is ∙ ap (λ (es : List Event). moved_all h es []) e) (b.fault.sound turn refl);
-      gives = record {
-        goes_on = λ original adapted head taken f g given. b.goes_on c head (chosen (shows h.history) original adapted) taken (follows_span tape (chosen_span h) _ te (ends_chosen h original adapted chooses f g)) given;
-        done = λ original adapted head taken f g over given. b.done c over head (chosen (shows h.history) original adapted) taken (follows_span tape (chosen_span h) _ te (ends_chosen h original adapted chooses f g)) given;
-      };
+      goes_on = λ original adapted head taken f g given. b.goes_on c head (chosen (shows h.history) original adapted) taken (follows_span tape (chosen_span h) _ te (ends_chosen h original adapted chooses f g)) given;
+      done = λ original adapted head taken f g over given. b.done c over head (chosen (shows h.history) original adapted) taken (follows_span tape (chosen_span h) _ te (ends_chosen h original adapted chooses f g)) given;
     }
 
 pub hop_failed : {K G W : Type 0} (k : Hop K G) (w : Wire W) (old new : Lent K W) (history : History) (tape : Tape) (fault : RelayFault) (cause : Cause) (passed : Passed)
@@ -494,10 +492,8 @@ hop_failed k w old new history tape fault cause passed r c chooses he te b0 own 
       reported = [];
       part = failed_part fault [] b.delta (did ∙ ap (λ (y : Cause). record { waiting = false; failed = Some y; broken = false }) own) b.wire
           (b.fault.stays fault refl) r c (is ∙ ap (λ (y : Cause). moved h (Fail y) []) own);
-      gives = record {
-        goes_on = λ original adapted head taken f g given. b.goes_on c head (chosen (shows h.history) original adapted) taken (follows_span tape (chosen_span h) _ te (ends_chosen h original adapted chooses f g)) given;
-        done = λ original adapted head taken f g over given. absurd (false≢true (sym c ∙ over));
-      };
+      goes_on = λ original adapted head taken f g given. b.goes_on c head (chosen (shows h.history) original adapted) taken (follows_span tape (chosen_span h) _ te (ends_chosen h original adapted chooses f g)) given;
+      done = λ original adapted head taken f g over given. absurd (false≢true (sym c ∙ over));
     }
 
 -- the service's fault where the request might not begin anew

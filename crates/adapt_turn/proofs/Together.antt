@@ -17,7 +17,8 @@ use Rattle.wire_kit.specs.declared.wire.Wire.{Ghosts as Wire}
 use Rattle.adapt_sides.specs.declared.source.Source.{Ghosts as Source}
 use Rattle.adapt_sides.specs.declared.service.Service.{Ghosts as Service}
 use Rattle.adapt_sides.specs.Tapes.{chosen, IsUndelivered}
-use Rattle.adapt_sides.specs.Turns.{Gift, Given, given_then}
+use Rattle.adapt_sides.specs.declared.hop.Hop.{Ghosts as Hop}
+use Rattle.adapt_sides.specs.Turns.{Given, given_then}
 use Rattle.adapt_sides.specs.Turns.Gift.{nothing, message}
 use Rattle.adapt_hold.specs.Spans.{Span, EndsBody}
 use Rattle.adapt_hold.specs.Holding.{Holding, IsTied, IsRoomy, shows, moved}
@@ -25,13 +26,13 @@ use Rattle.adapt_turn.specs.declared.steps.Passed.{Passed}
 use Rattle.adapt_turn.specs.declared.ends.ServiceEnd.{ServiceEnd}
 use Rattle.adapt_turn.specs.Parts.{Lent, SourcePart, SendPart, HearPart}
 use Rattle.adapt_turn.specs.Passes.{Disagrees, SourcePasses, WritesDue, ReadsReplies, ServicePasses, LinePasses, line_of}
-use Rattle.adapt_turn.specs.Stands.{Texts, joined, no_texts, Stands, Pasts, Goes, HopsAre, IsRefusing, IsDelivered, IsDone}
-use Rattle.adapt_turn.specs.Made.{OfHead, on_held}
+use Rattle.adapt_turn.specs.Stands.{Texts, joined, no_texts, SideViews, writer_of, Stands, Pasts, Goes, HopsAre, IsRefusing, IsDelivered, IsDone}
+use Rattle.adapt_turn.specs.Made.{on_held, adapted_of, response_of}
 use Rattle.adapt_turn.proofs.Carry.{off_sending, off_replies, not_true, both_not}
 use Rattle.adapt_turn.proofs.Passes.{fail_runs}
-use Rattle.adapt_turn.proofs.Advance.{Others, sent_by, heard_by, source_stands, send_stands, hear_stands, fail_stands, retry_stands}
+use Rattle.adapt_turn.proofs.Advance.{Others, with_source, with_service, with_writers, source_stands, send_stands, hear_stands, fail_stands, retry_stands}
 use Rattle.adapt_turn.proofs.Hops.{other_idle, hops_others}
-use Rattle.adapt_turn.proofs.Made.{KeepsMade}
+use Rattle.adapt_turn.proofs.Made.{KeepsMade, made_by, made_on}
 
 -- The laws of the three sides, together.
 
@@ -56,39 +57,67 @@ heard_line has_heard law None x event adapted text o p = p
 heard_line has_heard law (Some l) x event adapted text o p =
     let w = both_not (is_of_replies event) (is_retry event) o in law x event adapted text l.side w.0 w.1 p
 
-pub others_of : {S V W K : Type 0} (agrees : Seen → S → Type 0) (has_read : Seen → List ℕ → Given → S → Type 0) (has_sent : List ℕ → Seen → List ℕ → List ℕ → V → Type 0) (has_heard : Seen → List ℕ → List ℕ → V → Type 0)
-    (has_given : Seen → List ℕ → List ℕ → List ℕ → K → Type 0) (gift : K → Gift) (aside : List ℕ → K → Type 0) (made : K → Seen → List ℕ → Type 0)
-    → ((x : Seen) (event : Event) (s : S) → is_of_source event ≡ false → agrees x s → agrees (after x event) s)
-    → ((x : Seen) (event : Event) (body : List ℕ) (text : Given) (s : S) → is_of_source event ≡ false → has_read x body text s → has_read (after x event) body text s)
-    → ((heads : List ℕ) (x : Seen) (event : Event) (came bytes taken : List ℕ) (s : V) → is_of_sending event ≡ false → is_retry event ≡ false
-    → length came ≡ x.received → length bytes ≡ in_bytes event → has_sent heads x came taken s → has_sent heads (after x event) (came ++ bytes) taken s)
-    → ((x : Seen) (event : Event) (adapted text : List ℕ) (s : V) → is_of_replies event ≡ false → is_retry event ≡ false → has_heard x adapted text s → has_heard (after x event) adapted text s)
-    → ((plan : Plan) (before : List Event) (event : Event) (head original adapted bytes more taken : List ℕ) (s : K)
+-- the service's line, where there is one
+
+abbrev pub sent_on : {V W : Type 0} → Service V → Option (ServiceEnd V W) → List ℕ → Seen → List ℕ → List ℕ → Type 0
+sent_on v line heads x came taken = MatchOption line (taken ≡ []) (λ l. v.has_sent heads x came taken l.side)
+
+abbrev pub heard_on : {V W : Type 0} → Service V → Option (ServiceEnd V W) → Seen → List ℕ → List ℕ → Type 0
+heard_on v line x adapted text = MatchOption line ((adapted ≡ []) × (text ≡ [])) (λ l. v.has_heard x adapted text l.side)
+
+abbrev pub past_on : {V W : Type 0} → Wire W → Option (ServiceEnd V W) → Past → Type 0
+past_on w line p = on_held line ⊥ (λ wire. w.past wire p)
+
+abbrev pub with_line : {V W : Type 0} → Service V → Option (ServiceEnd V W) → SideViews → SideViews
+with_line v line sides = record sides { sent = sent_on v line; heard = heard_on v line }
+
+abbrev pub with_hops : {K G : Type 0} → Hop K G → (made : K → Seen → List ℕ → Type 0) → SideViews → (next back : K) → SideViews
+with_hops k made sides next back = record sides { next = writer_of k (made next) next; back = writer_of k (made back) back }
+
+-- what the sides of a transaction say, where these are the heads that are made
+abbrev pub views_of : {S H V W K G : Type 0} → Source S H → Service V → Hop K G → (made : K → Seen → List ℕ → Type 0) → S → Option (ServiceEnd V W) → (next back : K) → (refusing : Bool) → SideViews
+views_of s v k made source line next back refusing = record {
+  agrees = λ x. s.agrees x source;
+  read = λ x body text. s.has_read x body text source;
+  sent = sent_on v line;
+  heard = heard_on v line;
+  next = writer_of k (made next) next;
+  back = writer_of k (made back) back;
+  refusing = refusing;
+}
+
+-- where this maker makes them, of the heads that were read
+abbrev pub views_by : {S H V W K G : Type 0} → Source S H → Service V → Hop K G → (H → Seen → Option (List ℕ) → Bool → List ℕ → G → Type 0) → S → Option (ServiceEnd V W) → (next back : K) → (refusing : Bool) → SideViews
+views_by s v k makes source line next back refusing = views_of s v k (made_by k v makes (s.head source) line) source line next back refusing
+
+pub others_by : {S H V W K G : Type 0} (s : Source S H) (v : Service V) (k : Hop K G) (makes : H → Seen → Option (List ℕ) → Bool → List ℕ → G → Type 0)
+    → ((x : Seen) (event : Event) (side : S) → is_of_source event ≡ false → s.agrees x side → s.agrees (after x event) side)
+    → ((x : Seen) (event : Event) (body : List ℕ) (text : Given) (side : S) → is_of_source event ≡ false → s.has_read x body text side → s.has_read (after x event) body text side)
+    → ((heads : List ℕ) (x : Seen) (event : Event) (came bytes taken : List ℕ) (side : V) → is_of_sending event ≡ false → is_retry event ≡ false
+    → length came ≡ x.received → length bytes ≡ in_bytes event → v.has_sent heads x came taken side → v.has_sent heads (after x event) (came ++ bytes) taken side)
+    → ((x : Seen) (event : Event) (adapted text : List ℕ) (side : V) → is_of_replies event ≡ false → is_retry event ≡ false → v.has_heard x adapted text side → v.has_heard (after x event) adapted text side)
+    → ((plan : Plan) (before : List Event) (event : Event) (head original adapted bytes more taken : List ℕ) (side : K)
     → IsLegal plan (event ∷ before) → is_of_hop event ≡ false
     → length original ≡ (seen plan before).received → length adapted ≡ (seen plan before).adapted_received
     → length bytes ≡ in_bytes event → length more ≡ ad_bytes event
-    → has_given (seen plan before) head (chosen (seen plan before) original adapted) taken s
-    → has_given (seen plan (event ∷ before)) head (chosen (seen plan (event ∷ before)) (original ++ bytes) (adapted ++ more)) taken s)
-    → ((s : K) → KeepsMade (made s))
-    → (source : S) (line : Option (ServiceEnd V W)) (next back : K) (refusing : Bool)
-    → Others (λ x. agrees x source) (λ x body text. has_read x body text source)
-    (λ heads x came taken. MatchOption line (taken ≡ []) (λ l. has_sent heads x came taken l.side))
-    (λ x adapted text. MatchOption line ((adapted ≡ []) × (text ≡ [])) (λ l. has_heard x adapted text l.side))
-    (HopsAre (gift next) (gift back) (OfHead (made next) (λ x head body taken. has_given x head body taken next)) (λ taken. aside taken next)
-    (OfHead (made back) (λ x head body taken. has_given x head body taken back)) (λ taken. aside taken back))
-    (IsRefusing refusing (gift next) (gift back))
-others_of agrees has_read has_sent has_heard has_given gift aside made la lr ls lh lg lm source line next back refusing = record {
+    → k.has_given (seen plan before) head (chosen (seen plan before) original adapted) taken side
+    → k.has_given (seen plan (event ∷ before)) head (chosen (seen plan (event ∷ before)) (original ++ bytes) (adapted ++ more)) taken side)
+    → (source : S) (line : Option (ServiceEnd V W)) (next back : K) (refusing : Bool) → Others (views_by s v k makes source line next back refusing)
+others_by s v k makes la lr ls lh lg source line next back refusing = record {
   agrees_on = λ x event o a. la x event source (not_true (is_of_source event) o) a;
   read_on = λ x event body text o p. lr x event body text source (not_true (is_of_source event) o) p;
-  sent_on = λ heads x event came bytes taken o n m p. sent_line (has_sent heads) (ls heads) line x event came bytes taken o n m p;
-  heard_on = λ x event adapted text o p. heard_line has_heard lh line x event adapted text o p;
-  hops_on = hops_others (gift next) (gift back) (OfHead (made next) (λ x head body taken. has_given x head body taken next)) (OfHead (made back) (λ x head body taken. has_given x head body taken back)) (λ taken. aside taken next) (λ taken. aside taken back)
+  sent_on = λ heads x event came bytes taken o n m p. sent_line (v.has_sent heads) (ls heads) line x event came bytes taken o n m p;
+  heard_on = λ x event adapted text o p. heard_line v.has_heard lh line x event adapted text o p;
+  hops_on = hops_others (writer_of k (made_by k v makes (s.head source) line next) next) (writer_of k (made_by k v makes (s.head source) line back) back)
       (λ plan before event head original adapted bytes more taken l o a b c d p.
-      (lm next (seen plan before) event head l.0.0 l.0.1 p.0, lg plan before event head original adapted bytes more taken next l o a b c d p.1))
+      (keep next (seen plan before) event head l.0.0 l.0.1 p.0, lg plan before event head original adapted bytes more taken next l o a b c d p.1))
       (λ plan before event head original adapted bytes more taken l o a b c d p.
-      (lm back (seen plan before) event head l.0.0 l.0.1 p.0, lg plan before event head original adapted bytes more taken back l o a b c d p.1));
+      (keep back (seen plan before) event head l.0.0 l.0.1 p.0, lg plan before event head original adapted bytes more taken back l o a b c d p.1));
   refuses_on = λ x event r. (λ e. let w = r.0 e in (stays_closed (is_close event) x.closed w.0, w.1), r.1, r.2);
 }
+  where
+    keep : (hop : K) → KeepsMade (made_by k v makes (s.head source) line hop)
+    keep hop = made_on (makes (s.head source)) (adapted_of v.adapted_head line) (response_of v.is_response line) (k.body_framing hop)
 
 -- Wires.
 
@@ -185,12 +214,13 @@ goes_then {s0} {s1} {s2} f g = record {
 
 -- The passes.
 
--- the same, with what the writers say now
-pub rehop : (h : Holding) (agrees : Seen → Type 0) (read : Seen → List ℕ → Given → Type 0) (sent : List ℕ → Seen → List ℕ → List ℕ → Type 0) (heard : Seen → List ℕ → List ℕ → Type 0) (hops hops' : Seen → List ℕ → List ℕ → List ℕ → Type 0) (refuses refuses' : Seen → Type 0) (done done' : List ℕ → List ℕ → List ℕ → Type 0) (request : List ℕ) (t : Texts) (n b : List ℕ)
-    → ((body : List ℕ) → hops (shows h.history) body t.next_taken t.back_taken → hops' (shows h.history) body n b) → (refuses (shows h.history) → refuses' (shows h.history))
-    → (IsDone h.history → (body : List ℕ) → done body t.next_taken t.back_taken → done' body n b)
-    → Stands h agrees read sent heard hops refuses done request t → Stands h agrees read sent heard hops' refuses' done' request (record t { next_taken = n; back_taken = b })
-rehop h agrees read sent heard hops hops' refuses refuses' done done' request t n b f g w s = record {
+-- what stands, with what the writers say now
+pub rehop : (h : Holding) (writers sides : SideViews) (request : List ℕ) (t : Texts) (n b : List ℕ)
+    → ((body : List ℕ) → HopsAre sides.next sides.back (shows h.history) body t.next_taken t.back_taken → HopsAre writers.next writers.back (shows h.history) body n b)
+    → (IsRefusing sides.refusing sides.next sides.back (shows h.history) → IsRefusing writers.refusing writers.next writers.back (shows h.history))
+    → (IsDone h.history → (body : List ℕ) → IsDelivered sides.refusing sides.next sides.back (shows h.history) body t.next_taken t.back_taken → IsDelivered writers.refusing writers.next writers.back (shows h.history) body n b)
+    → Stands h sides request t → Stands h (with_writers writers sides) request (record t { next_taken = n; back_taken = b })
+rehop h writers sides request t n b f g w s = record {
   original = s.original;
   adapted = s.adapted;
   original_is = s.original_is;
@@ -204,128 +234,109 @@ rehop h agrees read sent heard hops hops' refuses refuses' done done' request t 
   done_is = λ d. w d (chosen (shows h.history) s.original s.adapted) (s.done_is d);
 }
 
--- the same of an open history, whatever stands where one is done
-pub reopen : (h : Holding) (agrees : Seen → Type 0) (read : Seen → List ℕ → Given → Type 0) (sent : List ℕ → Seen → List ℕ → List ℕ → Type 0) (heard : Seen → List ℕ → List ℕ → Type 0) (hopso hops : Seen → List ℕ → List ℕ → List ℕ → Type 0) (refuses : Seen → Type 0) (done delivered : List ℕ → List ℕ → List ℕ → Type 0) (request : List ℕ) (t : Texts)
-    → (shows h.history).closed ≡ false → ((body next back : List ℕ) → hopso (shows h.history) body next back → hops (shows h.history) body next back)
-    → Stands h agrees read sent heard hopso refuses done request t → Stands h agrees read sent heard hops refuses delivered request t
-reopen h agrees read sent heard hopso hops refuses done delivered request t c f s =
-    rehop h agrees read sent heard hopso hops refuses refuses done delivered request t t.next_taken t.back_taken (λ body p. f body t.next_taken t.back_taken p) (λ r. r) (λ w body p. absurd (false≢true (sym c ∙ w.0))) s
+-- what the writers said they say of what is seen here, as long as the history is open
+pub record Rehops (x : Seen) (sides writers : SideViews) : Type 0 where
+  pub hops : (body to_next to_back : List ℕ) → HopsAre sides.next sides.back x body to_next to_back → HopsAre writers.next writers.back x body to_next to_back
+  pub refuses : IsRefusing sides.refusing sides.next sides.back x → IsRefusing writers.refusing writers.next writers.back x
 
-source_goes : {S H W : Type 0} (s : Source S H) (w : Wire W) (old new : Lent S W) (sent : List ℕ → Seen → List ℕ → List ℕ → Type 0) (heard : Seen → List ℕ → List ℕ → Type 0) (hopso hops : Seen → List ℕ → List ℕ → List ℕ → Type 0) (refuses : Seen → Type 0) (done delivered : List ℕ → List ℕ → List ℕ → Type 0)
-    (service next : Past → Type 0) (passed : Passed)
-    → ((body next back : List ℕ) → hopso (shows old.hold.history) body next back → hops (shows old.hold.history) body next back) → Others (λ x. s.agrees x new.side) (λ x body read. s.has_read x body read new.side) sent heard hops refuses
+pub reopen : (h : Holding) (writers sides : SideViews) (request : List ℕ) (t : Texts) → (shows h.history).closed ≡ false → Rehops (shows h.history) sides writers → Stands h sides request t → Stands h (with_writers writers sides) request t
+reopen h writers sides request t c conv s =
+    rehop h writers sides request t t.next_taken t.back_taken (λ body p. conv.hops body t.next_taken t.back_taken p) conv.refuses (λ w. absurd (false≢true (sym c ∙ w.0))) s
+
+source_goes : {S H W : Type 0} (s : Source S H) (w : Wire W) (old new : Lent S W) (writers sides : SideViews) (service next : Past → Type 0) (passed : Passed)
+    → Rehops (shows old.hold.history) sides writers → Others (with_source s new.side (with_writers writers sides))
     → IsTied old.hold → (shows old.hold.history).closed ≡ false → SourcePart s w old new passed
-    → Goes (Stands old.hold (λ x. s.agrees x old.side) (λ x body read. s.has_read x body read old.side) sent heard hopso refuses done)
-    (Stands new.hold (λ x. s.agrees x new.side) (λ x body read. s.has_read x body read new.side) sent heard hops refuses delivered) (on_wires (w.past old.wire) service next) (on_wires (w.past new.wire) service next)
-source_goes s w old new sent heard hopso hops refuses done delivered service next passed conv u tied c d = record {
+    → Goes (Stands old.hold (with_source s old.side sides)) (Stands new.hold (with_source s new.side (with_writers writers sides))) (on_wires (w.past old.wire) service next) (on_wires (w.past new.wire) service next)
+source_goes s w old new writers sides service next passed conv u tied c d = record {
   delta = record { source_read = d.delta; service_read = []; service_taken = []; next_taken = []; back_taken = [] };
-  stands = λ request t o. of_five (Stands new.hold (λ x. s.agrees x new.side) (λ x body read. s.has_read x body read new.side) sent heard hops refuses delivered request) _ _ _ _ _ _ _ _ _ _ refl (sym (append-nil t.service_read)) (sym (append-nil t.service_taken)) (sym (append-nil t.next_taken)) (sym (append-nil t.back_taken))
-      (source_stands s w old new sent heard hops refuses delivered passed request t u tied c d (reopen old.hold _ _ sent heard hopso hops refuses done delivered request t c conv o));
+  stands = λ request t o. of_five (Stands new.hold (with_source s new.side (with_writers writers sides)) request) _ _ _ _ _ _ _ _ _ _ refl (sym (append-nil t.service_read)) (sym (append-nil t.service_taken)) (sym (append-nil t.next_taken)) (sym (append-nil t.back_taken))
+      (source_stands s w old new (with_writers writers sides) passed request t u tied c d (reopen old.hold writers (with_source s old.side sides) request t c (record { hops = conv.hops; refuses = conv.refuses }) o));
   source = d.wire;
   service = λ p b. still service p b;
   next = λ p b. still next p b;
 }
 
-pub fail_goes : (h k : Holding) (cause : Cause) (agrees : Seen → Type 0) (read : Seen → List ℕ → Given → Type 0) (sent : List ℕ → Seen → List ℕ → List ℕ → Type 0) (heard : Seen → List ℕ → List ℕ → Type 0) (hopso hops : Seen → List ℕ → List ℕ → List ℕ → Type 0) (refuses : Seen → Type 0) (done delivered : List ℕ → List ℕ → List ℕ → Type 0)
-    (wires : Pasts)
-    → ((body next back : List ℕ) → hopso (shows h.history) body next back → hops (shows h.history) body next back) → Others agrees read sent heard hops refuses → IsTied h → IsRoomy h → (shows h.history).closed ≡ false → k ≡ moved h (Fail cause) []
-    → Goes (Stands h agrees read sent heard hopso refuses done) (Stands k agrees read sent heard hops refuses delivered) wires wires
-fail_goes h k cause agrees read sent heard hopso hops refuses done delivered wires conv u tied roomy c is =
-    goes_still (λ request t o. fail_stands h k cause agrees read sent heard hops refuses delivered request t u tied (fail_runs h cause [] roomy c) c is (reopen h agrees read sent heard hopso hops refuses done delivered request t c conv o))
+pub fail_goes : (h k : Holding) (cause : Cause) (writers sides : SideViews) (wires : Pasts)
+    → Rehops (shows h.history) sides writers → Others (with_writers writers sides) → IsTied h → IsRoomy h → (shows h.history).closed ≡ false → k ≡ moved h (Fail cause) []
+    → Goes (Stands h sides) (Stands k (with_writers writers sides)) wires wires
+fail_goes h k cause writers sides wires conv u tied roomy c is =
+    goes_still (λ request t o. fail_stands h k cause (with_writers writers sides) request t u tied (fail_runs h cause [] roomy c) c is (reopen h writers sides request t c conv o))
 
 -- a source that doesn't agree never stood
-disagree_goes : {S H W : Type 0} (s : Source S H) (w : Wire W) (old new : Lent S W) (read : Seen → List ℕ → Given → Type 0) (sent : List ℕ → Seen → List ℕ → List ℕ → Type 0) (heard : Seen → List ℕ → List ℕ → Type 0) (hops : Seen → List ℕ → List ℕ → List ℕ → Type 0) (refuses : Seen → Type 0) (delivered : List ℕ → List ℕ → List ℕ → Type 0)
-    (stands : List ℕ → Texts → Type 0) (service next : Past → Type 0) (passed : Passed)
+disagree_goes : {S H W : Type 0} (s : Source S H) (w : Wire W) (old new : Lent S W) (sides : SideViews) (stands : List ℕ → Texts → Type 0) (service next : Past → Type 0) (passed : Passed)
     → (shows old.hold.history).closed ≡ false → Disagrees s old new passed
-    → Goes (Stands old.hold (λ x. s.agrees x old.side) read sent heard hops refuses delivered) stands (on_wires (w.past old.wire) service next) (on_wires (w.past new.wire) service next)
-disagree_goes {S} {H} {W} s w old new read sent heard hops refuses delivered stands service next passed c d =
-    subst (λ (z : W). Goes (Stands old.hold (λ x. s.agrees x old.side) read sent heard hops refuses delivered) stands (on_wires (w.past old.wire) service next) (on_wires (w.past z) service next)) (sym d.wire)
+    → Goes (Stands old.hold (with_source s old.side sides)) stands (on_wires (w.past old.wire) service next) (on_wires (w.past new.wire) service next)
+disagree_goes {S} {H} {W} s w old new sides stands service next passed c d =
+    subst (λ (z : W). Goes (Stands old.hold (with_source s old.side sides)) stands (on_wires (w.past old.wire) service next) (on_wires (w.past z) service next)) (sym d.wire)
     (goes_still (λ request t o. absurd (d.no (o.agrees_is c))))
 
-pub source_passes_go : {S H W : Type 0} (s : Source S H) (w : Wire W) (old new : Lent S W) (sent : List ℕ → Seen → List ℕ → List ℕ → Type 0) (heard : Seen → List ℕ → List ℕ → Type 0) (hopso hops : Seen → List ℕ → List ℕ → List ℕ → Type 0) (refuses : Seen → Type 0) (done delivered : List ℕ → List ℕ → List ℕ → Type 0)
-    (service next : Past → Type 0) (passed : Passed)
-    → ((body next back : List ℕ) → hopso (shows old.hold.history) body next back → hops (shows old.hold.history) body next back) → Others (λ x. s.agrees x new.side) (λ x body read. s.has_read x body read new.side) sent heard hops refuses
+pub source_passes_go : {S H W : Type 0} (s : Source S H) (w : Wire W) (old new : Lent S W) (writers sides : SideViews) (service next : Past → Type 0) (passed : Passed)
+    → Rehops (shows old.hold.history) sides writers → Others (with_source s new.side (with_writers writers sides))
     → (shows old.hold.history).closed ≡ false → SourcePasses s w old new passed
-    → Goes (Stands old.hold (λ x. s.agrees x old.side) (λ x body read. s.has_read x body read old.side) sent heard hopso refuses done)
-    (Stands new.hold (λ x. s.agrees x new.side) (λ x body read. s.has_read x body read new.side) sent heard hops refuses delivered) (on_wires (w.past old.wire) service next) (on_wires (w.past new.wire) service next)
-source_passes_go s w old new sent heard hopso hops refuses done delivered service next passed conv u c p = elim p.did [
-  | inl a ↦ source_goes s w old new sent heard hopso hops refuses done delivered service next passed conv u p.tied c a.1
-  | inr d ↦ disagree_goes s w old new _ sent heard hopso refuses done _ service next passed c d
+    → Goes (Stands old.hold (with_source s old.side sides)) (Stands new.hold (with_source s new.side (with_writers writers sides))) (on_wires (w.past old.wire) service next) (on_wires (w.past new.wire) service next)
+source_passes_go s w old new writers sides service next passed conv u c p = elim p.did [
+  | inl a ↦ source_goes s w old new writers sides service next passed conv u p.tied c a.1
+  | inr d ↦ disagree_goes s w old new sides _ service next passed c d
 ]
 
--- the service's line, where there is one
-
-abbrev pub sent_on : {V W : Type 0} → Service V → Option (ServiceEnd V W) → List ℕ → Seen → List ℕ → List ℕ → Type 0
-sent_on v line heads x came taken = MatchOption line (taken ≡ []) (λ l. v.has_sent heads x came taken l.side)
-
-abbrev pub heard_on : {V W : Type 0} → Service V → Option (ServiceEnd V W) → Seen → List ℕ → List ℕ → Type 0
-heard_on v line x adapted text = MatchOption line ((adapted ≡ []) × (text ≡ [])) (λ l. v.has_heard x adapted text l.side)
-
-abbrev pub past_on : {V W : Type 0} → Wire W → Option (ServiceEnd V W) → Past → Type 0
-past_on w line p = on_held line ⊥ (λ wire. w.past wire p)
-
-send_goes : {V W : Type 0} (v : Service V) (w : Wire W) (line : Option (ServiceEnd V W)) (old new : Lent V W) (agrees : Seen → Type 0) (read : Seen → List ℕ → Given → Type 0)
-    (hopso hops : Seen → List ℕ → List ℕ → List ℕ → Type 0) (refuses : Seen → Type 0) (done delivered : List ℕ → List ℕ → List ℕ → Type 0) (source next : Past → Type 0) (passed : Passed)
-    → line ≡ Some (line_of old.side old.wire) → ((body next back : List ℕ) → hopso (shows old.hold.history) body next back → hops (shows old.hold.history) body next back)
-    → Others agrees read (sent_by v new.side) (heard_by v new.side) hops refuses → ((x : Seen) (adapted text : List ℕ) → v.has_heard x adapted text old.side → v.has_heard x adapted text new.side) → IsTied old.hold
+send_goes : {V W : Type 0} (v : Service V) (w : Wire W) (old new : Lent V W) (writers sides : SideViews) (source next : Past → Type 0) (passed : Passed)
+    → Rehops (shows old.hold.history) sides writers → Others (with_service v new.side (with_writers writers sides))
+    → ((x : Seen) (adapted text : List ℕ) → v.has_heard x adapted text old.side → v.has_heard x adapted text new.side) → IsTied old.hold
     → (shows old.hold.history).closed ≡ false → SendPart v w old new passed
-    → Goes (Stands old.hold agrees read (sent_on v line) (heard_on v line) hopso refuses done) (Stands new.hold agrees read (sent_by v new.side) (heard_by v new.side) hops refuses delivered)
-    (on_wires source (past_on w line) next) (on_wires source (w.past new.wire) next)
-send_goes {V} {W} v w line old new agrees read hopso hops refuses done delivered source next passed e conv u same tied c d =
-    subst (λ (z : Option (ServiceEnd V W)). Goes (Stands old.hold agrees read (sent_on v z) (heard_on v z) hopso refuses done) (Stands new.hold agrees read (sent_by v new.side) (heard_by v new.side) hops refuses delivered) (on_wires source (past_on w z) next) (on_wires source (w.past new.wire) next)) (sym e)
-    (record {
-      delta = record { source_read = no_given; service_read = []; service_taken = d.delta; next_taken = []; back_taken = [] };
-      stands = λ request t o. of_five (Stands new.hold agrees read (sent_by v new.side) (heard_by v new.side) hops refuses delivered request) _ _ _ _ _ _ _ _ _ _ (given_still t.source_read) (sym (append-nil t.service_read)) refl (sym (append-nil t.next_taken)) (sym (append-nil t.back_taken))
-          (send_stands v w old new agrees read hops refuses delivered passed request t u same tied c d (reopen old.hold agrees read (sent_by v old.side) (heard_by v old.side) hopso hops refuses done delivered request t c conv o));
-      source = λ p b. still_source source p b;
-      service = λ p b. let w = d.part.wire p b in (w.0, w.1, w.2);
-      next = λ p b. still next p b;
-    })
+    → Goes (Stands old.hold (with_service v old.side sides)) (Stands new.hold (with_service v new.side (with_writers writers sides))) (on_wires source (w.past old.wire) next) (on_wires source (w.past new.wire) next)
+send_goes v w old new writers sides source next passed conv u same tied c d = record {
+  delta = record { source_read = no_given; service_read = []; service_taken = d.delta; next_taken = []; back_taken = [] };
+  stands = λ request t o. of_five (Stands new.hold (with_service v new.side (with_writers writers sides)) request) _ _ _ _ _ _ _ _ _ _ (given_still t.source_read) (sym (append-nil t.service_read)) refl (sym (append-nil t.next_taken)) (sym (append-nil t.back_taken))
+      (send_stands v w old new (with_writers writers sides) passed request t u same tied c d (reopen old.hold writers (with_service v old.side sides) request t c (record { hops = conv.hops; refuses = conv.refuses }) o));
+  source = λ p b. still_source source p b;
+  service = λ p b. let w = d.part.wire p b in (w.0, w.1, w.2);
+  next = λ p b. still next p b;
+}
 
-hear_goes : {V W : Type 0} (v : Service V) (w : Wire W) (line : Option (ServiceEnd V W)) (old new : Lent V W) (agrees : Seen → Type 0) (read : Seen → List ℕ → Given → Type 0)
-    (hopso hops : Seen → List ℕ → List ℕ → List ℕ → Type 0) (refuses : Seen → Type 0) (done delivered : List ℕ → List ℕ → List ℕ → Type 0) (source next : Past → Type 0) (passed : Passed)
-    → line ≡ Some (line_of old.side old.wire) → ((body next back : List ℕ) → hopso (shows old.hold.history) body next back → hops (shows old.hold.history) body next back)
-    → Others agrees read (sent_by v new.side) (heard_by v new.side) hops refuses → ((heads came text : List ℕ) → v.has_sent heads (shows old.hold.history) came text old.side → v.has_sent heads (shows old.hold.history) came text new.side) → IsTied old.hold
+hear_goes : {V W : Type 0} (v : Service V) (w : Wire W) (old new : Lent V W) (writers sides : SideViews) (source next : Past → Type 0) (passed : Passed)
+    → Rehops (shows old.hold.history) sides writers → Others (with_service v new.side (with_writers writers sides))
+    → ((heads came text : List ℕ) → v.has_sent heads (shows old.hold.history) came text old.side → v.has_sent heads (shows old.hold.history) came text new.side) → IsTied old.hold
     → (shows old.hold.history).closed ≡ false → HearPart v w old new passed
-    → Goes (Stands old.hold agrees read (sent_on v line) (heard_on v line) hopso refuses done) (Stands new.hold agrees read (sent_by v new.side) (heard_by v new.side) hops refuses delivered)
-    (on_wires source (past_on w line) next) (on_wires source (w.past new.wire) next)
-hear_goes {V} {W} v w line old new agrees read hopso hops refuses done delivered source next passed e conv u same tied c d =
-    subst (λ (z : Option (ServiceEnd V W)). Goes (Stands old.hold agrees read (sent_on v z) (heard_on v z) hopso refuses done) (Stands new.hold agrees read (sent_by v new.side) (heard_by v new.side) hops refuses delivered) (on_wires source (past_on w z) next) (on_wires source (w.past new.wire) next)) (sym e)
-    (record {
-      delta = record { source_read = no_given; service_read = d.delta; service_taken = []; next_taken = []; back_taken = [] };
-      stands = λ request t o. of_five (Stands new.hold agrees read (sent_by v new.side) (heard_by v new.side) hops refuses delivered request) _ _ _ _ _ _ _ _ _ _ (given_still t.source_read) refl (sym (append-nil t.service_taken)) (sym (append-nil t.next_taken)) (sym (append-nil t.back_taken))
-          (hear_stands v w old new agrees read hops refuses delivered passed request t u same tied c d (reopen old.hold agrees read (sent_by v old.side) (heard_by v old.side) hopso hops refuses done delivered request t c conv o));
-      source = λ p b. still_source source p b;
-      service = λ p b. let w = d.part.wire p b in (w.0, w.1, w.2);
-      next = λ p b. still next p b;
-    })
+    → Goes (Stands old.hold (with_service v old.side sides)) (Stands new.hold (with_service v new.side (with_writers writers sides))) (on_wires source (w.past old.wire) next) (on_wires source (w.past new.wire) next)
+hear_goes v w old new writers sides source next passed conv u same tied c d = record {
+  delta = record { source_read = no_given; service_read = d.delta; service_taken = []; next_taken = []; back_taken = [] };
+  stands = λ request t o. of_five (Stands new.hold (with_service v new.side (with_writers writers sides)) request) _ _ _ _ _ _ _ _ _ _ (given_still t.source_read) refl (sym (append-nil t.service_taken)) (sym (append-nil t.next_taken)) (sym (append-nil t.back_taken))
+      (hear_stands v w old new (with_writers writers sides) passed request t u same tied c d (reopen old.hold writers (with_service v old.side sides) request t c (record { hops = conv.hops; refuses = conv.refuses }) o));
+  source = λ p b. still_source source p b;
+  service = λ p b. let w = d.part.wire p b in (w.0, w.1, w.2);
+  next = λ p b. still next p b;
+}
 
 -- A pass of the line: what stands is told by what is held and by the line.
-module _ {V W : Type 0} (v : Service V) (w : Wire W) (agrees : Seen → Type 0) (read : Seen → List ℕ → Given → Type 0) (hops : Option (ServiceEnd V W) → Seen → List ℕ → List ℕ → List ℕ → Type 0) (refuses : Seen → Type 0)
-    (delivered : Holding → Option (ServiceEnd V W) → List ℕ → List ℕ → List ℕ → Type 0) (source next : Past → Type 0)
-    (conv : (x : Seen) (l m : ServiceEnd V W) → (x.modified ≡ true → v.adapted_head m.side ≡ v.adapted_head l.side) → (x.modified ≡ true → v.is_response m.side ≡ v.is_response l.side)
-    → (body on back : List ℕ) → hops (Some l) x body on back → hops (Some m) x body on back)
-    (others : (line : Option (ServiceEnd V W)) → Others agrees read (sent_on v line) (heard_on v line) (hops line) refuses) where
+module _ {V W : Type 0} (v : Service V) (w : Wire W) (views : Option (ServiceEnd V W) → SideViews) (sides : SideViews) (source next : Past → Type 0)
+    (conv : (x : Seen) (l m : ServiceEnd V W) → (x.modified ≡ true → v.adapted_head m.side ≡ v.adapted_head l.side) → (x.modified ≡ true → v.is_response m.side ≡ v.is_response l.side) → Rehops x (views (Some l)) (views (Some m)))
+    (others : (line : Option (ServiceEnd V W)) → Others (with_line v line (with_writers (views line) sides))) where
   abbrev stands_on : Holding → Option (ServiceEnd V W) → List ℕ → Texts → Type 0
-  stands_on h line = Stands h agrees read (sent_on v line) (heard_on v line) (hops line) refuses (delivered h line)
+  stands_on h line = Stands h (with_line v line (with_writers (views line) sides))
 
   abbrev goes_on : Holding → Option (ServiceEnd V W) → Holding → Option (ServiceEnd V W) → Type 0
   goes_on h line k line' = Goes (stands_on h line) (stands_on k line') (on_wires source (past_on w line) next) (on_wires source (past_on w line') next)
 
-  write_goes : (reused : Bool) (old new : Lent V W) (passed : Passed) → IsTied old.hold → (shows old.hold.history).closed ≡ false → WritesDue v w reused old new passed
-      → goes_on old.hold (Some (line_of old.side old.wire)) new.hold (Some (line_of new.side new.wire))
+  -- the line over which a side writes and reads
+  abbrev line_at : Lent V W → Option (ServiceEnd V W)
+  line_at at = Some (line_of at.side at.wire)
+
+  abbrev rehops : (old new : Lent V W) → Type 0
+  rehops old new = Rehops (shows old.hold.history) (with_writers (views (line_at old)) sides) (views (line_at new))
+
+  rehopped : (old new : Lent V W) → ((shows old.hold.history).modified ≡ true → v.adapted_head new.side ≡ v.adapted_head old.side) → ((shows old.hold.history).modified ≡ true → v.is_response new.side ≡ v.is_response old.side) → rehops old new
+  rehopped old new head response =
+      let r = conv (shows old.hold.history) (line_of old.side old.wire) (line_of new.side new.wire) head response in record { hops = r.hops; refuses = r.refuses }
+
+  write_goes : (reused : Bool) (old new : Lent V W) (passed : Passed) → IsTied old.hold → (shows old.hold.history).closed ≡ false → WritesDue v w reused old new passed → goes_on old.hold (line_at old) new.hold (line_at new)
   write_goes reused old new passed tied c d =
-      send_goes v w (Some (line_of old.side old.wire)) old new agrees read (hops (Some (line_of old.side old.wire))) (hops (Some (line_of new.side new.wire))) refuses _ _ source next passed
-      refl (conv (shows old.hold.history) (line_of old.side old.wire) (line_of new.side new.wire) (λ e. d.head) (λ e. d.response)) (others (Some (line_of new.side new.wire))) d.heard tied c d.part
+      send_goes v w old new (views (line_at new)) (with_writers (views (line_at old)) sides) source next passed (rehopped old new (λ e. d.head) (λ e. d.response)) (others (line_at new)) d.heard tied c d.part
 
-  read_goes : (reused : Bool) (old new : Lent V W) (passed : Passed) → IsTied old.hold → (shows old.hold.history).closed ≡ false → ReadsReplies v w reused old new passed
-      → goes_on old.hold (Some (line_of old.side old.wire)) new.hold (Some (line_of new.side new.wire))
+  read_goes : (reused : Bool) (old new : Lent V W) (passed : Passed) → IsTied old.hold → (shows old.hold.history).closed ≡ false → ReadsReplies v w reused old new passed → goes_on old.hold (line_at old) new.hold (line_at new)
   read_goes reused old new passed tied c d =
-      hear_goes v w (Some (line_of old.side old.wire)) old new agrees read (hops (Some (line_of old.side old.wire))) (hops (Some (line_of new.side new.wire))) refuses _ _ source next passed
-      refl (conv (shows old.hold.history) (line_of old.side old.wire) (line_of new.side new.wire) d.head d.response) (others (Some (line_of new.side new.wire))) d.sent tied c d.part
+      hear_goes v w old new (views (line_at new)) (with_writers (views (line_at old)) sides) source next passed (rehopped old new d.head d.response) (others (line_at new)) d.sent tied c d.part
 
-  side_goes : (reused : Bool) (old new : Lent V W) (passed : Passed) → (shows old.hold.history).closed ≡ false → ServicePasses v w reused old new passed
-      → goes_on old.hold (Some (line_of old.side old.wire)) new.hold (Some (line_of new.side new.wire))
+  side_goes : (reused : Bool) (old new : Lent V W) (passed : Passed) → (shows old.hold.history).closed ≡ false → ServicePasses v w reused old new passed → goes_on old.hold (line_at old) new.hold (line_at new)
   side_goes reused old new passed c p = elim p.did [
     | inl d ↦ write_goes reused old new passed p.tied c d
     | inr d ↦ goes_then (write_goes reused old d.mid d.first p.tied c d.writes) (read_goes reused d.mid new d.second d.tied d.running d.reads)
@@ -343,70 +354,59 @@ module _ {V W : Type 0} (v : Service V) (w : Wire W) (agrees : Seen → Type 0) 
 abbrev nil : List ℕ
 nil = []
 
-pub line_again : {V W : Type 0} (has_sent : List ℕ → Seen → List ℕ → List ℕ → V → Type 0) (has_heard : Seen → List ℕ → List ℕ → V → Type 0) (line : Option (ServiceEnd V W)) (l m : ServiceEnd V W) (h k : Holding)
-    (agrees : Seen → Type 0) (read : Seen → List ℕ → Given → Type 0) (hopso hops : Seen → List ℕ → List ℕ → List ℕ → Type 0) (refuses : Seen → Type 0) (done delivered : List ℕ → List ℕ → List ℕ → Type 0) (request : List ℕ) (t : Texts)
-    → line ≡ Some l → ((body next back : List ℕ) → hopso (shows h.history) body next back → hops (shows h.history) body next back) → Others agrees read (λ heads x came taken. has_sent heads x came taken m.side) (λ x adapted text. has_heard x adapted text m.side) hops refuses
+pub line_again : {V W : Type 0} (v : Service V) (line : Option (ServiceEnd V W)) (l m : ServiceEnd V W) (h k : Holding) (writers sides : SideViews) (request : List ℕ) (t : Texts)
+    → line ≡ Some l → Rehops (shows h.history) sides writers → Others (with_service v m.side (with_writers writers sides))
     → IsTied h → IsRoomy h → MayFollow h.history.plan h.history.events Retry → k ≡ moved h Retry []
-    → ((x : Seen) (heads came taken adapted text : List ℕ) → x.closed ≡ false → Allows x Retry → length came ≡ x.received → has_sent heads x came taken l.side → has_heard x adapted text l.side → has_sent heads (after x Retry) came [] m.side)
-    → ((x : Seen) (heads came taken adapted text : List ℕ) → x.closed ≡ false → Allows x Retry → length came ≡ x.received → has_sent heads x came taken l.side → has_heard x adapted text l.side → has_heard (after x Retry) [] [] m.side)
-    → ((x : Seen) (adapted text : List ℕ) (s : V) → has_heard x adapted text s → x.heard ≡ false → (adapted ≡ []) × (text ≡ []))
-    → Stands h agrees read (λ heads x came taken. MatchOption line (taken ≡ []) (λ z. has_sent heads x came taken z.side)) (λ x adapted text. MatchOption line ((adapted ≡ []) × (text ≡ [])) (λ z. has_heard x adapted text z.side)) hopso refuses done request t
-    → Stands k agrees read (λ heads x came taken. has_sent heads x came taken m.side) (λ x adapted text. has_heard x adapted text m.side) hops refuses delivered request (record t { service_read = []; service_taken = [] })
-line_again {V} {W} has_sent has_heard line l m h k agrees read hopso hops refuses done delivered request t e conv u tied roomy f is again_sent again_heard unheard s =
-    retry_stands h k agrees read (λ heads x came taken. has_sent heads x came taken l.side) (λ heads x came taken. has_sent heads x came taken m.side) (λ x adapted text. has_heard x adapted text l.side) (λ x adapted text. has_heard x adapted text m.side) hops refuses delivered request t
+    → ((x : Seen) (heads came taken adapted text : List ℕ) → x.closed ≡ false → Allows x Retry → length came ≡ x.received → v.has_sent heads x came taken l.side → v.has_heard x adapted text l.side → v.has_sent heads (after x Retry) came [] m.side)
+    → ((x : Seen) (heads came taken adapted text : List ℕ) → x.closed ≡ false → Allows x Retry → length came ≡ x.received → v.has_sent heads x came taken l.side → v.has_heard x adapted text l.side → v.has_heard (after x Retry) [] [] m.side)
+    → ((x : Seen) (adapted text : List ℕ) (s : V) → v.has_heard x adapted text s → x.heard ≡ false → (adapted ≡ []) × (text ≡ []))
+    → Stands h (with_line v line sides) request t → Stands k (with_service v m.side (with_writers writers sides)) request (record t { service_read = []; service_taken = [] })
+line_again {V} {W} v line l m h k writers sides request t e conv u tied roomy f is again_sent again_heard unheard s =
+    retry_stands h k (with_service v l.side sides) (with_service v m.side (with_writers writers sides)) request t
     u tied roomy f is (again_sent (shows h.history)) (again_heard (shows h.history)) (λ adapted text p. unheard (shows h.history) adapted text l.side p)
-    (reopen h agrees read (λ heads x came taken. has_sent heads x came taken l.side) (λ x adapted text. has_heard x adapted text l.side) hopso hops refuses done delivered request t f.0 conv
-    (subst (λ (z : Option (ServiceEnd V W)). Stands h agrees read (λ heads x came taken. MatchOption z (taken ≡ []) (λ y. has_sent heads x came taken y.side)) (λ x adapted text. MatchOption z ((adapted ≡ []) × (text ≡ [])) (λ y. has_heard x adapted text y.side)) hopso refuses done request t) e s))
+    (reopen h writers (with_service v l.side sides) request t f.0 (record { hops = conv.hops; refuses = conv.refuses })
+    (subst (λ (z : Option (ServiceEnd V W)). Stands h (with_line v z sides) request t) e s))
 
-pub none_again : {V W : Type 0} (has_sent : List ℕ → Seen → List ℕ → List ℕ → V → Type 0) (has_heard : Seen → List ℕ → List ℕ → V → Type 0) (line : Option (ServiceEnd V W)) (h k : Holding)
-    (agrees : Seen → Type 0) (read : Seen → List ℕ → Given → Type 0) (hops : Seen → List ℕ → List ℕ → List ℕ → Type 0) (refuses : Seen → Type 0) (done delivered : List ℕ → List ℕ → List ℕ → Type 0) (request : List ℕ) (t : Texts)
-    → line ≡ None
-    → Others agrees read (λ heads x came taken. MatchOption line (taken ≡ []) (λ z. has_sent heads x came taken z.side)) (λ x adapted text. MatchOption line ((adapted ≡ []) × (text ≡ [])) (λ z. has_heard x adapted text z.side)) hops refuses
+pub none_again : {V W : Type 0} (v : Service V) (line : Option (ServiceEnd V W)) (h k : Holding) (sides : SideViews) (request : List ℕ) (t : Texts)
+    → line ≡ None → Others (with_line v line sides)
     → IsTied h → IsRoomy h → MayFollow h.history.plan h.history.events Retry → k ≡ moved h Retry []
-    → Stands h agrees read (λ heads x came taken. MatchOption line (taken ≡ []) (λ z. has_sent heads x came taken z.side)) (λ x adapted text. MatchOption line ((adapted ≡ []) × (text ≡ [])) (λ z. has_heard x adapted text z.side)) hops refuses done request t
-    → Stands k agrees read (λ heads x came taken. MatchOption line (taken ≡ []) (λ z. has_sent heads x came taken z.side)) (λ x adapted text. MatchOption line ((adapted ≡ []) × (text ≡ [])) (λ z. has_heard x adapted text z.side)) hops refuses delivered request (record t { service_read = []; service_taken = [] })
-none_again {V} {W} has_sent has_heard line h k agrees read hops refuses done delivered request t e u tied roomy f is s =
-    retry_stands h k agrees read (λ heads x came taken. MatchOption line (taken ≡ []) (λ z. has_sent heads x came taken z.side)) (λ heads x came taken. MatchOption line (taken ≡ []) (λ z. has_sent heads x came taken z.side))
-    (λ x adapted text. MatchOption line ((adapted ≡ []) × (text ≡ [])) (λ z. has_heard x adapted text z.side)) (λ x adapted text. MatchOption line ((adapted ≡ []) × (text ≡ [])) (λ z. has_heard x adapted text z.side)) hops refuses delivered request t
-    u tied roomy f is
-    (λ heads came taken adapted text c q n p r. subst (λ (z : Option (ServiceEnd V W)). MatchOption z (nil ≡ nil) (λ y. has_sent heads (after (shows h.history) Retry) came [] y.side)) (sym e) refl)
-    (λ heads came taken adapted text c q n p r. subst (λ (z : Option (ServiceEnd V W)). MatchOption z ((nil ≡ nil) × (nil ≡ nil)) (λ y. has_heard (after (shows h.history) Retry) [] [] y.side)) (sym e) (refl, refl))
-    (λ adapted text p q. subst (λ (z : Option (ServiceEnd V W)). MatchOption z ((adapted ≡ []) × (text ≡ [])) (λ y. has_heard (shows h.history) adapted text y.side)) e p)
-    (reopen h agrees read (λ heads x came taken. MatchOption line (taken ≡ []) (λ z. has_sent heads x came taken z.side)) (λ x adapted text. MatchOption line ((adapted ≡ []) × (text ≡ [])) (λ z. has_heard x adapted text z.side)) hops hops refuses done delivered request t f.0 (λ body a b p. p) s)
+    → Stands h (with_line v line sides) request t → Stands k (with_line v line sides) request (record t { service_read = []; service_taken = [] })
+none_again {V} {W} v line h k sides request t e u tied roomy f is s =
+    retry_stands h k (with_line v line sides) (with_line v line sides) request t u tied roomy f is
+    (λ heads came taken adapted text c q n p r. subst (λ (z : Option (ServiceEnd V W)). MatchOption z (nil ≡ nil) (λ y. v.has_sent heads (after (shows h.history) Retry) came [] y.side)) (sym e) refl)
+    (λ heads came taken adapted text c q n p r. subst (λ (z : Option (ServiceEnd V W)). MatchOption z ((nil ≡ nil) × (nil ≡ nil)) (λ y. v.has_heard (after (shows h.history) Retry) [] [] y.side)) (sym e) (refl, refl))
+    (λ adapted text p q. subst (λ (z : Option (ServiceEnd V W)). MatchOption z ((adapted ≡ []) × (text ≡ [])) (λ y. v.has_heard (shows h.history) adapted text y.side)) e p)
+    s
 
 -- the beginning
 
-pub begins : {V W K : Type 0} (has_sent : List ℕ → Seen → List ℕ → List ℕ → V → Type 0) (has_heard : Seen → List ℕ → List ℕ → V → Type 0) (has_given : Seen → List ℕ → List ℕ → List ℕ → K → Type 0) (is_whole : List ℕ → List ℕ → List ℕ → K → Type 0) (gift : K → Gift) (aside : List ℕ → K → Type 0)
-    (h : Holding) (plan : Plan) (agrees : Seen → Type 0) (read : Seen → List ℕ → Given → Type 0) (line : Option (ServiceEnd V W)) (next back : K) (text : Given) (request : List ℕ)
+pub begins : {S H V W K G : Type 0} (s : Source S H) (v : Service V) (k : Hop K G) (makes : H → Seen → Option (List ℕ) → Bool → List ℕ → G → Type 0)
+    (h : Holding) (plan : Plan) (source : S) (line : Option (ServiceEnd V W)) (next back : K) (text : Given) (request : List ℕ)
     → h.history ≡ record { plan = plan; events = [] } → h.original ≡ record { base = 0; bytes = [] } → h.adapted ≡ record { base = 0; bytes = [] }
-    → agrees (seen plan []) → read (seen plan []) [] text → IfSome line (λ l. has_sent request (seen plan []) [] [] l.side × has_heard (seen plan []) [] [] l.side)
-    → gift next ≡ nothing → aside [] next → gift back ≡ nothing → aside [] back
-    → Stands h agrees read (λ heads x came taken. MatchOption line (taken ≡ []) (λ l. has_sent heads x came taken l.side)) (λ x adapted text. MatchOption line ((adapted ≡ []) × (text ≡ [])) (λ l. has_heard x adapted text l.side))
-    (HopsAre (gift next) (gift back) (λ x head body taken. has_given x head body taken next) (λ taken. aside taken next) (λ x head body taken. has_given x head body taken back) (λ taken. aside taken back))
-    (IsRefusing false (gift next) (gift back))
-    (IsDelivered false (gift next) (gift back) (λ head body taken. is_whole head body taken next) (λ taken. aside taken next) (λ head body taken. is_whole head body taken back) (λ taken. aside taken back))
-    request (record no_texts { source_read = text })
-begins {V} {W} {K} has_sent has_heard has_given is_whole gift aside h plan agrees read line next back text request eh eo ea ag re sides ng na bg ba = record {
+    → s.agrees (seen plan []) source → s.has_read (seen plan []) [] text source → IfSome line (λ l. v.has_sent request (seen plan []) [] [] l.side × v.has_heard (seen plan []) [] [] l.side)
+    → k.gift next ≡ nothing → k.aside [] next → k.gift back ≡ nothing → k.aside [] back
+    → Stands h (views_by s v k makes source line next back false) request (record no_texts { source_read = text })
+begins {S} {H} {V} {W} s v k makes h plan source line next back text request eh eo ea ag re sides ng na bg ba = record {
   original = [];
   adapted = [];
   original_is = subst (λ (s : Span). EndsBody s []) (sym eo) empty;
   adapted_is = subst (λ (s : Span). EndsBody s []) (sym ea) empty;
-  agrees_is = λ c. subst (λ (y : History). agrees (shows y)) (sym eh) ag;
-  read_is = subst (λ (y : History). read (shows y) [] text) (sym eh) re;
-  sent_is = subst (λ (y : History). MatchOption line (nil ≡ nil) (λ l. has_sent request (shows y) [] [] l.side)) (sym eh) (sent line sides);
-  heard_is = subst (λ (y : History). MatchOption line ((nil ≡ nil) × (nil ≡ nil)) (λ l. has_heard (shows y) [] [] l.side)) (sym eh) (heard line sides);
+  agrees_is = λ c. subst (λ (y : History). s.agrees (shows y) source) (sym eh) ag;
+  read_is = subst (λ (y : History). s.has_read (shows y) [] text source) (sym eh) re;
+  sent_is = subst (λ (y : History). MatchOption line (nil ≡ nil) (λ l. v.has_sent request (shows y) [] [] l.side)) (sym eh) (sent line sides);
+  heard_is = subst (λ (y : History). MatchOption line ((nil ≡ nil) × (nil ≡ nil)) (λ l. v.has_heard (shows y) [] [] l.side)) (sym eh) (heard line sides);
   hops_are = inl (record { next_is = ng; back_is = bg; none = subst (λ (y : History). IsUndelivered (shows y)) (sym eh) (refl, refl); next_aside_is = na; back_aside_is = ba });
-  refuses_is = (λ e. absurd (false≢true e), other_idle (shows h.history).plan.point (gift next) (gift back) ng bg, λ q m. let d : nothing ≡ message = sym bg ∙ m in absurd cc);
+  refuses_is = (λ e. absurd (false≢true e), other_idle (shows h.history).plan.point (k.gift next) (k.gift back) ng bg, λ q m. let d : nothing ≡ message = sym bg ∙ m in absurd cc);
   done_is = λ d. absurd (false≢true (subst (λ (y : History). (shows y).closed ≡ true) eh d.0));
 }
   where
     empty : EndsBody (record { base = 0; bytes = [] }) []
     empty = record { end = refl; bytes = refl }
 
-    sent : (z : Option (ServiceEnd V W)) → IfSome z (λ l. has_sent request (seen plan []) [] [] l.side × has_heard (seen plan []) [] [] l.side) → MatchOption z (nil ≡ nil) (λ l. has_sent request (seen plan []) [] [] l.side)
+    sent : (z : Option (ServiceEnd V W)) → IfSome z (λ l. v.has_sent request (seen plan []) [] [] l.side × v.has_heard (seen plan []) [] [] l.side) → MatchOption z (nil ≡ nil) (λ l. v.has_sent request (seen plan []) [] [] l.side)
     sent None s = refl
     sent (Some l) s = s.0
 
-    heard : (z : Option (ServiceEnd V W)) → IfSome z (λ l. has_sent request (seen plan []) [] [] l.side × has_heard (seen plan []) [] [] l.side) → MatchOption z ((nil ≡ nil) × (nil ≡ nil)) (λ l. has_heard (seen plan []) [] [] l.side)
+    heard : (z : Option (ServiceEnd V W)) → IfSome z (λ l. v.has_sent request (seen plan []) [] [] l.side × v.has_heard (seen plan []) [] [] l.side) → MatchOption z ((nil ≡ nil) × (nil ≡ nil)) (λ l. v.has_heard (seen plan []) [] [] l.side)
     heard None s = (refl, refl)
     heard (Some l) s = s.1

@@ -10,23 +10,22 @@ use Rattle.wire_kit.specs.declared.wire.Wire.{Ghosts as Wire}
 use Rattle.adapt_sides.specs.declared.fault.RelayFault.{RelayFault}
 use Rattle.adapt_sides.specs.declared.fault.RelayFault.TheVariants as relay
 use Rattle.adapt_sides.specs.declared.hop.Hop.{Ghosts as Hop}
-use Rattle.adapt_sides.specs.Turns.{Given, FailsGiving}
+use Rattle.adapt_sides.specs.Turns.{FailsGiving}
 use Rattle.adapt_sides.specs.Turns.Gift.{nothing, message}
 use Rattle.adapt_hold.specs.Holding.{Holding, IsTied, IsRoomy, shows, moved}
 use Rattle.adapt_turn.specs.declared.steps.Passed.{Passed}
 use Rattle.adapt_turn.specs.declared.turned.Side.TheVariants.{NextHop}
-use Rattle.adapt_turn.specs.Made.{WholeOf}
 use Rattle.adapt_turn.specs.Parts.{lending, IsOfSide, hop_cause}
 use Rattle.adapt_turn.specs.Passes.{Choice, Begins, GivesOne, NextPasses, Writers, writers}
-use Rattle.adapt_turn.specs.Stands.{IsChosen, Stands, Goes, IsRefusing, IsDelivered, BlamedWriter, Texts}
+use Rattle.adapt_turn.specs.Stands.{IsChosen, SideViews, writer_of, Stands, Pasts, Goes, BlamedWriter, Texts}
 use Rattle.adapt_turn.proofs.Advance.{Others}
 use Rattle.adapt_turn.proofs.ByTurn.{idle_no_message, of_next, of_back}
-use Rattle.adapt_turn.proofs.Giving.{next_begin_goes, back_begin_goes, next_goes, back_goes, with_heads}
-use Rattle.adapt_turn.proofs.Made.{KeepsMade, hops_of, heads_idle}
+use Rattle.adapt_turn.proofs.Giving.{next_begin_goes, back_begin_goes, next_goes, back_goes}
+use Rattle.adapt_turn.proofs.Made.{KeepsMade, heads_idle}
 use Rattle.adapt_turn.proofs.Reasons.{part_idle, part_still, part_waits, part_blames, writer_blamed}
 use Rattle.adapt_turn.proofs.Rows.{part_took, part_acts, of_hop, untouched_or, fail_advances, took_fail}
 use Rattle.adapt_turn.proofs.Stepped.{part_over, failed_closed}
-use Rattle.adapt_turn.proofs.Together.{on_wires, fail_goes, goes_none, goes_then}
+use Rattle.adapt_turn.proofs.Together.{on_wires, with_hops, fail_goes, goes_none, goes_then}
 use Rattle.adapt_turn.proofs.Told.{part_told, open_done, failed_told}
 
 hop_side : (fault : RelayFault) → IsOfSide (hop_cause fault)
@@ -163,19 +162,19 @@ module _ {K G A C : Type 0} {k : Hop K G} {a : Wire A} {c : Wire C} {choice : Ch
       ]
 
 -- What stands, by the maker of heads, by what is held and by the two writers: `made` says which heads are made.
-module _ {K G A C F : Type 0} (f f' : F) (k : Hop K G) (a : Wire A) (c : Wire C) (agrees : Seen → Type 0) (read : Seen → List ℕ → Given → Type 0) (sent : List ℕ → Seen → List ℕ → List ℕ → Type 0) (heard : Seen → List ℕ → List ℕ → Type 0)
-    (refusing : Bool) (service : Past → Type 0) (made : F → K → Seen → List ℕ → Type 0)
+module _ {K G A C F : Type 0} (f f' : F) (k : Hop K G) (a : Wire A) (c : Wire C) (sides : SideViews) (service : Past → Type 0) (made : F → K → Seen → List ℕ → Type 0)
     (keep : (hop : K) → KeepsMade (made f' hop))
     (frames : (hop hop' : K) (x : Seen) (head : List ℕ) → k.body_framing hop' ≡ k.body_framing hop → made f' hop x head → made f' hop' x head)
-    (others : (next back : K) → Others agrees read sent heard (hops_of k.gift k.has_given k.aside (made f') next back) (IsRefusing refusing (k.gift next) (k.gift back)))
+    (others : (next back : K) → Others (with_hops k (made f') sides next back))
     (idle_given : (x : Seen) (head body taken : List ℕ) (s : K) → k.gift s ≡ nothing → k.aside taken s → x.original_delivered ≡ 0 → x.adapted_delivered ≡ 0 → k.has_given x head body taken s) where
   abbrev stands_with : F → Holding → K → K → List ℕ → Texts → Type 0
-  stands_with m h next back = Stands h agrees read sent heard (hops_of k.gift k.has_given k.aside (made m) next back) (IsRefusing refusing (k.gift next) (k.gift back))
-      (IsDelivered refusing (k.gift next) (k.gift back) (WholeOf (made m next (shows h.history)) (λ head body taken. k.is_whole head body taken next)) (λ taken. k.aside taken next)
-      (WholeOf (made m back (shows h.history)) (λ head body taken. k.is_whole head body taken back)) (λ taken. k.aside taken back))
+  stands_with m h next back = Stands h (with_hops k (made m) sides next back)
+
+  abbrev wires_with : A → C → Pasts
+  wires_with back_wire next_wire = on_wires (a.past back_wire) service (c.past next_wire)
 
   abbrev writers_go : F → Writers K A C → F → Writers K A C → Type 0
-  writers_go m old m' new = Goes (stands_with m old.hold old.next old.back) (stands_with m' new.hold new.next new.back) (on_wires (a.past old.back_wire) service (c.past old.next_wire)) (on_wires (a.past new.back_wire) service (c.past new.next_wire))
+  writers_go m old m' new = Goes (stands_with m old.hold old.next old.back) (stands_with m' new.hold new.next new.back) (wires_with old.back_wire old.next_wire) (wires_with new.back_wire new.next_wire)
 
   begins_go : (choice : Choice G) (old : Writers K A C) (next back : K) → (shows old.hold.history).closed ≡ false → (choice.unasked → f' ≡ f)
       → ((head : List ℕ) (hop : K) → choice.makes head (k.body_framing hop) → made f' hop (shows old.hold.history) head)
@@ -186,28 +185,24 @@ module _ {K G A C F : Type 0} (f f' : F) (k : Hop K G) (a : Wire A) (c : Wire C)
         (subst (λ (z : K). writers_go f old f (writers old.hold z old.next_wire back old.back_wire)) (sym h.next_is)
         (subst (λ (z : K). writers_go f old f (writers old.hold old.next old.next_wire z old.back_wire)) (sym h.back_is) goes_none))
     | inr (inl o) ↦ subst (λ (z : K). writers_go f old f' (writers old.hold next old.next_wire z old.back_wire)) (sym o.other_is)
-        (next_begin_goes old.hold agrees read sent heard (k.gift old.next) (k.gift next) (k.gift old.back) _ _ _ _ _ _ _ refusing _ _ o.head _ running o.idle o.other_idle o.gift
+        (next_begin_goes old.hold (with_hops k (made f) sides old.next old.back) (writer_of k (made f' next) next) (writer_of k (made f' old.back) old.back) o.head _ running o.idle o.other_idle o.gift (record { gift = refl; aside = λ taken q. q })
         (λ body taken q z w. (makes o.head next o.made, o.given (shows old.hold.history) [] body taken (idle_given (shows old.hold.history) [] body taken old.next o.idle q z w))))
     | inr (inr o) ↦ subst (λ (z : K). writers_go f old f' (writers old.hold z old.next_wire back old.back_wire)) (sym o.other_is)
-        (back_begin_goes old.hold agrees read sent heard (k.gift old.next) (k.gift old.back) (k.gift back) _ _ _ _ _ _ _ refusing _ _ o.head _ running (reqmod o.way) o.other_idle o.idle o.gift
+        (back_begin_goes old.hold (with_hops k (made f) sides old.next old.back) (writer_of k (made f' old.next) old.next) (writer_of k (made f' back) back) o.head _ running (reqmod o.way) o.other_idle o.idle o.gift (record { gift = refl; aside = λ taken q. q })
         (λ body taken q z w. (makes o.head back o.made, o.given (shows old.hold.history) [] body taken (idle_given (shows old.hold.history) [] body taken old.back o.idle q z w))))
   ]
 
   gives_go : (old new : Writers K A C) (passed : Passed) → IsTied old.hold → (shows old.hold.history).closed ≡ false → (k.gift old.next ≡ nothing → k.gift old.back ≡ nothing → ⊥)
       → GivesOne k a c old new passed → writers_go f' old f' new
   gives_go old new passed tied running busy gives = elim gives [
-    | inl (idle, m, same, wire) ↦ subst (λ (z : K). Goes (stands_with f' old.hold old.next old.back) (stands_with f' new.hold new.next z) (on_wires (a.past old.back_wire) service (c.past old.next_wire)) (on_wires (a.past new.back_wire) service (c.past new.next_wire))) (sym same)
-        (subst (λ (z : A). Goes (stands_with f' old.hold old.next old.back) (stands_with f' new.hold new.next old.back) (on_wires (a.past old.back_wire) service (c.past old.next_wire)) (on_wires (a.past z) service (c.past new.next_wire))) (sym wire)
-        (next_goes k c (lending old.hold old.next old.next_wire) (lending new.hold new.next new.next_wire) agrees read sent heard (k.gift old.next) (k.gift new.next) (k.gift old.back) _ _ _ _ _ _ refusing _
-        (WholeOf (made f' old.back (shows new.hold.history)) (λ head body taken. k.is_whole head body taken old.back)) _ _ _ passed
-        (others new.next old.back) tied running idle (λ n. busy n idle) m.gift m.part
-        (with_heads k c (lending old.hold old.next old.next_wire) (lending new.hold new.next new.next_wire) (made f' old.next) (made f' new.next) passed tied (λ head q. frames old.next new.next _ head m.framing q) (keep new.next) m.part)))
-    | inr (idle, m, same, wire) ↦ subst (λ (z : K). Goes (stands_with f' old.hold old.next old.back) (stands_with f' new.hold z new.back) (on_wires (a.past old.back_wire) service (c.past old.next_wire)) (on_wires (a.past new.back_wire) service (c.past new.next_wire))) (sym same)
-        (subst (λ (z : C). Goes (stands_with f' old.hold old.next old.back) (stands_with f' new.hold old.next new.back) (on_wires (a.past old.back_wire) service (c.past old.next_wire)) (on_wires (a.past new.back_wire) service (c.past z))) (sym wire)
-        (back_goes k a (lending old.hold old.back old.back_wire) (lending new.hold new.back new.back_wire) agrees read sent heard (k.gift old.next) (k.gift old.back) (k.gift new.back) _ _ _ _ _ _ refusing _
-        (WholeOf (made f' old.next (shows new.hold.history)) (λ head body taken. k.is_whole head body taken old.next)) _ _ _ passed
-        (others old.next new.back) tied running idle m.gift m.part
-        (with_heads k a (lending old.hold old.back old.back_wire) (lending new.hold new.back new.back_wire) (made f' old.back) (made f' new.back) passed tied (λ head q. frames old.back new.back _ head m.framing q) (keep new.back) m.part)))
+    | inl (idle, m, same, wire) ↦ subst (λ (z : K). writers_go f' old f' (writers new.hold new.next new.next_wire z new.back_wire)) (sym same)
+        (subst (λ (z : A). writers_go f' old f' (writers new.hold new.next new.next_wire old.back z)) (sym wire)
+        (next_goes k c (lending old.hold old.next old.next_wire) (lending new.hold new.next new.next_wire) (made f' old.next) (made f' new.next) (with_hops k (made f') sides old.next old.back) (a.past old.back_wire) service passed
+        (others new.next old.back) tied running idle (λ n. busy n idle) m.gift (λ head q. frames old.next new.next _ head m.framing q) (keep new.next) m.part))
+    | inr (idle, m, same, wire) ↦ subst (λ (z : K). writers_go f' old f' (writers new.hold z new.next_wire new.back new.back_wire)) (sym same)
+        (subst (λ (z : C). writers_go f' old f' (writers new.hold old.next z new.back new.back_wire)) (sym wire)
+        (back_goes k a (lending old.hold old.back old.back_wire) (lending new.hold new.back new.back_wire) (made f' old.back) (made f' new.back) (with_hops k (made f') sides old.next old.back) service (c.past old.next_wire) passed
+        (others old.next new.back) tied running idle m.gift (λ head q. frames old.back new.back _ head m.framing q) (keep new.back) m.part))
   ]
 
   pub next_passes_go : (choice : Choice G) (old new : Writers K A C) (passed : Passed) → IsRoomy old.hold → (shows old.hold.history).closed ≡ false → (choice.unasked → f' ≡ f)
@@ -217,7 +212,8 @@ module _ {K G A C F : Type 0} (f f' : F) (k : Hop K G) (a : Wire A) (c : Wire C)
   next_passes_go choice old new passed roomy running same makes reqmod p = elim p.did [
     | inl n ↦ subst (λ (z : F). writers_go f old z new) (sym (same n.unasked)) (subst (λ (z : Writers K A C). writers_go f old f z) (sym n.same) goes_none)
     | inr (inl d) ↦ subst (λ (z : Writers K A C). writers_go f old f' z) (sym d.new_is)
-        (fail_goes old.hold _ d.cause _ _ _ _ _ _ _ _ _ _ (heads_idle k.gift k.has_given k.aside (made f) (made f') old.next old.back (shows old.hold.history) running d.next_idle d.back_idle)
+        (fail_goes old.hold (moved old.hold (Fail d.cause) []) d.cause (with_hops k (made f') sides old.next old.back) (with_hops k (made f) sides old.next old.back) (wires_with old.back_wire old.next_wire)
+        (record { hops = heads_idle k (made f) (made f') old.next old.back (shows old.hold.history) running d.next_idle d.back_idle; refuses = λ r. r })
         (others old.next old.back) p.tied roomy running refl)
     | inr (inr d) ↦ goes_then
         (begins_go choice old d.next d.back running same (λ head hop m. makes head hop d.chosen m) reqmod d.begins)

@@ -67,11 +67,3 @@ pub record IsMade {Framing : Type 0} (makes : Seen → Option (List ℕ) → Boo
   pub now : x ≡ after_all (seen x.plan before) since
   pub chosen : IsChosen (seen x.plan before)
   pub made : MakesAt makes adapted is_response (seen x.plan before) head framing
-
--- what was taken is of a message with such a head
-abbrev pub OfHead : (made : Seen → List ℕ → Type 0) → (given : Seen → List ℕ → List ℕ → List ℕ → Type 0) → Seen → List ℕ → List ℕ → List ℕ → Type 0
-OfHead made given x head body taken = made x head × given x head body taken
-
--- the whole message was taken, and its head is such a one
-abbrev pub WholeOf : (made : List ℕ → Type 0) → (whole : List ℕ → List ℕ → List ℕ → Type 0) → List ℕ → List ℕ → List ℕ → Type 0
-WholeOf made whole head body taken = made head × whole head body taken

@@ -250,20 +250,15 @@ pub record HearPart {V W : Type 0} (v : Service V) (w : Wire W) (old new : Lent 
   pub goes_on : (adapted read : List ℕ) → v.has_heard (shows old.hold.history) adapted read old.side
       → v.has_heard (after_all (shows old.hold.history) reported) (adapted ++ take (ad_sum reported) out) (read ++ delta) new.side
 
--- The writer's wire took so many more bytes of the message with the chosen body; where Done is reported, the whole of it was taken.
-pub record GivesOn (old : Holding) (reported : List Event) (delta : List ℕ) (given_old given_new : Seen → List ℕ → List ℕ → List ℕ → Type 0) (whole : List ℕ → List ℕ → List ℕ → Type 0) : Type 0 where
-  pub goes_on : (original adapted head taken : List ℕ) → EndsBody old.original original → EndsBody old.adapted adapted
-      → given_old (shows old.history) head (chosen (shows old.history) original adapted) taken
-      → given_new (after_all (shows old.history) reported) head (chosen (shows old.history) original adapted) (taken ++ delta)
-  pub done : (original adapted head taken : List ℕ) → EndsBody old.original original → EndsBody old.adapted adapted
-      → (after_all (shows old.history) reported).closed ≡ true
-      → given_old (shows old.history) head (chosen (shows old.history) original adapted) taken
-      → whole head (chosen (shows old.history) original adapted) (taken ++ delta)
-
--- the next hop's wire took these bytes
+-- The next hop's wire took so many more bytes of the message with the chosen body; where Done is reported, the whole of it was taken.
 pub record HopPart {K G W : Type 0} (k : Hop K G) (w : Wire W) (old new : Lent K W) (passed : Passed) : Type 0 where
   pub delta : List ℕ
   pub reported : List Event
   pub part : Part (hop_view k w old new) old.hold new.hold (writing reported delta) passed
-  pub gives : GivesOn old.hold reported delta (λ x head body taken. k.has_given x head body taken old.side) (λ x head body taken. k.has_given x head body taken new.side)
-      (λ head body taken. k.is_whole head body taken new.side)
+  pub goes_on : (original adapted head taken : List ℕ) → EndsBody old.hold.original original → EndsBody old.hold.adapted adapted
+      → k.has_given (shows old.hold.history) head (chosen (shows old.hold.history) original adapted) taken old.side
+      → k.has_given (after_all (shows old.hold.history) reported) head (chosen (shows old.hold.history) original adapted) (taken ++ delta) new.side
+  pub done : (original adapted head taken : List ℕ) → EndsBody old.hold.original original → EndsBody old.hold.adapted adapted
+      → (after_all (shows old.hold.history) reported).closed ≡ true
+      → k.has_given (shows old.hold.history) head (chosen (shows old.hold.history) original adapted) taken old.side
+      → k.is_whole head (chosen (shows old.hold.history) original adapted) (taken ++ delta) new.side

@@ -7,6 +7,8 @@ use Rattle.trace_core.specs.declared.history.Point.{Point}
 use Rattle.trace_core.specs.declared.history.Point.TheVariants.{Reqmod, Respmod}
 use Rattle.trace_core.specs.Faults.{chooses_original}
 use Rattle.wire_kit.specs.Past.{Past, IsLater}
+use Rattle.wire_kit.specs.declared.wire.Wire.{Ghosts as Wire}
+use Rattle.adapt_sides.specs.declared.hop.Hop.{Ghosts as Hop}
 use Rattle.adapt_sides.specs.declared.fault.ClientFault.{ClientFault}
 use Rattle.adapt_sides.specs.Tapes.{chosen, IsUndelivered}
 use Rattle.adapt_sides.specs.Turns.{Gift, Given, given_then, OfClientWire, OfRelayWire}
@@ -15,7 +17,7 @@ use Rattle.adapt_hold.specs.Spans.{Span, EndsBody}
 use Rattle.adapt_hold.specs.Holding.{Holding, shows}
 use Rattle.trace_core.specs.History.{History}
 use Rattle.adapt_turn.specs.declared.turned.Outcome.TheVariants as outcomes
-use Rattle.adapt_turn.specs.Parts.{outcome_of, service_cause, hop_cause}
+use Rattle.adapt_turn.specs.Parts.{Lent, outcome_of, service_cause, hop_cause}
 
 -- the next hop has a message to get
 abbrev pub IsChosen : Seen → Type 0
@@ -53,38 +55,55 @@ abbrev pub user_gift : Point → Gift → Gift → Gift
 user_gift Reqmod next back = back
 user_gift Respmod next back = next
 
+-- A writer on a wire, by what is seen.
+pub record WriterView : Type 1 where
+  -- what it has
+  pub gift : Gift
+  -- of the message with this head, and with a body of which these bytes came, its wire took these bytes
+  pub given : Seen → List ℕ → List ℕ → List ℕ → Type 0
+  -- its wire took no byte of a message: these bytes are of a refusal, or there are none
+  pub aside : List ℕ → Type 0
+  -- these bytes are the whole message with this head and this body
+  pub whole : Seen → List ℕ → List ℕ → List ℕ → Type 0
+
+-- such a writer, where these are the heads that are made for it
+abbrev pub writer_of : {K G : Type 0} → Hop K G → (made : Seen → List ℕ → Type 0) → K → WriterView
+writer_of k made hop = record {
+  gift = k.gift hop;
+  given = λ x head body taken. made x head × k.has_given x head body taken hop;
+  aside = λ taken. k.aside taken hop;
+  whole = λ x head body taken. made x head × k.is_whole head body taken hop;
+}
+
 -- Where a message goes that has this head: one of the two wires has it, and as long as the history is open nothing is begun on the other one.
-pub record MessageOn (given : Seen → List ℕ → List ℕ → List ℕ → Type 0) (gift : Gift) (aside : List ℕ → Type 0) (other : Gift) (x : Seen) (body taken elsewhere : List ℕ) : Type 0 where
-  pub begun : gift ≡ message
-  pub alone : x.closed ≡ false → other ≡ nothing
+pub record MessageOn (own other : WriterView) (x : Seen) (body taken elsewhere : List ℕ) : Type 0 where
+  pub begun : own.gift ≡ message
+  pub alone : x.closed ≡ false → other.gift ≡ nothing
   pub head : List ℕ
-  pub given_is : given x head body taken
-  pub aside_is : aside elsewhere
+  pub given_is : own.given x head body taken
+  pub aside_is : other.aside elsewhere
 
 -- What the two wires took of messages and refusals: nothing is begun; one message goes to the next hop, or back to the user; or the
 -- history is closed, no byte of a body went out, and each wire took of a refusal alone, or nothing.
-pub record NoneBegun (next_gift back_gift : Gift) (next_aside back_aside : List ℕ → Type 0) (x : Seen) (next back : List ℕ) : Type 0 where
-  pub next_is : next_gift ≡ nothing
-  pub back_is : back_gift ≡ nothing
+pub record NoneBegun (next back : WriterView) (x : Seen) (to_next to_back : List ℕ) : Type 0 where
+  pub next_is : next.gift ≡ nothing
+  pub back_is : back.gift ≡ nothing
   pub none : IsUndelivered x
-  pub next_aside_is : next_aside next
-  pub back_aside_is : back_aside back
+  pub next_aside_is : next.aside to_next
+  pub back_aside_is : back.aside to_back
 
-pub record IsRefused (next_aside back_aside : List ℕ → Type 0) (x : Seen) (next back : List ℕ) : Type 0 where
+pub record IsRefused (next back : WriterView) (x : Seen) (to_next to_back : List ℕ) : Type 0 where
   pub over : x.closed ≡ true
   pub none : IsUndelivered x
-  pub next_aside_is : next_aside next
-  pub back_aside_is : back_aside back
+  pub next_aside_is : next.aside to_next
+  pub back_aside_is : back.aside to_back
 
-abbrev pub HopsAre : (next_gift back_gift : Gift)
-    → (next_given : Seen → List ℕ → List ℕ → List ℕ → Type 0) → (next_aside : List ℕ → Type 0)
-    → (back_given : Seen → List ℕ → List ℕ → List ℕ → Type 0) → (back_aside : List ℕ → Type 0)
-    → Seen → List ℕ → List ℕ → List ℕ → Type 0
-HopsAre next_gift back_gift next_given next_aside back_given back_aside x body next back =
-    NoneBegun next_gift back_gift next_aside back_aside x next back
-    ⊎ (MessageOn next_given next_gift back_aside back_gift x body next back
-    ⊎ (MessageOn back_given back_gift next_aside next_gift x body back next
-    ⊎ IsRefused next_aside back_aside x next back))
+abbrev pub HopsAre : (next back : WriterView) → Seen → (body to_next to_back : List ℕ) → Type 0
+HopsAre next back x body to_next to_back =
+    NoneBegun next back x to_next to_back
+    ⊎ (MessageOn next back x body to_next to_back
+    ⊎ (MessageOn back next x body to_back to_next
+    ⊎ IsRefused next back x to_next to_back))
 
 -- and what the other writer has
 abbrev pub other_gift : Point → Gift → Gift → Gift
@@ -93,47 +112,59 @@ other_gift Respmod next back = back
 
 -- a refusal is due only once the history is closed, and where the user's writer has no message; the other writer has none; and at
 -- RESPMOD no message goes back to the source, which is the origin
-abbrev pub IsRefusing : (refusing : Bool) → (next_gift back_gift : Gift) → Seen → Type 0
-IsRefusing refusing next_gift back_gift x =
-    (refusing ≡ true → (x.closed ≡ true) × (user_gift x.plan.point next_gift back_gift ≡ message → ⊥))
-    × ((status : ℕ) → other_gift x.plan.point next_gift back_gift ≡ refusal status → ⊥)
-    × (x.plan.point ≡ Respmod → back_gift ≡ message → ⊥)
+abbrev pub IsRefusing : (refusing : Bool) → (next back : WriterView) → Seen → Type 0
+IsRefusing refusing next back x =
+    (refusing ≡ true → (x.closed ≡ true) × (user_gift x.plan.point next.gift back.gift ≡ message → ⊥))
+    × ((status : ℕ) → other_gift x.plan.point next.gift back.gift ≡ refusal status → ⊥)
+    × (x.plan.point ≡ Respmod → back.gift ≡ message → ⊥)
 
 -- Done stands
 abbrev pub IsDone : History → Type 0
 IsDone history = ((shows history).closed ≡ true) × (outcome_of history.events ≡ outcomes.Done)
 
 -- a wire took the whole message with this body, and the other one nothing of a message
-pub record TookWhole (whole : List ℕ → List ℕ → List ℕ → Type 0) (gift : Gift) (aside : List ℕ → Type 0) (body taken elsewhere : List ℕ) : Type 0 where
-  pub begun : gift ≡ message
+pub record TookWhole (own other : WriterView) (x : Seen) (body taken elsewhere : List ℕ) : Type 0 where
+  pub begun : own.gift ≡ message
   pub head : List ℕ
-  pub whole_is : whole head body taken
-  pub aside_is : aside elsewhere
+  pub whole_is : own.whole x head body taken
+  pub aside_is : other.aside elsewhere
 
 -- one of the two wires took the whole message, and no refusal is due
-abbrev pub IsDelivered : (refusing : Bool) → (next_gift back_gift : Gift)
-    → (next_whole : List ℕ → List ℕ → List ℕ → Type 0) → (next_aside : List ℕ → Type 0)
-    → (back_whole : List ℕ → List ℕ → List ℕ → Type 0) → (back_aside : List ℕ → Type 0)
-    → List ℕ → List ℕ → List ℕ → Type 0
-IsDelivered refusing next_gift back_gift next_whole next_aside back_whole back_aside body next back =
-    (refusing ≡ false) × (TookWhole next_whole next_gift back_aside body next back ⊎ TookWhole back_whole back_gift next_aside body back next)
+abbrev pub IsDelivered : (refusing : Bool) → (next back : WriterView) → Seen → (body to_next to_back : List ℕ) → Type 0
+IsDelivered refusing next back x body to_next to_back =
+    (refusing ≡ false) × (TookWhole next back x body to_next to_back ⊎ TookWhole back next x body to_back to_next)
+
+-- The sides of a transaction, by what each says of its wire where this is seen.
+pub record SideViews : Type 1 where
+  -- the source's numbers are those of what is seen
+  pub agrees : Seen → Type 0
+  -- these bytes of the original came, and this the source's wire gave
+  pub read : Seen → List ℕ → Given → Type 0
+  -- of the request with these heads, and of an original of which these bytes came, the service's wire took these bytes
+  pub sent : List ℕ → Seen → List ℕ → List ℕ → Type 0
+  -- these adapted bytes came, and these bytes the service's wire gave
+  pub heard : Seen → List ℕ → List ℕ → Type 0
+  -- the writers on the next hop's wire and on the source's
+  pub next : WriterView
+  pub back : WriterView
+  -- a refusal is due
+  pub refusing : Bool
 
 -- The source's bytes spell the original, the service's the adapted body, and the tapes keep the ends of both; what the service's
 -- wire took is of one request, with these heads and the original, and what the next hop's took of one message with the chosen body:
 -- where Done stands, it took the whole of it.
-pub record Stands (h : Holding) (agrees : Seen → Type 0) (read : Seen → List ℕ → Given → Type 0) (sent : List ℕ → Seen → List ℕ → List ℕ → Type 0) (heard : Seen → List ℕ → List ℕ → Type 0)
-    (hops : Seen → List ℕ → List ℕ → List ℕ → Type 0) (refuses : Seen → Type 0) (delivered : List ℕ → List ℕ → List ℕ → Type 0) (request : List ℕ) (t : Texts) : Type 0 where
+pub record Stands (h : Holding) (sides : SideViews) (request : List ℕ) (t : Texts) : Type 0 where
   pub original : List ℕ
   pub adapted : List ℕ
   pub original_is : EndsBody h.original original
   pub adapted_is : EndsBody h.adapted adapted
-  pub agrees_is : (shows h.history).closed ≡ false → agrees (shows h.history)
-  pub read_is : read (shows h.history) original t.source_read
-  pub sent_is : sent request (shows h.history) original t.service_taken
-  pub heard_is : heard (shows h.history) adapted t.service_read
-  pub hops_are : hops (shows h.history) (chosen (shows h.history) original adapted) t.next_taken t.back_taken
-  pub refuses_is : refuses (shows h.history)
-  pub done_is : IsDone h.history → delivered (chosen (shows h.history) original adapted) t.next_taken t.back_taken
+  pub agrees_is : (shows h.history).closed ≡ false → sides.agrees (shows h.history)
+  pub read_is : sides.read (shows h.history) original t.source_read
+  pub sent_is : sides.sent request (shows h.history) original t.service_taken
+  pub heard_is : sides.heard (shows h.history) adapted t.service_read
+  pub hops_are : HopsAre sides.next sides.back (shows h.history) (chosen (shows h.history) original adapted) t.next_taken t.back_taken
+  pub refuses_is : IsRefusing sides.refusing sides.next sides.back (shows h.history)
+  pub done_is : IsDone h.history → IsDelivered sides.refusing sides.next sides.back (shows h.history) (chosen (shows h.history) original adapted) t.next_taken t.back_taken
 
 -- What may have happened on the three wires so far.
 pub record Pasts : Type 1 where
@@ -149,11 +180,11 @@ pub record Goes (old_stands new_stands : List ℕ → Texts → Type 0) (old new
   pub service : (p : Past) → old.service p → (q : Past) × new.service q × IsLater p delta.service_read delta.service_taken q
   pub next : (p : Past) → old.next p → (q : Past) × new.next q × IsLater p [] delta.next_taken q
 
--- a wire took these bytes of a refusal
-pub record TakesAside (old_aside new_aside : List ℕ → Type 0) (before after : Past → Type 0) : Type 0 where
+-- a writer's wire took these bytes of a refusal
+pub record TakesAside {K G W : Type 0} (k : Hop K G) (w : Wire W) (old new : Lent K W) : Type 0 where
   pub delta : List ℕ
-  pub aside : (taken : List ℕ) → old_aside taken → new_aside (taken ++ delta)
-  pub wire : (p : Past) → before p → (q : Past) × after q × IsLater p [] delta q
+  pub aside : (taken : List ℕ) → k.aside taken old.side → k.aside (taken ++ delta) new.side
+  pub wire : (p : Past) → w.past old.wire p → (q : Past) × w.past new.wire q × IsLater p [] delta q
 
 -- nothing was due, or the wire answered Wait in this call
 abbrev pub Waited : Type 0 → (Past → ℕ) → (Past → Type 0) → (Past → Type 0) → Type 0

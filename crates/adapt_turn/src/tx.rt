@@ -97,19 +97,19 @@ pub struct Tx<B: Ledgers, E: EndTypes> {
 impl<B: Ledgers, E: EndTypes> Standing for Tx<B, E> {
     ghost use Rattle.std.specs.Prelude.{◌≡◌, [], MatchOption};
     ghost use Rattle.trace_core.specs.declared.history.Seen.{Seen};
-    ghost use Rattle.adapt_turn.specs.Stands.{Stands, HopsAre, IsRefusing, IsDelivered};
-    ghost use Rattle.adapt_turn.specs.Made.{IsMade, OfHead, WholeOf, adapted_of, response_of, on_held};
+    ghost use Rattle.adapt_turn.specs.Stands.{Stands, writer_of};
+    ghost use Rattle.adapt_turn.specs.Made.{IsMade, adapted_of, response_of, on_held};
 
     ghost stands = { λ tx request t.
         let made : E.Writer → Seen → List ℕ → Type 0 = λ hop x head. IsMade (E.Maker.makes tx.ends.maker (E.Reader.head tx.ends.source)) (adapted_of E.Client.adapted_head tx.ends.service) (response_of E.Client.is_response tx.ends.service) (E.Writer.body_framing hop) x head in
-        Stands tx.hold (λ x. E.Reader.agrees x tx.ends.source) (λ x body read. E.Reader.has_read x body read tx.ends.source)
-        (λ heads x came taken. MatchOption tx.ends.service (taken ≡ []) (λ line. E.Client.has_sent heads x came taken line.side))
-        (λ x adapted read. MatchOption tx.ends.service ((adapted ≡ []) × (read ≡ [])) (λ line. E.Client.has_heard x adapted read line.side))
-        (HopsAre (E.Writer.gift tx.ends.next) (E.Writer.gift tx.ends.back) (OfHead (made tx.ends.next) (λ x head body taken. E.Writer.has_given x head body taken tx.ends.next)) (λ taken. E.Writer.aside taken tx.ends.next)
-        (OfHead (made tx.ends.back) (λ x head body taken. E.Writer.has_given x head body taken tx.ends.back)) (λ taken. E.Writer.aside taken tx.ends.back))
-        (IsRefusing tx.refusing (E.Writer.gift tx.ends.next) (E.Writer.gift tx.ends.back))
-        (IsDelivered tx.refusing (E.Writer.gift tx.ends.next) (E.Writer.gift tx.ends.back) (WholeOf (made tx.ends.next (shows tx.hold.history)) (λ head body taken. E.Writer.is_whole head body taken tx.ends.next)) (λ taken. E.Writer.aside taken tx.ends.next)
-        (WholeOf (made tx.ends.back (shows tx.hold.history)) (λ head body taken. E.Writer.is_whole head body taken tx.ends.back)) (λ taken. E.Writer.aside taken tx.ends.back)) request t };
+        Stands tx.hold (record {
+        agrees = λ x. E.Reader.agrees x tx.ends.source;
+        read = λ x body read. E.Reader.has_read x body read tx.ends.source;
+        sent = λ heads x came taken. MatchOption tx.ends.service (taken ≡ []) (λ line. E.Client.has_sent heads x came taken line.side);
+        heard = λ x adapted read. MatchOption tx.ends.service ((adapted ≡ []) × (read ≡ [])) (λ line. E.Client.has_heard x adapted read line.side);
+        next = writer_of E.Writer.Hop (made tx.ends.next) tx.ends.next;
+        back = writer_of E.Writer.Hop (made tx.ends.back) tx.ends.back;
+        refusing = tx.refusing }) request t };
 
     ghost pasts = { λ tx. record { source = E.SourceWire.past tx.ends.source_wire; service = λ p. on_held tx.ends.service ⊥ (λ wire. E.ServiceWire.past wire p); next = E.NextWire.past tx.ends.next_wire } };
 }

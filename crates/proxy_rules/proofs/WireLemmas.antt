@@ -14,7 +14,7 @@ use Rattle.adapt_sides.specs.Turns.Gift.{message, refusal as refused_by}
 use Rattle.adapt_hold.specs.Spans.{EndsBody}
 use Rattle.adapt_hold.specs.Holding.{Holding, IsTied, shows}
 use Rattle.adapt_turn.specs.declared.ends.ServiceEnd.{ServiceEnd}
-use Rattle.adapt_turn.specs.Stands.{HopsAre, IsDelivered, other_gift}
+use Rattle.adapt_turn.specs.Stands.{WriterView, HopsAre, IsDelivered, other_gift}
 use Rattle.icap_client.specs.Turns.{Service, ServiceSent}
 use Rattle.icap_client.proofs.Prefixes.{sent_is_front_legal}
 use Rattle.http_relay.specs.declared.hop.Stage.{Stage}
@@ -119,52 +119,52 @@ pub service_one : {W : Type 0} (head : List ℕ) (h : Holding) (original taken :
 service_one head h original taken None t o e = e
 service_one head h original taken (Some line) t o g = λ n. sent_one head h original taken line.side t o n g
 
+-- such a writer, as a transaction sees it, where these are the heads that are made for it
+abbrev writer_at : (made : Seen → List ℕ → Type 0) → Hop → WriterView
+writer_at made hop = record {
+  gift = gift_of hop.stage;
+  given = λ x head body taken. made x head × HasGiven x head body taken hop;
+  aside = λ taken. IsAside taken hop;
+  whole = λ x head body taken. made x head × IsMessage hop.framing head body taken;
+}
+
 -- where one took the whole message
-pub whole_one : (next back : Hop) (next_made back_made : List ℕ → Type 0) (refusing : Bool) (body to_next to_back : List ℕ)
-    → IsDelivered refusing (gift_of next.stage) (gift_of back.stage) (λ head body taken. next_made head × IsMessage next.framing head body taken) (λ taken. IsAside taken next)
-    (λ head body taken. back_made head × IsMessage back.framing head body taken) (λ taken. IsAside taken back) body to_next to_back
-    → TookMessage next_made next.framing body to_next ⊎ TookMessage back_made back.framing body to_back
-whole_one next back next_made back_made refusing body to_next to_back d = elim d.1 [
+pub whole_one : (next back : Hop) (next_made back_made : Seen → List ℕ → Type 0) (refusing : Bool) (x : Seen) (body to_next to_back : List ℕ)
+    → IsDelivered refusing (writer_at next_made next) (writer_at back_made back) x body to_next to_back
+    → TookMessage (next_made x) next.framing body to_next ⊎ TookMessage (back_made x) back.framing body to_back
+whole_one next back next_made back_made refusing x body to_next to_back d = elim d.1 [
   | inl w ↦ inl (record { head = w.head; made_is = w.whole_is.0; message = w.whole_is.1 })
   | inr w ↦ inr (record { head = w.head; made_is = w.whole_is.0; message = w.whole_is.1 })
 ]
 
-pub hops_one : (h : Holding) (next back : Hop) (next_made back_made : List ℕ → Type 0) (next_given back_given : Seen → List ℕ → List ℕ → List ℕ → Type 0) (original adapted to_next to_back : List ℕ)
+pub hops_one : (h : Holding) (next back : Hop) (next_made back_made : Seen → List ℕ → Type 0) (original adapted to_next to_back : List ℕ)
     → IsTied h → EndsBody h.original original → EndsBody h.adapted adapted
-    → ((head body taken : List ℕ) → next_given (shows h.history) head body taken → next_made head × HasGiven (shows h.history) head body taken next)
-    → ((head body taken : List ℕ) → back_given (shows h.history) head body taken → back_made head × HasGiven (shows h.history) head body taken back)
-    → HopsAre (gift_of next.stage) (gift_of back.stage) next_given (λ taken. IsAside taken next) back_given (λ taken. IsAside taken back) (shows h.history) (chosen (shows h.history) original adapted) to_next to_back
-    → (TookOne next_made next.framing (shows h.history) (chosen (shows h.history) original adapted) to_next × TookNoMessage to_back) ⊎ (TookNoMessage to_next × TookOne back_made back.framing (shows h.history) (chosen (shows h.history) original adapted) to_back)
-hops_one h next back next_made back_made next_given back_given original adapted to_next to_back t o a as_next as_back (inl m) = inl (inl (m.none, aside_none to_next next m.next_aside_is), aside_none to_back back m.back_aside_is)
-hops_one h next back next_made back_made next_given back_given original adapted to_next to_back t o a as_next as_back (inr (inl m)) =
+    → HopsAre (writer_at next_made next) (writer_at back_made back) (shows h.history) (chosen (shows h.history) original adapted) to_next to_back
+    → (TookOne (next_made (shows h.history)) next.framing (shows h.history) (chosen (shows h.history) original adapted) to_next × TookNoMessage to_back)
+    ⊎ (TookNoMessage to_next × TookOne (back_made (shows h.history)) back.framing (shows h.history) (chosen (shows h.history) original adapted) to_back)
+hops_one h next back next_made back_made original adapted to_next to_back t o a (inl m) = inl (inl (m.none, aside_none to_next next m.next_aside_is), aside_none to_back back m.back_aside_is)
+hops_one h next back next_made back_made original adapted to_next to_back t o a (inr (inl m)) =
     let x = shows h.history in
-    let body = chosen x original adapted in
-    let w = as_next m.head body to_next m.given_is in
-    inl (inr (front_one next_made x m.head body to_next next w.0 m.begun (chosen_is h original adapted t o a) w.1), aside_none to_back back m.aside_is)
-hops_one h next back next_made back_made next_given back_given original adapted to_next to_back t o a as_next as_back (inr (inr (inl m))) =
+    inl (inr (front_one (next_made x) x m.head (chosen x original adapted) to_next next m.given_is.0 m.begun (chosen_is h original adapted t o a) m.given_is.1), aside_none to_back back m.aside_is)
+hops_one h next back next_made back_made original adapted to_next to_back t o a (inr (inr (inl m))) =
     let x = shows h.history in
-    let body = chosen x original adapted in
-    let w = as_back m.head body to_back m.given_is in
-    inr (aside_none to_next next m.aside_is, inr (front_one back_made x m.head body to_back back w.0 m.begun (chosen_is h original adapted t o a) w.1))
-hops_one h next back next_made back_made next_given back_given original adapted to_next to_back t o a as_next as_back (inr (inr (inr m))) =
+    inr (aside_none to_next next m.aside_is, inr (front_one (back_made x) x m.head (chosen x original adapted) to_back back m.given_is.0 m.begun (chosen_is h original adapted t o a) m.given_is.1))
+hops_one h next back next_made back_made original adapted to_next to_back t o a (inr (inr (inr m))) =
     inl (inl (m.none, aside_none to_next next m.next_aside_is), aside_none to_back back m.back_aside_is)
 
-pub other_one : (point : Point) (h : Holding) (next back : Hop) (next_made : List ℕ → Type 0) (next_given back_given : Seen → List ℕ → List ℕ → List ℕ → Type 0) (original adapted to_next to_back : List ℕ)
+pub other_one : (point : Point) (h : Holding) (next back : Hop) (next_made back_made : Seen → List ℕ → Type 0) (original adapted to_next to_back : List ℕ)
     → IsTied h → EndsBody h.original original → EndsBody h.adapted adapted
-    → ((head body taken : List ℕ) → next_given (shows h.history) head body taken → next_made head × HasGiven (shows h.history) head body taken next)
     → ((status : ℕ) → other_gift point (gift_of next.stage) (gift_of back.stage) ≡ refused_by status → ⊥)
     → (point ≡ Respmod → gift_of back.stage ≡ message → ⊥)
-    → HopsAre (gift_of next.stage) (gift_of back.stage) next_given (λ taken. IsAside taken next) back_given (λ taken. IsAside taken back) (shows h.history) (chosen (shows h.history) original adapted) to_next to_back
-    → OtherTook point next_made next.framing (shows h.history) (chosen (shows h.history) original adapted) to_next to_back
-other_one Reqmod h next back next_made next_given back_given original adapted to_next to_back t o a as_next none away (inl m) = inl (unrefused to_next next none m.next_aside_is)
-other_one Reqmod h next back next_made next_given back_given original adapted to_next to_back t o a as_next none away (inr (inl m)) =
+    → HopsAre (writer_at next_made next) (writer_at back_made back) (shows h.history) (chosen (shows h.history) original adapted) to_next to_back
+    → OtherTook point (next_made (shows h.history)) next.framing (shows h.history) (chosen (shows h.history) original adapted) to_next to_back
+other_one Reqmod h next back next_made back_made original adapted to_next to_back t o a none away (inl m) = inl (unrefused to_next next none m.next_aside_is)
+other_one Reqmod h next back next_made back_made original adapted to_next to_back t o a none away (inr (inl m)) =
     let x = shows h.history in
-    let body = chosen x original adapted in
-    let w = as_next m.head body to_next m.given_is in
-    inr (front_one next_made x m.head body to_next next w.0 m.begun (chosen_is h original adapted t o a) w.1)
-other_one Reqmod h next back next_made next_given back_given original adapted to_next to_back t o a as_next none away (inr (inr (inl m))) = inl (unrefused to_next next none m.aside_is)
-other_one Reqmod h next back next_made next_given back_given original adapted to_next to_back t o a as_next none away (inr (inr (inr m))) = inl (unrefused to_next next none m.next_aside_is)
-other_one Respmod h next back next_made next_given back_given original adapted to_next to_back t o a as_next none away (inl m) = unrefused to_back back none m.back_aside_is
-other_one Respmod h next back next_made next_given back_given original adapted to_next to_back t o a as_next none away (inr (inl m)) = unrefused to_back back none m.aside_is
-other_one Respmod h next back next_made next_given back_given original adapted to_next to_back t o a as_next none away (inr (inr (inl m))) = absurd (away refl m.begun)
-other_one Respmod h next back next_made next_given back_given original adapted to_next to_back t o a as_next none away (inr (inr (inr m))) = unrefused to_back back none m.back_aside_is
+    inr (front_one (next_made x) x m.head (chosen x original adapted) to_next next m.given_is.0 m.begun (chosen_is h original adapted t o a) m.given_is.1)
+other_one Reqmod h next back next_made back_made original adapted to_next to_back t o a none away (inr (inr (inl m))) = inl (unrefused to_next next none m.aside_is)
+other_one Reqmod h next back next_made back_made original adapted to_next to_back t o a none away (inr (inr (inr m))) = inl (unrefused to_next next none m.next_aside_is)
+other_one Respmod h next back next_made back_made original adapted to_next to_back t o a none away (inl m) = unrefused to_back back none m.back_aside_is
+other_one Respmod h next back next_made back_made original adapted to_next to_back t o a none away (inr (inl m)) = unrefused to_back back none m.aside_is
+other_one Respmod h next back next_made back_made original adapted to_next to_back t o a none away (inr (inr (inl m))) = absurd (away refl m.begun)
+other_one Respmod h next back next_made back_made original adapted to_next to_back t o a none away (inr (inr (inr m))) = unrefused to_back back none m.back_aside_is

@@ -7,10 +7,10 @@ use Rattle.adapt_turn.specs.declared.ends.ServiceEnd.{ServiceEnd}
 use Rattle.adapt_turn.specs.declared.turned.Side.{Side}
 use Rattle.adapt_turn.specs.declared.turned.Outcome.{Outcome}
 use Rattle.adapt_turn.specs.declared.turned.Outcome.TheVariants.{Fail}
-use Rattle.adapt_turn.specs.Made.{IsMade, OfHead, WholeOf, adapted_of, response_of}
+use Rattle.adapt_turn.specs.Made.{IsMade, adapted_of, response_of}
 use Rattle.adapt_turn.specs.Parts.{fault_of}
 use Rattle.adapt_turn.specs.Refusals.{refusal_status, user_untouched, HasRefusal}
-use Rattle.adapt_turn.specs.Stands.{Texts, Stands, HopsAre, IsRefusing, IsDelivered, user_gift}
+use Rattle.adapt_turn.specs.Stands.{Texts, WriterView, Stands, user_gift}
 use Rattle.http_relay.specs.declared.side.SourceSide.{SourceSide}
 use Rattle.http_relay.specs.Giving.{Hop, HasGiven, IsAside, gift_of}
 use Rattle.http_relay.specs.Message.{IsMessage}
@@ -25,17 +25,27 @@ abbrev pub MadeOf : {W : Type 0} → HeadMaker → SourceSide → Option (Servic
 MadeOf maker source service hop x head =
     IsMade (λ y adapted is_response h framing. Remembers maker.last maker.user source.head y adapted is_response h framing maker.closes) (adapted_of adapted_head_of service) (response_of is_response_of service) hop.framing x head
 
+-- a writer of these sides, as a transaction sees it
+abbrev pub writer_over : {W : Type 0} → HeadMaker → SourceSide → Option (ServiceEnd Service W) → Hop → WriterView
+writer_over maker source service hop = record {
+  gift = gift_of hop.stage;
+  given = λ x head body taken. MadeOf maker source service hop x head × HasGiven x head body taken hop;
+  aside = λ taken. IsAside taken hop;
+  whole = λ x head body taken. MadeOf maker source service hop x head × IsMessage hop.framing head body taken;
+}
+
 -- what stands between a transaction of these sides and its wires
 abbrev pub StandsOver : {W : Type 0} → Holding → SourceSide → Option (ServiceEnd Service W) → (next back : Hop) → HeadMaker → (refusing : Bool) → List ℕ → Texts → Type 0
 StandsOver hold source service next back maker refusing request t =
-    Stands hold (λ x. Agrees x source.body) (λ x body read. SideRead x body read.bytes read.ended source)
-    (λ heads x came taken. MatchOption service (taken ≡ []) (λ line. ServiceSent heads x came taken line.side))
-    (λ x adapted read. MatchOption service ((adapted ≡ []) × (read ≡ [])) (λ line. ServiceHeard x adapted read line.side))
-    (HopsAre (gift_of next.stage) (gift_of back.stage) (OfHead (MadeOf maker source service next) (λ x head body taken. HasGiven x head body taken next)) (λ taken. IsAside taken next)
-    (OfHead (MadeOf maker source service back) (λ x head body taken. HasGiven x head body taken back)) (λ taken. IsAside taken back))
-    (IsRefusing refusing (gift_of next.stage) (gift_of back.stage))
-    (IsDelivered refusing (gift_of next.stage) (gift_of back.stage) (WholeOf (MadeOf maker source service next (shows hold.history)) (λ head body taken. IsMessage next.framing head body taken)) (λ taken. IsAside taken next)
-    (WholeOf (MadeOf maker source service back (shows hold.history)) (λ head body taken. IsMessage back.framing head body taken)) (λ taken. IsAside taken back)) request t
+    Stands hold (record {
+      agrees = λ x. Agrees x source.body;
+      read = λ x body read. SideRead x body read.bytes read.ended source;
+      sent = λ heads x came taken. MatchOption service (taken ≡ []) (λ line. ServiceSent heads x came taken line.side);
+      heard = λ x adapted read. MatchOption service ((adapted ≡ []) × (read ≡ [])) (λ line. ServiceHeard x adapted read line.side);
+      next = writer_over maker source service next;
+      back = writer_over maker source service back;
+      refusing = refusing;
+    }) request t
 
 -- no side has a fault; the service's may have one where its connection broke
 abbrev pub IsFaultless : {W : Type 0} → SourceSide → Option (ServiceEnd Service W) → (broken : Bool) → (next back : Hop) → Type 0

@@ -8,7 +8,7 @@ ghost use Rattle.http_side.specs.Refusals.{is_own_status};
 ghost use Rattle.adapt_sides.specs.Turns.{Gift, wire_fault};
 ghost use Rattle.adapt_sides.specs.Turns.Gift.{refusal, message};
 ghost use Rattle.adapt_hold.specs.Holding.{shows, moved};
-ghost use Rattle.adapt_turn.specs.Parts.{outcome_by};
+ghost use Rattle.adapt_turn.specs.Parts.{lending, outcome_by};
 ghost use Rattle.adapt_turn.specs.Refusals.{refusal_status, user_untouched, IsOver};
 ghost use Rattle.adapt_turn.specs.Rows.{BytesOr};
 ghost use Rattle.adapt_turn.specs.ByTurn.{ByAnswer};
@@ -52,7 +52,7 @@ fn refusal_turn<B: Ledgers, K: Hop, C: Wire>(
     ensures moves { (shows hold.now.history).closed ≡ true → result ≡ Some false → BytesOr ⊥ (C.past wire.old) (C.past wire.new) }
     ensures over { result ≡ None → IsOver (K.is_out hop.new) (K.fault hop.new) }
     ensures ends { IsOver (K.is_out hop.old) (K.fault hop.old) → result ≡ None }
-    ensures takes { TakesAside (λ taken. K.aside taken hop.old) (λ taken. K.aside taken hop.new) (C.past wire.old) (C.past wire.new) }
+    ensures takes { TakesAside K.Hop C.Wire (lending hold.now hop.old wire.old) (lending hold.now hop.new wire.new) }
 {
     if hop.is_out() {
         return None;

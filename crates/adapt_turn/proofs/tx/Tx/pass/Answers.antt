@@ -1,56 +1,56 @@
 use Rattle.std.proofs.Common.{◌≡◌, ◌∙◌, inl, inr, Some, refl, sym, subst}
 use Rattle.std.proofs.lemmas.Bool.{false≢true}
 use Rattle.adapt_hold.specs.Holding.{shows}
-use Rattle.adapt_turn.specs.Made.{IsMade, OfHead, WholeOf, adapted_of, response_of}
+use Rattle.adapt_turn.specs.Made.{IsMade, adapted_of, response_of}
 use Rattle.adapt_turn.specs.Parts.{lending}
-use Rattle.adapt_turn.specs.Stands.{HopsAre, IsRefusing, IsDelivered}
 use Rattle.adapt_turn.specs.Passes.{choice_of, writers}
 use Rattle.adapt_turn.proofs.Giving.{answers_reqmod}
 use Rattle.adapt_turn.proofs.Writers.{next_passes_go}
 use Rattle.adapt_turn.proofs.Made.{made_by, made_now, made_on, heads_then, source_heads, line_heads}
 use Rattle.adapt_turn.proofs.Lines.{line_told}
 use Rattle.adapt_turn.proofs.Refusals.{none_due}
-use Rattle.adapt_turn.proofs.Together.{others_of, sent_on, heard_on, past_on, source_passes_go, line_passes_go}
+use Rattle.adapt_turn.proofs.Together.{views_by, others_by, past_on, source_passes_go, line_passes_go}
 use Rattle.adapt_turn.proofs.tx.Tx.pass.Goals as goal
 
 pub returns-in-Source-clause-goes : goal.returns-in-Source-clause-goes
 returns-in-Source-clause-goes g c =
     let tx = c.args.self.now in
     let new = c.source_pass-passed.new in
-    source_passes_go g.E.Reader.Source g.E.SourceWire.Wire (lending tx.hold tx.ends.source tx.ends.source_wire) (lending new.hold new.source new.wire) _ _ _ _ _ _ _ _ _ c.source_pass-passed.result
-    (heads_then g.E.Writer.Hop.gift g.E.Writer.Hop.has_given g.E.Writer.Hop.aside (made_by (g.E.Maker.MakesHead.makes tx.ends.maker) g.E.Writer.Hop.body_framing g.E.Client.Service.adapted_head g.E.Client.Service.is_response (g.E.Reader.Source.head tx.ends.source) tx.ends.service) (made_by (g.E.Maker.MakesHead.makes tx.ends.maker) g.E.Writer.Hop.body_framing g.E.Client.Service.adapted_head g.E.Client.Service.is_response (g.E.Reader.Source.head new.source) tx.ends.service) tx.ends.next tx.ends.back (shows tx.hold.history)
-    (source_heads (g.E.Maker.MakesHead.makes tx.ends.maker) g.E.Writer.Hop.body_framing g.E.Client.Service.adapted_head g.E.Client.Service.is_response (g.E.Reader.Source.head tx.ends.source) (g.E.Reader.Source.head new.source) tx.ends.service (shows tx.hold.history) c.source_pass-passed.ensures.passes.head))
-    (others_of g.E.Reader.Source.agrees g.E.Reader.Source.has_read g.E.Client.Service.has_sent g.E.Client.Service.has_heard g.E.Writer.Hop.has_given g.E.Writer.Hop.gift g.E.Writer.Hop.aside (made_by (g.E.Maker.MakesHead.makes tx.ends.maker) g.E.Writer.Hop.body_framing g.E.Client.Service.adapted_head g.E.Client.Service.is_response (g.E.Reader.Source.head new.source) tx.ends.service) g.met.E.Reader.Source.others_agree g.met.E.Reader.Source.others g.met.E.Client.Service.others_sent g.met.E.Client.Service.others_heard g.met.E.Writer.Hop.others (λ k. made_on _ _ _ _) new.source tx.ends.service tx.ends.next tx.ends.back tx.refusing)
+    source_passes_go g.E.Reader.Source g.E.SourceWire.Wire (lending tx.hold tx.ends.source tx.ends.source_wire) (lending new.hold new.source new.wire)
+    (views_by g.E.Reader.Source g.E.Client.Service g.E.Writer.Hop (g.E.Maker.MakesHead.makes tx.ends.maker) new.source tx.ends.service tx.ends.next tx.ends.back tx.refusing)
+    (views_by g.E.Reader.Source g.E.Client.Service g.E.Writer.Hop (g.E.Maker.MakesHead.makes tx.ends.maker) tx.ends.source tx.ends.service tx.ends.next tx.ends.back tx.refusing) _ _ c.source_pass-passed.result
+    (record {
+      hops = heads_then g.E.Writer.Hop (made_by g.E.Writer.Hop g.E.Client.Service (g.E.Maker.MakesHead.makes tx.ends.maker) (g.E.Reader.Source.head tx.ends.source) tx.ends.service) (made_by g.E.Writer.Hop g.E.Client.Service (g.E.Maker.MakesHead.makes tx.ends.maker) (g.E.Reader.Source.head new.source) tx.ends.service) tx.ends.next tx.ends.back (shows tx.hold.history)
+          (source_heads g.E.Writer.Hop g.E.Client.Service (g.E.Maker.MakesHead.makes tx.ends.maker) (g.E.Reader.Source.head tx.ends.source) (g.E.Reader.Source.head new.source) tx.ends.service (shows tx.hold.history) c.source_pass-passed.ensures.passes.head);
+      refuses = λ r. r;
+    })
+    (others_by g.E.Reader.Source g.E.Client.Service g.E.Writer.Hop (g.E.Maker.MakesHead.makes tx.ends.maker) g.met.E.Reader.Source.others_agree g.met.E.Reader.Source.others g.met.E.Client.Service.others_sent g.met.E.Client.Service.others_heard g.met.E.Writer.Hop.others new.source tx.ends.service tx.ends.next tx.ends.back tx.refusing)
     c.requires.running c.source_pass-passed.ensures.passes
 
 pub returns-in-Service-clause-goes : goal.returns-in-Service-clause-goes
 returns-in-Service-clause-goes g c =
     let tx = c.args.self.now in
     let new = c.service_pass-passed.new in
-    line_passes_go g.E.Client.Service g.E.ServiceWire.Wire (λ x. g.E.Reader.Source.agrees x tx.ends.source) (λ x body read. g.E.Reader.Source.has_read x body read tx.ends.source)
-    (λ line. HopsAre (g.E.Writer.Hop.gift tx.ends.next) (g.E.Writer.Hop.gift tx.ends.back)
-    (OfHead (made_by (g.E.Maker.MakesHead.makes tx.ends.maker) g.E.Writer.Hop.body_framing g.E.Client.Service.adapted_head g.E.Client.Service.is_response (g.E.Reader.Source.head tx.ends.source) line tx.ends.next) (λ x head body taken. g.E.Writer.Hop.has_given x head body taken tx.ends.next)) (λ taken. g.E.Writer.Hop.aside taken tx.ends.next)
-    (OfHead (made_by (g.E.Maker.MakesHead.makes tx.ends.maker) g.E.Writer.Hop.body_framing g.E.Client.Service.adapted_head g.E.Client.Service.is_response (g.E.Reader.Source.head tx.ends.source) line tx.ends.back) (λ x head body taken. g.E.Writer.Hop.has_given x head body taken tx.ends.back)) (λ taken. g.E.Writer.Hop.aside taken tx.ends.back))
-    (IsRefusing tx.refusing (g.E.Writer.Hop.gift tx.ends.next) (g.E.Writer.Hop.gift tx.ends.back))
-    (λ h line. IsDelivered tx.refusing (g.E.Writer.Hop.gift tx.ends.next) (g.E.Writer.Hop.gift tx.ends.back)
-    (WholeOf (made_by (g.E.Maker.MakesHead.makes tx.ends.maker) g.E.Writer.Hop.body_framing g.E.Client.Service.adapted_head g.E.Client.Service.is_response (g.E.Reader.Source.head tx.ends.source) line tx.ends.next (shows h.history)) (λ head body taken. g.E.Writer.Hop.is_whole head body taken tx.ends.next)) (λ taken. g.E.Writer.Hop.aside taken tx.ends.next)
-    (WholeOf (made_by (g.E.Maker.MakesHead.makes tx.ends.maker) g.E.Writer.Hop.body_framing g.E.Client.Service.adapted_head g.E.Client.Service.is_response (g.E.Reader.Source.head tx.ends.source) line tx.ends.back (shows h.history)) (λ head body taken. g.E.Writer.Hop.is_whole head body taken tx.ends.back)) (λ taken. g.E.Writer.Hop.aside taken tx.ends.back))
-    (g.E.SourceWire.Wire.past tx.ends.source_wire) (g.E.NextWire.Wire.past tx.ends.next_wire)
-    (λ x l m head response. heads_then g.E.Writer.Hop.gift g.E.Writer.Hop.has_given g.E.Writer.Hop.aside (made_by (g.E.Maker.MakesHead.makes tx.ends.maker) g.E.Writer.Hop.body_framing g.E.Client.Service.adapted_head g.E.Client.Service.is_response (g.E.Reader.Source.head tx.ends.source) (Some l))
-    (made_by (g.E.Maker.MakesHead.makes tx.ends.maker) g.E.Writer.Hop.body_framing g.E.Client.Service.adapted_head g.E.Client.Service.is_response (g.E.Reader.Source.head tx.ends.source) (Some m)) tx.ends.next tx.ends.back x
-    (line_heads (g.E.Maker.MakesHead.makes tx.ends.maker) g.E.Writer.Hop.body_framing g.E.Client.Service.adapted_head g.E.Client.Service.is_response (g.E.Reader.Source.head tx.ends.source) (Some l) l m x refl head response))
-    (λ line. others_of g.E.Reader.Source.agrees g.E.Reader.Source.has_read g.E.Client.Service.has_sent g.E.Client.Service.has_heard g.E.Writer.Hop.has_given g.E.Writer.Hop.gift g.E.Writer.Hop.aside (made_by (g.E.Maker.MakesHead.makes tx.ends.maker) g.E.Writer.Hop.body_framing g.E.Client.Service.adapted_head g.E.Client.Service.is_response (g.E.Reader.Source.head tx.ends.source) line) g.met.E.Reader.Source.others_agree g.met.E.Reader.Source.others g.met.E.Client.Service.others_sent g.met.E.Client.Service.others_heard g.met.E.Writer.Hop.others (λ k. made_on _ _ _ _) tx.ends.source line tx.ends.next tx.ends.back tx.refusing)
+    line_passes_go g.E.Client.Service g.E.ServiceWire.Wire (λ line. views_by g.E.Reader.Source g.E.Client.Service g.E.Writer.Hop (g.E.Maker.MakesHead.makes tx.ends.maker) tx.ends.source line tx.ends.next tx.ends.back tx.refusing)
+    (views_by g.E.Reader.Source g.E.Client.Service g.E.Writer.Hop (g.E.Maker.MakesHead.makes tx.ends.maker) tx.ends.source tx.ends.service tx.ends.next tx.ends.back tx.refusing) (g.E.SourceWire.Wire.past tx.ends.source_wire) (g.E.NextWire.Wire.past tx.ends.next_wire)
+    (λ x l m head response. record {
+      hops = heads_then g.E.Writer.Hop (made_by g.E.Writer.Hop g.E.Client.Service (g.E.Maker.MakesHead.makes tx.ends.maker) (g.E.Reader.Source.head tx.ends.source) (Some l)) (made_by g.E.Writer.Hop g.E.Client.Service (g.E.Maker.MakesHead.makes tx.ends.maker) (g.E.Reader.Source.head tx.ends.source) (Some m)) tx.ends.next tx.ends.back x
+          (line_heads g.E.Writer.Hop g.E.Client.Service (g.E.Maker.MakesHead.makes tx.ends.maker) (g.E.Reader.Source.head tx.ends.source) (Some l) l m x refl head response);
+      refuses = λ r. r;
+    })
+    (λ line. others_by g.E.Reader.Source g.E.Client.Service g.E.Writer.Hop (g.E.Maker.MakesHead.makes tx.ends.maker) g.met.E.Reader.Source.others_agree g.met.E.Reader.Source.others g.met.E.Client.Service.others_sent g.met.E.Client.Service.others_heard g.met.E.Writer.Hop.others tx.ends.source line tx.ends.next tx.ends.back tx.refusing)
     tx.pace.reused tx.hold tx.ends.service new.hold new.service c.service_pass-passed.result c.requires.running c.service_pass-passed.ensures.passes
 
 pub returns-in-NextHop-clause-goes : goal.returns-in-NextHop-clause-goes
 returns-in-NextHop-clause-goes g c =
     let tx = c.args.self.now in
     let new = c.next_pass-passed.new in
-    next_passes_go tx.ends.maker new.maker g.E.Writer.Hop g.E.SourceWire.Wire g.E.NextWire.Wire (λ x. g.E.Reader.Source.agrees x tx.ends.source) (λ x body read. g.E.Reader.Source.has_read x body read tx.ends.source) (sent_on g.E.Client.Service tx.ends.service) (heard_on g.E.Client.Service tx.ends.service) tx.refusing (past_on g.E.ServiceWire.Wire tx.ends.service)
-    (λ maker. made_by (g.E.Maker.MakesHead.makes maker) g.E.Writer.Hop.body_framing g.E.Client.Service.adapted_head g.E.Client.Service.is_response (g.E.Reader.Source.head tx.ends.source) tx.ends.service)
+    next_passes_go tx.ends.maker new.maker g.E.Writer.Hop g.E.SourceWire.Wire g.E.NextWire.Wire
+    (views_by g.E.Reader.Source g.E.Client.Service g.E.Writer.Hop (g.E.Maker.MakesHead.makes tx.ends.maker) tx.ends.source tx.ends.service tx.ends.next tx.ends.back tx.refusing) (past_on g.E.ServiceWire.Wire tx.ends.service)
+    (λ maker. made_by g.E.Writer.Hop g.E.Client.Service (g.E.Maker.MakesHead.makes maker) (g.E.Reader.Source.head tx.ends.source) tx.ends.service)
     (λ hop. made_on _ _ _ _)
     (λ hop later x head e m. subst (λ z. IsMade (g.E.Maker.MakesHead.makes new.maker (g.E.Reader.Source.head tx.ends.source)) (adapted_of g.E.Client.Service.adapted_head tx.ends.service) (response_of g.E.Client.Service.is_response tx.ends.service) z x head) (sym e) m)
-    (λ next back. others_of g.E.Reader.Source.agrees g.E.Reader.Source.has_read g.E.Client.Service.has_sent g.E.Client.Service.has_heard g.E.Writer.Hop.has_given g.E.Writer.Hop.gift g.E.Writer.Hop.aside (made_by (g.E.Maker.MakesHead.makes new.maker) g.E.Writer.Hop.body_framing g.E.Client.Service.adapted_head g.E.Client.Service.is_response (g.E.Reader.Source.head tx.ends.source) tx.ends.service) g.met.E.Reader.Source.others_agree g.met.E.Reader.Source.others g.met.E.Client.Service.others_sent g.met.E.Client.Service.others_heard g.met.E.Writer.Hop.others (λ k. made_on _ _ _ _) tx.ends.source tx.ends.service next back tx.refusing)
+    (λ next back. others_by g.E.Reader.Source g.E.Client.Service g.E.Writer.Hop (g.E.Maker.MakesHead.makes new.maker) g.met.E.Reader.Source.others_agree g.met.E.Reader.Source.others g.met.E.Client.Service.others_sent g.met.E.Client.Service.others_heard g.met.E.Writer.Hop.others tx.ends.source tx.ends.service next back tx.refusing)
     g.met.E.Writer.Hop.idle_given
     (choice_of g.E.Client.Service (g.E.Maker.MakesHead.makes new.maker (g.E.Reader.Source.head tx.ends.source)) (g.E.Maker.MakesHead.makes_none tx.ends.maker (g.E.Reader.Source.head tx.ends.source)) (new.maker ≡ tx.ends.maker) tx.ends.service (shows tx.hold.history))
     (writers tx.hold tx.ends.next tx.ends.next_wire tx.ends.back tx.ends.source_wire) (writers new.hold new.next new.next_wire new.back new.back_wire) c.next_pass-passed.result tx.roomy c.requires.running (λ e. e)

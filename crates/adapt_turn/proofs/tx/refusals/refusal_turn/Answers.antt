@@ -11,10 +11,10 @@ pub write_turn-requires : goal.write_turn-requires
 write_turn-requires g c = passes.keeps_undelivered_at c.args.hold.now c.state-state.result.now c.tape_of-tape.result.now c.state-state.ensures.tied c.state-state.ensures.state c.tape_of-tape.ensures.tape
 
 pub returns-then-is_out-clause-takes : goal.returns-then-is_out-clause-takes
-returns-then-is_out-clause-takes g c = aside_still _ _
+returns-then-is_out-clause-takes g c = aside_still _
 
 pub returns-then-is_some-clause-takes : goal.returns-then-is_some-clause-takes
-returns-then-is_some-clause-takes g c = aside_still _ _
+returns-then-is_some-clause-takes g c = aside_still _
 
 pub returns-in-Ok-clause-waits : goal.returns-in-Ok-clause-waits
 returns-in-Ok-clause-waits g c = λ e. refusal_waits c.args.hold.now c.state-state.result.now c.tape_of-tape.result.now c.in-Ok.turn _ _ _ _ _ _ _ (λ x. g.K.Hop.rests x c.write_turn.new.self) _ _ c.state-state.ensures.state c.in-Ok.ensures.turn (let same : Some c.in-Ok.turn.waiting ≡ Some true = e in cc)
