@@ -16,7 +16,7 @@ use Rattle.adapt_sides.specs.Turns.Gift.{nothing, message}
 use Rattle.adapt_turn.specs.declared.ends.ServiceEnd.{ServiceEnd}
 use Rattle.adapt_hold.specs.Holding.{shows}
 use Rattle.adapt_turn.specs.Stands.{HopsAre, IsChosen, writer_of}
-use Rattle.adapt_turn.specs.Made.{IsMade, MakesAt, adapted_of, response_of}
+use Rattle.adapt_turn.specs.Made.{IsMade, adapted_of, response_of}
 
 -- it stays so with each event
 abbrev pub KeepsMade : (Seen → List ℕ → Type 0) → Type 0
@@ -44,7 +44,7 @@ made_on makes adapted is_response framing x event head c a m = record {
 
 -- as it is begun
 pub made_now : {Framing : Type 0} (makes : Seen → Option (List ℕ) → Bool → List ℕ → Framing → Type 0) (adapted : Option (List ℕ)) (is_response : Bool) (made framing : Framing) (history : History) (head : List ℕ)
-    → IsLegal history.plan history.events → IsChosen (shows history) → framing ≡ made → MakesAt makes adapted is_response (shows history) head made
+    → IsLegal history.plan history.events → IsChosen (shows history) → framing ≡ made → makes (shows history) (if (shows history).modified then adapted else None) ((shows history).modified && is_response) head made
     → IsMade makes adapted is_response framing (shows history) head
 made_now {Framing} makes adapted is_response made framing history head legal chosen e m = record {
   before = history.events;
@@ -53,7 +53,7 @@ made_now {Framing} makes adapted is_response made framing history head legal cho
   may = tt;
   now = refl;
   chosen = chosen;
-  made = subst (λ (z : Framing). MakesAt makes adapted is_response (shows history) head z) (sym e) m;
+  made = subst (λ (z : Framing). makes (shows history) (if (shows history).modified then adapted else None) ((shows history).modified && is_response) head z) (sym e) m;
 }
 
 -- and with several

@@ -8,7 +8,9 @@ use Rattle.trace_core.specs.declared.history.Cause.{Cause}
 use Rattle.trace_core.specs.History.{seen}
 use Rattle.trace_core.specs.Legal.{IsLegal}
 use Rattle.trace_core.specs.Turns.{after_all, MayAllFollow}
+use Rattle.adapt_sides.specs.declared.service.Service.{Ghosts as Service}
 use Rattle.adapt_turn.specs.declared.ends.ServiceEnd.{ServiceEnd}
+use Rattle.adapt_turn.specs.declared.head.MakesHead.{Ghosts as MakesHead}
 use Rattle.adapt_turn.specs.Stands.{IsChosen}
 
 -- the service's wire, as long as its connection is held
@@ -48,13 +50,14 @@ is_reqmod Respmod = false
 abbrev pub answers_user : Seen → (is_response : Bool) → Bool
 answers_user x is_response = (is_response && x.modified) && is_reqmod x.plan.point
 
--- what a maker of heads is given, where this is seen: the service's head only where its message was chosen
-abbrev pub MakesAt : {Framing : Type 0} → (Seen → Option (List ℕ) → Bool → List ℕ → Framing → Type 0) → Option (List ℕ) → Bool → Seen → List ℕ → Framing → Type 0
-MakesAt makes adapted is_response x head framing = makes x (if x.modified then adapted else None) (x.modified && is_response) head framing
+-- This maker makes this head, and says how the body goes with it, of the source's head, where this is seen: of the service's head only
+-- where its message was chosen.
+abbrev pub MakesAt : {M S K H G V W : Type 0} → MakesHead M S K H G → Service V → M → H → Option (ServiceEnd V W) → Seen → List ℕ → G → Type 0
+MakesAt m v maker source line x head framing = m.makes maker source x (if x.modified then adapted_of v.adapted_head line else None) (x.modified && response_of v.is_response line) head framing
 
 -- and why it makes none
-abbrev pub MakesNoneAt : (Seen → Option (List ℕ) → Bool → Cause → Type 0) → Option (List ℕ) → Bool → Seen → Cause → Type 0
-MakesNoneAt makes_none adapted is_response x cause = makes_none x (if x.modified then adapted else None) (x.modified && is_response) cause
+abbrev pub MakesNoneAt : {M S K H G V W : Type 0} → MakesHead M S K H G → Service V → M → H → Option (ServiceEnd V W) → Seen → Cause → Type 0
+MakesNoneAt m v maker source line x cause = m.makes_none maker source x (if x.modified then adapted_of v.adapted_head line else None) (x.modified && response_of v.is_response line) cause
 
 -- The head, and how the body goes with it, were made at a moment of a history that shows the same as this one, of the message that
 -- was chosen then.
@@ -66,4 +69,4 @@ pub record IsMade {Framing : Type 0} (makes : Seen → Option (List ℕ) → Boo
   pub may : MayAllFollow (seen x.plan before) since
   pub now : x ≡ after_all (seen x.plan before) since
   pub chosen : IsChosen (seen x.plan before)
-  pub made : MakesAt makes adapted is_response (seen x.plan before) head framing
+  pub made : makes (seen x.plan before) (if (seen x.plan before).modified then adapted else None) ((seen x.plan before).modified && is_response) head framing

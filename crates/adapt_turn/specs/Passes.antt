@@ -21,8 +21,9 @@ use Rattle.adapt_turn.specs.Parts.{Lent, lending, SourcePart, SendPart, HearPart
 use Rattle.adapt_turn.specs.Rows.{may_step, TookBy, Advances, BytesOr}
 use Rattle.adapt_turn.specs.Stands.{IsChosen, Waited, WaitedBoth, Blamed, BlamedService, BlamedWriter}
 use Rattle.adapt_turn.specs.ByTurn.{OfWriter}
-use Rattle.adapt_turn.specs.Made.{MakesAt, MakesNoneAt, adapted_of, answers_user, response_of, wire_of}
+use Rattle.adapt_turn.specs.Made.{MakesAt, MakesNoneAt, answers_user, response_of, wire_of}
 use Rattle.adapt_turn.specs.declared.ends.ServiceEnd.{ServiceEnd}
+use Rattle.adapt_turn.specs.declared.head.MakesHead.{Ghosts as MakesHead}
 
 -- the source's numbers aren't those of the history: it is no message of this transaction, which fails, and nothing is read
 pub record Disagrees {S H W : Type 0} (s : Source S H) (old new : Lent S W) (passed : Passed) : Type 0 where
@@ -140,12 +141,12 @@ pub record Choice (G : Type 0) : Type 1 where
   pub makes : List ℕ → G → Type 0
   pub none : Cause → Type 0
 
-abbrev pub choice_of : {V W G : Type 0} → Service V → (makes : Seen → Option (List ℕ) → Bool → List ℕ → G → Type 0) → (makes_none : Seen → Option (List ℕ) → Bool → Cause → Type 0) → (unasked : Type 0) → Option (ServiceEnd V W) → Seen → Choice G
-choice_of v makes makes_none unasked line x = record {
+abbrev pub choice_of : {M S K H G V W : Type 0} → MakesHead M S K H G → Service V → (old_maker maker : M) → H → Option (ServiceEnd V W) → Seen → Choice G
+choice_of m v old_maker maker source line x = record {
   answers = answers_user x (response_of v.is_response line);
-  unasked = unasked;
-  makes = λ head framing. MakesAt makes (adapted_of v.adapted_head line) (response_of v.is_response line) x head framing;
-  none = λ cause. MakesNoneAt makes_none (adapted_of v.adapted_head line) (response_of v.is_response line) x cause;
+  unasked = maker ≡ old_maker;
+  makes = λ head framing. MakesAt m v maker source line x head framing;
+  none = λ cause. MakesNoneAt m v old_maker source line x cause;
 }
 
 -- a message was begun before

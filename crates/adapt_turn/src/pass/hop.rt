@@ -3,7 +3,7 @@
 ghost use Rattle.std.specs.Prelude.{◌≡◌, true, false, IfOk, IfErr};
 ghost use Rattle.adapt_sides.specs.Turns.Gift.{nothing};
 ghost use Rattle.adapt_hold.specs.Holding.{shows, IsRoomy, IsTied};
-ghost use Rattle.adapt_turn.specs.Made.{MakesAt, MakesNoneAt, adapted_of, response_of, is_reqmod, answers_user};
+ghost use Rattle.adapt_turn.specs.Made.{MakesAt, MakesNoneAt, response_of, is_reqmod, answers_user};
 ghost use Rattle.adapt_turn.specs.Passes.{Begins, GivesOne, NextPasses, choice_of, writers};
 ghost use Rattle.adapt_turn.specs.Stands.{IsChosen};
 
@@ -36,7 +36,7 @@ pub(crate) fn next_pass<B: Ledgers, E: EndTypes>(
 ) -> Passed
     requires running { (shows hold.old.history).closed ≡ false }
     requires roomy { IsRoomy hold.old }
-    ensures passes { NextPasses E.Writer.Hop E.SourceWire.Wire E.NextWire.Wire (choice_of E.Client.Service (E.Maker.makes maker.new (E.Reader.head source.now)) (E.Maker.makes_none maker.old (E.Reader.head source.now)) (maker.new ≡ maker.old) service.now (shows hold.old.history))
+    ensures passes { NextPasses E.Writer.Hop E.SourceWire.Wire E.NextWire.Wire (choice_of E.Maker.MakesHead E.Client.Service maker.old maker.new (E.Reader.head source.now) service.now (shows hold.old.history))
         (writers hold.old next.old next_wire.old back.old back_wire.old) (writers hold.new next.new next_wire.new back.new back_wire.new) result }
     ensures roomy { IsRoomy hold.new }
 {
@@ -69,9 +69,8 @@ fn begin<B: Ledgers, E: EndTypes>(
     next: &mut E::Writer,
     back: &mut E::Writer,
 ) -> Result<(), Cause>
-    ensures begun { IfOk result (λ _. Begins E.Writer.Hop (choice_of E.Client.Service (E.Maker.makes maker.new (E.Reader.head source.now)) (E.Maker.makes_none maker.old (E.Reader.head source.now)) (maker.new ≡ maker.old) service.now (shows hold.now.history))
-        next.old back.old next.new back.new) }
-    ensures none { IfErr result (λ cause. MakesNoneAt (E.Maker.makes_none maker.old (E.Reader.head source.now)) (adapted_of E.Client.adapted_head service.now) (response_of E.Client.is_response service.now) (shows hold.now.history) cause) }
+    ensures begun { IfOk result (λ _. Begins E.Writer.Hop (choice_of E.Maker.MakesHead E.Client.Service maker.old maker.new (E.Reader.head source.now) service.now (shows hold.now.history)) next.old back.old next.new back.new) }
+    ensures none { IfErr result (λ cause. MakesNoneAt E.Maker.MakesHead E.Client.Service maker.old (E.Reader.head source.now) service.now (shows hold.now.history) cause) }
     ensures unbegun { IfErr result (λ cause. (E.Writer.gift next.old ≡ nothing) × (E.Writer.gift back.old ≡ nothing) × (next.new ≡ next.old) × (back.new ≡ back.old)) }
 {
     if !next.is_idle() {
@@ -123,8 +122,8 @@ fn forwarded<B: Ledgers, E: EndTypes>(
     source: &E::Reader,
     service: &Option<ServiceEnd<E::Client, E::ServiceWire>>,
 ) -> Result<(Vec<u8>, <E::Writer as Hop>::Framing), Cause>
-    ensures made { IfOk result (λ made. MakesAt (E.Maker.makes maker.new (E.Reader.head source.now)) (adapted_of E.Client.adapted_head service.now) (response_of E.Client.is_response service.now) (shows hold.now.history) made.0.items made.1) }
-    ensures none { IfErr result (λ cause. MakesNoneAt (E.Maker.makes_none maker.old (E.Reader.head source.now)) (adapted_of E.Client.adapted_head service.now) (response_of E.Client.is_response service.now) (shows hold.now.history) cause) }
+    ensures made { IfOk result (λ made. MakesAt E.Maker.MakesHead E.Client.Service maker.new (E.Reader.head source.now) service.now (shows hold.now.history) made.0.items made.1) }
+    ensures none { IfErr result (λ cause. MakesNoneAt E.Maker.MakesHead E.Client.Service maker.old (E.Reader.head source.now) service.now (shows hold.now.history) cause) }
     ensures tied { IsTied hold.now }
 {
     let state = hold.state();

@@ -17,7 +17,7 @@ ghost use Rattle.adapt_turn.specs.declared.turned.Side.{Side};
 ghost use Rattle.adapt_turn.specs.declared.turned.Side.TheVariants as sides;
 ghost use Rattle.adapt_turn.specs.declared.turned.Turned.{Turned};
 ghost use Rattle.adapt_turn.specs.declared.turned.Outcome.TheVariants as outcomes;
-ghost use Rattle.adapt_turn.specs.Made.{MakesNoneAt, wire_of, side_of, on_held, adapted_of, response_of, answers_user};
+ghost use Rattle.adapt_turn.specs.Made.{MakesNoneAt, wire_of, side_of, on_held, response_of, answers_user};
 ghost use Rattle.adapt_turn.specs.Parts.{Breaks, HasCause, FailsFor, source_cause, fault_of};
 ghost use Rattle.adapt_turn.specs.Rows.{may_step, TookBy, Advances};
 ghost use Rattle.adapt_turn.specs.Stands.{IsChosen, IsDone, Waited, WaitedBoth, Blamed, BlamedWriter, BlamedService};
@@ -62,7 +62,7 @@ pub trait Answering {
 }
 
 impl<B: Ledgers, E: EndTypes> Making for Tx<B, E> {
-    ghost unmade = { λ tx cause. MakesNoneAt (E.Maker.makes_none tx.ends.maker (E.Reader.head tx.ends.source)) (adapted_of E.Client.adapted_head tx.ends.service) (response_of E.Client.is_response tx.ends.service) (shows tx.hold.history) cause };
+    ghost unmade = { λ tx cause. MakesNoneAt E.Maker.MakesHead E.Client.Service tx.ends.maker (E.Reader.head tx.ends.source) tx.ends.service (shows tx.hold.history) cause };
 }
 
 impl<B: Ledgers, E: EndTypes> Answering for Tx<B, E> {

@@ -1,6 +1,6 @@
 use Rattle.std.proofs.Common.{inl, inr, refl, sym, ◌∙◌, subst}
 use Rattle.adapt_hold.specs.Holding.{shows}
-use Rattle.adapt_turn.specs.Made.{MakesAt, adapted_of, response_of}
+use Rattle.adapt_turn.specs.Made.{MakesAt}
 use Rattle.adapt_turn.proofs.pass.hop.begin.Goals as goal
 
 pub returns-then-not-is_idle-clause-begun : goal.returns-then-not-is_idle-clause-begun
@@ -18,7 +18,7 @@ returns-then-answers-clause-begun g c = inr (inr (record {
   gift = c.begin.ensures.gift;
   fault = c.begin.ensures.fault;
   head = c.in-Ok.head.items;
-  made = subst (λ z. MakesAt (g.E.Maker.MakesHead.makes c.forwarded.new.maker (g.E.Reader.Source.head c.args.source.now)) (adapted_of g.E.Client.Service.adapted_head c.args.service.now) (response_of g.E.Client.Service.is_response c.args.service.now) (shows c.args.hold.now.history) c.in-Ok.head.items z) (sym c.begin.ensures.framing) c.in-Ok.ensures.made;
+  made = subst (λ z. MakesAt g.E.Maker.MakesHead g.E.Client.Service c.forwarded.new.maker (g.E.Reader.Source.head c.args.source.now) c.args.service.now (shows c.args.hold.now.history) c.in-Ok.head.items z) (sym c.begin.ensures.framing) c.in-Ok.ensures.made;
   given = c.begin.ensures.given;
 }))
 
@@ -31,6 +31,6 @@ returns-else-answers-clause-begun g c = inr (inl (record {
   gift = c.begin-else-answers.ensures.gift;
   fault = c.begin-else-answers.ensures.fault;
   head = c.in-Ok.head.items;
-  made = subst (λ z. MakesAt (g.E.Maker.MakesHead.makes c.forwarded.new.maker (g.E.Reader.Source.head c.args.source.now)) (adapted_of g.E.Client.Service.adapted_head c.args.service.now) (response_of g.E.Client.Service.is_response c.args.service.now) (shows c.args.hold.now.history) c.in-Ok.head.items z) (sym c.begin-else-answers.ensures.framing) c.in-Ok.ensures.made;
+  made = subst (λ z. MakesAt g.E.Maker.MakesHead g.E.Client.Service c.forwarded.new.maker (g.E.Reader.Source.head c.args.source.now) c.args.service.now (shows c.args.hold.now.history) c.in-Ok.head.items z) (sym c.begin-else-answers.ensures.framing) c.in-Ok.ensures.made;
   given = c.begin-else-answers.ensures.given;
 }))

@@ -52,7 +52,7 @@ returns-in-NextHop-clause-goes g c =
     (λ hop later x head e m. subst (λ z. IsMade (g.E.Maker.MakesHead.makes new.maker (g.E.Reader.Source.head tx.ends.source)) (adapted_of g.E.Client.Service.adapted_head tx.ends.service) (response_of g.E.Client.Service.is_response tx.ends.service) z x head) (sym e) m)
     (λ next back. others_by g.E.Reader.Source g.E.Client.Service g.E.Writer.Hop (g.E.Maker.MakesHead.makes new.maker) g.met.E.Reader.Source.others_agree g.met.E.Reader.Source.others g.met.E.Client.Service.others_sent g.met.E.Client.Service.others_heard g.met.E.Writer.Hop.others tx.ends.source tx.ends.service next back tx.refusing)
     g.met.E.Writer.Hop.idle_given
-    (choice_of g.E.Client.Service (g.E.Maker.MakesHead.makes new.maker (g.E.Reader.Source.head tx.ends.source)) (g.E.Maker.MakesHead.makes_none tx.ends.maker (g.E.Reader.Source.head tx.ends.source)) (new.maker ≡ tx.ends.maker) tx.ends.service (shows tx.hold.history))
+    (choice_of g.E.Maker.MakesHead g.E.Client.Service tx.ends.maker new.maker (g.E.Reader.Source.head tx.ends.source) tx.ends.service (shows tx.hold.history))
     (writers tx.hold tx.ends.next tx.ends.next_wire tx.ends.back tx.ends.source_wire) (writers new.hold new.next new.next_wire new.back new.back_wire) c.next_pass-passed.result tx.roomy c.requires.running (λ e. e)
     (λ head hop chosen m. made_now (g.E.Maker.MakesHead.makes new.maker (g.E.Reader.Source.head tx.ends.source)) (adapted_of g.E.Client.Service.adapted_head tx.ends.service) (response_of g.E.Client.Service.is_response tx.ends.service) (g.E.Writer.Hop.body_framing hop) (g.E.Writer.Hop.body_framing hop) tx.hold.history head c.next_pass-passed.ensures.passes.tied.legal chosen refl m)
     (answers_reqmod (shows tx.hold.history) _) c.next_pass-passed.ensures.passes
