@@ -13,7 +13,7 @@ use Rattle.adapt_sides.specs.Tapes.{chosen, chosen_delivered, chosen_received, c
 use Rattle.adapt_hold.specs.Spans.{EndsBody}
 use Rattle.adapt_hold.specs.Holding.{Holding, shows}
 use Rattle.wire_kit.specs.Past.{Past, IsLater}
-use Rattle.adapt_turn.specs.Stands.{Texts, no_texts, joined, IsDone}
+use Rattle.adapt_turn.specs.Stands.{Pasts, Texts, no_texts, joined, IsDone}
 use Rattle.icap_client.specs.RequestText.{IsFrontOfRequest}
 use Rattle.icap_client.specs.Front.{Front as Sent, HasBody}
 use Rattle.http_relay.specs.Message.{IsFrontOfMessage, IsMessage, length_of, is_chunks}
@@ -97,10 +97,10 @@ begun_with head_bytes = record no_texts { source_read = record { bytes = head_by
 
 -- What each wire gave and took since the beginning, after all that it had given and taken before. The texts of the transaction are these,
 -- and of the source's wire also the bytes that the head was found in: it had given them before.
-pub record TookSince (source_before source_after service_before service_after next_before next_after : Past → Type 0) (took : Texts → Type 0) : Type 0 where
+pub record TookSince (old new : Pasts) (took : Texts → Type 0) : Type 0 where
   pub head_bytes : List ℕ
   pub since : Texts
-  pub source : (p : Past) → source_before p → (q : Past) × source_after q × IsLater p since.source_read.bytes since.back_taken q × (since.source_read.ended ≡ true → p.ends < q.ends)
-  pub service : (p : Past) → service_before p → (q : Past) × service_after q × IsLater p since.service_read since.service_taken q
-  pub next : (p : Past) → next_before p → (q : Past) × next_after q × IsLater p [] since.next_taken q
+  pub source : (p : Past) → old.source p → (q : Past) × new.source q × IsLater p since.source_read.bytes since.back_taken q × (since.source_read.ended ≡ true → p.ends < q.ends)
+  pub service : (p : Past) → old.service p → (q : Past) × new.service q × IsLater p since.service_read since.service_taken q
+  pub next : (p : Past) → old.next p → (q : Past) × new.next q × IsLater p [] since.next_taken q
   pub took_is : took (joined (begun_with head_bytes) since)

@@ -13,7 +13,7 @@ ghost use Rattle.need_witness.specs.Script.{IsScript};
 ghost use Rattle.need_witness.specs.Table.{script_of};
 ghost use Rattle.need_witness.specs.declared.scripts.TheConstants.{MAX_SCRIPT};
 ghost use Rattle.adapt_hold.specs.Holding.{IsTied, interval, shows};
-ghost use Rattle.adapt_turn.specs.Made.{IsMade, adapted_of, response_of, on_held};
+ghost use Rattle.adapt_turn.specs.Made.{IsMade, adapted_of, response_of};
 ghost use Rattle.adapt_turn.specs.declared.turned.Turned.{Turned as TurnAnswer};
 ghost use Rattle.adapt_turn.specs.declared.turned.Outcome.TheVariants as outcomes;
 ghost use Rattle.adapt_turn.specs.Stands.{Texts};
@@ -112,9 +112,9 @@ pub fn from_the_beginning_the_wires_take_one_message<B: Ledgers, W: Wires>(
     requires claim { beginning.stake.claim ≡ claim_of beginning.offer.plan beginning.limits.window }
     requires small { beginning.stake.claim ≤ MAX_CAPACITY }
     ensures accepts { IsOk result ↔ MayBegin beginning.message beginning.offer (is_some beginning.service_wire) }
-    ensures took { IfOk result (λ running. TookSince (W.SourceWire.past beginning.source_wire) (W.SourceWire.past running.tx.ends.source_wire)
-        (λ p. MatchOption beginning.service_wire ⊥ (λ wire. W.ServiceWire.past wire p)) (λ p. on_held running.tx.ends.service ⊥ (λ wire. W.ServiceWire.past wire p))
-        (W.NextWire.past beginning.next_wire) (W.NextWire.past running.tx.ends.next_wire)
+    ensures took { IfOk result (λ running. TookSince
+        (record { source = W.SourceWire.past beginning.source_wire; service = λ p. MatchOption beginning.service_wire ⊥ (λ wire. W.ServiceWire.past wire p); next = W.NextWire.past beginning.next_wire })
+        (⟦<Tx<B, OwnEnds<W>> as Standing>⟧.pasts running.tx)
         (WiresTook (λ x body read. SideRead x body read.bytes read.ended running.tx.ends.source)
         (λ x adapted read. MatchOption running.tx.ends.service ((adapted ≡ []) × (read ≡ [])) (λ line. ServiceHeard x adapted read line.side)) running.tx.ends.service
         (λ head. IsMade (⟦<HeadMaker as MakesHead<SourceSide, HopWriter>>⟧.makes running.tx.ends.maker (⟦<SourceSide as Source>⟧.head running.tx.ends.source))
