@@ -103,7 +103,7 @@ pub others_by : {S H V W K G : Type 0} (s : Source S H) (v : Service V) (k : Hop
     → k.has_given (seen plan before) head (chosen (seen plan before) original adapted) taken side
     → k.has_given (seen plan (event ∷ before)) head (chosen (seen plan (event ∷ before)) (original ++ bytes) (adapted ++ more)) taken side)
     → (source : S) (line : Option (ServiceEnd V W)) (next back : K) (refusing : Bool) → Others (views_by s v k makes source line next back refusing)
-others_by s v k makes la lr ls lh lg source line next back refusing = record {
+others_by {K = K} s v k makes la lr ls lh lg source line next back refusing = record {
   agrees_on = λ x event o a. la x event source (not_true (is_of_source event) o) a;
   read_on = λ x event body text o p. lr x event body text source (not_true (is_of_source event) o) p;
   sent_on = λ heads x event came bytes taken o n m p. sent_line (v.has_sent heads) (ls heads) line x event came bytes taken o n m p;

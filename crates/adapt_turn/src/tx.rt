@@ -103,13 +103,14 @@ impl<B: Ledgers, E: EndTypes> Standing for Tx<B, E> {
     ghost stands = { λ tx request t.
         let made : E.Writer → Seen → List ℕ → Type 0 = λ hop x head. IsMade (E.Maker.makes tx.ends.maker (E.Reader.head tx.ends.source)) (adapted_of E.Client.adapted_head tx.ends.service) (response_of E.Client.is_response tx.ends.service) (E.Writer.body_framing hop) x head in
         Stands tx.hold (record {
-        agrees = λ x. E.Reader.agrees x tx.ends.source;
-        read = λ x body read. E.Reader.has_read x body read tx.ends.source;
-        sent = λ heads x came taken. MatchOption tx.ends.service (taken ≡ []) (λ line. E.Client.has_sent heads x came taken line.side);
-        heard = λ x adapted read. MatchOption tx.ends.service ((adapted ≡ []) × (read ≡ [])) (λ line. E.Client.has_heard x adapted read line.side);
-        next = writer_of E.Writer.Hop (made tx.ends.next) tx.ends.next;
-        back = writer_of E.Writer.Hop (made tx.ends.back) tx.ends.back;
-        refusing = tx.refusing }) request t };
+          agrees = λ x. E.Reader.agrees x tx.ends.source;
+          read = λ x body read. E.Reader.has_read x body read tx.ends.source;
+          sent = λ heads x came taken. MatchOption tx.ends.service (taken ≡ []) (λ line. E.Client.has_sent heads x came taken line.side);
+          heard = λ x adapted read. MatchOption tx.ends.service ((adapted ≡ []) × (read ≡ [])) (λ line. E.Client.has_heard x adapted read line.side);
+          next = writer_of E.Writer.Hop (made tx.ends.next) tx.ends.next;
+          back = writer_of E.Writer.Hop (made tx.ends.back) tx.ends.back;
+          refusing = tx.refusing;
+        }) request t };
 
     ghost pasts = { λ tx. record { source = E.SourceWire.past tx.ends.source_wire; service = λ p. on_held tx.ends.service ⊥ (λ wire. E.ServiceWire.past wire p); next = E.NextWire.past tx.ends.next_wire } };
 }
@@ -123,9 +124,11 @@ impl<B: Ledgers, E: EndTypes> Going for Tx<B, E> {
     ghost goes = { λ old new. Goes (⟦<Tx<B, E> as Standing>⟧.stands old) (⟦<Tx<B, E> as Standing>⟧.stands new)
         (⟦<Tx<B, E> as Standing>⟧.pasts old) (⟦<Tx<B, E> as Standing>⟧.pasts new) };
 
-    ghost moves = { λ old new n. SumsBytes (record { source = MovesOver (E.SourceWire.past old.ends.source_wire) (E.SourceWire.past new.ends.source_wire);
-        service = λ k. on_held old.ends.service (k ≡ 0) (λ wire. MovesOver (E.ServiceWire.past wire) (λ p. on_held new.ends.service ⊥ (λ later. E.ServiceWire.past later p)) k);
-        next = MovesOver (E.NextWire.past old.ends.next_wire) (E.NextWire.past new.ends.next_wire) }) n };
+    ghost moves = { λ old new n. SumsBytes (record {
+      source = MovesOver (E.SourceWire.past old.ends.source_wire) (E.SourceWire.past new.ends.source_wire);
+      service = λ k. on_held old.ends.service (k ≡ 0) (λ wire. MovesOver (E.ServiceWire.past wire) (λ p. on_held new.ends.service ⊥ (λ later. E.ServiceWire.past later p)) k);
+      next = MovesOver (E.NextWire.past old.ends.next_wire) (E.NextWire.past new.ends.next_wire);
+    }) n };
 }
 
 impl<B: Ledgers, E: EndTypes> Refusing for Tx<B, E> {

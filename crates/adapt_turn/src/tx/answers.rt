@@ -67,23 +67,24 @@ impl<B: Ledgers, E: EndTypes> Making for Tx<B, E> {
 
 impl<B: Ledgers, E: EndTypes> Answering for Tx<B, E> {
     ghost answers = { λ old side new turned. ByAnswer turned (record {
-        waiting = (new.hold ≡ old.hold) × ⟦<Tx<B, E> as Going>⟧.moves old new 0
-        × ((shows old.hold.history).closed ≡ true → ⟦<Tx<B, E> as Refusing>⟧.refusal_waits old new)
-        × ((shows old.hold.history).closed ≡ false → BySide side
-        ((Waited (E.Reader.rests (original_room (shows old.hold.history) old.hold.claim old.hold.limits.window) new.ends.source) (λ past. past.read_waits) (E.SourceWire.past old.ends.source_wire) (E.SourceWire.past new.ends.source_wire)) × E.Reader.is_framed (original_room (shows old.hold.history) old.hold.claim old.hold.limits.window) new.ends.source)
-        ((WaitedBoth (MatchOption new.ends.service ⊤ (λ line. E.Client.rests_writing (shows old.hold.history) line.side)) (MatchOption new.ends.service ⊤ (λ line. E.Client.rests_reading (shows old.hold.history) (adapted_room (shows old.hold.history) old.hold.limits.window) line.side))
-        (λ p. on_held old.ends.service ⊥ (λ wire. E.ServiceWire.past wire p)) (λ p. on_held new.ends.service ⊥ (λ wire. E.ServiceWire.past wire p)))
-        × MatchOption new.ends.service ⊤ (λ line. MatchOption line.wire ⊤ (λ wire. E.Client.is_framed (adapted_room (shows old.hold.history) old.hold.limits.window) line.side)))
-        ((IsChosen (shows old.hold.history) → ⊥) ⊎ ((E.Writer.gift new.ends.next ≡ nothing → E.Writer.gift new.ends.back ≡ nothing → ⊥) × OfWriter (E.Writer.gift new.ends.back)
-        (Waited (E.Writer.rests (shows old.hold.history) new.ends.next) (λ past. past.write_waits) (E.NextWire.past old.ends.next_wire) (E.NextWire.past new.ends.next_wire))
-        (Waited (E.Writer.rests (shows old.hold.history) new.ends.back) (λ past. past.write_waits) (E.SourceWire.past old.ends.source_wire) (E.SourceWire.past new.ends.source_wire)))));
-        moved = λ n. ⟦<Tx<B, E> as Going>⟧.moves old new n
-        × (n ≡ 0 → (p q r : Past) → E.SourceWire.past old.ends.source_wire p → on_held old.ends.service ⊤ (λ wire. E.ServiceWire.past wire q) → E.NextWire.past old.ends.next_wire r
-        → ((shows old.hold.history).closed ≡ false) × Advances (may_step side) old.hold new.hold);
-        broken = (side ≡ sides.Service) × ((shows old.hold.history).closed ≡ false) × MayFollow new.hold.history.plan new.hold.history.events Retry
-        × ((old.pace.broken ≡ true) ⊎ MatchOption new.ends.service ⊥ (λ line. Breaks new.hold.history old.pace.reused (E.Client.fault line.side)));
-        finished = λ outcome. ((shows old.hold.history).closed ≡ true) × (outcome ≡ old.outcome) × ((old.refusing ≡ false) ⊎ ⟦<Tx<B, E> as Refusing>⟧.refusal_is_over new)
-        × (outcome ≡ outcomes.Done → IsDone new.hold.history) }) };
+      waiting = (new.hold ≡ old.hold) × ⟦<Tx<B, E> as Going>⟧.moves old new 0
+          × ((shows old.hold.history).closed ≡ true → ⟦<Tx<B, E> as Refusing>⟧.refusal_waits old new)
+          × ((shows old.hold.history).closed ≡ false → BySide side
+          ((Waited (E.Reader.rests (original_room (shows old.hold.history) old.hold.claim old.hold.limits.window) new.ends.source) (λ past. past.read_waits) (E.SourceWire.past old.ends.source_wire) (E.SourceWire.past new.ends.source_wire)) × E.Reader.is_framed (original_room (shows old.hold.history) old.hold.claim old.hold.limits.window) new.ends.source)
+          ((WaitedBoth (MatchOption new.ends.service ⊤ (λ line. E.Client.rests_writing (shows old.hold.history) line.side)) (MatchOption new.ends.service ⊤ (λ line. E.Client.rests_reading (shows old.hold.history) (adapted_room (shows old.hold.history) old.hold.limits.window) line.side))
+          (λ p. on_held old.ends.service ⊥ (λ wire. E.ServiceWire.past wire p)) (λ p. on_held new.ends.service ⊥ (λ wire. E.ServiceWire.past wire p)))
+          × MatchOption new.ends.service ⊤ (λ line. MatchOption line.wire ⊤ (λ wire. E.Client.is_framed (adapted_room (shows old.hold.history) old.hold.limits.window) line.side)))
+          ((IsChosen (shows old.hold.history) → ⊥) ⊎ ((E.Writer.gift new.ends.next ≡ nothing → E.Writer.gift new.ends.back ≡ nothing → ⊥) × OfWriter (E.Writer.gift new.ends.back)
+          (Waited (E.Writer.rests (shows old.hold.history) new.ends.next) (λ past. past.write_waits) (E.NextWire.past old.ends.next_wire) (E.NextWire.past new.ends.next_wire))
+          (Waited (E.Writer.rests (shows old.hold.history) new.ends.back) (λ past. past.write_waits) (E.SourceWire.past old.ends.source_wire) (E.SourceWire.past new.ends.source_wire)))));
+      moved = λ n. ⟦<Tx<B, E> as Going>⟧.moves old new n
+          × (n ≡ 0 → (p q r : Past) → E.SourceWire.past old.ends.source_wire p → on_held old.ends.service ⊤ (λ wire. E.ServiceWire.past wire q) → E.NextWire.past old.ends.next_wire r
+          → ((shows old.hold.history).closed ≡ false) × Advances (may_step side) old.hold new.hold);
+      broken = (side ≡ sides.Service) × ((shows old.hold.history).closed ≡ false) × MayFollow new.hold.history.plan new.hold.history.events Retry
+          × ((old.pace.broken ≡ true) ⊎ MatchOption new.ends.service ⊥ (λ line. Breaks new.hold.history old.pace.reused (E.Client.fault line.side)));
+      finished = λ outcome. ((shows old.hold.history).closed ≡ true) × (outcome ≡ old.outcome) × ((old.refusing ≡ false) ⊎ ⟦<Tx<B, E> as Refusing>⟧.refusal_is_over new)
+          × (outcome ≡ outcomes.Done → IsDone new.hold.history);
+    }) };
 
     ghost keeps = { λ old side new. ((shows old.hold.history).closed ≡ false → TookBy (may_step side) old.hold new.hold
         × BySide side ((new.ends.service ≡ old.ends.service) × (new.ends.next_wire ≡ old.ends.next_wire)

@@ -204,10 +204,12 @@ impl<B: Ledgers, E: EndTypes> Tx<B, E> {
         ensures apart { (self.new.ends.source ≡ self.old.ends.source) × (self.new.ends.service ≡ self.old.ends.service) × (self.old.hold.history.plan.point ≡ Point.Respmod → self.new.ends.source_wire ≡ self.old.ends.source_wire)
             × (self.old.hold.history.plan.point ≡ Point.Reqmod → self.new.ends.next_wire ≡ self.old.ends.next_wire) }
         ensures kept { (self.new.hold ≡ self.old.hold) × (self.new.outcome ≡ self.old.outcome) × (self.new.refusing ≡ self.old.refusing) }
-        ensures answers { ByAnswer result (record { waiting = ⟦<Self as Going>⟧.moves self.old self.new 0 × ⟦<Self as Refusing>⟧.refusal_waits self.old self.new;
-            moved = λ n. ⟦<Self as Going>⟧.moves self.old self.new n × (n ≡ 0 → ⟦<Self as Refusing>⟧.refusal_moves self.old self.new);
-            broken = ⊥;
-            finished = λ outcome. (outcome ≡ self.old.outcome) × ((self.old.refusing ≡ false) ⊎ ⟦<Self as Refusing>⟧.refusal_is_over self.new) }) }
+        ensures answers { ByAnswer result (record {
+          waiting = ⟦<Self as Going>⟧.moves self.old self.new 0 × ⟦<Self as Refusing>⟧.refusal_waits self.old self.new;
+          moved = λ n. ⟦<Self as Going>⟧.moves self.old self.new n × (n ≡ 0 → ⟦<Self as Refusing>⟧.refusal_moves self.old self.new);
+          broken = ⊥;
+          finished = λ outcome. (outcome ≡ self.old.outcome) × ((self.old.refusing ≡ false) ⊎ ⟦<Self as Refusing>⟧.refusal_is_over self.new);
+        }) }
         ensures refuses { (cause : Cause) → ⟦<Self as Refusing>⟧.refuses self.old cause → ⟦<Self as Refusing>⟧.refuses self.new cause }
         ensures finished { (self.old.refusing ≡ false) ⊎ ⟦<Self as Refusing>⟧.refusal_is_over self.old → result ≡ Turned.Finished self.old.outcome }
     {

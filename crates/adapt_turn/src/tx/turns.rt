@@ -61,8 +61,13 @@ impl<B: Ledgers, E: EndTypes> Tx<B, E> {
         ensures paces { Paces (shows self.old.hold.history).closed self.old.pace self.new.pace now (λ n. ⟦<Self as Going>⟧.moves self.old self.new n) result }
         ensures breaks_on { (shows self.old.hold.history).closed ≡ false → now < self.old.pace.last_moved + self.old.pace.deadline → side ≡ Side.Service
             → self.old.pace.broken ≡ true → MayFollow self.old.hold.history.plan self.old.hold.history.events Retry → result ≡ Turned.Broken }
-        ensures fails { (shows self.old.hold.history).closed ≡ false → WhyFailed (record { outcome = self.new.outcome; late = self.old.pace.last_moved + self.old.pace.deadline ≤ now;
-            blame = ⟦<Self as Answering>⟧.fails self.old side now self.new; refuses = ⟦<Self as Refusing>⟧.refuses self.new; unmade = λ cause. (side ≡ Side.NextHop) × ⟦<Self as Making>⟧.unmade self.old cause }) }
+        ensures fails { (shows self.old.hold.history).closed ≡ false → WhyFailed (record {
+          outcome = self.new.outcome;
+          late = self.old.pace.last_moved + self.old.pace.deadline ≤ now;
+          blame = ⟦<Self as Answering>⟧.fails self.old side now self.new;
+          refuses = ⟦<Self as Refusing>⟧.refuses self.new;
+          unmade = λ cause. (side ≡ Side.NextHop) × ⟦<Self as Making>⟧.unmade self.old cause;
+        }) }
         ensures faultless { (shows self.new.hold.history).closed ≡ false → ⟦<Self as Answering>⟧.faultless self.old → ⟦<Self as Answering>⟧.faultless self.new }
         ensures told { (shows self.old.hold.history).closed ≡ false → side ≡ Side.Source → (result ≡ Turned.Broken → ⊥) → ((cause : Cause) → self.new.outcome ≡ Outcome.Fail cause → ⊥)
             → E.Reader.is_over self.new.ends.source → (shows self.new.hold.history).ended ≡ true }
