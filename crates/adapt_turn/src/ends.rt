@@ -71,7 +71,7 @@ pub struct Start<B: Ledgers, E: EndTypes> {
 }
 
 /// What is left of a transaction that ended.
-pub struct Parts<B: Ledgers, E: EndTypes> {
+pub struct TxParts<B: Ledgers, E: EndTypes> {
     pub stake: Stake<B>,
     pub ends: Ends<E>,
     pub outcome: Outcome,

@@ -1,7 +1,7 @@
 //! The head with which the chosen message goes on.
 
 ghost use Rattle.std.specs.Prelude.{ℕ, Bool, List, Option, IfOk, IfErr, option_copied};
-ghost use Rattle.trace_core.specs.declared.history.Cause.{Cause as Why};
+ghost use Rattle.trace_core.specs.declared.history.Cause.{Cause as AnyCause};
 ghost use Rattle.trace_core.specs.declared.history.Seen.{Seen};
 ghost use Rattle.trace_core.specs.History.{shows};
 

@@ -9,7 +9,7 @@ mod steps;
 mod turned;
 mod tx;
 
-pub use ends::{EndTypes, Ends, FreedConnection, Parts, ServiceEnd, Start};
+pub use ends::{EndTypes, Ends, FreedConnection, ServiceEnd, Start, TxParts};
 pub use head::MakesHead;
 pub use pace::Pace;
 pub use steps::Passed;

@@ -22,7 +22,7 @@ mod refusals;
 mod retries;
 mod turns;
 
-use crate::ends::{EndTypes, Ends, Parts, Start};
+use crate::ends::{EndTypes, Ends, Start, TxParts};
 use crate::pace::Pace;
 use crate::turned::Outcome;
 use adapt_hold::Hold;
@@ -226,7 +226,7 @@ impl<B: Ledgers, E: EndTypes> Tx<B, E> {
     }
 
     /// What is left of a transaction that is closed; one that isn't comes back whole.
-    pub fn into_parts(self) -> Result<Parts<B, E>, Tx<B, E>>
+    pub fn into_parts(self) -> Result<TxParts<B, E>, Tx<B, E>>
         ensures closed { IsOk result ↔ ((shows self.hold.history).closed ≡ true) }
         ensures outcome { IfOk result (λ parts. parts.outcome ≡ self.outcome) }
         ensures stake { IfOk result (λ parts. (parts.stake.held ≡ 0) × (parts.stake.pages ≡ 0) × (parts.stake.claim ≡ self.hold.claim)) }
@@ -246,7 +246,7 @@ impl<B: Ledgers, E: EndTypes> Tx<B, E> {
             refusing: _,
             outcome,
         } = self;
-        Ok(Parts {
+        Ok(TxParts {
             stake: hold.into_stake(),
             ends,
             outcome,

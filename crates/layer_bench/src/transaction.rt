@@ -5,7 +5,7 @@ ghost use Rattle.span_bank.specs.declared.limits.TheConstants.{MAX_CAPACITY};
 ghost use Rattle.plan_rules.specs.Claims.{claim_of};
 
 use crate::offered::{REQUEST, RESPONSE, offer};
-use adapt_turn::{EndTypes, Ends, Outcome, Parts, ServiceEnd, Side};
+use adapt_turn::{EndTypes, Ends, Outcome, ServiceEnd, Side, TxParts};
 use http_relay::{RelayFault, SourceSide};
 use plan_rules::{Limits, claim};
 use proxy_rules::{Beginning, Incoming, Offer, Running};
@@ -358,7 +358,7 @@ fn end<B: Ledgers, C: Wire + Drop>(rt: &impl Wait, bank: &Bank<B>, tx: Moving<B,
 fn take_apart<B: Ledgers, E: EndTypes>(
     rt: &impl Wait,
     bank: &Bank<B>,
-    parts: Parts<B, E>,
+    parts: TxParts<B, E>,
 ) -> (Outcome, E::SourceWire, Option<E::ServiceWire>, E::NextWire)
 where
     E::Reader: Drop,
@@ -367,7 +367,7 @@ where
     E::Maker: Drop,
     requires { (parts.stake.held ≡ 0) × (parts.stake.pages ≡ 0) }
 {
-    let Parts {
+    let TxParts {
         stake,
         ends,
         outcome,

@@ -4,7 +4,7 @@
 ghost use Rattle.std.specs.Prelude.{◌≡◌, ◌≤◌, ◌+◌, ◌↔◌, ℕ, Bool, List, [], length, Option, is_some, true, false, codes, MatchOption, IsOk, IfOk, IfErr};
 ghost use Rattle.span_bank.specs.declared.limits.TheConstants.{MAX_CAPACITY};
 ghost use Rattle.plan_rules.specs.Claims.{claim_of};
-ghost use Rattle.trace_core.specs.declared.history.Cause.{Cause as Why};
+ghost use Rattle.trace_core.specs.declared.history.Cause.{Cause as AnyCause};
 ghost use Rattle.trace_core.specs.declared.history.Cause.TheVariants.{Deadline, Stopping};
 ghost use Rattle.trace_core.specs.declared.history.Seen.{Seen};
 ghost use Rattle.trace_core.specs.declared.tape.Tape.TheVariants.{Original, Adapted};
@@ -90,7 +90,7 @@ pub fn a_running_transaction_takes_one_message<B: Ledgers, W: Wires>(running: &R
         (λ head. IsMade (⟦<HeadMaker as MakesHead<SourceSide, HopWriter>>⟧.makes running.now.tx.ends.maker (⟦<SourceSide as Source>⟧.head running.now.tx.ends.source))
         (adapted_of ⟦<ServiceSide as Service>⟧.adapted_head running.now.tx.ends.service) (response_of ⟦<ServiceSide as Service>⟧.is_response running.now.tx.ends.service) running.now.tx.ends.back.framing (shows running.now.tx.hold.history) head)
         running.now.tx.ends.next.framing running.now.tx.ends.back.framing running.now.tx.hold request t) ∥₁ }
-    ensures refuses { (shows running.now.tx.hold.history).closed ≡ true → (cause : Why) → running.now.tx.outcome ≡ outcomes.Fail cause
+    ensures refuses { (shows running.now.tx.hold.history).closed ≡ true → (cause : AnyCause) → running.now.tx.outcome ≡ outcomes.Fail cause
         → ∥ ⟦<Tx<B, OwnEnds<W>> as Refusing>⟧.refuses running.now.tx cause ∥₁ }
 {
     the_wires_take_one_message(&running.tx);

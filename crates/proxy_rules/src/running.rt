@@ -1,7 +1,7 @@
 //! A transaction of the proxy's own sides that runs: what the edge holds.
 
 ghost use Rattle.std.specs.Prelude.{not, ◌≡◌, ◌↔◌, ◌≤◌, ◌⊎◌, ◌+◌, ℕ, List, true, false, [], None, Some, IfSome};
-ghost use Rattle.trace_core.specs.declared.history.Cause.{Cause as Why};
+ghost use Rattle.trace_core.specs.declared.history.Cause.{Cause as AnyCause};
 ghost use Rattle.trace_core.specs.declared.history.Cause.TheVariants.{Deadline, Stopping};
 ghost use Rattle.trace_core.specs.declared.history.Event.TheVariants.{Fail, Retry};
 ghost use Rattle.trace_core.specs.Legal.{MayFollow};
@@ -44,7 +44,7 @@ impl<B: Ledgers, W: Wires> Running<B, W> {
         ensures goes { ⟦<Tx<B, OwnEnds<W>> as Going>⟧.goes self.old.tx self.new.tx }
         ensures answers { ⟦<Tx<B, OwnEnds<W>> as Answering>⟧.answers self.old.tx side self.new.tx result }
         ensures keeps { ⟦<Tx<B, OwnEnds<W>> as Answering>⟧.keeps self.old.tx side self.new.tx }
-        ensures fails { (shows self.old.tx.hold.history).closed ≡ false → (cause : Why) → self.new.tx.outcome ≡ outcomes.Fail cause
+        ensures fails { (shows self.old.tx.hold.history).closed ≡ false → (cause : AnyCause) → self.new.tx.outcome ≡ outcomes.Fail cause
             → ⟦<Tx<B, OwnEnds<W>> as Answering>⟧.fails self.old.tx side now self.new.tx cause }
         ensures deadline { (shows self.old.tx.hold.history).closed ≡ false → self.old.tx.pace.last_moved + self.old.tx.pace.deadline ≤ now → self.new.tx.outcome ≡ outcomes.Fail Deadline }
         ensures finishes { (shows self.old.tx.hold.history).closed ≡ true → (self.old.tx.refusing ≡ false) ⊎ ⟦<Tx<B, OwnEnds<W>> as Refusing>⟧.refusal_is_over self.old.tx
@@ -142,22 +142,22 @@ impl<B: Ledgers, W: Wires> Running<B, W> {
     }
 
     /// Fails it where no fresh connection can be had: by the service's fault, or for what else is the cause of that.
-    pub fn no_retry(&mut self, rt: &impl Wait, bank: &Bank<B>, cause: Cause)
+    pub fn fail_unretried(&mut self, rt: &impl Wait, bank: &Bank<B>, cause: Cause)
         requires broken { self.old.tx.pace.broken ≡ true }
         requires may { MayFollow self.old.tx.hold.history.plan self.old.tx.hold.history.events Retry }
         ensures outcome { self.new.tx.outcome ≡ outcomes.Fail cause }
     {
-        self.tx.no_retry(rt, bank, cause);
+        self.tx.fail_unretried(rt, bank, cause);
     }
 
     /// Gives up the connection to the service once its exchange is over, and says whether it may carry another request.
-    pub fn freed_connection(&mut self) -> Option<FreedConnection<W::ServiceWire>>
+    pub fn take_freed(&mut self) -> Option<FreedConnection<W::ServiceWire>>
         ensures over { IfSome result (λ free. MayFree (shows self.old.tx.hold.history)) }
         ensures due { result ≡ None → MayFree (shows self.old.tx.hold.history) → wire_of self.old.tx.ends.service ≡ None }
         ensures wire { IfSome result (λ free. wire_of self.old.tx.ends.service ≡ Some free.wire) }
         ensures reusable { IfSome result (λ free. IfSome self.old.tx.ends.service (λ line. free.is_reusable ≡ is_reusable line.side)) }
     {
-        self.tx.freed_connection()
+        self.tx.take_freed()
     }
 
     /// The transaction itself, to be taken apart.

@@ -80,7 +80,7 @@ impl<O: Kinds> Holder for Holdings<O> {
         let Some(tx) = &mut self.tx else {
             unreachable!();
         };
-        let FreedConnection { wire, is_reusable } = tx.freed_connection()?;
+        let FreedConnection { wire, is_reusable } = tx.take_freed()?;
         lay_wire(&mut self.connection, wire);
         Some(is_reusable)
     }

@@ -181,10 +181,10 @@ impl<O: Kinds> Moving<O> {
     }
 
     /// Gives up the connection to the service once the service has said all.
-    pub fn freed_connection(&mut self) -> Option<FreedConnection<O::Service>> {
+    pub fn take_freed(&mut self) -> Option<FreedConnection<O::Service>> {
         match self {
-            Moving::Request(tx) => tx.freed_connection(),
-            Moving::Response(tx) => tx.freed_connection(),
+            Moving::Request(tx) => tx.take_freed(),
+            Moving::Response(tx) => tx.take_freed(),
         }
     }
 

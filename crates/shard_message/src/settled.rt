@@ -9,7 +9,7 @@ use crate::room::room_of;
 use crate::sides::{Asked, MadeHead, Served};
 use crate::taken::{parts_of, wire_of};
 use adapt_sides::{ClientFault, Hop};
-use adapt_turn::{EndTypes, Ends, MakesHead, Outcome, Parts, ServiceEnd, Tx};
+use adapt_turn::{EndTypes, Ends, MakesHead, Outcome, ServiceEnd, Tx, TxParts};
 use proxy_rules::Reason;
 use shard_outside::{Kinds, MessageEnd, Outside};
 use span_bank::Stake;
@@ -219,7 +219,7 @@ pub(crate) fn settle_request<
 >(rt: &R, at: &P, out: &mut O, tx: Tx<O::Ledgers, E>, by: EndedBy) -> Settled<O, S::Message>
     ensures { EndsBy by result.report.end }
 {
-    let Parts {
+    let TxParts {
         stake,
         ends,
         outcome,
@@ -275,7 +275,7 @@ pub(crate) fn settle_response<
 >(rt: &R, at: &P, out: &mut O, tx: Tx<O::Ledgers, E>, by: EndedBy) -> Settled<O, S::Message>
     ensures { EndsBy by result.report.end }
 {
-    let Parts {
+    let TxParts {
         stake,
         ends,
         outcome,

@@ -5,7 +5,7 @@ ghost use Rattle.std.specs.Prelude.{◌≡◌};
 use crate::room::room_of;
 use crate::ways::{Left, Ways};
 use adapt_sides::{Hop, Service, Source};
-use adapt_turn::{EndTypes, Ends, MakesHead, Parts, ServiceEnd, Tx};
+use adapt_turn::{EndTypes, Ends, MakesHead, ServiceEnd, Tx, TxParts};
 use plan_rules::Limits;
 use proxy_rules::Wires;
 use span_bank::{Bank, Ledgers, Stake};
@@ -16,7 +16,7 @@ pub(crate) fn parts_of<B: Ledgers, E: EndTypes, R: Wait>(
     rt: &R,
     bank: &Bank<B>,
     tx: Tx<B, E>,
-) -> Parts<B, E>
+) -> TxParts<B, E>
     ensures { (result.stake.held ≡ 0) × (result.stake.pages ≡ 0) }
 {
     let mut tx = tx;
@@ -57,7 +57,7 @@ pub(crate) fn left_of<
     >,
     R: Wait,
 >(rt: &R, bank: &Bank<B>, tx: Tx<B, E>, limits: Limits) -> Left<B, W> {
-    let Parts {
+    let TxParts {
         stake,
         ends,
         outcome: _,
@@ -105,7 +105,7 @@ pub(crate) fn stake_of<
 >(rt: &R, bank: &Bank<B>, tx: Tx<B, E>) -> Stake<B>
     ensures { (result.held ≡ 0) × (result.pages ≡ 0) }
 {
-    let Parts {
+    let TxParts {
         stake,
         ends,
         outcome: _,

@@ -103,8 +103,8 @@ fn renew<P, O: Outside<P>, W: Wires<ServiceWire = O::Service>, R: Wait>(
             drop(tx.retry(rt, out.bank(), wire));
             return Round::Broken;
         }
-        Err(LendFault::NoMemory) => tx.no_retry(rt, out.bank(), Cause::Memory),
-        Err(_) => tx.no_retry(rt, out.bank(), Cause::Service),
+        Err(LendFault::NoMemory) => tx.fail_unretried(rt, out.bank(), Cause::Memory),
+        Err(_) => tx.fail_unretried(rt, out.bank(), Cause::Service),
     }
     Round::Over
 }

@@ -3,7 +3,7 @@
 ghost use Rattle.std.specs.Prelude.{◌≡◌};
 
 use crate::told::{Recorded, Told, heard_over};
-use adapt_turn::{EndTypes, Ends, FreedConnection, Outcome, Parts, ServiceEnd, Side, Turned};
+use adapt_turn::{EndTypes, Ends, FreedConnection, Outcome, ServiceEnd, Side, Turned, TxParts};
 use proxy_rules::{Beginning, Running, Wires};
 use span_bank::{Bank, Ledgers, Pages};
 use std::sync::Wait;
@@ -102,7 +102,7 @@ impl<'a, B: Ledgers, A: Wire + Drop + Recorded, C: Wire + Drop + Recorded, R: Wa
     }
 
     fn free(&mut self) -> Option<bool> {
-        let FreedConnection { wire, is_reusable } = self.running.freed_connection()?;
+        let FreedConnection { wire, is_reusable } = self.running.take_freed()?;
         self.lines.freed = Some(wire);
         Some(is_reusable)
     }
@@ -143,7 +143,7 @@ fn mend<B: Ledgers, W: Wires, R: Wait>(
                 drop(running.retry(rt, bank, fresh));
             }
             None => {
-                running.no_retry(rt, bank, Cause::Service);
+                running.fail_unretried(rt, bank, Cause::Service);
                 lines.failed = lines.failed.saturating_add(1);
             }
         }
@@ -202,7 +202,7 @@ fn end<B: Ledgers, A: Wire + Drop, C: Wire + Drop, R: Wait>(
 fn take_apart<B: Ledgers, E: EndTypes, R: Wait>(
     rt: &R,
     bank: &Bank<B>,
-    parts: Parts<B, E>,
+    parts: TxParts<B, E>,
 ) -> (Outcome, E::SourceWire, Option<E::ServiceWire>, E::NextWire)
 where
     E::Reader: Drop,
@@ -211,7 +211,7 @@ where
     E::Maker: Drop,
     requires { (parts.stake.held ≡ 0) × (parts.stake.pages ≡ 0) }
 {
-    let Parts {
+    let TxParts {
         stake,
         ends,
         outcome,

@@ -55,7 +55,7 @@ impl<B: Ledgers, E: EndTypes> Tx<B, E> {
     /// Gives up the connection to the service, and says whether it may carry another request. `None` if no connection is held, or
     /// as long as the service's exchange goes on. No byte of this transaction goes over it any more: what its wire took and gave
     /// stays what it was, and later turns of the service find nothing due.
-    pub fn freed_connection(&mut self) -> Option<FreedConnection<E::ServiceWire>>
+    pub fn take_freed(&mut self) -> Option<FreedConnection<E::ServiceWire>>
         ensures over { IfSome result (λ free. MayFree (shows self.old.hold.history)) }
         ensures due { result ≡ None → MayFree (shows self.old.hold.history) → wire_of self.old.ends.service ≡ None }
         ensures wire { IfSome result (λ free. wire_of self.old.ends.service ≡ Some free.wire) }

@@ -26,7 +26,7 @@ use trace_core::{Cause, Point};
 use wire_kit::Wire;
 
 /// The status of the proxy's own refusal.
-fn status_of(cause: Cause, point: Point) -> u16
+fn refusal_status_of(cause: Cause, point: Point) -> u16
     ensures status { result ≡ refusal_status cause point }
     ensures own { IsTrue (is_own_status result) }
 {
@@ -120,7 +120,7 @@ impl<B: Ledgers, E: EndTypes> Tx<B, E> {
         ensures framings { (E.Writer.body_framing self.new.ends.next ≡ E.Writer.body_framing self.old.ends.next) × (E.Writer.body_framing self.new.ends.back ≡ E.Writer.body_framing self.old.ends.back) }
     {
         let point = self.point();
-        let status = status_of(cause, point);
+        let status = refusal_status_of(cause, point);
         match point {
             Point::Reqmod => self.refusing = refuse_on(&mut self.ends.back, status),
             Point::Respmod => self.refusing = refuse_on(&mut self.ends.next, status),

@@ -53,7 +53,7 @@ impl<B: Ledgers, E: EndTypes> Tx<B, E> {
     }
 
     /// Fails the transaction where no fresh connection can be had: by the service's fault, or for what else is the cause of that.
-    pub fn no_retry(&mut self, rt: &impl Wait, bank: &Bank<B>, cause: Cause)
+    pub fn fail_unretried(&mut self, rt: &impl Wait, bank: &Bank<B>, cause: Cause)
         requires broken { self.old.pace.broken ≡ true }
         requires may { MayFollow self.old.hold.history.plan self.old.hold.history.events Retry }
         ensures goes { ⟦<Self as Going>⟧.goes self.old self.new }

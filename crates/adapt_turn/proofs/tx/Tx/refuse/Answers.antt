@@ -11,7 +11,7 @@ returns-in-Reqmod-clause-goes g c =
     let put = c.refuse_on-self in
     back_refuse_goes g.E.Writer.Hop (made_by g.E.Writer.Hop g.E.Client.Service (g.E.Maker.MakesHead.makes tx.ends.maker) (g.E.Reader.Source.head tx.ends.source) tx.ends.service) tx.hold
     (views_by g.E.Reader.Source g.E.Client.Service g.E.Writer.Hop (g.E.Maker.MakesHead.makes tx.ends.maker) tx.ends.source tx.ends.service tx.ends.next tx.ends.back tx.refusing)
-    tx.ends.back put.new.hop put.result c.status_of-status.result _ g.met.E.Writer.Hop.untouched_given g.met.E.Writer.Hop.untouched_aside c.requires.over
+    tx.ends.back put.new.hop put.result c.refusal_status_of-status.result _ g.met.E.Writer.Hop.untouched_given g.met.E.Writer.Hop.untouched_aside c.requires.over
     (failed_undone tx.hold.history tx.outcome c.args.cause tx.told c.requires.failed) (sym c.point-point.ensures ∙ c.in-Reqmod.is) put.ensures.untouched put.ensures.gift put.ensures.aside put.ensures.same
 
 pub returns-in-Respmod-clause-goes : goal.returns-in-Respmod-clause-goes
@@ -20,5 +20,5 @@ returns-in-Respmod-clause-goes g c =
     let put = c.refuse_on-self-in-Respmod in
     next_refuse_goes g.E.Writer.Hop (made_by g.E.Writer.Hop g.E.Client.Service (g.E.Maker.MakesHead.makes tx.ends.maker) (g.E.Reader.Source.head tx.ends.source) tx.ends.service) tx.hold
     (views_by g.E.Reader.Source g.E.Client.Service g.E.Writer.Hop (g.E.Maker.MakesHead.makes tx.ends.maker) tx.ends.source tx.ends.service tx.ends.next tx.ends.back tx.refusing)
-    tx.ends.next put.new.hop put.result c.status_of-status.result _ g.met.E.Writer.Hop.untouched_given g.met.E.Writer.Hop.untouched_aside c.requires.over
+    tx.ends.next put.new.hop put.result c.refusal_status_of-status.result _ g.met.E.Writer.Hop.untouched_given g.met.E.Writer.Hop.untouched_aside c.requires.over
     (failed_undone tx.hold.history tx.outcome c.args.cause tx.told c.requires.failed) (sym c.point-point.ensures ∙ c.in-Respmod.is) put.ensures.untouched put.ensures.gift put.ensures.aside put.ensures.same

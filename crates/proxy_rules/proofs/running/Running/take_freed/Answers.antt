@@ -2,11 +2,11 @@ use Rattle.std.proofs.Common.{ap, sym, ◌∙◌}
 use Rattle.std.proofs.Math.Logic.{∥∥₁_map}
 use Rattle.adapt_hold.specs.Holding.{Holding, shows}
 use Rattle.proxy_rules.proofs.RunLemmas.{refuses_by}
-use Rattle.proxy_rules.proofs.running.Running.freed_connection.Goals as goal
+use Rattle.proxy_rules.proofs.running.Running.take_freed.Goals as goal
 
 pub invariant_of-self : goal.invariant_of-self
 invariant_of-self g c =
-    let e = c.freed_connection.ensures in
+    let e = c.take_freed.ensures in
     let same = ap (λ (x : Holding). (shows x.history).closed) e.kept.0 in
     record {
       runs = ∥∥₁_map c.args.self.now.runs (λ r. record {

@@ -1,5 +1,5 @@
 use Rattle.adapt_turn.proofs.Freeing.{freed}
-use Rattle.adapt_turn.proofs.tx.Tx.freed_connection.Goals as goal
+use Rattle.adapt_turn.proofs.tx.Tx.take_freed.Goals as goal
 
 pub returns-clause-stands : goal.returns-clause-stands
 returns-clause-stands g c = λ request t s.
