@@ -4,8 +4,8 @@ use Rattle.exchange_core.specs.declared.course.Course.{Course}
 use Rattle.exchange_core.specs.declared.due.Due.{Due}
 use Rattle.exchange_core.specs.declared.due.Due.TheVariants.{AskGate, Turn}
 use Rattle.exchange_core.specs.Dues.{due_of, is_wait}
-use Rattle.shard_holdings.specs.declared.tasks.Step.{Step}
-use Rattle.shard_holdings.specs.declared.tasks.Step.TheVariants.{On, Waits, Over}
+use Rattle.shard_effects.specs.declared.tasks.Step.{Step}
+use Rattle.shard_effects.specs.declared.tasks.Step.TheVariants.{On, Waits, Over}
 
 -- who waits has a deadline, and it hasn't passed; and only the course says what is over
 abbrev pub Heeds : (late : Bool) → Course → Step → Type 0

@@ -4,7 +4,7 @@ ghost use Rattle.std.specs.Prelude.{◌≡◌, true, false};
 
 use crate::exchange::Exchange;
 use exchange_core::{Due, Event};
-use shard_holdings::{Effects, Holder};
+use shard_effects::{Effects, Holder};
 use shard_message::EndedBy;
 use std::sync::Wait;
 

@@ -5,10 +5,7 @@ ghost use Rattle.exchange_core.specs.Course.{is_leased};
 ghost use Rattle.exchange_core.specs.May.{is_at_gate, is_moving};
 
 use exchange_core::{Event, Phase, RefusalCause};
-use proxy_rules::Incoming;
-use shard_holdings::{Holder, Holdings, InHand};
-use shard_outside::Kinds;
-use std::boxed::Box;
+use shard_effects::{Holder, InHand};
 
 /// A user's connection, with what is held for it.
 ///
@@ -24,36 +21,16 @@ pub struct Exchange<H: InHand> {
     pub(crate) ghost opened: { ((H.hand holdings).origin || (H.hand holdings).moving) ≡ course.origin },
 }
 
-impl<O: Kinds> Exchange<Holdings<O>> {
+impl<H: InHand> Exchange<H> {
     ghost use Rattle.exchange_core.specs.Course.{start, after};
     ghost use Rattle.exchange_core.specs.declared.event.Event.TheVariants.{Failed};
     ghost use Rattle.exchange_core.specs.declared.event.RefusalCause.TheVariants.{Scarce};
-
-    /// Before the first byte of the user's first request.
-    pub fn begin(user: O::User, message: Box<Incoming>) -> Exchange<Holdings<O>>
-        ensures { result.course ≡ start }
-    {
-        Exchange::new(Holdings::new(user, Some(message)))
-    }
-
-    /// A user whom nobody serves: it gets the refusal for want of room.
-    pub fn turn_away(user: O::User) -> Exchange<Holdings<O>>
-        ensures { result.course ≡ after start (Failed Scarce) }
-    {
-        let mut exchange = Exchange::new(Holdings::new(user, None));
-        exchange.course.failed(RefusalCause::Scarce);
-        exchange
-    }
-}
-
-impl<H: InHand> Exchange<H> {
-    ghost use Rattle.exchange_core.specs.Course.{start};
     ghost use Rattle.exchange_core.specs.Log.{Goes};
-    ghost use Rattle.shard_holdings.specs.Hand.{IsEmpty};
+    ghost use Rattle.shard_effects.specs.Hand.{IsEmpty};
     ghost use Rattle.shard_exchange.specs.Ends.{is_stopped};
 
-    /// A user's connection for which nothing is held.
-    fn new(holdings: H) -> Exchange<H>
+    /// A user's connection before the first byte of its first request. Nothing of what the course counts is held for it.
+    pub fn begin(holdings: H) -> Exchange<H>
         requires { IsEmpty (H.hand holdings) }
         ensures { result.course ≡ start }
     {
@@ -61,6 +38,16 @@ impl<H: InHand> Exchange<H> {
             course: exchange_core::Exchange::begin(),
             holdings,
         }
+    }
+
+    /// The connection of a user whom nobody serves: it gets the refusal for want of room.
+    pub fn turn_away(holdings: H) -> Exchange<H>
+        requires { IsEmpty (H.hand holdings) }
+        ensures { result.course ≡ after start (Failed Scarce) }
+    {
+        let mut exchange = Exchange::begin(holdings);
+        exchange.course.failed(RefusalCause::Scarce);
+        exchange
     }
 
     /// What the user's connection is in the midst of.

@@ -4,7 +4,7 @@ ghost use Rattle.std.specs.Prelude.{◌≡◌, false};
 
 use crate::exchange::Exchange;
 use exchange_core::Event;
-use shard_holdings::{Effects, Holder, Step};
+use shard_effects::{Effects, Holder, Step};
 use std::sync::Wait;
 
 impl<H: Holder> Exchange<H> {

@@ -6,7 +6,7 @@ use crate::course::begin_head;
 use crate::exchange::Exchange;
 use exchange_core::Event;
 use proxy_rules::{Reason, origin_head_reason, user_head_reason};
-use shard_holdings::{Effects, Holder, Step};
+use shard_effects::{Effects, Holder, Step};
 use shard_outside::HeadTurn;
 
 impl<H: Holder> Exchange<H> {

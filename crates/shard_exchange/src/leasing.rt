@@ -6,7 +6,7 @@ use crate::exchange::Exchange;
 use exchange_core::Event;
 use proxy_rules::Reason;
 use service_lines::LendFault;
-use shard_holdings::{Effects, Holder, Step};
+use shard_effects::{Effects, Holder, Step};
 use shard_outside::lend_reason;
 use trace_core::Point;
 

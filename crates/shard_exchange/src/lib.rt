@@ -19,5 +19,5 @@ mod stopping;
 mod telling;
 
 pub use exchange::Exchange;
-pub use shard_holdings::{Held, Holder, Holdings, InHand, Step, Task};
+pub use shard_effects::{Effects, Holder, InHand, Step, Task};
 pub use shard_outside::{Kinds, Lingered, MessageEnd, Outside};

@@ -6,7 +6,7 @@ use crate::course::tell;
 use crate::exchange::Exchange;
 use exchange_core::Event;
 use proxy_rules::Reason;
-use shard_holdings::{Effects, Holder, Started, Step};
+use shard_effects::{Effects, Holder, Started, Step};
 use shard_message::{EndedBy, Round};
 use std::sync::Wait;
 

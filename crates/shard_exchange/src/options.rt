@@ -7,7 +7,7 @@ use adapt_sides::ClientFault;
 use exchange_core::Event;
 use icap_head::IcapResponse;
 use proxy_rules::{Reason, options_reason};
-use shard_holdings::{Effects, Holder, Step};
+use shard_effects::{Effects, Holder, Step};
 use shard_outside::OptionsTurn;
 
 impl<H: Holder> Exchange<H> {

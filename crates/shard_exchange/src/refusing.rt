@@ -6,7 +6,7 @@ ghost use Rattle.proxy_rules.specs.Reasons as reasons;
 use crate::exchange::Exchange;
 use exchange_core::Event;
 use proxy_rules::Reason;
-use shard_holdings::{Effects, Holder, Step};
+use shard_effects::{Effects, Holder, Step};
 use shard_outside::{Lingered, Said, refusal_cause_of};
 
 impl<H: Holder> Exchange<H> {

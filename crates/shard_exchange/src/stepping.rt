@@ -5,7 +5,7 @@ ghost use Rattle.shard_exchange.specs.Ends.{is_closing, is_stopped};
 
 use crate::exchange::Exchange;
 use exchange_core::{Due, Phase};
-use shard_holdings::{Effects, Holder, Step, Task};
+use shard_effects::{Effects, Holder, Step, Task};
 use std::sync::Wait;
 
 /// Whether nothing is left to do but to close the user's connection.

@@ -12,7 +12,7 @@ use crate::course::take_stop;
 use crate::exchange::Exchange;
 use exchange_core::{Due, Event, Phase};
 use proxy_rules::Reason;
-use shard_holdings::{Effects, Holder, Step};
+use shard_effects::{Effects, Holder, Step};
 use shard_message::EndedBy;
 use shard_outside::{Lingered, Said, is_under_way};
 use std::sync::Wait;

@@ -4,7 +4,7 @@ ghost use Rattle.std.specs.Prelude.{◌≡◌, true};
 
 use crate::exchange::Exchange;
 use exchange_core::Event;
-use shard_holdings::{Effects, Holder, Step};
+use shard_effects::{Effects, Holder, Step};
 use shard_outside::Said;
 
 impl<H: Holder> Exchange<H> {

@@ -2,13 +2,13 @@
 
 ghost use Rattle.std.specs.Prelude.{◌≡◌, is_some, true, false};
 
-use crate::effects::{Effects, Started};
 use crate::holdings::Holdings;
 use adapt_sides::ClientFault;
 use exchange_core::{Course, Exchange};
 use icap_head::IcapResponse;
 use proxy_rules::Reason;
 use service_lines::LendFault;
+use shard_effects::{Effects, Started};
 use shard_message::{
     Connection, EndedBy, Moving, Pace, Report, Round, Settled, begin_anew, dial_for, is_fresh,
     make_room, take_connections,

@@ -1,13 +1,13 @@
 //! What is done over what is held alone.
 
 ghost use Rattle.std.specs.Prelude.{is_some};
-ghost use Rattle.shard_holdings.specs.Hand.{hand_of};
+ghost use Rattle.shard_effects.specs.Hand.{hand_of};
 
-use crate::effects::{Holder, InHand};
 use crate::holdings::Holdings;
 use adapt_turn::FreedConnection;
 use http_side::{HttpFault, own_refusal};
 use proxy_rules::interim_continue;
+use shard_effects::{Holder, InHand};
 use shard_message::{hear_on, lay_wire};
 use shard_outside::{HeadTurn, Kinds, OptionsTurn, Said, clear, fault_of, say_to, turn_on};
 

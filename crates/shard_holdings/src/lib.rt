@@ -1,15 +1,11 @@
 //! What an exchange holds, and each thing that it may have to do.
 //!
 //! The course of an exchange says what is due. Here it is done, over what is held: each function does one thing, and says what came of
-//! it. The exchange sees all this as one value (`Effects`), so that it can do nothing else.
+//! it. The exchange sees all this as one value (`Effects` of `shard_effects`), so that it can do nothing else.
 #![tactic(auto)]
 
 mod doing;
-mod effects;
 mod holding;
 mod holdings;
-mod tasks;
 
-pub use effects::{Effects, Holder, InHand, Started};
 pub use holdings::{Held, Holdings};
-pub use tasks::{Step, Task};

@@ -4,7 +4,8 @@ ghost use Rattle.std.specs.Prelude.{◌≡◌, true};
 ghost use Rattle.exchange_core.specs.Dues.{is_over};
 
 use proxy_rules::Incoming;
-use shard_exchange::{Exchange, Holder, Holdings, Kinds, Outside, Step, Task};
+use shard_exchange::{Exchange, Holder, Kinds, Outside, Step, Task};
+use shard_holdings::Holdings;
 use shard_seats::Purpose;
 use std::alloc::Global;
 use std::boxed::Box;
@@ -18,10 +19,10 @@ pub(crate) fn first_of<O: Kinds>(
 ) -> Exchange<Holdings<O>> {
     match purpose {
         Purpose::Requests => match Box::new(alloc, Incoming::request(alloc)) {
-            Ok(message) => Exchange::begin(user, message),
-            Err(_) => Exchange::turn_away(user),
+            Ok(message) => Exchange::begin(Holdings::new(user, Some(message))),
+            Err(_) => Exchange::turn_away(Holdings::new(user, None)),
         },
-        Purpose::Refusal => Exchange::turn_away(user),
+        Purpose::Refusal => Exchange::turn_away(Holdings::new(user, None)),
     }
 }
 

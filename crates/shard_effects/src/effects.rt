@@ -2,7 +2,7 @@
 
 ghost use Rattle.std.specs.Prelude.{◌≡◌, Bool, IsTrue, is_ok, true, false};
 ghost use Rattle.http_side.specs.Refusals.{is_own_status};
-ghost use Rattle.shard_holdings.specs.Hand.{Hand, IsEmpty, Keeps, KeepsButLease, KeepsButRoom, KeepsButOrigin, SetsOut, ComesBack};
+ghost use Rattle.shard_effects.specs.Hand.{Hand, IsEmpty, Keeps, KeepsButLease, KeepsButRoom, KeepsButOrigin, SetsOut, ComesBack};
 ghost use Rattle.shard_message.specs.Ends.{EndsBy};
 
 use adapt_sides::ClientFault;
