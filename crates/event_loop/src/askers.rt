@@ -1,8 +1,6 @@
 //! The administrator's connections.
 
-use crate::admin_lines::Request;
-use crate::asker::{AdminInput, Asker};
-use crate::listening::{Accepted, Listening};
+use loop_parts::{Accepted, AdminInput, Asker, Listening, MAX_ASKERS, Request};
 use mio::net::TcpStream;
 use mio::{Registry, Token};
 use slab::Slab;
@@ -10,9 +8,6 @@ use socket_wire::{Readiness, SocketWire};
 use std::alloc::{AllocError, Global};
 use std::mem;
 use std::sync::Arc;
-
-/// The largest number of them at once. Each key is below it.
-pub(crate) const MAX_ASKERS: usize = 16;
 
 /// Lines heard of one connection before others get their turn.
 pub(crate) const LINES: u32 = 64;
@@ -49,7 +44,7 @@ impl Seat {
     }
 }
 
-/// The administrator's connections, each under its key.
+/// The administrator's connections, each under its key, which is below `MAX_ASKERS`.
 #[derive(Drop)]
 pub(crate) struct Askers {
     seats: Slab<Seat>,

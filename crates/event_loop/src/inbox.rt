@@ -1,6 +1,6 @@
 //! What other threads hand to an event loop: users' connections, that room is wanted, and the words to drain and to stop.
 
-use crate::room::UserPermit;
+use loop_parts::UserPermit;
 use mio::Waker;
 use mio::net::TcpStream;
 use std::alloc::{AllocError, Global};

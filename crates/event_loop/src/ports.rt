@@ -3,8 +3,7 @@
 ghost use Rattle.std.specs.Prelude.{◌≡◌, ◌<◌, ◌%◌, ◌↔◌, true};
 
 use crate::inbox::{Handed, Inbox};
-use crate::listening::{Accepted, Listening};
-use crate::room::Room;
+use loop_parts::{Accepted, Listening, Room};
 use mio::net::TcpStream;
 use std::sync::{Arc, Wait};
 use std::time::Duration;

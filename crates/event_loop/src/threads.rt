@@ -2,11 +2,10 @@
 
 use crate::ended::{Ended, LoopFault};
 use crate::inbox::{Inbox, stop_all};
-use crate::listening::Listening;
 use crate::looping::{ADMIN, EventLoop, LISTENER, WAKER};
 use crate::ports::Ports;
-use crate::room::Room;
 use crate::work::Work;
+use loop_parts::{Listening, Room};
 use mio::net::TcpListener;
 use mio::{Poll, Waker};
 use os::set_thread_name;

@@ -1,7 +1,7 @@
 //! What an event loop drives.
 
-use crate::admin_lines::Request;
 use crate::inbox::Handed;
+use loop_parts::Request;
 use mio::Registry;
 use socket_wire::{Dial, Peer};
 use std::alloc::AllocError;

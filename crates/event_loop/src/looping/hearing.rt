@@ -1,10 +1,10 @@
 //! The administrator's part in a loop.
 
-use crate::admin_lines::Request;
-use crate::askers::{LINES, MAX_ASKERS};
+use crate::askers::LINES;
 use crate::inbox::{Inbox, drain_all, stop_all};
 use crate::looping::EventLoop;
 use crate::work::Work;
+use loop_parts::{MAX_ASKERS, Request};
 use std::alloc::Global;
 use std::sync::Wait;
 

@@ -1,9 +1,9 @@
 //! The descriptors of the process, and who may have them: users, and idle connections to services.
 
 ghost use Rattle.std.specs.Prelude.{◌≡◌, ◌≤◌, ◌<◌, ◌+◌, ◌*◌, ◌↔◌, true, ℕ};
-ghost use Rattle.event_loop.specs.declared.room.TheConstants.{USER};
+ghost use Rattle.loop_parts.specs.declared.room.TheConstants.{USER};
 
-use crate::askers::MAX_ASKERS;
+use crate::asker::MAX_ASKERS;
 use libc::types::rlimit;
 use libc::{RLIMIT_NOFILE, getrlimit};
 use std::sync::Arc;

@@ -4,8 +4,8 @@ use Rattle.std.specs.Char.{is_ascii_uppercase}
 use Rattle.std.specs.Str.{str_eq_ignore_ascii_case}
 use Rattle.span_bank.specs.declared.limits.TheConstants.{MAX_CAPACITY}
 use Rattle.adapt_bytes.specs.Numeral.{Writes}
-use Rattle.event_loop.specs.declared.admin_lines.Request.{Request}
-use Rattle.event_loop.specs.declared.admin_lines.Request.TheVariants.{Book, Capacity, Drain, Stats, Reopen, Stop, Bad}
+use Rattle.loop_parts.specs.declared.admin_lines.Request.{Request}
+use Rattle.loop_parts.specs.declared.admin_lines.Request.TheVariants.{Book, Capacity, Drain, Stats, Reopen, Stop, Bad}
 
 -- the digits spell a size of the buffer budget
 abbrev pub SpellsSize : List ℕ → ℕ → Type 0

@@ -1,12 +1,15 @@
 //! A connection of the administrator.
 
 ghost use Rattle.std.specs.Prelude.{◌≡◌};
-ghost use Rattle.event_loop.specs.declared.admin_lines.Request.{Request as AnyRequest};
-ghost use Rattle.event_loop.specs.Requests.{Asks, IsHttp};
+ghost use Rattle.loop_parts.specs.declared.admin_lines.Request.{Request as AnyRequest};
+ghost use Rattle.loop_parts.specs.Requests.{Asks, IsHttp};
 
 use crate::admin_lines::{MAX_ADMIN_LINE, Request, is_http, read_request};
 use std::alloc::{AllocError, Global};
 use wire_kit::{Got, Put, Wire};
+
+/// The largest number of the administrator's connections at once. `Room::of_system` leaves a descriptor for each.
+pub const MAX_ASKERS: usize = 16;
 
 /// The most bytes of answers that wait for a connection: while more wait, no line of it is read.
 const MAX_UNREAD: usize = 65_536;

@@ -1,7 +1,7 @@
 //! The lines of the admin port.
 
 ghost use Rattle.std.specs.Prelude.{◌↔◌, ℕ, IsTrue, IfSome, IfNone};
-ghost use Rattle.event_loop.specs.Requests.{Asks, BeginsWithMethod, IsHttp, SpellsSize};
+ghost use Rattle.loop_parts.specs.Requests.{Asks, BeginsWithMethod, IsHttp, SpellsSize};
 
 use adapt_bytes::{front, read_decimal, same_ascii};
 use span_bank::MAX_CAPACITY;

@@ -1,8 +1,8 @@
 -- The first byte that is none of a method decides.
-use Rattle.std.proofs.Common.{◌≡◌, ◌≢◌, ℕ, ◌<◌, ◌≤◌, ◌⊎◌, inl, inr, List, length, get_or, IsTrue, subst, sym, rules, arith}
+use Rattle.std.proofs.Common.{◌≡◌, ◌≢◌, ℕ, ◌<◌, inl, inr, List, length, get_or, IsTrue, subst, sym, rules, arith}
 use Rattle.std.proofs.lemmas.Bool.{cases_order}
-use Rattle.event_loop.specs.Requests.{is_method_byte, BeginsWithMethod}
-use Rattle.event_loop.proofs.admin_lines.begins_with_method.Goals as goal
+use Rattle.loop_parts.specs.Requests.{is_method_byte, BeginsWithMethod}
+use Rattle.loop_parts.proofs.admin_lines.begins_with_method.Goals as goal
 
 -- a space is no byte of a method
 no_space : (b : ℕ) → b ≡ 32 → IsTrue (is_method_byte b) → ⊥
