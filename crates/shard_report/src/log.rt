@@ -34,16 +34,10 @@ pub struct Log {
 fn keep(alloc: Global, file: File, loops: u64) -> Result<Kept, AllocError> {
     let mut rooms = Vec::new(alloc);
     for _ in 0..loops {
-        let room = Mutex::new(LogRoom::new(alloc)?);
-        if rooms.push(room).is_err() {
-            return Err(AllocError);
-        }
+        rooms.push(Mutex::new(LogRoom::new(alloc)?))?;
     }
-    let output = Output::new(alloc, file)?;
-    Ok(Kept {
-        output: Mutex::new(output),
-        rooms,
-    })
+    let output = Mutex::new(Output::new(alloc, file)?);
+    Ok(Kept { output, rooms })
 }
 
 impl Log {
@@ -71,11 +65,6 @@ impl Log {
         self.lost.load(Ordering::SeqCst)
     }
 
-    /// Counts a lost line.
-    fn lose(&self) {
-        let _ = self.lost.fetch_add(1, Ordering::SeqCst);
-    }
-
     /// Adds a line of a loop to those that wait. Where there is no room for it, it is lost.
     pub fn add<R: Wait>(&self, rt: &R, number: usize, entry: &Entry<'_>) {
         let Some(kept) = &self.kept else {
@@ -83,7 +72,9 @@ impl Log {
         };
         match kept.rooms.get(number) {
             Some(room) if room.lock(rt).add(entry) => {}
-            _ => self.lose(),
+            _ => {
+                let _ = self.lost.fetch_add(1, Ordering::SeqCst);
+            }
         }
     }
 

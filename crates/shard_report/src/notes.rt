@@ -141,15 +141,13 @@ impl Notes {
         let mut notes = Vec::with_capacity(alloc, keys)?;
         let mut words = Vec::with_capacity(alloc, if is_kept { keys } else { 0 })?;
         for _ in 0..keys {
-            if notes.len() < notes.capacity() {
-                notes.push_reserved(blank());
-            }
-            if is_kept && words.len() < words.capacity() {
-                words.push_reserved(Words {
+            notes.push(blank())?;
+            if is_kept {
+                words.push(Words {
                     text: Vec::new(alloc),
                     method: 0,
                     target: 0,
-                });
+                })?;
             }
         }
         Ok(Notes { notes, words })
@@ -173,8 +171,7 @@ impl Notes {
     /// A user comes.
     pub fn enter(&mut self, key: usize, user: Option<Address>) {
         if let Some(note) = self.notes.get_mut(key) {
-            *note = blank();
-            note.user = user;
+            *note = Note { user, ..blank() };
         }
         if let Some(words) = self.words.get_mut(key) {
             words.clear();
@@ -286,8 +283,5 @@ pub fn why_of(note: &Note) -> Why
     ensures known { (why : Why) → note.now.why ≡ Some why → result ≡ why }
     ensures gone { note.now.why ≡ None → result ≡ UserGone }
 {
-    match note.why {
-        Some(why) => why,
-        None => Why::UserGone,
-    }
+    note.why.unwrap_or(Why::UserGone)
 }

@@ -1,6 +1,6 @@
 //! The answer to `stats`: the sums of what the loops count, and the numbers of what they share.
 
-use crate::tally::{Class, Count, Tally, total};
+use crate::tally::{Class, Count, Tally};
 use exchange_report::{Family, Kind, Metric, Reply, Why, metrics_text};
 use service_pool::Numbers;
 use span_bank::Book;
@@ -54,48 +54,20 @@ const CLASSES: [(Class, &[u8]); 6] = [
     (Class::Other, b"{class=\"other\"}"),
 ];
 
-/// The labels of what became of messages.
-const OFFERS: [(Point, Reply, &[u8]); 8] = [
-    (
-        Point::Reqmod,
-        Reply::Plain,
-        b"{point=\"reqmod\",outcome=\"plain\"}",
-    ),
-    (
-        Point::Reqmod,
-        Reply::Unchanged,
-        b"{point=\"reqmod\",outcome=\"204\"}",
-    ),
-    (
-        Point::Reqmod,
-        Reply::Changed,
-        b"{point=\"reqmod\",outcome=\"200\"}",
-    ),
-    (
-        Point::Reqmod,
-        Reply::Missing,
-        b"{point=\"reqmod\",outcome=\"failed\"}",
-    ),
-    (
-        Point::Respmod,
-        Reply::Plain,
-        b"{point=\"respmod\",outcome=\"plain\"}",
-    ),
-    (
-        Point::Respmod,
-        Reply::Unchanged,
-        b"{point=\"respmod\",outcome=\"204\"}",
-    ),
-    (
-        Point::Respmod,
-        Reply::Changed,
-        b"{point=\"respmod\",outcome=\"200\"}",
-    ),
-    (
-        Point::Respmod,
-        Reply::Missing,
-        b"{point=\"respmod\",outcome=\"failed\"}",
-    ),
+/// The labels of requests, by the final reply of the service.
+const REQMOD_REPLIES: [(Reply, &[u8]); 4] = [
+    (Reply::Plain, b"{point=\"reqmod\",outcome=\"plain\"}"),
+    (Reply::Unchanged, b"{point=\"reqmod\",outcome=\"204\"}"),
+    (Reply::Changed, b"{point=\"reqmod\",outcome=\"200\"}"),
+    (Reply::Missing, b"{point=\"reqmod\",outcome=\"failed\"}"),
+];
+
+/// The labels of responses, by the final reply of the service.
+const RESPMOD_REPLIES: [(Reply, &[u8]); 4] = [
+    (Reply::Plain, b"{point=\"respmod\",outcome=\"plain\"}"),
+    (Reply::Unchanged, b"{point=\"respmod\",outcome=\"204\"}"),
+    (Reply::Changed, b"{point=\"respmod\",outcome=\"200\"}"),
+    (Reply::Missing, b"{point=\"respmod\",outcome=\"failed\"}"),
 ];
 
 /// The labels of the proxy's own refusals.
@@ -129,10 +101,8 @@ struct Sheet<'a> {
 
 impl<'a> Sheet<'a> {
     fn put(&mut self, metric: Metric) -> Result<(), AllocError> {
-        match self.metrics.push(metric) {
-            Ok(()) => Ok(()),
-            Err(_) => Err(AllocError),
-        }
+        self.metrics.push(metric)?;
+        Ok(())
     }
 
     /// A family of one number.
@@ -143,7 +113,11 @@ impl<'a> Sheet<'a> {
 
     /// The sum of what the loops count.
     fn sum(&self, count: Count) -> u64 {
-        total(self.tallies, count)
+        let mut sum = 0u64;
+        for tally in self.tallies {
+            sum = sum.wrapping_add(tally.get(count));
+        }
+        sum
     }
 
     /// What the loops count of requests and answers.
@@ -184,8 +158,12 @@ impl<'a> Sheet<'a> {
             b"Messages by point and by the final reply of its service.",
         );
         self.put(Metric::Family(messages))?;
-        for (point, reply, label) in OFFERS {
-            let value = self.sum(Count::Messages(point, reply));
+        for (reply, label) in REQMOD_REPLIES {
+            let value = self.sum(Count::Messages(Point::Reqmod, reply));
+            self.put(Metric::Sample(messages, label, value))?;
+        }
+        for (reply, label) in RESPMOD_REPLIES {
+            let value = self.sum(Count::Messages(Point::Respmod, reply));
             self.put(Metric::Sample(messages, label, value))?;
         }
         let retries = self.sum(Count::Retries);
@@ -210,21 +188,13 @@ impl<'a> Sheet<'a> {
             b"Connections to services, leased and idle.",
         );
         self.put(Metric::Family(open))?;
-        for (label, value) in [
-            (
-                b"{point=\"reqmod\",state=\"leased\"}".as_slice(),
-                reqmod.leased,
-            ),
-            (b"{point=\"reqmod\",state=\"idle\"}".as_slice(), reqmod.idle),
-            (
-                b"{point=\"respmod\",state=\"leased\"}".as_slice(),
-                respmod.leased,
-            ),
-            (
-                b"{point=\"respmod\",state=\"idle\"}".as_slice(),
-                respmod.idle,
-            ),
-        ] {
+        let states: [(&'static [u8], u64); 4] = [
+            (b"{point=\"reqmod\",state=\"leased\"}", reqmod.leased),
+            (b"{point=\"reqmod\",state=\"idle\"}", reqmod.idle),
+            (b"{point=\"respmod\",state=\"leased\"}", respmod.leased),
+            (b"{point=\"respmod\",state=\"idle\"}", respmod.idle),
+        ];
+        for (label, value) in states {
             self.put(Metric::Sample(open, label, value))?;
         }
         let most = gauge(

@@ -161,9 +161,7 @@ impl Tally {
     pub fn new(alloc: Global) -> Result<Tally, AllocError> {
         let mut all = Vec::with_capacity(alloc, COUNTS)?;
         for _ in 0..COUNTS {
-            if all.len() < all.capacity() {
-                all.push_reserved(AtomicU64::new(0));
-            }
+            all.push(AtomicU64::new(0))?;
         }
         Ok(Tally { all })
     }
@@ -189,13 +187,4 @@ impl Tally {
             None => 0,
         }
     }
-}
-
-/// The sum of a number over all loops.
-pub fn total(tallies: &[Tally], count: Count) -> u64 {
-    let mut sum = 0u64;
-    for tally in tallies {
-        sum = sum.wrapping_add(tally.get(count));
-    }
-    sum
 }
