@@ -3,9 +3,7 @@ ghost use Rattle.std.specs.Prelude.{◌≡◌};
 
 use crate::memory::Memory;
 use crate::play::{Played, play_row};
-use crate::stage::{Peer, Stage};
-use crate::talk::TalkWire;
-use crate::told::{Ended, put_ended};
+use exchange_stage::{Ended, Peer, Stage, TalkWire, put_ended};
 use proxy_config::{Config, ConfigFault, read_config};
 use proxy_rules::Incoming;
 use shard_exchange::Held;

@@ -8,9 +8,6 @@ mod banks;
 mod memory;
 mod play;
 mod services;
-mod stage;
-mod talk;
-mod told;
 mod words;
 
 use std::alloc::Global;

@@ -3,10 +3,9 @@
 ghost use Rattle.std.specs.Prelude.{◌≡◌, IfOk};
 
 use crate::services::{NOW, book_of};
-use crate::stage::{Peer, Stage};
-use crate::talk::TalkWire;
-use crate::words::{either, first_word, key_of};
+use crate::words::{either, key_of};
 use adapt_sides::ClientFault;
+use exchange_stage::{Peer, Stage, TalkWire, first_word};
 use options_book::Record;
 use plan_rules::Limits;
 use proxy_config::Config;

@@ -1,9 +1,8 @@
 //! A row's exchange, step by step, and what happens to it from outside.
 
 use crate::memory::Moment;
-use crate::stage::{Peer, Stage};
-use crate::words::{first_word, name_of};
 use exchange_core::Place;
+use exchange_stage::{Peer, Stage, first_word, name_of};
 use proxy_rules::Incoming;
 use shard_exchange::{Exchange, Holder, Holdings, Kinds, Outside, Step, Task};
 use shard_holdings::Effects;

@@ -1,29 +1,8 @@
-//! The words of places.
-
-use exchange_core::Place;
-use trace_core::Point;
-
-/// The first word of a text, and what comes after it.
-pub fn first_word(text: &[u8]) -> (&[u8], &[u8]) {
-    for at in 0..text.len() {
-        if text[at] == b' ' {
-            return (&text[..at], &text[at + 1..]);
-        }
-    }
-    (text, &[])
-}
+//! Words by what is so, and keys by numbers.
 
 /// The first of two words where it is so.
 pub fn either(is_so: bool, word: &'static [u8], otherwise: &'static [u8]) -> &'static [u8] {
     if is_so { word } else { otherwise }
-}
-
-/// One of two words, by the point.
-fn by_point(point: Point, request: &'static [u8], response: &'static [u8]) -> &'static [u8] {
-    match point {
-        Point::Reqmod => request,
-        Point::Respmod => response,
-    }
 }
 
 /// The key of this number, from 1 on.
@@ -31,24 +10,5 @@ pub fn key_of(keys: &[&'static [u8]; 4], number: u64) -> &'static [u8] {
     match usize::try_from(number.saturating_sub(1)) {
         Ok(at) if at < 4 => keys[at],
         _ => b"none",
-    }
-}
-
-/// What a place is called.
-pub fn name_of(place: Place) -> &'static [u8] {
-    match place {
-        Place::Idle => b"idle",
-        Place::Head => b"head",
-        Place::Planning { point } => by_point(point, b"planning", b"response-planning"),
-        Place::Asking { point } => by_point(point, b"asking", b"response-asking"),
-        Place::InQueue { point } => by_point(point, b"queue", b"response-queue"),
-        Place::Preparing { point, .. } => by_point(point, b"preparing", b"response-preparing"),
-        Place::Telling => b"telling",
-        Place::AtGate { point, .. } => by_point(point, b"gate", b"response-gate"),
-        Place::Moving { point, .. } => by_point(point, b"moving", b"response-moving"),
-        Place::Answer => b"answer",
-        Place::Refusing { .. } => b"refusing",
-        Place::Closing => b"closing",
-        Place::Gone => b"gone",
     }
 }

@@ -101,9 +101,11 @@ fn put_happenings(out: &mut Vec<u8>, stage: &Stage) -> Result<(), NoMemory> {
 /// How a row's exchange ended.
 #[derive(Clone, Copy)]
 pub struct Ended {
+    /// Where the exchange stands.
     pub place: Place,
-    /// Whether it holds a lease, or a reservation.
+    /// Whether it holds a lease.
     pub lease: bool,
+    /// Whether it holds a reservation.
     pub stake: bool,
 }
 

@@ -30,7 +30,7 @@ enum Act<'a> {
 
 /// How bytes go over.
 #[derive(Clone, Copy)]
-pub struct Pace {
+struct Pace {
     /// Where the bytes that are given pause next.
     cut: Option<u64>,
     /// Whether they pause after each byte.
@@ -42,7 +42,7 @@ pub struct Pace {
 impl Pace {
     /// That of a peer: `cut: user` has its bytes pause after the first n, `drip: user` after each byte, and for `sip: user` it
     /// takes a byte at a time.
-    pub fn of(scene: Scene<'_>, values: Values, peer: Peer) -> Pace {
+    fn of(scene: Scene<'_>, values: Values, peer: Peer) -> Pace {
         let drips = has_word(scene.get(b"drip"), peer.name());
         let is_cut = has_word(scene.get(b"cut"), peer.name());
         Pace {

@@ -18,7 +18,7 @@ pub enum Peer {
 
 impl Peer {
     /// What it is called, without its number.
-    pub fn name(self) -> &'static [u8] {
+    pub(crate) fn name(self) -> &'static [u8] {
         match self {
             Peer::User => b"user",
             Peer::Origin(_) => b"origin",
@@ -27,7 +27,7 @@ impl Peer {
     }
 
     /// The number of an origin's or a service's connection.
-    pub fn number(self) -> Option<u64> {
+    pub(crate) fn number(self) -> Option<u64> {
         match self {
             Peer::User => None,
             Peer::Origin(number) | Peer::Service(number) => Some(number),
@@ -35,7 +35,7 @@ impl Peer {
     }
 
     /// Adds what it is called, with its number.
-    pub fn put_name(self, out: &mut Vec<u8>) -> Result<(), NoMemory> {
+    pub(crate) fn put_name(self, out: &mut Vec<u8>) -> Result<(), NoMemory> {
         match self.number() {
             Some(number) => put_number(out, self.name(), number),
             None => put_line(out, self.name()),
@@ -45,9 +45,9 @@ impl Peer {
 
 /// What a connection took.
 #[derive(Drop)]
-pub struct Taken {
-    pub peer: Peer,
-    pub bytes: Vec<u8>,
+pub(crate) struct Taken {
+    pub(crate) peer: Peer,
+    pub(crate) bytes: Vec<u8>,
 }
 
 /// What a row's connections share.
@@ -55,10 +55,10 @@ pub struct Taken {
 pub struct Stage {
     alloc: Global,
     /// What each connection took, in the order in which they were opened.
-    pub taken: RefCell<Vec<Taken>>,
+    pub(crate) taken: RefCell<Vec<Taken>>,
     /// A line for each thing that happened, where the row asks for them, and for each place that the exchange came to, where it
     /// asks for these.
-    pub happenings: RefCell<Vec<u8>>,
+    pub(crate) happenings: RefCell<Vec<u8>>,
     tells_happenings: bool,
     tells_places: bool,
     /// How often all have waited.
@@ -94,7 +94,7 @@ impl Stage {
     }
 
     /// How often all have waited.
-    pub fn waits(&self) -> u64 {
+    pub(crate) fn waits(&self) -> u64 {
         self.waits.get()
     }
 
@@ -104,12 +104,12 @@ impl Stage {
     }
 
     /// Whether the user was told that nothing more comes.
-    pub fn is_finished(&self) -> bool {
+    pub(crate) fn is_finished(&self) -> bool {
         self.is_finished.get()
     }
 
     /// The user is told that nothing more comes.
-    pub fn finish(&self) {
+    pub(crate) fn finish(&self) {
         self.is_finished.set(true);
     }
 
@@ -128,7 +128,7 @@ impl Stage {
     }
 
     /// Whether a request was read whose user took no byte of an answer, though it wasn't lost. This text is no answer where it is whole.
-    pub fn owes_answer(&self, interim: &[u8]) -> bool {
+    pub(crate) fn owes_answer(&self, interim: &[u8]) -> bool {
         let Some(before) = self.asked_at.get() else {
             return false;
         };
@@ -150,7 +150,7 @@ impl Stage {
     }
 
     /// `Err` where memory was wanting for what is told here.
-    pub fn check(&self) -> Result<(), NoMemory> {
+    pub(crate) fn check(&self) -> Result<(), NoMemory> {
         if self.is_short.get() {
             Err(NoMemory)
         } else {
@@ -166,7 +166,7 @@ impl Stage {
     }
 
     /// A connection is opened.
-    pub fn open(&self, peer: Peer) {
+    pub(crate) fn open(&self, peer: Peer) {
         if let Ok(mut taken) = self.taken.try_borrow_mut() {
             let bytes = Vec::new(self.alloc);
             if taken.push(Taken { peer, bytes }).is_err() {
@@ -176,7 +176,7 @@ impl Stage {
     }
 
     /// A connection takes bytes.
-    pub fn take(&self, peer: Peer, bytes: &[u8]) {
+    pub(crate) fn take(&self, peer: Peer, bytes: &[u8]) {
         if let Ok(mut taken) = self.taken.try_borrow_mut() {
             for each in taken.iter_mut() {
                 if each.peer == peer {
@@ -205,7 +205,7 @@ impl Stage {
     }
 
     /// Something happened with a connection.
-    pub fn note_peer(&self, what: &[u8], peer: Peer) {
+    pub(crate) fn note_peer(&self, what: &[u8], peer: Peer) {
         if self.notes()
             && let Ok(mut happenings) = self.happenings.try_borrow_mut()
         {
