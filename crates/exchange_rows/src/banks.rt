@@ -6,7 +6,7 @@ use crate::play::{Played, play_row};
 use exchange_stage::{Ended, Peer, Stage, TalkWire, put_ended};
 use proxy_config::{Config, ConfigFault, read_config};
 use proxy_rules::Incoming;
-use shard_exchange::Held;
+use shard_holdings::Held;
 use span_bank::{Bank, Blanks, Ledgers, Pages};
 use std::alloc::Global;
 use std::boxed::Box;
@@ -24,13 +24,13 @@ fn left_of<'a, B: Ledgers, R: Wait>(
 ) -> Ended {
     let Played {
         ends: _,
-        place,
+        phase,
         holdings,
         memory,
     } = played;
     let Held { lease, stake } = holdings.into_held(rt, bank);
     let ended = Ended {
-        place,
+        phase,
         lease: lease.is_some(),
         stake: stake.is_some(),
     };

@@ -1,11 +1,11 @@
 //! A row's exchange, step by step, and what happens to it from outside.
 
 use crate::memory::Moment;
-use exchange_core::Place;
+use exchange_core::Phase;
 use exchange_stage::{Peer, Stage, first_word, name_of};
 use proxy_rules::Incoming;
-use shard_exchange::{Exchange, Holder, Holdings, Kinds, Outside, Step, Task};
-use shard_holdings::Effects;
+use shard_exchange::{Effects, Exchange, Holder, Kinds, Outside, Step, Task};
+use shard_holdings::Holdings;
 use std::boxed::Box;
 use std::sync::Wait;
 use wire_rows::{Scene, Values, number, parts};
@@ -19,7 +19,7 @@ const WAITS: usize = 4;
 /// An exchange with its surroundings. What these are made of isn't seen by what plays a row.
 trait Live {
     /// What the user's connection is in the midst of.
-    fn place(&self) -> Place;
+    fn phase(&self) -> Phase;
 
     /// Does a task.
     fn act<R: Wait>(&mut self, rt: &R, at: Moment, task: Task) -> Step;
@@ -35,8 +35,8 @@ struct LiveExchange<H: Holder> {
 }
 
 impl<H: Effects<Moment>> Live for LiveExchange<H> {
-    fn place(&self) -> Place {
-        self.exchange.place()
+    fn phase(&self) -> Phase {
+        self.exchange.phase()
     }
 
     fn act<R: Wait>(&mut self, rt: &R, at: Moment, task: Task) -> Step {
@@ -54,7 +54,7 @@ pub struct Played<O: Kinds> {
     /// Whether it came to an end.
     pub ends: bool,
     /// Where the exchange stood then.
-    pub place: Place,
+    pub phase: Phase,
     pub holdings: Holdings<O>,
     pub memory: O,
 }
@@ -69,14 +69,14 @@ pub fn play_row<O: Outside<Moment>, R: Wait>(
     message: Box<Incoming>,
     memory: O,
 ) -> Played<O> {
-    let exchange = Exchange::begin(user, message);
+    let exchange = Exchange::begin(Holdings::new(user, Some(message)));
     let mut play = Play::new(stage, scene, values, LiveExchange { exchange, memory });
     let ends = play.play(rt);
     let LiveExchange { exchange, memory } = play.into_live();
-    let place = exchange.place();
+    let phase = exchange.phase();
     Played {
         ends,
-        place,
+        phase,
         holdings: exchange.into_holdings(),
         memory,
     }
@@ -92,7 +92,7 @@ struct Play<'a, X: Live> {
     at: Moment,
     /// How often all have waited in a row.
     waits: usize,
-    place: Place,
+    phase: Phase,
 }
 
 /// Nothing is late.
@@ -112,28 +112,28 @@ impl<'a, X: Live> Play<'a, X> {
             outside: scene.get(b"outside"),
             at: IN_TIME,
             waits: 0,
-            place: Place::Head,
+            phase: Phase::Head,
         }
     }
 
-    /// Whether what happens next from outside happens here: `stop@moving` when the exchange is at a place, `stop@~moving` when all
+    /// Whether what happens next from outside happens here: `stop@moving` when the exchange is in a phase, `stop@~moving` when all
     /// wait there, and `stop@7` before the eighth step.
-    fn is_here(&self, place: &[u8], step: usize) -> bool {
-        let here = name_of(self.live.place());
-        match place {
-            [b'~', place @ ..] => place == here && self.waits > 0,
-            place => place == here || number(place, self.values) == Some(step),
+    fn is_here(&self, phase: &[u8], step: usize) -> bool {
+        let here = name_of(self.live.phase());
+        match phase {
+            [b'~', phase @ ..] => phase == here && self.waits > 0,
+            phase => phase == here || number(phase, self.values) == Some(step),
         }
     }
 
     /// Has happen what comes from outside. A deadline passes only where all wait. False where the proxy has stopped.
     fn meet<R: Wait>(&mut self, rt: &R, step: usize) -> bool {
         let (word, rest) = first_word(self.outside);
-        let Some((what, place)) = parts(word, b'@') else {
+        let Some((what, phase)) = parts(word, b'@') else {
             return true;
         };
         let is_timed = matches!(what, b"late" | b"rested" | b"waited");
-        if !self.is_here(place, step) || is_timed && self.waits == 0 {
+        if !self.is_here(phase, step) || is_timed && self.waits == 0 {
             return true;
         }
         self.outside = rest;
@@ -190,21 +190,21 @@ impl<'a, X: Live> Play<'a, X> {
         }
     }
 
-    /// Takes note of the place, where the row asks for it.
-    fn note_place(&mut self) {
-        let place = self.live.place();
-        if place != self.place {
-            self.stage.note_place(name_of(place));
-            self.place = place;
+    /// Takes note of the phase, where the row asks for it.
+    fn note_phase(&mut self) {
+        let phase = self.live.phase();
+        if phase != self.phase {
+            self.stage.note_phase(name_of(phase));
+            self.phase = phase;
         }
     }
 
     /// Steps until it is over, or nothing more comes. False where it goes on and on.
     fn run<R: Wait>(&mut self, rt: &R) -> bool {
         for step in 0..STEPS {
-            self.note_place();
+            self.note_phase();
             let runs = self.meet(rt, step);
-            self.note_place();
+            self.note_phase();
             if !runs || !self.goes_on(rt) {
                 return true;
             }
@@ -215,7 +215,7 @@ impl<'a, X: Live> Play<'a, X> {
     /// Plays it to its end. False where it has none.
     fn play<R: Wait>(&mut self, rt: &R) -> bool {
         let ends = self.run(rt);
-        self.note_place();
+        self.note_phase();
         self.stage.end();
         ends
     }
@@ -229,7 +229,7 @@ impl<'a, X: Live> Play<'a, X> {
             outside: _,
             at: _,
             waits: _,
-            place: _,
+            phase: _,
         } = self;
         live
     }

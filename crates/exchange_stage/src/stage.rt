@@ -56,11 +56,11 @@ pub struct Stage {
     alloc: Global,
     /// What each connection took, in the order in which they were opened.
     pub(crate) taken: RefCell<Vec<Taken>>,
-    /// A line for each thing that happened, where the row asks for them, and for each place that the exchange came to, where it
+    /// A line for each thing that happened, where the row asks for them, and for each phase that the exchange came to, where it
     /// asks for these.
     pub(crate) happenings: RefCell<Vec<u8>>,
     tells_happenings: bool,
-    tells_places: bool,
+    tells_phases: bool,
     /// How often all have waited.
     waits: Cell<u64>,
     /// Whether the user was told that nothing more comes.
@@ -83,7 +83,7 @@ impl Stage {
             taken: RefCell::new(Vec::new(alloc)),
             happenings: RefCell::new(Vec::new(alloc)),
             tells_happenings: has_word(scene.get(b"tell"), b"happenings"),
-            tells_places: has_word(scene.get(b"tell"), b"places"),
+            tells_phases: has_word(scene.get(b"tell"), b"phases"),
             waits: Cell::new(0),
             is_finished: Cell::new(false),
             asked_at: Cell::new(None),
@@ -186,12 +186,12 @@ impl Stage {
         }
     }
 
-    /// The exchange came to a place.
-    pub fn note_place(&self, place: &[u8]) {
-        if self.tells_places
+    /// The exchange came to a phase.
+    pub fn note_phase(&self, phase: &[u8]) {
+        if self.tells_phases
             && let Ok(mut happenings) = self.happenings.try_borrow_mut()
         {
-            self.keep(put_all(&mut happenings, &[b"  ", place, b"\n"]));
+            self.keep(put_all(&mut happenings, &[b"  ", phase, b"\n"]));
         }
     }
 

@@ -2,7 +2,7 @@
 
 use crate::stage::{Stage, Taken};
 use crate::words::name_of;
-use exchange_core::Place;
+use exchange_core::Phase;
 use test_rows::{NoMemory, put_decimal, put_escaped, put_line};
 use wire_rows::{Scene, has_word};
 
@@ -102,7 +102,7 @@ fn put_happenings(out: &mut Vec<u8>, stage: &Stage) -> Result<(), NoMemory> {
 #[derive(Clone, Copy)]
 pub struct Ended {
     /// Where the exchange stands.
-    pub place: Place,
+    pub phase: Phase,
     /// Whether it holds a lease.
     pub lease: bool,
     /// Whether it holds a reservation.
@@ -147,12 +147,12 @@ fn is_known(scene: Scene<'_>, stage: &Stage) -> bool {
     true
 }
 
-/// Whether no message is under way at a place, and nothing is left to be said.
-fn is_settled(place: Place) -> bool {
-    matches!(place, Place::Idle | Place::Closing | Place::Gone)
+/// Whether no message is under way in a phase, and nothing is left to be said.
+fn is_settled(phase: Phase) -> bool {
+    matches!(phase, Phase::Idle | Phase::Closing | Phase::Gone)
 }
 
-/// Adds what the row asks of an exchange that ended at this place: what happened, and what each connection took. Before that it is told
+/// Adds what the row asks of an exchange that ended in this phase: what happened, and what each connection took. Before that it is told
 /// where a user is owed an answer.
 pub fn put_ended(
     out: &mut Vec<u8>,
@@ -166,11 +166,11 @@ pub fn put_ended(
         put_line(out, b"says nothing to its user")?;
     }
     let told = scene.get(b"tell");
-    if has_word(told, b"known") && is_settled(ended.place) && is_known(scene, stage) {
+    if has_word(told, b"known") && is_settled(ended.phase) && is_known(scene, stage) {
         return put_held(out, b"known texts", ended);
     }
     if !has_word(told, b"happenings") {
         put_all_taken(out, scene, stage)?;
     }
-    put_held(out, name_of(ended.place), ended)
+    put_held(out, name_of(ended.phase), ended)
 }

@@ -1,6 +1,6 @@
-//! The first word of a text, and the words of places.
+//! The first word of a text, and the words of phases.
 
-use exchange_core::Place;
+use exchange_core::Phase;
 use trace_core::Point;
 
 /// The first word of a text, and what comes after it.
@@ -21,21 +21,21 @@ fn by_point(point: Point, request: &'static [u8], response: &'static [u8]) -> &'
     }
 }
 
-/// What a place is called.
-pub fn name_of(place: Place) -> &'static [u8] {
-    match place {
-        Place::Idle => b"idle",
-        Place::Head => b"head",
-        Place::Planning { point } => by_point(point, b"planning", b"response-planning"),
-        Place::Asking { point } => by_point(point, b"asking", b"response-asking"),
-        Place::InQueue { point } => by_point(point, b"queue", b"response-queue"),
-        Place::Preparing { point, .. } => by_point(point, b"preparing", b"response-preparing"),
-        Place::Telling => b"telling",
-        Place::AtGate { point, .. } => by_point(point, b"gate", b"response-gate"),
-        Place::Moving { point, .. } => by_point(point, b"moving", b"response-moving"),
-        Place::Answer => b"answer",
-        Place::Refusing { .. } => b"refusing",
-        Place::Closing => b"closing",
-        Place::Gone => b"gone",
+/// What a phase is called.
+pub fn name_of(phase: Phase) -> &'static [u8] {
+    match phase {
+        Phase::Idle => b"idle",
+        Phase::Head => b"head",
+        Phase::Planning { point } => by_point(point, b"planning", b"response-planning"),
+        Phase::Asking { point } => by_point(point, b"asking", b"response-asking"),
+        Phase::InQueue { point } => by_point(point, b"queue", b"response-queue"),
+        Phase::Preparing { point, .. } => by_point(point, b"preparing", b"response-preparing"),
+        Phase::Telling => b"telling",
+        Phase::AtGate { point, .. } => by_point(point, b"gate", b"response-gate"),
+        Phase::Moving { point, .. } => by_point(point, b"moving", b"response-moving"),
+        Phase::Answer => b"answer",
+        Phase::Refusing { .. } => b"refusing",
+        Phase::Closing => b"closing",
+        Phase::Gone => b"gone",
     }
 }
