@@ -16,7 +16,7 @@ pub trait MakesHead<S: Source, K: Hop>: Drop {
     ghost makes: { Self → S.Head → Seen → Option (List ℕ) → Bool → List ℕ → K.Framing → Type 0 };
 
     // why it makes none of them
-    ghost makes_none: { Self → S.Head → Seen → Option (List ℕ) → Bool → Why → Type 0 };
+    ghost makes_none: { Self → S.Head → Seen → Option (List ℕ) → Bool → AnyCause → Type 0 };
 
     /// The head of the original, or of the adapted message where its head is given: a response where that stood as res-hdr (RFC 3507,
     /// section 4.4.1), else a message of the original's kind. A head that can't be read is the service's fault.
