@@ -1,6 +1,6 @@
 //! Requests as the service's wire takes them, and whole exchanges with it.
 ghost use Rattle.std.specs.Prelude.{◌≡◌, true};
-ghost use Rattle.trace_core.specs.History.{seen, shows};
+ghost use Rattle.trace_core.specs.History.{shows};
 ghost use Rattle.icap_client.specs.Sending.{KeepsUnsent};
 
 use crate::kept::Kept;
@@ -15,10 +15,10 @@ use wire_kit::{MemoryWire, Wire};
 use wire_rows::{Scene, Values, count_after, history, index_of, put_flag, put_text, wire};
 
 /// The service's side over its wire, as a row plays it.
-trait Line {
+trait PlayedService {
     /// A turn of the writing half.
     fn write(&mut self, state: &State, tape: &SpanTape) -> Result<Turn, ClientFault>
-        requires { KeepsUnsent (seen state.now.plan state.now.events) tape.now };
+        requires { KeepsUnsent (shows state.now) tape.now };
     /// A turn of the reading half.
     fn read(&mut self, state: &State, out: &mut [u8]) -> Result<Turn, ClientFault>;
     /// Begins the request anew on another wire.
@@ -39,7 +39,7 @@ struct Wired {
     other: MemoryWire,
 }
 
-impl Line for Wired {
+impl PlayedService for Wired {
     fn write(&mut self, state: &State, tape: &SpanTape) -> Result<Turn, ClientFault> {
         self.side.write_turn(state, tape, &mut self.first)
     }
@@ -68,10 +68,10 @@ impl Line for Wired {
     }
 }
 
-/// An exchange: a line with the history of its message, and what was reported.
+/// An exchange: the service's side with the history of its message, and what was reported.
 #[derive(Drop)]
-struct Exchange<'a, L> {
-    line: &'a mut L,
+struct Exchange<'a, S> {
+    service: &'a mut S,
     state: &'a mut State,
     told: &'a mut Told,
 }
@@ -84,11 +84,11 @@ fn is_tape_of(state: &State, tape: &SpanTape) -> bool
     tape.end() == seen.received && tape.base() <= seen.sent
 }
 
-impl<'a, L: Line> Exchange<'a, L> {
+impl<'a, S: PlayedService> Exchange<'a, S> {
     /// A turn of the writing half.
     fn write(&mut self, tape: &SpanTape) {
         if is_tape_of(self.state, tape) {
-            let turn = self.line.write(self.state, tape);
+            let turn = self.service.write(self.state, tape);
             self.told.step(self.state, turn);
         }
     }
@@ -96,7 +96,7 @@ impl<'a, L: Line> Exchange<'a, L> {
     /// A turn of the reading half.
     fn read(&mut self) {
         let mut out = [0; ROOM];
-        let turn = self.line.read(self.state, &mut out);
+        let turn = self.service.read(self.state, &mut out);
         self.told.take(self.state, turn, &out);
     }
 
@@ -112,10 +112,10 @@ impl<'a, L: Line> Exchange<'a, L> {
     fn turns(&mut self, kept: &Kept, count: usize) {
         let mut idle: usize = 0;
         for _ in 0..count {
-            let before = self.line.counts();
+            let before = self.service.counts();
             self.write(kept.tape());
             self.read();
-            let same = self.line.counts() == before;
+            let same = self.service.counts() == before;
             idle = if same { idle.saturating_add(1) } else { 0 };
             if idle > MAX_IDLE {
                 return;
@@ -134,7 +134,7 @@ impl<'a, L: Line> Exchange<'a, L> {
         match index_of(b"write again end", word) {
             Some(0) => self.write(kept.tape()),
             Some(1) => {
-                self.line.restart();
+                self.service.restart();
                 let _ = self.state.step(Event::Retry);
             }
             _ => {
@@ -155,12 +155,12 @@ impl<'a, L: Line> Exchange<'a, L> {
         for word in scene.get(b"steps").split(|byte| *byte == b' ') {
             self.play_step(scene, kept, word);
             if scene.has(b"counts") && word == b"write".as_slice() {
-                put_number(out, b"taken", self.line.taken().len() as u64)?;
+                put_number(out, b"taken", self.service.taken().len() as u64)?;
             }
         }
-        put_text(out, scene, b"taken", self.line.taken(), values)?;
+        put_text(out, scene, b"taken", self.service.taken(), values)?;
         self.told.put(scene, values, out)?;
-        self.line.put_marks(out)
+        self.service.put_marks(out)
     }
 }
 
@@ -178,7 +178,7 @@ fn offer(alloc: Global, plan: &Plan, scene: Scene<'_>) -> Result<Option<ServiceS
 }
 
 /// The row's side with its wires; `None` where a head is too long.
-fn line_of(
+fn service_of(
     alloc: Global,
     plan: &Plan,
     scene: Scene<'_>,
@@ -204,12 +204,12 @@ pub fn put_exchange(
         return put_line(out, b"no such history");
     };
     let plan = state.seen().plan;
-    let Some(mut line) = line_of(alloc, &plan, scene, values)? else {
+    let Some(mut service) = service_of(alloc, &plan, scene, values)? else {
         return put_line(out, b"a head that is too long");
     };
     let mut told = Told::new(alloc);
     let mut exchange = Exchange {
-        line: &mut line,
+        service: &mut service,
         state: &mut state,
         told: &mut told,
     };

@@ -1,6 +1,6 @@
 //! Messages on their way from one wire to another.
 ghost use Rattle.std.specs.Prelude.{◌≡◌, true};
-ghost use Rattle.trace_core.specs.History.{seen, shows};
+ghost use Rattle.trace_core.specs.History.{shows};
 ghost use Rattle.adapt_sides.specs.Tapes.{KeepsUndelivered};
 
 use crate::kept::Kept;
@@ -35,7 +35,7 @@ trait Ends {
     fn read(&mut self, alloc: Global, out: &mut [u8]) -> Result<Option<Turn>, RelayFault>;
     /// A turn of the next hop's side.
     fn write(&mut self, state: &State, tape: &SpanTape) -> Result<Turn, RelayFault>
-        requires { KeepsUndelivered (seen state.now.plan state.now.events) tape.now };
+        requires { KeepsUndelivered (shows state.now) tape.now };
     /// Goes on to the next message, if this one was read to its end.
     fn go_on(&mut self, alloc: Global);
     /// How many bytes each wire gave and took.
