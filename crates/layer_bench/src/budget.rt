@@ -5,8 +5,8 @@ ghost use Rattle.adapt_bytes.specs.declared.limits.TheConstants.{COUNT_LIMIT};
 ghost use Rattle.span_bank.specs.declared.limits.TheConstants.{MAX_CAPACITY};
 ghost use Rattle.span_tape.specs.Tape.{end_of};
 
+use crate::game_budget::{GameBudget, OnBank};
 use crate::nanos_each;
-use crate::places::{OnBank, Place};
 use crate::threads::rounds_of_two;
 use anyhow::Result;
 use span_bank::{Bank, Ledgers, OpenFault, Pages, Stake};
@@ -147,13 +147,18 @@ fn put_each<R: Eprint>(rt: &R, name: &str, took: Duration, rounds: u32) -> Resul
 }
 
 /// Prints what one thread takes.
-fn time_one<P: Place, R: Clock + Eprint>(
+fn time_one<P: GameBudget, R: Clock + Eprint>(
     rt: &R,
     alloc: Global,
-    place: &P,
+    budget: &P,
     rounds: u32,
 ) -> Result<()> {
-    put_each(rt, "a grow and a shrink", place.time_pairs(rounds)?, rounds)?;
+    put_each(
+        rt,
+        "a grow and a shrink",
+        budget.time_pairs(rounds)?,
+        rounds,
+    )?;
     put_each(
         rt,
         "two copies of 4096 bytes",
@@ -161,11 +166,11 @@ fn time_one<P: Place, R: Clock + Eprint>(
         rounds,
     )?;
     let empty = "grow, append, copy_out, drop_to and shrink of 4096 bytes";
-    put_each(rt, empty, place.time_tape(rounds, 0)?, rounds)?;
+    put_each(rt, empty, budget.time_tape(rounds, 0)?, rounds)?;
     let short = "the same on a tape of 8192 bytes";
-    put_each(rt, short, place.time_tape(rounds, 2)?, rounds)?;
+    put_each(rt, short, budget.time_tape(rounds, 2)?, rounds)?;
     let long = "the same on a tape of 1048576 bytes";
-    put_each(rt, long, place.time_tape(rounds, 256)?, rounds)
+    put_each(rt, long, budget.time_tape(rounds, 256)?, rounds)
 }
 
 /// The rounds of four threads.

@@ -10,10 +10,10 @@ mod answers;
 mod budget;
 mod chunks;
 mod exchange;
+mod game_budget;
 mod heads;
 mod hostile;
 mod offered;
-mod places;
 mod requests;
 mod task;
 mod threads;
@@ -22,8 +22,8 @@ mod turns;
 
 use crate::budget::time_budget;
 use crate::chunks::time_chunks;
+use crate::game_budget::{GameBudget, OnBank};
 use crate::heads::time_heads;
-use crate::places::{OnBank, Place};
 use crate::task::{Layer, Task, read_tasks};
 use crate::turns::time_turns;
 use anyhow::{Result, bail};
@@ -45,17 +45,17 @@ pub fn nanos_each(took: Duration, times: u32) -> u128 {
 }
 
 /// Measures a layer in one thread.
-fn measure_alone<P: Place, R: Clock + Print + Eprint>(
+fn measure_alone<P: GameBudget, R: Clock + Print + Eprint>(
     rt: &R,
     alloc: Global,
-    place: &P,
+    budget: &P,
     task: Task,
 ) -> Result<()> {
     match task.layer {
         Layer::Chunks => time_chunks(rt, alloc, task.times),
         Layer::Heads => time_heads(rt, alloc, task.times),
-        Layer::Exchange => place.time_exchanges(alloc, task.times),
-        Layer::Turns => time_turns(rt, alloc, place, task.times),
+        Layer::Exchange => budget.time_exchanges(alloc, task.times),
+        Layer::Turns => time_turns(rt, alloc, budget, task.times),
         Layer::Bank => Ok(()),
     }
 }

@@ -1,6 +1,6 @@
 //! Whole exchanges by a transaction's turns over wires in memory: the time of the turns, and the calls of the wires.
+use crate::game_budget::GameBudget;
 use crate::offered::{BODY, GO_ON, RESPONSE, replies};
-use crate::places::Place;
 use crate::transaction::{Counted, Exchanged, Game, Wires};
 use anyhow::{Result, bail};
 use std::alloc::{AllocError, Global};
@@ -105,8 +105,8 @@ pub fn wires(alloc: Global) -> Result<Wires<Counted>, AllocError> {
 }
 
 /// What the turns of one exchange take. `None` if it can't begin. An error if no memory is found.
-fn one<P: Place, R: Clock>(rt: &R, alloc: Global, place: &P) -> io::Result<Option<Taken>> {
-    let Some(mut game) = place.begun(alloc)? else {
+fn one<P: GameBudget, R: Clock>(rt: &R, alloc: Global, budget: &P) -> io::Result<Option<Taken>> {
+    let Some(mut game) = budget.begun(alloc)? else {
         return Ok(None);
     };
     let start = Instant::now(rt);
@@ -126,10 +126,10 @@ fn one<P: Place, R: Clock>(rt: &R, alloc: Global, place: &P) -> io::Result<Optio
 }
 
 /// Runs the exchanges, one after the other.
-fn measure<P: Place, R: Clock>(
+fn measure<P: GameBudget, R: Clock>(
     rt: &R,
     alloc: Global,
-    place: &P,
+    budget: &P,
     times: u32,
 ) -> io::Result<Measured> {
     let mut all = Measured {
@@ -138,7 +138,7 @@ fn measure<P: Place, R: Clock>(
         calls: WireCalls::NONE,
     };
     for _ in 0..times {
-        if let Some(taken) = one(rt, alloc, place)? {
+        if let Some(taken) = one(rt, alloc, budget)? {
             all.nanos = all.nanos.saturating_add(taken.time.as_nanos());
             all.calls = all.calls.and(taken.exchanged);
             all.whole = all
@@ -150,22 +150,22 @@ fn measure<P: Place, R: Clock>(
 }
 
 /// Prints what an exchange takes.
-pub fn time_turns<P: Place, R: Clock + Print + Eprint>(
+pub fn time_turns<P: GameBudget, R: Clock + Print + Eprint>(
     rt: &R,
     alloc: Global,
-    place: &P,
+    budget: &P,
     times: u32,
 ) -> Result<()> {
     let Measured {
         whole,
         nanos,
         calls,
-    } = measure(rt, alloc, place, times)?;
+    } = measure(rt, alloc, budget, times)?;
     if whole != u64::from(times) {
         bail!("a transaction was not whole");
     }
     let each = nanos / u128::from(times.max(1));
-    let size = place.size();
+    let size = budget.game_size();
     eprintln!(rt; "{each} ns an exchange; a transaction has {size} bytes")?;
     let WireCalls {
         origin,

@@ -3,7 +3,7 @@ ghost use Rattle.std.specs.Prelude.{◌≡◌};
 
 use crate::beside::put_beside;
 use crate::game::{Game, Remains};
-use crate::places::{OnBank, Place};
+use crate::game_budget::{GameBudget, OnBank};
 use crate::steps::put_steps;
 use crate::told::put_ended;
 use span_bank::{Bank, Blanks, Ledgers};
@@ -19,15 +19,15 @@ use wire_rows::{Scene, Values, plan_of};
 const MOST: usize = 8192;
 
 /// Adds what the row's transaction reports.
-fn put_transaction<P: Place>(
+fn put_transaction<P: GameBudget>(
     alloc: Global,
-    place: &P,
+    budget: &P,
     plan: Plan,
     scene: Scene<'_>,
     values: Values,
     out: &mut Vec<u8>,
 ) -> Result<(), NoMemory> {
-    let Some(mut game) = place.begun(alloc, plan, scene, values)? else {
+    let Some(mut game) = budget.begun(alloc, plan, scene, values)? else {
         return put_line(out, b"it doesn't begin");
     };
     let told = put_steps(alloc, &mut game, scene, values, out);
@@ -46,9 +46,9 @@ fn size_word(size: usize) -> &'static [u8] {
 }
 
 /// Adds what the row's transaction reports, or what two transactions report, or how large one is.
-fn put_row<P: Place>(
+fn put_row<P: GameBudget>(
     alloc: Global,
-    place: &P,
+    budget: &P,
     scene: Scene<'_>,
     values: Values,
     out: &mut Vec<u8>,
@@ -57,12 +57,12 @@ fn put_row<P: Place>(
         return put_line(out, b"no plan");
     };
     if scene.has(b"size") {
-        return put_line(out, size_word(place.size()));
+        return put_line(out, size_word(budget.game_size()));
     }
     if scene.has(b"beside") {
-        return put_beside(alloc, place, plan, scene, values, out);
+        return put_beside(alloc, budget, plan, scene, values, out);
     }
-    put_transaction(alloc, place, plan, scene, values, out)
+    put_transaction(alloc, budget, plan, scene, values, out)
 }
 
 /// Whether no reservation is left of a budget.

@@ -1,7 +1,7 @@
 //! A message that isn't offered to a service, beside one that is, on one budget.
 
 use crate::game::{Game, Remains};
-use crate::places::Place;
+use crate::game_budget::GameBudget;
 use crate::scenes::BEGIN;
 use crate::steps::ROUND;
 use crate::told::put_ended;
@@ -37,9 +37,9 @@ fn play<G: Game>(offered: &mut G, plain: &mut G) -> bool {
 }
 
 /// Adds what two transactions over wires of one kind report: one of this plan, and then that of the plan `beside`.
-pub fn put_beside<P: Place>(
+pub fn put_beside<P: GameBudget>(
     alloc: Global,
-    place: &P,
+    budget: &P,
     plan: Plan,
     scene: Scene<'_>,
     values: Values,
@@ -48,11 +48,11 @@ pub fn put_beside<P: Place>(
     let Some(other) = plan_of(scene.get(b"beside")) else {
         return put_line(out, b"no plan beside it");
     };
-    let offered = place.begun(alloc, plan, scene, values)?;
+    let offered = budget.begun(alloc, plan, scene, values)?;
     let Some(mut offered) = offered else {
         return put_line(out, b"it doesn't begin");
     };
-    let plain = place.begun(alloc, other, scene, values);
+    let plain = budget.begun(alloc, other, scene, values);
     let Ok(Some(mut plain)) = plain else {
         let _ = offered.end();
         return Err(NoMemory);

@@ -1,7 +1,7 @@
 //! Sixty-four transactions in four threads on one budget, which has room for one of them at a time.
 
 use crate::game::{Game, Remains};
-use crate::places::{OnBank, Place};
+use crate::game_budget::{GameBudget, OnBank};
 use crate::threads::drive_to_end;
 use adapt_turn::Outcome;
 use span_bank::{Bank, Ledgers};
@@ -61,25 +61,25 @@ fn count(tally: &mut Tally, fate: Fate) {
 }
 
 /// Begins two transactions, and ends both.
-fn play_two<P: Place>(
+fn play_two<P: GameBudget>(
     alloc: Global,
-    place: &P,
+    budget: &P,
     plan: Plan,
     scene: Scene<'_>,
     values: Values,
     tally: &mut Tally,
 ) -> Result<(), NoMemory> {
-    let first = place.begun(alloc, plan, scene, values)?;
-    let second = place.begun(alloc, plan, scene, values);
+    let first = budget.begun(alloc, plan, scene, values)?;
+    let second = budget.begun(alloc, plan, scene, values);
     count(tally, fate_of(first, scene));
     count(tally, fate_of(second?, scene));
     Ok(())
 }
 
 /// What becomes of the transactions of a thread.
-fn play_all<P: Place>(
+fn play_all<P: GameBudget>(
     alloc: Global,
-    place: &P,
+    budget: &P,
     plan: Plan,
     scene: Scene<'_>,
     values: Values,
@@ -90,7 +90,7 @@ fn play_all<P: Place>(
         other: 0,
     };
     for _ in 0..TIMES {
-        play_two(alloc, place, plan, scene, values, &mut tally)?;
+        play_two(alloc, budget, plan, scene, values, &mut tally)?;
     }
     Ok(tally)
 }

@@ -2,7 +2,7 @@
 
 ghost use Rattle.std.specs.Prelude.{◌≡◌};
 
-use crate::told::{Recorded, Told, heard_over};
+use crate::told::{Recorded, Told, record_of};
 use adapt_turn::{EndTypes, Ends, FreedConnection, Outcome, ServiceEnd, Side, Turned, TxParts};
 use proxy_rules::{Beginning, Running, Wires};
 use span_bank::{Bank, Ledgers, Pages};
@@ -164,11 +164,11 @@ impl<A: Recorded, C: Recorded> Remains for Ended<A, C> {
     fn told(&self) -> Told<'_> {
         Told {
             outcome: self.outcome,
-            source: self.source.heard(),
-            service: heard_over(&self.service),
-            next_hop: self.next_hop.heard(),
-            broken: heard_over(&self.lines.broken),
-            freed: heard_over(&self.lines.freed),
+            source: self.source.record(),
+            service: record_of(&self.service),
+            next_hop: self.next_hop.record(),
+            broken: record_of(&self.lines.broken),
+            freed: record_of(&self.lines.freed),
             failed: self.lines.failed,
         }
     }

@@ -1,6 +1,6 @@
 //! A wire that is held back by a gate.
 
-use crate::told::{Heard, Recorded};
+use crate::told::{Recorded, WireRecord};
 use std::time::Clock;
 use wire_kit::{Calls, Gate, Got, HoldGate, Put, SharedWire, Wire};
 
@@ -39,8 +39,8 @@ impl<'a, R: Clock> Wire for HeldWire<'a, R> {
 }
 
 impl<'a, R: Clock> Recorded for HeldWire<'a, R> {
-    fn heard(&self) -> Heard<'_> {
-        Heard {
+    fn record(&self) -> WireRecord<'_> {
+        WireRecord {
             taken: self.wire.taken(),
             calls: Calls::NONE,
             given: self.wire.counts().0,

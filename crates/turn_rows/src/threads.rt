@@ -2,8 +2,8 @@
 //! second is finished.
 
 use crate::game::{Game, Remains};
+use crate::game_budget::{GameBudget, OnBank};
 use crate::held::HeldWire;
-use crate::places::{OnBank, Place};
 use crate::scenes::BEGIN;
 use crate::steps::ROUND;
 use crate::told::{Told, wants_memory};
@@ -99,10 +99,10 @@ fn held_wire<'a, R: Clock>(
 }
 
 /// What the first transaction reports, whose origin's wire is held back by the gate.
-fn first<P: Place, R: Clock>(
+fn first<P: GameBudget, R: Clock>(
     rt: &R,
     alloc: Global,
-    place: &P,
+    budget: &P,
     gate: &HoldGate,
     plan: Plan,
     scene: Scene<'_>,
@@ -110,19 +110,19 @@ fn first<P: Place, R: Clock>(
 ) -> Result<Vec<u8>, NoMemory> {
     let answers = held_answers(alloc, scene)?;
     let source = held_wire(rt, alloc, gate, &answers, scene)?;
-    place.reported_over(alloc, source, plan, scene, values)
+    budget.reported_over(alloc, source, plan, scene, values)
 }
 
 /// What the other one reports, which opens the gate once it is finished.
-fn second<P: Place>(
+fn second<P: GameBudget>(
     alloc: Global,
-    place: &P,
+    budget: &P,
     gate: &HoldGate,
     plan: Plan,
     scene: Scene<'_>,
     values: Values,
 ) -> Result<Vec<u8>, NoMemory> {
-    let begun = place.begun(alloc, plan, scene, values)?;
+    let begun = budget.begun(alloc, plan, scene, values)?;
     report(alloc, begun, Some(gate), scene, values)
 }
 

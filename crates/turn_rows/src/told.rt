@@ -9,7 +9,7 @@ use wire_rows::{Scene, Values, put_text};
 
 /// What went over a wire.
 #[derive(Clone, Copy)]
-pub struct Heard<'a> {
+pub struct WireRecord<'a> {
     /// What it took.
     pub taken: &'a [u8],
     /// How often it was called.
@@ -21,20 +21,20 @@ pub struct Heard<'a> {
 /// A wire that says what went over it.
 pub trait Recorded {
     /// What went over it.
-    fn heard(&self) -> Heard<'_>;
+    fn record(&self) -> WireRecord<'_>;
 }
 
 /// What went over a wire that may be missing.
-pub fn heard_over<C: Recorded>(wire: &Option<C>) -> Option<Heard<'_>> {
+pub fn record_of<C: Recorded>(wire: &Option<C>) -> Option<WireRecord<'_>> {
     match wire {
-        Some(wire) => Some(wire.heard()),
+        Some(wire) => Some(wire.record()),
         None => None,
     }
 }
 
 impl Recorded for Counted {
-    fn heard(&self) -> Heard<'_> {
-        Heard {
+    fn record(&self) -> WireRecord<'_> {
+        WireRecord {
             taken: self.taken(),
             calls: self.calls(),
             given: self.counts().0,
@@ -46,23 +46,23 @@ impl Recorded for Counted {
 #[derive(Clone, Copy)]
 pub struct Told<'a> {
     pub outcome: Outcome,
-    pub source: Heard<'a>,
-    pub service: Option<Heard<'a>>,
-    pub next_hop: Heard<'a>,
+    pub source: WireRecord<'a>,
+    pub service: Option<WireRecord<'a>>,
+    pub next_hop: WireRecord<'a>,
     /// Of a broken connection of the service.
-    pub broken: Option<Heard<'a>>,
+    pub broken: Option<WireRecord<'a>>,
     /// Of one that was given up once the service had said all.
-    pub freed: Option<Heard<'a>>,
+    pub freed: Option<WireRecord<'a>>,
     /// How often a broken connection failed the transaction.
     pub failed: usize,
 }
 
 impl<'a> Told<'a> {
     /// What went over the service's wire.
-    pub fn of_service(&self) -> Heard<'a> {
+    pub fn of_service(&self) -> WireRecord<'a> {
         match self.service {
-            Some(heard) => heard,
-            None => Heard {
+            Some(record) => record,
+            None => WireRecord {
                 taken: &[],
                 calls: Calls::NONE,
                 given: 0,

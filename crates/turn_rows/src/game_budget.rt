@@ -1,4 +1,4 @@
-//! Where a row's transactions begin.
+//! A budget on which a row's transactions begin.
 
 use crate::game::{Game, Played};
 use crate::scenes::begin;
@@ -16,8 +16,8 @@ use trace_core::Plan;
 use wire_kit::Wire;
 use wire_rows::{Scene, Values};
 
-/// Where a row's transactions begin.
-pub trait Place {
+/// A budget on which a row's transactions begin. What plays them doesn't see its ledgers.
+pub trait GameBudget {
     /// A transaction over the row's wires.
     type Game: Game;
 
@@ -42,17 +42,17 @@ pub trait Place {
     ) -> Result<Vec<u8>, NoMemory>;
 
     /// How large a transaction is, in bytes.
-    fn size(&self) -> usize;
+    fn game_size(&self) -> usize;
 }
 
-/// A budget, on which transactions begin.
+/// A bank as such a budget.
 #[derive(Drop)]
 pub struct OnBank<'a, B: Ledgers, R> {
     pub rt: &'a R,
     pub bank: &'a Bank<B>,
 }
 
-impl<'a, B: Ledgers, R: Wait> Place for OnBank<'a, B, R> {
+impl<'a, B: Ledgers, R: Wait> GameBudget for OnBank<'a, B, R> {
     type Game = Played<'a, B, (Counted, Counted, Counted), R>;
 
     fn begun(
@@ -80,7 +80,7 @@ impl<'a, B: Ledgers, R: Wait> Place for OnBank<'a, B, R> {
         report(alloc, begun, None, scene, values)
     }
 
-    fn size(&self) -> usize {
+    fn game_size(&self) -> usize {
         mem::size_of::<Running<B, (Counted, Counted, Counted)>>()
     }
 }

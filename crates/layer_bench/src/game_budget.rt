@@ -1,4 +1,4 @@
-//! What is measured on a budget.
+//! A budget on which exchanges begin, and what else is measured on it.
 ghost use Rattle.std.specs.Prelude.{◌≤◌};
 
 use crate::budget::{time_pairs, time_tape};
@@ -12,8 +12,8 @@ use std::mem;
 use std::sync::Wait;
 use std::time::{Clock, Duration};
 
-/// A budget, and what is measured on it.
-pub trait Place {
+/// A budget on which exchanges begin, and what else is measured on it. What measures doesn't see its ledgers.
+pub trait GameBudget {
     /// An exchange by a transaction's turns.
     type Game: Game;
 
@@ -21,7 +21,7 @@ pub trait Place {
     fn begun(&self, alloc: Global) -> Result<Option<Self::Game>, AllocError>;
 
     /// How large its transaction is, in bytes.
-    fn size(&self) -> usize;
+    fn game_size(&self) -> usize;
 
     /// Prints how long an exchange without a transaction takes.
     fn time_exchanges(&self, alloc: Global, times: u32) -> Result<()>;
@@ -34,21 +34,21 @@ pub trait Place {
         requires { kept ≤ 256 };
 }
 
-/// A bank as that.
+/// A bank as such a budget.
 #[derive(Drop)]
 pub struct OnBank<'a, B: Ledgers, R> {
     pub rt: &'a R,
     pub bank: &'a Bank<B>,
 }
 
-impl<'a, B: Ledgers, R: Wait + Clock + Print + Eprint> Place for OnBank<'a, B, R> {
+impl<'a, B: Ledgers, R: Wait + Clock + Print + Eprint> GameBudget for OnBank<'a, B, R> {
     type Game = Played<'a, B, Counted, R>;
 
     fn begun(&self, alloc: Global) -> Result<Option<Self::Game>, AllocError> {
         begin(self.rt, alloc, self.bank, wires(alloc)?)
     }
 
-    fn size(&self) -> usize {
+    fn game_size(&self) -> usize {
         mem::size_of::<Moving<B, Counted>>()
     }
 
