@@ -2,6 +2,9 @@
 
 ghost use Rattle.std.specs.Prelude.{◌≡◌};
 
+use crate::board::{BothPools, Common, PoolPair, board_of};
+use crate::left::Left;
+use crate::office::Office;
 use event_loop::{
     Base, Ended, Entrance, Inbox, LoopFault, Work, add_loop, name_thread, run_loop, stop_all,
 };
@@ -9,7 +12,6 @@ use mio::net::TcpListener;
 use proxy_config::{Config, MAX_SHARDS};
 use service_lines::Waiting;
 use service_pool::Pool;
-use shard_common::{BothPools, Common, Left, Office, PoolPair, board_of};
 use shard_desk::{Desk, Loops, Pools, Shared, Shares, Spare};
 use shard_report::{Append, ServeFault};
 use shard_work::{Exchanges, Shard};

@@ -1,10 +1,13 @@
-//! The proxy: its threads, and the audit once all have ended.
+//! The proxy: its threads, the administrator's loop, and what is left once all have ended.
 //!
 //! A thread's loop is one of `event_loop`, whose work is a `Shard` of `shard_work`: exchanges of `shard_exchange` in slots. What they
-//! stand on is a `Desk` of `shard_desk`. What the threads have in common is in `shard_common`.
+//! stand on is a `Desk` of `shard_desk`.
 #![tactic(auto)]
 
+mod board;
 mod crew;
+mod left;
+mod office;
 mod running;
 
 pub use running::serve;

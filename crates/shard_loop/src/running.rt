@@ -5,10 +5,10 @@ ghost use Rattle.adapt_bytes.specs.declared.limits.TheConstants.{MAX_CONNECTIONS
 ghost use Rattle.service_pool.specs.declared.step.TheConstants.{LEDGER_PARTS};
 
 use crate::crew::run_crew;
+use crate::left::Left;
 use mio::net::TcpListener;
 use proxy_config::{Config, ServicePoint};
 use service_pool::Pool;
-use shard_common::Left;
 use shard_desk::Spare;
 use shard_report::{Append, ServeFault, Stopped};
 use socket_wire::Dial;

@@ -1,6 +1,6 @@
 use Rattle.std.proofs.Common.{All, vec_len}
-use Rattle.shard_common.specs.Left.{HoldsNothing}
-use Rattle.shard_common.proofs.left.end_stakes.Given as goal
+use Rattle.shard_loop.specs.Left.{HoldsNothing}
+use Rattle.shard_loop.proofs.left.end_stakes.Given as goal
 
 abbrev pub invariant-loop-stake : goal.invariant-loop-stake
 invariant-loop-stake g l = All HoldsNothing l.stakes.items

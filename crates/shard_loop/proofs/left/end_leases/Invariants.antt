@@ -1,5 +1,5 @@
 use Rattle.std.proofs.Common.{vec_len}
-use Rattle.shard_common.proofs.left.end_leases.Given as goal
+use Rattle.shard_loop.proofs.left.end_leases.Given as goal
 
 abbrev pub decreases-loop-lease : goal.decreases-loop-lease
 decreases-loop-lease g l = vec_len l.leases

@@ -1,7 +1,7 @@
 //! What is still out when the loops have ended.
 
 ghost use Rattle.std.specs.Prelude.{◌≡◌, All, IfOk, IsSome, None, Some};
-ghost use Rattle.shard_common.specs.Left.{HoldsNothing};
+ghost use Rattle.shard_loop.specs.Left.{HoldsNothing};
 
 use adapt_bytes::MAX_CONNECTIONS;
 use service_lines::Leased;
