@@ -5,5 +5,6 @@ pub mod Parts
 pub mod Refusals
 pub mod Rows
 pub mod Stands
+pub mod Turn
 pub mod ByTurn
 pub mod Passes

@@ -1,27 +1,15 @@
 //! What a turn answers, and why a transaction fails in it.
 
-ghost use Rattle.std.specs.Prelude.{◌≡◌, ℕ, ◌+◌, ◌<◌, ◌≤◌, ◌⊎◌, true, false, None, MatchOption, ⊤};
-ghost use Rattle.trace_core.specs.declared.history.Event.TheVariants.{Retry};
+ghost use Rattle.std.specs.Prelude.{◌≡◌, ℕ, ◌⊎◌, false, None, ⊤};
 ghost use Rattle.trace_core.specs.declared.history.Cause.{Cause};
-ghost use Rattle.trace_core.specs.declared.history.Cause.TheVariants.{Deadline};
-ghost use Rattle.trace_core.specs.declared.history.Cause.TheVariants as causes;
-ghost use Rattle.trace_core.specs.declared.history.Point.TheVariants.{Reqmod, Respmod};
-ghost use Rattle.trace_core.specs.Legal.{MayFollow};
-ghost use Rattle.plan_rules.specs.declared.room.TheConstants.{TURN_BYTES};
-ghost use Rattle.plan_rules.specs.Room.{original_room, adapted_room};
-ghost use Rattle.wire_kit.specs.Past.{Past};
-ghost use Rattle.adapt_sides.specs.Turns.{Gift, OfRelayWire, FailsGiving};
-ghost use Rattle.adapt_sides.specs.Turns.Gift.{nothing, message};
 ghost use Rattle.adapt_hold.specs.Holding.{shows};
 ghost use Rattle.adapt_turn.specs.declared.turned.Side.{Side};
-ghost use Rattle.adapt_turn.specs.declared.turned.Side.TheVariants as sides;
 ghost use Rattle.adapt_turn.specs.declared.turned.Turned.{Turned};
-ghost use Rattle.adapt_turn.specs.declared.turned.Outcome.TheVariants as outcomes;
-ghost use Rattle.adapt_turn.specs.Made.{MakesNoneAt, wire_of, side_of, on_held, response_of, answers_user};
-ghost use Rattle.adapt_turn.specs.Parts.{Breaks, HasCause, FailsFor, source_cause, fault_of};
-ghost use Rattle.adapt_turn.specs.Rows.{may_step, TookBy, Advances};
-ghost use Rattle.adapt_turn.specs.Stands.{IsChosen, IsDone, Waited, WaitedBoth, Blamed, BlamedWriter, BlamedService};
-ghost use Rattle.adapt_turn.specs.ByTurn.{BySide, OfWriter, ByAnswer, Ending};
+ghost use Rattle.adapt_turn.specs.ByTurn.{BySide, ByAnswer, Ending};
+ghost use Rattle.adapt_turn.specs.Made.{MakesNoneAt, on_held};
+ghost use Rattle.adapt_turn.specs.Parts.{fault_of, lending};
+ghost use Rattle.adapt_turn.specs.Passes.{writers};
+ghost use Rattle.adapt_turn.specs.Turn.{BreaksOff, Finishes, IsLate, Keeps, MovesBytes, NextFails, NextWaits, ServiceFails, ServiceWaits, SourceFails, SourceWaits, Waits, tx_view};
 
 use crate::ends::EndTypes;
 use crate::tx::{Going, Refusing, Tx};
@@ -67,50 +55,27 @@ impl<B: Ledgers, E: EndTypes> Making for Tx<B, E> {
 
 impl<B: Ledgers, E: EndTypes> Answering for Tx<B, E> {
     ghost answers = { λ old side new turned. ByAnswer turned (record {
-      waiting = (new.hold ≡ old.hold) × ⟦<Tx<B, E> as Going>⟧.moves old new 0
-          × ((shows old.hold.history).closed ≡ true → ⟦<Tx<B, E> as Refusing>⟧.refusal_waits old new)
-          × ((shows old.hold.history).closed ≡ false → BySide side
-          ((Waited (E.Reader.rests (original_room (shows old.hold.history) old.hold.claim old.hold.limits.window) new.ends.source) (λ past. past.read_waits) (E.SourceWire.past old.ends.source_wire) (E.SourceWire.past new.ends.source_wire)) × E.Reader.is_framed (original_room (shows old.hold.history) old.hold.claim old.hold.limits.window) new.ends.source)
-          ((WaitedBoth (MatchOption new.ends.service ⊤ (λ line. E.Client.rests_writing (shows old.hold.history) line.side)) (MatchOption new.ends.service ⊤ (λ line. E.Client.rests_reading (shows old.hold.history) (adapted_room (shows old.hold.history) old.hold.limits.window) line.side))
-          (λ p. on_held old.ends.service ⊥ (λ wire. E.ServiceWire.past wire p)) (λ p. on_held new.ends.service ⊥ (λ wire. E.ServiceWire.past wire p)))
-          × MatchOption new.ends.service ⊤ (λ line. MatchOption line.wire ⊤ (λ wire. E.Client.is_framed (adapted_room (shows old.hold.history) old.hold.limits.window) line.side)))
-          ((IsChosen (shows old.hold.history) → ⊥) ⊎ ((E.Writer.gift new.ends.next ≡ nothing → E.Writer.gift new.ends.back ≡ nothing → ⊥) × OfWriter (E.Writer.gift new.ends.back)
-          (Waited (E.Writer.rests (shows old.hold.history) new.ends.next) (λ past. past.write_waits) (E.NextWire.past old.ends.next_wire) (E.NextWire.past new.ends.next_wire))
-          (Waited (E.Writer.rests (shows old.hold.history) new.ends.back) (λ past. past.write_waits) (E.SourceWire.past old.ends.source_wire) (E.SourceWire.past new.ends.source_wire)))));
-      moved = λ n. ⟦<Tx<B, E> as Going>⟧.moves old new n
-          × (n ≡ 0 → (p q r : Past) → E.SourceWire.past old.ends.source_wire p → on_held old.ends.service ⊤ (λ wire. E.ServiceWire.past wire q) → E.NextWire.past old.ends.next_wire r
-          → ((shows old.hold.history).closed ≡ false) × Advances (may_step side) old.hold new.hold);
-      broken = (side ≡ sides.Service) × ((shows old.hold.history).closed ≡ false) × MayFollow new.hold.history.plan new.hold.history.events Retry
-          × ((old.pace.broken ≡ true) ⊎ MatchOption new.ends.service ⊥ (λ line. Breaks new.hold.history old.pace.reused (E.Client.fault line.side)));
-      finished = λ outcome. ((shows old.hold.history).closed ≡ true) × (outcome ≡ old.outcome) × ((old.refusing ≡ false) ⊎ ⟦<Tx<B, E> as Refusing>⟧.refusal_is_over new)
-          × (outcome ≡ outcomes.Done → IsDone new.hold.history);
+      waiting = Waits old.hold new.hold (record {
+        still = ⟦<Tx<B, E> as Going>⟧.moves old new 0;
+        refusal = ⟦<Tx<B, E> as Refusing>⟧.refusal_waits old new;
+        side = BySide side (SourceWaits E.Reader.Source E.SourceWire.Wire (lending old.hold old.ends.source old.ends.source_wire) (lending new.hold new.ends.source new.ends.source_wire))
+            (ServiceWaits E.Client.Service E.ServiceWire.Wire old.hold old.ends.service new.ends.service)
+            (NextWaits E.Writer.Hop E.SourceWire.Wire E.NextWire.Wire (writers old.hold old.ends.next old.ends.next_wire old.ends.back old.ends.source_wire) (writers new.hold new.ends.next new.ends.next_wire new.ends.back new.ends.source_wire));
+      });
+      moved = MovesBytes (record {
+        bytes = ⟦<Tx<B, E> as Going>⟧.moves old new;
+        before = record { source = E.SourceWire.past old.ends.source_wire; service = λ q. on_held old.ends.service ⊤ (λ wire. E.ServiceWire.past wire q); next = E.NextWire.past old.ends.next_wire };
+      }) side old.hold new.hold;
+      broken = BreaksOff E.Client.Service old.pace side old.hold new.hold new.ends.service;
+      finished = Finishes (record { outcome = old.outcome; refusing = old.refusing; is_over = ⟦<Tx<B, E> as Refusing>⟧.refusal_is_over new }) old.hold new.hold;
     }) };
 
-    ghost keeps = { λ old side new. ((shows old.hold.history).closed ≡ false → TookBy (may_step side) old.hold new.hold
-        × BySide side ((new.ends.service ≡ old.ends.service) × (new.ends.next_wire ≡ old.ends.next_wire)
-        × ((shows new.hold.history).received ≤ (shows old.hold.history).received + TURN_BYTES)
-        × (((cause : Cause) → new.outcome ≡ outcomes.Fail cause → ⊥) → (new.ends.next ≡ old.ends.next) × (new.ends.back ≡ old.ends.back)))
-        ((new.ends.source ≡ old.ends.source) × (new.ends.source_wire ≡ old.ends.source_wire) × (new.ends.next_wire ≡ old.ends.next_wire)
-        × ((shows new.hold.history).adapted_received ≤ (shows old.hold.history).adapted_received + TURN_BYTES)
-        × (((cause : Cause) → new.outcome ≡ outcomes.Fail cause → ⊥) → (new.ends.next ≡ old.ends.next) × (new.ends.back ≡ old.ends.back)))
-        ((new.ends.source ≡ old.ends.source) × (new.ends.service ≡ old.ends.service) × ((new.ends.source_wire ≡ old.ends.source_wire) ⊎ (new.ends.next_wire ≡ old.ends.next_wire))
-        × (((cause : Cause) → new.outcome ≡ outcomes.Fail cause → ⊥) → OfWriter (E.Writer.gift new.ends.back) (new.ends.source_wire ≡ old.ends.source_wire) (new.ends.next_wire ≡ old.ends.next_wire)))
-        × (E.Writer.gift old.ends.back ≡ nothing → E.Writer.gift new.ends.back ≡ message → answers_user (shows old.hold.history) (response_of E.Client.is_response old.ends.service) ≡ true)
-        × (E.Writer.gift old.ends.next ≡ nothing → E.Writer.gift new.ends.next ≡ message → answers_user (shows old.hold.history) (response_of E.Client.is_response old.ends.service) ≡ false))
-        × ((shows old.hold.history).closed ≡ true → (new.ends.source ≡ old.ends.source) × (new.ends.service ≡ old.ends.service)
-        × (old.hold.history.plan.point ≡ Respmod → new.ends.source_wire ≡ old.ends.source_wire) × (old.hold.history.plan.point ≡ Reqmod → new.ends.next_wire ≡ old.ends.next_wire)) };
+    ghost keeps = { λ old side new. Keeps E.Client.Service E.Writer.Hop side (tx_view old.hold old.ends old.outcome) (tx_view new.hold new.ends new.outcome) };
 
-    ghost fails = { λ old side now new cause. ((cause ≡ Deadline) × (old.pace.last_moved + old.pace.deadline ≤ now)) ⊎ BySide side
-        ((E.Reader.agrees (shows old.hold.history) old.ends.source → Blamed OfRelayWire source_cause cause (E.Reader.fault old.ends.source) (E.Reader.fault new.ends.source) (E.SourceWire.past old.ends.source_wire) (E.SourceWire.past new.ends.source_wire))
-        × ((E.Reader.agrees (shows old.hold.history) old.ends.source → ⊥) → cause ≡ causes.Source)
-        × HasCause (E.Reader.fault old.ends.source) (E.Reader.fault new.ends.source) (λ fault. E.Reader.has_reason fault new.ends.source))
-        ((wire_of old.ends.service ≡ None → ⊥) × BlamedService cause (fault_of (λ line. E.Client.fault line.side) old.ends.service) (fault_of (λ line. E.Client.fault line.side) new.ends.service)
-        (λ p. on_held old.ends.service ⊥ (λ wire. E.ServiceWire.past wire p)) (λ p. on_held new.ends.service ⊥ (λ wire. E.ServiceWire.past wire p))
-        × FailsFor E.Client.Service cause old.pace.reused (side_of old.ends.service) (side_of new.ends.service) new.hold)
-        ((IsChosen (shows old.hold.history) × (E.Writer.gift old.ends.next ≡ nothing) × (E.Writer.gift old.ends.back ≡ nothing)
-        × ⟦<Tx<B, E> as Making>⟧.unmade old cause)
-        ⊎ (BlamedWriter cause (FailsGiving (E.Writer.breaks_length (shows old.hold.history) (E.Writer.body_framing new.ends.next))) (E.Writer.fault old.ends.next) (E.NextWire.past old.ends.next_wire) (E.NextWire.past new.ends.next_wire)
-        ⊎ BlamedWriter cause (FailsGiving (E.Writer.breaks_length (shows old.hold.history) (E.Writer.body_framing new.ends.back))) (E.Writer.fault old.ends.back) (E.SourceWire.past old.ends.source_wire) (E.SourceWire.past new.ends.source_wire))) };
+    ghost fails = { λ old side now new cause. IsLate old.pace now cause ⊎ BySide side
+        (SourceFails E.Reader.Source E.SourceWire.Wire (lending old.hold old.ends.source old.ends.source_wire) (lending new.hold new.ends.source new.ends.source_wire) cause)
+        (ServiceFails E.Client.Service E.ServiceWire.Wire old.pace.reused old.ends.service new.ends.service new.hold cause)
+        (NextFails E.Writer.Hop E.SourceWire.Wire E.NextWire.Wire (writers old.hold old.ends.next old.ends.next_wire old.ends.back old.ends.source_wire) (writers new.hold new.ends.next new.ends.next_wire new.ends.back new.ends.source_wire) cause (⟦<Tx<B, E> as Making>⟧.unmade old cause)) };
 
     ghost ending = { λ tx. record { hold = tx.hold; outcome = tx.outcome; refusing = tx.refusing; is_over = ⟦<Tx<B, E> as Refusing>⟧.refusal_is_over tx; refuses = ⟦<Tx<B, E> as Refusing>⟧.refuses tx } };
 

@@ -9,6 +9,7 @@ use Rattle.adapt_turn.specs.declared.turned.Outcome.TheVariants as outcomes
 use Rattle.adapt_turn.proofs.Told.{done_told, failed_over}
 use Rattle.std.proofs.lemmas.Bool.{false≢true}
 use Rattle.adapt_turn.specs.Rows.{may_step, TookBy, Advances}
+use Rattle.adapt_turn.specs.Turn.{HasNotFailed}
 use Rattle.adapt_turn.proofs.Rows.{by_side, fail_advances, took_fail}
 use Rattle.trace_core.specs.declared.history.Cause.{Cause}
 use Rattle.adapt_turn.specs.Refusals.{refusal_status, user_view, HasRefusal}
@@ -55,37 +56,38 @@ returns-clause-goes g c = goes_then c.pass-passed.ensures.goes c.after_pass.ensu
 
 pub returns-clause-answers : goal.returns-clause-answers
 returns-clause-answers g c = by_answer c.after_pass.result _
-    (λ w. (
-      c.after_pass.ensures.hold ∙ c.pass-passed.ensures.any.still (c.after_pass.ensures.said.waiting w).0,
-      moves_of g.E.SourceWire.Wire.past g.E.ServiceWire.Wire.past g.E.NextWire.Wire.past c.args.self.now.ends.source_wire c.pass-passed.new.self.ends.source_wire c.after_pass.new.self.ends.source_wire
+    (λ w. record {
+      hold = c.after_pass.ensures.hold ∙ c.pass-passed.ensures.any.still (c.after_pass.ensures.said.waiting w).0;
+      still = moves_of g.E.SourceWire.Wire.past g.E.ServiceWire.Wire.past g.E.NextWire.Wire.past c.args.self.now.ends.source_wire c.pass-passed.new.self.ends.source_wire c.after_pass.new.self.ends.source_wire
           c.args.self.now.ends.service c.pass-passed.new.self.ends.service c.after_pass.new.self.ends.service c.args.self.now.ends.next_wire c.pass-passed.new.self.ends.next_wire c.after_pass.new.self.ends.next_wire _ _ _ _ _ _ 0
           c.counts-before.ensures.source c.counts.ensures.source c.counts-before.ensures.service c.counts.ensures.service c.counts-before.ensures.next c.counts.ensures.next
-          c.pass-passed.ensures.served c.after_pass.ensures.kept.1 c.after_pass.ensures.kept.2 c.after_pass.ensures.kept.3 (sym (c.after_pass.ensures.said.waiting w).1 ∙ c.since-moved.ensures),
-      λ k. absurd (false≢true (sym (sym c.is_closed.ensures ∙ c.if-is_closed.false) ∙ k)),
-      λ k. for_side c.args.side _ _ _
-          (λ s. (waits_kept (λ z. g.E.Reader.Source.rests (original_room (shows c.args.self.now.hold.history) c.args.self.now.hold.claim c.args.self.now.hold.limits.window) z) g.E.SourceWire.Wire.past _ _ c.pass-passed.new.self.ends.source c.after_pass.new.self.ends.source c.pass-passed.new.self.ends.source_wire c.after_pass.new.self.ends.source_wire c.after_pass.ensures.kept.0 c.after_pass.ensures.kept.1 ((c.pass-passed.ensures.source s).waits (c.after_pass.ensures.said.waiting w).0), subst (λ z. g.E.Reader.Source.is_framed (original_room (shows c.args.self.now.hold.history) c.args.self.now.hold.claim c.args.self.now.hold.limits.window) z) (sym c.after_pass.ensures.kept.0) ((c.pass-passed.ensures.source s).framed (c.after_pass.ensures.said.waiting w).0)))
-          (λ s. (both_kept (λ l. g.E.Client.Service.rests_writing (shows c.args.self.now.hold.history) l.side) (λ l. g.E.Client.Service.rests_reading (shows c.args.self.now.hold.history) (adapted_room (shows c.args.self.now.hold.history) c.args.self.now.hold.limits.window) l.side) (λ l p. MatchOption l.wire ⊥ (λ w. g.E.ServiceWire.Wire.past w p)) _ c.pass-passed.new.self.ends.service c.after_pass.new.self.ends.service c.after_pass.ensures.kept.2 ((line_told (c.pass-passed.ensures.service s)).waits (c.after_pass.ensures.said.waiting w).0), subst (λ z. MatchOption z ⊤ (λ l. MatchOption l.wire ⊤ (λ w. g.E.Client.Service.is_framed (adapted_room (shows c.args.self.now.hold.history) c.args.self.now.hold.limits.window) l.side))) (sym c.after_pass.ensures.kept.2) ((line_told (c.pass-passed.ensures.service s)).framed (c.after_pass.ensures.said.waiting w).0)))
+          c.pass-passed.ensures.served c.after_pass.ensures.kept.1 c.after_pass.ensures.kept.2 c.after_pass.ensures.kept.3 (sym (c.after_pass.ensures.said.waiting w).1 ∙ c.since-moved.ensures);
+      refusal = λ k. absurd (false≢true (sym (sym c.is_closed.ensures ∙ c.if-is_closed.false) ∙ k));
+      side = λ k. for_side c.args.side _ _ _
+          (λ s. record { waited = waits_kept (λ z. g.E.Reader.Source.rests (original_room (shows c.args.self.now.hold.history) c.args.self.now.hold.claim c.args.self.now.hold.limits.window) z) g.E.SourceWire.Wire.past _ _ c.pass-passed.new.self.ends.source c.after_pass.new.self.ends.source c.pass-passed.new.self.ends.source_wire c.after_pass.new.self.ends.source_wire c.after_pass.ensures.kept.0 c.after_pass.ensures.kept.1 ((c.pass-passed.ensures.source s).waits (c.after_pass.ensures.said.waiting w).0); framed = subst (λ z. g.E.Reader.Source.is_framed (original_room (shows c.args.self.now.hold.history) c.args.self.now.hold.claim c.args.self.now.hold.limits.window) z) (sym c.after_pass.ensures.kept.0) ((c.pass-passed.ensures.source s).framed (c.after_pass.ensures.said.waiting w).0) })
+          (λ s. record { waited = both_kept (λ l. g.E.Client.Service.rests_writing (shows c.args.self.now.hold.history) l.side) (λ l. g.E.Client.Service.rests_reading (shows c.args.self.now.hold.history) (adapted_room (shows c.args.self.now.hold.history) c.args.self.now.hold.limits.window) l.side) (λ l p. MatchOption l.wire ⊥ (λ w. g.E.ServiceWire.Wire.past w p)) _ c.pass-passed.new.self.ends.service c.after_pass.new.self.ends.service c.after_pass.ensures.kept.2 ((line_told (c.pass-passed.ensures.service s)).waits (c.after_pass.ensures.said.waiting w).0); framed = subst (λ z. MatchOption z ⊤ (λ l. MatchOption l.wire ⊤ (λ w. g.E.Client.Service.is_framed (adapted_room (shows c.args.self.now.hold.history) c.args.self.now.hold.limits.window) l.side))) (sym c.after_pass.ensures.kept.2) ((line_told (c.pass-passed.ensures.service s)).framed (c.after_pass.ensures.said.waiting w).0) })
           (λ s. elim ((c.pass-passed.ensures.next s).waits (c.after_pass.ensures.said.waiting w).0) [
             | inl u ↦ inl u
-            | inr v ↦ inr (
-              λ n b. v.0 (sym (ap g.E.Writer.Hop.gift (c.after_pass.ensures.same (c.pass-passed.ensures.any.idle (c.after_pass.ensures.said.waiting w).0)).0) ∙ n) (sym (ap g.E.Writer.Hop.gift (c.after_pass.ensures.same (c.pass-passed.ensures.any.idle (c.after_pass.ensures.said.waiting w).0)).1) ∙ b),
-              of_either _ _ _ _ _ _ (ap g.E.Writer.Hop.gift (c.after_pass.ensures.same (c.pass-passed.ensures.any.idle (c.after_pass.ensures.said.waiting w).0)).1)
+            | inr v ↦ inr (record {
+              begun = λ n b. v.0 (sym (ap g.E.Writer.Hop.gift (c.after_pass.ensures.same (c.pass-passed.ensures.any.idle (c.after_pass.ensures.said.waiting w).0)).0) ∙ n) (sym (ap g.E.Writer.Hop.gift (c.after_pass.ensures.same (c.pass-passed.ensures.any.idle (c.after_pass.ensures.said.waiting w).0)).1) ∙ b);
+              waited = of_either _ _ _ _ _ _ (ap g.E.Writer.Hop.gift (c.after_pass.ensures.same (c.pass-passed.ensures.any.idle (c.after_pass.ensures.said.waiting w).0)).1)
                   (λ z. waits_kept (λ k. g.E.Writer.Hop.rests (shows c.args.self.now.hold.history) k) g.E.NextWire.Wire.past _ _ c.pass-passed.new.self.ends.next c.after_pass.new.self.ends.next c.pass-passed.new.self.ends.next_wire c.after_pass.new.self.ends.next_wire (c.after_pass.ensures.same (c.pass-passed.ensures.any.idle (c.after_pass.ensures.said.waiting w).0)).0 c.after_pass.ensures.kept.3 z)
                   (λ z. waits_kept (λ k. g.E.Writer.Hop.rests (shows c.args.self.now.hold.history) k) g.E.SourceWire.Wire.past _ _ c.pass-passed.new.self.ends.back c.after_pass.new.self.ends.back c.pass-passed.new.self.ends.source_wire c.after_pass.new.self.ends.source_wire (c.after_pass.ensures.same (c.pass-passed.ensures.any.idle (c.after_pass.ensures.said.waiting w).0)).1 c.after_pass.ensures.kept.1 z)
-                  v.1,
-            )
-          ]),
-    ))
-    (λ n m. (
-      moves_of g.E.SourceWire.Wire.past g.E.ServiceWire.Wire.past g.E.NextWire.Wire.past c.args.self.now.ends.source_wire c.pass-passed.new.self.ends.source_wire c.after_pass.new.self.ends.source_wire
+                  v.1;
+            })
+          ]);
+    })
+    (λ n m. record {
+      bytes = moves_of g.E.SourceWire.Wire.past g.E.ServiceWire.Wire.past g.E.NextWire.Wire.past c.args.self.now.ends.source_wire c.pass-passed.new.self.ends.source_wire c.after_pass.new.self.ends.source_wire
           c.args.self.now.ends.service c.pass-passed.new.self.ends.service c.after_pass.new.self.ends.service c.args.self.now.ends.next_wire c.pass-passed.new.self.ends.next_wire c.after_pass.new.self.ends.next_wire _ _ _ _ _ _ n
           c.counts-before.ensures.source c.counts.ensures.source c.counts-before.ensures.service c.counts.ensures.service c.counts-before.ensures.next c.counts.ensures.next
-          c.pass-passed.ensures.served c.after_pass.ensures.kept.1 c.after_pass.ensures.kept.2 c.after_pass.ensures.kept.3 (c.after_pass.ensures.said.moved n m ∙ c.since-moved.ensures),
-      λ z p q r a b d.
+          c.pass-passed.ensures.served c.after_pass.ensures.kept.1 c.after_pass.ensures.kept.2 c.after_pass.ensures.kept.3 (c.after_pass.ensures.said.moved n m ∙ c.since-moved.ensures);
+      active = λ z p q r a b d.
           let o = (sym c.is_closed.ensures ∙ c.if-is_closed.false) in
-          let e = m ∙ ap answers.Moved z in (
-            o,
-            let w = waiting_not c.pass-passed.result.waiting (c.after_pass.ensures.said.active 0 e).0 in
+          let e = m ∙ ap answers.Moved z in record {
+            running = o;
+            advances =
+                let w = waiting_not c.pass-passed.result.waiting (c.after_pass.ensures.said.active 0 e).0 in
                 let k = none_over _ 0 refl (moves_of g.E.SourceWire.Wire.past g.E.ServiceWire.Wire.past g.E.NextWire.Wire.past c.args.self.now.ends.source_wire c.pass-passed.new.self.ends.source_wire c.pass-passed.new.self.ends.source_wire
                 c.args.self.now.ends.service c.pass-passed.new.self.ends.service c.pass-passed.new.self.ends.service c.args.self.now.ends.next_wire c.pass-passed.new.self.ends.next_wire c.pass-passed.new.self.ends.next_wire _ _ _ _ _ _ 0
                 c.counts-before.ensures.source c.counts.ensures.source c.counts-before.ensures.service c.counts.ensures.service c.counts-before.ensures.next c.counts.ensures.next
@@ -95,12 +97,12 @@ returns-clause-answers g c = by_answer c.after_pass.result _
                 (λ s. let v = (c.pass-passed.ensures.source s).active w p a in v.4 (k.0 p v.0 a v.1))
                 (λ s. some_line g.E.ServiceWire.Wire.past c.args.self.now.ends.service c.pass-passed.new.self.ends.service _ q b k.1
                 (λ n. false≢true (sym w ∙ (line_told (c.pass-passed.ensures.service s)).absent n)) ((line_told (c.pass-passed.ensures.service s)).active w (c.after_pass.ensures.said.active 0 e).1))
-                (λ s. of_one _ _ _ _ (λ act. let v = act r d in v.4 (k.2 r v.0 d v.1)) (λ act. let v = act p a in v.4 (k.0 p v.0 a v.1)) ((c.pass-passed.ensures.next s).active w))),
-          ),
-    ))
+                (λ s. of_one _ _ _ _ (λ act. let v = act r d in v.4 (k.2 r v.0 d v.1)) (λ act. let v = act p a in v.4 (k.0 p v.0 a v.1)) ((c.pass-passed.ensures.next s).active w)));
+          };
+    })
     (λ b. let w = c.pass-passed.ensures.any.breaks (c.after_pass.ensures.said.broken b) in
     let k = breaks_kept (λ l. g.E.Client.Service.fault l.side) c.args.self.now.pace.reused c.pass-passed.new.self.hold c.after_pass.new.self.hold c.pass-passed.new.self.ends.service c.after_pass.new.self.ends.service c.after_pass.ensures.kept.2 c.after_pass.ensures.hold w.2 in
-    (w.0, sym c.is_closed.ensures ∙ c.if-is_closed.false, k.0, inr k.1))
+    record { of_service = w.0; running = sym c.is_closed.ensures ∙ c.if-is_closed.false; may = k.0; why = inr k.1 })
     (λ outcome e. absurd (c.after_pass.ensures.said.unfinished outcome e))
 
 pub returns-then-is_closed-clause-answers : goal.returns-then-is_closed-clause-answers
@@ -108,26 +110,26 @@ returns-then-is_closed-clause-answers g c =
     let over = sym c.is_closed.ensures ∙ c.if-is_closed.true in
     let kept = c.closed_turn.ensures.kept in
     answer_on c.closed_turn.result _ _ c.closed_turn.ensures.answers
-    (λ w. (kept.0, w.0, λ k. w.1, λ o. absurd (false≢true (sym o ∙ over))))
-    (λ n m. (
-      m.0,
-      λ z p q r a b d.
+    (λ w. record { hold = kept.0; still = w.0; refusal = λ k. w.1; side = λ o. absurd (false≢true (sym o ∙ over)) })
+    (λ n m. record {
+      bytes = m.0;
+      active = λ z p q r a b d.
           absurd (let k = none_over _ n z m.0 in
           let w = m.1 z in
           by_point c.args.self.now.hold.history.plan.point ⊥
           (λ s. let v = w.0 s r d in v.4 (k.2 r v.0 d v.1))
-          (λ s. let v = w.1 s p a in v.4 (k.0 p v.0 a v.1))),
-    ))
+          (λ s. let v = w.1 s p a in v.4 (k.0 p v.0 a v.1)));
+    })
     (λ b. absurd b)
-    (λ outcome f. (over, f.0, f.1, λ d. done_told c.args.self.now.hold c.closed_turn.new.self.hold c.args.self.now.outcome c.args.self.now.told kept.0 over (sym d ∙ f.0)))
+    (λ outcome f. record { closed = over; ended = f.0; refusal = f.1; done = λ d. done_told c.args.self.now.hold c.closed_turn.new.self.hold c.args.self.now.outcome c.args.self.now.told kept.0 over (sym d ∙ f.0) })
 
 pub returns-then-now-self-2-clause-answers : goal.returns-then-now-self-2-clause-answers
-returns-then-now-self-2-clause-answers g c = (
-  moves_none g.E.SourceWire.Wire.past g.E.ServiceWire.Wire.past g.E.NextWire.Wire.past c.args.self.now.ends.source_wire c.fail_by.new.self.ends.source_wire
+returns-then-now-self-2-clause-answers g c = record {
+  bytes = moves_none g.E.SourceWire.Wire.past g.E.ServiceWire.Wire.past g.E.NextWire.Wire.past c.args.self.now.ends.source_wire c.fail_by.new.self.ends.source_wire
       c.args.self.now.ends.service c.fail_by.new.self.ends.service c.args.self.now.ends.next_wire c.fail_by.new.self.ends.next_wire _ _ _ 0
-      c.counts-before.ensures.source c.counts-before.ensures.service c.counts-before.ensures.next c.fail_by.ensures.kept.0 c.fail_by.ensures.kept.1 c.fail_by.ensures.kept.2 refl,
-  λ z p q r a b d. ((sym c.is_closed.ensures ∙ c.if-is_closed.false), fail_advances c.args.side c.args.self.now.hold c.fail_by.new.self.hold Deadline (sym c.is_closed.ensures ∙ c.if-is_closed.false) c.fail_by.ensures.hold),
-)
+      c.counts-before.ensures.source c.counts-before.ensures.service c.counts-before.ensures.next c.fail_by.ensures.kept.0 c.fail_by.ensures.kept.1 c.fail_by.ensures.kept.2 refl;
+  active = λ z p q r a b d. record { running = sym c.is_closed.ensures ∙ c.if-is_closed.false; advances = fail_advances c.args.side c.args.self.now.hold c.fail_by.new.self.hold Deadline (sym c.is_closed.ensures ∙ c.if-is_closed.false) c.fail_by.ensures.hold };
+}
 
 pub returns-clause-fails : goal.returns-clause-fails
 returns-clause-fails g c = λ o.
@@ -145,22 +147,22 @@ returns-clause-fails g c = λ o.
       fails = λ cause e.
           let f = why cause e in
           inr (for_side c.args.side _ _ _
-          (λ s. (
-            λ a. blamed_kept _ _ cause g.E.SourceWire.Wire.past _ _ (g.E.Reader.Source.fault c.pass-passed.new.self.ends.source) (g.E.Reader.Source.fault c.after_pass.new.self.ends.source) c.pass-passed.new.self.ends.source_wire c.after_pass.new.self.ends.source_wire (ap g.E.Reader.Source.fault c.after_pass.ensures.kept.0) c.after_pass.ensures.kept.1 (((c.pass-passed.ensures.source s).blames cause f).0 a),
-            ((c.pass-passed.ensures.source s).blames cause f).1,
-            cause_kept (λ z fault. g.E.Reader.Source.has_reason fault z) _ _ _ c.pass-passed.new.self.ends.source c.after_pass.new.self.ends.source (ap g.E.Reader.Source.fault c.after_pass.ensures.kept.0) c.after_pass.ensures.kept.0 ((c.pass-passed.ensures.source s).reason),
-          ))
-          (λ s. (
-            λ n. none_some (sym (c.pass-passed.ensures.any.idle ((line_told (c.pass-passed.ensures.service s)).absent n)) ∙ f),
-            line_blamed_kept (λ l. g.E.Client.Service.fault l.side) (λ l p. MatchOption l.wire ⊥ (λ w. g.E.ServiceWire.Wire.past w p)) cause _ _ c.pass-passed.new.self.ends.service c.after_pass.new.self.ends.service c.after_pass.ensures.kept.2 ((line_told (c.pass-passed.ensures.service s)).blames cause f),
-            fails_kept g.E.Client.Service cause c.args.self.now.pace.reused (side_of c.args.self.now.ends.service) c.pass-passed.new.self.hold c.after_pass.new.self.hold c.pass-passed.new.self.ends.service c.after_pass.new.self.ends.service c.after_pass.ensures.hold c.after_pass.ensures.kept.2 ((line_told (c.pass-passed.ensures.service s)).unbroken cause f),
-          ))
+          (λ s. record {
+            blames = λ a. blamed_kept _ _ cause g.E.SourceWire.Wire.past _ _ (g.E.Reader.Source.fault c.pass-passed.new.self.ends.source) (g.E.Reader.Source.fault c.after_pass.new.self.ends.source) c.pass-passed.new.self.ends.source_wire c.after_pass.new.self.ends.source_wire (ap g.E.Reader.Source.fault c.after_pass.ensures.kept.0) c.after_pass.ensures.kept.1 (((c.pass-passed.ensures.source s).blames cause f).0 a);
+            disagrees = ((c.pass-passed.ensures.source s).blames cause f).1;
+            reason = cause_kept (λ z fault. g.E.Reader.Source.has_reason fault z) _ _ _ c.pass-passed.new.self.ends.source c.after_pass.new.self.ends.source (ap g.E.Reader.Source.fault c.after_pass.ensures.kept.0) c.after_pass.ensures.kept.0 ((c.pass-passed.ensures.source s).reason);
+          })
+          (λ s. record {
+            held = λ n. none_some (sym (c.pass-passed.ensures.any.idle ((line_told (c.pass-passed.ensures.service s)).absent n)) ∙ f);
+            blames = line_blamed_kept (λ l. g.E.Client.Service.fault l.side) (λ l p. MatchOption l.wire ⊥ (λ w. g.E.ServiceWire.Wire.past w p)) cause _ _ c.pass-passed.new.self.ends.service c.after_pass.new.self.ends.service c.after_pass.ensures.kept.2 ((line_told (c.pass-passed.ensures.service s)).blames cause f);
+            unbroken = fails_kept g.E.Client.Service cause c.args.self.now.pace.reused (side_of c.args.self.now.ends.service) c.pass-passed.new.self.hold c.after_pass.new.self.hold c.pass-passed.new.self.ends.service c.after_pass.new.self.ends.service c.after_pass.ensures.hold c.after_pass.ensures.kept.2 ((line_told (c.pass-passed.ensures.service s)).unbroken cause f);
+          })
           (λ s.
           let x = shows c.args.self.now.hold.history in
           let mid = c.pass-passed.new.self in
           let new = c.after_pass.new.self in
           elim ((c.pass-passed.ensures.next s).blames cause f) [
-            | inl u ↦ inl u
+            | inl u ↦ inl (record { chosen = u.0; next_idle = u.1; back_idle = u.2; reason = u.3 })
             | inr (inl v) ↦ inr (inl (writer_kept cause (λ z. FailsGiving (g.E.Writer.Hop.breaks_length x z)) _ g.E.NextWire.Wire.past _ (g.E.Writer.Hop.body_framing mid.ends.next) (g.E.Writer.Hop.body_framing new.ends.next) mid.ends.next_wire new.ends.next_wire c.after_pass.ensures.writers.0 c.after_pass.ensures.kept.3 v))
             | inr (inr v) ↦ inr (inr (writer_kept cause (λ z. FailsGiving (g.E.Writer.Hop.breaks_length x z)) _ g.E.SourceWire.Wire.past _ (g.E.Writer.Hop.body_framing mid.ends.back) (g.E.Writer.Hop.body_framing new.ends.back) mid.ends.source_wire new.ends.source_wire c.after_pass.ensures.writers.1 c.after_pass.ensures.kept.1 v))
           ]));
@@ -178,7 +180,7 @@ returns-then-now-self-2-clause-fails g c = λ o.
     let due : c.args.self.now.pace.last_moved + c.args.self.now.pace.deadline ≤ c.args.now = due_at c.args.self.now.pace.last_moved c.args.self.now.pace.deadline c.args.now c.if-now-self.true c.if-now-self-2.true in
     let of_it : (cause : Cause) → c.fail_by.new.self.outcome ≡ outcomes.Fail cause → Deadline ≡ cause = λ cause e. same_cause (sym c.fail_by.ensures.outcome ∙ e) in
     record {
-      fails = λ cause e. inl (sym (of_it cause e), due);
+      fails = λ cause e. inl (record { timely = sym (of_it cause e); late = due });
       refuses = λ cause e. subst (λ (z : Cause). HasRefusal (refusal_status z p) (user_view g.E.Writer.Hop p n.refusing n.ends.next n.ends.back)) (of_it cause e) c.fail_by.ensures.refuses;
       timely = λ e. inl due;
       unstopped = λ e. absurd (not_stopping (of_it Stopping e));
@@ -243,73 +245,84 @@ returns-then-is_broken-clause-paces g c = paces_still _ _ _ _ _ answers.Broken r
 ))
 
 pub returns-clause-keeps : goal.returns-clause-keeps
-returns-clause-keeps g c = (
-  λ o. (
-    subst (λ h. TookBy (may_step c.args.side) c.args.self.now.hold h) (sym c.after_pass.ensures.hold)
-        (by_side c.args.side (λ side. TookBy (may_step side) c.args.self.now.hold c.pass-passed.new.self.hold) (λ s. (c.pass-passed.ensures.source s).took) (λ s. (line_told (c.pass-passed.ensures.service s)).took) (λ s. (c.pass-passed.ensures.next s).took)),
-    for_side c.args.side _ _ _
-        (λ s. let a = c.pass-passed.ensures.apart_source s in (
-          c.after_pass.ensures.kept.2 ∙ a.0,
-          c.after_pass.ensures.kept.3 ∙ a.1,
-          paced_kept _ (λ x. x.received) c.pass-passed.new.self.hold c.after_pass.new.self.hold c.after_pass.ensures.hold ((c.pass-passed.ensures.source s).paced),
-          λ n. let w = c.after_pass.ensures.same (unfailed c.pass-passed.result.failed c.after_pass.new.self.outcome (c.after_pass.ensures.outcome ∙ c.pass-passed.ensures.outcome) n) in (w.0 ∙ a.2, w.1 ∙ a.3),
-        ))
-        (λ s. let a = c.pass-passed.ensures.apart_service s in (
-          c.after_pass.ensures.kept.0 ∙ a.0,
-          c.after_pass.ensures.kept.1 ∙ a.1,
-          c.after_pass.ensures.kept.3 ∙ a.2,
-          paced_kept _ (λ x. x.adapted_received) c.pass-passed.new.self.hold c.after_pass.new.self.hold c.after_pass.ensures.hold ((line_told (c.pass-passed.ensures.service s)).paced),
-          λ n. let w = c.after_pass.ensures.same (unfailed c.pass-passed.result.failed c.after_pass.new.self.outcome (c.after_pass.ensures.outcome ∙ c.pass-passed.ensures.outcome) n) in (w.0 ∙ a.3, w.1 ∙ a.4),
-        ))
-        (λ s. let a = c.pass-passed.ensures.apart_next s in (
-          c.after_pass.ensures.kept.0 ∙ a.0,
-          c.after_pass.ensures.kept.2 ∙ a.1,
-          of_one _ _ _ _ (λ w. inl (c.after_pass.ensures.kept.1 ∙ w)) (λ w. inr (c.after_pass.ensures.kept.3 ∙ w)) ((c.pass-passed.ensures.next s).elsewhere),
-          λ n.
+returns-clause-keeps g c = record {
+  running = λ o. record {
+    took = subst (λ h. TookBy (may_step c.args.side) c.args.self.now.hold h) (sym c.after_pass.ensures.hold)
+        (by_side c.args.side (λ side. TookBy (may_step side) c.args.self.now.hold c.pass-passed.new.self.hold) (λ s. (c.pass-passed.ensures.source s).took) (λ s. (line_told (c.pass-passed.ensures.service s)).took) (λ s. (c.pass-passed.ensures.next s).took));
+    others = for_side c.args.side _ _ _
+        (λ s. let a = c.pass-passed.ensures.apart_source s in record {
+          service = c.after_pass.ensures.kept.2 ∙ a.0;
+          next_wire = c.after_pass.ensures.kept.3 ∙ a.1;
+          few = paced_kept _ (λ x. x.received) c.pass-passed.new.self.hold c.after_pass.new.self.hold c.after_pass.ensures.hold ((c.pass-passed.ensures.source s).paced);
+          writers = λ n. let w = c.after_pass.ensures.same (unfailed c.pass-passed.result.failed c.after_pass.new.self.outcome (c.after_pass.ensures.outcome ∙ c.pass-passed.ensures.outcome) n) in record { next = w.0 ∙ a.2; back = w.1 ∙ a.3 };
+        })
+        (λ s. let a = c.pass-passed.ensures.apart_service s in record {
+          source = c.after_pass.ensures.kept.0 ∙ a.0;
+          source_wire = c.after_pass.ensures.kept.1 ∙ a.1;
+          next_wire = c.after_pass.ensures.kept.3 ∙ a.2;
+          few = paced_kept _ (λ x. x.adapted_received) c.pass-passed.new.self.hold c.after_pass.new.self.hold c.after_pass.ensures.hold ((line_told (c.pass-passed.ensures.service s)).paced);
+          writers = λ n. let w = c.after_pass.ensures.same (unfailed c.pass-passed.result.failed c.after_pass.new.self.outcome (c.after_pass.ensures.outcome ∙ c.pass-passed.ensures.outcome) n) in record { next = w.0 ∙ a.3; back = w.1 ∙ a.4 };
+        })
+        (λ s. let a = c.pass-passed.ensures.apart_next s in record {
+          source = c.after_pass.ensures.kept.0 ∙ a.0;
+          service = c.after_pass.ensures.kept.2 ∙ a.1;
+          one_wire = of_one _ _ _ _ (λ w. inl (c.after_pass.ensures.kept.1 ∙ w)) (λ w. inr (c.after_pass.ensures.kept.3 ∙ w)) ((c.pass-passed.ensures.next s).elsewhere);
+          other_wire = λ n.
               let w = c.after_pass.ensures.same (unfailed c.pass-passed.result.failed c.after_pass.new.self.outcome (c.after_pass.ensures.outcome ∙ c.pass-passed.ensures.outcome) n) in
-              of_either _ _ _ _ _ _ (ap g.E.Writer.Hop.gift w.1) (λ v. c.after_pass.ensures.kept.1 ∙ v) (λ v. c.after_pass.ensures.kept.3 ∙ v) ((c.pass-passed.ensures.next s).elsewhere),
-        )),
-    λ n m. let w = c.after_pass.ensures.writers.3 m in
+              of_either _ _ _ _ _ _ (ap g.E.Writer.Hop.gift w.1) (λ v. c.after_pass.ensures.kept.1 ∙ v) (λ v. c.after_pass.ensures.kept.3 ∙ v) ((c.pass-passed.ensures.next s).elsewhere);
+        });
+    back = λ n m. let w = c.after_pass.ensures.writers.3 m in
         by_side c.args.side (λ side. answers_user (shows c.args.self.now.hold.history) (response_of g.E.Client.Service.is_response c.args.self.now.ends.service) ≡ true)
         (λ s. absurd (idle_no_message _ n (sym (ap g.E.Writer.Hop.gift (c.pass-passed.ensures.apart_source s).3) ∙ w)))
         (λ s. absurd (idle_no_message _ n (sym (ap g.E.Writer.Hop.gift (c.pass-passed.ensures.apart_service s).4) ∙ w)))
-        (λ s. (c.pass-passed.ensures.next s).way.0 n w),
-    λ n m. let w = c.after_pass.ensures.writers.2 m in
+        (λ s. (c.pass-passed.ensures.next s).way.0 n w);
+    next = λ n m. let w = c.after_pass.ensures.writers.2 m in
         by_side c.args.side (λ side. answers_user (shows c.args.self.now.hold.history) (response_of g.E.Client.Service.is_response c.args.self.now.ends.service) ≡ false)
         (λ s. absurd (idle_no_message _ n (sym (ap g.E.Writer.Hop.gift (c.pass-passed.ensures.apart_source s).2) ∙ w)))
         (λ s. absurd (idle_no_message _ n (sym (ap g.E.Writer.Hop.gift (c.pass-passed.ensures.apart_service s).3) ∙ w)))
-        (λ s. (c.pass-passed.ensures.next s).way.1 n w),
-  ),
-  λ k. absurd (false≢true (sym (sym c.is_closed.ensures ∙ c.if-is_closed.false) ∙ k)),
-)
+        (λ s. (c.pass-passed.ensures.next s).way.1 n w);
+  };
+  closed = λ k. absurd (false≢true (sym (sym c.is_closed.ensures ∙ c.if-is_closed.false) ∙ k));
+}
 
 pub returns-then-is_closed-clause-keeps : goal.returns-then-is_closed-clause-keeps
-returns-then-is_closed-clause-keeps g c = (λ o. absurd (false≢true (sym o ∙ (sym c.is_closed.ensures ∙ c.if-is_closed.true))), λ k. c.closed_turn.ensures.apart)
+returns-then-is_closed-clause-keeps g c =
+    let a = c.closed_turn.ensures.apart in
+    record {
+      running = λ o. absurd (false≢true (sym o ∙ (sym c.is_closed.ensures ∙ c.if-is_closed.true)));
+      closed = λ k. record { source = a.0; service = a.1; source_wire = a.2; next_wire = a.3 };
+    }
 
 pub returns-then-now-self-2-clause-keeps : goal.returns-then-now-self-2-clause-keeps
-returns-then-now-self-2-clause-keeps g c = (
-  λ o. (
-    took_fail c.args.side c.args.self.now.hold c.fail_by.new.self.hold Deadline (sym c.is_closed.ensures ∙ c.if-is_closed.false) c.fail_by.ensures.hold,
-    for_side c.args.side _ _ _
-        (λ s. (c.fail_by.ensures.kept.1, c.fail_by.ensures.kept.2, c.fail_by.ensures.paced.0, λ n. absurd (n Deadline c.fail_by.ensures.outcome)))
-        (λ s. (c.fail_by.ensures.kept.3, c.fail_by.ensures.kept.0, c.fail_by.ensures.kept.2, c.fail_by.ensures.paced.1, λ n. absurd (n Deadline c.fail_by.ensures.outcome)))
-        (λ s. (c.fail_by.ensures.kept.3, c.fail_by.ensures.kept.1, inl c.fail_by.ensures.kept.0, λ n. absurd (n Deadline c.fail_by.ensures.outcome))),
-    λ n m. absurd (idle_no_message _ n (c.fail_by.ensures.messages.1 m)),
-    λ n m. absurd (idle_no_message _ n (c.fail_by.ensures.messages.0 m)),
-  ),
-  λ k. absurd (false≢true (sym (sym c.is_closed.ensures ∙ c.if-is_closed.false) ∙ k)),
-)
+returns-then-now-self-2-clause-keeps g c =
+    let k = c.fail_by.ensures.kept in
+    let failed : HasNotFailed c.fail_by.new.self.outcome → ⊥ = λ n. n Deadline c.fail_by.ensures.outcome in
+    record {
+      running = λ o. record {
+        took = took_fail c.args.side c.args.self.now.hold c.fail_by.new.self.hold Deadline (sym c.is_closed.ensures ∙ c.if-is_closed.false) c.fail_by.ensures.hold;
+        others = for_side c.args.side _ _ _
+            (λ s. record { service = k.1; next_wire = k.2; few = c.fail_by.ensures.paced.0; writers = λ n. absurd (failed n) })
+            (λ s. record { source = k.3; source_wire = k.0; next_wire = k.2; few = c.fail_by.ensures.paced.1; writers = λ n. absurd (failed n) })
+            (λ s. record { source = k.3; service = k.1; one_wire = inl k.0; other_wire = λ n. absurd (failed n) });
+        back = λ n m. absurd (idle_no_message _ n (c.fail_by.ensures.messages.1 m));
+        next = λ n m. absurd (idle_no_message _ n (c.fail_by.ensures.messages.0 m));
+      };
+      closed = λ k. absurd (false≢true (sym (sym c.is_closed.ensures ∙ c.if-is_closed.false) ∙ k));
+    }
 
 pub returns-then-is_broken-clause-keeps : goal.returns-then-is_broken-clause-keeps
-returns-then-is_broken-clause-keeps g c = (
-  λ o. (
-    ([], tt, refl),
-    for_side c.args.side _ _ _ (λ s. (refl, refl, at_most _ _, λ n. (refl, refl))) (λ s. (refl, refl, refl, at_most _ _, λ n. (refl, refl))) (λ s. (refl, refl, inl refl, λ n. (λ e. refl, λ k. refl))),
-    λ n m. absurd (idle_no_message _ n m),
-    λ n m. absurd (idle_no_message _ n m),
-  ),
-  λ k. absurd (false≢true (sym (sym c.is_closed.ensures ∙ c.if-is_closed.false) ∙ k)),
-)
+returns-then-is_broken-clause-keeps g c = record {
+  running = λ o. record {
+    took = ([], tt, refl);
+    others = for_side c.args.side _ _ _
+        (λ s. record { service = refl; next_wire = refl; few = at_most _ _; writers = λ n. record { next = refl; back = refl } })
+        (λ s. record { source = refl; source_wire = refl; next_wire = refl; few = at_most _ _; writers = λ n. record { next = refl; back = refl } })
+        (λ s. record { source = refl; service = refl; one_wire = inl refl; other_wire = λ n. (λ e. refl, λ k. refl) });
+    back = λ n m. absurd (idle_no_message _ n m);
+    next = λ n m. absurd (idle_no_message _ n m);
+  };
+  closed = λ k. absurd (false≢true (sym (sym c.is_closed.ensures ∙ c.if-is_closed.false) ∙ k));
+}
 
 pub returns-clause-faultless : goal.returns-clause-faultless
 returns-clause-faultless g c = λ o f.

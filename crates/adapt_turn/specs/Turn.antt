@@ -1,0 +1,244 @@
+-- What a turn of a side says: why it waits, what moved, what it leaves as it was, and why the transaction failed.
+use Rattle.std.specs.Prelude.{◌≡◌, ℕ, ◌+◌, ◌≤◌, ◌⊎◌, Bool, true, false, Option, None, MatchOption, ⊤}
+use Rattle.trace_core.specs.declared.history.Event.TheVariants.{Retry}
+use Rattle.trace_core.specs.declared.history.Cause.{Cause}
+use Rattle.trace_core.specs.declared.history.Cause.TheVariants as causes
+use Rattle.trace_core.specs.declared.history.Point.TheVariants.{Reqmod, Respmod}
+use Rattle.trace_core.specs.Legal.{MayFollow}
+use Rattle.plan_rules.specs.declared.room.TheConstants.{TURN_BYTES}
+use Rattle.wire_kit.specs.Past.{Past}
+use Rattle.wire_kit.specs.declared.wire.Wire.{Ghosts as Wire}
+use Rattle.adapt_sides.specs.declared.source.Source.{Ghosts as Source}
+use Rattle.adapt_sides.specs.declared.service.Service.{Ghosts as Service}
+use Rattle.adapt_sides.specs.declared.hop.Hop.{Ghosts as Hop}
+use Rattle.adapt_sides.specs.Turns.{OfRelayWire, FailsGiving}
+use Rattle.adapt_sides.specs.Turns.Gift.{nothing, message}
+use Rattle.adapt_hold.specs.Holding.{Holding, shows}
+use Rattle.adapt_turn.specs.declared.ends.Ends.{Ends}
+use Rattle.adapt_turn.specs.declared.ends.ServiceEnd.{ServiceEnd}
+use Rattle.adapt_turn.specs.declared.pace.Pace.{Pace}
+use Rattle.adapt_turn.specs.declared.turned.Side.{Side}
+use Rattle.adapt_turn.specs.declared.turned.Side.TheVariants as sides
+use Rattle.adapt_turn.specs.declared.turned.Outcome.{Outcome}
+use Rattle.adapt_turn.specs.declared.turned.Outcome.TheVariants as outcomes
+use Rattle.adapt_turn.specs.Made.{answers_user, on_held, response_of, side_of, wire_of}
+use Rattle.adapt_turn.specs.Parts.{Lent, Breaks, HasCause, FailsFor, source_room, service_room, source_cause, fault_of}
+use Rattle.adapt_turn.specs.Passes.{Writers}
+use Rattle.adapt_turn.specs.Rows.{may_step, TookBy, Advances}
+use Rattle.adapt_turn.specs.Stands.{IsChosen, IsDone, Pasts, Waited, WaitedBoth, Blamed, BlamedWriter, BlamedService}
+use Rattle.adapt_turn.specs.ByTurn.{BySide, OfWriter}
+
+-- Why it waits.
+
+-- a turn of the source waits
+pub record SourceWaits {S H W : Type 0} (s : Source S H) (w : Wire W) (old new : Lent S W) : Type 0 where
+  -- there was nothing to read, or the wire answered Wait
+  pub waited : Waited (s.rests (source_room old.hold) new.side) (λ past. past.read_waits) (w.past old.wire) (w.past new.wire)
+  -- none of the bytes that the side keeps can be framed, or there is no room for them
+  pub framed : s.is_framed (source_room old.hold) new.side
+
+-- a turn of the service waits, with this hold
+pub record ServiceWaits {V W : Type 0} (v : Service V) (w : Wire W) (hold : Holding) (old new : Option (ServiceEnd V W)) : Type 0 where
+  -- nothing was due to be written, or to be read, or the wire answered Wait
+  pub waited : WaitedBoth (MatchOption new ⊤ (λ service. v.rests_writing (shows hold.history) service.side))
+      (MatchOption new ⊤ (λ service. v.rests_reading (shows hold.history) (service_room hold) service.side))
+      (λ p. on_held old ⊥ (λ wire. w.past wire p)) (λ p. on_held new ⊥ (λ wire. w.past wire p))
+  -- none of the bytes that the side keeps can be framed, or there is no room for them
+  pub framed : MatchOption new ⊤ (λ service. MatchOption service.wire ⊤ (λ wire. v.is_framed (service_room hold) service.side))
+
+-- the writer that has the message waits
+pub record WriterWaits {K G A C : Type 0} (k : Hop K G) (a : Wire A) (c : Wire C) (old new : Writers K A C) : Type 0 where
+  -- a message or a refusal is begun
+  pub begun : k.gift new.next ≡ nothing → k.gift new.back ≡ nothing → ⊥
+  -- nothing of it was due, or its wire answered Wait
+  pub waited : OfWriter (k.gift new.back)
+      (Waited (k.rests (shows old.hold.history) new.next) (λ past. past.write_waits) (c.past old.next_wire) (c.past new.next_wire))
+      (Waited (k.rests (shows old.hold.history) new.back) (λ past. past.write_waits) (a.past old.back_wire) (a.past new.back_wire))
+
+-- a turn of the next hop waits: no message is chosen, or the writer that has it waits
+abbrev pub NextWaits : {K G A C : Type 0} → Hop K G → Wire A → Wire C → (old new : Writers K A C) → Type 0
+NextWaits k a c old new = (IsChosen (shows old.hold.history) → ⊥) ⊎ WriterWaits k a c old new
+
+-- What is asked of a turn that answers Waiting.
+pub record OnWait : Type 1 where
+  -- no byte went over a wire
+  pub still : Type 0
+  -- nothing of the refusal was due, or its wire answered Wait
+  pub refusal : Type 0
+  -- the turn's side waits
+  pub side : Type 0
+
+-- A turn answers Waiting.
+pub record Waits (old new : Holding) (on : OnWait) : Type 0 where
+  -- nothing was stepped
+  pub hold : new ≡ old
+  -- no byte moved
+  pub still : on.still
+  -- a closed transaction waits with its refusal
+  pub refusal : (shows old.history).closed ≡ true → on.refusal
+  -- an open one waits for the turn's side
+  pub side : (shows old.history).closed ≡ false → on.side
+
+-- What moved.
+
+-- an open transaction stepped at least one event of this side, or Fail
+pub record StepsOne (side : Side) (old new : Holding) : Type 0 where
+  pub running : (shows old.history).closed ≡ false
+  pub advances : Advances (may_step side) old new
+
+-- What is asked of a turn that answers Moved.
+pub record OnMove : Type 1 where
+  -- this many bytes went over the wires
+  pub bytes : ℕ → Type 0
+  -- the wires before it; anything is so of the service's where no connection is held
+  pub before : Pasts
+
+-- A turn answers Moved with this number.
+pub record MovesBytes (on : OnMove) (side : Side) (old new : Holding) (n : ℕ) : Type 0 where
+  -- so many bytes moved
+  pub bytes : on.bytes n
+  -- where it was none, an event was stepped, for any pasts of the wires
+  pub active : n ≡ 0 → (p q r : Past) → on.before.source p → on.before.service q → on.before.next r → StepsOne side old new
+
+-- A turn answers Broken.
+pub record BreaksOff {V W : Type 0} (v : Service V) (pace : Pace) (side : Side) (old new : Holding) (service : Option (ServiceEnd V W)) : Type 0 where
+  -- it was the service's
+  pub of_service : side ≡ sides.Service
+  -- of an open transaction
+  pub running : (shows old.history).closed ≡ false
+  -- the request may be retried
+  pub may : MayFollow new.history.plan new.history.events Retry
+  -- the connection was marked before, or it was used before and has ended or failed
+  pub why : (pace.broken ≡ true) ⊎ MatchOption service ⊥ (λ line. Breaks new.history pace.reused (v.fault line.side))
+
+-- What is asked of a turn that answers Finished.
+pub record OnFinish : Type 1 where
+  -- how the transaction had ended
+  pub outcome : Outcome
+  -- a refusal was due
+  pub refusing : Bool
+  -- it is out, or its wire has failed
+  pub is_over : Type 0
+
+-- A turn answers Finished with this outcome.
+pub record Finishes (on : OnFinish) (old new : Holding) (outcome : Outcome) : Type 0 where
+  -- it was closed before
+  pub closed : (shows old.history).closed ≡ true
+  -- it says how it had ended
+  pub ended : outcome ≡ on.outcome
+  -- no refusal was due, or it is out, or its wire has failed
+  pub refusal : (on.refusing ≡ false) ⊎ on.is_over
+  -- Done is answered only where Done stands
+  pub done : outcome ≡ outcomes.Done → IsDone new.history
+
+-- What it leaves as it was.
+
+-- A transaction before a turn, or after it.
+pub record TxView (T S V K M A W C H G : Type 0) : Type 0 where
+  pub hold : Holding
+  pub ends : Ends T S V K M A W C H G
+  pub outcome : Outcome
+
+-- it hasn't failed
+abbrev pub HasNotFailed : Outcome → Type 0
+HasNotFailed outcome = (cause : Cause) → outcome ≡ outcomes.Fail cause → ⊥
+
+module _ {T S V K M A W C H G : Type 0} where
+  abbrev pub tx_view : Holding → Ends T S V K M A W C H G → Outcome → TxView T S V K M A W C H G
+  tx_view hold ends outcome = record { hold = hold; ends = ends; outcome = outcome }
+
+  -- both writers stay as they were
+  pub record SameWriters (old new : TxView T S V K M A W C H G) : Type 0 where
+    pub next : new.ends.next ≡ old.ends.next
+    pub back : new.ends.back ≡ old.ends.back
+
+  -- what a turn of the source keeps
+  pub record SourceKeeps (old new : TxView T S V K M A W C H G) : Type 0 where
+    pub service : new.ends.service ≡ old.ends.service
+    pub next_wire : new.ends.next_wire ≡ old.ends.next_wire
+    -- it brings no more of the original than a turn may
+    pub few : (shows new.hold.history).received ≤ (shows old.hold.history).received + TURN_BYTES
+    pub writers : HasNotFailed new.outcome → SameWriters old new
+
+  -- what a turn of the service keeps
+  pub record ServiceKeeps (old new : TxView T S V K M A W C H G) : Type 0 where
+    pub source : new.ends.source ≡ old.ends.source
+    pub source_wire : new.ends.source_wire ≡ old.ends.source_wire
+    pub next_wire : new.ends.next_wire ≡ old.ends.next_wire
+    -- it brings no more of the adapted body than a turn may
+    pub few : (shows new.hold.history).adapted_received ≤ (shows old.hold.history).adapted_received + TURN_BYTES
+    pub writers : HasNotFailed new.outcome → SameWriters old new
+
+  -- what a turn of the next hop keeps
+  pub record NextKeeps (k : Hop K G) (old new : TxView T S V K M A W C H G) : Type 0 where
+    pub source : new.ends.source ≡ old.ends.source
+    pub service : new.ends.service ≡ old.ends.service
+    -- of the two wires that a message may go to, one
+    pub one_wire : (new.ends.source_wire ≡ old.ends.source_wire) ⊎ (new.ends.next_wire ≡ old.ends.next_wire)
+    -- unless the transaction fails, that of the writer without a message
+    pub other_wire : HasNotFailed new.outcome → OfWriter (k.gift new.ends.back) (new.ends.source_wire ≡ old.ends.source_wire) (new.ends.next_wire ≡ old.ends.next_wire)
+
+  -- what a turn of an open transaction keeps
+  pub record KeepsOpen (v : Service V) (k : Hop K G) (side : Side) (old new : TxView T S V K M A W C H G) : Type 0 where
+    -- it steps events of its side, or Fail
+    pub took : TookBy (may_step side) old.hold new.hold
+    -- the other sides, and their wires
+    pub others : BySide side (SourceKeeps old new) (ServiceKeeps old new) (NextKeeps k old new)
+    -- a message that is begun back to the user answers a request that was offered
+    pub back : k.gift old.ends.back ≡ nothing → k.gift new.ends.back ≡ message → answers_user (shows old.hold.history) (response_of v.is_response old.ends.service) ≡ true
+    -- and one that is begun to the next hop doesn't
+    pub next : k.gift old.ends.next ≡ nothing → k.gift new.ends.next ≡ message → answers_user (shows old.hold.history) (response_of v.is_response old.ends.service) ≡ false
+
+  -- what a turn of a closed transaction keeps of its sides and wires: all but the user's writer, and the user's wire
+  pub record KeepsClosed (old new : TxView T S V K M A W C H G) : Type 0 where
+    pub source : new.ends.source ≡ old.ends.source
+    pub service : new.ends.service ≡ old.ends.service
+    -- at RESPMOD the user's wire is the next hop's, at REQMOD the source's
+    pub source_wire : old.hold.history.plan.point ≡ Respmod → new.ends.source_wire ≡ old.ends.source_wire
+    pub next_wire : old.hold.history.plan.point ≡ Reqmod → new.ends.next_wire ≡ old.ends.next_wire
+
+  -- What a turn of a side keeps.
+  pub record Keeps (v : Service V) (k : Hop K G) (side : Side) (old new : TxView T S V K M A W C H G) : Type 0 where
+    pub running : (shows old.hold.history).closed ≡ false → KeepsOpen v k side old new
+    pub closed : (shows old.hold.history).closed ≡ true → KeepsClosed old new
+
+-- Why the transaction failed, for a cause.
+
+-- the cause is the deadline, which has passed at this moment
+pub record IsLate (pace : Pace) (now : ℕ) (cause : Cause) : Type 0 where
+  pub timely : cause ≡ causes.Deadline
+  pub late : pace.last_moved + pace.deadline ≤ now
+
+-- it failed for the source
+pub record SourceFails {S H W : Type 0} (s : Source S H) (w : Wire W) (old new : Lent S W) (cause : Cause) : Type 0 where
+  -- the cause is that of the side's fault, where its numbers are those of the history
+  pub blames : s.agrees (shows old.hold.history) old.side → Blamed OfRelayWire source_cause cause (s.fault old.side) (s.fault new.side) (w.past old.wire) (w.past new.wire)
+  -- and else it is Source
+  pub disagrees : (s.agrees (shows old.hold.history) old.side → ⊥) → cause ≡ causes.Source
+  -- a fault that the side didn't have before has its reason
+  pub reason : HasCause (s.fault old.side) (s.fault new.side) (λ fault. s.has_reason fault new.side)
+
+-- it failed for the service
+pub record ServiceFails {V W : Type 0} (v : Service V) (w : Wire W) (reused : Bool) (old new : Option (ServiceEnd V W)) (hold : Holding) (cause : Cause) : Type 0 where
+  -- there is one, and its connection was held
+  pub held : wire_of old ≡ None → ⊥
+  -- the cause is that of the side's fault
+  pub blames : BlamedService cause (fault_of (λ line. v.fault line.side) old) (fault_of (λ line. v.fault line.side) new)
+      (λ p. on_held old ⊥ (λ wire. w.past wire p)) (λ p. on_held new ⊥ (λ wire. w.past wire p))
+  -- the request might not begin anew; a fault that the side didn't have before has its reason
+  pub unbroken : FailsFor v cause reused (side_of old) (side_of new) hold
+
+-- no head could be made for the chosen message; the maker says why
+pub record HasNoHead {K G A C : Type 0} (k : Hop K G) (old : Writers K A C) (unmade : Type 0) : Type 0 where
+  pub chosen : IsChosen (shows old.hold.history)
+  -- no message is begun
+  pub next_idle : k.gift old.next ≡ nothing
+  pub back_idle : k.gift old.back ≡ nothing
+  pub reason : unmade
+
+-- it failed for the next hop: no head could be made, or a writer is to blame
+abbrev pub NextFails : {K G A C : Type 0} → Hop K G → Wire A → Wire C → (old new : Writers K A C) → Cause → (unmade : Type 0) → Type 0
+NextFails k a c old new cause unmade =
+    HasNoHead k old unmade
+    ⊎ (BlamedWriter cause (FailsGiving (k.breaks_length (shows old.hold.history) (k.body_framing new.next))) (k.fault old.next) (c.past old.next_wire) (c.past new.next_wire)
+    ⊎ BlamedWriter cause (FailsGiving (k.breaks_length (shows old.hold.history) (k.body_framing new.back))) (k.fault old.back) (a.past old.back_wire) (a.past new.back_wire))
