@@ -12,9 +12,9 @@ use Rattle.adapt_turn.specs.declared.ends.ServiceEnd.{ServiceEnd}
 use Rattle.adapt_turn.specs.declared.turned.Side.TheVariants as sides
 use Rattle.adapt_turn.specs.Made.{wire_of, side_of, on_held}
 use Rattle.adapt_turn.specs.Parts.{Lent, lending, View, Report, Part, Breaks, FailsFor, IsOfSide, service_room, fault_of, outcome_by, outcome_of}
-use Rattle.adapt_turn.specs.Passes.{WritesDue, ReadsReplies, ServicePasses, LinePasses, line_of}
+use Rattle.adapt_turn.specs.Passes.{WritesDue, ReadsReplies, ServicePasses, LinePasses, line_of, service_faults}
 use Rattle.adapt_turn.specs.Rows.{may_step, TookBy, Advances, BytesOr}
-use Rattle.adapt_turn.specs.Stands.{WaitedBoth, BlamedService}
+use Rattle.adapt_turn.specs.Stands.{WaitedBoth, Blamed}
 use Rattle.adapt_turn.proofs.Paced.{part_adapted, adapted_few, none_of_sending}
 use Rattle.adapt_turn.proofs.Reasons.{part_idle, part_still, part_blames, part_fails, writes_beside, reads_beside, both_waited, blamed_then, cause_weaker, not_failed, service_blame}
 use Rattle.adapt_turn.proofs.Rows.{part_took, part_acts, of_sending, of_replies, took_both, then_acts, acts_then}
@@ -76,7 +76,7 @@ both_passes v w reused old mid new first second passed tied tied' c c' whole bot
         | inl n ↦ acts_then (may_step sides.Service) h mid.hold new.hold _ _ _ _ _ (part_acts sides.Service of_sending tied p n whole) (over_wire q) (part_took sides.Service of_replies tied' q)
         | inr n ↦ then_acts (may_step sides.Service) h mid.hold new.hold _ _ _ _ _ (part_still p n.0) (over_wire p) (part_acts sides.Service of_replies tied' q n.1 (sym same' ∙ k))
       ];
-      blames = λ cause e. blamed_then _ cause _ _ _ _ _ _ _ _ (λ n. p.sound none whole) (over_wire p) (part_blames q cause (sym same ∙ e));
+      blames = λ cause e. blamed_then v w old mid new cause _ _ (λ n. p.sound none whole) (over_wire p) (part_blames q cause (sym same ∙ e));
       unbroken = λ cause e. (mid.hold, part_fails q cause (sym same ∙ e), b.unbroken cause (sym same ∙ e), λ n. cause_weaker _ _ _ _ (λ f r. inr r) b.reason (p.sound none whole));
       of_side = λ cause e. service_blame cause (q.blamed cause (sym same ∙ e));
       over = λ cause e. part_over tied' q cause (sym same ∙ e);
@@ -95,7 +95,7 @@ pub record LineTold {V W : Type 0} (v : Service V) (w : Wire W) (reused : Bool) 
   pub paced : (shows new.history).adapted_received ≤ (shows old.history).adapted_received + TURN_BYTES
   pub took : TookBy (may_step sides.Service) old new
   pub active : passed.waiting ≡ false → passed.broken ≡ false → BytesOr (Advances (may_step sides.Service) old new) (λ p. on_held line ⊥ (λ wire. w.past wire p)) (λ p. on_held line' ⊥ (λ wire. w.past wire p))
-  pub blames : (cause : Cause) → passed.failed ≡ Some cause → BlamedService cause (fault_of (λ l. v.fault l.side) line) (fault_of (λ l. v.fault l.side) line') (λ p. on_held line ⊥ (λ wire. w.past wire p)) (λ p. on_held line' ⊥ (λ wire. w.past wire p))
+  pub blames : (cause : Cause) → passed.failed ≡ Some cause → Blamed (service_faults v w line line') cause
   pub unbroken : (cause : Cause) → passed.failed ≡ Some cause → FailsFor v cause reused (side_of line) (side_of line') new
   pub of_side : (cause : Cause) → passed.failed ≡ Some cause → IsOfSide cause
   pub over : (cause : Cause) → passed.failed ≡ Some cause → (shows new.history).closed ≡ true

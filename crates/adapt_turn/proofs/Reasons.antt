@@ -9,9 +9,12 @@ use Rattle.trace_core.specs.Legal.{MayFollow}
 use Rattle.wire_kit.specs.Past.{Past, IsLater}
 use Rattle.adapt_sides.specs.declared.fault.ClientFault.{ClientFault}
 use Rattle.adapt_sides.specs.declared.fault.ClientFault.TheVariants as client
-use Rattle.adapt_hold.specs.Holding.{Holding, moved}
+use Rattle.adapt_hold.specs.Holding.{Holding, shows, moved}
 use Rattle.adapt_hold.specs.Steps.{moved_all}
+use Rattle.wire_kit.specs.declared.wire.Wire.{Ghosts as Wire}
+use Rattle.adapt_sides.specs.declared.source.Source.{Ghosts as Source}
 use Rattle.adapt_sides.specs.declared.service.Service.{Ghosts as Service}
+use Rattle.adapt_sides.specs.declared.hop.Hop.{Ghosts as Hop}
 use Rattle.adapt_turn.specs.declared.ends.ServiceEnd.{ServiceEnd}
 use Rattle.adapt_turn.specs.declared.steps.Passed.{Passed}
 use Rattle.adapt_turn.specs.Made.{side_of}
@@ -20,15 +23,16 @@ use Rattle.adapt_turn.specs.declared.turned.Outcome.TheVariants as outcomes
 use Rattle.adapt_sides.specs.declared.turn.Turn.{Turn}
 use Rattle.adapt_sides.specs.declared.fault.RelayFault.{RelayFault}
 use Rattle.adapt_sides.specs.declared.fault.RelayFault.TheVariants as relay
-use Rattle.adapt_sides.specs.Turns.{OfClientWire, OfRelayWire, FailsGiving, Remembers, IsExplained}
-use Rattle.adapt_turn.specs.Parts.{IsOfSide, source_cause, service_cause, Breaks, HasCause, FailsFor, View, Report, Part, stepped, hop_cause, outcome_by, fault_of}
-use Rattle.adapt_turn.specs.Stands.{Waited, WaitedBeside, WaitedBoth, Blamed, BlamedWriter, BlamedService}
+use Rattle.adapt_sides.specs.Turns.{FailsGiving, Remembers, IsExplained}
+use Rattle.adapt_turn.specs.Parts.{IsOfSide, source_cause, service_cause, Breaks, HasCause, FailsFor, Lent, lending, View, source_view, hear_view, hop_view, Report, Part, stepped, hop_cause, outcome_by}
+use Rattle.adapt_turn.specs.Passes.{service_faults}
+use Rattle.adapt_turn.specs.Stands.{Waited, WaitedBeside, WaitedBoth, faults_in, Blamed, BlamedWriter}
 
 pub part_waits : {F : Type 0} {v : View F} {h k : Holding} {r : Report} {passed : Passed} → Part v h k r passed → passed.waiting ≡ true → Waited v.rests v.waits v.before v.after
 part_waits p e = λ past b. let w = p.wire past b in (w.0, w.1, w.3.waiting e)
 
 pub part_blames : {F : Type 0} {v : View F} {h k : Holding} {r : Report} {passed : Passed} → Part v h k r passed → (cause : Cause) → passed.failed ≡ Some cause
-    → Blamed v.of_wire v.cause cause v.old_fault v.new_fault v.before v.after
+    → Blamed (faults_in v) cause
 part_blames p cause e = λ past b. let w = p.wire past b in (w.0, w.1, w.3.failed cause e)
 
 pub part_idle : {F : Type 0} {v : View F} {h k : Holding} {r : Report} {passed : Passed} → Part v h k r passed → passed.waiting ≡ true → passed.failed ≡ None
@@ -57,10 +61,11 @@ pub waits_kept : {S A : Type 0} (rests : S → Type 0) (past : A → Past → Ty
 waits_kept {S} {A} rests past waits before s s' a a' e f w =
     subst (λ (z : S). Waited (rests z) waits before (past a')) (sym e) (subst (λ (z : A). Waited (rests s) waits before (past z)) (sym f) w)
 
-pub blamed_kept : {F A : Type 0} (of_wire : F → Past → Past → Type 0) (own : F → Cause) (cause : Cause) (past : A → Past → Type 0) (before : Past → Type 0) (f0 f1 f2 : Option F) (a a' : A) → f2 ≡ f1 → a' ≡ a
-    → Blamed of_wire own cause f0 f1 before (past a) → Blamed of_wire own cause f0 f2 before (past a')
-blamed_kept {F} {A} of_wire own cause past before f0 f1 f2 a a' e f w =
-    subst (λ (z : Option F). Blamed of_wire own cause f0 z before (past a')) (sym e) (subst (λ (z : A). Blamed of_wire own cause f0 f1 before (past z)) (sym f) w)
+pub blamed_kept : {S H W : Type 0} (s : Source S H) (w : Wire W) (old mid new : Lent S W) (cause : Cause) → new.side ≡ mid.side → new.wire ≡ mid.wire
+    → Blamed (faults_in (source_view s w old mid)) cause → Blamed (faults_in (source_view s w old new)) cause
+blamed_kept {S} {H} {W} s w old mid new cause e f b =
+    subst (λ (z : S). Blamed (faults_in (source_view s w old (lending mid.hold z new.wire))) cause) (sym e)
+    (subst (λ (z : W). Blamed (faults_in (source_view s w old (lending mid.hold mid.side z))) cause) (sym f) b)
 
 -- an outcome says why a pass failed
 pub outcome_fails : (failed : Option Cause) (r : Outcome) (cause : Cause) → r ≡ outcome_by failed → r ≡ outcomes.Fail cause → failed ≡ Some cause
@@ -86,15 +91,16 @@ pub part_fails : {F : Type 0} {v : View F} {h k : Holding} {r : Report} {passed 
 part_fails {F} {v} {h} {k} {r} {passed} p cause e = p.is ∙ ap (λ (f : Option Cause). moved_all h (stepped f r.events) r.out) e
 
 -- behind a pass that left no new fault
-pub blamed_then : (own : ClientFault → Cause) (cause : Cause) (f0 f1 f2 : Option ClientFault) (before mid after_ : Past → Type 0) (given taken : List ℕ) → (f0 ≡ None → f1 ≡ None)
-    → ((p : Past) → before p → (q : Past) × mid q × IsLater p given taken q) → Blamed OfClientWire own cause f1 f2 mid after_ → Blamed OfClientWire own cause f0 f2 before after_
-blamed_then own cause f0 f1 f2 before mid after_ given taken e goes blamed = λ p b.
+pub blamed_then : {V W : Type 0} (v : Service V) (w : Wire W) (old mid new : Lent V W) (cause : Cause) (given taken : List ℕ) → (v.fault old.side ≡ None → v.fault mid.side ≡ None)
+    → ((p : Past) → w.past old.wire p → (q : Past) × w.past mid.wire q × IsLater p given taken q)
+    → Blamed (faults_in (hear_view v w mid new)) cause → Blamed (faults_in (hear_view v w old new)) cause
+blamed_then v w old mid new cause given taken e goes blamed = λ p b.
     let u = goes p b in
-    let w = blamed u.0 u.1 in
+    let r = blamed u.0 u.1 in
     let l = u.2.faults in
     let k = u.2.ends in
-    let f = w.2 in
-    (w.0, w.1, (f.0, f.1, f.2, λ o. ((λ d. let m = (f.3 (e o)).0 d in omega (arith, m, l)), (λ c. let m = (f.3 (e o)).1 c in omega (arith, m, k)))))
+    let f = r.2 in
+    (r.0, r.1, (f.0, f.1, f.2, λ o. ((λ d. let m = (f.3 (e o)).0 d in omega (arith, m, l)), (λ c. let m = (f.3 (e o)).1 c in omega (arith, m, k)))))
 
 -- A writer's.
 
@@ -104,19 +110,24 @@ never_err turn fault this e = cc
 pub same_err : (f g : RelayFault) → (let r : Result Turn RelayFault = Err f in r) ≡ Err g → f ≡ g
 same_err f g e = cc
 
-pub writer_blamed : (cause : Cause) (failed : Option Cause) (reason : RelayFault → Type 0) (f0 f1 : Option RelayFault) (before after_ : Past → Type 0) → failed ≡ Some cause → Blamed OfRelayWire hop_cause cause f0 f1 before after_
-    → HasCause f0 f1 reason → ((had : RelayFault) → f0 ≡ Some had → failed ≡ Some (hop_cause had)) → BlamedWriter cause reason f0 before after_
-writer_blamed cause failed reason f0 f1 before after_ e blamed has again = λ p b.
-    let w = blamed p b in
-    let f = w.2 in
-    (w.0, w.1, (f.0, f.2, (λ had h. (let same : Some (hop_cause had) ≡ Some cause = sym (again had h) ∙ e in cc)), λ n. (f.3 n, has n f.0 f.1)))
+-- the message was begun before the pass: the writer's fault is that of the first moment
+pub writer_blamed : {K G W : Type 0} (k : Hop K G) (w : Wire W) (begun new : Lent K W) (first : K) (failed : Option Cause) (cause : Cause) → failed ≡ Some cause
+    → Blamed (faults_in (hop_view k w begun new)) cause
+    → HasCause (k.fault begun.side) (k.fault new.side) (FailsGiving (k.breaks_length (shows begun.hold.history) (k.body_framing new.side)))
+    → ((had : RelayFault) → k.fault begun.side ≡ Some had → failed ≡ Some (hop_cause had)) → k.fault begun.side ≡ k.fault first
+    → BlamedWriter k w (lending begun.hold first begun.wire) new cause
+writer_blamed k w begun new first failed cause e blamed has again is = λ p b.
+    let r = blamed p b in
+    let f = r.2 in
+    (r.0, r.1, (f.0, f.2, (λ had h. (let same : Some (hop_cause had) ≡ Some cause = sym (again had (is ∙ h)) ∙ e in cc)), λ n. (f.3 (is ∙ n), has (is ∙ n) f.0 f.1)))
 
 -- and before a refusal
-pub writer_kept : {A G : Type 0} (cause : Cause) (reason : G → RelayFault → Type 0) (f0 : Option RelayFault) (past : A → Past → Type 0) (before : Past → Type 0) (y y' : G) (a a' : A) → y' ≡ y → a' ≡ a
-    → BlamedWriter cause (reason y) f0 before (past a) → BlamedWriter cause (reason y') f0 before (past a')
-writer_kept {A} {G} cause reason f0 past before y y' a a' e k w =
-    subst (λ (z : G). BlamedWriter cause (reason z) f0 before (past a')) (sym e)
-    (subst (λ (z : A). BlamedWriter cause (reason y) f0 before (past z)) (sym k) w)
+pub writer_kept : {K G W : Type 0} (k : Hop K G) (w : Wire W) (old mid new : Lent K W) (cause : Cause) → k.body_framing new.side ≡ k.body_framing mid.side → new.wire ≡ mid.wire
+    → BlamedWriter k w old mid cause → BlamedWriter k w old new cause
+writer_kept {K} {G} {W} k w old mid new cause e same blamed = λ p b.
+    let r = blamed p b in
+    let f = r.2 in
+    (r.0, subst (λ (z : W). w.past z r.0) (sym same) r.1, (f.0, f.1, f.2, λ n. ((f.3 n).0, subst (λ (z : G). FailsGiving (k.breaks_length (shows old.hold.history) z) f.0) (sym e) (f.3 n).1)))
 
 -- The reasons of first faults.
 
@@ -148,9 +159,9 @@ pub not_failed : (failed : Option Cause) (closed : Bool) → ((cause : Cause) �
 not_failed None closed over c = refl
 not_failed (Some cause) closed over c = absurd (false≢true (sym c ∙ over cause refl))
 
-pub line_blamed_kept : {L : Type 0} (fault : L → Option ClientFault) (past : L → Past → Type 0) (cause : Cause) (f0 : Option ClientFault) (before : Past → Type 0) (l l' : Option L) → l' ≡ l
-    → BlamedService cause f0 (fault_of fault l) before (λ p. MatchOption l ⊥ (λ z. past z p)) → BlamedService cause f0 (fault_of fault l') before (λ p. MatchOption l' ⊥ (λ z. past z p))
-line_blamed_kept {L} fault past cause f0 before l l' e w = subst (λ (z : Option L). BlamedService cause f0 (fault_of fault z) before (λ p. MatchOption z ⊥ (λ y. past y p))) (sym e) w
+pub line_blamed_kept : {V W : Type 0} (v : Service V) (w : Wire W) (old mid new : Option (ServiceEnd V W)) (cause : Cause) → new ≡ mid
+    → Blamed (service_faults v w old mid) cause → Blamed (service_faults v w old new) cause
+line_blamed_kept {V} {W} v w old mid new cause e b = subst (λ (z : Option (ServiceEnd V W)). Blamed (service_faults v w old z) cause) (sym e) b
 
 pub fails_kept : {V W : Type 0} (v : Service V) (cause : Cause) (reused : Bool) (old : Option V) (h h' : Holding) (l l' : Option (ServiceEnd V W)) → h' ≡ h → l' ≡ l
     → FailsFor v cause reused old (side_of l) h → FailsFor v cause reused old (side_of l') h'

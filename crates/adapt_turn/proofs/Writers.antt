@@ -10,14 +10,13 @@ use Rattle.wire_kit.specs.declared.wire.Wire.{Ghosts as Wire}
 use Rattle.adapt_sides.specs.declared.fault.RelayFault.{RelayFault}
 use Rattle.adapt_sides.specs.declared.fault.RelayFault.TheVariants as relay
 use Rattle.adapt_sides.specs.declared.hop.Hop.{Ghosts as Hop}
-use Rattle.adapt_sides.specs.Turns.{FailsGiving}
 use Rattle.adapt_sides.specs.Turns.Gift.{nothing, message}
 use Rattle.adapt_hold.specs.Holding.{Holding, IsTied, IsRoomy, shows, moved}
 use Rattle.adapt_turn.specs.declared.steps.Passed.{Passed}
 use Rattle.adapt_turn.specs.declared.turned.Side.TheVariants.{NextHop}
 use Rattle.adapt_turn.specs.Parts.{lending, IsOfSide, hop_cause}
 use Rattle.adapt_turn.specs.Passes.{Choice, Begins, GivesOne, NextPasses, Writers, writers}
-use Rattle.adapt_turn.specs.Stands.{IsChosen, SideViews, writer_of, Stands, Pasts, Goes, BlamedWriter, Texts}
+use Rattle.adapt_turn.specs.Stands.{IsChosen, SideViews, writer_of, Stands, Pasts, Goes, Texts}
 use Rattle.adapt_turn.proofs.Advance.{Others}
 use Rattle.adapt_turn.proofs.ByTurn.{idle_no_message, of_next, of_back}
 use Rattle.adapt_turn.proofs.Giving.{next_begin_goes, back_begin_goes, next_goes, back_goes}
@@ -129,8 +128,7 @@ module _ {K G A C : Type 0} {k : Hop K G} {a : Wire A} {c : Wire C} {choice : Ch
               took = part_took NextHop of_hop tied p;
               active = λ e. of_next _ _ _ is (part_acts NextHop of_hop tied p e m.whole);
               way = (λ n o. b.way.0 n (sym still ∙ o), λ n o. b.way.1 n (sym m.gift ∙ o));
-              blames = λ cause e. inr (inl (subst (λ (f : Option RelayFault). BlamedWriter cause (FailsGiving (k.breaks_length (shows old.hold.history) (k.body_framing new.next))) f (c.past old.next_wire) (c.past new.next_wire)) b.next_fault
-                  (writer_blamed cause _ _ _ _ _ _ e (part_blames p cause e) m.reason m.again)));
+              blames = λ cause e. inr (inl (writer_blamed k c (lending old.hold next old.next_wire) (lending new.hold new.next new.next_wire) old.next passed.failed cause e (part_blames p cause e) m.reason m.again b.next_fault));
               of_side = λ cause e. inl (hop_blame cause (p.blamed cause e));
               over = part_over tied p;
               ends = part_told (λ cause. refl) tied running p;
@@ -151,8 +149,7 @@ module _ {K G A C : Type 0} {k : Hop K G} {a : Wire A} {c : Wire C} {choice : Ch
               took = part_took NextHop of_hop tied p;
               active = λ e. of_back _ _ _ is (part_acts NextHop of_hop tied p e m.whole);
               way = (λ n o. b.way.0 n (sym m.gift ∙ o), λ n o. b.way.1 n (sym still ∙ o));
-              blames = λ cause e. inr (inr (subst (λ (f : Option RelayFault). BlamedWriter cause (FailsGiving (k.breaks_length (shows old.hold.history) (k.body_framing new.back))) f (a.past old.back_wire) (a.past new.back_wire)) b.back_fault
-                  (writer_blamed cause _ _ _ _ _ _ e (part_blames p cause e) m.reason m.again)));
+              blames = λ cause e. inr (inr (writer_blamed k a (lending old.hold back old.back_wire) (lending new.hold new.back new.back_wire) old.back passed.failed cause e (part_blames p cause e) m.reason m.again b.back_fault));
               of_side = λ cause e. inl (hop_blame cause (p.blamed cause e));
               over = part_over tied p;
               ends = part_told (λ cause. refl) tied running p;

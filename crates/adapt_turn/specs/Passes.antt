@@ -9,19 +9,20 @@ use Rattle.wire_kit.specs.declared.wire.Wire.{Ghosts as Wire}
 use Rattle.adapt_sides.specs.declared.source.Source.{Ghosts as Source}
 use Rattle.adapt_sides.specs.declared.service.Service.{Ghosts as Service}
 use Rattle.adapt_sides.specs.declared.hop.Hop.{Ghosts as Hop}
+use Rattle.adapt_sides.specs.declared.fault.ClientFault.{ClientFault}
 use Rattle.adapt_sides.specs.declared.fault.ClientFault.TheVariants as client
 use Rattle.adapt_sides.specs.declared.fault.RelayFault.{RelayFault}
-use Rattle.adapt_sides.specs.Turns.{OfRelayWire, FailsGiving}
+use Rattle.adapt_sides.specs.Turns.{OfClientWire, FailsGiving}
 use Rattle.adapt_sides.specs.Turns.Gift.{nothing, message}
 use Rattle.adapt_hold.specs.Holding.{Holding, IsTied, shows, moved}
 use Rattle.adapt_turn.specs.declared.steps.Passed.{Passed}
 use Rattle.adapt_turn.specs.declared.turned.Side.{Side}
 use Rattle.adapt_turn.specs.declared.turned.Side.TheVariants as sides
-use Rattle.adapt_turn.specs.Parts.{Lent, lending, SourcePart, SendPart, HearPart, HopPart, Breaks, HasCause, FailsFor, IsOfSide, source_room, service_room, source_cause, hop_cause, outcome_by, outcome_of}
+use Rattle.adapt_turn.specs.Parts.{Lent, lending, SourcePart, SendPart, HearPart, HopPart, Breaks, HasCause, FailsFor, IsOfSide, source_view, hear_view, source_room, service_room, service_cause, hop_cause, fault_of, outcome_by, outcome_of}
 use Rattle.adapt_turn.specs.Rows.{may_step, TookBy, Advances, BytesOr}
-use Rattle.adapt_turn.specs.Stands.{IsChosen, Waited, WaitedBoth, Blamed, BlamedService, BlamedWriter}
+use Rattle.adapt_turn.specs.Stands.{IsChosen, Waited, WaitedBoth, FaultView, faults_in, Blamed, BlamedWriter}
 use Rattle.adapt_turn.specs.ByTurn.{OfWriter}
-use Rattle.adapt_turn.specs.Made.{MakesAt, MakesNoneAt, answers_user, response_of, wire_of}
+use Rattle.adapt_turn.specs.Made.{MakesAt, MakesNoneAt, answers_user, on_held, response_of, wire_of}
 use Rattle.adapt_turn.specs.declared.ends.ServiceEnd.{ServiceEnd}
 use Rattle.adapt_turn.specs.declared.head.MakesHead.{Ghosts as MakesHead}
 
@@ -49,7 +50,7 @@ pub record SourcePasses {S H W : Type 0} (s : Source S H) (w : Wire W) (old new 
   pub active : passed.waiting ≡ false → BytesOr (Advances (may_step sides.Source) old.hold new.hold) (w.past old.wire) (w.past new.wire)
   -- it failed by the side's fault, or because its numbers aren't those of the history
   pub blames : (cause : Cause) → passed.failed ≡ Some cause
-      → (s.agrees (shows old.hold.history) old.side → Blamed OfRelayWire source_cause cause (s.fault old.side) (s.fault new.side) (w.past old.wire) (w.past new.wire))
+      → (s.agrees (shows old.hold.history) old.side → Blamed (faults_in (source_view s w old new)) cause)
       × ((s.agrees (shows old.hold.history) old.side → ⊥) → cause ≡ causes.Source)
   pub reason : HasCause (s.fault old.side) (s.fault new.side) (λ fault. s.has_reason fault new.side)
   pub of_side : (cause : Cause) → passed.failed ≡ Some cause → IsOfSide cause
@@ -104,7 +105,7 @@ pub record ServicePasses {V W : Type 0} (v : Service V) (w : Wire W) (reused : B
   pub paced : (shows new.hold.history).adapted_received ≤ (shows old.hold.history).adapted_received + TURN_BYTES
   pub took : TookBy (may_step sides.Service) old.hold new.hold
   pub active : passed.waiting ≡ false → passed.broken ≡ false → BytesOr (Advances (may_step sides.Service) old.hold new.hold) (w.past old.wire) (w.past new.wire)
-  pub blames : (cause : Cause) → passed.failed ≡ Some cause → BlamedService cause (v.fault old.side) (v.fault new.side) (w.past old.wire) (w.past new.wire)
+  pub blames : (cause : Cause) → passed.failed ≡ Some cause → Blamed (faults_in (hear_view v w old new)) cause
   -- it fails only where the request might not begin anew
   pub unbroken : (cause : Cause) → passed.failed ≡ Some cause → FailsFor v cause reused (Some old.side) (Some new.side) new.hold
   pub of_side : (cause : Cause) → passed.failed ≡ Some cause → IsOfSide cause
@@ -115,6 +116,17 @@ pub record ServicePasses {V W : Type 0} (v : Service V) (w : Wire W) (reused : B
 
 abbrev pub line_of : {V W : Type 0} → V → W → ServiceEnd V W
 line_of side wire = record { side = side; wire = Some wire }
+
+-- the service's side, where there is a service, and its wire as long as its connection is held
+abbrev pub service_faults : {V W : Type 0} → Service V → Wire W → (old new : Option (ServiceEnd V W)) → FaultView ClientFault
+service_faults v w old new = record {
+  cause = service_cause;
+  of_wire = OfClientWire;
+  old_fault = fault_of (λ line. v.fault line.side) old;
+  new_fault = fault_of (λ line. v.fault line.side) new;
+  before = λ p. on_held old ⊥ (λ wire. w.past wire p);
+  after = λ p. on_held new ⊥ (λ wire. w.past wire p);
+}
 
 -- A pass of the service's line: where no connection is held nothing is due, else it is the side's pass.
 pub record LinePasses {V W : Type 0} (v : Service V) (w : Wire W) (reused : Bool) (old : Holding) (line : Option (ServiceEnd V W)) (new : Holding) (line' : Option (ServiceEnd V W)) (passed : Passed) : Type 0 where
@@ -226,8 +238,8 @@ pub record NextPasses {K G A C : Type 0} (k : Hop K G) (a : Wire A) (c : Wire C)
   -- a message is begun back to the user exactly where it answers the user
   pub way : (k.gift old.back ≡ nothing → k.gift new.back ≡ message → choice.answers ≡ true) × (k.gift old.next ≡ nothing → k.gift new.next ≡ message → choice.answers ≡ false)
   pub blames : (cause : Cause) → passed.failed ≡ Some cause → (IsChosen (shows old.hold.history) × (k.gift old.next ≡ nothing) × (k.gift old.back ≡ nothing) × choice.none cause)
-      ⊎ (BlamedWriter cause (FailsGiving (k.breaks_length (shows old.hold.history) (k.body_framing new.next))) (k.fault old.next) (c.past old.next_wire) (c.past new.next_wire)
-      ⊎ BlamedWriter cause (FailsGiving (k.breaks_length (shows old.hold.history) (k.body_framing new.back))) (k.fault old.back) (a.past old.back_wire) (a.past new.back_wire))
+      ⊎ (BlamedWriter k c (lending old.hold old.next old.next_wire) (lending new.hold new.next new.next_wire) cause
+      ⊎ BlamedWriter k a (lending old.hold old.back old.back_wire) (lending new.hold new.back new.back_wire) cause)
   pub of_side : (cause : Cause) → passed.failed ≡ Some cause → IsOfSide cause ⊎ choice.none cause
   pub over : (cause : Cause) → passed.failed ≡ Some cause → (shows new.hold.history).closed ≡ true
   pub ends : outcome_by passed.failed ≡ outcome_of new.hold.history.events

@@ -9,15 +9,14 @@ use Rattle.trace_core.specs.Faults.{chooses_original}
 use Rattle.wire_kit.specs.Past.{Past, IsLater}
 use Rattle.wire_kit.specs.declared.wire.Wire.{Ghosts as Wire}
 use Rattle.adapt_sides.specs.declared.hop.Hop.{Ghosts as Hop}
-use Rattle.adapt_sides.specs.declared.fault.ClientFault.{ClientFault}
 use Rattle.adapt_sides.specs.Tapes.{chosen, IsUndelivered}
-use Rattle.adapt_sides.specs.Turns.{Gift, Given, given_then, OfClientWire, OfRelayWire}
+use Rattle.adapt_sides.specs.Turns.{Gift, Given, given_then, FailsGiving, OfRelayWire}
 use Rattle.adapt_sides.specs.Turns.Gift.{nothing, message, refusal}
 use Rattle.adapt_hold.specs.Spans.{Span, EndsBody}
 use Rattle.adapt_hold.specs.Holding.{Holding, shows}
 use Rattle.trace_core.specs.History.{History}
 use Rattle.adapt_turn.specs.declared.turned.Outcome.TheVariants as outcomes
-use Rattle.adapt_turn.specs.Parts.{Lent, outcome_of, service_cause, hop_cause}
+use Rattle.adapt_turn.specs.Parts.{Lent, View, outcome_of, hop_cause}
 
 -- the next hop has a message to get
 abbrev pub IsChosen : Seen → Type 0
@@ -199,19 +198,31 @@ abbrev pub WaitedBoth : (writes reads : Type 0) → (Past → Type 0) → (Past 
 WaitedBoth writes reads before after =
     (p : Past) → before p → (q : Past) × after q × (writes ⊎ (p.write_waits < q.write_waits)) × (reads ⊎ (p.read_waits < q.read_waits))
 
--- the cause is that of the side's fault; `of_wire` says what a first one shows of its wire in this call
-abbrev pub Blamed : {F : Type 0} → (F → Past → Past → Type 0) → (F → Cause) → Cause → Option F → Option F → (Past → Type 0) → (Past → Type 0) → Type 0
-Blamed {F} of_wire own cause old_fault new_fault before after =
-    (p : Past) → before p → (q : Past) × after q
-    × ((fault : F) × (new_fault ≡ Some fault) × (cause ≡ own fault) × (old_fault ≡ None → of_wire fault p q))
+-- A side that may have failed, and its wire.
+pub record FaultView (F : Type 0) : Type 1 where
+  -- the cause that a fault of it is
+  pub cause : F → Cause
+  -- what a first fault shows of its wire in this call
+  pub of_wire : F → Past → Past → Type 0
+  pub old_fault : Option F
+  pub new_fault : Option F
+  pub before : Past → Type 0
+  pub after : Past → Type 0
 
--- The cause is that of a fault of the writer: of the one that it had, or of one that it met in this call, which has this reason, and
+-- the side of a pass
+abbrev pub faults_in : {F : Type 0} → View F → FaultView F
+faults_in v = record { cause = v.cause; of_wire = v.of_wire; old_fault = v.old_fault; new_fault = v.new_fault; before = v.before; after = v.after }
+
+-- the cause is that of the side's fault
+abbrev pub Blamed : {F : Type 0} → FaultView F → Cause → Type 0
+Blamed {F} v cause =
+    (p : Past) → v.before p → (q : Past) × v.after q
+    × ((fault : F) × (v.new_fault ≡ Some fault) × (cause ≡ v.cause fault) × (v.old_fault ≡ None → v.of_wire fault p q))
+
+-- The cause is that of a fault of the writer: of the one that it had, or of one that it met in this call, which has its reason, and
 -- `OfRelayWire` says what it shows of the wire.
-abbrev pub BlamedWriter : Cause → (reason : RelayFault → Type 0) → (old_fault : Option RelayFault) → (Past → Type 0) → (Past → Type 0) → Type 0
-BlamedWriter cause reason old_fault before after =
-    (p : Past) → before p → (q : Past) × after q
-    × ((fault : RelayFault) × (cause ≡ hop_cause fault) × ((had : RelayFault) → old_fault ≡ Some had → cause ≡ hop_cause had) × (old_fault ≡ None → OfRelayWire fault p q × reason fault))
-
--- the same of the service
-abbrev pub BlamedService : Cause → Option ClientFault → Option ClientFault → (Past → Type 0) → (Past → Type 0) → Type 0
-BlamedService cause old_fault new_fault before after = Blamed OfClientWire service_cause cause old_fault new_fault before after
+abbrev pub BlamedWriter : {K G W : Type 0} → Hop K G → Wire W → (old new : Lent K W) → Cause → Type 0
+BlamedWriter k w old new cause =
+    (p : Past) → w.past old.wire p → (q : Past) × w.past new.wire q
+    × ((fault : RelayFault) × (cause ≡ hop_cause fault) × ((had : RelayFault) → k.fault old.side ≡ Some had → cause ≡ hop_cause had)
+    × (k.fault old.side ≡ None → OfRelayWire fault p q × FailsGiving (k.breaks_length (shows old.hold.history) (k.body_framing new.side)) fault))

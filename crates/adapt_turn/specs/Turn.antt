@@ -11,7 +11,6 @@ use Rattle.wire_kit.specs.declared.wire.Wire.{Ghosts as Wire}
 use Rattle.adapt_sides.specs.declared.source.Source.{Ghosts as Source}
 use Rattle.adapt_sides.specs.declared.service.Service.{Ghosts as Service}
 use Rattle.adapt_sides.specs.declared.hop.Hop.{Ghosts as Hop}
-use Rattle.adapt_sides.specs.Turns.{OfRelayWire, FailsGiving}
 use Rattle.adapt_sides.specs.Turns.Gift.{nothing, message}
 use Rattle.adapt_hold.specs.Holding.{Holding, shows}
 use Rattle.adapt_turn.specs.declared.ends.Ends.{Ends}
@@ -22,10 +21,10 @@ use Rattle.adapt_turn.specs.declared.turned.Side.TheVariants as sides
 use Rattle.adapt_turn.specs.declared.turned.Outcome.{Outcome}
 use Rattle.adapt_turn.specs.declared.turned.Outcome.TheVariants as outcomes
 use Rattle.adapt_turn.specs.Made.{answers_user, on_held, response_of, side_of, wire_of}
-use Rattle.adapt_turn.specs.Parts.{Lent, Breaks, HasCause, FailsFor, source_room, service_room, source_cause, fault_of}
-use Rattle.adapt_turn.specs.Passes.{Writers}
+use Rattle.adapt_turn.specs.Parts.{Lent, lending, Breaks, HasCause, FailsFor, source_view, source_room, service_room}
+use Rattle.adapt_turn.specs.Passes.{Writers, service_faults}
 use Rattle.adapt_turn.specs.Rows.{may_step, TookBy, Advances}
-use Rattle.adapt_turn.specs.Stands.{IsChosen, IsDone, Pasts, Waited, WaitedBoth, Blamed, BlamedWriter, BlamedService}
+use Rattle.adapt_turn.specs.Stands.{IsChosen, IsDone, Pasts, Waited, WaitedBoth, faults_in, Blamed, BlamedWriter}
 use Rattle.adapt_turn.specs.ByTurn.{BySide, OfWriter}
 
 -- Why it waits.
@@ -69,7 +68,7 @@ pub record OnWait : Type 1 where
   pub side : Type 0
 
 -- A turn answers Waiting.
-pub record Waits (old new : Holding) (on : OnWait) : Type 0 where
+pub record TurnWaits (old new : Holding) (on : OnWait) : Type 0 where
   -- nothing was stepped
   pub hold : new ≡ old
   -- no byte moved
@@ -94,14 +93,14 @@ pub record OnMove : Type 1 where
   pub before : Pasts
 
 -- A turn answers Moved with this number.
-pub record MovesBytes (on : OnMove) (side : Side) (old new : Holding) (n : ℕ) : Type 0 where
+pub record TurnMoves (on : OnMove) (side : Side) (old new : Holding) (n : ℕ) : Type 0 where
   -- so many bytes moved
   pub bytes : on.bytes n
   -- where it was none, an event was stepped, for any pasts of the wires
   pub active : n ≡ 0 → (p q r : Past) → on.before.source p → on.before.service q → on.before.next r → StepsOne side old new
 
 -- A turn answers Broken.
-pub record BreaksOff {V W : Type 0} (v : Service V) (pace : Pace) (side : Side) (old new : Holding) (service : Option (ServiceEnd V W)) : Type 0 where
+pub record TurnBreaks {V W : Type 0} (v : Service V) (pace : Pace) (side : Side) (old new : Holding) (service : Option (ServiceEnd V W)) : Type 0 where
   -- it was the service's
   pub of_service : side ≡ sides.Service
   -- of an open transaction
@@ -121,7 +120,7 @@ pub record OnFinish : Type 1 where
   pub is_over : Type 0
 
 -- A turn answers Finished with this outcome.
-pub record Finishes (on : OnFinish) (old new : Holding) (outcome : Outcome) : Type 0 where
+pub record TurnFinishes (on : OnFinish) (old new : Holding) (outcome : Outcome) : Type 0 where
   -- it was closed before
   pub closed : (shows old.history).closed ≡ true
   -- it says how it had ended
@@ -198,7 +197,7 @@ module _ {T S V K M A W C H G : Type 0} where
     pub next_wire : old.hold.history.plan.point ≡ Reqmod → new.ends.next_wire ≡ old.ends.next_wire
 
   -- What a turn of a side keeps.
-  pub record Keeps (v : Service V) (k : Hop K G) (side : Side) (old new : TxView T S V K M A W C H G) : Type 0 where
+  pub record TurnKeeps (v : Service V) (k : Hop K G) (side : Side) (old new : TxView T S V K M A W C H G) : Type 0 where
     pub running : (shows old.hold.history).closed ≡ false → KeepsOpen v k side old new
     pub closed : (shows old.hold.history).closed ≡ true → KeepsClosed old new
 
@@ -212,7 +211,7 @@ pub record IsLate (pace : Pace) (now : ℕ) (cause : Cause) : Type 0 where
 -- it failed for the source
 pub record SourceFails {S H W : Type 0} (s : Source S H) (w : Wire W) (old new : Lent S W) (cause : Cause) : Type 0 where
   -- the cause is that of the side's fault, where its numbers are those of the history
-  pub blames : s.agrees (shows old.hold.history) old.side → Blamed OfRelayWire source_cause cause (s.fault old.side) (s.fault new.side) (w.past old.wire) (w.past new.wire)
+  pub blames : s.agrees (shows old.hold.history) old.side → Blamed (faults_in (source_view s w old new)) cause
   -- and else it is Source
   pub disagrees : (s.agrees (shows old.hold.history) old.side → ⊥) → cause ≡ causes.Source
   -- a fault that the side didn't have before has its reason
@@ -223,13 +222,12 @@ pub record ServiceFails {V W : Type 0} (v : Service V) (w : Wire W) (reused : Bo
   -- there is one, and its connection was held
   pub held : wire_of old ≡ None → ⊥
   -- the cause is that of the side's fault
-  pub blames : BlamedService cause (fault_of (λ line. v.fault line.side) old) (fault_of (λ line. v.fault line.side) new)
-      (λ p. on_held old ⊥ (λ wire. w.past wire p)) (λ p. on_held new ⊥ (λ wire. w.past wire p))
+  pub blames : Blamed (service_faults v w old new) cause
   -- the request might not begin anew; a fault that the side didn't have before has its reason
   pub unbroken : FailsFor v cause reused (side_of old) (side_of new) hold
 
 -- no head could be made for the chosen message; the maker says why
-pub record HasNoHead {K G A C : Type 0} (k : Hop K G) (old : Writers K A C) (unmade : Type 0) : Type 0 where
+pub record LacksHead {K G A C : Type 0} (k : Hop K G) (old : Writers K A C) (unmade : Type 0) : Type 0 where
   pub chosen : IsChosen (shows old.hold.history)
   -- no message is begun
   pub next_idle : k.gift old.next ≡ nothing
@@ -239,6 +237,6 @@ pub record HasNoHead {K G A C : Type 0} (k : Hop K G) (old : Writers K A C) (unm
 -- it failed for the next hop: no head could be made, or a writer is to blame
 abbrev pub NextFails : {K G A C : Type 0} → Hop K G → Wire A → Wire C → (old new : Writers K A C) → Cause → (unmade : Type 0) → Type 0
 NextFails k a c old new cause unmade =
-    HasNoHead k old unmade
-    ⊎ (BlamedWriter cause (FailsGiving (k.breaks_length (shows old.hold.history) (k.body_framing new.next))) (k.fault old.next) (c.past old.next_wire) (c.past new.next_wire)
-    ⊎ BlamedWriter cause (FailsGiving (k.breaks_length (shows old.hold.history) (k.body_framing new.back))) (k.fault old.back) (a.past old.back_wire) (a.past new.back_wire))
+    LacksHead k old unmade
+    ⊎ (BlamedWriter k c (lending old.hold old.next old.next_wire) (lending new.hold new.next new.next_wire) cause
+    ⊎ BlamedWriter k a (lending old.hold old.back old.back_wire) (lending new.hold new.back new.back_wire) cause)

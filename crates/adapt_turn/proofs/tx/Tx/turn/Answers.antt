@@ -19,8 +19,7 @@ use Rattle.adapt_turn.specs.declared.turned.Turned.TheVariants as answers
 use Rattle.adapt_turn.specs.Made.{side_of, response_of, answers_user}
 use Rattle.std.specs.Prelude.{MatchOption, ⊤}
 use Rattle.adapt_turn.proofs.Paced.{paced_kept}
-use Rattle.adapt_sides.specs.Turns.{FailsGiving}
-use Rattle.adapt_turn.specs.Parts.{fault_of}
+use Rattle.adapt_turn.specs.Parts.{fault_of, lending}
 use Rattle.adapt_turn.specs.declared.ends.ServiceEnd.{ServiceEnd}
 use Rattle.adapt_turn.proofs.Faultless.{unmarked_before, unmarked_now}
 use Rattle.adapt_turn.specs.declared.pace.Pace.{Pace}
@@ -146,25 +145,25 @@ returns-clause-fails g c = λ o.
       ];
       fails = λ cause e.
           let f = why cause e in
+          let old = c.args.self.now in
+          let mid = c.pass-passed.new.self in
+          let new = c.after_pass.new.self in
           inr (for_side c.args.side _ _ _
           (λ s. record {
-            blames = λ a. blamed_kept _ _ cause g.E.SourceWire.Wire.past _ _ (g.E.Reader.Source.fault c.pass-passed.new.self.ends.source) (g.E.Reader.Source.fault c.after_pass.new.self.ends.source) c.pass-passed.new.self.ends.source_wire c.after_pass.new.self.ends.source_wire (ap g.E.Reader.Source.fault c.after_pass.ensures.kept.0) c.after_pass.ensures.kept.1 (((c.pass-passed.ensures.source s).blames cause f).0 a);
+            blames = λ a. blamed_kept g.E.Reader.Source g.E.SourceWire.Wire (lending old.hold old.ends.source old.ends.source_wire) (lending mid.hold mid.ends.source mid.ends.source_wire) (lending new.hold new.ends.source new.ends.source_wire) cause
+                c.after_pass.ensures.kept.0 c.after_pass.ensures.kept.1 (((c.pass-passed.ensures.source s).blames cause f).0 a);
             disagrees = ((c.pass-passed.ensures.source s).blames cause f).1;
             reason = cause_kept (λ z fault. g.E.Reader.Source.has_reason fault z) _ _ _ c.pass-passed.new.self.ends.source c.after_pass.new.self.ends.source (ap g.E.Reader.Source.fault c.after_pass.ensures.kept.0) c.after_pass.ensures.kept.0 ((c.pass-passed.ensures.source s).reason);
           })
           (λ s. record {
             held = λ n. none_some (sym (c.pass-passed.ensures.any.idle ((line_told (c.pass-passed.ensures.service s)).absent n)) ∙ f);
-            blames = line_blamed_kept (λ l. g.E.Client.Service.fault l.side) (λ l p. MatchOption l.wire ⊥ (λ w. g.E.ServiceWire.Wire.past w p)) cause _ _ c.pass-passed.new.self.ends.service c.after_pass.new.self.ends.service c.after_pass.ensures.kept.2 ((line_told (c.pass-passed.ensures.service s)).blames cause f);
+            blames = line_blamed_kept g.E.Client.Service g.E.ServiceWire.Wire old.ends.service mid.ends.service new.ends.service cause c.after_pass.ensures.kept.2 ((line_told (c.pass-passed.ensures.service s)).blames cause f);
             unbroken = fails_kept g.E.Client.Service cause c.args.self.now.pace.reused (side_of c.args.self.now.ends.service) c.pass-passed.new.self.hold c.after_pass.new.self.hold c.pass-passed.new.self.ends.service c.after_pass.new.self.ends.service c.after_pass.ensures.hold c.after_pass.ensures.kept.2 ((line_told (c.pass-passed.ensures.service s)).unbroken cause f);
           })
-          (λ s.
-          let x = shows c.args.self.now.hold.history in
-          let mid = c.pass-passed.new.self in
-          let new = c.after_pass.new.self in
-          elim ((c.pass-passed.ensures.next s).blames cause f) [
+          (λ s. elim ((c.pass-passed.ensures.next s).blames cause f) [
             | inl u ↦ inl (record { chosen = u.0; next_idle = u.1; back_idle = u.2; reason = u.3 })
-            | inr (inl v) ↦ inr (inl (writer_kept cause (λ z. FailsGiving (g.E.Writer.Hop.breaks_length x z)) _ g.E.NextWire.Wire.past _ (g.E.Writer.Hop.body_framing mid.ends.next) (g.E.Writer.Hop.body_framing new.ends.next) mid.ends.next_wire new.ends.next_wire c.after_pass.ensures.writers.0 c.after_pass.ensures.kept.3 v))
-            | inr (inr v) ↦ inr (inr (writer_kept cause (λ z. FailsGiving (g.E.Writer.Hop.breaks_length x z)) _ g.E.SourceWire.Wire.past _ (g.E.Writer.Hop.body_framing mid.ends.back) (g.E.Writer.Hop.body_framing new.ends.back) mid.ends.source_wire new.ends.source_wire c.after_pass.ensures.writers.1 c.after_pass.ensures.kept.1 v))
+            | inr (inl v) ↦ inr (inl (writer_kept g.E.Writer.Hop g.E.NextWire.Wire (lending old.hold old.ends.next old.ends.next_wire) (lending mid.hold mid.ends.next mid.ends.next_wire) (lending new.hold new.ends.next new.ends.next_wire) cause c.after_pass.ensures.writers.0 c.after_pass.ensures.kept.3 v))
+            | inr (inr v) ↦ inr (inr (writer_kept g.E.Writer.Hop g.E.SourceWire.Wire (lending old.hold old.ends.back old.ends.source_wire) (lending mid.hold mid.ends.back mid.ends.source_wire) (lending new.hold new.ends.back new.ends.source_wire) cause c.after_pass.ensures.writers.1 c.after_pass.ensures.kept.1 v))
           ]));
     }
 
