@@ -132,74 +132,88 @@ pub record TurnFinishes (on : OnFinish) (old new : Holding) (outcome : Outcome) 
 
 -- What it leaves as it was.
 
--- A transaction before a turn, or after it.
-pub record TxView (T S V K M A W C H G : Type 0) : Type 0 where
+-- A transaction before a turn, or after it, with the types of its source, its service, its writers, and the two wires of these.
+pub record TxView (S V K A C : Type 0) : Type 0 where
   pub hold : Holding
-  pub ends : Ends T S V K M A W C H G
+  pub source : S
+  pub source_wire : A
+  -- with its wire
+  pub service : V
+  pub next : K
+  pub next_wire : C
+  pub back : K
   pub outcome : Outcome
+
+abbrev pub tx_view : {T S V K M A W C H G : Type 0} → Holding → Ends T S V K M A W C H G → Outcome → TxView S (Option (ServiceEnd V W)) K A C
+tx_view hold ends outcome = record {
+  hold = hold;
+  source = ends.source;
+  source_wire = ends.source_wire;
+  service = ends.service;
+  next = ends.next;
+  next_wire = ends.next_wire;
+  back = ends.back;
+  outcome = outcome;
+}
 
 -- it hasn't failed
 abbrev pub HasNotFailed : Outcome → Type 0
 HasNotFailed outcome = (cause : Cause) → outcome ≡ outcomes.Fail cause → ⊥
 
-module _ {T S V K M A W C H G : Type 0} where
-  abbrev pub tx_view : Holding → Ends T S V K M A W C H G → Outcome → TxView T S V K M A W C H G
-  tx_view hold ends outcome = record { hold = hold; ends = ends; outcome = outcome }
+-- both writers stay as they were
+pub record SameWriters {S V K A C : Type 0} (old new : TxView S V K A C) : Type 0 where
+  pub next : new.next ≡ old.next
+  pub back : new.back ≡ old.back
 
-  -- both writers stay as they were
-  pub record SameWriters (old new : TxView T S V K M A W C H G) : Type 0 where
-    pub next : new.ends.next ≡ old.ends.next
-    pub back : new.ends.back ≡ old.ends.back
+-- what a turn of the source keeps
+pub record SourceKeeps {S V K A C : Type 0} (old new : TxView S V K A C) : Type 0 where
+  pub service : new.service ≡ old.service
+  pub next_wire : new.next_wire ≡ old.next_wire
+  -- it brings no more of the original than a turn may
+  pub few : (shows new.hold.history).received ≤ (shows old.hold.history).received + TURN_BYTES
+  pub writers : HasNotFailed new.outcome → SameWriters old new
 
-  -- what a turn of the source keeps
-  pub record SourceKeeps (old new : TxView T S V K M A W C H G) : Type 0 where
-    pub service : new.ends.service ≡ old.ends.service
-    pub next_wire : new.ends.next_wire ≡ old.ends.next_wire
-    -- it brings no more of the original than a turn may
-    pub few : (shows new.hold.history).received ≤ (shows old.hold.history).received + TURN_BYTES
-    pub writers : HasNotFailed new.outcome → SameWriters old new
+-- what a turn of the service keeps
+pub record ServiceKeeps {S V K A C : Type 0} (old new : TxView S V K A C) : Type 0 where
+  pub source : new.source ≡ old.source
+  pub source_wire : new.source_wire ≡ old.source_wire
+  pub next_wire : new.next_wire ≡ old.next_wire
+  -- it brings no more of the adapted body than a turn may
+  pub few : (shows new.hold.history).adapted_received ≤ (shows old.hold.history).adapted_received + TURN_BYTES
+  pub writers : HasNotFailed new.outcome → SameWriters old new
 
-  -- what a turn of the service keeps
-  pub record ServiceKeeps (old new : TxView T S V K M A W C H G) : Type 0 where
-    pub source : new.ends.source ≡ old.ends.source
-    pub source_wire : new.ends.source_wire ≡ old.ends.source_wire
-    pub next_wire : new.ends.next_wire ≡ old.ends.next_wire
-    -- it brings no more of the adapted body than a turn may
-    pub few : (shows new.hold.history).adapted_received ≤ (shows old.hold.history).adapted_received + TURN_BYTES
-    pub writers : HasNotFailed new.outcome → SameWriters old new
+-- what a turn of the next hop keeps
+pub record NextKeeps {S V K A C G : Type 0} (k : Hop K G) (old new : TxView S V K A C) : Type 0 where
+  pub source : new.source ≡ old.source
+  pub service : new.service ≡ old.service
+  -- of the two wires that a message may go to, one
+  pub one_wire : (new.source_wire ≡ old.source_wire) ⊎ (new.next_wire ≡ old.next_wire)
+  -- unless the transaction fails, that of the writer without a message
+  pub other_wire : HasNotFailed new.outcome → OfWriter (k.gift new.back) (new.source_wire ≡ old.source_wire) (new.next_wire ≡ old.next_wire)
 
-  -- what a turn of the next hop keeps
-  pub record NextKeeps (k : Hop K G) (old new : TxView T S V K M A W C H G) : Type 0 where
-    pub source : new.ends.source ≡ old.ends.source
-    pub service : new.ends.service ≡ old.ends.service
-    -- of the two wires that a message may go to, one
-    pub one_wire : (new.ends.source_wire ≡ old.ends.source_wire) ⊎ (new.ends.next_wire ≡ old.ends.next_wire)
-    -- unless the transaction fails, that of the writer without a message
-    pub other_wire : HasNotFailed new.outcome → OfWriter (k.gift new.ends.back) (new.ends.source_wire ≡ old.ends.source_wire) (new.ends.next_wire ≡ old.ends.next_wire)
+-- what a turn of an open transaction keeps
+pub record KeepsOpen {S V W K G A C : Type 0} (v : Service V) (k : Hop K G) (side : Side) (old new : TxView S (Option (ServiceEnd V W)) K A C) : Type 0 where
+  -- it steps events of its side, or Fail
+  pub took : TookBy (may_step side) old.hold new.hold
+  -- the other sides, and their wires
+  pub others : BySide side (SourceKeeps old new) (ServiceKeeps old new) (NextKeeps k old new)
+  -- a message that is begun back to the user answers a request that was offered
+  pub back : k.gift old.back ≡ nothing → k.gift new.back ≡ message → answers_user (shows old.hold.history) (response_of v.is_response old.service) ≡ true
+  -- and one that is begun to the next hop doesn't
+  pub next : k.gift old.next ≡ nothing → k.gift new.next ≡ message → answers_user (shows old.hold.history) (response_of v.is_response old.service) ≡ false
 
-  -- what a turn of an open transaction keeps
-  pub record KeepsOpen (v : Service V) (k : Hop K G) (side : Side) (old new : TxView T S V K M A W C H G) : Type 0 where
-    -- it steps events of its side, or Fail
-    pub took : TookBy (may_step side) old.hold new.hold
-    -- the other sides, and their wires
-    pub others : BySide side (SourceKeeps old new) (ServiceKeeps old new) (NextKeeps k old new)
-    -- a message that is begun back to the user answers a request that was offered
-    pub back : k.gift old.ends.back ≡ nothing → k.gift new.ends.back ≡ message → answers_user (shows old.hold.history) (response_of v.is_response old.ends.service) ≡ true
-    -- and one that is begun to the next hop doesn't
-    pub next : k.gift old.ends.next ≡ nothing → k.gift new.ends.next ≡ message → answers_user (shows old.hold.history) (response_of v.is_response old.ends.service) ≡ false
+-- what a turn of a closed transaction keeps of its sides and wires: all but the user's writer, and the user's wire
+pub record KeepsClosed {S V K A C : Type 0} (old new : TxView S V K A C) : Type 0 where
+  pub source : new.source ≡ old.source
+  pub service : new.service ≡ old.service
+  -- at RESPMOD the user's wire is the next hop's, at REQMOD the source's
+  pub source_wire : old.hold.history.plan.point ≡ Respmod → new.source_wire ≡ old.source_wire
+  pub next_wire : old.hold.history.plan.point ≡ Reqmod → new.next_wire ≡ old.next_wire
 
-  -- what a turn of a closed transaction keeps of its sides and wires: all but the user's writer, and the user's wire
-  pub record KeepsClosed (old new : TxView T S V K M A W C H G) : Type 0 where
-    pub source : new.ends.source ≡ old.ends.source
-    pub service : new.ends.service ≡ old.ends.service
-    -- at RESPMOD the user's wire is the next hop's, at REQMOD the source's
-    pub source_wire : old.hold.history.plan.point ≡ Respmod → new.ends.source_wire ≡ old.ends.source_wire
-    pub next_wire : old.hold.history.plan.point ≡ Reqmod → new.ends.next_wire ≡ old.ends.next_wire
-
-  -- What a turn of a side keeps.
-  pub record TurnKeeps (v : Service V) (k : Hop K G) (side : Side) (old new : TxView T S V K M A W C H G) : Type 0 where
-    pub running : (shows old.hold.history).closed ≡ false → KeepsOpen v k side old new
-    pub closed : (shows old.hold.history).closed ≡ true → KeepsClosed old new
+-- What a turn of a side keeps.
+pub record TurnKeeps {S V W K G A C : Type 0} (v : Service V) (k : Hop K G) (side : Side) (old new : TxView S (Option (ServiceEnd V W)) K A C) : Type 0 where
+  pub running : (shows old.hold.history).closed ≡ false → KeepsOpen v k side old new
+  pub closed : (shows old.hold.history).closed ≡ true → KeepsClosed old new
 
 -- Why the transaction failed, for a cause.
 

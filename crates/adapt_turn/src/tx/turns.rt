@@ -50,7 +50,8 @@ impl<B: Ledgers, E: EndTypes> Tx<B, E> {
     ///
     /// The turn that reads an end of the body that the source's framing gives reports it. A turn at the deadline fails in place of
     /// moving a byte. A turn that fails answers what its wires moved before; Finished comes
-    /// with a later one, once a refusal that is due is out or its wire has failed.
+    /// with a later one, once a refusal that is due is out or its wire has failed. The records that its clauses cite are in specs/Turn
+    /// and specs/ByTurn.
     pub fn turn(&mut self, rt: &impl Wait, bank: &Bank<B>, side: Side, now: u64) -> Turned
         ensures goes { ⟦<Self as Going>⟧.goes self.old self.new }
         ensures answers { ⟦<Self as Answering>⟧.answers self.old side self.new result }
