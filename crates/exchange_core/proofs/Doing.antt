@@ -7,7 +7,7 @@ use Rattle.exchange_core.specs.declared.due.Due.TheVariants.{Await, Start, Turn,
 use Rattle.exchange_core.specs.declared.event.RefusalCause.{RefusalCause}
 use Rattle.exchange_core.specs.declared.course.Course.{Course}
 use Rattle.exchange_core.specs.May.{is_refusing, is_gone, may_come, is_free}
-use Rattle.exchange_core.specs.Dues.{due_of, comes_of, fits, is_wait, is_for_message, is_for_user, is_for_leave}
+use Rattle.exchange_core.specs.Dues.{due_of, comes_of, fits, is_wait, is_for_message, is_for_user, is_between}
 use Rattle.exchange_core.specs.Log.{course_of, IsLegal, IsReached}
 use Rattle.exchange_core.proofs.Sound.{Sound, sound}
 use Rattle.exchange_core.proofs.Going.{waits_late}
@@ -85,8 +85,8 @@ serves_at c s d = grind (arith, nat_tests)
 loses_at : (c : Course) → Sound c → is_for_user (due_of c) ≡ true → may_come c UserLost ≡ true
 loses_at c s d = grind (arith, nat_tests)
 
-leaves_at : (c : Course) → Sound c → is_for_leave (due_of c) ≡ true → may_come c Dropped ≡ true
-leaves_at c s d = grind (arith, nat_tests)
+drops_at : (c : Course) → Sound c → is_between (due_of c) ≡ true → may_come c Dropped ≡ true
+drops_at c s d = grind (arith, nat_tests)
 
 queues_at : (c : Course) → Sound c → due_of c ≡ Await → is_free c ≡ true
 queues_at c s d = grind (arith, nat_tests)
@@ -100,8 +100,8 @@ serves_there c r d = serves_at c (sound_there c r) d
 pub loses_there : (c : Course) → IsReached c → is_for_user (due_of c) ≡ true → may_come c UserLost ≡ true
 loses_there c r d = loses_at c (sound_there c r) d
 
-pub leaves_there : (c : Course) → IsReached c → is_for_leave (due_of c) ≡ true → may_come c Dropped ≡ true
-leaves_there c r d = leaves_at c (sound_there c r) d
+pub drops_there : (c : Course) → IsReached c → is_between (due_of c) ≡ true → may_come c Dropped ≡ true
+drops_there c r d = drops_at c (sound_there c r) d
 
 pub hears_there : (c : Course) → IsReached c → due_of c ≡ ReadResponse → c.origin ≡ true
 hears_there c r d = hears_at c (sound_there c r) d

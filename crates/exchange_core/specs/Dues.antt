@@ -1,5 +1,5 @@
 -- What is due.
-use Rattle.std.specs.Prelude.{ℕ, Bool, true, false, not, ◌&&◌, ◌||◌, if◌then◌else◌}
+use Rattle.std.specs.Prelude.{ℕ, Bool, Option, Some, None, true, false, not, ◌&&◌, ◌||◌, if◌then◌else◌}
 use Rattle.trace_core.specs.declared.history.Point.{Point}
 use Rattle.exchange_core.specs.declared.event.RefusalCause.{RefusalCause}
 use Rattle.exchange_core.specs.declared.event.RefusalCause.TheVariants as causes
@@ -162,9 +162,27 @@ is_for_user (Refuse status) = true
 is_for_user Linger = true
 is_for_user due = is_for_message due
 
--- it is due for a user whose connection may be closed at once
+-- it is due for a user that is let go once the deadline has passed
 abbrev pub is_for_leave : Due → Bool
 is_for_leave ReadRequest = true
 is_for_leave (Refuse status) = true
 is_for_leave Linger = true
 is_for_leave _ = false
+
+-- no request of the user is under way: its connection may be closed at once
+abbrev pub is_between : Due → Bool
+is_between ReadRequest = true
+is_between Linger = true
+is_between _ = false
+
+-- the status of the refusal that is due
+abbrev pub refusal_due : Due → Option ℕ
+refusal_due (Refuse status) = Some status
+refusal_due (TryRefusal status) = Some status
+refusal_due _ = None
+
+-- the user is to be told to send its body
+abbrev pub is_for_telling : Due → Bool
+is_for_telling TryTell = true
+is_for_telling Tell = true
+is_for_telling _ = false

@@ -141,7 +141,6 @@ may_wait _ = true
 abbrev pub may_drop : Phase → Bool
 may_drop Idle = true
 may_drop Head = true
-may_drop (Refusing why) = true
 may_drop Closing = true
 may_drop _ = false
 

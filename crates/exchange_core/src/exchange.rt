@@ -40,7 +40,7 @@ impl Exchange {
     ghost use Rattle.exchange_core.specs.declared.due.Due.TheVariants.{Await, Start, Turn, ReadResponse};
     ghost use Rattle.exchange_core.specs.Course.{start, after};
     ghost use Rattle.exchange_core.specs.May.{may_come, is_free, is_refusing, is_gone};
-    ghost use Rattle.exchange_core.specs.Dues.{due_of, comes_of, fits, is_wait, is_for_message, is_for_user, is_for_leave};
+    ghost use Rattle.exchange_core.specs.Dues.{due_of, comes_of, fits, is_wait, is_for_message, is_for_user, is_between};
     ghost use Rattle.exchange_core.specs.Log.{IsReached, Goes};
 
     /// Before the first event: the head of the first request comes.
@@ -107,7 +107,7 @@ impl Exchange {
 
     /// Takes it that the user's connection was closed at once, while no request of it is under way.
     pub fn dropped(&mut self)
-        requires { is_for_leave (due_of self.old) ≡ true }
+        requires { is_between (due_of self.old) ≡ true }
         ensures after { self.new ≡ after self.old Dropped }
         ensures goes { Goes self.old self.new }
     {

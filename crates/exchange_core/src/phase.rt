@@ -173,10 +173,7 @@ impl Phase {
     pub(crate) fn may_drop(self) -> bool
         ensures { result ≡ may_drop self }
     {
-        matches!(
-            self,
-            Phase::Idle | Phase::Head | Phase::Refusing { .. } | Phase::Closing
-        )
+        matches!(self, Phase::Idle | Phase::Head | Phase::Closing)
     }
 
     /// Where a lease leads.
