@@ -1,4 +1,3 @@
-pub mod Reasons
 pub mod Origins
 pub mod Routes
 pub mod Plans

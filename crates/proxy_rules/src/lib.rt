@@ -1,4 +1,4 @@
-//! What the proxy decides of a message beside its transaction: refusals, the origin, the plan, the heads, and what becomes
+//! What the proxy decides of a message beside its transaction: the origin, the plan, the heads, and what becomes
 //! of a connection.
 //!
 //! Each decision is a function of heads, records and configured values. Nothing here has a socket, a clock or a lock.
@@ -15,7 +15,6 @@ mod onward;
 mod own_ends;
 mod plans;
 mod pools;
-mod reason;
 mod route;
 mod running;
 mod scan;
@@ -31,9 +30,6 @@ pub use onward::Headed;
 pub use own_ends::{OwnEnds, OwnTx, Wires};
 pub use plans::{limits_of, request_plan, response_plan};
 pub use pools::{is_reusable_after_options, pool_maximum};
-pub use reason::{
-    Reason, open_reason, options_reason, origin_head_reason, record_reason, user_head_reason,
-};
 pub use route::origin_address;
 pub use running::Running;
 pub use starting::{Beginning, begin};

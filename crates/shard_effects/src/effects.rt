@@ -1,31 +1,21 @@
 //! What an exchange asks of what it holds.
 
-ghost use Rattle.std.specs.Prelude.{◌≡◌, Bool, IsTrue, is_ok, true, false};
+ghost use Rattle.std.specs.Prelude.{◌≡◌, Bool, IsTrue, Some, is_ok, true, false};
+ghost use Rattle.exchange_core.specs.Dues.{due_of, is_for_telling, refusal_due};
 ghost use Rattle.http_side.specs.Refusals.{is_own_status};
 ghost use Rattle.shard_effects.specs.Hand.{Hand, IsEmpty, Keeps, KeepsButLease, KeepsButRoom, KeepsButOrigin, SetsOut, ComesBack};
-ghost use Rattle.shard_message.specs.Ends.{EndsBy};
+ghost use Rattle.shard_effects.specs.Ends.{EndsBy};
 
+use crate::answers::{HeadTurn, Lingered, Marks, OptionsTurn, Round, Said, Started, Unplanned};
+use crate::ends::{EndedBy, Report};
 use adapt_sides::ClientFault;
 use exchange_core::{Course, Exchange};
 use http_side::HttpFault;
 use icap_head::IcapResponse;
-use proxy_rules::Reason;
+use refusal_reasons::Reason;
 use service_lines::LendFault;
-use shard_message::{EndedBy, Report, Round};
-use shard_outside::{HeadTurn, Lingered, Marks, OptionsTurn, Said, Unplanned};
 use std::sync::Wait;
 use trace_core::Point;
-
-/// What came of starting a message's transaction.
-#[derive(Clone, Copy, Debug, PartialEq, Eq)]
-pub enum Started {
-    /// The message moves.
-    Moves,
-    /// It can't begin, or no memory was found for it.
-    Fails,
-    /// Its user is gone.
-    NoUser,
-}
 
 /// What is held of what the course of an exchange counts.
 pub trait InHand {
@@ -60,14 +50,17 @@ pub trait Holder: InHand {
     fn hear(&mut self) -> Option<OptionsTurn>
         ensures { Keeps (Self.hand self.old) (Self.hand self.new) };
 
-    /// Tells the user to send its body, as far as it takes the text.
-    fn tell(&mut self) -> Said
-        ensures { Keeps (Self.hand self.old) (Self.hand self.new) };
+    /// Tells the user to send its body, as far as it takes the text. At this course that is due.
+    fn tell(&mut self, course: &Exchange) -> Said
+        requires due { is_for_telling (due_of course.now) ≡ true }
+        ensures kept { Keeps (Self.hand self.old) (Self.hand self.new) };
 
-    /// Says the refusal of this status to the user, as far as it takes it. The proxy has one of that status.
-    fn refuse(&mut self, status: u16) -> Said
-        requires { IsTrue (is_own_status status) }
-        ensures { Keeps (Self.hand self.old) (Self.hand self.new) };
+    /// Says the refusal of this status to the user, as far as it takes it. At this course it is due, so no byte of an answer or of
+    /// another text is out. The proxy has a refusal of that status.
+    fn refuse(&mut self, course: &Exchange, status: u16) -> Said
+        requires due { refusal_due (due_of course.now) ≡ Some status }
+        requires own { IsTrue (is_own_status status) }
+        ensures kept { Keeps (Self.hand self.old) (Self.hand self.new) };
 
     /// Whether the user was told that nothing more comes.
     fn is_finished(&self) -> bool;

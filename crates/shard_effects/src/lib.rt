@@ -1,11 +1,15 @@
-//! What an exchange asks of what it holds, and each thing that it may have to do.
+//! What an exchange asks of what it holds, each thing that it may have to do, and what is answered to it.
 //!
 //! An exchange sees what it holds as one value, which says what is in hand of what the course counts. So the exchange and what is held
 //! are proved apart: `shard_exchange` by these traits alone, and `shard_holdings` for what meets them.
 #![tactic(auto)]
 
+mod answers;
 mod effects;
+mod ends;
 mod tasks;
 
-pub use effects::{Effects, Holder, InHand, Started};
+pub use answers::{HeadTurn, Lingered, Marks, OptionsTurn, Round, Said, Started, Unplanned};
+pub use effects::{Effects, Holder, InHand};
+pub use ends::{End, EndedBy, Report};
 pub use tasks::{Step, Task};

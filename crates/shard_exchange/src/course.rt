@@ -5,28 +5,30 @@ ghost use Rattle.exchange_core.specs.declared.event.RefusalCause.{RefusalCause a
 ghost use Rattle.exchange_core.specs.Course.{after, is_mid_text};
 ghost use Rattle.exchange_core.specs.Dues.{due_of, status_of};
 ghost use Rattle.exchange_core.specs.declared.due.Due.TheVariants as dues;
-ghost use Rattle.exchange_core.specs.declared.event.Event.TheVariants.{Stop};
+ghost use Rattle.exchange_core.specs.declared.event.Event.TheVariants.{Failed, Stop};
+ghost use Rattle.exchange_core.specs.declared.event.RefusalCause.TheVariants.{Elsewhere};
 ghost use Rattle.exchange_core.specs.May.{may_come, is_gone, is_head, is_idle, is_refusing};
 ghost use Rattle.exchange_core.specs.Log.{Goes};
 ghost use Rattle.shard_exchange.specs.Ends.{moves, ends_message, Stays, Leaves, IsOwed, is_stopped};
 
 use exchange_core::{Event, Exchange, Phase, RefusalCause};
-use shard_message::{End, Report};
+use shard_effects::{End, Report};
 
-/// Takes an event that ends a message, where it may come. Else the exchange is lost: nothing more is said to its user.
-fn take_or_lose(course: &mut Exchange, event: Event)
+/// Takes an event that ends a message, where it may come. Else the message fails: its user is refused, unless a part of an answer is
+/// out.
+fn take_or_fail(course: &mut Exchange, event: Event)
     requires moves { moves course.old ≡ true }
     requires runs { course.old.stopping ≡ false }
     requires ends { ends_message event ≡ true }
     ensures goes { Goes course.old course.new }
     ensures leaves { Leaves course.old course.new }
     ensures taken { may_come course.old event ≡ true → course.new ≡ after course.old event }
-    ensures lost { may_come course.old event ≡ false → is_gone course.new.phase ≡ true }
+    ensures owed { may_come course.old event ≡ false → course.new ≡ after course.old (Failed Elsewhere) }
 {
     if course.may(event) {
         course.take(event);
     } else {
-        course.take(Event::UserLost);
+        course.take(Event::Failed(RefusalCause::Elsewhere));
     }
 }
 
@@ -62,12 +64,12 @@ fn tell_end(course: &mut Exchange, end: End)
 {
     match end {
         End::Sent { has_memory } => {
-            take_or_lose(course, Event::Sent);
+            take_or_fail(course, Event::Sent);
             if !has_memory && course.may(Event::Failed(RefusalCause::Scarce)) {
                 course.take(Event::Failed(RefusalCause::Scarce));
             }
         }
-        End::Answered { keeps } => take_or_lose(course, Event::Answered { keeps }),
+        End::Answered { keeps } => take_or_fail(course, Event::Answered { keeps }),
         End::Failed(why) => course.take(Event::Failed(why)),
         End::Stopped => course.take(Event::Stop),
         End::Lost => course.take(Event::UserLost),

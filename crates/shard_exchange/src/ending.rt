@@ -4,8 +4,7 @@ ghost use Rattle.std.specs.Prelude.{◌≡◌, true, false};
 
 use crate::exchange::Exchange;
 use exchange_core::{Due, Event};
-use shard_effects::{Effects, Holder};
-use shard_message::EndedBy;
+use shard_effects::{Effects, EndedBy, Holder};
 use std::sync::Wait;
 
 impl<H: Holder> Exchange<H> {

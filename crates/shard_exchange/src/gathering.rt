@@ -4,8 +4,7 @@ ghost use Rattle.std.specs.Prelude.{◌≡◌};
 
 use crate::exchange::Exchange;
 use exchange_core::Event;
-use shard_effects::{Effects, Holder, Step};
-use shard_outside::{Marks, Unplanned};
+use shard_effects::{Effects, Holder, Marks, Step, Unplanned};
 use std::sync::Wait;
 use trace_core::Point;
 

@@ -5,9 +5,8 @@ ghost use Rattle.std.specs.Prelude.{◌≡◌};
 use crate::course::begin_head;
 use crate::exchange::Exchange;
 use exchange_core::Event;
-use proxy_rules::{Reason, origin_head_reason, user_head_reason};
-use shard_effects::{Effects, Holder, Step};
-use shard_outside::HeadTurn;
+use refusal_reasons::{Reason, origin_head_reason, user_head_reason};
+use shard_effects::{Effects, HeadTurn, Holder, Step};
 
 impl<H: Holder> Exchange<H> {
     ghost use Rattle.exchange_core.specs.Dues.{due_of};

@@ -20,4 +20,3 @@ mod telling;
 
 pub use exchange::Exchange;
 pub use shard_effects::{Effects, Holder, InHand, Step, Task};
-pub use shard_outside::{Kinds, Lingered, MessageEnd, Outside};

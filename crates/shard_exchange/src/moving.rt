@@ -5,9 +5,8 @@ ghost use Rattle.std.specs.Prelude.{◌≡◌, true, false};
 use crate::course::tell;
 use crate::exchange::Exchange;
 use exchange_core::Event;
-use proxy_rules::Reason;
-use shard_effects::{Effects, Holder, Started, Step};
-use shard_message::{EndedBy, Round};
+use refusal_reasons::Reason;
+use shard_effects::{Effects, EndedBy, Holder, Round, Started, Step};
 use std::sync::Wait;
 
 impl<H: Holder> Exchange<H> {

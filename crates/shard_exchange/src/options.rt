@@ -6,9 +6,8 @@ use crate::exchange::Exchange;
 use adapt_sides::ClientFault;
 use exchange_core::Event;
 use icap_head::IcapResponse;
-use proxy_rules::{Reason, options_reason};
-use shard_effects::{Effects, Holder, Step};
-use shard_outside::OptionsTurn;
+use refusal_reasons::{Reason, options_reason};
+use shard_effects::{Effects, Holder, OptionsTurn, Step};
 
 impl<H: Holder> Exchange<H> {
     ghost use Rattle.exchange_core.specs.Dues.{due_of};

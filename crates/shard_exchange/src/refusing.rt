@@ -1,13 +1,12 @@
 //! Messages that go no further, and what is still said to their users.
 
 ghost use Rattle.std.specs.Prelude.{◌≡◌, true, false};
-ghost use Rattle.proxy_rules.specs.Reasons as reasons;
+ghost use Rattle.refusal_reasons.specs.Reasons as reasons;
 
 use crate::exchange::Exchange;
 use exchange_core::Event;
-use proxy_rules::Reason;
-use shard_effects::{Effects, Holder, Step};
-use shard_outside::{Lingered, Said, refusal_cause_of};
+use refusal_reasons::{Reason, refusal_cause_of};
+use shard_effects::{Effects, Holder, Lingered, Said, Step};
 
 impl<H: Holder> Exchange<H> {
     ghost use Rattle.exchange_core.specs.Course.{after};
@@ -89,7 +88,7 @@ impl<H: Holder> Exchange<H> {
         ensures goes { Goes self.old.course self.new.course }
         ensures heeds { Heeds (H.is_late out.new at.now) self.new.course result }
     {
-        match self.holdings.refuse(status) {
+        match self.holdings.refuse(&self.course, status) {
             Said::Whole => {
                 self.course.done(Event::Refused);
                 Step::On

@@ -11,11 +11,17 @@ ghost use Rattle.shard_exchange.specs.Ends.{moves, is_stopped};
 use crate::course::take_stop;
 use crate::exchange::Exchange;
 use exchange_core::{Due, Event, Phase};
-use proxy_rules::Reason;
-use shard_effects::{Effects, Holder, Step};
-use shard_message::EndedBy;
-use shard_outside::{Lingered, Said, is_under_way};
+use refusal_reasons::Reason;
+use shard_effects::{Effects, EndedBy, Holder, Lingered, Said, Step};
 use std::sync::Wait;
+
+/// Whether a message is under way whose head was read.
+fn is_under_way(phase: Phase) -> bool {
+    !matches!(
+        phase,
+        Phase::Idle | Phase::Head | Phase::Refusing { .. } | Phase::Closing
+    )
+}
 
 impl<H: Holder> Exchange<H> {
     /// Closes the connection of an origin whose message goes no further: it sees that no more comes.
@@ -139,7 +145,7 @@ impl<H: Holder> Exchange<H> {
         ensures goes { Goes self.old.course self.new.course }
         ensures over { result ≡ Said.Whole → is_over self.new.course ≡ true }
     {
-        let said = self.holdings.refuse(status);
+        let said = self.holdings.refuse(&self.course, status);
         if matches!(said, Said::Whole | Said::Broken) {
             self.holdings.close(at);
             self.course.done(Event::Tried);

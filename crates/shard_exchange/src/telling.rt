@@ -4,8 +4,7 @@ ghost use Rattle.std.specs.Prelude.{◌≡◌, true};
 
 use crate::exchange::Exchange;
 use exchange_core::Event;
-use shard_effects::{Effects, Holder, Step};
-use shard_outside::Said;
+use shard_effects::{Effects, Holder, Said, Step};
 
 impl<H: Holder> Exchange<H> {
     ghost use Rattle.exchange_core.specs.Dues.{due_of, comes_of};
@@ -42,7 +41,7 @@ impl<H: Holder> Exchange<H> {
         ensures goes { Goes self.old.course self.new.course }
         ensures on { result ≡ Step.On }
     {
-        match self.holdings.tell() {
+        match self.holdings.tell(&self.course) {
             Said::Whole => self.has_told(),
             Said::Part(_) => self.has_told_part(),
             Said::Nothing => {
@@ -61,7 +60,7 @@ impl<H: Holder> Exchange<H> {
         ensures goes { Goes self.old.course self.new.course }
         ensures heeds { Heeds (H.is_late out.new at.now) self.new.course result }
     {
-        match self.holdings.tell() {
+        match self.holdings.tell(&self.course) {
             Said::Whole => self.has_told(),
             Said::Part(_) => self.has_told_part(),
             Said::Nothing => self.wait_or_refuse(at, out),

@@ -6,16 +6,15 @@ use crate::holdings::Holdings;
 use adapt_sides::ClientFault;
 use exchange_core::{Course, Exchange};
 use icap_head::IcapResponse;
-use proxy_rules::Reason;
+use refusal_reasons::Reason;
 use service_lines::LendFault;
-use shard_effects::{Effects, Started};
+use shard_effects::{Effects, EndedBy, Lingered, Marks, Report, Round, Started, Unplanned};
 use shard_message::{
-    Connection, EndedBy, Moving, Pace, Report, Round, Settled, begin_anew, dial_for, is_fresh,
-    make_room, take_connections,
+    Connection, Moving, Pace, Settled, begin_anew, dial_for, is_fresh, make_room, take_connections,
 };
 use shard_outside::{
-    Lingered, Marks, Outside, Unplanned, begin_asking, clear, finish_user, is_reusable, keep,
-    keep_plan, lay, leave_queue, linger_on, note_refused, note_stopped, put_in, take_out,
+    Outside, begin_asking, clear, finish_user, is_reusable, keep, keep_plan, lay, leave_queue,
+    linger_on, note_refused, note_stopped, put_in, take_out,
 };
 use span_bank::Pages;
 use std::sync::Wait;

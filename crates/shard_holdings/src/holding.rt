@@ -5,11 +5,12 @@ ghost use Rattle.shard_effects.specs.Hand.{hand_of};
 
 use crate::holdings::Holdings;
 use adapt_turn::FreedConnection;
+use exchange_core::Exchange;
 use http_side::{HttpFault, own_refusal};
 use proxy_rules::interim_continue;
-use shard_effects::{Holder, InHand};
+use shard_effects::{HeadTurn, Holder, InHand, OptionsTurn, Said};
 use shard_message::{hear_on, lay_wire};
-use shard_outside::{HeadTurn, Kinds, OptionsTurn, Said, clear, fault_of, say_to, turn_on};
+use shard_outside::{Kinds, clear, fault_of, say_to, turn_on};
 
 impl<O: Kinds> InHand for Holdings<O> {
     ghost hand = { λ held. hand_of (is_some held.connection) (is_some held.room) (is_some held.origin) (is_some held.tx) };
@@ -45,7 +46,7 @@ impl<O: Kinds> Holder for Holdings<O> {
         hear_on(&mut self.asking, &mut self.connection)
     }
 
-    fn tell(&mut self) -> Said {
+    fn tell(&mut self, _course: &Exchange) -> Said {
         let said = say_to(&mut self.user, interim_continue(), &mut self.told);
         if said == Said::Whole {
             self.told = 0;
@@ -53,7 +54,7 @@ impl<O: Kinds> Holder for Holdings<O> {
         said
     }
 
-    fn refuse(&mut self, status: u16) -> Said {
+    fn refuse(&mut self, _course: &Exchange, status: u16) -> Said {
         say_to(&mut self.user, own_refusal(status), &mut self.refused)
     }
 

@@ -4,8 +4,9 @@ ghost use Rattle.std.specs.Prelude.{◌≡◌, is_some};
 
 use crate::connection::{Connection, lay_wire};
 use icap_client::OptionsSide;
-use proxy_rules::Reason;
-use shard_outside::{Kinds, OptionsTurn, Outside, begin_asking, hear_turn, lend_reason};
+use refusal_reasons::{Reason, lend_reason};
+use shard_effects::OptionsTurn;
+use shard_outside::{Kinds, Outside, begin_asking, hear_turn};
 use std::boxed::Box;
 use trace_core::Point;
 use wire_kit::Wire;

@@ -1,37 +1,21 @@
 //! How messages end.
 
-ghost use Rattle.shard_message.specs.Ends.{EndsBy};
+ghost use Rattle.shard_effects.specs.Ends.{EndsBy};
 
 use adapt_turn::Outcome;
 use exchange_core::RefusalCause;
+use shard_effects::{End, EndedBy, Report};
 use shard_outside::refusal_cause_after;
 use std::boxed::Box;
 use trace_core::{Cause, Point};
 
-/// What ends a transaction.
-#[derive(Clone, Copy, Debug, PartialEq, Eq)]
-pub enum EndedBy {
-    /// Its own outcome.
-    Itself,
-    /// The gate, which doesn't let it pass.
-    Gate,
-    /// A deadline.
-    Deadline,
-    /// The end of the proxy.
-    Stop,
-    /// The end of its user.
-    User,
-}
-
-impl EndedBy {
-    /// How the transaction ended, which had this outcome itself. `None` where its user was gone before.
-    pub(crate) fn outcome(self, own: Outcome) -> Option<Outcome> {
-        match self {
-            EndedBy::Itself => Some(own),
-            EndedBy::Gate | EndedBy::Stop => Some(Outcome::Fail(Cause::Stopping)),
-            EndedBy::Deadline => Some(Outcome::Fail(Cause::Deadline)),
-            EndedBy::User => None,
-        }
+/// How a transaction ended that this ended, which had this outcome itself. `None` where its user was gone before.
+pub(crate) fn outcome_by(by: EndedBy, own: Outcome) -> Option<Outcome> {
+    match by {
+        EndedBy::Itself => Some(own),
+        EndedBy::Gate | EndedBy::Stop => Some(Outcome::Fail(Cause::Stopping)),
+        EndedBy::Deadline => Some(Outcome::Fail(Cause::Deadline)),
+        EndedBy::User => None,
     }
 }
 
@@ -48,33 +32,6 @@ pub(crate) enum Sequel<M> {
         /// Whether the user's request is of HTTP/1.0.
         is_old: bool,
     },
-}
-
-/// What the end of a transaction is to the course of its exchange.
-#[derive(Clone, Copy, Debug, PartialEq, Eq)]
-pub enum End {
-    /// The origin has the whole request. Its response is waited for, where memory was found for that.
-    Sent { has_memory: bool },
-    /// The user has the whole answer, and its connection serves further requests or not.
-    Answered { keeps: bool },
-    /// The message goes no further.
-    Failed(RefusalCause),
-    /// The proxy stops.
-    Stopped,
-    /// The user's connection has failed.
-    Lost,
-}
-
-/// What the course is told of a transaction that is over.
-#[derive(Clone, Copy, Debug)]
-pub struct Report {
-    /// Whether a byte of an answer went to the user.
-    pub has_answered: bool,
-    /// Where the service has said all on its connection: whether that may carry another request.
-    pub served: Option<bool>,
-    pub end: End,
-    /// Whether the user is to see that what it got isn't whole.
-    pub cuts: bool,
 }
 
 /// How a message ended.

@@ -15,9 +15,7 @@ mod ways;
 
 pub use asking::{begin_anew, hear_on, is_fresh};
 pub use connection::{Connection, lay_wire};
-pub use ended::{End, EndedBy, Report};
 pub use moving::{Connections, Moving, Remains, take_connections};
 pub use room::{Room, dial_for, make_room};
 pub use settled::Settled;
 pub use start::Pace;
-pub use turns::Round;

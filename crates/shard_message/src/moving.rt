@@ -1,18 +1,18 @@
 //! Messages that move.
 
 ghost use Rattle.std.specs.Prelude.{◌≡◌, is_some, None, true, false};
-ghost use Rattle.shard_message.specs.Ends.{EndsBy};
+ghost use Rattle.shard_effects.specs.Ends.{EndsBy};
 
 use crate::connection::{Connection, lay_wire, take_wire};
-use crate::ended::EndedBy;
 use crate::room::Room;
 use crate::settled::{Settled, settle_request, settle_response};
 use crate::start::{Pace, set_out};
 use crate::taken::stake_of;
-use crate::turns::{Round, round_of};
+use crate::turns::round_of;
 use crate::ways::{Left, Ways};
 use adapt_turn::FreedConnection;
 use proxy_rules::{Incoming, Running};
+use shard_effects::{EndedBy, Round};
 use shard_outside::{Kinds, Outside, take_out};
 use span_bank::{Bank, Stake};
 use std::boxed::Box;

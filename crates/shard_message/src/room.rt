@@ -6,7 +6,8 @@ ghost use Rattle.span_bank.specs.declared.limits.TheConstants.{MAX_CAPACITY};
 ghost use Rattle.plan_rules.specs.Claims.{claim_of};
 
 use plan_rules::{Limits, claim};
-use proxy_rules::{Offer, Reason, open_reason};
+use proxy_rules::Offer;
+use refusal_reasons::{Reason, open_reason};
 use shard_outside::{Outside, Planned};
 use span_bank::{Bank, Ledgers, Stake};
 use std::boxed::Box;

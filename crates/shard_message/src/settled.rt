@@ -1,16 +1,17 @@
 //! Transactions taken apart: what they stood over, and what comes of their messages.
 
 ghost use Rattle.std.specs.Prelude.{◌≡◌};
-ghost use Rattle.shard_message.specs.Ends.{EndsBy};
+ghost use Rattle.shard_effects.specs.Ends.{EndsBy};
 
-use crate::ended::{End, EndedBy, Report, Sequel, message_of, report_of};
+use crate::ended::{Sequel, message_of, outcome_by, report_of};
 use crate::moving::{Connections, Remains};
 use crate::room::room_of;
 use crate::sides::{Asked, MadeHead, Served};
 use crate::taken::{parts_of, wire_of};
 use adapt_sides::{ClientFault, Hop};
 use adapt_turn::{EndTypes, Ends, MakesHead, Outcome, ServiceEnd, Tx, TxParts};
-use proxy_rules::Reason;
+use refusal_reasons::Reason;
+use shard_effects::{End, EndedBy, Report};
 use shard_outside::{Kinds, MessageEnd, Outside};
 use span_bank::Stake;
 use std::alloc::Global;
@@ -236,7 +237,7 @@ pub(crate) fn settle_request<
     } = ends;
     let account = Account {
         seen,
-        outcome: by.outcome(outcome),
+        outcome: outcome_by(by, outcome),
         has_answered: !back.untouched(),
         next_is_fresh: is_fresh(&origin),
     };
@@ -292,7 +293,7 @@ pub(crate) fn settle_response<
     } = ends;
     let account = Account {
         seen,
-        outcome: by.outcome(outcome),
+        outcome: outcome_by(by, outcome),
         has_answered: !next.untouched(),
         next_is_fresh: is_fresh(&user),
     };

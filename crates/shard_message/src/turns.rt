@@ -6,23 +6,11 @@ use crate::connection::Connection;
 use adapt_turn::{Side, Turned};
 use proxy_rules::{Running, Wires};
 use service_lines::LendFault;
+use shard_effects::Round;
 use shard_outside::Outside;
 use span_bank::{Bank, Ledgers};
 use std::sync::Wait;
 use trace_core::Cause;
-
-/// What a turn, or a round of turns, did.
-#[derive(Clone, Copy, Debug, PartialEq, Eq)]
-pub enum Round {
-    /// Something moved.
-    Moved,
-    /// Each wire waits.
-    Waiting,
-    /// The service's connection broke, and the request may begin anew.
-    Broken,
-    /// The transaction is over.
-    Over,
-}
 
 /// A turn of one side.
 fn turn_side<B: Ledgers, W: Wires, R: Wait>(

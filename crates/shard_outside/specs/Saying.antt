@@ -3,8 +3,8 @@ use Rattle.std.specs.Prelude.{◌≡◌, ℕ, ◌+◌, ◌<◌, ◌≤◌, ⊤, 
 use Rattle.wire_kit.specs.declared.wire.Put.{Put}
 use Rattle.wire_kit.specs.declared.wire.Put.TheVariants as put
 use Rattle.wire_kit.specs.Past.{Past, Offers}
-use Rattle.shard_outside.specs.declared.saying.Said.{Said}
-use Rattle.shard_outside.specs.declared.saying.Said.TheVariants.{Whole, Part, Nothing, Broken}
+use Rattle.shard_effects.specs.declared.answers.Said.{Said}
+use Rattle.shard_effects.specs.declared.answers.Said.TheVariants.{Whole, Part, Nothing, Broken}
 
 -- How far the text is out, whose bytes from that place on were offered, with this answer; or of which none was left.
 abbrev pub HasSaid : (text : List ℕ) → (before : ℕ) → Option Put → Said → Type 0

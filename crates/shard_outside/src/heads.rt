@@ -2,24 +2,11 @@
 
 ghost use Rattle.std.specs.Prelude.{◌≡◌, is_some};
 
-use adapt_sides::RelayFault;
 use http_side::HttpFault;
 use proxy_rules::Incoming;
+use shard_effects::HeadTurn;
 use std::boxed::Box;
 use wire_kit::Wire;
-
-/// What a turn at a head brought.
-#[derive(Clone, Copy, Debug, PartialEq, Eq)]
-pub enum HeadTurn {
-    /// The head was read.
-    Whole,
-    /// Bytes of it came.
-    More,
-    /// Nothing came.
-    Nothing,
-    /// There is no head.
-    Fault(RelayFault),
-}
 
 /// A turn at a message's head over this wire.
 fn head_turn<W: Wire>(message: &mut Incoming, wire: &mut W) -> HeadTurn {

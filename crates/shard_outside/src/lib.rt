@@ -13,11 +13,11 @@ mod saying;
 mod slots;
 mod users;
 
-pub use heads::{HeadTurn, fault_of, turn_on};
-pub use options::{OptionsTurn, begin_asking, hear_turn, is_reusable, keep};
-pub use outside::{Kinds, Lingered, MessageEnd, Outside};
-pub use planning::{Marks, Planned, Unplanned, keep_plan};
-pub use refusal_causes::{lend_reason, refusal_cause_after, refusal_cause_of};
-pub use saying::{Said, say_to};
+pub use heads::{fault_of, turn_on};
+pub use options::{begin_asking, hear_turn, is_reusable, keep};
+pub use outside::{Kinds, MessageEnd, Outside};
+pub use planning::{Planned, keep_plan};
+pub use refusal_causes::refusal_cause_after;
+pub use saying::say_to;
 pub use slots::{clear, lay, put_in, take_out};
-pub use users::{finish_user, is_under_way, leave_queue, linger_on, note_refused, note_stopped};
+pub use users::{finish_user, leave_queue, linger_on, note_refused, note_stopped};

@@ -3,11 +3,12 @@
 use crate::outside::Outside;
 use crate::planning::service_of;
 use crate::slots::lay;
-use adapt_sides::ClientFault;
 use icap_client::OptionsSide;
 use icap_head::IcapResponse;
 use options_book::read_record;
-use proxy_rules::{Reason, ask_options, is_reusable_after_options, record_reason};
+use proxy_rules::{ask_options, is_reusable_after_options};
+use refusal_reasons::{Reason, record_reason};
+use shard_effects::OptionsTurn;
 use std::boxed::Box;
 use trace_core::Point;
 use wire_kit::Wire;
@@ -40,18 +41,6 @@ pub fn begin_asking<P, O: Outside<P>>(
         }
         Err(reason) => Err(reason),
     }
-}
-
-/// What a turn at asking heard.
-pub enum OptionsTurn {
-    /// The whole answer.
-    Answer(IcapResponse),
-    /// Something moved.
-    More,
-    /// Nothing yet.
-    Nothing,
-    /// No answer comes.
-    Fault(ClientFault),
 }
 
 /// A turn at asking over this wire.

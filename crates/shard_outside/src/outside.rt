@@ -8,8 +8,10 @@ use adapt_turn::Outcome;
 use options_book::Record;
 use plan_rules::Limits;
 use proxy_config::Config;
-use proxy_rules::{Incoming, Reason};
+use proxy_rules::Incoming;
+use refusal_reasons::Reason;
 use service_lines::{LendFault, PointBook};
+use shard_effects::Lingered;
 use span_bank::{Bank, Ledgers};
 use std::alloc::{AllocError, Global};
 use std::net::SocketAddrV4;
@@ -46,17 +48,6 @@ pub struct MessageEnd<'m> {
     pub adapted_head: Option<&'m [u8]>,
     /// Whether a byte of an answer went to the user.
     pub has_answered: bool,
-}
-
-/// How far what the user still sends was dropped.
-#[derive(Clone, Copy, Debug, PartialEq, Eq)]
-pub enum Lingered {
-    /// The user has ended its bytes, or its connection has failed.
-    Over,
-    /// It may still send.
-    Waiting,
-    /// It sent much: others get their turn first.
-    CutShort,
 }
 
 /// The surroundings of the exchanges of a thread. `P` is an exchange's place in them: its key, the moment, and what reaches the system.

@@ -5,7 +5,9 @@ use crate::slots::lay;
 use options_book::Record;
 use plan_rules::Limits;
 use proxy_config::{Config, ServicePoint};
-use proxy_rules::{Incoming, Offer, Reason, awaits_continue, origin_address};
+use proxy_rules::{Incoming, Offer, awaits_continue, origin_address};
+use refusal_reasons::Reason;
+use shard_effects::{Marks, Unplanned};
 use std::alloc::{AllocError, Global};
 use std::boxed::Box;
 use std::net::SocketAddrV4;
@@ -84,24 +86,6 @@ fn placed(
     }
 }
 
-/// Why a message has no plan.
-pub enum Unplanned {
-    /// What its service said of its options serves no more.
-    Stale,
-    /// It goes no further.
-    Refused(Reason),
-}
-
-impl Unplanned {
-    /// Why a message is refused that has no plan, though its service was asked.
-    pub fn reason(self) -> Reason {
-        match self {
-            Unplanned::Stale => Reason::Service,
-            Unplanned::Refused(reason) => reason,
-        }
-    }
-}
-
 /// Plans a message. What its service said when it was asked for this very message serves, whatever its time.
 fn make_plan<P, O: Outside<P>>(
     at: &P,
@@ -136,15 +120,6 @@ fn waits(message: &Incoming) -> bool {
         Some(head) => message.point() == Point::Reqmod && awaits_continue(head),
         None => false,
     }
-}
-
-/// What a plan says of its message.
-#[derive(Clone, Copy)]
-pub struct Marks {
-    /// Whether it is offered to its service.
-    pub offered: bool,
-    /// Whether its user waits to be told to send its body.
-    pub waits: bool,
 }
 
 /// Plans a message, and keeps its plan.

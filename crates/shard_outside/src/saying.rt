@@ -4,20 +4,8 @@ ghost use Rattle.std.specs.Prelude.{◌≡◌, IfSome, is_some, true};
 ghost use Rattle.shard_outside.specs.Saying.{Says, left_at};
 
 use adapt_bytes::behind;
+use shard_effects::Said;
 use wire_kit::{Put, Wire};
-
-/// How much of a text a user has taken.
-#[derive(Clone, Copy, Debug, PartialEq, Eq)]
-pub enum Said {
-    /// All of it.
-    Whole,
-    /// This many bytes, and not all.
-    Part(usize),
-    /// No more than before: it takes nothing now.
-    Nothing,
-    /// Its connection has failed.
-    Broken,
-}
 
 /// Says a text over this wire, of which so many bytes went out before: one write at most, of what is left of it.
 fn say<W: Wire>(user: &mut W, text: &'static [u8], before: usize) -> Said

@@ -1,8 +1,9 @@
 //! What an exchange has its surroundings do by its course: for a user that is refused or closes, and for a message that waits.
 
-use crate::outside::{Lingered, Outside};
+use crate::outside::Outside;
 use exchange_core::{Exchange, Phase};
-use proxy_rules::Reason;
+use refusal_reasons::Reason;
+use shard_effects::Lingered;
 
 /// Takes note of a refusal, where one goes out.
 pub fn note_refused<P, O: Outside<P>>(
@@ -42,14 +43,6 @@ pub fn leave_queue<P, O: Outside<P>>(at: &P, out: &mut O, course: &Exchange) {
     if let Phase::InQueue { point } = course.course().phase {
         out.leave_queue(at, point);
     }
-}
-
-/// Whether a message is under way whose head was read.
-pub fn is_under_way(phase: Phase) -> bool {
-    !matches!(
-        phase,
-        Phase::Idle | Phase::Head | Phase::Refusing { .. } | Phase::Closing
-    )
 }
 
 /// Takes note that an answer ends unfinished, where it does.

@@ -4,8 +4,9 @@ ghost use Rattle.std.specs.Prelude.{◌≡◌, true};
 ghost use Rattle.exchange_core.specs.Dues.{is_over};
 
 use proxy_rules::Incoming;
-use shard_exchange::{Exchange, Holder, Kinds, Outside, Step, Task};
+use shard_exchange::{Exchange, Holder, Step, Task};
 use shard_holdings::Holdings;
+use shard_outside::{Kinds, Outside};
 use shard_seats::Purpose;
 use std::alloc::Global;
 use std::boxed::Box;

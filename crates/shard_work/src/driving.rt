@@ -24,9 +24,14 @@ fn stay_of(phase: Phase) -> Stay {
     match phase {
         Phase::Idle => Stay::Idle,
         Phase::Head => Stay::Head,
-        Phase::Refusing { .. } | Phase::Closing | Phase::Gone => Stay::End,
+        Phase::Closing | Phase::Gone => Stay::End,
         _ => Stay::Exchange,
     }
+}
+
+/// Whether the proxy says its last words to the user, or closes its connection.
+fn is_ending(phase: Phase) -> bool {
+    matches!(phase, Phase::Refusing { .. } | Phase::Closing | Phase::Gone)
 }
 
 /// Whether a step here is one at a connection: a message is read, moves, or waits.
@@ -54,10 +59,10 @@ fn take_step<D: Exchanges, R: Wait + Dial + Clock, G: Gate>(
 ) -> Step
     ensures { result ≡ Step.Over → D.Exchange.is_over exchange.new ≡ true }
 {
-    let before = stay_of(exchange.phase());
+    let was_ending = is_ending(exchange.phase());
     let step = desk.act(at, exchange, Task::Step);
     let phase = exchange.phase();
-    if step == Step::On && before != Stay::End {
+    if step == Step::On && !was_ending {
         desk.seats_mut().touch(at.key, at.now);
     }
     desk.seats_mut().begin_stay(at.key, stay_of(phase));

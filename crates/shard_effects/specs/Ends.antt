@@ -1,10 +1,10 @@
 -- How a message ends.
 use Rattle.std.specs.Prelude.{◌≡◌, ⊤}
 use Rattle.exchange_core.specs.declared.event.RefusalCause.TheVariants as causes
-use Rattle.shard_message.specs.declared.ended.End.{End}
-use Rattle.shard_message.specs.declared.ended.End.TheVariants as ends
-use Rattle.shard_message.specs.declared.ended.EndedBy.{EndedBy}
-use Rattle.shard_message.specs.declared.ended.EndedBy.TheVariants as ended
+use Rattle.shard_effects.specs.declared.ends.End.{End}
+use Rattle.shard_effects.specs.declared.ends.End.TheVariants as ends
+use Rattle.shard_effects.specs.declared.ends.EndedBy.{EndedBy}
+use Rattle.shard_effects.specs.declared.ends.EndedBy.TheVariants as ended
 
 -- how a message ends that is ended by this
 abbrev pub EndsBy : EndedBy → End → Type 0

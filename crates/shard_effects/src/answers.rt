@@ -1,0 +1,105 @@
+//! What is answered to an exchange that asks for a thing.
+
+use adapt_sides::{ClientFault, RelayFault};
+use icap_head::IcapResponse;
+use refusal_reasons::Reason;
+
+/// What a turn at a head brought.
+#[derive(Clone, Copy, Debug, PartialEq, Eq)]
+pub enum HeadTurn {
+    /// The head was read.
+    Whole,
+    /// Bytes of it came.
+    More,
+    /// Nothing came.
+    Nothing,
+    /// There is no head.
+    Fault(RelayFault),
+}
+
+/// What a turn at asking heard.
+pub enum OptionsTurn {
+    /// The whole answer.
+    Answer(IcapResponse),
+    /// Something moved.
+    More,
+    /// Nothing yet.
+    Nothing,
+    /// No answer comes.
+    Fault(ClientFault),
+}
+
+/// Why a message has no plan.
+pub enum Unplanned {
+    /// What its service said of its options serves no more.
+    Stale,
+    /// It goes no further.
+    Refused(Reason),
+}
+
+impl Unplanned {
+    /// Why a message is refused that has no plan, though its service was asked.
+    pub fn reason(self) -> Reason {
+        match self {
+            Unplanned::Stale => Reason::Service,
+            Unplanned::Refused(reason) => reason,
+        }
+    }
+}
+
+/// What a plan says of its message.
+#[derive(Clone, Copy)]
+pub struct Marks {
+    /// Whether it is offered to its service.
+    pub offered: bool,
+    /// Whether its user waits to be told to send its body.
+    pub waits: bool,
+}
+
+/// How much of a text a user has taken.
+#[derive(Clone, Copy, Debug, PartialEq, Eq)]
+pub enum Said {
+    /// All of it.
+    Whole,
+    /// This many bytes, and not all.
+    Part(usize),
+    /// No more than before: it takes nothing now.
+    Nothing,
+    /// Its connection has failed.
+    Broken,
+}
+
+/// What came of starting a message's transaction.
+#[derive(Clone, Copy, Debug, PartialEq, Eq)]
+pub enum Started {
+    /// The message moves.
+    Moves,
+    /// It can't begin, or no memory was found for it.
+    Fails,
+    /// Its user is gone.
+    NoUser,
+}
+
+/// What a turn of a message's transaction, or a round of turns, did.
+#[derive(Clone, Copy, Debug, PartialEq, Eq)]
+pub enum Round {
+    /// Something moved.
+    Moved,
+    /// Each wire waits.
+    Waiting,
+    /// The service's connection broke, and the request may begin anew.
+    Broken,
+    /// The transaction is over.
+    Over,
+}
+
+/// How far what the user still sends was dropped.
+#[derive(Clone, Copy, Debug, PartialEq, Eq)]
+pub enum Lingered {
+    /// The user has ended its bytes, or its connection has failed.
+    Over,
+    /// It may still send.
+    Waiting,
+    /// It sent much: others get their turn first.
+    CutShort,
+}
