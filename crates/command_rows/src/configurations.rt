@@ -1,6 +1,9 @@
 //! What `adaptproxy` says of configurations, and of its errors.
 use crate::devices::{Feed, Sink, feed_of, put_ended};
-use proxy_commands::{Error, ServeError, check_with, limit_in, put_error, read_configuration};
+use proxy_commands::{
+    Error, ServeError, audit_line, check_with, limit_in, put_error, read_configuration,
+};
+use shard_report::StopAudit;
 use std::alloc::Global;
 use test_rows::{NoMemory, Row, put_line, put_number, says};
 
@@ -60,6 +63,16 @@ fn put_limit(row: &Row<'_>, out: &mut Vec<u8>) -> Result<(), NoMemory> {
     }
 }
 
+/// Adds the line at the end of `serve`, where this was still out.
+fn put_audit(alloc: Global, row: &Row<'_>, out: &mut Vec<u8>) -> Result<(), NoMemory> {
+    let audit = StopAudit {
+        rows: row.number(b"rows").unwrap_or(0),
+        held: row.number(b"held").unwrap_or(0),
+        leased: row.number(b"leased").unwrap_or(0),
+    };
+    out.extend_from_slice(audit_line(alloc, audit)?.as_slice())
+}
+
 /// Adds the answer to a row of these calls; nothing for another one.
 pub fn put_answer(
     alloc: Global,
@@ -75,6 +88,8 @@ pub fn put_answer(
         put_limit(row, out)
     } else if says(call, b"error") {
         put_error_of(alloc, row, out)
+    } else if says(call, b"audit") {
+        put_audit(alloc, row, out)
     } else {
         Ok(())
     }

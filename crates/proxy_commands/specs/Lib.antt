@@ -11,3 +11,4 @@ pub mod ServeErrors
 pub mod Serve
 pub mod Task
 pub mod Descriptors
+pub mod Endings

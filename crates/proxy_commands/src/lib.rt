@@ -1,5 +1,5 @@
 //! The commands of `adaptproxy` that need no socket: what the arguments ask for, `trace` and `chunks`, and how a configuration
-//! is read, checked and refused.
+//! is read, checked and refused, and what `serve` says at its end.
 #![tactic(auto)]
 
 mod answers;
@@ -7,6 +7,7 @@ mod checking;
 mod chunks;
 mod command;
 mod descriptors;
+mod ending;
 mod error;
 pub mod laws;
 mod lines;
@@ -22,6 +23,7 @@ mod trace;
 pub use answers::write_number;
 pub use checking::{check_from, check_with};
 pub use descriptors::limit_in;
+pub use ending::{audit_line, error_of};
 pub use error::Error;
 pub use serve::{read_configuration, say};
 pub use serve_error::{ServeError, put_error};

@@ -1,26 +1,21 @@
 //! `adaptproxy serve` over sockets.
 
-use crate::ending::{audit_line, error_of};
 use mio::net::TcpListener;
-use proxy_commands::{Error, ServeError, read_configuration, say};
+use proxy_commands::{Error, ServeError, audit_line, error_of, read_configuration, say};
 use proxy_config::Config;
-use service_pool::LEDGER_PARTS;
 use shard_loop::{Append, Stopped, serve};
 use socket_wire::Dial;
-use span_bank::Blanks;
 use std::alloc::Global;
 use std::fs::File;
 use std::io::{Read, Write};
-use std::marker::Brand;
 use std::net::{Net, SocketAddr};
 use std::sync::Wait;
-use std::sync::ledger::Blank;
 use std::thread::Threads;
 use std::time::Clock;
-use wire_kit::{Gate, OpenGate};
+use wire_kit::OpenGate;
 
 /// Listens where users connect, and where the administrator does.
-pub fn listen<R: Net>(rt: &R, config: &Config) -> Result<(TcpListener, TcpListener), ServeError> {
+fn listen<R: Net>(rt: &R, config: &Config) -> Result<(TcpListener, TcpListener), ServeError> {
     let users = TcpListener::bind(rt, SocketAddr::V4(config.listen));
     let admin = TcpListener::bind(rt, SocketAddr::V4(config.admin));
     match (users, admin) {
@@ -30,11 +25,7 @@ pub fn listen<R: Net>(rt: &R, config: &Config) -> Result<(TcpListener, TcpListen
 }
 
 /// Opens the file of the log, where one is kept. The key is at fault where that can't be.
-pub fn open_log<R: Append>(
-    rt: &R,
-    alloc: Global,
-    config: &Config,
-) -> Result<Option<File>, ServeError> {
+fn open_log<R: Append>(rt: &R, alloc: Global, config: &Config) -> Result<Option<File>, ServeError> {
     let Some(path) = &config.log else {
         return Ok(None);
     };
@@ -52,30 +43,16 @@ fn log_fault(alloc: Global) -> ServeError {
     }
 }
 
-/// Serves until the administrator says `stop` or the system fails a loop, and audits. The buffer budget and each pool have
-/// ledgers of their own.
-pub fn serve_ports<G: Gate + Sync, R: Threads + Wait + Net + Dial + Append + Clock + Sync>(
+/// Serves until the administrator says `stop` or the system fails a loop, and audits.
+fn serve_ports<R: Threads + Wait + Net + Dial + Append + Clock + Sync>(
     rt: &R,
     alloc: Global,
     config: &Config,
     users: TcpListener,
     admin: TcpListener,
     log: Option<File>,
-    gate: &G,
 ) -> Result<Stopped, ServeError> {
-    let ended = serve::<Brand, Brand, Brand, Brand, Brand, Brand, G, R>(
-        rt,
-        alloc,
-        config,
-        users,
-        admin,
-        log,
-        gate,
-        Blanks::new(config.rows + 1),
-        Blank::new(LEDGER_PARTS),
-        Blank::new(LEDGER_PARTS),
-    );
-    match ended {
+    match serve(rt, alloc, config, users, admin, log, &OpenGate) {
         Ok(stopped) => Ok(stopped),
         Err(fault) => Err(error_of(fault)),
     }
@@ -104,6 +81,6 @@ pub fn serve_from<I: Read + Drop, O: Write, R: Threads + Wait + Net + Dial + App
     let log = open_log(rt, alloc, &config)?;
     let (users, admin) = listen(rt, &config)?;
     say(output, b"listening\n")?;
-    let stopped = serve_ports(rt, alloc, &config, users, admin, log, &OpenGate)?;
+    let stopped = serve_ports(rt, alloc, &config, users, admin, log)?;
     say_end(alloc, output, stopped)
 }

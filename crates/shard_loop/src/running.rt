@@ -8,13 +8,14 @@ use crate::crew::run_crew;
 use crate::left::Left;
 use mio::net::TcpListener;
 use proxy_config::{Config, ServicePoint};
-use service_pool::Pool;
+use service_pool::{LEDGER_PARTS, Pool};
 use shard_desk::Spare;
 use shard_report::{Append, ServeFault, Stopped};
 use socket_wire::Dial;
 use span_bank::{Bank, Blanks, Ledgers};
 use std::alloc::Global;
 use std::fs::File;
+use std::marker::Brand;
 use std::net::Net;
 use std::sync::ledger::{Blank, Ledger};
 use std::sync::{Mutex, Wait};
@@ -49,30 +50,41 @@ fn make_pool<L: Ledger>(
 }
 
 /// Runs the proxy on these ports until the administrator stops it or one of its loops fails, and audits its budget and its
-/// pools. Lines are added to the log's file, if there is one.
-///
-/// Each blank of the budget has a part for each transaction that there may be, and one more; those of the pools have
-/// `LEDGER_PARTS`.
+/// pools. Lines are added to the log's file, if there is one. The budget and each pool have ledgers of their own.
 ///
 /// ```
 /// let users = TcpListener::bind(rt, SocketAddr::V4(config.listen))?;
 /// let admin = TcpListener::bind(rt, SocketAddr::V4(config.admin))?;
 /// // No log is kept. It returns once the administrator has said `stop`.
-/// let stopped = serve::<Brand, Brand, Brand, Brand, Brand, Brand, OpenGate, R>(
-///     rt,
-///     alloc,
-///     &config,
-///     users,
-///     admin,
-///     None,
-///     &OpenGate,
-///     Blanks::new(config.rows + 1),
-///     Blank::new(LEDGER_PARTS),
-///     Blank::new(LEDGER_PARTS),
-/// )?;
+/// let stopped = serve(rt, alloc, &config, users, admin, None, &OpenGate)?;
 /// assert_eq!(rt; stopped.fault, None);
 /// ```
-pub fn serve<
+pub fn serve<G: Gate + Sync, R: Threads + Wait + Net + Dial + Append + Clock + Sync>(
+    rt: &R,
+    alloc: Global,
+    config: &Config,
+    users: TcpListener,
+    admin: TcpListener,
+    log: Option<File>,
+    gate: &G,
+) -> Result<Stopped, ServeFault> {
+    serve_with::<Brand, Brand, Brand, Brand, Brand, Brand, G, R>(
+        rt,
+        alloc,
+        config,
+        users,
+        admin,
+        log,
+        gate,
+        Blanks::new(config.rows + 1),
+        Blank::new(LEDGER_PARTS),
+        Blank::new(LEDGER_PARTS),
+    )
+}
+
+/// Runs the proxy with these ledgers. Each blank of the budget has a part for each transaction that there may be, and one more; those
+/// of the pools have `LEDGER_PARTS`.
+fn serve_with<
     'x,
     H: Ledger + Send + Sync,
     F: Ledger + Send + Sync,

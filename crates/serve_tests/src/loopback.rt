@@ -1,13 +1,12 @@
 //! `serve` over loopback: users, an origin, a service and the administrator in one thread, the proxy in threads of its own.
 
-use super::apart::three_apart;
-use super::player::{Stage, Step, gets, take_all};
-use super::shards::{many_users, one_connection};
-use crate::serving::serve_ports;
+use crate::apart::three_apart;
+use crate::player::{Stage, Step, gets, take_all};
+use crate::shards::{many_users, one_connection};
 use mio::net::TcpListener as Listener;
 use proxy_commands::read_configuration;
 use proxy_config::Config;
-use shard_loop::{Append, StopAudit, Stopped};
+use shard_loop::{Append, StopAudit, Stopped, serve};
 use socket_wire::Dial;
 use std::alloc::Global;
 use std::io::{self, ErrorKind, Write};
@@ -180,7 +179,7 @@ pub fn goes_well<
         rt,
         &mut || {
             if let Some((users, admin)) = made.take() {
-                stopped = serve_ports(rt, alloc, &config, users, admin, None, &gate).ok();
+                stopped = serve(rt, alloc, &config, users, admin, None, &gate).ok();
             }
         },
         &mut || {

@@ -1,10 +1,12 @@
 //! What `adaptproxy serve` says at its end, and what it ends with if it failed.
 
 ghost use Rattle.std.specs.Prelude.{◌≡◌, IfOk};
-ghost use Rattle.proxy_program.specs.Endings.{audit_text, serve_error_of};
+ghost use Rattle.proxy_commands.specs.Endings.{audit_text, serve_error_of};
 
-use proxy_commands::{Error, ServeError, write_number};
-use shard_loop::{ServeFault, StopAudit};
+use crate::answers::write_number;
+use crate::error::Error;
+use crate::serve_error::ServeError;
+use shard_report::{ServeFault, StopAudit};
 use std::alloc::{AllocError as NoMemory, Global};
 
 /// The error that a fault of the proxy's ends the program with.
