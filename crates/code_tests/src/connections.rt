@@ -57,6 +57,68 @@ fn receives(alloc: Global, stream: &TcpStream, want: &[u8], end: bool) -> io::Re
     Ok(true)
 }
 
+/// A server that listens here, with what its connections share.
+#[derive(Clone, Copy)]
+struct Server<'a> {
+    listener: &'a TcpListener,
+    address: SocketAddr,
+    shared: &'a Arc<Shared, Global>,
+}
+
+/// Two requests on one connection.
+fn serve_twice<
+    R: Net<Listener = TcpListener, Stream = TcpStream>
+        + Threads
+        + Wait
+        + Clock
+        + Copy
+        + Send
+        + Sync
+        + 'static,
+>(rt: R, alloc: Global, server: &Server<'_>) -> io::Result<bool> {
+    let kept = connect(&rt, server.address, REQUEST)?;
+    accept_one(rt, alloc, server.listener, server.shared);
+    let first = receives(alloc, &kept, BLOCKED, false)?;
+    let mut again = &kept;
+    again.write_all(REQUEST)?;
+    Ok(first && receives(alloc, &kept, BLOCKED, false)?)
+}
+
+/// A client that writes no more is answered, and then the connection ends.
+fn serve_half_closed<
+    R: Net<Listener = TcpListener, Stream = TcpStream>
+        + Threads
+        + Wait
+        + Clock
+        + Copy
+        + Send
+        + Sync
+        + 'static,
+>(rt: R, alloc: Global, server: &Server<'_>) -> io::Result<bool> {
+    let half = connect(&rt, server.address, REQUEST)?;
+    half.shutdown(Shutdown::Write)?;
+    accept_one(rt, alloc, server.listener, server.shared);
+    receives(alloc, &half, BLOCKED, true)
+}
+
+/// A client that goes away in a request, and then one whose request is none.
+fn serve_wrong_ones<
+    R: Net<Listener = TcpListener, Stream = TcpStream>
+        + Threads
+        + Wait
+        + Clock
+        + Copy
+        + Send
+        + Sync
+        + 'static,
+>(rt: R, alloc: Global, server: &Server<'_>) -> io::Result<bool> {
+    drop(connect(&rt, server.address, &REQUEST[..20])?);
+    accept_one(rt, alloc, server.listener, server.shared);
+    let wrong = connect(&rt, server.address, b"x\r\nand more")?;
+    accept_one(rt, alloc, server.listener, server.shared);
+    receives(alloc, &wrong, BAD_REQUEST, true)
+}
+
 /// Requests on one connection, a half-closed client, clients that are gone or wrong, each alone.
 fn serve_each<R>(rt: R, alloc: Global) -> io::Result<bool>
 where
@@ -72,23 +134,16 @@ where
     let listener = TcpListener::bind(&rt, "127.0.0.1:0")?;
     let address = listener.local_addr()?;
     let shared = one_at_a_time(alloc, 60)?;
-    let kept = connect(&rt, address, REQUEST)?;
-    accept_one(rt, alloc, &listener, &shared);
-    let first = receives(alloc, &kept, BLOCKED, false)?;
-    let mut again = &kept;
-    again.write_all(REQUEST)?;
-    let second = receives(alloc, &kept, BLOCKED, false)?;
-    drop(kept);
-    let half = connect(&rt, address, REQUEST)?;
-    half.shutdown(Shutdown::Write)?;
-    accept_one(rt, alloc, &listener, &shared);
-    let third = receives(alloc, &half, BLOCKED, true)?;
-    drop(connect(&rt, address, &REQUEST[..20])?);
-    accept_one(rt, alloc, &listener, &shared);
-    let wrong = connect(&rt, address, b"x\r\nand more")?;
-    accept_one(rt, alloc, &listener, &shared);
-    let fourth = receives(alloc, &wrong, BAD_REQUEST, true)?;
-    Ok(first && second && third && fourth)
+    let server = Server {
+        listener: &listener,
+        address,
+        shared: &shared,
+    };
+    Ok(
+        serve_twice(rt, alloc, &server)?
+            && serve_half_closed(rt, alloc, &server)?
+            && serve_wrong_ones(rt, alloc, &server)?,
+    )
 }
 
 /// A second connection waits while the first is within a request. Once that is answered, and waits for a further one, it
