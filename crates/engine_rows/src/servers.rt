@@ -5,34 +5,109 @@ use icap_head::is_still_front;
 use icap_server::{ServeFault, ServerFault, ServerSide, serve};
 use std::alloc::Global;
 use std::io::{self, ErrorKind, Read, Write};
-use test_rows::{NoMemory, put_line, put_shown};
+use test_rows::{NoMemory, Random, put_line, put_shown};
 use wire_kit::Answer;
 use wire_rows::{Scene, Values, put_flag, put_text};
 
-/// Feeds a text in pieces of a size, and adds the answers up to an error.
+/// How a text is cut into pieces.
+#[derive(Clone, Copy)]
+enum Cutting {
+    /// In pieces of a size.
+    Size(usize),
+    /// At two places.
+    Places(usize, usize),
+    /// In pieces of random sizes up to one.
+    Chance(Random, u64),
+}
+
+impl Cutting {
+    /// The size of the piece that begins at a place.
+    fn size_at(&mut self, at: usize) -> usize {
+        let size = match self {
+            Cutting::Size(size) => *size,
+            Cutting::Places(first, _) if at < *first => first.saturating_sub(at),
+            Cutting::Places(_, second) if at < *second => second.saturating_sub(at),
+            Cutting::Places(_, _) => usize::MAX,
+            Cutting::Chance(random, most) => random.below(*most).saturating_add(1) as usize,
+        };
+        size.max(1)
+    }
+}
+
+/// Feeds a text in pieces, and adds the answers up to an error.
 fn feed(
     alloc: Global,
     side: &mut ServerSide,
     text: &[u8],
-    size: usize,
+    cutting: Cutting,
     out: &mut Vec<u8>,
 ) -> Result<(), NoMemory> {
-    for piece in text.chunks(size.max(1)) {
+    let mut cutting = cutting;
+    let mut rest = text;
+    for _ in 0..text.len() {
+        let size = cutting.size_at(text.len().saturating_sub(rest.len()));
+        let (piece, after) = rest.split_at(size.min(rest.len()));
         match side.feed(alloc, piece) {
             Ok(answer) => out.extend_from_slice(&answer)?,
             Err(ServerFault::Closed) => return Ok(()),
             Err(ServerFault::NoMemory) => return Err(NoMemory),
         }
+        rest = after;
+        if rest.is_empty() {
+            return Ok(());
+        }
     }
     Ok(())
 }
 
-/// What a connection answers to a text in pieces of a size.
-fn answers(alloc: Global, text: &[u8], size: usize) -> Result<Vec<u8>, NoMemory> {
+/// What a connection answers to a text in pieces.
+fn answers(alloc: Global, text: &[u8], cutting: Cutting) -> Result<Vec<u8>, NoMemory> {
     let mut side = ServerSide::new(alloc, settings(alloc)?);
     let mut out = Vec::new(alloc);
-    feed(alloc, &mut side, text, size, &mut out)?;
+    feed(alloc, &mut side, text, cutting, &mut out)?;
     Ok(out)
+}
+
+/// Whether the answer to a text in `count` cuttings of the row's seed and of s is this one.
+fn is_so_by_chance(
+    alloc: Global,
+    scene: Scene<'_>,
+    values: Values,
+    found: &[u8],
+) -> Result<bool, NoMemory> {
+    let text = scene.get(b"input");
+    let seed = test_rows::number(scene.get(b"seed")).unwrap_or(0);
+    let mut random = Random::new(seed.wrapping_add(values.s as u64));
+    for _ in 0..scene.number_or(b"count", values, 1) {
+        let widest = random.below(text.len() as u64).saturating_add(1);
+        let most = random.below(widest).saturating_add(1);
+        let cutting = Cutting::Chance(Random::new(random.next()), most);
+        if answers(alloc, text, cutting)?.as_slice() != found {
+            return Ok(false);
+        }
+    }
+    Ok(true)
+}
+
+/// The longest text that is cut at every two places.
+const SHORT: usize = 80;
+
+/// Whether the answer to a short text that is cut at s and at each place from there on is this one.
+fn is_so_in_three(
+    alloc: Global,
+    text: &[u8],
+    first: usize,
+    found: &[u8],
+) -> Result<bool, NoMemory> {
+    if text.len() > SHORT {
+        return Ok(true);
+    }
+    for second in first..text.len() {
+        if answers(alloc, text, Cutting::Places(first, second))?.as_slice() != found {
+            return Ok(false);
+        }
+    }
+    Ok(true)
 }
 
 /// Adds the first lines of the ICAP answers in a text.
@@ -62,11 +137,24 @@ fn put_further(
 fn put_closed(alloc: Global, text: &[u8], out: &mut Vec<u8>) -> Result<(), NoMemory> {
     let mut side = ServerSide::new(alloc, settings(alloc)?);
     let mut answered = Vec::new(alloc);
-    feed(alloc, &mut side, text, 1, &mut answered)?;
+    feed(alloc, &mut side, text, Cutting::Size(1), &mut answered)?;
     put_flag(out, b"closed", side.is_closed())?;
     put_flag(out, b"out of memory", side.has_run_out())?;
     put_further(alloc, &mut side, b"", out)?;
     put_further(alloc, &mut side, b"x", out)
+}
+
+/// Adds whether the row's stream is answered so in its other cuttings too.
+fn put_same(
+    alloc: Global,
+    scene: Scene<'_>,
+    values: Values,
+    found: &[u8],
+    out: &mut Vec<u8>,
+) -> Result<(), NoMemory> {
+    let is_same = is_so_by_chance(alloc, scene, values, found)?
+        && is_so_in_three(alloc, scene.get(b"input"), values.s, found)?;
+    put_flag(out, b"the same in other pieces", is_same)
 }
 
 /// Adds what a connection answers to the row's stream in pieces of s bytes, and what the row wants to know besides.
@@ -77,13 +165,18 @@ pub fn put_fed(
     out: &mut Vec<u8>,
 ) -> Result<(), NoMemory> {
     let text = scene.get(b"input");
-    let found = answers(alloc, text, values.s)?;
+    let found = answers(alloc, text, Cutting::Size(values.s))?;
     if scene.is(b"tell", b"first lines") {
-        return put_first_lines(out, &found);
+        put_first_lines(out, &found)?;
+    } else {
+        out.extend_from_slice(&found)?;
     }
-    out.extend_from_slice(&found)?;
+    if scene.has(b"seed") {
+        put_same(alloc, scene, values, &found, out)?;
+    }
     if scene.is(b"tell", b"decided") {
-        let before = answers(alloc, &text[..text.len().saturating_sub(1)], values.s)?;
+        let front = &text[..text.len().saturating_sub(1)];
+        let before = answers(alloc, front, Cutting::Size(values.s))?;
         put_flag(out, b"answered before the last byte", !before.is_empty())?;
     }
     if scene.is(b"tell", b"closed") {
