@@ -237,6 +237,28 @@ def a_long_table_of_hosts_is_not_searched_from_the_front(bench):
     same("as fast", used[1] <= 2 * used[0] + 0.1, True)
 
 
+def begun(port, part):
+    """A user who has sent a part of a request. None where it was closed before."""
+    try:
+        user = User(port)
+        user.send(part)
+        return user
+    except OSError:
+        return None
+
+
+def word_of(user, rest):
+    """The status that the user gets once it has sent the rest, or that it was closed."""
+    if user is None:
+        return "closed"
+    try:
+        return user.ask(rest).status
+    except (Closed, OSError, ValueError):
+        return "closed"
+    finally:
+        user.close()
+
+
 @case
 def want_of_memory_ends_no_thread(bench):
     """No memory is found for a while, at once or in the midst of exchanges: who comes gets 503 or is closed, and it goes on."""
@@ -247,13 +269,14 @@ def want_of_memory_ends_no_thread(bench):
 
     def one(number):
         for turn in range(4):
-            try:
-                word = ask(proxy.port, get("/chunked/%d" % (20000 * ((number + turn) % 8)))).status
-            except (Closed, OSError, ValueError):
-                word = "closed"
+            request = get("/chunked/%d" % (20000 * ((number + turn) % 8)))
+            user = begun(proxy.port, request[:9])
+            # so that all have unfinished heads at once, whose room nobody gives back
+            together.wait(30)
+            word = word_of(user, request[9:])
             with lock:
                 found[word] = found.get(word, 0) + 1
-    lock, refused = threading.Lock(), 0
+    lock, together, refused = threading.Lock(), threading.Barrier(100), 0
     for pages in (0, 8, 32, 128):
         found = {}
         lent(proxy, 4096 * pages)
