@@ -20,10 +20,10 @@ use Rattle.adapt_hold.specs.Holding.{Holding, IsTied, IsRoomy, shows, moved}
 use Rattle.adapt_hold.specs.Steps.{MayRun, moved_all}
 use Rattle.adapt_hold.proofs.Bodies.{ends}
 use Rattle.adapt_hold.proofs.Row.{Ran, ran, all_original, all_adapted}
-use Rattle.adapt_turn.specs.declared.steps.Passed.{Passed}
-use Rattle.adapt_turn.specs.Parts.{Lent, SourcePart, SendPart, HearPart, HopPart, stepped}
+use Rattle.adapt_turn.specs.declared.pass.PassAnswer.{PassAnswer}
+use Rattle.adapt_turn.specs.Reports.{Lent, SourceReported, SendReported, HearReported, HopReported, stepped}
 use Rattle.adapt_turn.specs.Stands.{Texts, WriterView, SideViews, Stands, HopsAre, IsRefusing, IsDelivered, IsDone}
-use Rattle.adapt_turn.proofs.Stepped.{part_ran}
+use Rattle.adapt_turn.proofs.Stepped.{reported_ran}
 use Rattle.adapt_turn.proofs.Told.{never_done, done_reported}
 use Rattle.adapt_turn.proofs.Carry.{off_source, off_sending, off_replies, off_hop, source_off, sending_off, replies_off, hop_off, all_then, none_original, none_adapted, carry, carry_body, KeepsChosen, carry_chosen, own_then, own_source, own_replies, same_choices}
 
@@ -122,8 +122,8 @@ hops_kept next back h events out original adapted to_next to_back law t o m l p 
 
 -- The source's pass.
 
-pub source_stands : {S H W : Type 0} (s : Source S H) (w : Wire W) (old new : Lent S W) (sides : SideViews) (passed : Passed) (request : List ℕ) (t : Texts)
-    → Others (with_source s new.side sides) → IsTied old.hold → (shows old.hold.history).closed ≡ false → (d : SourcePart s w old new passed)
+pub source_stands : {S H W : Type 0} (s : Source S H) (w : Wire W) (old new : Lent S W) (sides : SideViews) (passed : PassAnswer) (request : List ℕ) (t : Texts)
+    → Others (with_source s new.side sides) → IsTied old.hold → (shows old.hold.history).closed ≡ false → (d : SourceReported s w old new passed)
     → Stands old.hold (with_source s old.side sides) request t
     → Stands new.hold (with_source s new.side sides) request (record t { source_read = given_then t.source_read d.delta })
 source_stands side w old new sides passed request t u tied c d s =
@@ -134,25 +134,25 @@ source_stands side w old new sides passed request t u tied c d s =
     let x = shows h.history in
     let events = stepped passed.failed d.reported in
     let l = lengths h s.original s.adapted tied s.original_is s.adapted_is in
-    let o = d.part.only in
-    let m = d.part.runs in
+    let o = d.reports.only in
+    let m = d.reports.runs in
     assemble h k events d.out s.original s.adapted (with_source side new.side sides) request (record t { source_read = given_then t.source_read d.delta })
-    (part_ran tied d.part) d.part.is s.original_is s.adapted_is (record {
-      agrees_is = λ c. own_then an x passed.failed d.reported (λ cause a. u.agrees_on x (Fail cause) refl a) d.part.quiet d.agrees;
-      read_is = own_source (λ y bs. rn y bs (given_then t.source_read d.delta)) x passed.failed d.reported d.out s.original (λ cause bs p. u.read_on x (Fail cause) bs (given_then t.source_read d.delta) refl p) o d.part.quiet
+    (reported_ran tied d.reports) d.reports.is s.original_is s.adapted_is (record {
+      agrees_is = λ c. own_then an x passed.failed d.reported (λ cause a. u.agrees_on x (Fail cause) refl a) d.reports.quiet d.agrees;
+      read_is = own_source (λ y bs. rn y bs (given_then t.source_read d.delta)) x passed.failed d.reported d.out s.original (λ cause bs p. u.read_on x (Fail cause) bs (given_then t.source_read d.delta) refl p) o d.reports.quiet
           (d.goes_on s.original t.source_read s.read_is);
       sent_is = sent_kept (sides.sent request) h events d.out s.original s.adapted t.service_taken (u.sent_on request) (all_then is_of_source off_sending (λ event q. (source_off event q).0) (λ cause. refl) passed.failed d.reported o) m l s.sent_is;
       heard_is = heard_kept sides.heard x events d.out s.adapted t.service_read u.heard_on (all_then is_of_source off_replies (λ event q. (source_off event q).1) (λ cause. refl) passed.failed d.reported o) s.heard_is;
       hops_are = hops_kept sides.next sides.back h events d.out s.original s.adapted t.next_taken t.back_taken (u.hops_on t.next_taken t.back_taken) tied (all_then is_of_source off_hop (λ event q. (source_off event q).2) (λ cause. refl) passed.failed d.reported o) m l s.hops_are;
     }) (carry_any (IsRefusing sides.refusing sides.next sides.back) u.refuses_on events x s.refuses_is)
-    (λ n. absurd (never_done h events d.out c m.may (part_ran tied d.part)
+    (λ n. absurd (never_done h events d.out c m.may (reported_ran tied d.reports)
     (all_then is_of_source off_hop (λ event q. (source_off event q).2) (λ cause. refl) passed.failed d.reported o) n))
 
 -- The service's pass that writes.
 
-pub send_stands : {V W : Type 0} (v : Service V) (w : Wire W) (old new : Lent V W) (sides : SideViews) (passed : Passed) (request : List ℕ) (t : Texts)
+pub send_stands : {V W : Type 0} (v : Service V) (w : Wire W) (old new : Lent V W) (sides : SideViews) (passed : PassAnswer) (request : List ℕ) (t : Texts)
     → Others (with_service v new.side sides) → ((x : Seen) (adapted text : List ℕ) → v.has_heard x adapted text old.side → v.has_heard x adapted text new.side) → IsTied old.hold
-    → (shows old.hold.history).closed ≡ false → (d : SendPart v w old new passed)
+    → (shows old.hold.history).closed ≡ false → (d : SendReported v w old new passed)
     → Stands old.hold (with_service v old.side sides) request t
     → Stands new.hold (with_service v new.side sides) request (record t { service_taken = t.service_taken ++ d.delta })
 send_stands v w old new sides passed request t u same tied c d s =
@@ -163,30 +163,30 @@ send_stands v w old new sides passed request t u same tied c d s =
     let x = shows h.history in
     let events = stepped passed.failed d.reported in
     let l = lengths h s.original s.adapted tied s.original_is s.adapted_is in
-    let o = d.part.only in
-    let m = d.part.runs in
+    let o = d.reports.only in
+    let m = d.reports.runs in
     let os = all_then is_of_sending off_source (λ event q. (sending_off event q).0) (λ cause. refl) passed.failed d.reported o in
     let none : s.original ++ all_original events [] ≡ s.original = ap (λ (bs : List ℕ). s.original ++ bs) (none_original events [] os) ∙ append-nil s.original in
     assemble h k events [] s.original s.adapted (with_service v new.side sides) request (record t { service_taken = t.service_taken ++ d.delta })
-    (part_ran tied d.part) d.part.is s.original_is s.adapted_is (record {
+    (reported_ran tied d.reports) d.reports.is s.original_is s.adapted_is (record {
       agrees_is = λ w. carry sides.agrees off_source u.agrees_on events x os (s.agrees_is c);
       read_is = read_kept sides.read x events [] s.original t.source_read u.read_on os s.read_is;
       sent_is = subst (λ (bs : List ℕ). sn request (after_all x events) bs (t.service_taken ++ d.delta)) (sym none)
           (own_then (λ y. sn request y s.original (t.service_taken ++ d.delta)) x passed.failed d.reported
           (λ cause p. subst (λ (bs : List ℕ). sn request (after x (Fail cause)) bs (t.service_taken ++ d.delta)) (append-nil s.original)
           (u.sent_on request x (Fail cause) s.original [] (t.service_taken ++ d.delta) refl l.original_is refl p))
-          d.part.quiet (d.goes_on request s.original t.service_taken s.original_is s.sent_is));
+          d.reports.quiet (d.goes_on request s.original t.service_taken s.original_is s.sent_is));
       heard_is = heard_kept hn x events [] s.adapted t.service_read u.heard_on (all_then is_of_sending off_replies (λ event q. (sending_off event q).1) (λ cause. refl) passed.failed d.reported o) (same x s.adapted t.service_read s.heard_is);
       hops_are = hops_kept sides.next sides.back h events [] s.original s.adapted t.next_taken t.back_taken (u.hops_on t.next_taken t.back_taken) tied (all_then is_of_sending off_hop (λ event q. (sending_off event q).2) (λ cause. refl) passed.failed d.reported o) m l s.hops_are;
     }) (carry_any (IsRefusing sides.refusing sides.next sides.back) u.refuses_on events x s.refuses_is)
-    (λ n. absurd (never_done h events [] c m.may (part_ran tied d.part)
+    (λ n. absurd (never_done h events [] c m.may (reported_ran tied d.reports)
     (all_then is_of_sending off_hop (λ event q. (sending_off event q).2) (λ cause. refl) passed.failed d.reported o) n))
 
 -- The service's pass that reads.
 
-pub hear_stands : {V W : Type 0} (v : Service V) (w : Wire W) (old new : Lent V W) (sides : SideViews) (passed : Passed) (request : List ℕ) (t : Texts)
+pub hear_stands : {V W : Type 0} (v : Service V) (w : Wire W) (old new : Lent V W) (sides : SideViews) (passed : PassAnswer) (request : List ℕ) (t : Texts)
     → Others (with_service v new.side sides) → ((heads came text : List ℕ) → v.has_sent heads (shows old.hold.history) came text old.side → v.has_sent heads (shows old.hold.history) came text new.side) → IsTied old.hold
-    → (shows old.hold.history).closed ≡ false → (d : HearPart v w old new passed)
+    → (shows old.hold.history).closed ≡ false → (d : HearReported v w old new passed)
     → Stands old.hold (with_service v old.side sides) request t
     → Stands new.hold (with_service v new.side sides) request (record t { service_read = t.service_read ++ d.delta })
 hear_stands v w old new sides passed request t u same tied c d s =
@@ -197,20 +197,20 @@ hear_stands v w old new sides passed request t u same tied c d s =
     let x = shows h.history in
     let events = stepped passed.failed d.reported in
     let l = lengths h s.original s.adapted tied s.original_is s.adapted_is in
-    let o = d.part.only in
-    let m = d.part.runs in
+    let o = d.reports.only in
+    let m = d.reports.runs in
     let os = all_then is_of_replies off_source (λ event q. (replies_off event q).0) (λ cause. refl) passed.failed d.reported o in
     assemble h k events d.out s.original s.adapted (with_service v new.side sides) request (record t { service_read = t.service_read ++ d.delta })
-    (part_ran tied d.part) d.part.is s.original_is s.adapted_is (record {
+    (reported_ran tied d.reports) d.reports.is s.original_is s.adapted_is (record {
       agrees_is = λ w. carry sides.agrees off_source u.agrees_on events x os (s.agrees_is c);
       read_is = read_kept sides.read x events d.out s.original t.source_read u.read_on os s.read_is;
       sent_is = sent_kept (sn request) h events d.out s.original s.adapted t.service_taken (u.sent_on request) (all_then is_of_replies off_sending (λ event q. (replies_off event q).1) (λ cause. refl) passed.failed d.reported o) m l
           (same request s.original t.service_taken s.sent_is);
-      heard_is = own_replies (λ y bs. hn y bs (t.service_read ++ d.delta)) x passed.failed d.reported d.out s.adapted (λ cause bs p. u.heard_on x (Fail cause) bs (t.service_read ++ d.delta) refl p) o d.part.quiet
+      heard_is = own_replies (λ y bs. hn y bs (t.service_read ++ d.delta)) x passed.failed d.reported d.out s.adapted (λ cause bs p. u.heard_on x (Fail cause) bs (t.service_read ++ d.delta) refl p) o d.reports.quiet
           (d.goes_on s.adapted t.service_read s.heard_is);
       hops_are = hops_kept sides.next sides.back h events d.out s.original s.adapted t.next_taken t.back_taken (u.hops_on t.next_taken t.back_taken) tied (all_then is_of_replies off_hop (λ event q. (replies_off event q).2) (λ cause. refl) passed.failed d.reported o) m l s.hops_are;
     }) (carry_any (IsRefusing sides.refusing sides.next sides.back) u.refuses_on events x s.refuses_is)
-    (λ n. absurd (never_done h events d.out c m.may (part_ran tied d.part)
+    (λ n. absurd (never_done h events d.out c m.may (reported_ran tied d.reports)
     (all_then is_of_replies off_hop (λ event q. (replies_off event q).2) (λ cause. refl) passed.failed d.reported o) n))
 
 -- The writer's pass: on the next hop's wire, or on the source's.
@@ -225,8 +225,8 @@ fail_hops next back h original adapted to_next to_back cause law t c l p =
     (subst (λ (bs : List ℕ). HopsAre next back x (chosen x (original ++ []) bs) to_next to_back) (append-nil adapted)
     (law h.history.plan h.history.events (Fail cause) original adapted [] [] ((c, tt), t.legal) refl l.original_is l.adapted_is refl refl p))
 
-pub give_stands : {K G W : Type 0} (hop : Hop K G) (w : Wire W) (old new : Lent K W) (writers sides : SideViews) (passed : Passed) (request : List ℕ) (t t' : Texts)
-    → Others (with_writers writers sides) → IsTied old.hold → (shows old.hold.history).closed ≡ false → (d : HopPart hop w old new passed)
+pub give_stands : {K G W : Type 0} (hop : Hop K G) (w : Wire W) (old new : Lent K W) (writers sides : SideViews) (passed : PassAnswer) (request : List ℕ) (t t' : Texts)
+    → Others (with_writers writers sides) → IsTied old.hold → (shows old.hold.history).closed ≡ false → (d : HopReported hop w old new passed)
     → (t'.source_read ≡ t.source_read) → (t'.service_taken ≡ t.service_taken) → (t'.service_read ≡ t.service_read)
     → ((original adapted : List ℕ) → EndsBody old.hold.original original → EndsBody old.hold.adapted adapted
     → HopsAre sides.next sides.back (shows old.hold.history) (chosen (shows old.hold.history) original adapted) t.next_taken t.back_taken
@@ -242,8 +242,8 @@ give_stands hop w old new writers sides passed request t t' u tied c d e1 e2 e3 
     let x = shows h.history in
     let events = stepped passed.failed d.reported in
     let l = lengths h s.original s.adapted tied s.original_is s.adapted_is in
-    let o = d.part.only in
-    let m = d.part.runs in
+    let o = d.reports.only in
+    let m = d.reports.runs in
     let os = all_then is_of_hop off_source (λ event q. (hop_off event q).0) (λ cause. refl) passed.failed d.reported o in
     let oa = all_then is_of_hop off_replies (λ event q. (hop_off event q).2) (λ cause. refl) passed.failed d.reported o in
     let body : chosen (after_all x events) (s.original ++ all_original events []) (s.adapted ++ all_adapted events []) ≡ chosen x s.original s.adapted =
@@ -251,7 +251,7 @@ give_stands hop w old new writers sides passed request t t' u tied c d e1 e2 e3 
     ∙ ap (λ (bs : List ℕ). chosen (after_all x events) s.original bs) (ap (λ (bs : List ℕ). s.adapted ++ bs) (none_adapted events [] oa) ∙ append-nil s.adapted)
     ∙ same_choices x events s.original s.adapted oa in
     assemble h k events [] s.original s.adapted (with_writers writers sides) request t'
-    (part_ran tied d.part) d.part.is s.original_is s.adapted_is (record {
+    (reported_ran tied d.reports) d.reports.is s.original_is s.adapted_is (record {
       agrees_is = λ w. carry sides.agrees off_source u.agrees_on events x os (s.agrees_is c);
       read_is = subst (λ (bs : Given). sides.read (after_all x events) (s.original ++ all_original events []) bs) (sym e1) (read_kept sides.read x events [] s.original t.source_read u.read_on os s.read_is);
       sent_is = subst (λ (bs : List ℕ). sides.sent request (after_all x events) (s.original ++ all_original events []) bs) (sym e2)
@@ -260,11 +260,11 @@ give_stands hop w old new writers sides passed request t t' u tied c d e1 e2 e3 
       hops_are = subst (λ (bs : List ℕ). HopsAre writers.next writers.back (after_all x events) bs t'.next_taken t'.back_taken) (sym body)
           (own_then (λ y. HopsAre writers.next writers.back y (chosen x s.original s.adapted) t'.next_taken t'.back_taken) x passed.failed d.reported
           (λ cause p. fail_hops writers.next writers.back h s.original s.adapted t'.next_taken t'.back_taken cause (u.hops_on t'.next_taken t'.back_taken) tied c l p)
-          d.part.quiet (own s.original s.adapted s.original_is s.adapted_is s.hops_are));
+          d.reports.quiet (own s.original s.adapted s.original_is s.adapted_is s.hops_are));
     }) (carry_any (IsRefusing writers.refusing writers.next writers.back) u.refuses_on events x refuses)
     (λ n. subst (λ (bs : List ℕ). IsDelivered writers.refusing writers.next writers.back (after_all x events) bs t'.next_taken t'.back_taken) (sym body)
     (whole_then s.original s.adapted s.original_is s.adapted_is
-    (done_reported h [] passed.failed d.reported (part_ran tied d.part) n) s.hops_are))
+    (done_reported h [] passed.failed d.reported (reported_ran tied d.reports) n) s.hops_are))
 
 -- A failure, and a new beginning, of which every side keeps what it says.
 

@@ -16,7 +16,7 @@ use Rattle.adapt_sides.specs.Tapes.{chosen}
 use Rattle.adapt_hold.specs.Holding.{original_in, adapted_in}
 use Rattle.adapt_hold.specs.Steps.{brought, brought_all}
 use Rattle.adapt_hold.proofs.Row.{all_original, all_adapted}
-use Rattle.adapt_turn.specs.Parts.{stepped}
+use Rattle.adapt_turn.specs.Reports.{stepped}
 use Rattle.adapt_turn.proofs.Passes.{all_map}
 
 -- Whose events they are not. A new beginning is the service's own.

@@ -15,12 +15,12 @@ use Rattle.adapt_sides.specs.Tapes.{chosen}
 use Rattle.adapt_sides.specs.Turns.{Gift}
 use Rattle.adapt_sides.specs.Turns.Gift.{nothing, message, refusal}
 use Rattle.adapt_hold.specs.Holding.{Holding, IsTied, shows}
-use Rattle.adapt_turn.specs.declared.steps.Passed.{Passed}
-use Rattle.adapt_turn.specs.Parts.{Lent, HopPart, stepped}
-use Rattle.adapt_turn.specs.Made.{answers_user, is_reqmod}
+use Rattle.adapt_turn.specs.declared.pass.PassAnswer.{PassAnswer}
+use Rattle.adapt_turn.specs.Reports.{Lent, HopReported, stepped}
+use Rattle.adapt_turn.specs.ChosenHead.{answers_user, is_reqmod}
 use Rattle.adapt_turn.specs.Stands.{WriterView, SideViews, writer_of, Stands, Pasts, Goes, IsRefusing, user_gift, TakesAside, IsDone}
 use Rattle.adapt_turn.proofs.Advance.{Others, give_stands}
-use Rattle.adapt_turn.proofs.Made.{KeepsMade, made_all}
+use Rattle.adapt_turn.proofs.ChosenHead.{KeepsMade, made_all}
 use Rattle.adapt_turn.proofs.Hops.{next_gives, back_gives, next_whole, back_whole, next_begins, back_begins, BeginsWith, StaysAside, next_refuses, back_refuses, next_refuses_on, back_refuses_on, other_of_next, other_of_back, other_at_respmod, other_at_reqmod}
 use Rattle.adapt_turn.proofs.Together.{on_wires, goes_still, of_five, no_given, given_still, still, still_source, rehop}
 
@@ -38,9 +38,9 @@ refusing_back refusing next back back' x same r = subst (λ (z : Gift). IsRefusi
 
 -- More of a message goes out, whose head is a made one.
 
-pub next_goes : {K G W : Type 0} (hop : Hop K G) (w : Wire W) (old new : Lent K W) (made made' : Seen → List ℕ → Type 0) (sides : SideViews) (source service : Past → Type 0) (passed : Passed)
+pub next_goes : {K G W : Type 0} (hop : Hop K G) (w : Wire W) (old new : Lent K W) (made made' : Seen → List ℕ → Type 0) (sides : SideViews) (source service : Past → Type 0) (passed : PassAnswer)
     → Others (record sides { next = writer_of hop made' new.side }) → IsTied old.hold → (shows old.hold.history).closed ≡ false → sides.back.gift ≡ nothing → (hop.gift old.side ≡ nothing → ⊥) → hop.gift new.side ≡ hop.gift old.side
-    → ((head : List ℕ) → made (shows old.hold.history) head → made' (shows old.hold.history) head) → KeepsMade made' → HopPart hop w old new passed
+    → ((head : List ℕ) → made (shows old.hold.history) head → made' (shows old.hold.history) head) → KeepsMade made' → HopReported hop w old new passed
     → Goes (Stands old.hold (record sides { next = writer_of hop made old.side })) (Stands new.hold (record sides { next = writer_of hop made' new.side }))
     (on_wires source service (w.past old.wire)) (on_wires source service (w.past new.wire))
 next_goes hop w old new made made' sides source service passed u tied c idle busy same heads keep d =
@@ -54,18 +54,18 @@ next_goes hop w old new made made' sides source service passed u tied c idle bus
           (give_stands hop w old new (record sides { next = own' }) (record sides { next = own }) passed request t (record t { next_taken = t.next_taken ++ d.delta })
           u tied c d refl refl refl
           (λ original adapted f g p. next_gives own own' sides.back x (after_all x d.reported) (chosen x original adapted) t.next_taken t.back_taken d.delta c idle busy same
-          (λ head taken q. (made_all made' keep d.reported x head (reported_may passed.failed d.reported x d.part.quiet d.part.runs.may) (heads head q.0), d.goes_on original adapted head taken f g q.1)) p)
+          (λ head taken q. (made_all made' keep d.reported x head (reported_may passed.failed d.reported x d.reports.quiet d.reports.runs.may) (heads head q.0), d.goes_on original adapted head taken f g q.1)) p)
           (λ original adapted f g over p. next_whole sides.refusing own own' sides.back x (after_all x (stepped passed.failed d.reported)) (chosen x original adapted) t.next_taken t.back_taken d.delta c idle busy same o.refuses_is
-          (λ head taken q. (made_all made' keep (stepped passed.failed d.reported) x head d.part.runs.may (heads head q.0), d.done original adapted head taken f g over q.1)) p)
+          (λ head taken q. (made_all made' keep (stepped passed.failed d.reported) x head d.reports.runs.may (heads head q.0), d.done original adapted head taken f g over q.1)) p)
           (refusing_next sides.refusing own own' sides.back x same o.refuses_is) o);
       source = λ p b. still_source source p b;
       service = λ p b. still service p b;
-      next = λ p b. let w = d.part.wire p b in (w.0, w.1, w.2);
+      next = λ p b. let w = d.reports.wire p b in (w.0, w.1, w.2);
     }
 
-pub back_goes : {K G W : Type 0} (hop : Hop K G) (w : Wire W) (old new : Lent K W) (made made' : Seen → List ℕ → Type 0) (sides : SideViews) (service next : Past → Type 0) (passed : Passed)
+pub back_goes : {K G W : Type 0} (hop : Hop K G) (w : Wire W) (old new : Lent K W) (made made' : Seen → List ℕ → Type 0) (sides : SideViews) (service next : Past → Type 0) (passed : PassAnswer)
     → Others (record sides { back = writer_of hop made' new.side }) → IsTied old.hold → (shows old.hold.history).closed ≡ false → (hop.gift old.side ≡ nothing → ⊥) → hop.gift new.side ≡ hop.gift old.side
-    → ((head : List ℕ) → made (shows old.hold.history) head → made' (shows old.hold.history) head) → KeepsMade made' → HopPart hop w old new passed
+    → ((head : List ℕ) → made (shows old.hold.history) head → made' (shows old.hold.history) head) → KeepsMade made' → HopReported hop w old new passed
     → Goes (Stands old.hold (record sides { back = writer_of hop made old.side })) (Stands new.hold (record sides { back = writer_of hop made' new.side }))
     (on_wires (w.past old.wire) service next) (on_wires (w.past new.wire) service next)
 back_goes hop w old new made made' sides service next passed u tied c busy same heads keep d =
@@ -79,11 +79,11 @@ back_goes hop w old new made made' sides service next passed u tied c busy same 
           (give_stands hop w old new (record sides { back = own' }) (record sides { back = own }) passed request t (record t { back_taken = t.back_taken ++ d.delta })
           u tied c d refl refl refl
           (λ original adapted f g p. back_gives sides.next own own' x (after_all x d.reported) (chosen x original adapted) t.next_taken t.back_taken d.delta c busy same
-          (λ head taken q. (made_all made' keep d.reported x head (reported_may passed.failed d.reported x d.part.quiet d.part.runs.may) (heads head q.0), d.goes_on original adapted head taken f g q.1)) p)
+          (λ head taken q. (made_all made' keep d.reported x head (reported_may passed.failed d.reported x d.reports.quiet d.reports.runs.may) (heads head q.0), d.goes_on original adapted head taken f g q.1)) p)
           (λ original adapted f g over p. back_whole sides.refusing sides.next own own' x (after_all x (stepped passed.failed d.reported)) (chosen x original adapted) t.next_taken t.back_taken d.delta c busy same o.refuses_is
-          (λ head taken q. (made_all made' keep (stepped passed.failed d.reported) x head d.part.runs.may (heads head q.0), d.done original adapted head taken f g over q.1)) p)
+          (λ head taken q. (made_all made' keep (stepped passed.failed d.reported) x head d.reports.runs.may (heads head q.0), d.done original adapted head taken f g over q.1)) p)
           (refusing_back sides.refusing sides.next own own' x same o.refuses_is) o);
-      source = λ p b. let w = d.part.wire p b in (w.0, w.1, w.2, λ e. cc);
+      source = λ p b. let w = d.reports.wire p b in (w.0, w.1, w.2, λ e. cc);
       service = λ p b. still service p b;
       next = λ p b. still next p b;
     }

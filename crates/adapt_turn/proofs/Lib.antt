@@ -3,17 +3,17 @@ pub mod Stepped
 pub mod Paced
 pub mod Carry
 pub mod Told
-pub mod Moved
+pub mod ByteCounts
 pub mod Advance
 pub mod Hops
-pub mod Made
+pub mod ChosenHead
 pub mod Together
-pub mod Freeing
+pub mod ServiceOver
 mod Giving
 pub mod Writers
 pub mod Reasons
 pub mod Rows
 pub mod Refusals
-pub mod ByTurn
+pub mod TurnAnswers
 pub mod Faultless
-pub mod Lines
+pub mod ServiceEnds

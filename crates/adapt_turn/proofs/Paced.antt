@@ -13,9 +13,9 @@ use Rattle.plan_rules.specs.declared.room.TheConstants.{TURN_BYTES}
 use Rattle.plan_rules.specs.Room.{original_room, adapted_room}
 use Rattle.adapt_hold.specs.Holding.{Holding, IsTied, shows, history_then, moved}
 use Rattle.adapt_hold.proofs.Closes.{then_shows}
-use Rattle.adapt_turn.specs.declared.steps.Passed.{Passed}
-use Rattle.adapt_turn.specs.Parts.{View, Report, Part, stepped}
-use Rattle.adapt_turn.proofs.Stepped.{part_shows}
+use Rattle.adapt_turn.specs.declared.pass.PassAnswer.{PassAnswer}
+use Rattle.adapt_turn.specs.Reports.{View, Report, Reported, stepped}
+use Rattle.adapt_turn.proofs.Stepped.{reported_shows}
 
 -- an event brings the bytes of its own body that it says
 received_after : (x : Seen) (event : Event) → (after x event).received ≤ x.received + in_bytes event
@@ -54,21 +54,21 @@ pub adapted_few : (x : Seen) (window : ℕ) → adapted_room x window ≤ TURN_B
 adapted_few x window = grind (arith, nat_tests)
 
 -- of what a pass reports so much came of the original, and so much of the adapted body
-pub part_received : {F : Type 0} {v : View F} {h k : Holding} {r : Report} {passed : Passed}
-    → IsTied h → Part v h k r passed
+pub reported_received : {F : Type 0} {v : View F} {h k : Holding} {r : Report} {passed : PassAnswer}
+    → IsTied h → Reported v h k r passed
     → (n : ℕ) → in_sum r.events ≤ n → n ≤ TURN_BYTES → (shows k.history).received ≤ (shows h.history).received + TURN_BYTES
-part_received {F} {v} {h} {k} {r} {passed} t p n few turn =
-    let shown = part_shows t p in
+reported_received {F} {v} {h} {k} {r} {passed} t p n few turn =
+    let shown = reported_shows t p in
     let all = received_all (shows h.history) (stepped passed.failed r.events) in
     let less = in_stepped passed.failed r.events in
     let at : (after_all (shows h.history) (stepped passed.failed r.events)).received ≤ (shows h.history).received + TURN_BYTES = omega (arith, all, less, few, turn) in
     subst (λ (x : Seen). x.received ≤ (shows h.history).received + TURN_BYTES) (sym shown) at
 
-pub part_adapted : {F : Type 0} {v : View F} {h k : Holding} {r : Report} {passed : Passed}
-    → IsTied h → Part v h k r passed
+pub reported_adapted : {F : Type 0} {v : View F} {h k : Holding} {r : Report} {passed : PassAnswer}
+    → IsTied h → Reported v h k r passed
     → (n : ℕ) → ad_sum r.events ≤ n → (shows k.history).adapted_received ≤ (shows h.history).adapted_received + n
-part_adapted {F} {v} {h} {k} {r} {passed} t p n few =
-    let shown = part_shows t p in
+reported_adapted {F} {v} {h} {k} {r} {passed} t p n few =
+    let shown = reported_shows t p in
     let all = adapted_all (shows h.history) (stepped passed.failed r.events) in
     let less = ad_stepped passed.failed r.events in
     let at : (after_all (shows h.history) (stepped passed.failed r.events)).adapted_received ≤ (shows h.history).adapted_received + n = omega (arith, all, less, few) in

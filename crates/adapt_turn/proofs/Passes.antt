@@ -31,8 +31,8 @@ use Rattle.adapt_hold.specs.Spans.{Span, EndsBody, span_of, span_end}
 use Rattle.adapt_hold.specs.Holding.{Holding, IsTied, IsRoomy, shows, moved}
 use Rattle.adapt_hold.specs.Steps.{brought_all, HasRoomFor, MayRun, moved_all}
 use Rattle.adapt_hold.proofs.Bodies.{ends}
-use Rattle.adapt_turn.specs.declared.steps.Passed.{Passed}
-use Rattle.adapt_turn.specs.Parts.{Breaks, Lent, View, Report, IsStill, Part, SourcePart, SendPart, HearPart, HopPart, source_room, service_room, source_cause, service_cause, hop_cause}
+use Rattle.adapt_turn.specs.declared.pass.PassAnswer.{PassAnswer}
+use Rattle.adapt_turn.specs.Reports.{Breaks, Lent, View, Report, IsStill, Reported, SourceReported, SendReported, HearReported, HopReported, source_room, service_room, source_cause, service_cause, hop_cause}
 use Rattle.adapt_turn.specs.Stands.{IsChosen, chosen_span}
 
 -- an event without body bytes that come
@@ -235,25 +235,25 @@ ends_chosen h original adapted w f g = chosen_by (chooses_original (shows h.hist
 abbrev WireOf : {F : Type 0} → View F → Report → Result Turn F → Type 0
 WireOf v r result = (p : Past) → v.before p → (q : Past) × v.after q × IsLater p r.given r.taken q × HasReason v.of_wire p q v.old_fault v.rests v.waits result
 
-abbrev Closed : Cause → Passed → Type 0
+abbrev Closed : Cause → PassAnswer → Type 0
 Closed cause passed = passed ≡ record { waiting = false; failed = Some cause; broken = false }
 
-abbrev WentOn : Turn → Passed → Type 0
+abbrev WentOn : Turn → PassAnswer → Type 0
 WentOn turn passed = passed ≡ record { waiting = turn.waiting; failed = None; broken = false }
 
-abbrev IsBroken : Passed → Type 0
+abbrev IsBroken : PassAnswer → Type 0
 IsBroken passed = passed ≡ record { waiting = false; failed = None; broken = true }
 
 -- nothing was reported
 abbrev silent : (given taken : List ℕ) → Report
 silent given taken = record { events = []; out = []; given = given; taken = taken }
 
-took_part : {F : Type 0} {v : View F} {h k : Holding} {r : Report} {passed : Passed} (turn : Turn) (delta : List ℕ)
+took_part : {F : Type 0} {v : View F} {h k : Holding} {r : Report} {passed : PassAnswer} (turn : Turn) (delta : List ℕ)
     → WentOn turn passed → WireOf v r (Ok turn) → AllAre v.events r.events → MayRun h r.events r.out
     → (delta ≡ [] → IsStill r) → (IsStill r → delta ≡ []) → SaysWaiting r.events delta (let x : Result Turn F = Ok turn in x)
-    → k ≡ moved_all h r.events r.out → v.new_fault ≡ None → Part v h k r passed
+    → k ≡ moved_all h r.events r.out → v.new_fault ≡ None → Reported v h k r passed
 took_part {F} {v} {h} {k} {r} {passed} turn delta e wire only runs still none says is sound =
-    subst (λ (y : Passed). Part v h k r y) (sym e) (record {
+    subst (λ (y : PassAnswer). Reported v h k r y) (sym e) (record {
       wire = λ p b. let w = wire p b in (w.0, w.1, w.2, record { failed = λ cause n. cc; waiting = w.3.waiting });
       only = only;
       runs = runs;
@@ -267,11 +267,11 @@ took_part {F} {v} {h} {k} {r} {passed} turn delta e wire only runs still none sa
       sound = λ n b. sound;
     })
 
-failed_part : {F : Type 0} {v : View F} {h k : Holding} {passed : Passed} (fault : F) (given taken : List ℕ)
+failed_part : {F : Type 0} {v : View F} {h k : Holding} {passed : PassAnswer} (fault : F) (given taken : List ℕ)
     → Closed (v.cause fault) passed → WireOf v (silent given taken) (Err fault) → v.new_fault ≡ Some fault → IsRoomy h → (shows h.history).closed ≡ false
-    → k ≡ moved h (Fail (v.cause fault)) [] → Part v h k (silent given taken) passed
+    → k ≡ moved h (Fail (v.cause fault)) [] → Reported v h k (silent given taken) passed
 failed_part {F} {v} {h} {k} {passed} fault given taken e wire stays r c is =
-    subst (λ (y : Passed). Part v h k (silent given taken) y) (sym e) (record {
+    subst (λ (y : PassAnswer). Reported v h k (silent given taken) y) (sym e) (record {
       wire = λ p b. let w = wire p b in (
         w.0,
         w.1,
@@ -291,10 +291,10 @@ failed_part {F} {v} {h} {k} {passed} fault given taken e wire stays r c is =
     })
 
 -- the connection broke where the request may begin anew: nothing is stepped
-broken_part : {F : Type 0} {v : View F} {h k : Holding} {passed : Passed} (fault : F) (given taken : List ℕ)
-    → IsBroken passed → WireOf v (silent given taken) (Err fault) → IsRoomy h → k ≡ h → Part v h k (silent given taken) passed
+broken_part : {F : Type 0} {v : View F} {h k : Holding} {passed : PassAnswer} (fault : F) (given taken : List ℕ)
+    → IsBroken passed → WireOf v (silent given taken) (Err fault) → IsRoomy h → k ≡ h → Reported v h k (silent given taken) passed
 broken_part {F} {v} {h} {k} {passed} fault given taken e wire r is =
-    subst (λ (y : Passed). Part v h k (silent given taken) y) (sym e) (record {
+    subst (λ (y : PassAnswer). Reported v h k (silent given taken) y) (sym e) (record {
       wire = λ p b. let w = wire p b in (w.0, w.1, w.2, record { failed = λ cause n. cc; waiting = λ n. absurd (false≢true n) });
       only = tt;
       runs = record { may = tt; carried = omega arith; room = tt; roomy = r };
@@ -305,11 +305,11 @@ broken_part {F} {v} {h} {k} {passed} fault given taken e wire r is =
       sound = λ n b. absurd (false≢true (sym b));
     })
 
-either_part : {F : Type 0} {v : View F} {h k : Holding} {passed : Passed} (fault : F) (given taken : List ℕ) (b : Bool)
+either_part : {F : Type 0} {v : View F} {h k : Holding} {passed : PassAnswer} (fault : F) (given taken : List ℕ) (b : Bool)
     → passed.broken ≡ b → WireOf v (silent given taken) (Err fault) → v.new_fault ≡ Some fault → IsRoomy h → (shows h.history).closed ≡ false
     → (passed.broken ≡ true → (k ≡ h) × IsBroken passed)
     → (passed.broken ≡ false → (k ≡ moved h (Fail (v.cause fault)) []) × Closed (v.cause fault) passed)
-    → Part v h k (silent given taken) passed
+    → Reported v h k (silent given taken) passed
 either_part fault given taken true e wire stays r c broke shut = broken_part fault given taken (broke e).1 wire r (broke e).0
 either_part fault given taken false e wire stays r c broke shut = failed_part fault given taken (shut e).1 wire stays r c (shut e).0
 
@@ -319,10 +319,10 @@ abbrev pub ReadsOf : {S H W : Type 0} → Source S H → Wire W → (old new : L
 ReadsOf s w old new room out result = ReadsBody (λ x body read. s.has_read x body read old.side) (λ x body read. s.has_read x body read new.side) (λ x. s.agrees x old.side) (λ x. s.agrees x new.side)
     (s.fault old.side) (s.fault new.side) (s.rests room new.side) (s.is_framed room new.side) (s.is_over new.side) (w.past old.wire) (w.past new.wire) out result
 
-pub source_took : {S H W : Type 0} (s : Source S H) (w : Wire W) (old new : Lent S W) (turn : Turn) (events : List Event) (out : List ℕ) (n : ℕ) (passed : Passed)
+pub source_took : {S H W : Type 0} (s : Source S H) (w : Wire W) (old new : Lent S W) (turn : Turn) (events : List Event) (out : List ℕ) (n : ℕ) (passed : PassAnswer)
     → n ≡ source_room old.hold → IsTied old.hold → IsRoomy old.hold → (shows old.hold.history).closed ≡ false → s.agrees (shows old.hold.history) old.side → length out ≤ source_room old.hold
     → events ≡ turn.events.items → ReadsOf s w old new n out (Ok turn) → new.hold ≡ moved_all old.hold events out → WentOn turn passed
-    → SourcePart s w old new passed
+    → SourceReported s w old new passed
 source_took s w old new turn events out n passed same t r c a l e b0 is went =
     let h = old.hold in
     let b = subst (λ (y : ℕ). ReadsOf s w old new y out (Ok turn)) same b0 in
@@ -331,20 +331,20 @@ source_took s w old new turn events out n passed same t r c a l e b0 is went =
       delta = b.delta;
       out = out;
       reported = turn.events.items;
-      part = took_part turn b.delta.bytes went (λ p g. let u = b.wire p g in (u.0, u.1, u.2, u.3)) b.only (source_runs h turn.events.items out t r legal.0 b.only b.count l)
+      reports = took_part turn b.delta.bytes went (λ p g. let u = b.wire p g in (u.0, u.1, u.2, u.3)) b.only (source_runs h turn.events.items out t r legal.0 b.only b.count l)
           (λ d. (d, refl)) (λ d. d.0) b.waiting (is ∙ ap (λ (es : List Event). moved_all h es out) e) (b.fault.sound turn refl);
       few = omega (arith, b.count, l);
-      framed = λ g. b.framed (sym (ap (λ (y : Passed). y.waiting) went) ∙ g);
+      framed = λ g. b.framed (sym (ap (λ (y : PassAnswer). y.waiting) went) ∙ g);
       wire = λ p g. let u = b.wire p g in (u.0, u.1, u.2, u.4);
       told = λ k o. b.told turn refl o (after_all (shows h.history) turn.events.items) legal.1;
       agrees = legal.1;
       goes_on = λ body read h0. b.goes_on (shows h.history) body read h0 c;
     }
 
-pub source_failed : {S H W : Type 0} (s : Source S H) (w : Wire W) (old new : Lent S W) (fault : RelayFault) (out : List ℕ) (n : ℕ) (cause : Cause) (passed : Passed)
+pub source_failed : {S H W : Type 0} (s : Source S H) (w : Wire W) (old new : Lent S W) (fault : RelayFault) (out : List ℕ) (n : ℕ) (cause : Cause) (passed : PassAnswer)
     → n ≡ source_room old.hold → IsRoomy old.hold → (shows old.hold.history).closed ≡ false → s.agrees (shows old.hold.history) old.side
     → ReadsOf s w old new n out (Err fault) → cause ≡ source_cause fault → Closed cause passed → new.hold ≡ moved old.hold (Fail cause) []
-    → SourcePart s w old new passed
+    → SourceReported s w old new passed
 source_failed s w old new fault out n cause passed same r c a b0 own did is =
     let h = old.hold in
     let b = subst (λ (y : ℕ). ReadsOf s w old new y out (Err fault)) same b0 in
@@ -353,12 +353,12 @@ source_failed s w old new fault out n cause passed same r c a b0 own did is =
       delta = b.delta;
       out = [];
       reported = [];
-      part = failed_part fault b.delta.bytes [] (did ∙ ap (λ (y : Cause). record { waiting = false; failed = Some y; broken = false }) own) (λ p g. let u = b.wire p g in (u.0, u.1, u.2, u.3))
+      reports = failed_part fault b.delta.bytes [] (did ∙ ap (λ (y : Cause). record { waiting = false; failed = Some y; broken = false }) own) (λ p g. let u = b.wire p g in (u.0, u.1, u.2, u.3))
           (b.fault.stays fault refl) r c (is ∙ ap (λ (y : Cause). moved h (Fail y) []) own);
       few = omega arith;
-      framed = λ g. absurd (false≢true (sym (ap (λ (y : Passed). y.waiting) did) ∙ g));
+      framed = λ g. absurd (false≢true (sym (ap (λ (y : PassAnswer). y.waiting) did) ∙ g));
       wire = λ p g. let u = b.wire p g in (u.0, u.1, u.2, u.4);
-      told = λ k o. absurd (let odd : Some cause ≡ None = sym (ap (λ (y : Passed). y.failed) did) ∙ k in cc);
+      told = λ k o. absurd (let odd : Some cause ≡ None = sym (ap (λ (y : PassAnswer). y.failed) did) ∙ k in cc);
       agrees = legal.1;
       goes_on = λ body read h0. b.goes_on (shows h.history) body read h0 c;
     }
@@ -369,33 +369,33 @@ abbrev pub SendsOf : {V W : Type 0} → Service V → Wire W → (old new : Lent
 SendsOf v w old new history tape result = Sends (shows history) tape (λ heads x came taken. v.has_sent heads x came taken old.side) (λ heads x came taken. v.has_sent heads x came taken new.side)
     (v.fault old.side) (v.fault new.side) (v.rests_writing (shows history) new.side) (w.past old.wire) (w.past new.wire) result
 
-pub send_took : {V W : Type 0} (v : Service V) (w : Wire W) (old new : Lent V W) (history : History) (tape : Tape) (turn : Turn) (events : List Event) (passed : Passed)
+pub send_took : {V W : Type 0} (v : Service V) (w : Wire W) (old new : Lent V W) (history : History) (tape : Tape) (turn : Turn) (events : List Event) (passed : PassAnswer)
     → IsRoomy old.hold → history ≡ old.hold.history → span_of tape ≡ old.hold.original → events ≡ turn.events.items
     → SendsOf v w old new history tape (Ok turn) → new.hold ≡ moved_all old.hold events [] → WentOn turn passed
-    → SendPart v w old new passed
+    → SendReported v w old new passed
 send_took v w old new history tape turn events passed r he te e b0 is went =
     let h = old.hold in
     let b = subst (λ (y : History). SendsOf v w old new y tape (Ok turn)) he b0 in
     record {
       delta = b.delta;
       reported = turn.events.items;
-      part = took_part turn b.delta went b.wire b.only (sending_runs h turn.events.items r b.legal b.only)
+      reports = took_part turn b.delta went b.wire b.only (sending_runs h turn.events.items r b.legal b.only)
           (λ d. (refl, d)) (λ d. d.1) b.waiting (is ∙ ap (λ (es : List Event). moved_all h es []) e) (b.fault.sound turn refl);
       goes_on = λ request came taken f s. b.goes_on request came taken (follows_span tape h.original came te f) s;
     }
 
-pub send_failed : {V W : Type 0} (v : Service V) (w : Wire W) (old new : Lent V W) (history : History) (tape : Tape) (fault : ClientFault) (passed : Passed)
+pub send_failed : {V W : Type 0} (v : Service V) (w : Wire W) (old new : Lent V W) (history : History) (tape : Tape) (fault : ClientFault) (passed : PassAnswer)
     → IsRoomy old.hold → (shows old.hold.history).closed ≡ false → history ≡ old.hold.history → span_of tape ≡ old.hold.original
     → SendsOf v w old new history tape (Err fault)
     → (passed.broken ≡ true → (new.hold ≡ old.hold) × IsBroken passed)
     → (passed.broken ≡ false → (new.hold ≡ moved old.hold (Fail (service_cause fault)) []) × Closed (service_cause fault) passed)
-    → SendPart v w old new passed
+    → SendReported v w old new passed
 send_failed v w old new history tape fault passed r c he te b0 broke shut =
     let b = subst (λ (y : History). SendsOf v w old new y tape (Err fault)) he b0 in
     record {
       delta = b.delta;
       reported = [];
-      part = either_part fault [] b.delta passed.broken refl b.wire (b.fault.stays fault refl) r c broke shut;
+      reports = either_part fault [] b.delta passed.broken refl b.wire (b.fault.stays fault refl) r c broke shut;
       goes_on = λ request came taken f s. b.goes_on request came taken (follows_span tape old.hold.original came te f) s;
     }
 
@@ -416,15 +416,15 @@ hear_runs v w old new history turn events n out t r he e l b =
     (replies_run old.hold turn.events.items out t r (subst (λ (y : History). MayAllFollow (shows y) turn.events.items) he b.legal) b.only b.count l)
 
 -- a pass behind a fault doesn't wait
-not_waiting : (passed : Passed) {A B : Type 0} {cause : Cause} (b : Bool) → passed.broken ≡ b
+not_waiting : (passed : PassAnswer) {A B : Type 0} {cause : Cause} (b : Bool) → passed.broken ≡ b
     → (passed.broken ≡ true → A × IsBroken passed) → (passed.broken ≡ false → B × Closed cause passed) → passed.waiting ≡ true → ⊥
-not_waiting passed true e broke shut w = false≢true (sym (ap (λ (y : Passed). y.waiting) (broke e).1) ∙ w)
-not_waiting passed false e broke shut w = false≢true (sym (ap (λ (y : Passed). y.waiting) (shut e).1) ∙ w)
+not_waiting passed true e broke shut w = false≢true (sym (ap (λ (y : PassAnswer). y.waiting) (broke e).1) ∙ w)
+not_waiting passed false e broke shut w = false≢true (sym (ap (λ (y : PassAnswer). y.waiting) (shut e).1) ∙ w)
 
-pub hear_took : {V W : Type 0} (v : Service V) (w : Wire W) (old new : Lent V W) (history : History) (turn : Turn) (events : List Event) (out : List ℕ) (n : ℕ) (passed : Passed)
+pub hear_took : {V W : Type 0} (v : Service V) (w : Wire W) (old new : Lent V W) (history : History) (turn : Turn) (events : List Event) (out : List ℕ) (n : ℕ) (passed : PassAnswer)
     → n ≡ service_room old.hold → IsTied old.hold → IsRoomy old.hold → history ≡ old.hold.history → events ≡ turn.events.items → length out ≤ service_room old.hold
     → HearsOf v w old new history n out (Ok turn) → new.hold ≡ moved_all old.hold events out → WentOn turn passed
-    → HearPart v w old new passed
+    → HearReported v w old new passed
 hear_took v w old new history turn events out n passed same t r he e l b0 is went =
     let h = old.hold in
     let b = hears_at v w old new history n out (Ok turn) same he b0 in
@@ -432,26 +432,26 @@ hear_took v w old new history turn events out n passed same t r he e l b0 is wen
       delta = b.delta;
       out = out;
       reported = turn.events.items;
-      part = took_part turn b.delta went b.wire b.only (replies_run h turn.events.items out t r b.legal b.only b.count l)
+      reports = took_part turn b.delta went b.wire b.only (replies_run h turn.events.items out t r b.legal b.only b.count l)
           (λ d. (d, refl)) (λ d. d.0) b.waiting (is ∙ ap (λ (es : List Event). moved_all h es out) e) (b.fault.sound turn refl);
       few = omega (arith, b.count, l);
-      framed = λ g. b.framed (sym (ap (λ (y : Passed). y.waiting) went) ∙ g);
+      framed = λ g. b.framed (sym (ap (λ (y : PassAnswer). y.waiting) went) ∙ g);
       goes_on = b.goes_on;
     }
 
-pub hear_failed : {V W : Type 0} (v : Service V) (w : Wire W) (old new : Lent V W) (history : History) (fault : ClientFault) (out : List ℕ) (n : ℕ) (passed : Passed)
+pub hear_failed : {V W : Type 0} (v : Service V) (w : Wire W) (old new : Lent V W) (history : History) (fault : ClientFault) (out : List ℕ) (n : ℕ) (passed : PassAnswer)
     → n ≡ service_room old.hold → IsRoomy old.hold → (shows old.hold.history).closed ≡ false → history ≡ old.hold.history
     → HearsOf v w old new history n out (Err fault)
     → (passed.broken ≡ true → (new.hold ≡ old.hold) × IsBroken passed)
     → (passed.broken ≡ false → (new.hold ≡ moved old.hold (Fail (service_cause fault)) []) × Closed (service_cause fault) passed)
-    → HearPart v w old new passed
+    → HearReported v w old new passed
 hear_failed v w old new history fault out n passed same r c he b0 broke shut =
     let b = hears_at v w old new history n out (Err fault) same he b0 in
     record {
       delta = b.delta;
       out = [];
       reported = [];
-      part = either_part fault b.delta [] passed.broken refl b.wire (b.fault.stays fault refl) r c broke shut;
+      reports = either_part fault b.delta [] passed.broken refl b.wire (b.fault.stays fault refl) r c broke shut;
       few = omega arith;
       framed = λ g. absurd (not_waiting passed passed.broken refl broke shut g);
       goes_on = b.goes_on;
@@ -464,33 +464,33 @@ GivesOf k w old new history tape result = Gives (shows history) tape (λ x head 
     (λ taken. k.aside taken old.side) (λ taken. k.aside taken new.side) (λ head body taken. k.is_whole head body taken new.side)
     (k.fault old.side) (k.fault new.side) (k.rests (shows history) new.side) (w.past old.wire) (w.past new.wire) result
 
-pub hop_took : {K G W : Type 0} (k : Hop K G) (w : Wire W) (old new : Lent K W) (history : History) (tape : Tape) (turn : Turn) (events : List Event) (passed : Passed)
+pub hop_took : {K G W : Type 0} (k : Hop K G) (w : Wire W) (old new : Lent K W) (history : History) (tape : Tape) (turn : Turn) (events : List Event) (passed : PassAnswer)
     → IsRoomy old.hold → (shows old.hold.history).closed ≡ false → IsChosen (shows old.hold.history) → history ≡ old.hold.history → span_of tape ≡ chosen_span old.hold → events ≡ turn.events.items
     → GivesOf k w old new history tape (Ok turn) → new.hold ≡ moved_all old.hold events [] → WentOn turn passed
-    → HopPart k w old new passed
+    → HopReported k w old new passed
 hop_took k w old new history tape turn events passed r c chooses he te e b0 is went =
     let h = old.hold in
     let b = subst (λ (y : History). GivesOf k w old new y tape (Ok turn)) he b0 in
     record {
       delta = b.delta;
       reported = turn.events.items;
-      part = took_part turn b.delta went b.wire b.only (hop_runs h turn.events.items r b.legal b.only)
+      reports = took_part turn b.delta went b.wire b.only (hop_runs h turn.events.items r b.legal b.only)
           (λ d. (refl, d)) (λ d. d.1) b.waiting (is ∙ ap (λ (es : List Event). moved_all h es []) e) (b.fault.sound turn refl);
       goes_on = λ original adapted head taken f g given. b.goes_on c head (chosen (shows h.history) original adapted) taken (follows_span tape (chosen_span h) _ te (ends_chosen h original adapted chooses f g)) given;
       done = λ original adapted head taken f g over given. b.done c over head (chosen (shows h.history) original adapted) taken (follows_span tape (chosen_span h) _ te (ends_chosen h original adapted chooses f g)) given;
     }
 
-pub hop_failed : {K G W : Type 0} (k : Hop K G) (w : Wire W) (old new : Lent K W) (history : History) (tape : Tape) (fault : RelayFault) (cause : Cause) (passed : Passed)
+pub hop_failed : {K G W : Type 0} (k : Hop K G) (w : Wire W) (old new : Lent K W) (history : History) (tape : Tape) (fault : RelayFault) (cause : Cause) (passed : PassAnswer)
     → IsRoomy old.hold → (shows old.hold.history).closed ≡ false → IsChosen (shows old.hold.history) → history ≡ old.hold.history → span_of tape ≡ chosen_span old.hold
     → GivesOf k w old new history tape (Err fault) → cause ≡ hop_cause fault → Closed cause passed → new.hold ≡ moved old.hold (Fail cause) []
-    → HopPart k w old new passed
+    → HopReported k w old new passed
 hop_failed k w old new history tape fault cause passed r c chooses he te b0 own did is =
     let h = old.hold in
     let b = subst (λ (y : History). GivesOf k w old new y tape (Err fault)) he b0 in
     record {
       delta = b.delta;
       reported = [];
-      part = failed_part fault [] b.delta (did ∙ ap (λ (y : Cause). record { waiting = false; failed = Some y; broken = false }) own) b.wire
+      reports = failed_part fault [] b.delta (did ∙ ap (λ (y : Cause). record { waiting = false; failed = Some y; broken = false }) own) b.wire
           (b.fault.stays fault refl) r c (is ∙ ap (λ (y : Cause). moved h (Fail y) []) own);
       goes_on = λ original adapted head taken f g given. b.goes_on c head (chosen (shows h.history) original adapted) taken (follows_span tape (chosen_span h) _ te (ends_chosen h original adapted chooses f g)) given;
       done = λ original adapted head taken f g over given. absurd (false≢true (sym c ∙ over));
@@ -498,11 +498,11 @@ hop_failed k w old new history tape fault cause passed r c chooses he te b0 own 
 
 -- the service's fault where the request might not begin anew
 
-pub unbroken_by : (h k : Holding) (reused : Bool) (fault : ClientFault) (f1 : Option ClientFault) (passed : Passed) (b : Bool) → passed.broken ≡ b → f1 ≡ Some fault
+pub unbroken_by : (h k : Holding) (reused : Bool) (fault : ClientFault) (f1 : Option ClientFault) (passed : PassAnswer) (b : Bool) → passed.broken ≡ b → f1 ≡ Some fault
     → (passed.broken ≡ true → (k ≡ h) × IsBroken passed)
     → (passed.broken ≡ false → Breaks h.history reused (Some fault) → ⊥)
     → (cause : Cause) → passed.failed ≡ Some cause → Breaks h.history reused f1 → ⊥
 unbroken_by h k reused fault f1 passed true e stays broke shut cause f =
-    let n : None ≡ Some cause = sym (ap (λ (y : Passed). y.failed) (broke e).1) ∙ f in absurd cc
+    let n : None ≡ Some cause = sym (ap (λ (y : PassAnswer). y.failed) (broke e).1) ∙ f in absurd cc
 unbroken_by h k reused fault f1 passed false e stays broke shut cause f =
     subst (λ (y : Option ClientFault). Breaks h.history reused y → ⊥) (sym stays) (shut e)

@@ -16,27 +16,27 @@ use Rattle.adapt_sides.specs.declared.source.Source.{Ghosts as Source}
 use Rattle.adapt_sides.specs.declared.service.Service.{Ghosts as Service}
 use Rattle.adapt_sides.specs.declared.hop.Hop.{Ghosts as Hop}
 use Rattle.adapt_turn.specs.declared.ends.ServiceEnd.{ServiceEnd}
-use Rattle.adapt_turn.specs.declared.steps.Passed.{Passed}
-use Rattle.adapt_turn.specs.Made.{side_of}
-use Rattle.adapt_turn.specs.declared.turned.Outcome.{Outcome}
-use Rattle.adapt_turn.specs.declared.turned.Outcome.TheVariants as outcomes
+use Rattle.adapt_turn.specs.declared.pass.PassAnswer.{PassAnswer}
+use Rattle.adapt_turn.specs.ChosenHead.{side_of}
+use Rattle.adapt_turn.specs.declared.turn.Outcome.{Outcome}
+use Rattle.adapt_turn.specs.declared.turn.Outcome.TheVariants as outcomes
 use Rattle.adapt_sides.specs.declared.turn.Turn.{Turn}
 use Rattle.adapt_sides.specs.declared.fault.RelayFault.{RelayFault}
 use Rattle.adapt_sides.specs.declared.fault.RelayFault.TheVariants as relay
 use Rattle.adapt_sides.specs.Turns.{FailsGiving, Remembers, IsExplained}
-use Rattle.adapt_turn.specs.Parts.{IsOfSide, source_cause, service_cause, Breaks, HasCause, FailsFor, Lent, lending, View, source_view, hear_view, hop_view, Report, Part, stepped, hop_cause, outcome_by}
+use Rattle.adapt_turn.specs.Reports.{IsOfSide, source_cause, service_cause, Breaks, HasFaultReason, FailsFor, Lent, lending, View, source_view, hear_view, hop_view, Report, Reported, stepped, hop_cause, outcome_by}
 use Rattle.adapt_turn.specs.Passes.{service_faults}
 use Rattle.adapt_turn.specs.Stands.{Waited, WaitedBeside, WaitedBoth, faults_in, Blamed, BlamedWriter}
 
-pub part_waits : {F : Type 0} {v : View F} {h k : Holding} {r : Report} {passed : Passed} → Part v h k r passed → passed.waiting ≡ true → Waited v.rests v.waits v.before v.after
-part_waits p e = λ past b. let w = p.wire past b in (w.0, w.1, w.3.waiting e)
+pub reported_waits : {F : Type 0} {v : View F} {h k : Holding} {r : Report} {passed : PassAnswer} → Reported v h k r passed → passed.waiting ≡ true → Waited v.rests v.waits v.before v.after
+reported_waits p e = λ past b. let w = p.wire past b in (w.0, w.1, w.3.waiting e)
 
-pub part_blames : {F : Type 0} {v : View F} {h k : Holding} {r : Report} {passed : Passed} → Part v h k r passed → (cause : Cause) → passed.failed ≡ Some cause
+pub reported_blames : {F : Type 0} {v : View F} {h k : Holding} {r : Report} {passed : PassAnswer} → Reported v h k r passed → (cause : Cause) → passed.failed ≡ Some cause
     → Blamed (faults_in v) cause
-part_blames p cause e = λ past b. let w = p.wire past b in (w.0, w.1, w.3.failed cause e)
+reported_blames p cause e = λ past b. let w = p.wire past b in (w.0, w.1, w.3.failed cause e)
 
-pub part_idle : {F : Type 0} {v : View F} {h k : Holding} {r : Report} {passed : Passed} → Part v h k r passed → passed.waiting ≡ true → passed.failed ≡ None
-part_idle p e = (p.tells.idle e).2
+pub reported_idle : {F : Type 0} {v : View F} {h k : Holding} {r : Report} {passed : PassAnswer} → Reported v h k r passed → passed.waiting ≡ true → passed.failed ≡ None
+reported_idle p e = (p.tells.idle e).2
 
 -- the cause lies with the side, or with memory
 
@@ -74,21 +74,21 @@ outcome_fails (Some c) r cause s e = cc
 
 -- the service's line
 
-pub part_still : {F : Type 0} {v : View F} {h k : Holding} {r : Report} {passed : Passed} → Part v h k r passed → passed.waiting ≡ true → k ≡ h
-part_still {F} {v} {h} {k} {r} {passed} p e =
+pub reported_still : {F : Type 0} {v : View F} {h k : Holding} {r : Report} {passed : PassAnswer} → Reported v h k r passed → passed.waiting ≡ true → k ≡ h
+reported_still {F} {v} {h} {k} {r} {passed} p e =
     let i = p.tells.idle e in
     p.is ∙ ap (λ (f : Option Cause). moved_all h (stepped f r.events) r.out) i.2 ∙ ap (λ (es : List Event). moved_all h es r.out) i.1
 
 -- where a pass waits, the other answers of its wire that say so haven't become fewer
-pub writes_beside : {F : Type 0} {v : View F} {h k : Holding} {r : Report} {passed : Passed} → Part v h k r passed → passed.waiting ≡ true → WaitedBeside v.rests v.waits (λ q. q.read_waits) v.before v.after
+pub writes_beside : {F : Type 0} {v : View F} {h k : Holding} {r : Report} {passed : PassAnswer} → Reported v h k r passed → passed.waiting ≡ true → WaitedBeside v.rests v.waits (λ q. q.read_waits) v.before v.after
 writes_beside part e = λ p b. let w = part.wire p b in (w.0, w.1, w.2.read_waits, w.3.waiting e)
 
-pub reads_beside : {F : Type 0} {v : View F} {h k : Holding} {r : Report} {passed : Passed} → Part v h k r passed → passed.waiting ≡ true → WaitedBeside v.rests v.waits (λ q. q.write_waits) v.before v.after
+pub reads_beside : {F : Type 0} {v : View F} {h k : Holding} {r : Report} {passed : PassAnswer} → Reported v h k r passed → passed.waiting ≡ true → WaitedBeside v.rests v.waits (λ q. q.write_waits) v.before v.after
 reads_beside part e = λ p b. let w = part.wire p b in (w.0, w.1, w.2.write_waits, w.3.waiting e)
 
 -- a pass that failed did so by one step
-pub part_fails : {F : Type 0} {v : View F} {h k : Holding} {r : Report} {passed : Passed} → Part v h k r passed → (cause : Cause) → passed.failed ≡ Some cause → k ≡ moved h (Fail cause) []
-part_fails {F} {v} {h} {k} {r} {passed} p cause e = p.is ∙ ap (λ (f : Option Cause). moved_all h (stepped f r.events) r.out) e
+pub reported_fails : {F : Type 0} {v : View F} {h k : Holding} {r : Report} {passed : PassAnswer} → Reported v h k r passed → (cause : Cause) → passed.failed ≡ Some cause → k ≡ moved h (Fail cause) []
+reported_fails {F} {v} {h} {k} {r} {passed} p cause e = p.is ∙ ap (λ (f : Option Cause). moved_all h (stepped f r.events) r.out) e
 
 -- behind a pass that left no new fault
 pub blamed_then : {V W : Type 0} (v : Service V) (w : Wire W) (old mid new : Lent V W) (cause : Cause) (given taken : List ℕ) → (v.fault old.side ≡ None → v.fault mid.side ≡ None)
@@ -113,7 +113,7 @@ same_err f g e = cc
 -- the message was begun before the pass: the writer's fault is that of the first moment
 pub writer_blamed : {K G W : Type 0} (k : Hop K G) (w : Wire W) (begun new : Lent K W) (first : K) (failed : Option Cause) (cause : Cause) → failed ≡ Some cause
     → Blamed (faults_in (hop_view k w begun new)) cause
-    → HasCause (k.fault begun.side) (k.fault new.side) (FailsGiving (k.breaks_length (shows begun.hold.history) (k.body_framing new.side)))
+    → HasFaultReason (k.fault begun.side) (k.fault new.side) (FailsGiving (k.breaks_length (shows begun.hold.history) (k.body_framing new.side)))
     → ((had : RelayFault) → k.fault begun.side ≡ Some had → failed ≡ Some (hop_cause had)) → k.fault begun.side ≡ k.fault first
     → BlamedWriter k w (lending begun.hold first begun.wire) new cause
 writer_blamed k w begun new first failed cause e blamed has again is = λ p b.
@@ -132,7 +132,7 @@ writer_kept {K} {G} {W} k w old mid new cause e same blamed = λ p b.
 -- The reasons of first faults.
 
 -- a turn's, by what it answers
-pub cause_of : {F : Type 0} (old new : Option F) (reason : F → Type 0) (result : Result Turn F) → Remembers old new result → IsExplained old reason result → HasCause old new reason
+pub cause_of : {F : Type 0} (old new : Option F) (reason : F → Type 0) (result : Result Turn F) → Remembers old new result → IsExplained old reason result → HasFaultReason old new reason
 cause_of {F} old new reason (Ok turn) k r = λ none f n. let odd : Some f ≡ None = sym n ∙ k.sound turn refl in cc
 cause_of {F} old new reason (Err fault) k r = λ none f n.
     let is : Some fault ≡ Some f = sym (k.stays fault refl) ∙ n in
@@ -140,7 +140,7 @@ cause_of {F} old new reason (Err fault) k r = λ none f n.
     r none f (ap (λ (g : F). let e : Result Turn F = Err g in e) same)
 
 -- a weaker one
-pub cause_weaker : {F : Type 0} (old new : Option F) (reason wider : F → Type 0) → ((f : F) → reason f → wider f) → HasCause old new reason → HasCause old new wider
+pub cause_weaker : {F : Type 0} (old new : Option F) (reason wider : F → Type 0) → ((f : F) → reason f → wider f) → HasFaultReason old new reason → HasFaultReason old new wider
 cause_weaker {F} old new reason wider k w = λ none f n. k f (w none f n)
 
 pub giving_weaker : (this breaks : Type 0) (f : RelayFault) → FailsGiving (this × breaks) f → FailsGiving breaks f
@@ -148,11 +148,11 @@ giving_weaker this breaks f (inl d) = inl d
 giving_weaker this breaks f (inr l) = inr (l.0, l.1.1)
 
 -- no side was touched
-pub cause_none : {F : Type 0} (old new : Option F) (reason : F → Type 0) → new ≡ old → HasCause old new reason
+pub cause_none : {F : Type 0} (old new : Option F) (reason : F → Type 0) → new ≡ old → HasFaultReason old new reason
 cause_none {F} old new reason e = λ none f n. let odd : Some f ≡ None = sym n ∙ (e ∙ none) in cc
 
 -- the fault behind it, and what has its reason, by other names
-pub cause_kept : {F G : Type 0} (reason : G → F → Type 0) (f0 f1 f2 : Option F) (g g' : G) → f2 ≡ f1 → g' ≡ g → HasCause f0 f1 (reason g) → HasCause f0 f2 (reason g')
+pub cause_kept : {F G : Type 0} (reason : G → F → Type 0) (f0 f1 f2 : Option F) (g g' : G) → f2 ≡ f1 → g' ≡ g → HasFaultReason f0 f1 (reason g) → HasFaultReason f0 f2 (reason g')
 cause_kept {F} {G} reason f0 f1 f2 g g' e same w = λ none f n. subst (λ (z : G). reason z f) (sym same) (w none f (sym e ∙ n))
 
 pub not_failed : (failed : Option Cause) (closed : Bool) → ((cause : Cause) → failed ≡ Some cause → closed ≡ true) → closed ≡ false → failed ≡ None

@@ -13,10 +13,10 @@ use Rattle.adapt_hold.specs.Holding.{Holding, IsTied, shows, moved, history_then
 use Rattle.adapt_hold.specs.Steps.{brought, HasRoomFor, MayRun, moved_all}
 use Rattle.adapt_hold.proofs.Row.{no_bytes, stays}
 use Rattle.adapt_hold.proofs.Closes.{then_shows}
-use Rattle.adapt_turn.specs.declared.steps.Passed.{Passed}
-use Rattle.adapt_turn.specs.declared.turned.Side.{Side}
-use Rattle.adapt_turn.specs.declared.turned.Side.TheVariants.{Source, Service, NextHop}
-use Rattle.adapt_turn.specs.Parts.{View, Report, Part, stepped}
+use Rattle.adapt_turn.specs.declared.pass.PassAnswer.{PassAnswer}
+use Rattle.adapt_turn.specs.declared.turn.Side.{Side}
+use Rattle.adapt_turn.specs.declared.turn.Side.TheVariants.{Source, Service, NextHop}
+use Rattle.adapt_turn.specs.Reports.{View, Report, Reported, stepped}
 use Rattle.adapt_turn.specs.Rows.{is_fail, may_step, TookAll, TookBy, Advances, BytesOr}
 use Rattle.adapt_turn.proofs.Carry.{all_then}
 
@@ -88,10 +88,10 @@ of_replies event e = or_right (is_fail event) (is_of_sending event || is_of_repl
 pub of_hop : (event : Event) → is_of_hop event ≡ true → may_step NextHop event ≡ true
 of_hop event e = or_right (is_fail event) (is_of_hop event) e
 
-pub part_took : {F : Type 0} (side : Side) {v : View F} {h k : Holding} {r : Report} {passed : Passed}
+pub reported_took : {F : Type 0} (side : Side) {v : View F} {h k : Holding} {r : Report} {passed : PassAnswer}
     → ((event : Event) → v.events event ≡ true → may_step side event ≡ true) → IsTied h
-    → Part v h k r passed → TookBy (may_step side) h k
-part_took {F} side {v} {h} {k} {r} {passed} i t p = (
+    → Reported v h k r passed → TookBy (may_step side) h k
+reported_took {F} side {v} {h} {k} {r} {passed} i t p = (
   stepped passed.failed r.events,
   all_then v.events (may_step side) i (λ cause. refl) passed.failed r.events p.only,
   subst (λ (y : Holding). TookAll h (stepped passed.failed r.events) y) (sym p.is) (took_all h (stepped passed.failed r.events) r.out t p.runs),
@@ -111,11 +111,11 @@ grown p q given taken l = record {
   out = ap (λ (bs : List ℕ). length bs) l.out ∙ length-append p.taken taken;
 }
 
-pub part_acts : {F : Type 0} (side : Side) {v : View F} {h k : Holding} {r : Report} {passed : Passed}
+pub reported_acts : {F : Type 0} (side : Side) {v : View F} {h k : Holding} {r : Report} {passed : PassAnswer}
     → ((event : Event) → v.events event ≡ true → may_step side event ≡ true) → IsTied h
-    → Part v h k r passed
+    → Reported v h k r passed
     → passed.waiting ≡ false → passed.broken ≡ false → BytesOr (Advances (may_step side) h k) v.before v.after
-part_acts {F} side {v} {h} {k} {r} {passed} i t p w b = λ past here.
+reported_acts {F} side {v} {h} {k} {r} {passed} i t p w b = λ past here.
     let u = p.wire past here in
     let g = grown past u.0 r.given r.taken u.2 in
     let gr = g.read in

@@ -8,31 +8,31 @@ use Rattle.trace_core.specs.Turns.{after_all}
 use Rattle.adapt_hold.specs.Holding.{Holding, IsTied, shows, history_then, moved}
 use Rattle.adapt_hold.proofs.Row.{Ran, ran}
 use Rattle.adapt_hold.proofs.Closes.{then_shows}
-use Rattle.adapt_turn.specs.declared.steps.Passed.{Passed}
-use Rattle.adapt_turn.specs.Parts.{View, Report, Part, stepped}
+use Rattle.adapt_turn.specs.declared.pass.PassAnswer.{PassAnswer}
+use Rattle.adapt_turn.specs.Reports.{View, Report, Reported, stepped}
 
-pub part_ran : {F : Type 0} {v : View F} {h k : Holding} {r : Report} {passed : Passed}
-    → IsTied h → Part v h k r passed
+pub reported_ran : {F : Type 0} {v : View F} {h k : Holding} {r : Report} {passed : PassAnswer}
+    → IsTied h → Reported v h k r passed
     → Ran h (stepped passed.failed r.events) r.out
-part_ran {F} {v} {h} {k} {r} {passed} t p = ran h (stepped passed.failed r.events) r.out t p.runs.roomy p.runs.may p.runs.carried p.runs.room
+reported_ran {F} {v} {h} {k} {r} {passed} t p = ran h (stepped passed.failed r.events) r.out t p.runs.roomy p.runs.may p.runs.carried p.runs.room
 
 -- what is seen then
-pub part_shows : {F : Type 0} {v : View F} {h k : Holding} {r : Report} {passed : Passed}
-    → IsTied h → Part v h k r passed
+pub reported_shows : {F : Type 0} {v : View F} {h k : Holding} {r : Report} {passed : PassAnswer}
+    → IsTied h → Reported v h k r passed
     → shows k.history ≡ after_all (shows h.history) (stepped passed.failed r.events)
-part_shows {F} {v} {h} {k} {r} {passed} t p =
-    ap (λ (y : Holding). shows y.history) p.is ∙ (part_ran t p).seen
+reported_shows {F} {v} {h} {k} {r} {passed} t p =
+    ap (λ (y : Holding). shows y.history) p.is ∙ (reported_ran t p).seen
 
 over_by : (failed : Option Cause) (x y : Seen) (reported : List Event) (cause : Cause) → failed ≡ Some cause → y ≡ after_all x (stepped failed reported) → y.closed ≡ true
 over_by None x y reported cause e s = absurd cc
 over_by (Some c) x y reported cause e s = ap (λ (z : Seen). z.closed) s
 
 -- a pass that failed closed the history
-pub part_over : {F : Type 0} {v : View F} {h k : Holding} {r : Report} {passed : Passed}
-    → IsTied h → Part v h k r passed
+pub reported_over : {F : Type 0} {v : View F} {h k : Holding} {r : Report} {passed : PassAnswer}
+    → IsTied h → Reported v h k r passed
     → (cause : Cause) → passed.failed ≡ Some cause → (shows k.history).closed ≡ true
-part_over {F} {v} {h} {k} {r} {passed} t p cause e =
-    over_by passed.failed (shows h.history) (shows k.history) r.events cause e (part_shows t p)
+reported_over {F} {v} {h} {k} {r} {passed} t p cause e =
+    over_by passed.failed (shows h.history) (shows k.history) r.events cause e (reported_shows t p)
 
 -- Fail closes; Retry doesn't.
 

@@ -22,17 +22,17 @@ use Rattle.adapt_sides.specs.Turns.{Given, given_then}
 use Rattle.adapt_sides.specs.Turns.Gift.{nothing, message}
 use Rattle.adapt_hold.specs.Spans.{Span, EndsBody}
 use Rattle.adapt_hold.specs.Holding.{Holding, IsTied, IsRoomy, shows, moved}
-use Rattle.adapt_turn.specs.declared.steps.Passed.{Passed}
+use Rattle.adapt_turn.specs.declared.pass.PassAnswer.{PassAnswer}
 use Rattle.adapt_turn.specs.declared.ends.ServiceEnd.{ServiceEnd}
-use Rattle.adapt_turn.specs.Parts.{Lent, SourcePart, SendPart, HearPart}
-use Rattle.adapt_turn.specs.Passes.{Disagrees, SourcePasses, WritesDue, ReadsReplies, ServicePasses, LinePasses, line_of}
+use Rattle.adapt_turn.specs.Reports.{Lent, SourceReported, SendReported, HearReported}
+use Rattle.adapt_turn.specs.Passes.{Disagrees, SourcePasses, WritesDue, ReadsReplies, ServicePasses, ServiceEndPasses, service_end}
 use Rattle.adapt_turn.specs.Stands.{Texts, joined, no_texts, SideViews, writer_of, Stands, Pasts, Goes, HopsAre, IsRefusing, IsDelivered, IsDone}
-use Rattle.adapt_turn.specs.Made.{on_held, adapted_of, response_of}
+use Rattle.adapt_turn.specs.ChosenHead.{on_held, adapted_of, response_of}
 use Rattle.adapt_turn.proofs.Carry.{off_sending, off_replies, not_true, both_not}
 use Rattle.adapt_turn.proofs.Passes.{fail_runs}
 use Rattle.adapt_turn.proofs.Advance.{Others, with_source, with_service, with_writers, source_stands, send_stands, hear_stands, fail_stands, retry_stands}
 use Rattle.adapt_turn.proofs.Hops.{other_idle, hops_others}
-use Rattle.adapt_turn.proofs.Made.{KeepsMade, made_by, made_on}
+use Rattle.adapt_turn.proofs.ChosenHead.{KeepsMade, made_by, made_on}
 
 -- The laws of the three sides, together.
 
@@ -243,9 +243,9 @@ pub reopen : (h : Holding) (writers sides : SideViews) (request : List ℕ) (t :
 reopen h writers sides request t c conv s =
     rehop h writers sides request t t.next_taken t.back_taken (λ body p. conv.hops body t.next_taken t.back_taken p) conv.refuses (λ w. absurd (false≢true (sym c ∙ w.0))) s
 
-source_goes : {S H W : Type 0} (s : Source S H) (w : Wire W) (old new : Lent S W) (writers sides : SideViews) (service next : Past → Type 0) (passed : Passed)
+source_goes : {S H W : Type 0} (s : Source S H) (w : Wire W) (old new : Lent S W) (writers sides : SideViews) (service next : Past → Type 0) (passed : PassAnswer)
     → Rehops (shows old.hold.history) sides writers → Others (with_source s new.side (with_writers writers sides))
-    → IsTied old.hold → (shows old.hold.history).closed ≡ false → SourcePart s w old new passed
+    → IsTied old.hold → (shows old.hold.history).closed ≡ false → SourceReported s w old new passed
     → Goes (Stands old.hold (with_source s old.side sides)) (Stands new.hold (with_source s new.side (with_writers writers sides))) (on_wires (w.past old.wire) service next) (on_wires (w.past new.wire) service next)
 source_goes s w old new writers sides service next passed conv u tied c d = record {
   delta = record { source_read = d.delta; service_read = []; service_taken = []; next_taken = []; back_taken = [] };
@@ -263,14 +263,14 @@ fail_goes h k cause writers sides wires conv u tied roomy c is =
     goes_still (λ request t o. fail_stands h k cause (with_writers writers sides) request t u tied (fail_runs h cause [] roomy c) c is (reopen h writers sides request t c conv o))
 
 -- a source that doesn't agree never stood
-disagree_goes : {S H W : Type 0} (s : Source S H) (w : Wire W) (old new : Lent S W) (sides : SideViews) (stands : List ℕ → Texts → Type 0) (service next : Past → Type 0) (passed : Passed)
+disagree_goes : {S H W : Type 0} (s : Source S H) (w : Wire W) (old new : Lent S W) (sides : SideViews) (stands : List ℕ → Texts → Type 0) (service next : Past → Type 0) (passed : PassAnswer)
     → (shows old.hold.history).closed ≡ false → Disagrees s old new passed
     → Goes (Stands old.hold (with_source s old.side sides)) stands (on_wires (w.past old.wire) service next) (on_wires (w.past new.wire) service next)
 disagree_goes {S} {H} {W} s w old new sides stands service next passed c d =
     subst (λ (z : W). Goes (Stands old.hold (with_source s old.side sides)) stands (on_wires (w.past old.wire) service next) (on_wires (w.past z) service next)) (sym d.wire)
     (goes_still (λ request t o. absurd (d.no (o.agrees_is c))))
 
-pub source_passes_go : {S H W : Type 0} (s : Source S H) (w : Wire W) (old new : Lent S W) (writers sides : SideViews) (service next : Past → Type 0) (passed : Passed)
+pub source_passes_go : {S H W : Type 0} (s : Source S H) (w : Wire W) (old new : Lent S W) (writers sides : SideViews) (service next : Past → Type 0) (passed : PassAnswer)
     → Rehops (shows old.hold.history) sides writers → Others (with_source s new.side (with_writers writers sides))
     → (shows old.hold.history).closed ≡ false → SourcePasses s w old new passed
     → Goes (Stands old.hold (with_source s old.side sides)) (Stands new.hold (with_source s new.side (with_writers writers sides))) (on_wires (w.past old.wire) service next) (on_wires (w.past new.wire) service next)
@@ -279,31 +279,31 @@ source_passes_go s w old new writers sides service next passed conv u c p = elim
   | inr d ↦ disagree_goes s w old new sides _ service next passed c d
 ]
 
-send_goes : {V W : Type 0} (v : Service V) (w : Wire W) (old new : Lent V W) (writers sides : SideViews) (source next : Past → Type 0) (passed : Passed)
+send_goes : {V W : Type 0} (v : Service V) (w : Wire W) (old new : Lent V W) (writers sides : SideViews) (source next : Past → Type 0) (passed : PassAnswer)
     → Rehops (shows old.hold.history) sides writers → Others (with_service v new.side (with_writers writers sides))
     → ((x : Seen) (adapted text : List ℕ) → v.has_heard x adapted text old.side → v.has_heard x adapted text new.side) → IsTied old.hold
-    → (shows old.hold.history).closed ≡ false → SendPart v w old new passed
+    → (shows old.hold.history).closed ≡ false → SendReported v w old new passed
     → Goes (Stands old.hold (with_service v old.side sides)) (Stands new.hold (with_service v new.side (with_writers writers sides))) (on_wires source (w.past old.wire) next) (on_wires source (w.past new.wire) next)
 send_goes v w old new writers sides source next passed conv u same tied c d = record {
   delta = record { source_read = no_given; service_read = []; service_taken = d.delta; next_taken = []; back_taken = [] };
   stands = λ request t o. of_five (Stands new.hold (with_service v new.side (with_writers writers sides)) request) _ _ _ _ _ _ _ _ _ _ (given_still t.source_read) (sym (append-nil t.service_read)) refl (sym (append-nil t.next_taken)) (sym (append-nil t.back_taken))
       (send_stands v w old new (with_writers writers sides) passed request t u same tied c d (reopen old.hold writers (with_service v old.side sides) request t c (record { hops = conv.hops; refuses = conv.refuses }) o));
   source = λ p b. still_source source p b;
-  service = λ p b. let w = d.part.wire p b in (w.0, w.1, w.2);
+  service = λ p b. let w = d.reports.wire p b in (w.0, w.1, w.2);
   next = λ p b. still next p b;
 }
 
-hear_goes : {V W : Type 0} (v : Service V) (w : Wire W) (old new : Lent V W) (writers sides : SideViews) (source next : Past → Type 0) (passed : Passed)
+hear_goes : {V W : Type 0} (v : Service V) (w : Wire W) (old new : Lent V W) (writers sides : SideViews) (source next : Past → Type 0) (passed : PassAnswer)
     → Rehops (shows old.hold.history) sides writers → Others (with_service v new.side (with_writers writers sides))
     → ((heads came text : List ℕ) → v.has_sent heads (shows old.hold.history) came text old.side → v.has_sent heads (shows old.hold.history) came text new.side) → IsTied old.hold
-    → (shows old.hold.history).closed ≡ false → HearPart v w old new passed
+    → (shows old.hold.history).closed ≡ false → HearReported v w old new passed
     → Goes (Stands old.hold (with_service v old.side sides)) (Stands new.hold (with_service v new.side (with_writers writers sides))) (on_wires source (w.past old.wire) next) (on_wires source (w.past new.wire) next)
 hear_goes v w old new writers sides source next passed conv u same tied c d = record {
   delta = record { source_read = no_given; service_read = d.delta; service_taken = []; next_taken = []; back_taken = [] };
   stands = λ request t o. of_five (Stands new.hold (with_service v new.side (with_writers writers sides)) request) _ _ _ _ _ _ _ _ _ _ (given_still t.source_read) refl (sym (append-nil t.service_taken)) (sym (append-nil t.next_taken)) (sym (append-nil t.back_taken))
       (hear_stands v w old new (with_writers writers sides) passed request t u same tied c d (reopen old.hold writers (with_service v old.side sides) request t c (record { hops = conv.hops; refuses = conv.refuses }) o));
   source = λ p b. still_source source p b;
-  service = λ p b. let w = d.part.wire p b in (w.0, w.1, w.2);
+  service = λ p b. let w = d.reports.wire p b in (w.0, w.1, w.2);
   next = λ p b. still next p b;
 }
 
@@ -319,33 +319,33 @@ module _ {V W : Type 0} (v : Service V) (w : Wire W) (views : Option (ServiceEnd
 
   -- the line over which a side writes and reads
   abbrev line_at : Lent V W → Option (ServiceEnd V W)
-  line_at at = Some (line_of at.side at.wire)
+  line_at at = Some (service_end at.side at.wire)
 
   abbrev rehops : (old new : Lent V W) → Type 0
   rehops old new = Rehops (shows old.hold.history) (with_writers (views (line_at old)) sides) (views (line_at new))
 
   rehopped : (old new : Lent V W) → ((shows old.hold.history).modified ≡ true → v.adapted_head new.side ≡ v.adapted_head old.side) → ((shows old.hold.history).modified ≡ true → v.is_response new.side ≡ v.is_response old.side) → rehops old new
   rehopped old new head response =
-      let r = conv (shows old.hold.history) (line_of old.side old.wire) (line_of new.side new.wire) head response in record { hops = r.hops; refuses = r.refuses }
+      let r = conv (shows old.hold.history) (service_end old.side old.wire) (service_end new.side new.wire) head response in record { hops = r.hops; refuses = r.refuses }
 
-  write_goes : (reused : Bool) (old new : Lent V W) (passed : Passed) → IsTied old.hold → (shows old.hold.history).closed ≡ false → WritesDue v w reused old new passed → goes_on old.hold (line_at old) new.hold (line_at new)
+  write_goes : (reused : Bool) (old new : Lent V W) (passed : PassAnswer) → IsTied old.hold → (shows old.hold.history).closed ≡ false → WritesDue v w reused old new passed → goes_on old.hold (line_at old) new.hold (line_at new)
   write_goes reused old new passed tied c d =
-      send_goes v w old new (views (line_at new)) (with_writers (views (line_at old)) sides) source next passed (rehopped old new (λ e. d.head) (λ e. d.response)) (others (line_at new)) d.heard tied c d.part
+      send_goes v w old new (views (line_at new)) (with_writers (views (line_at old)) sides) source next passed (rehopped old new (λ e. d.head) (λ e. d.response)) (others (line_at new)) d.heard tied c d.reports
 
-  read_goes : (reused : Bool) (old new : Lent V W) (passed : Passed) → IsTied old.hold → (shows old.hold.history).closed ≡ false → ReadsReplies v w reused old new passed → goes_on old.hold (line_at old) new.hold (line_at new)
+  read_goes : (reused : Bool) (old new : Lent V W) (passed : PassAnswer) → IsTied old.hold → (shows old.hold.history).closed ≡ false → ReadsReplies v w reused old new passed → goes_on old.hold (line_at old) new.hold (line_at new)
   read_goes reused old new passed tied c d =
-      hear_goes v w old new (views (line_at new)) (with_writers (views (line_at old)) sides) source next passed (rehopped old new d.head d.response) (others (line_at new)) d.sent tied c d.part
+      hear_goes v w old new (views (line_at new)) (with_writers (views (line_at old)) sides) source next passed (rehopped old new d.head d.response) (others (line_at new)) d.sent tied c d.reports
 
-  side_goes : (reused : Bool) (old new : Lent V W) (passed : Passed) → (shows old.hold.history).closed ≡ false → ServicePasses v w reused old new passed → goes_on old.hold (line_at old) new.hold (line_at new)
+  side_goes : (reused : Bool) (old new : Lent V W) (passed : PassAnswer) → (shows old.hold.history).closed ≡ false → ServicePasses v w reused old new passed → goes_on old.hold (line_at old) new.hold (line_at new)
   side_goes reused old new passed c p = elim p.did [
     | inl d ↦ write_goes reused old new passed p.tied c d
     | inr d ↦ goes_then (write_goes reused old d.mid d.first p.tied c d.writes) (read_goes reused d.mid new d.second d.tied d.running d.reads)
   ]
 
-  pub line_passes_go : (reused : Bool) (h : Holding) (line : Option (ServiceEnd V W)) (k : Holding) (line' : Option (ServiceEnd V W)) (passed : Passed) → (shows h.history).closed ≡ false → LinePasses v w reused h line k line' passed → goes_on h line k line'
+  pub line_passes_go : (reused : Bool) (h : Holding) (line : Option (ServiceEnd V W)) (k : Holding) (line' : Option (ServiceEnd V W)) (passed : PassAnswer) → (shows h.history).closed ≡ false → ServiceEndPasses v w reused h line k line' passed → goes_on h line k line'
   line_passes_go reused h line k line' passed c p = elim p.did [
     | inl n ↦ subst (λ (y : Holding). goes_on h line y line') (sym n.2) (subst (λ (z : Option (ServiceEnd V W)). goes_on h line h z) (sym n.1) goes_none)
-    | inr m ↦ subst (λ (z : Option (ServiceEnd V W)). goes_on h z k line') (sym m.4) (subst (λ (z : Option (ServiceEnd V W)). goes_on h (Some (line_of m.0 m.2)) k z) (sym m.5)
+    | inr m ↦ subst (λ (z : Option (ServiceEnd V W)). goes_on h z k line') (sym m.4) (subst (λ (z : Option (ServiceEnd V W)). goes_on h (Some (service_end m.0 m.2)) k z) (sym m.5)
         (side_goes reused (record { hold = h; side = m.0; wire = m.2 }) (record { hold = k; side = m.1; wire = m.3 }) passed c m.6))
   ]
 

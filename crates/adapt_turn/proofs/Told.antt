@@ -14,12 +14,12 @@ use Rattle.trace_core.specs.Turns.{after_all, MayAllFollow, AllAre}
 use Rattle.adapt_hold.specs.Holding.{Holding, IsTied, shows, history_then, moved}
 use Rattle.adapt_hold.specs.Steps.{history_all, moved_all}
 use Rattle.adapt_hold.proofs.Row.{Ran}
-use Rattle.adapt_turn.specs.declared.steps.Passed.{Passed}
-use Rattle.adapt_turn.specs.declared.turned.Outcome.{Outcome}
-use Rattle.adapt_turn.specs.declared.turned.Outcome.TheVariants as outcomes
-use Rattle.adapt_turn.specs.Parts.{View, Report, Part, stepped, outcome_by, outcome_of}
+use Rattle.adapt_turn.specs.declared.pass.PassAnswer.{PassAnswer}
+use Rattle.adapt_turn.specs.declared.turn.Outcome.{Outcome}
+use Rattle.adapt_turn.specs.declared.turn.Outcome.TheVariants as outcomes
+use Rattle.adapt_turn.specs.Reports.{View, Report, Reported, stepped, outcome_by, outcome_of}
 use Rattle.adapt_turn.specs.Stands.{IsDone}
-use Rattle.adapt_turn.proofs.Stepped.{part_ran}
+use Rattle.adapt_turn.proofs.Stepped.{reported_ran}
 use Rattle.adapt_turn.proofs.Carry.{off_hop}
 
 open_of : (plan : Plan) (events : List Event) → (seen plan events).closed ≡ false → outcome_of events ≡ outcomes.Done
@@ -88,12 +88,12 @@ told_run test none h bytes None reported c m r o = by_close (after_all (shows h.
         let w = closed_by h.history (shows h.history) reported c m e in
         sym (ap outcome_of (ap (λ (y : History). y.events) r.history ∙ w.is) ∙ done_close test none w.event w.before w.close (w.of test o))
 
-pub part_told : {F : Type 0} {v : View F} {h k : Holding} {r : Report} {passed : Passed}
+pub reported_told : {F : Type 0} {v : View F} {h k : Holding} {r : Report} {passed : PassAnswer}
     → ((cause : Cause) → v.events (Fail cause) ≡ false) → IsTied h → (shows h.history).closed ≡ false
-    → Part v h k r passed
+    → Reported v h k r passed
     → outcome_by passed.failed ≡ outcome_of k.history.events
-part_told {F} {v} {h} {k} {r} {passed} none t c p =
-    told_run v.events none h r.out passed.failed r.events c p.runs.may (part_ran t p) p.only
+reported_told {F} {v} {h} {k} {r} {passed} none t c p =
+    told_run v.events none h r.out passed.failed r.events c p.runs.may (reported_ran t p) p.only
     ∙ ap (λ (y : Holding). outcome_of y.history.events) (sym p.is)
 
 pub done_reported : (h : Holding) (bytes : List ℕ) (failed : Option Cause) (reported : List Event) → Ran h (stepped failed reported) bytes

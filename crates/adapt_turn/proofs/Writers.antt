@@ -12,20 +12,20 @@ use Rattle.adapt_sides.specs.declared.fault.RelayFault.TheVariants as relay
 use Rattle.adapt_sides.specs.declared.hop.Hop.{Ghosts as Hop}
 use Rattle.adapt_sides.specs.Turns.Gift.{nothing, message}
 use Rattle.adapt_hold.specs.Holding.{Holding, IsTied, IsRoomy, shows, moved}
-use Rattle.adapt_turn.specs.declared.steps.Passed.{Passed}
-use Rattle.adapt_turn.specs.declared.turned.Side.TheVariants.{NextHop}
-use Rattle.adapt_turn.specs.Parts.{lending, IsOfSide, hop_cause}
+use Rattle.adapt_turn.specs.declared.pass.PassAnswer.{PassAnswer}
+use Rattle.adapt_turn.specs.declared.turn.Side.TheVariants.{NextHop}
+use Rattle.adapt_turn.specs.Reports.{lending, IsOfSide, hop_cause}
 use Rattle.adapt_turn.specs.Passes.{Choice, Begins, GivesOne, NextPasses, Writers, writers}
 use Rattle.adapt_turn.specs.Stands.{IsChosen, SideViews, writer_of, Stands, Pasts, Goes, Texts}
 use Rattle.adapt_turn.proofs.Advance.{Others}
-use Rattle.adapt_turn.proofs.ByTurn.{idle_no_message, of_next, of_back}
+use Rattle.adapt_turn.proofs.TurnAnswers.{idle_no_message, of_next, of_back}
 use Rattle.adapt_turn.proofs.Giving.{next_begin_goes, back_begin_goes, next_goes, back_goes}
-use Rattle.adapt_turn.proofs.Made.{KeepsMade, heads_idle}
-use Rattle.adapt_turn.proofs.Reasons.{part_idle, part_still, part_waits, part_blames, writer_blamed}
-use Rattle.adapt_turn.proofs.Rows.{part_took, part_acts, of_hop, untouched_or, fail_advances, took_fail}
-use Rattle.adapt_turn.proofs.Stepped.{part_over, failed_closed}
+use Rattle.adapt_turn.proofs.ChosenHead.{KeepsMade, heads_idle}
+use Rattle.adapt_turn.proofs.Reasons.{reported_idle, reported_still, reported_waits, reported_blames, writer_blamed}
+use Rattle.adapt_turn.proofs.Rows.{reported_took, reported_acts, of_hop, untouched_or, fail_advances, took_fail}
+use Rattle.adapt_turn.proofs.Stepped.{reported_over, failed_closed}
 use Rattle.adapt_turn.proofs.Together.{on_wires, with_hops, fail_goes, goes_none, goes_then}
-use Rattle.adapt_turn.proofs.Told.{part_told, open_done, failed_told}
+use Rattle.adapt_turn.proofs.Told.{reported_told, open_done, failed_told}
 
 hop_side : (fault : RelayFault) → IsOfSide (hop_cause fault)
 hop_side relay.NoMemory = tt
@@ -65,9 +65,9 @@ is_begun k choice next back next' back' b = elim b [
 ]
 
 module _ {K G A C : Type 0} {k : Hop K G} {a : Wire A} {c : Wire C} {choice : Choice G} where
-  pub unchosen_passes : (old : Writers K A C) (passed : Passed) → IsTied old.hold → (shows old.hold.history).closed ≡ false → (IsChosen (shows old.hold.history) → ⊥) → choice.unasked
+  pub unchosen_passes : (old : Writers K A C) (passed : PassAnswer) → IsTied old.hold → (shows old.hold.history).closed ≡ false → (IsChosen (shows old.hold.history) → ⊥) → choice.unasked
       → passed ≡ record { waiting = true; failed = None; broken = false } → NextPasses k a c choice old old passed
-  unchosen_passes old passed tied running none same is = subst (λ (z : Passed). NextPasses k a c choice old old z) (sym is) (record {
+  unchosen_passes old passed tied running none same is = subst (λ (z : PassAnswer). NextPasses k a c choice old old z) (sym is) (record {
     did = inl (record { none = none; unasked = same; same = refl });
     tied = tied;
     whole = refl;
@@ -85,13 +85,13 @@ module _ {K G A C : Type 0} {k : Hop K G} {a : Wire A} {c : Wire C} {choice : Ch
     elsewhere = (λ e. refl, λ e. refl);
   })
 
-  pub failed_passes : (old : Writers K A C) (h : Holding) (next back : K) (cause : Cause) (passed : Passed) → IsTied old.hold → (shows old.hold.history).closed ≡ false → IsChosen (shows old.hold.history)
+  pub failed_passes : (old : Writers K A C) (h : Holding) (next back : K) (cause : Cause) (passed : PassAnswer) → IsTied old.hold → (shows old.hold.history).closed ≡ false → IsChosen (shows old.hold.history)
       → choice.none cause → k.gift old.next ≡ nothing → k.gift old.back ≡ nothing → next ≡ old.next → back ≡ old.back → h ≡ moved old.hold (Fail cause) [] → passed ≡ record { waiting = false; failed = Some cause; broken = false }
       → NextPasses k a c choice old (writers h next old.next_wire back old.back_wire) passed
   failed_passes old h next back cause passed tied running chosen none n b next_is back_is moves is =
       subst (λ (z : K). NextPasses k a c choice old (writers h z old.next_wire back old.back_wire) passed) (sym next_is)
       (subst (λ (z : K). NextPasses k a c choice old (writers h old.next old.next_wire z old.back_wire) passed) (sym back_is)
-      (subst (λ (z : Passed). NextPasses k a c choice old (writers h old.next old.next_wire old.back old.back_wire) z) (sym is) (record {
+      (subst (λ (z : PassAnswer). NextPasses k a c choice old (writers h old.next old.next_wire old.back old.back_wire) z) (sym is) (record {
         did = inr (inl (record { cause = cause; none = none; next_idle = n; back_idle = b; new_is = ap (λ (z : Holding). writers z old.next old.next_wire old.back old.back_wire) moves }));
         tied = tied;
         whole = refl;
@@ -109,7 +109,7 @@ module _ {K G A C : Type 0} {k : Hop K G} {a : Wire A} {c : Wire C} {choice : Ch
         elsewhere = (λ e. refl, λ e. refl);
       })))
 
-  pub giving_passes : (old new : Writers K A C) (next back : K) (passed : Passed) → IsTied old.hold → (shows old.hold.history).closed ≡ false → IsChosen (shows old.hold.history)
+  pub giving_passes : (old new : Writers K A C) (next back : K) (passed : PassAnswer) → IsTied old.hold → (shows old.hold.history).closed ≡ false → IsChosen (shows old.hold.history)
       → Begins k choice old.next old.back next back → GivesOne k a c (writers old.hold next old.next_wire back old.back_wire) new passed → NextPasses k a c choice old new passed
   giving_passes old new next back passed tied running chosen begins gives =
       let b = is_begun k choice old.next old.back next back begins in
@@ -117,42 +117,42 @@ module _ {K G A C : Type 0} {k : Hop K G} {a : Wire A} {c : Wire C} {choice : Ch
         | inl (idle, m, same, wire) ↦
             let still = ap k.gift same in
             let is = still ∙ idle in
-            let p = m.part.part in
+            let p = m.reports.reports in
             record {
               did = inr (inr (record { next = next; back = back; chosen = chosen; begins = begins; gives = inl (idle, m, same, wire) }));
               tied = tied;
               whole = m.whole;
-              idle = part_idle p;
-              still = part_still p;
-              waits = λ e. inr (λ n o. b.busy (sym m.gift ∙ n) idle, of_next _ _ _ is (part_waits p e));
-              took = part_took NextHop of_hop tied p;
-              active = λ e. of_next _ _ _ is (part_acts NextHop of_hop tied p e m.whole);
+              idle = reported_idle p;
+              still = reported_still p;
+              waits = λ e. inr (λ n o. b.busy (sym m.gift ∙ n) idle, of_next _ _ _ is (reported_waits p e));
+              took = reported_took NextHop of_hop tied p;
+              active = λ e. of_next _ _ _ is (reported_acts NextHop of_hop tied p e m.whole);
               way = (λ n o. b.way.0 n (sym still ∙ o), λ n o. b.way.1 n (sym m.gift ∙ o));
-              blames = λ cause e. inr (inl (writer_blamed k c (lending old.hold next old.next_wire) (lending new.hold new.next new.next_wire) old.next passed.failed cause e (part_blames p cause e) m.reason m.again b.next_fault));
+              blames = λ cause e. inr (inl (writer_blamed k c (lending old.hold next old.next_wire) (lending new.hold new.next new.next_wire) old.next passed.failed cause e (reported_blames p cause e) m.reason m.again b.next_fault));
               of_side = λ cause e. inl (hop_blame cause (p.blamed cause e));
-              over = part_over tied p;
-              ends = part_told (λ cause. refl) tied running p;
+              over = reported_over tied p;
+              ends = reported_told (λ cause. refl) tied running p;
               sound = λ n. (λ f. p.sound n m.whole, λ f. ap k.fault same ∙ b.back_fault ∙ f);
               elsewhere = of_next _ _ _ is wire;
             }
         | inr (idle, m, same, wire) ↦
             let still = ap k.gift same in
             let is : k.gift new.back ≡ nothing → ⊥ = λ n. idle (sym m.gift ∙ n) in
-            let p = m.part.part in
+            let p = m.reports.reports in
             record {
               did = inr (inr (record { next = next; back = back; chosen = chosen; begins = begins; gives = inr (idle, m, same, wire) }));
               tied = tied;
               whole = m.whole;
-              idle = part_idle p;
-              still = part_still p;
-              waits = λ e. inr (λ n o. is o, of_back _ _ _ is (part_waits p e));
-              took = part_took NextHop of_hop tied p;
-              active = λ e. of_back _ _ _ is (part_acts NextHop of_hop tied p e m.whole);
+              idle = reported_idle p;
+              still = reported_still p;
+              waits = λ e. inr (λ n o. is o, of_back _ _ _ is (reported_waits p e));
+              took = reported_took NextHop of_hop tied p;
+              active = λ e. of_back _ _ _ is (reported_acts NextHop of_hop tied p e m.whole);
               way = (λ n o. b.way.0 n (sym m.gift ∙ o), λ n o. b.way.1 n (sym still ∙ o));
-              blames = λ cause e. inr (inr (writer_blamed k a (lending old.hold back old.back_wire) (lending new.hold new.back new.back_wire) old.back passed.failed cause e (part_blames p cause e) m.reason m.again b.back_fault));
+              blames = λ cause e. inr (inr (writer_blamed k a (lending old.hold back old.back_wire) (lending new.hold new.back new.back_wire) old.back passed.failed cause e (reported_blames p cause e) m.reason m.again b.back_fault));
               of_side = λ cause e. inl (hop_blame cause (p.blamed cause e));
-              over = part_over tied p;
-              ends = part_told (λ cause. refl) tied running p;
+              over = reported_over tied p;
+              ends = reported_told (λ cause. refl) tied running p;
               sound = λ n. (λ f. ap k.fault same ∙ b.next_fault ∙ f, λ f. p.sound n m.whole);
               elsewhere = of_back _ _ _ is wire;
             }
@@ -189,20 +189,20 @@ module _ {K G A C F : Type 0} (f f' : F) (k : Hop K G) (a : Wire A) (c : Wire C)
         (λ body taken q z w. (makes o.head back o.made, o.given (shows old.hold.history) [] body taken (idle_given (shows old.hold.history) [] body taken old.back o.idle q z w))))
   ]
 
-  gives_go : (old new : Writers K A C) (passed : Passed) → IsTied old.hold → (shows old.hold.history).closed ≡ false → (k.gift old.next ≡ nothing → k.gift old.back ≡ nothing → ⊥)
+  gives_go : (old new : Writers K A C) (passed : PassAnswer) → IsTied old.hold → (shows old.hold.history).closed ≡ false → (k.gift old.next ≡ nothing → k.gift old.back ≡ nothing → ⊥)
       → GivesOne k a c old new passed → writers_go f' old f' new
   gives_go old new passed tied running busy gives = elim gives [
     | inl (idle, m, same, wire) ↦ subst (λ (z : K). writers_go f' old f' (writers new.hold new.next new.next_wire z new.back_wire)) (sym same)
         (subst (λ (z : A). writers_go f' old f' (writers new.hold new.next new.next_wire old.back z)) (sym wire)
         (next_goes k c (lending old.hold old.next old.next_wire) (lending new.hold new.next new.next_wire) (made f' old.next) (made f' new.next) (with_hops k (made f') sides old.next old.back) (a.past old.back_wire) service passed
-        (others new.next old.back) tied running idle (λ n. busy n idle) m.gift (λ head q. frames old.next new.next _ head m.framing q) (keep new.next) m.part))
+        (others new.next old.back) tied running idle (λ n. busy n idle) m.gift (λ head q. frames old.next new.next _ head m.framing q) (keep new.next) m.reports))
     | inr (idle, m, same, wire) ↦ subst (λ (z : K). writers_go f' old f' (writers new.hold z new.next_wire new.back new.back_wire)) (sym same)
         (subst (λ (z : C). writers_go f' old f' (writers new.hold old.next z new.back new.back_wire)) (sym wire)
         (back_goes k a (lending old.hold old.back old.back_wire) (lending new.hold new.back new.back_wire) (made f' old.back) (made f' new.back) (with_hops k (made f') sides old.next old.back) service (c.past old.next_wire) passed
-        (others old.next new.back) tied running idle m.gift (λ head q. frames old.back new.back _ head m.framing q) (keep new.back) m.part))
+        (others old.next new.back) tied running idle m.gift (λ head q. frames old.back new.back _ head m.framing q) (keep new.back) m.reports))
   ]
 
-  pub next_passes_go : (choice : Choice G) (old new : Writers K A C) (passed : Passed) → IsRoomy old.hold → (shows old.hold.history).closed ≡ false → (choice.unasked → f' ≡ f)
+  pub next_passes_go : (choice : Choice G) (old new : Writers K A C) (passed : PassAnswer) → IsRoomy old.hold → (shows old.hold.history).closed ≡ false → (choice.unasked → f' ≡ f)
       → ((head : List ℕ) (hop : K) → IsChosen (shows old.hold.history) → choice.makes head (k.body_framing hop) → made f' hop (shows old.hold.history) head)
       → (choice.answers ≡ true → (shows old.hold.history).plan.point ≡ Respmod → ⊥)
       → NextPasses k a c choice old new passed → writers_go f old f' new

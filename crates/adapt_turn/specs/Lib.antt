@@ -1,10 +1,10 @@
-pub mod Freeing
-pub mod Made
-pub mod Moved
-pub mod Parts
+pub mod ServiceOver
+pub mod ChosenHead
+pub mod ByteCounts
+pub mod Reports
 pub mod Refusals
 pub mod Rows
 pub mod Stands
 pub mod Turn
-pub mod ByTurn
+pub mod TurnAnswers
 pub mod Passes

@@ -15,19 +15,19 @@ use Rattle.adapt_sides.specs.declared.fault.RelayFault.{RelayFault}
 use Rattle.adapt_sides.specs.Turns.{OfClientWire, FailsGiving}
 use Rattle.adapt_sides.specs.Turns.Gift.{nothing, message}
 use Rattle.adapt_hold.specs.Holding.{Holding, IsTied, shows, moved}
-use Rattle.adapt_turn.specs.declared.steps.Passed.{Passed}
-use Rattle.adapt_turn.specs.declared.turned.Side.{Side}
-use Rattle.adapt_turn.specs.declared.turned.Side.TheVariants as sides
-use Rattle.adapt_turn.specs.Parts.{Lent, lending, SourcePart, SendPart, HearPart, HopPart, Breaks, HasCause, FailsFor, IsOfSide, source_view, hear_view, source_room, service_room, service_cause, hop_cause, fault_of, outcome_by, outcome_of}
+use Rattle.adapt_turn.specs.declared.pass.PassAnswer.{PassAnswer}
+use Rattle.adapt_turn.specs.declared.turn.Side.{Side}
+use Rattle.adapt_turn.specs.declared.turn.Side.TheVariants as sides
+use Rattle.adapt_turn.specs.Reports.{Lent, lending, SourceReported, SendReported, HearReported, HopReported, Breaks, HasFaultReason, FailsFor, IsOfSide, source_view, hear_view, source_room, service_room, service_cause, hop_cause, fault_of, outcome_by, outcome_of}
 use Rattle.adapt_turn.specs.Rows.{may_step, TookBy, Advances, BytesOr}
 use Rattle.adapt_turn.specs.Stands.{IsChosen, Waited, WaitedBoth, FaultView, faults_in, Blamed, BlamedWriter}
-use Rattle.adapt_turn.specs.ByTurn.{OfWriter}
-use Rattle.adapt_turn.specs.Made.{MakesAt, MakesNoneAt, answers_user, on_held, response_of, wire_of}
+use Rattle.adapt_turn.specs.TurnAnswers.{OfWriter}
+use Rattle.adapt_turn.specs.ChosenHead.{MakesAt, MakesNoneAt, answers_user, on_held, response_of, wire_of}
 use Rattle.adapt_turn.specs.declared.ends.ServiceEnd.{ServiceEnd}
 use Rattle.adapt_turn.specs.declared.head.MakesHead.{Ghosts as MakesHead}
 
 -- the source's numbers aren't those of the history: it is no message of this transaction, which fails, and nothing is read
-pub record Disagrees {S H W : Type 0} (s : Source S H) (old new : Lent S W) (passed : Passed) : Type 0 where
+pub record Disagrees {S H W : Type 0} (s : Source S H) (old new : Lent S W) (passed : PassAnswer) : Type 0 where
   pub no : s.agrees (shows old.hold.history) old.side → ⊥
   pub failed : new.hold ≡ moved old.hold (Fail causes.Source) []
   pub side : new.side ≡ old.side
@@ -36,8 +36,8 @@ pub record Disagrees {S H W : Type 0} (s : Source S H) (old new : Lent S W) (pas
 
 -- A pass of the source's side. Where it waits, nothing was stepped, there was nothing to read or the wire answered Wait, and none of
 -- the bytes that the side keeps can be framed. Else a byte moved, or an event was stepped.
-pub record SourcePasses {S H W : Type 0} (s : Source S H) (w : Wire W) (old new : Lent S W) (passed : Passed) : Type 0 where
-  pub did : (s.agrees (shows old.hold.history) old.side × SourcePart s w old new passed) ⊎ Disagrees s old new passed
+pub record SourcePasses {S H W : Type 0} (s : Source S H) (w : Wire W) (old new : Lent S W) (passed : PassAnswer) : Type 0 where
+  pub did : (s.agrees (shows old.hold.history) old.side × SourceReported s w old new passed) ⊎ Disagrees s old new passed
   pub tied : IsTied old.hold
   pub idle : passed.waiting ≡ true → passed.failed ≡ None
   pub still : passed.waiting ≡ true → new.hold ≡ old.hold
@@ -52,7 +52,7 @@ pub record SourcePasses {S H W : Type 0} (s : Source S H) (w : Wire W) (old new 
   pub blames : (cause : Cause) → passed.failed ≡ Some cause
       → (s.agrees (shows old.hold.history) old.side → Blamed (faults_in (source_view s w old new)) cause)
       × ((s.agrees (shows old.hold.history) old.side → ⊥) → cause ≡ causes.Source)
-  pub reason : HasCause (s.fault old.side) (s.fault new.side) (λ fault. s.has_reason fault new.side)
+  pub reason : HasFaultReason (s.fault old.side) (s.fault new.side) (λ fault. s.has_reason fault new.side)
   pub of_side : (cause : Cause) → passed.failed ≡ Some cause → IsOfSide cause
   pub over : (cause : Cause) → passed.failed ≡ Some cause → (shows new.hold.history).closed ≡ true
   pub ends : outcome_by passed.failed ≡ outcome_of new.hold.history.events
@@ -63,9 +63,9 @@ pub record SourcePasses {S H W : Type 0} (s : Source S H) (w : Wire W) (old new 
   pub head : s.head new.side ≡ s.head old.side
 
 -- the service's side wrote what was due
-pub record WritesDue {V W : Type 0} (v : Service V) (w : Wire W) (reused : Bool) (old new : Lent V W) (passed : Passed) : Type 0 where
-  pub part : SendPart v w old new passed
-  pub reason : HasCause (v.fault old.side) (v.fault new.side) (λ fault. fault ≡ client.Device)
+pub record WritesDue {V W : Type 0} (v : Service V) (w : Wire W) (reused : Bool) (old new : Lent V W) (passed : PassAnswer) : Type 0 where
+  pub reports : SendReported v w old new passed
+  pub reason : HasFaultReason (v.fault old.side) (v.fault new.side) (λ fault. fault ≡ client.Device)
   pub heard : (x : Seen) (adapted read : List ℕ) → v.has_heard x adapted read old.side → v.has_heard x adapted read new.side
   pub head : v.adapted_head new.side ≡ v.adapted_head old.side
   pub response : v.is_response new.side ≡ v.is_response old.side
@@ -74,9 +74,9 @@ pub record WritesDue {V W : Type 0} (v : Service V) (w : Wire W) (reused : Bool)
   pub breaks : passed.broken ≡ true → Breaks new.hold.history reused (v.fault new.side)
 
 -- it read replies
-pub record ReadsReplies {V W : Type 0} (v : Service V) (w : Wire W) (reused : Bool) (old new : Lent V W) (passed : Passed) : Type 0 where
-  pub part : HearPart v w old new passed
-  pub reason : HasCause (v.fault old.side) (v.fault new.side) (λ fault. v.has_reason fault (shows old.hold.history) new.side)
+pub record ReadsReplies {V W : Type 0} (v : Service V) (w : Wire W) (reused : Bool) (old new : Lent V W) (passed : PassAnswer) : Type 0 where
+  pub reports : HearReported v w old new passed
+  pub reason : HasFaultReason (v.fault old.side) (v.fault new.side) (λ fault. v.has_reason fault (shows old.hold.history) new.side)
   pub sent : (request came taken : List ℕ) → v.has_sent request (shows old.hold.history) came taken old.side → v.has_sent request (shows old.hold.history) came taken new.side
   pub rests : (x : Seen) → v.rests_writing x old.side → v.rests_writing x new.side
   pub head : (shows old.hold.history).modified ≡ true → v.adapted_head new.side ≡ v.adapted_head old.side
@@ -87,15 +87,15 @@ pub record ReadsReplies {V W : Type 0} (v : Service V) (w : Wire W) (reused : Bo
 -- it wrote, and then read
 pub record DoesBoth {V W : Type 0} (v : Service V) (w : Wire W) (reused : Bool) (old new : Lent V W) : Type 0 where
   pub mid : Lent V W
-  pub first : Passed
-  pub second : Passed
+  pub first : PassAnswer
+  pub second : PassAnswer
   pub tied : IsTied mid.hold
   pub running : (shows mid.hold.history).closed ≡ false
   pub writes : WritesDue v w reused old mid first
   pub reads : ReadsReplies v w reused mid new second
 
 -- A pass of the service's side: it writes, and reads unless the write closed the transaction or met a broken connection.
-pub record ServicePasses {V W : Type 0} (v : Service V) (w : Wire W) (reused : Bool) (old new : Lent V W) (passed : Passed) : Type 0 where
+pub record ServicePasses {V W : Type 0} (v : Service V) (w : Wire W) (reused : Bool) (old new : Lent V W) (passed : PassAnswer) : Type 0 where
   pub did : WritesDue v w reused old new passed ⊎ DoesBoth v w reused old new
   pub tied : IsTied old.hold
   pub idle : passed.waiting ≡ true → passed.failed ≡ None
@@ -114,8 +114,8 @@ pub record ServicePasses {V W : Type 0} (v : Service V) (w : Wire W) (reused : B
   pub sound : passed.failed ≡ None → passed.broken ≡ false → v.fault old.side ≡ None → v.fault new.side ≡ None
   pub breaks : passed.broken ≡ true → (passed.failed ≡ None) × Breaks new.hold.history reused (v.fault new.side)
 
-abbrev pub line_of : {V W : Type 0} → V → W → ServiceEnd V W
-line_of side wire = record { side = side; wire = Some wire }
+abbrev pub service_end : {V W : Type 0} → V → W → ServiceEnd V W
+service_end side wire = record { side = side; wire = Some wire }
 
 -- the service's side, where there is a service, and its wire as long as its connection is held
 abbrev pub service_faults : {V W : Type 0} → Service V → Wire W → (old new : Option (ServiceEnd V W)) → FaultView ClientFault
@@ -129,9 +129,9 @@ service_faults v w old new = record {
 }
 
 -- A pass of the service's line: where no connection is held nothing is due, else it is the side's pass.
-pub record LinePasses {V W : Type 0} (v : Service V) (w : Wire W) (reused : Bool) (old : Holding) (line : Option (ServiceEnd V W)) (new : Holding) (line' : Option (ServiceEnd V W)) (passed : Passed) : Type 0 where
+pub record ServiceEndPasses {V W : Type 0} (v : Service V) (w : Wire W) (reused : Bool) (old : Holding) (line : Option (ServiceEnd V W)) (new : Holding) (line' : Option (ServiceEnd V W)) (passed : PassAnswer) : Type 0 where
   pub did : ((wire_of line ≡ None) × (line' ≡ line) × (new ≡ old) × (passed ≡ record { waiting = true; failed = None; broken = false }))
-      ⊎ ((side side' : V) × (wire wire' : W) × (line ≡ Some (line_of side wire)) × (line' ≡ Some (line_of side' wire'))
+      ⊎ ((side side' : V) × (wire wire' : W) × (line ≡ Some (service_end side wire)) × (line' ≡ Some (service_end side' wire'))
       × ServicePasses v w reused (lending old side wire) (lending new side' wire') passed)
 
 -- What a pass of the next hop is lent: what is held, the writer on the next hop's wire, and that back to the user, with their wires.
@@ -185,19 +185,19 @@ abbrev pub Begins : {K G : Type 0} → Hop K G → Choice G → (next back next'
 Begins k choice next back next' back' = HadMessage k choice next back next' back' ⊎ (BeginsOn k choice false next next' back back' ⊎ BeginsOn k choice true back back' next next')
 
 -- a writer gave of the message that it has
-pub record GivesMessage {K G W : Type 0} (k : Hop K G) (w : Wire W) (old new : Lent K W) (passed : Passed) : Type 0 where
-  pub part : HopPart k w old new passed
-  pub reason : HasCause (k.fault old.side) (k.fault new.side) (FailsGiving (k.breaks_length (shows old.hold.history) (k.body_framing new.side)))
+pub record GivesOn {K G W : Type 0} (k : Hop K G) (w : Wire W) (old new : Lent K W) (passed : PassAnswer) : Type 0 where
+  pub reports : HopReported k w old new passed
+  pub reason : HasFaultReason (k.fault old.side) (k.fault new.side) (FailsGiving (k.breaks_length (shows old.hold.history) (k.body_framing new.side)))
   pub again : (had : RelayFault) → k.fault old.side ≡ Some had → passed.failed ≡ Some (hop_cause had)
   pub gift : k.gift new.side ≡ k.gift old.side
   pub framing : k.body_framing new.side ≡ k.body_framing old.side
   pub whole : passed.broken ≡ false
 
 -- that of the two which has a message: the one back to the user where that was begun; the other one and its wire stay
-abbrev pub GivesOne : {K G A C : Type 0} → Hop K G → Wire A → Wire C → (old new : Writers K A C) → Passed → Type 0
+abbrev pub GivesOne : {K G A C : Type 0} → Hop K G → Wire A → Wire C → (old new : Writers K A C) → PassAnswer → Type 0
 GivesOne k a c old new passed =
-    ((k.gift old.back ≡ nothing) × GivesMessage k c (lending old.hold old.next old.next_wire) (lending new.hold new.next new.next_wire) passed × (new.back ≡ old.back) × (new.back_wire ≡ old.back_wire))
-    ⊎ ((k.gift old.back ≡ nothing → ⊥) × GivesMessage k a (lending old.hold old.back old.back_wire) (lending new.hold new.back new.back_wire) passed × (new.next ≡ old.next) × (new.next_wire ≡ old.next_wire))
+    ((k.gift old.back ≡ nothing) × GivesOn k c (lending old.hold old.next old.next_wire) (lending new.hold new.next new.next_wire) passed × (new.back ≡ old.back) × (new.back_wire ≡ old.back_wire))
+    ⊎ ((k.gift old.back ≡ nothing → ⊥) × GivesOn k a (lending old.hold old.back old.back_wire) (lending new.hold new.back new.back_wire) passed × (new.next ≡ old.next) × (new.next_wire ≡ old.next_wire))
 
 -- no message is chosen, and nothing is done
 pub record HasNoChoice {K G A C : Type 0} (choice : Choice G) (old new : Writers K A C) : Type 0 where
@@ -214,7 +214,7 @@ pub record FailsToBegin {K G A C : Type 0} (k : Hop K G) (choice : Choice G) (ol
   pub new_is : new ≡ writers (moved old.hold (Fail cause) []) old.next old.next_wire old.back old.back_wire
 
 -- the chosen message goes out, and is begun where it wasn't
-pub record BeginsAndGives {K G A C : Type 0} (k : Hop K G) (a : Wire A) (c : Wire C) (choice : Choice G) (old new : Writers K A C) (passed : Passed) : Type 0 where
+pub record BeginsAndGives {K G A C : Type 0} (k : Hop K G) (a : Wire A) (c : Wire C) (choice : Choice G) (old new : Writers K A C) (passed : PassAnswer) : Type 0 where
   pub next : K
   pub back : K
   pub chosen : IsChosen (shows old.hold.history)
@@ -222,7 +222,7 @@ pub record BeginsAndGives {K G A C : Type 0} (k : Hop K G) (a : Wire A) (c : Wir
   pub gives : GivesOne k a c (writers old.hold next old.next_wire back old.back_wire) new passed
 
 -- A pass of the next hop's side.
-pub record NextPasses {K G A C : Type 0} (k : Hop K G) (a : Wire A) (c : Wire C) (choice : Choice G) (old new : Writers K A C) (passed : Passed) : Type 0 where
+pub record NextPasses {K G A C : Type 0} (k : Hop K G) (a : Wire A) (c : Wire C) (choice : Choice G) (old new : Writers K A C) (passed : PassAnswer) : Type 0 where
   pub did : HasNoChoice choice old new ⊎ (FailsToBegin k choice old new ⊎ BeginsAndGives k a c choice old new passed)
   pub tied : IsTied old.hold
   pub whole : passed.broken ≡ false
@@ -248,7 +248,7 @@ pub record NextPasses {K G A C : Type 0} (k : Hop K G) (a : Wire A) (c : Wire C)
   pub elsewhere : OfWriter (k.gift new.back) (new.back_wire ≡ old.back_wire) (new.next_wire ≡ old.next_wire)
 
 -- A pass of any side: `none` says why the head of the chosen message couldn't be made, and the line is the service's after the pass.
-pub record AnyPasses {V W : Type 0} (v : Service V) (reused : Bool) (none : Cause → Type 0) (side : Side) (old new : Holding) (line : Option (ServiceEnd V W)) (passed : Passed) : Type 0 where
+pub record AnyPasses {V W : Type 0} (v : Service V) (reused : Bool) (none : Cause → Type 0) (side : Side) (old new : Holding) (line : Option (ServiceEnd V W)) (passed : PassAnswer) : Type 0 where
   -- one that fails closes the transaction, and one that waits does nothing
   pub over : (cause : Cause) → passed.failed ≡ Some cause → (shows new.history).closed ≡ true
   pub idle : passed.waiting ≡ true → passed.failed ≡ None

@@ -5,9 +5,9 @@ use Rattle.trace_core.specs.declared.history.Event.TheVariants.{Fail}
 use Rattle.trace_core.specs.Turns.{AllAre, is_of_source, is_of_sending, is_of_replies, is_of_hop}
 use Rattle.wire_kit.specs.Past.{Past}
 use Rattle.adapt_hold.specs.Holding.{Holding, Took}
-use Rattle.adapt_turn.specs.declared.turned.Side.{Side}
-use Rattle.adapt_turn.specs.declared.turned.Side.TheVariants.{Source, Service, NextHop}
-use Rattle.adapt_turn.specs.Moved.{bytes_between}
+use Rattle.adapt_turn.specs.declared.turn.Side.{Side}
+use Rattle.adapt_turn.specs.declared.turn.Side.TheVariants.{Source, Service, NextHop}
+use Rattle.adapt_turn.specs.ByteCounts.{bytes_between}
 
 abbrev pub is_fail : Event → Bool
 is_fail (Fail cause) = true

@@ -15,8 +15,8 @@ use Rattle.adapt_sides.specs.Turns.Gift.{nothing, message, refusal}
 use Rattle.adapt_hold.specs.Spans.{Span, EndsBody}
 use Rattle.adapt_hold.specs.Holding.{Holding, shows}
 use Rattle.trace_core.specs.History.{History}
-use Rattle.adapt_turn.specs.declared.turned.Outcome.TheVariants as outcomes
-use Rattle.adapt_turn.specs.Parts.{Lent, View, outcome_of, hop_cause}
+use Rattle.adapt_turn.specs.declared.turn.Outcome.TheVariants as outcomes
+use Rattle.adapt_turn.specs.Reports.{Lent, View, outcome_of, hop_cause}
 
 -- the next hop has a message to get
 abbrev pub IsChosen : Seen → Type 0

@@ -15,17 +15,17 @@ use Rattle.adapt_sides.specs.Turns.Gift.{nothing, message}
 use Rattle.adapt_hold.specs.Holding.{Holding, shows}
 use Rattle.adapt_turn.specs.declared.ends.Ends.{Ends}
 use Rattle.adapt_turn.specs.declared.ends.ServiceEnd.{ServiceEnd}
-use Rattle.adapt_turn.specs.declared.pace.Pace.{Pace}
-use Rattle.adapt_turn.specs.declared.turned.Side.{Side}
-use Rattle.adapt_turn.specs.declared.turned.Side.TheVariants as sides
-use Rattle.adapt_turn.specs.declared.turned.Outcome.{Outcome}
-use Rattle.adapt_turn.specs.declared.turned.Outcome.TheVariants as outcomes
-use Rattle.adapt_turn.specs.Made.{answers_user, on_held, response_of, side_of, wire_of}
-use Rattle.adapt_turn.specs.Parts.{Lent, lending, Breaks, HasCause, FailsFor, source_view, source_room, service_room}
+use Rattle.plan_rules.specs.declared.pace.Pace.{Pace}
+use Rattle.adapt_turn.specs.declared.turn.Side.{Side}
+use Rattle.adapt_turn.specs.declared.turn.Side.TheVariants as sides
+use Rattle.adapt_turn.specs.declared.turn.Outcome.{Outcome}
+use Rattle.adapt_turn.specs.declared.turn.Outcome.TheVariants as outcomes
+use Rattle.adapt_turn.specs.ChosenHead.{answers_user, on_held, response_of, side_of, wire_of}
+use Rattle.adapt_turn.specs.Reports.{Lent, lending, Breaks, HasFaultReason, FailsFor, source_view, source_room, service_room}
 use Rattle.adapt_turn.specs.Passes.{Writers, service_faults}
 use Rattle.adapt_turn.specs.Rows.{may_step, TookBy, Advances}
 use Rattle.adapt_turn.specs.Stands.{IsChosen, IsDone, Pasts, Waited, WaitedBoth, faults_in, Blamed, BlamedWriter}
-use Rattle.adapt_turn.specs.ByTurn.{BySide, OfWriter}
+use Rattle.adapt_turn.specs.TurnAnswers.{BySide, OfWriter}
 
 -- Why it waits.
 
@@ -229,7 +229,7 @@ pub record SourceFails {S H W : Type 0} (s : Source S H) (w : Wire W) (old new :
   -- and else it is Source
   pub disagrees : (s.agrees (shows old.hold.history) old.side → ⊥) → cause ≡ causes.Source
   -- a fault that the side didn't have before has its reason
-  pub reason : HasCause (s.fault old.side) (s.fault new.side) (λ fault. s.has_reason fault new.side)
+  pub reason : HasFaultReason (s.fault old.side) (s.fault new.side) (λ fault. s.has_reason fault new.side)
 
 -- it failed for the service
 pub record ServiceFails {V W : Type 0} (v : Service V) (w : Wire W) (reused : Bool) (old new : Option (ServiceEnd V W)) (hold : Holding) (cause : Cause) : Type 0 where

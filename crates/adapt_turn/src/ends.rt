@@ -1,9 +1,9 @@
 //! The ends of a transaction: what it begins with, and what is left of one.
 
 use crate::head::MakesHead;
-use crate::turned::Outcome;
+use crate::turn::Outcome;
 use adapt_sides::{Hop, Service, Source};
-use plan_rules::{Limits, Plan};
+use plan_rules::{Limits, Pace, Plan};
 use span_bank::{Ledgers, Stake};
 use trace_core::Seen;
 use wire_kit::Wire;
@@ -62,12 +62,7 @@ pub struct Start<B: Ledgers, E: EndTypes> {
     /// A reservation of just the plan's claim, of which nothing is held.
     pub stake: Stake<B>,
     pub ends: Ends<E>,
-    /// How many seconds may pass without a moved byte.
-    pub deadline: u64,
-    /// The moment, in seconds.
-    pub now: u64,
-    /// Whether the service's connection was used before.
-    pub reused: bool,
+    pub pace: Pace,
 }
 
 /// What is left of a transaction that ended.

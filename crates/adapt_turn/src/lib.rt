@@ -3,15 +3,12 @@
 
 mod ends;
 mod head;
-mod pace;
 mod pass;
-mod steps;
-mod turned;
+mod turn;
 mod tx;
 
 pub use ends::{EndTypes, Ends, FreedConnection, ServiceEnd, Start, TxParts};
 pub use head::MakesHead;
-pub use pace::Pace;
-pub use steps::Passed;
-pub use turned::{Outcome, Side, Turned};
+pub use pass::PassAnswer;
+pub use turn::{Outcome, Side, TurnAnswer};
 pub use tx::{Answering, Going, Making, Refusing, Standing, Tx};

@@ -10,25 +10,24 @@ ghost use Rattle.adapt_hold.specs.Holding.{shows, IsRoomy, IsTied};
 ghost use Rattle.trace_core.specs.History.{seen};
 ghost use Rattle.adapt_sides.specs.Turns.{Gift, Given};
 ghost use Rattle.adapt_sides.specs.Turns.Gift.{nothing};
-ghost use Rattle.adapt_turn.specs.Parts.{outcome_of, fault_of};
+ghost use Rattle.adapt_turn.specs.Reports.{outcome_of, fault_of};
 ghost use Rattle.adapt_turn.specs.Refusals.{IsDue, user_fault};
 ghost use Rattle.adapt_turn.specs.Stands.{Pasts, Texts, no_texts, user_gift};
 
-mod answers;
+mod connection;
+mod contract;
 mod counts;
-mod freeing;
-mod passes;
-mod refusals;
-mod retries;
-mod turns;
+mod pass;
+mod refusal;
+mod retry;
+mod turn;
 
 use crate::ends::{EndTypes, Ends, Start, TxParts};
-use crate::pace::Pace;
-use crate::turned::Outcome;
+use crate::turn::Outcome;
 use adapt_hold::Hold;
 use adapt_sides::{Hop, Service, Source};
-pub use answers::{Answering, Making};
-use plan_rules::{Limits, Plan};
+pub use contract::{Answering, Making};
+use plan_rules::{Limits, Pace, Plan};
 use span_bank::{Ledgers, Stake};
 use std::alloc::Global;
 use trace_core::{Event, Seen};
@@ -73,11 +72,11 @@ pub trait Refusing {
 ///
 /// ```
 /// // A user's request that isn't offered: its head was read, and its body of six bytes comes.
-/// assert_eq!(rt; tx.turn(rt, &bank, Side::Source, 101), Turned::Moved(6));
+/// assert_eq!(rt; tx.turn(rt, &bank, Side::Source, 101), TurnAnswer::Moved(6));
 /// // 97 bytes of its head go on, and the six.
-/// assert_eq!(rt; tx.turn(rt, &bank, Side::NextHop, 102), Turned::Moved(103));
+/// assert_eq!(rt; tx.turn(rt, &bank, Side::NextHop, 102), TurnAnswer::Moved(103));
 /// assert_eq!(rt; tx.outcome(), Some(Outcome::Done));
-/// assert_eq!(rt; tx.turn(rt, &bank, Side::Source, 103), Turned::Finished(Outcome::Done));
+/// assert_eq!(rt; tx.turn(rt, &bank, Side::Source, 103), TurnAnswer::Finished(Outcome::Done));
 /// ```
 #[must_use]
 pub struct Tx<B: Ledgers, E: EndTypes> {
@@ -98,7 +97,7 @@ impl<B: Ledgers, E: EndTypes> Standing for Tx<B, E> {
     ghost use Rattle.std.specs.Prelude.{◌≡◌, [], MatchOption};
     ghost use Rattle.trace_core.specs.declared.history.Seen.{Seen};
     ghost use Rattle.adapt_turn.specs.Stands.{Stands, writer_of};
-    ghost use Rattle.adapt_turn.specs.Made.{IsMade, adapted_of, response_of, on_held};
+    ghost use Rattle.adapt_turn.specs.ChosenHead.{IsMade, adapted_of, response_of, on_held};
 
     ghost stands = { λ tx request t.
         let made : E.Writer → Seen → List ℕ → Type 0 = λ hop x head. IsMade (E.Maker.makes tx.ends.maker (E.Reader.head tx.ends.source)) (adapted_of E.Client.adapted_head tx.ends.service) (response_of E.Client.is_response tx.ends.service) (E.Writer.body_framing hop) x head in
@@ -118,8 +117,8 @@ impl<B: Ledgers, E: EndTypes> Standing for Tx<B, E> {
 impl<B: Ledgers, E: EndTypes> Going for Tx<B, E> {
     ghost use Rattle.std.specs.Prelude.{◌≡◌};
     ghost use Rattle.adapt_turn.specs.Stands.{Goes};
-    ghost use Rattle.adapt_turn.specs.Made.{on_held};
-    ghost use Rattle.adapt_turn.specs.Moved.{SumsBytes, MovesOver};
+    ghost use Rattle.adapt_turn.specs.ChosenHead.{on_held};
+    ghost use Rattle.adapt_turn.specs.ByteCounts.{SumsBytes, MovesOver};
 
     ghost goes = { λ old new. Goes (⟦<Tx<B, E> as Standing>⟧.stands old) (⟦<Tx<B, E> as Standing>⟧.stands new)
         (⟦<Tx<B, E> as Standing>⟧.pasts old) (⟦<Tx<B, E> as Standing>⟧.pasts new) };
@@ -160,8 +159,7 @@ impl<B: Ledgers, E: EndTypes> Tx<B, E> {
         ensures accepts { IsOk result ↔ E.Reader.may_begin start.plan start.ends.source }
         ensures begun { IfOk result (λ tx. tx.hold.history ≡ record { plan = start.plan; events = [] }) }
         ensures holds { IfOk result (λ tx. (tx.hold.limits ≡ start.limits) × (tx.hold.claim ≡ start.stake.claim) × (tx.hold.held ≡ 0)) }
-        ensures clock { IfOk result (λ tx. (tx.pace.last_moved ≡ start.now) × (tx.pace.deadline ≡ start.deadline)) }
-        ensures line { IfOk result (λ tx. (tx.pace.broken ≡ false) × (tx.pace.reused ≡ start.reused)) }
+        ensures pace { IfOk result (λ tx. tx.pace ≡ start.pace) }
         ensures stands { IfOk result (λ tx. (read : Given) (request : List ℕ) → E.Reader.has_read (seen start.plan []) [] read start.ends.source
             → IfSome start.ends.service (λ line. E.Client.has_sent request (seen start.plan []) [] [] line.side × E.Client.has_heard (seen start.plan []) [] [] line.side)
             → E.Writer.gift start.ends.next ≡ nothing → E.Writer.aside [] start.ends.next → E.Writer.gift start.ends.back ≡ nothing → E.Writer.aside [] start.ends.back
@@ -179,20 +177,13 @@ impl<B: Ledgers, E: EndTypes> Tx<B, E> {
             limits,
             stake,
             ends,
-            deadline,
-            now,
-            reused,
+            pace,
         } = start;
         Ok(Tx {
             alloc,
             hold: begin_hold(plan, limits, stake),
             ends,
-            pace: Pace {
-                deadline,
-                last_moved: now,
-                reused,
-                broken: false,
-            },
+            pace,
             refusing: false,
             outcome: Outcome::Done,
         })

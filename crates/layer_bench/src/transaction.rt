@@ -7,8 +7,8 @@ ghost use Rattle.plan_rules.specs.Claims.{claim_of};
 use crate::offered::{REQUEST, RESPONSE, offer};
 use adapt_turn::{EndTypes, Ends, Outcome, ServiceEnd, Side, TxParts};
 use http_relay::{RelayFault, SourceSide};
-use plan_rules::{Limits, claim};
-use proxy_rules::{Beginning, Incoming, Offer, Running};
+use plan_rules::{Limits, Pace, claim};
+use proxy_rules::{Beginning, Incoming, Offer, Running, Way};
 use span_bank::{Bank, Ledgers, Pages, Stake};
 use std::alloc::{AllocError, Global};
 use std::sync::Wait;
@@ -293,8 +293,8 @@ fn beginning<B: Ledgers, C: Wire + Drop>(
 {
     let Sides { message, offer } = sides;
     let Wires {
-        source: source_wire,
-        service: service_wire,
+        source,
+        service,
         next_hop,
     } = wires;
     Beginning {
@@ -302,12 +302,12 @@ fn beginning<B: Ledgers, C: Wire + Drop>(
         limits,
         stake,
         message,
-        source_wire,
-        service_wire: Some(service_wire),
-        next_wire: next_hop,
-        deadline: DEADLINE,
-        now: BEGIN,
-        reused: false,
+        way: Way {
+            source,
+            service: Some(service),
+            next: next_hop,
+        },
+        pace: Pace::new(DEADLINE, BEGIN, false),
         last: false,
     }
 }
@@ -325,12 +325,8 @@ fn undo<B: Ledgers, W: proxy_rules::Wires>(
         limits: _,
         stake,
         message: _,
-        source_wire: _,
-        service_wire: _,
-        next_wire: _,
-        deadline: _,
-        now: _,
-        reused: _,
+        way: _,
+        pace: _,
         last: _,
     } = beginning;
     bank.close(rt, stake, Pages::none());

@@ -11,7 +11,7 @@ use Rattle.icap_client.specs.Turns.{Service, ServiceSent, ServiceHeard}
 use Rattle.icap_client.specs.OthersSent.{it_begins}
 use Rattle.icap_client.proofs.Both.{side_begins}
 use Rattle.adapt_turn.specs.declared.ends.ServiceEnd.{ServiceEnd}
-use Rattle.adapt_turn.specs.Parts.{fault_of}
+use Rattle.adapt_turn.specs.Reports.{fault_of}
 use Rattle.proxy_rules.specs.Offers.{IsUnused}
 
 -- a reader that was just made is one of its own point

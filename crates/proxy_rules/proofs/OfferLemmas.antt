@@ -15,7 +15,7 @@ use Rattle.chunk_writer.specs.Writer.{Writer}
 use Rattle.icap_client.specs.Turns.{Service}
 use Rattle.proxy_rules.specs.Plans.{IsPlanned}
 use Rattle.proxy_rules.specs.Offers.{Binds, IsUnused, previews_nothing, text_of}
-use Rattle.proxy_rules.specs.Beginnings.{line_with}
+use Rattle.proxy_rules.specs.Beginnings.{service_end_of}
 
 by_length : (b : Bool) (n : ℕ) → (is_preview (if b then Whole else Preview n) && b) ≡ false
 by_length true n = refl
@@ -44,6 +44,6 @@ own_text : (request : List ℕ) (s : Service) → IsUnused request s → IsUnuse
 own_text request s u = subst (λ (t : List ℕ). IsUnused t s) (sym (ap (λ (w : Writer). w.head) u.writer)) u
 
 -- an offer's side is unused, over any connection
-pub unused_on : {W : Type 0} (plan : Plan) (side : Option Service) (wire : Option W) → Binds plan side → IfSome (line_with side wire) (λ line. IsUnused (text_of side) line.side)
+pub unused_on : {W : Type 0} (plan : Plan) (side : Option Service) (wire : Option W) → Binds plan side → IfSome (service_end_of side wire) (λ line. IsUnused (text_of side) line.side)
 unused_on plan None wire b = tt
 unused_on plan (Some s) wire b = own_text _ s b.unused

@@ -7,14 +7,14 @@ use Rattle.trace_core.specs.declared.history.Event.TheVariants.{Retry}
 use Rattle.trace_core.specs.Legal.{MayFollow}
 use Rattle.adapt_hold.specs.Holding.{Holding, IsTied, shows, history_then, moved}
 use Rattle.adapt_hold.proofs.Closes.{then_shows}
-use Rattle.adapt_turn.specs.declared.turned.Side.{Side}
-use Rattle.adapt_turn.specs.declared.turned.Outcome.{Outcome}
-use Rattle.adapt_turn.specs.declared.turned.Outcome.TheVariants as outcomes
-use Rattle.adapt_turn.specs.Made.{on_held}
+use Rattle.adapt_turn.specs.declared.turn.Side.{Side}
+use Rattle.adapt_turn.specs.declared.turn.Outcome.{Outcome}
+use Rattle.adapt_turn.specs.declared.turn.Outcome.TheVariants as outcomes
+use Rattle.adapt_turn.specs.ChosenHead.{on_held}
 use Rattle.adapt_turn.specs.Stands.{Texts, Pasts, Goes, joined}
 use Rattle.http_relay.specs.Giving.{Hop}
 use Rattle.icap_client.specs.Turns.{Service}
-use Rattle.proxy_rules.specs.Beginnings.{line_with}
+use Rattle.proxy_rules.specs.Beginnings.{service_end_of}
 use Rattle.proxy_rules.specs.Running.{Runs, RefusesFor, TakesTurns}
 
 pub not_both : {P : Type 0} (b : Bool) → b ≡ true → b ≡ false → P
@@ -92,7 +92,7 @@ takes_more turns old mid new [] none l first others = absurd (omega (arith, l))
 takes_more turns old mid new (turn ∷ later) none l first others = (mid, first, subst (λ (ts : List (Side × ℕ)). TakesTurns turns mid ts new) (later_is turn later) others)
 
 -- a connection to the service that is there at the beginning is held
-pub line_held : {W : Type 0} (side : Option Service) (wire : Option W) (past : W → Type 0) → is_some side ≡ is_some wire → MatchOption wire ⊥ past → on_held (line_with side wire) ⊥ past
-line_held side None past e h = absurd h
-line_held None (Some w) past e h = let d : false ≡ true = e in absurd cc
-line_held (Some s) (Some w) past e h = h
+pub end_held : {W : Type 0} (side : Option Service) (wire : Option W) (past : W → Type 0) → is_some side ≡ is_some wire → MatchOption wire ⊥ past → on_held (service_end_of side wire) ⊥ past
+end_held side None past e h = absurd h
+end_held None (Some w) past e h = let d : false ≡ true = e in absurd cc
+end_held (Some s) (Some w) past e h = h

@@ -18,6 +18,6 @@ pub record MayBegin (m : Arrival) (o : Offered) (connected : Bool) : Type 0 wher
   pub agrees : Agrees (seen o.plan []) m.side.body
 
 -- the service's side over its connection
-abbrev pub line_with : {W : Type 0} → Option Service → Option W → Option (ServiceEnd Service W)
-line_with None wire = None
-line_with (Some side) wire = Some (record { side = side; wire = wire })
+abbrev pub service_end_of : {W : Type 0} → Option Service → Option W → Option (ServiceEnd Service W)
+service_end_of None wire = None
+service_end_of (Some side) wire = Some (record { side = side; wire = wire })

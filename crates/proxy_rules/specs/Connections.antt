@@ -1,7 +1,7 @@
 -- Users' connections (RFC 9112, section 9.3).
 use Rattle.std.specs.Prelude.{◌≡◌, Bool, true, false}
-use Rattle.adapt_turn.specs.declared.turned.Outcome.{Outcome}
-use Rattle.adapt_turn.specs.declared.turned.Outcome.TheVariants.{Done}
+use Rattle.adapt_turn.specs.declared.turn.Outcome.{Outcome}
+use Rattle.adapt_turn.specs.declared.turn.Outcome.TheVariants.{Done}
 use Rattle.http_relay.specs.declared.side.SourceSide.{SourceSide}
 use Rattle.http_relay.specs.declared.side.SourceHead.TheVariants.{Unread}
 

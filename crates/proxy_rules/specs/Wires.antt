@@ -18,6 +18,7 @@ use Rattle.icap_client.specs.RequestText.{IsFrontOfRequest}
 use Rattle.icap_client.specs.Front.{Front as Sent, HasBody}
 use Rattle.http_relay.specs.Message.{IsFrontOfMessage, IsMessage, length_of, is_chunks}
 use Rattle.http_relay.specs.Giving.{Front, Waits}
+use Rattle.proxy_rules.specs.Running.{OwnEnds, MadeOf, ServiceGave, SourceGave}
 
 -- nothing, or a prefix of one of the proxy's own refusals
 abbrev pub TookNoMessage : List ℕ → Type 0
@@ -77,19 +78,19 @@ pub record TookMessage (made : List ℕ → Type 0) (framing : Framing) (body ta
 -- it took nothing. Of the wires to the next hop and back to the user one took a prefix of one message with a head that was made
 -- and the chosen body, or of a refusal, and the other one nothing of a message. A refusal is the user's alone. Once Done stands,
 -- one of them took the whole message.
-pub record WiresTook {End : Type 0} (read : Seen → List ℕ → Given → Type 0) (heard : Seen → List ℕ → List ℕ → Type 0) (service : Option End) (next_made back_made : List ℕ → Type 0) (next_framing back_framing : Framing) (h : Holding) (request : List ℕ) (t : Texts) : Type 0 where
+pub record WiresTook {E A W C H G : Type 0} (ends : OwnEnds E A W C H G) (h : Holding) (request : List ℕ) (t : Texts) : Type 0 where
   pub original : List ℕ
   pub adapted : List ℕ
   pub original_is : EndsBody h.original original
   pub adapted_is : EndsBody h.adapted adapted
-  pub original_read : read (shows h.history) original t.source_read
-  pub adapted_read : heard (shows h.history) adapted t.service_read
-  pub service_took : MatchOption service (t.service_taken ≡ []) (λ _. is_plain (shows h.history).plan.kind ≡ false → TookRequest (shows h.history) request original t.service_taken)
-  pub next_and_back : (TookOne next_made next_framing (shows h.history) (chosen (shows h.history) original adapted) t.next_taken × TookNoMessage t.back_taken)
-      ⊎ (TookNoMessage t.next_taken × TookOne back_made back_framing (shows h.history) (chosen (shows h.history) original adapted) t.back_taken)
-  pub other : OtherTook (shows h.history).plan.point next_made next_framing (shows h.history) (chosen (shows h.history) original adapted) t.next_taken t.back_taken
-  pub done : IsDone h.history → TookMessage next_made next_framing (chosen (shows h.history) original adapted) t.next_taken
-      ⊎ TookMessage back_made back_framing (chosen (shows h.history) original adapted) t.back_taken
+  pub original_read : SourceGave ends (shows h.history) original t.source_read
+  pub adapted_read : ServiceGave ends (shows h.history) adapted t.service_read
+  pub service_took : MatchOption ends.service (t.service_taken ≡ []) (λ _. is_plain (shows h.history).plan.kind ≡ false → TookRequest (shows h.history) request original t.service_taken)
+  pub next_and_back : (TookOne (MadeOf ends ends.next (shows h.history)) ends.next.framing (shows h.history) (chosen (shows h.history) original adapted) t.next_taken × TookNoMessage t.back_taken)
+      ⊎ (TookNoMessage t.next_taken × TookOne (MadeOf ends ends.back (shows h.history)) ends.back.framing (shows h.history) (chosen (shows h.history) original adapted) t.back_taken)
+  pub other : OtherTook (shows h.history).plan.point (MadeOf ends ends.next (shows h.history)) ends.next.framing (shows h.history) (chosen (shows h.history) original adapted) t.next_taken t.back_taken
+  pub done : IsDone h.history → TookMessage (MadeOf ends ends.next (shows h.history)) ends.next.framing (chosen (shows h.history) original adapted) t.next_taken
+      ⊎ TookMessage (MadeOf ends ends.back (shows h.history)) ends.back.framing (chosen (shows h.history) original adapted) t.back_taken
 
 -- at the beginning: the source's wire gave these bytes, which the head was found in
 abbrev pub begun_with : List ℕ → Texts

@@ -13,9 +13,9 @@ ghost use Rattle.need_witness.specs.Script.{IsScript};
 ghost use Rattle.need_witness.specs.Table.{script_of};
 ghost use Rattle.need_witness.specs.declared.scripts.TheConstants.{MAX_SCRIPT};
 ghost use Rattle.adapt_hold.specs.Holding.{IsTied, interval, shows};
-ghost use Rattle.adapt_turn.specs.Made.{IsMade, adapted_of, response_of};
-ghost use Rattle.adapt_turn.specs.declared.turned.Turned.{Turned as TurnAnswer};
-ghost use Rattle.adapt_turn.specs.declared.turned.Outcome.TheVariants as outcomes;
+ghost use Rattle.adapt_turn.specs.ChosenHead.{IsMade, adapted_of, response_of};
+ghost use Rattle.adapt_turn.specs.declared.turn.TurnAnswer.{TurnAnswer as AnyAnswer};
+ghost use Rattle.adapt_turn.specs.declared.turn.Outcome.TheVariants as outcomes;
 ghost use Rattle.adapt_turn.specs.Stands.{Texts};
 ghost use Rattle.http_relay.specs.declared.side.SourceHead.{SourceHead};
 ghost use Rattle.http_relay.specs.declared.side.SourceSide.{SourceSide as UserSide};
@@ -68,13 +68,7 @@ pub fn a_missing_head_is_of_a_side()
 pub fn the_wires_take_one_message<B: Ledgers, W: Wires>(tx: &Tx<B, OwnEnds<W>>)
     ensures tied { IsTied tx.now.hold }
     ensures took { (request : List ℕ) (t : Texts) → ⟦<Tx<B, OwnEnds<W>> as Standing>⟧.stands tx.now request t
-        → WiresTook (λ x body read. SideRead x body read.bytes read.ended tx.now.ends.source)
-        (λ x adapted read. MatchOption tx.now.ends.service ((adapted ≡ []) × (read ≡ [])) (λ line. ServiceHeard x adapted read line.side)) tx.now.ends.service
-        (λ head. IsMade (⟦<HeadMaker as MakesHead<SourceSide, HopWriter>>⟧.makes tx.now.ends.maker (⟦<SourceSide as Source>⟧.head tx.now.ends.source))
-        (adapted_of ⟦<ServiceSide as Service>⟧.adapted_head tx.now.ends.service) (response_of ⟦<ServiceSide as Service>⟧.is_response tx.now.ends.service) tx.now.ends.next.framing (shows tx.now.hold.history) head)
-        (λ head. IsMade (⟦<HeadMaker as MakesHead<SourceSide, HopWriter>>⟧.makes tx.now.ends.maker (⟦<SourceSide as Source>⟧.head tx.now.ends.source))
-        (adapted_of ⟦<ServiceSide as Service>⟧.adapted_head tx.now.ends.service) (response_of ⟦<ServiceSide as Service>⟧.is_response tx.now.ends.service) tx.now.ends.back.framing (shows tx.now.hold.history) head)
-        tx.now.ends.next.framing tx.now.ends.back.framing tx.now.hold request t }
+        → WiresTook tx.now.ends tx.now.hold request t }
 {
     let _ = tx.seen();
 }
@@ -83,13 +77,7 @@ pub fn the_wires_take_one_message<B: Ledgers, W: Wires>(tx: &Tx<B, OwnEnds<W>>)
 /// without a premise. Where it failed, the user's writer has the refusal of the cause's status, or a byte has gone out to the user.
 pub fn a_running_transaction_takes_one_message<B: Ledgers, W: Wires>(running: &Running<B, W>)
     ensures took { ∥ ((request : List ℕ) × (t : Texts)
-        × WiresTook (λ x body read. SideRead x body read.bytes read.ended running.now.tx.ends.source)
-        (λ x adapted read. MatchOption running.now.tx.ends.service ((adapted ≡ []) × (read ≡ [])) (λ line. ServiceHeard x adapted read line.side)) running.now.tx.ends.service
-        (λ head. IsMade (⟦<HeadMaker as MakesHead<SourceSide, HopWriter>>⟧.makes running.now.tx.ends.maker (⟦<SourceSide as Source>⟧.head running.now.tx.ends.source))
-        (adapted_of ⟦<ServiceSide as Service>⟧.adapted_head running.now.tx.ends.service) (response_of ⟦<ServiceSide as Service>⟧.is_response running.now.tx.ends.service) running.now.tx.ends.next.framing (shows running.now.tx.hold.history) head)
-        (λ head. IsMade (⟦<HeadMaker as MakesHead<SourceSide, HopWriter>>⟧.makes running.now.tx.ends.maker (⟦<SourceSide as Source>⟧.head running.now.tx.ends.source))
-        (adapted_of ⟦<ServiceSide as Service>⟧.adapted_head running.now.tx.ends.service) (response_of ⟦<ServiceSide as Service>⟧.is_response running.now.tx.ends.service) running.now.tx.ends.back.framing (shows running.now.tx.hold.history) head)
-        running.now.tx.ends.next.framing running.now.tx.ends.back.framing running.now.tx.hold request t) ∥₁ }
+        × WiresTook running.now.tx.ends running.now.tx.hold request t) ∥₁ }
     ensures refuses { (shows running.now.tx.hold.history).closed ≡ true → (cause : AnyCause) → running.now.tx.outcome ≡ outcomes.Fail cause
         → ∥ ⟦<Tx<B, OwnEnds<W>> as Refusing>⟧.refuses running.now.tx cause ∥₁ }
 {
@@ -111,20 +99,14 @@ pub fn from_the_beginning_the_wires_take_one_message<B: Ledgers, W: Wires>(
     requires empty { (beginning.stake.held ≡ 0) × (beginning.stake.pages ≡ 0) }
     requires claim { beginning.stake.claim ≡ claim_of beginning.offer.plan beginning.limits.window }
     requires small { beginning.stake.claim ≤ MAX_CAPACITY }
-    ensures accepts { IsOk result ↔ MayBegin beginning.message beginning.offer (is_some beginning.service_wire) }
+    ensures accepts { IsOk result ↔ MayBegin beginning.message beginning.offer (is_some beginning.way.service) }
     ensures took { IfOk result (λ running. TookSince
-        (record { source = W.SourceWire.past beginning.source_wire; service = λ p. MatchOption beginning.service_wire ⊥ (λ wire. W.ServiceWire.past wire p); next = W.NextWire.past beginning.next_wire })
+        (record { source = W.SourceWire.past beginning.way.source; service = λ p. MatchOption beginning.way.service ⊥ (λ wire. W.ServiceWire.past wire p); next = W.NextWire.past beginning.way.next })
         (⟦<Tx<B, OwnEnds<W>> as Standing>⟧.pasts running.tx)
-        (WiresTook (λ x body read. SideRead x body read.bytes read.ended running.tx.ends.source)
-        (λ x adapted read. MatchOption running.tx.ends.service ((adapted ≡ []) × (read ≡ [])) (λ line. ServiceHeard x adapted read line.side)) running.tx.ends.service
-        (λ head. IsMade (⟦<HeadMaker as MakesHead<SourceSide, HopWriter>>⟧.makes running.tx.ends.maker (⟦<SourceSide as Source>⟧.head running.tx.ends.source))
-        (adapted_of ⟦<ServiceSide as Service>⟧.adapted_head running.tx.ends.service) (response_of ⟦<ServiceSide as Service>⟧.is_response running.tx.ends.service) running.tx.ends.next.framing (shows running.tx.hold.history) head)
-        (λ head. IsMade (⟦<HeadMaker as MakesHead<SourceSide, HopWriter>>⟧.makes running.tx.ends.maker (⟦<SourceSide as Source>⟧.head running.tx.ends.source))
-        (adapted_of ⟦<ServiceSide as Service>⟧.adapted_head running.tx.ends.service) (response_of ⟦<ServiceSide as Service>⟧.is_response running.tx.ends.service) running.tx.ends.back.framing (shows running.tx.hold.history) head)
-        running.tx.ends.next.framing running.tx.ends.back.framing running.tx.hold (text_of beginning.offer.side))) }
+        (WiresTook running.tx.ends running.tx.hold (text_of beginning.offer.side))) }
     ensures turns { IfOk result (λ running. TakesFrom (λ begun. (begun.hold.history ≡ record { plan = beginning.offer.plan; events = [] })
-        × (begun.pace.last_moved ≡ beginning.now) × (begun.pace.deadline ≡ beginning.deadline))
-        (λ old side now new. (said : TurnAnswer) × ⟦<Tx<B, OwnEnds<W>> as Answering>⟧.answers old side new said
+        × (begun.pace ≡ beginning.pace))
+        (λ old side now new. (said : AnyAnswer) × ⟦<Tx<B, OwnEnds<W>> as Answering>⟧.answers old side new said
         × ⟦<Tx<B, OwnEnds<W>> as Answering>⟧.keeps old side new
         × ((shows old.hold.history).closed ≡ false → old.pace.last_moved + old.pace.deadline ≤ now → new.outcome ≡ outcomes.Fail Deadline)) turns.now running.tx) }
     ensures back { IfErr result (λ back. back ≡ beginning) }

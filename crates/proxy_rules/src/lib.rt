@@ -27,7 +27,7 @@ pub use head_maker::HeadMaker;
 pub use incoming::Incoming;
 pub use offer::{Offer, ask_options};
 pub use onward::Headed;
-pub use own_ends::{OwnEnds, OwnTx, Wires};
+pub use own_ends::{OwnEnds, OwnTx, Way, Wires};
 pub use plans::{limits_of, request_plan, response_plan};
 pub use pools::{is_reusable_after_options, pool_maximum};
 pub use route::origin_address;

@@ -24,6 +24,15 @@ impl<A: Wire + Drop, W: Wire + Drop, C: Wire + Drop> Wires for (A, W, C) {
     type NextWire = C;
 }
 
+/// The way of a message: its wires, from the source over the service to the next hop.
+#[derive(Drop)]
+pub struct Way<W: Wires> {
+    pub source: W::SourceWire,
+    /// None where the message isn't offered, or the connection was given up.
+    pub service: Option<W::ServiceWire>,
+    pub next: W::NextWire,
+}
+
 /// The proxy's own sides, over wires of these types. It stands for types alone: there is no value of it.
 pub struct OwnEnds<W> {
     wires: PhantomData<W>,

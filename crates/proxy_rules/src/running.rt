@@ -6,16 +6,16 @@ ghost use Rattle.trace_core.specs.declared.history.Cause.TheVariants.{Deadline, 
 ghost use Rattle.trace_core.specs.declared.history.Event.TheVariants.{Fail, Retry};
 ghost use Rattle.trace_core.specs.Legal.{MayFollow};
 ghost use Rattle.adapt_hold.specs.Holding.{IsTied, shows, moved};
-ghost use Rattle.adapt_turn.specs.declared.turned.Outcome.TheVariants as outcomes;
-ghost use Rattle.adapt_turn.specs.declared.turned.Turned.{Turned as TurnAnswer};
-ghost use Rattle.adapt_turn.specs.Made.{wire_of};
+ghost use Rattle.adapt_turn.specs.declared.turn.Outcome.TheVariants as outcomes;
+ghost use Rattle.adapt_turn.specs.declared.turn.TurnAnswer.{TurnAnswer as AnyAnswer};
+ghost use Rattle.adapt_turn.specs.ChosenHead.{wire_of};
 ghost use Rattle.adapt_turn.specs.Refusals.{user_untouched};
 ghost use Rattle.icap_client.specs.Turns.{is_reusable};
-ghost use Rattle.adapt_turn.specs.Freeing.{MayFree};
+ghost use Rattle.adapt_turn.specs.ServiceOver.{MayFree};
 ghost use Rattle.proxy_rules.specs.Running.{Runs, StandsOver, IsFaultless, RefusesFor, TakesTurns};
 
 use crate::own_ends::{OwnEnds, OwnTx, Wires};
-use adapt_turn::{Answering, FreedConnection, Going, Outcome, Refusing, Side, Turned, Tx};
+use adapt_turn::{Answering, FreedConnection, Going, Outcome, Refusing, Side, TurnAnswer, Tx};
 use span_bank::{Bank, Ledgers};
 use std::sync::Wait;
 use trace_core::{Cause, Seen};
@@ -26,7 +26,7 @@ use trace_core::{Cause, Seen};
 ///
 /// ```
 /// // A body of six bytes comes; its preview is offered, and the service answers 204.
-/// assert_eq!(rt; running.turn(rt, &bank, Side::Source, 101), Turned::Moved(6));
+/// assert_eq!(rt; running.turn(rt, &bank, Side::Source, 101), TurnAnswer::Moved(6));
 /// running.drive(rt, &bank, &[Side::Service, Side::Service, Side::NextHop]);
 /// assert_eq!(rt; running.outcome(), Some(Outcome::Done));
 /// assert!(rt; running.seen().no_mod);
@@ -34,13 +34,13 @@ use trace_core::{Cause, Seen};
 #[must_use]
 pub struct Running<B: Ledgers, W: Wires> {
     pub(crate) tx: OwnTx<B, W>,
-    pub ghost runs: { ∥ Runs (StandsOver tx.hold tx.ends.source tx.ends.service tx.ends.next tx.ends.back tx.ends.maker tx.refusing) (shows tx.hold.history).closed
-        (IsFaultless tx.ends.source tx.ends.service tx.pace.broken tx.ends.next tx.ends.back) tx.outcome (RefusesFor tx.hold tx.refusing tx.ends.next tx.ends.back) ∥₁ },
+    pub ghost runs: { ∥ Runs (StandsOver tx.hold tx.ends tx.refusing) (shows tx.hold.history).closed
+        (IsFaultless tx.ends tx.pace.broken) tx.outcome (RefusesFor tx.hold tx.refusing tx.ends.next tx.ends.back) ∥₁ },
 }
 
 impl<B: Ledgers, W: Wires> Running<B, W> {
     /// One turn of one side, at a moment in seconds.
-    pub fn turn(&mut self, rt: &impl Wait, bank: &Bank<B>, side: Side, now: u64) -> Turned
+    pub fn turn(&mut self, rt: &impl Wait, bank: &Bank<B>, side: Side, now: u64) -> TurnAnswer
         ensures goes { ⟦<Tx<B, OwnEnds<W>> as Going>⟧.goes self.old.tx self.new.tx }
         ensures answers { ⟦<Tx<B, OwnEnds<W>> as Answering>⟧.answers self.old.tx side self.new.tx result }
         ensures keeps { ⟦<Tx<B, OwnEnds<W>> as Answering>⟧.keeps self.old.tx side self.new.tx }
@@ -48,7 +48,7 @@ impl<B: Ledgers, W: Wires> Running<B, W> {
             → ⟦<Tx<B, OwnEnds<W>> as Answering>⟧.fails self.old.tx side now self.new.tx cause }
         ensures deadline { (shows self.old.tx.hold.history).closed ≡ false → self.old.tx.pace.last_moved + self.old.tx.pace.deadline ≤ now → self.new.tx.outcome ≡ outcomes.Fail Deadline }
         ensures finishes { (shows self.old.tx.hold.history).closed ≡ true → (self.old.tx.refusing ≡ false) ⊎ ⟦<Tx<B, OwnEnds<W>> as Refusing>⟧.refusal_is_over self.old.tx
-            → result ≡ Turned.Finished self.old.tx.outcome }
+            → result ≡ TurnAnswer.Finished self.old.tx.outcome }
     {
         self.tx.turn(rt, bank, side, now)
     }
@@ -56,7 +56,7 @@ impl<B: Ledgers, W: Wires> Running<B, W> {
     /// Turns in order, each of a side at a moment in seconds.
     pub fn take_turns(&mut self, rt: &impl Wait, bank: &Bank<B>, turns: &[(Side, u64)])
         ensures goes { ⟦<Tx<B, OwnEnds<W>> as Going>⟧.goes self.old.tx self.new.tx }
-        ensures turns { TakesTurns (λ old side now new. (said : TurnAnswer) × ⟦<Tx<B, OwnEnds<W>> as Answering>⟧.answers old side new said
+        ensures turns { TakesTurns (λ old side now new. (said : AnyAnswer) × ⟦<Tx<B, OwnEnds<W>> as Answering>⟧.answers old side new said
             × ⟦<Tx<B, OwnEnds<W>> as Answering>⟧.keeps old side new
             × ((shows old.hold.history).closed ≡ false → old.pace.last_moved + old.pace.deadline ≤ now → new.outcome ≡ outcomes.Fail Deadline)) self.old.tx turns.now self.new.tx }
     {

@@ -5,16 +5,16 @@ ghost use Rattle.span_bank.specs.declared.limits.TheConstants.{MAX_CAPACITY};
 ghost use Rattle.plan_rules.specs.Claims.{claim_of};
 ghost use Rattle.adapt_turn.specs.Stands.{no_texts};
 ghost use Rattle.proxy_rules.specs.Offers.{text_of};
-ghost use Rattle.proxy_rules.specs.Beginnings.{MayBegin, line_with};
+ghost use Rattle.proxy_rules.specs.Beginnings.{MayBegin, service_end_of};
 
 use crate::incoming::Incoming;
 use crate::offer::Offer;
-use crate::own_ends::{OwnEnds, Wires};
+use crate::own_ends::{OwnEnds, Way, Wires};
 use crate::running::Running;
 use adapt_turn::{Ends, ServiceEnd, Standing, Start, Tx};
 use http_relay::HopWriter;
 use icap_client::ServiceSide;
-use plan_rules::Limits;
+use plan_rules::{Limits, Pace};
 use span_bank::{Ledgers, Stake};
 use std::alloc::Global;
 
@@ -26,16 +26,8 @@ pub struct Beginning<B: Ledgers, W: Wires> {
     pub stake: Stake<B>,
     /// The message, whose head was read.
     pub message: Incoming,
-    pub source_wire: W::SourceWire,
-    /// The service's connection, where the message is offered.
-    pub service_wire: Option<W::ServiceWire>,
-    pub next_wire: W::NextWire,
-    /// How many seconds may pass without a moved byte.
-    pub deadline: u64,
-    /// The moment, in seconds.
-    pub now: u64,
-    /// Whether the service's connection was used before.
-    pub reused: bool,
+    pub way: Way<W>,
+    pub pace: Pace,
     /// Whether the user's connection ends after the answer, whatever else is said.
     pub last: bool,
 }
@@ -51,9 +43,9 @@ fn may_begin(message: &Incoming, offer: &Offer, is_connected: bool) -> bool
 }
 
 /// The service's side over its connection, where there is one.
-fn line_of<W>(side: Option<ServiceSide>, wire: Option<W>) -> Option<ServiceEnd<ServiceSide, W>>
+fn service_end<W>(side: Option<ServiceSide>, wire: Option<W>) -> Option<ServiceEnd<ServiceSide, W>>
     requires { is_some side ≡ is_some wire }
-    ensures { result ≡ line_with side wire }
+    ensures { result ≡ service_end_of side wire }
 {
     match (side, wire) {
         (Some(side), Some(wire)) => Some(ServiceEnd {
@@ -77,16 +69,15 @@ pub fn begin<B: Ledgers, W: Wires>(
     requires empty { (beginning.stake.held ≡ 0) × (beginning.stake.pages ≡ 0) }
     requires claim { beginning.stake.claim ≡ claim_of beginning.offer.plan beginning.limits.window }
     requires small { beginning.stake.claim ≤ MAX_CAPACITY }
-    ensures accepts { IsOk result ↔ MayBegin beginning.message beginning.offer (is_some beginning.service_wire) }
+    ensures accepts { IsOk result ↔ MayBegin beginning.message beginning.offer (is_some beginning.way.service) }
     ensures begun { IfOk result (λ running. running.tx.hold.history ≡ record { plan = beginning.offer.plan; events = [] }) }
-    ensures clock { IfOk result (λ running. (running.tx.pace.last_moved ≡ beginning.now) × (running.tx.pace.deadline ≡ beginning.deadline)) }
+    ensures pace { IfOk result (λ running. running.tx.pace ≡ beginning.pace) }
     ensures stands { IfOk result (λ running. (read : List ℕ) × ⟦<Tx<B, OwnEnds<W>> as Standing>⟧.stands running.tx (text_of beginning.offer.side) (record no_texts { source_read = record { bytes = read; ended = false } })) }
-    ensures line { IfOk result (λ running. (running.tx.pace.broken ≡ false) × (running.tx.pace.reused ≡ beginning.reused)) }
-    ensures sides { IfOk result (λ running. (running.tx.ends.source ≡ beginning.message.side) × (running.tx.ends.maker.user ≡ beginning.message.user) × (running.tx.ends.maker.last ≡ beginning.last) × (running.tx.ends.service ≡ line_with beginning.offer.side beginning.service_wire)) }
-    ensures wires { IfOk result (λ running. (running.tx.ends.source_wire ≡ beginning.source_wire) × (running.tx.ends.next_wire ≡ beginning.next_wire)) }
+    ensures sides { IfOk result (λ running. (running.tx.ends.source ≡ beginning.message.side) × (running.tx.ends.maker.user ≡ beginning.message.user) × (running.tx.ends.maker.last ≡ beginning.last) × (running.tx.ends.service ≡ service_end_of beginning.offer.side beginning.way.service)) }
+    ensures wires { IfOk result (λ running. (running.tx.ends.source_wire ≡ beginning.way.source) × (running.tx.ends.next_wire ≡ beginning.way.next)) }
     ensures back { IfErr result (λ back. back ≡ beginning) }
 {
-    let is_connected = beginning.service_wire.is_some();
+    let is_connected = beginning.way.service.is_some();
     if !may_begin(&beginning.message, &beginning.offer, is_connected) {
         return Err(beginning);
     }
@@ -95,14 +86,15 @@ pub fn begin<B: Ledgers, W: Wires>(
         limits,
         stake,
         message,
-        source_wire,
-        service_wire,
-        next_wire,
-        deadline,
-        now,
-        reused,
+        way,
+        pace,
         last,
     } = beginning;
+    let Way {
+        source: source_wire,
+        service: service_wire,
+        next: next_wire,
+    } = way;
     let (plan, side) = offer.into_plan();
     let (source, maker) = message.into_sides(last);
     let start = Start {
@@ -112,15 +104,13 @@ pub fn begin<B: Ledgers, W: Wires>(
         ends: Ends {
             source,
             source_wire,
-            service: line_of(side, service_wire),
+            service: service_end(side, service_wire),
             next: HopWriter::new(alloc),
             next_wire,
             back: HopWriter::new(alloc),
             maker,
         },
-        deadline,
-        now,
-        reused,
+        pace,
     };
     match Tx::new(alloc, start) {
         Ok(tx) => {

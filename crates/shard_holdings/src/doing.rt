@@ -10,7 +10,8 @@ use refusal_reasons::Reason;
 use service_lines::LendFault;
 use shard_effects::{Effects, EndedBy, Lingered, Marks, Report, Round, Started, Unplanned};
 use shard_message::{
-    Connection, Moving, Pace, Settled, begin_anew, dial_for, is_fresh, make_room, take_connections,
+    Connection, Moving, Settled, begin_anew, dial_for, is_fresh, make_room, pace_of,
+    take_connections,
 };
 use shard_outside::{
     Outside, begin_asking, clear, finish_user, is_reusable, keep, keep_plan, lay, leave_queue,
@@ -150,8 +151,8 @@ impl<P, O: Outside<P>> Effects<P> for Holdings<O> {
             return Started::NoUser;
         };
         let room = take_out(&mut self.room);
-        let pace = Pace::of(at, out, course);
-        match Moving::begin(rt, out, message, room, connections, pace) {
+        let pace = pace_of(at, out, course);
+        match Moving::begin(rt, out, message, room, connections, pace, course.draining) {
             Ok(tx) => {
                 put_in(&mut self.tx, tx);
                 Started::Moves

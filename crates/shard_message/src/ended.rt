@@ -1,5 +1,6 @@
 //! How messages end.
 
+ghost use Rattle.std.specs.Prelude.{◌≡◌, IfSome};
 ghost use Rattle.shard_effects.specs.Ends.{EndsBy};
 
 use adapt_turn::Outcome;
@@ -69,7 +70,9 @@ pub(crate) fn report_of<M>(
     is_reusable: bool,
     sequel: &Sequel<M>,
 ) -> Report
-    ensures { EndsBy by result.end }
+    ensures ends { EndsBy by result.end }
+    ensures answered { result.has_answered ≡ has_answered }
+    ensures served { IfSome result.served (λ usable. usable ≡ is_reusable) }
 {
     let (is_whole, is_old) = match sequel {
         Sequel::Sent(_) | Sequel::Answered(_) => (true, false),

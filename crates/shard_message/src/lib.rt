@@ -11,11 +11,10 @@ mod sides;
 mod start;
 mod taken;
 mod turns;
-mod ways;
 
 pub use asking::{begin_anew, hear_on, is_fresh};
 pub use connection::{Connection, lay_wire};
-pub use moving::{Connections, Moving, Remains, take_connections};
+pub use moving::{Connections, Moving, OnItsWay, Remains, take_connections};
 pub use room::{Room, dial_for, make_room};
 pub use settled::Settled;
-pub use start::Pace;
+pub use start::pace_of;

@@ -1,17 +1,18 @@
 //! Messages that move.
 
-ghost use Rattle.std.specs.Prelude.{◌≡◌, is_some, None, true, false};
+ghost use Rattle.std.specs.Prelude.{◌≡◌, is_some, None, true, false, Bool, IfSome};
+ghost use Rattle.shard_message.specs.Told.{has_answered, may_serve_again};
 ghost use Rattle.shard_effects.specs.Ends.{EndsBy};
 
 use crate::connection::{Connection, lay_wire, take_wire};
 use crate::room::Room;
 use crate::settled::{Settled, settle_request, settle_response};
-use crate::start::{Pace, set_out};
+use crate::start::set_out;
 use crate::taken::stake_of;
 use crate::turns::round_of;
-use crate::ways::{Left, Ways};
 use adapt_turn::FreedConnection;
-use proxy_rules::{Incoming, Running};
+use plan_rules::Pace;
+use proxy_rules::{Incoming, Running, Way};
 use shard_effects::{EndedBy, Round};
 use shard_outside::{Kinds, Outside, take_out};
 use span_bank::{Bank, Stake};
@@ -40,6 +41,29 @@ pub enum Moving<O: Kinds> {
     Request(Box<Running<O::Ledgers, RequestWires<O>>>),
     /// A response, from the origin to the user.
     Response(Box<Running<O::Ledgers, ResponseWires<O>>>),
+}
+
+/// What is read off a message that moves.
+pub trait OnItsWay {
+    // a byte of an answer went to the user
+    ghost answered: { Self → Bool };
+
+    // the connection to its service may carry another request
+    ghost reusable: { Self → Bool };
+}
+
+impl<O: Kinds> OnItsWay for Moving<O> {
+    ghost use Rattle.shard_message.specs.declared.moving.Moving.TheVariants.{Request, Response};
+
+    ghost answered = { λ moving. elim moving [
+      | Request tx ↦ has_answered tx.value.tx.hold.history.plan.point tx.value.tx.ends
+      | Response tx ↦ has_answered tx.value.tx.hold.history.plan.point tx.value.tx.ends
+    ] };
+
+    ghost reusable = { λ moving. elim moving [
+      | Request tx ↦ may_serve_again tx.value.tx.ends
+      | Response tx ↦ may_serve_again tx.value.tx.ends
+    ] };
 }
 
 /// The connections that a message moves over.
@@ -107,7 +131,8 @@ pub struct Remains<O: Kinds> {
 }
 
 impl<O: Kinds> Moving<O> {
-    /// Has a message begin to move. Where it can't, or no memory is found for that, what it would have stood over comes back.
+    /// Has a message begin to move; an answer may be the last one of its user's connection. Where it can't, or no memory is found for
+    /// that, what it would have stood over comes back.
     pub fn begin<P, R: Wait>(
         rt: &R,
         out: &O,
@@ -115,6 +140,7 @@ impl<O: Kinds> Moving<O> {
         room: Room<O::Ledgers>,
         connections: Connections<O>,
         pace: Pace,
+        last: bool,
     ) -> Result<Moving<O>, Remains<O>>
     where
         O: Outside<P>,
@@ -127,25 +153,25 @@ impl<O: Kinds> Moving<O> {
         let (bank, alloc) = (out.bank(), out.alloc());
         match message.point() {
             Point::Reqmod => {
-                let ways = Ways {
+                let way = Way {
                     source: user,
                     service,
                     next: origin,
                 };
-                match set_out(rt, bank, alloc, message, room, ways, pace) {
+                match set_out(rt, bank, alloc, message, room, way, pace, last) {
                     Ok(tx) => Ok(Moving::Request(tx)),
-                    Err(left) => Err(request_remains(left)),
+                    Err((room, way)) => Err(request_remains(room, way)),
                 }
             }
             Point::Respmod => {
-                let ways = Ways {
+                let way = Way {
                     source: origin,
                     service,
                     next: user,
                 };
-                match set_out(rt, bank, alloc, message, room, ways, pace) {
+                match set_out(rt, bank, alloc, message, room, way, pace, last) {
                     Ok(tx) => Ok(Moving::Response(tx)),
-                    Err(left) => Err(response_remains(left)),
+                    Err((room, way)) => Err(response_remains(room, way)),
                 }
             }
         }
@@ -173,7 +199,9 @@ impl<O: Kinds> Moving<O> {
     }
 
     /// Whether a byte of an answer went to the user.
-    pub fn has_answered(&self) -> bool {
+    pub fn has_answered(&self) -> bool
+        ensures { result ≡ ⟦<Self as OnItsWay>⟧.answered self.now }
+    {
         match self {
             Moving::Request(tx) => tx.has_answered(),
             Moving::Response(tx) => tx.has_answered(),
@@ -181,7 +209,9 @@ impl<O: Kinds> Moving<O> {
     }
 
     /// Gives up the connection to the service once the service has said all.
-    pub fn take_freed(&mut self) -> Option<FreedConnection<O::Service>> {
+    pub fn take_freed(&mut self) -> Option<FreedConnection<O::Service>>
+        ensures { IfSome result (λ free. free.is_reusable ≡ ⟦<Self as OnItsWay>⟧.reusable self.old) }
+    {
         match self {
             Moving::Request(tx) => tx.take_freed(),
             Moving::Response(tx) => tx.take_freed(),
@@ -198,7 +228,9 @@ impl<O: Kinds> Moving<O> {
     ) -> Settled<O, Incoming>
     where
         O: Outside<P>,
-        ensures { EndsBy by result.report.end }
+        ensures ends { EndsBy by result.report.end }
+        ensures answered { result.report.has_answered ≡ ⟦<Self as OnItsWay>⟧.answered self }
+        ensures served { IfSome result.report.served (λ usable. usable ≡ ⟦<Self as OnItsWay>⟧.reusable self) }
     {
         match self {
             Moving::Request(tx) => {
@@ -222,13 +254,12 @@ impl<O: Kinds> Moving<O> {
 }
 
 /// What a request stood over.
-fn request_remains<O: Kinds>(left: Left<O::Ledgers, RequestWires<O>>) -> Remains<O> {
-    let Left { room, ways } = left;
-    let Ways {
+fn request_remains<O: Kinds>(room: Room<O::Ledgers>, way: Way<RequestWires<O>>) -> Remains<O> {
+    let Way {
         source: user,
         service,
         next: origin,
-    } = ways;
+    } = way;
     let connections = Connections {
         user,
         service,
@@ -238,13 +269,12 @@ fn request_remains<O: Kinds>(left: Left<O::Ledgers, RequestWires<O>>) -> Remains
 }
 
 /// What a response stood over.
-fn response_remains<O: Kinds>(left: Left<O::Ledgers, ResponseWires<O>>) -> Remains<O> {
-    let Left { room, ways } = left;
-    let Ways {
+fn response_remains<O: Kinds>(room: Room<O::Ledgers>, way: Way<ResponseWires<O>>) -> Remains<O> {
+    let Way {
         source: origin,
         service,
         next: user,
-    } = ways;
+    } = way;
     let connections = Connections {
         user,
         service,

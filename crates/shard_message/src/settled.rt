@@ -1,7 +1,9 @@
 //! Transactions taken apart: what they stood over, and what comes of their messages.
 
-ghost use Rattle.std.specs.Prelude.{◌≡◌};
+ghost use Rattle.std.specs.Prelude.{◌≡◌, IfSome, not};
 ghost use Rattle.shard_effects.specs.Ends.{EndsBy};
+ghost use Rattle.adapt_turn.specs.Refusals.{user_untouched};
+ghost use Rattle.shard_message.specs.Told.{reusable_by};
 
 use crate::ended::{Sequel, message_of, outcome_by, report_of};
 use crate::moving::{Connections, Remains};
@@ -9,7 +11,7 @@ use crate::room::room_of;
 use crate::sides::{Asked, MadeHead, Served};
 use crate::taken::{parts_of, wire_of};
 use adapt_sides::{ClientFault, Hop};
-use adapt_turn::{EndTypes, Ends, MakesHead, Outcome, ServiceEnd, Tx, TxParts};
+use adapt_turn::{EndTypes, Ends, Outcome, ServiceEnd, Tx, TxParts};
 use refusal_reasons::Reason;
 use shard_effects::{End, EndedBy, Report};
 use shard_outside::{Kinds, MessageEnd, Outside};
@@ -91,7 +93,9 @@ fn fault_of<V: Served, W>(service: &Option<ServiceEnd<V, W>>) -> Option<ClientFa
 }
 
 /// Whether the connection of a service's side may carry another request.
-fn is_reusable<V: Served, W>(service: &Option<ServiceEnd<V, W>>) -> bool {
+fn is_reusable<V: Served, W>(service: &Option<ServiceEnd<V, W>>) -> bool
+    ensures { result ≡ reusable_by V.reusable service.now }
+{
     match service {
         Some(line) => line.side.is_reusable(),
         None => false,
@@ -173,7 +177,9 @@ fn settle_taken<P, O: Outside<P>, V: Served, M: Drop>(
     sequel: Sequel<M>,
     by: EndedBy,
 ) -> Settled<O, M>
-    ensures { EndsBy by result.report.end }
+    ensures ends { EndsBy by result.report.end }
+    ensures answered { result.report.has_answered ≡ account.has_answered }
+    ensures served { IfSome result.report.served (λ usable. usable ≡ reusable_by V.reusable taken.service) }
 {
     let Taken {
         stake,
@@ -203,23 +209,25 @@ fn settle_taken<P, O: Outside<P>, V: Served, M: Drop>(
 pub(crate) fn settle_request<
     P,
     O: Outside<P>,
-    S: Asked,
-    V: Served,
-    K: Hop + Drop,
-    F: MakesHead<S, K> + MadeHead<S>,
-    E: EndTypes<
-        Reader = S,
-        Client = V,
-        Writer = K,
-        Maker = F,
-        SourceWire = O::User,
-        ServiceWire = O::Service,
-        NextWire = O::Origin,
-    >,
+    E: EndTypes<SourceWire = O::User, ServiceWire = O::Service, NextWire = O::Origin>,
     R: Wait,
->(rt: &R, at: &P, out: &mut O, tx: Tx<O::Ledgers, E>, by: EndedBy) -> Settled<O, S::Message>
-    ensures { EndsBy by result.report.end }
+>(
+    rt: &R,
+    at: &P,
+    out: &mut O,
+    tx: Tx<O::Ledgers, E>,
+    by: EndedBy,
+) -> Settled<O, <E::Reader as Asked>::Message>
+where
+    E::Reader: Asked,
+    E::Client: Served,
+    E::Writer: Drop,
+    E::Maker: MadeHead<E::Reader>,
+    ensures ends { EndsBy by result.report.end }
+    ensures answered { result.report.has_answered ≡ not (user_untouched tx.hold.history.plan.point (E.Writer.untouched tx.ends.next) (E.Writer.untouched tx.ends.back)) }
+    ensures served { IfSome result.report.served (λ usable. usable ≡ reusable_by E.Client.reusable tx.ends.service) }
 {
+    let has_answered = tx.has_answered();
     let TxParts {
         stake,
         ends,
@@ -238,7 +246,7 @@ pub(crate) fn settle_request<
     let account = Account {
         seen,
         outcome: outcome_by(by, outcome),
-        has_answered: !back.untouched(),
+        has_answered,
         next_is_fresh: is_fresh(&origin),
     };
     let sequel = if outcome == Outcome::Done && back.is_idle() {
@@ -259,23 +267,25 @@ pub(crate) fn settle_request<
 pub(crate) fn settle_response<
     P,
     O: Outside<P>,
-    S: Asked,
-    V: Served,
-    K: Hop + Drop,
-    F: MakesHead<S, K> + MadeHead<S>,
-    E: EndTypes<
-        Reader = S,
-        Client = V,
-        Writer = K,
-        Maker = F,
-        SourceWire = O::Origin,
-        ServiceWire = O::Service,
-        NextWire = O::User,
-    >,
+    E: EndTypes<SourceWire = O::Origin, ServiceWire = O::Service, NextWire = O::User>,
     R: Wait,
->(rt: &R, at: &P, out: &mut O, tx: Tx<O::Ledgers, E>, by: EndedBy) -> Settled<O, S::Message>
-    ensures { EndsBy by result.report.end }
+>(
+    rt: &R,
+    at: &P,
+    out: &mut O,
+    tx: Tx<O::Ledgers, E>,
+    by: EndedBy,
+) -> Settled<O, <E::Reader as Asked>::Message>
+where
+    E::Reader: Asked,
+    E::Client: Served,
+    E::Writer: Drop,
+    E::Maker: MadeHead<E::Reader>,
+    ensures ends { EndsBy by result.report.end }
+    ensures answered { result.report.has_answered ≡ not (user_untouched tx.hold.history.plan.point (E.Writer.untouched tx.ends.next) (E.Writer.untouched tx.ends.back)) }
+    ensures served { IfSome result.report.served (λ usable. usable ≡ reusable_by E.Client.reusable tx.ends.service) }
 {
+    let has_answered = tx.has_answered();
     let TxParts {
         stake,
         ends,
@@ -286,7 +296,7 @@ pub(crate) fn settle_response<
         source: _,
         source_wire: origin,
         service,
-        next,
+        next: _,
         next_wire: user,
         back: _,
         maker,
@@ -294,7 +304,7 @@ pub(crate) fn settle_response<
     let account = Account {
         seen,
         outcome: outcome_by(by, outcome),
-        has_answered: !next.untouched(),
+        has_answered,
         next_is_fresh: is_fresh(&user),
     };
     let closes = maker.closes();

@@ -2,12 +2,10 @@
 
 ghost use Rattle.std.specs.Prelude.{◌≡◌};
 
-use crate::room::room_of;
-use crate::ways::{Left, Ways};
-use adapt_sides::{Hop, Service, Source};
-use adapt_turn::{EndTypes, Ends, MakesHead, ServiceEnd, Tx, TxParts};
+use crate::room::{Room, room_of};
+use adapt_turn::{EndTypes, Ends, ServiceEnd, Tx, TxParts};
 use plan_rules::Limits;
-use proxy_rules::Wires;
+use proxy_rules::{Way, Wires};
 use span_bank::{Bank, Ledgers, Stake};
 use std::sync::Wait;
 
@@ -17,7 +15,8 @@ pub(crate) fn parts_of<B: Ledgers, E: EndTypes, R: Wait>(
     bank: &Bank<B>,
     tx: Tx<B, E>,
 ) -> TxParts<B, E>
-    ensures { (result.stake.held ≡ 0) × (result.stake.pages ≡ 0) }
+    ensures empty { (result.stake.held ≡ 0) × (result.stake.pages ≡ 0) }
+    ensures service { result.ends.service ≡ tx.ends.service }
 {
     let mut tx = tx;
     tx.halt(rt, bank);
@@ -41,22 +40,15 @@ pub(crate) fn wire_of<V: Drop, W>(service: Option<ServiceEnd<V, W>>) -> Option<W
 /// What a transaction stood over, which fails where it isn't closed yet.
 pub(crate) fn left_of<
     B: Ledgers,
-    S: Source + Drop,
-    V: Service + Drop,
-    K: Hop + Drop,
-    F: MakesHead<S, K>,
     W: Wires,
-    E: EndTypes<
-        Reader = S,
-        Client = V,
-        Writer = K,
-        Maker = F,
-        SourceWire = W::SourceWire,
-        ServiceWire = W::ServiceWire,
-        NextWire = W::NextWire,
-    >,
+    E: EndTypes<SourceWire = W::SourceWire, ServiceWire = W::ServiceWire, NextWire = W::NextWire>,
     R: Wait,
->(rt: &R, bank: &Bank<B>, tx: Tx<B, E>, limits: Limits) -> Left<B, W> {
+>(rt: &R, bank: &Bank<B>, tx: Tx<B, E>, limits: Limits) -> (Room<B>, Way<W>)
+where
+    E::Reader: Drop,
+    E::Client: Drop,
+    E::Writer: Drop,
+{
     let TxParts {
         stake,
         ends,
@@ -72,37 +64,27 @@ pub(crate) fn left_of<
         back: _,
         maker: _,
     } = ends;
-    Left {
-        room: room_of(stake, limits),
-        ways: Ways {
-            source: source_wire,
-            service: wire_of(service),
-            next: next_wire,
-        },
-    }
+    let way = Way {
+        source: source_wire,
+        service: wire_of(service),
+        next: next_wire,
+    };
+    (room_of(stake, limits), way)
 }
 
 /// The reservation of a transaction, which fails where it isn't closed yet. Its connections are closed.
-pub(crate) fn stake_of<
-    B: Ledgers,
-    S: Source + Drop,
-    V: Service + Drop,
-    K: Hop + Drop,
-    F: MakesHead<S, K>,
-    X: Drop,
-    Y: Drop,
-    Z: Drop,
-    E: EndTypes<
-        Reader = S,
-        Client = V,
-        Writer = K,
-        Maker = F,
-        SourceWire = X,
-        ServiceWire = Y,
-        NextWire = Z,
-    >,
-    R: Wait,
->(rt: &R, bank: &Bank<B>, tx: Tx<B, E>) -> Stake<B>
+pub(crate) fn stake_of<B: Ledgers, E: EndTypes, R: Wait>(
+    rt: &R,
+    bank: &Bank<B>,
+    tx: Tx<B, E>,
+) -> Stake<B>
+where
+    E::Reader: Drop,
+    E::Client: Drop,
+    E::Writer: Drop,
+    E::SourceWire: Drop,
+    E::ServiceWire: Drop,
+    E::NextWire: Drop,
     ensures { (result.held ≡ 0) × (result.pages ≡ 0) }
 {
     let TxParts {

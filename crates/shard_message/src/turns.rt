@@ -3,7 +3,7 @@
 ghost use Rattle.std.specs.Prelude.{◌≡◌, is_some, true};
 
 use crate::connection::Connection;
-use adapt_turn::{Side, Turned};
+use adapt_turn::{Side, TurnAnswer};
 use proxy_rules::{Running, Wires};
 use service_lines::LendFault;
 use shard_effects::Round;
@@ -25,10 +25,10 @@ fn turn_side<B: Ledgers, W: Wires, R: Wait>(
         return Round::Over;
     }
     match turned {
-        Turned::Moved(_) => Round::Moved,
-        Turned::Waiting => Round::Waiting,
-        Turned::Broken => Round::Broken,
-        Turned::Finished(_) => Round::Over,
+        TurnAnswer::Moved(_) => Round::Moved,
+        TurnAnswer::Waiting => Round::Waiting,
+        TurnAnswer::Broken => Round::Broken,
+        TurnAnswer::Finished(_) => Round::Over,
     }
 }
 

@@ -5,7 +5,7 @@ use crate::game_budget::GameBudget;
 use crate::scenes::BEGIN;
 use crate::steps::ROUND;
 use crate::told::put_ended;
-use adapt_turn::{Side, Turned};
+use adapt_turn::{Side, TurnAnswer};
 use std::alloc::Global;
 use test_rows::{NoMemory, put_line};
 use trace_core::Plan;
@@ -17,8 +17,8 @@ const ROUNDS: usize = 500;
 /// Whether a turn of the service's side does nothing: it answers Waiting, and once the transaction has ended that it has.
 fn rests<G: Game>(game: &mut G) -> bool {
     let want = match game.ending() {
-        None => Turned::Waiting,
-        Some(outcome) => Turned::Finished(outcome),
+        None => TurnAnswer::Waiting,
+        Some(outcome) => TurnAnswer::Finished(outcome),
     };
     game.take_turn(Side::Service, BEGIN) == want
 }

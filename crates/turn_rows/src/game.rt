@@ -3,7 +3,7 @@
 ghost use Rattle.std.specs.Prelude.{◌≡◌};
 
 use crate::told::{Recorded, Told, record_of};
-use adapt_turn::{EndTypes, Ends, FreedConnection, Outcome, ServiceEnd, Side, Turned, TxParts};
+use adapt_turn::{EndTypes, Ends, FreedConnection, Outcome, ServiceEnd, Side, TurnAnswer, TxParts};
 use proxy_rules::{Beginning, Running, Wires};
 use span_bank::{Bank, Ledgers, Pages};
 use std::sync::Wait;
@@ -47,7 +47,7 @@ pub trait Game {
     type Ended: Remains + Drop;
 
     /// A turn of a side at a moment.
-    fn take_turn(&mut self, side: Side, now: u64) -> Turned;
+    fn take_turn(&mut self, side: Side, now: u64) -> TurnAnswer;
 
     /// Turns of sides at the moment of the last moved byte.
     fn take_turns(&mut self, order: &[Side]);
@@ -81,7 +81,7 @@ impl<'a, B: Ledgers, A: Wire + Drop + Recorded, C: Wire + Drop + Recorded, R: Wa
     for Played<'a, B, (A, C, C), R> {
     type Ended = Ended<A, C>;
 
-    fn take_turn(&mut self, side: Side, now: u64) -> Turned {
+    fn take_turn(&mut self, side: Side, now: u64) -> TurnAnswer {
         take_turn(self.rt, self.bank, &mut self.running, side, now)
     }
 
@@ -125,7 +125,7 @@ fn take_turn<B: Ledgers, W: Wires, R: Wait>(
     running: &mut Running<B, W>,
     side: Side,
     now: u64,
-) -> Turned {
+) -> TurnAnswer {
     running.turn(rt, bank, side, now)
 }
 
@@ -243,12 +243,8 @@ pub fn undo<B: Ledgers, W: Wires, R: Wait>(rt: &R, bank: &Bank<B>, beginning: Be
         limits: _,
         stake,
         message: _,
-        source_wire: _,
-        service_wire: _,
-        next_wire: _,
-        deadline: _,
-        now: _,
-        reused: _,
+        way: _,
+        pace: _,
         last: _,
     } = beginning;
     bank.close(rt, stake, Pages::none());

@@ -7,8 +7,8 @@ ghost use Rattle.plan_rules.specs.Claims.{claim_of};
 use crate::game::{Lines, Played, undo};
 use crate::sides::{Sides, Wires};
 use adapt_turn::Side;
-use plan_rules::{Limits, claim};
-use proxy_rules::{Beginning, Incoming, Offer, laws};
+use plan_rules::{Limits, Pace, claim};
+use proxy_rules::{Beginning, Incoming, Offer, Way, laws};
 use span_bank::{Bank, Ledgers, Stake};
 use std::alloc::Global;
 use std::sync::Wait;
@@ -103,12 +103,12 @@ fn start<'a, B: Ledgers, A: Wire + Drop, C: Wire + Drop, R: Wait>(
         limits,
         stake,
         message,
-        source_wire,
-        service_wire,
-        next_wire,
-        deadline: DEADLINE,
-        now: BEGIN,
-        reused: limits.retry,
+        way: Way {
+            source: source_wire,
+            service: service_wire,
+            next: next_wire,
+        },
+        pace: Pace::new(DEADLINE, BEGIN, limits.retry),
         last: false,
     };
     let begun = laws::from_the_beginning_the_wires_take_one_message(

@@ -1,7 +1,7 @@
 //! The steps of a row, in words.
 
 use crate::game::Game;
-use adapt_turn::{Side, Turned};
+use adapt_turn::{Side, TurnAnswer};
 use std::alloc::Global;
 use test_rows::{NoMemory, put_line, put_number, put_shown};
 use wire_rows::{Scene, Values, index_of, number, parts};
@@ -47,7 +47,7 @@ pub fn first_turns(alloc: Global, scene: Scene<'_>) -> Result<Vec<(Side, u64)>, 
 
 /// Whether the transaction is over, and nothing of a refusal is due any more.
 fn is_finished<G: Game>(game: &mut G) -> bool {
-    game.ending().is_some() && matches!(game.take_turn(Side::Source, 0), Turned::Finished(_))
+    game.ending().is_some() && matches!(game.take_turn(Side::Source, 0), TurnAnswer::Finished(_))
 }
 
 /// Up to `count` rounds of turns at the moment of the last moved byte, until the transaction is over.
@@ -89,8 +89,8 @@ fn count_turns<G: Game>(game: &mut G, order: &[Side], count: usize) -> Counted {
     for _ in 0..count {
         for side in order {
             let kind = match game.take_turn(*side, 0) {
-                Turned::Moved(1) => &mut counted.moved,
-                Turned::Finished(_) => &mut counted.finished,
+                TurnAnswer::Moved(1) => &mut counted.moved,
+                TurnAnswer::Finished(_) => &mut counted.finished,
                 _ => &mut counted.other,
             };
             *kind = kind.saturating_add(1);
@@ -128,7 +128,7 @@ fn put_turns<G: Game>(
 
 /// What a row's steps go by.
 #[derive(Clone, Copy)]
-struct Pace<'a> {
+struct Orders<'a> {
     order: &'a [Side],
     tally: &'a [Side],
     at: Option<usize>,
@@ -147,7 +147,7 @@ fn put_freed(freed: Option<bool>, out: &mut Vec<u8>) -> Result<(), NoMemory> {
 /// Plays a step: `rounds=500`, `tally=80`, `until-over`, `halt`, `free`, or turns whose answers are added, as `source@190` and `each@189`.
 fn put_step<G: Game>(
     game: &mut G,
-    pace: Pace<'_>,
+    orders: Orders<'_>,
     values: Values,
     word: &[u8],
     out: &mut Vec<u8>,
@@ -164,15 +164,15 @@ fn put_step<G: Game>(
     let (name, count) = parts(word, b'=').unwrap_or((word, b"0"));
     let count = number(count, values).unwrap_or(0);
     match index_of(b"rounds until-over halt free", name) {
-        Some(0) => match pace.at {
-            Some(now) => play_rounds_at(game, pace.order, now, count),
-            None => play_rounds(game, pace.order, count),
+        Some(0) => match orders.at {
+            Some(now) => play_rounds_at(game, orders.order, now, count),
+            None => play_rounds(game, orders.order, count),
         },
-        Some(1) => play_until_over(game, pace.order),
+        Some(1) => play_until_over(game, orders.order),
         Some(2) => game.stop(),
         Some(3) => return put_freed(game.free(), out),
         _ => {
-            let tally = count_turns(game, pace.tally, count);
+            let tally = count_turns(game, orders.tally, count);
             return put_tally(tally, values, out);
         }
     }
@@ -189,13 +189,13 @@ pub fn put_steps<G: Game>(
 ) -> Result<(), NoMemory> {
     let order = order_of(alloc, scene.get(b"order"))?;
     let tally = order_of(alloc, scene.get(b"tally"))?;
-    let pace = Pace {
+    let orders = Orders {
         order: &order,
         tally: &tally,
         at: number(scene.get(b"at"), values),
     };
     for word in scene.get(b"steps").split(|byte| *byte == b' ') {
-        put_step(game, pace, values, word, out)?;
+        put_step(game, orders, values, word, out)?;
     }
     Ok(())
 }

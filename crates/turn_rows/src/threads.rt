@@ -7,7 +7,7 @@ use crate::held::HeldWire;
 use crate::scenes::BEGIN;
 use crate::steps::ROUND;
 use crate::told::{Told, wants_memory};
-use adapt_turn::{Side, Turned};
+use adapt_turn::{Side, TurnAnswer};
 use span_bank::{Bank, Ledgers};
 use std::alloc::Global;
 use std::sync::Wait;
@@ -37,7 +37,7 @@ pub fn drive_to_end<G: Game>(game: &mut G) -> bool {
     for _ in 0..ROUNDS {
         game.take_turns(&ROUND);
     }
-    matches!(game.take_turn(Side::Source, BEGIN), Turned::Finished(_))
+    matches!(game.take_turn(Side::Source, BEGIN), TurnAnswer::Finished(_))
 }
 
 /// What a row's answer says of a transaction that ended.

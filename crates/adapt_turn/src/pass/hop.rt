@@ -1,19 +1,23 @@
 //! A pass of the side that the chosen message goes to.
 
-ghost use Rattle.std.specs.Prelude.{◌≡◌, true, false, IfOk, IfErr};
+ghost use Rattle.std.specs.Prelude.{◌≡◌, true, false, IfOk, IfErr, Some};
 ghost use Rattle.adapt_sides.specs.Turns.Gift.{nothing};
 ghost use Rattle.adapt_hold.specs.Holding.{shows, IsRoomy, IsTied};
-ghost use Rattle.adapt_turn.specs.Made.{MakesAt, MakesNoneAt, response_of, is_reqmod, answers_user};
+ghost use Rattle.adapt_turn.specs.ChosenHead.{MakesAt, MakesNoneAt, response_of, is_reqmod, answers_user};
 ghost use Rattle.adapt_turn.specs.Passes.{Begins, GivesOne, NextPasses, choice_of, writers};
-ghost use Rattle.adapt_turn.specs.Stands.{IsChosen};
+ghost use Rattle.adapt_turn.specs.Stands.{IsChosen, chosen_span};
+ghost use Rattle.adapt_hold.specs.Spans.{span_of};
+ghost use Rattle.adapt_sides.specs.declared.fault.RelayFault.{RelayFault as Fault};
+ghost use Rattle.adapt_sides.specs.Turns.{FailsGiving};
+ghost use Rattle.adapt_turn.specs.Reports.{HasFaultReason, lending, HopReported, hop_cause};
 
 use crate::ends::{EndTypes, ServiceEnd};
 use crate::head::MakesHead;
-use crate::pass::idle;
-use crate::steps::{Passed, close, give};
-use adapt_hold::Hold;
-use adapt_sides::{Hop, Service, Source};
+use crate::pass::{PassAnswer, close, idle, went_on};
+use adapt_hold::{Hold, step_all};
+use adapt_sides::{Hop, RelayFault, Service, Source};
 use span_bank::{Bank, Ledgers};
+use span_tape::SpanTape;
 use std::alloc::Global;
 use std::sync::Wait;
 use trace_core::{Cause, Point};
@@ -33,7 +37,7 @@ pub(crate) fn next_pass<B: Ledgers, E: EndTypes>(
     next_wire: &mut E::NextWire,
     back: &mut E::Writer,
     back_wire: &mut E::SourceWire,
-) -> Passed
+) -> PassAnswer
     requires running { (shows hold.old.history).closed ≡ false }
     requires roomy { IsRoomy hold.old }
     ensures passes { NextPasses E.Writer.Hop E.SourceWire.Wire E.NextWire.Wire (choice_of E.Maker.MakesHead E.Client.Service maker.old maker.new (E.Reader.head source.now) service.now (shows hold.old.history))
@@ -148,7 +152,7 @@ fn give_pass<B: Ledgers, K: Hop, A: Wire, C: Wire>(
     next_wire: &mut C,
     back: &mut K,
     back_wire: &mut A,
-) -> Passed
+) -> PassAnswer
     requires running { (shows hold.old.history).closed ≡ false }
     requires chosen { IsChosen (shows hold.old.history) }
     requires roomy { IsRoomy hold.old }
@@ -159,5 +163,58 @@ fn give_pass<B: Ledgers, K: Hop, A: Wire, C: Wire>(
         give(rt, bank, hold, next, next_wire)
     } else {
         give(rt, bank, hold, back, back_wire)
+    }
+}
+
+/// Gives a next hop what it takes of the chosen message.
+pub(crate) fn give<B: Ledgers, K: Hop, W: Wire>(
+    rt: &impl Wait,
+    bank: &Bank<B>,
+    hold: &mut Hold<B>,
+    hop: &mut K,
+    wire: &mut W,
+) -> PassAnswer
+    requires running { (shows hold.old.history).closed ≡ false }
+    requires chosen { IsChosen (shows hold.old.history) }
+    requires roomy { IsRoomy hold.old }
+    ensures reports { HopReported K.Hop W.Wire (lending hold.old hop.old wire.old) (lending hold.new hop.new wire.new) result }
+    ensures reason { HasFaultReason (K.fault hop.old) (K.fault hop.new) (FailsGiving (K.breaks_length (shows hold.old.history) (K.body_framing hop.new))) }
+    ensures again { (had : Fault) → K.fault hop.old ≡ Some had → result.failed ≡ Some (hop_cause had) }
+    ensures gift { K.gift hop.new ≡ K.gift hop.old }
+    ensures framing { K.body_framing hop.new ≡ K.body_framing hop.old }
+    ensures whole { result.broken ≡ false }
+    ensures roomy { IsRoomy hold.new }
+{
+    let state = hold.state();
+    let tape = tape_of(hold);
+    match hop.write_turn(state, tape, wire) {
+        Ok(turn) => {
+            step_all(rt, bank, hold, turn.events.as_slice(), &[]);
+            went_on(turn.waiting)
+        }
+        Err(fault) => close(rt, bank, hold, hop_cause(fault)),
+    }
+}
+
+/// The tape of the chosen message.
+pub(crate) fn tape_of<B: Ledgers>(hold: &Hold<B>) -> &SpanTape
+    ensures tape { span_of result.now ≡ chosen_span hold.now }
+    ensures tied { IsTied hold.now }
+{
+    if hold.state().chooses_original() {
+        hold.original()
+    } else {
+        hold.adapted()
+    }
+}
+
+/// The cause that a fault of the next hop is. A body of another length than its head said is the service's fault.
+pub(crate) fn hop_cause(fault: RelayFault) -> Cause
+    ensures { result ≡ hop_cause fault }
+{
+    match fault {
+        RelayFault::NoMemory => Cause::Memory,
+        RelayFault::Length => Cause::Service,
+        _ => Cause::NextHop,
     }
 }

@@ -1,13 +1,13 @@
 //! A pass of the source's side.
 
-ghost use Rattle.std.specs.Prelude.{◌≡◌, false};
+ghost use Rattle.std.specs.Prelude.{◌≡◌, false, length};
 ghost use Rattle.adapt_hold.specs.Holding.{shows, IsRoomy};
-ghost use Rattle.adapt_turn.specs.Parts.{HasCause, lending, SourcePart};
+ghost use Rattle.adapt_turn.specs.Reports.{HasFaultReason, lending, SourceReported, source_room, source_cause};
 ghost use Rattle.adapt_turn.specs.Passes.{SourcePasses};
 
-use crate::steps::{Passed, close, take_source};
-use adapt_hold::Hold;
-use adapt_sides::Source;
+use crate::pass::{PassAnswer, close, went_on};
+use adapt_hold::{Hold, step_all};
+use adapt_sides::{RelayFault, Source};
 use plan_rules::TURN_BYTES;
 use span_bank::{Bank, Ledgers};
 use std::sync::Wait;
@@ -21,7 +21,7 @@ pub(crate) fn source_pass<B: Ledgers, S: Source, A: Wire>(
     hold: &mut Hold<B>,
     source: &mut S,
     wire: &mut A,
-) -> Passed
+) -> PassAnswer
     requires running { (shows hold.old.history).closed ≡ false }
     requires roomy { IsRoomy hold.old }
     ensures passes { SourcePasses S.Source A.Wire (lending hold.old source.old wire.old) (lending hold.new source.new wire.new) result }
@@ -42,12 +42,12 @@ fn read_source<B: Ledgers, S: Source, A: Wire>(
     hold: &mut Hold<B>,
     source: &mut S,
     wire: &mut A,
-) -> Passed
+) -> PassAnswer
     requires running { (shows hold.old.history).closed ≡ false }
     requires roomy { IsRoomy hold.old }
     requires agrees { S.agrees (shows hold.old.history) source.old }
-    ensures part { SourcePart S.Source A.Wire (lending hold.old source.old wire.old) (lending hold.new source.new wire.new) result }
-    ensures reason { HasCause (S.fault source.old) (S.fault source.new) (λ fault. S.has_reason fault source.new) }
+    ensures reports { SourceReported S.Source A.Wire (lending hold.old source.old wire.old) (lending hold.new source.new wire.new) result }
+    ensures reason { HasFaultReason (S.fault source.old) (S.fault source.new) (λ fault. S.has_reason fault source.new) }
     ensures head { S.head source.new ≡ S.head source.old }
     ensures whole { result.broken ≡ false }
     ensures roomy { IsRoomy hold.new }
@@ -56,4 +56,43 @@ fn read_source<B: Ledgers, S: Source, A: Wire>(
     let mut buf = [0; TURN_BYTES as usize];
     let room = hold.original_room() as usize;
     take_source(rt, bank, hold, source, wire, &mut buf[..room])
+}
+
+/// Takes what the source gives, into a buffer of the room's length.
+pub(crate) fn take_source<B: Ledgers, S: Source, A: Wire>(
+    rt: &impl Wait,
+    bank: &Bank<B>,
+    hold: &mut Hold<B>,
+    source: &mut S,
+    wire: &mut A,
+    out: &mut [u8],
+) -> PassAnswer
+    requires running { (shows hold.old.history).closed ≡ false }
+    requires roomy { IsRoomy hold.old }
+    requires agrees { S.agrees (shows hold.old.history) source.old }
+    requires room { length out.old ≡ source_room hold.old }
+    ensures reports { SourceReported S.Source A.Wire (lending hold.old source.old wire.old) (lending hold.new source.new wire.new) result }
+    ensures reason { HasFaultReason (S.fault source.old) (S.fault source.new) (λ fault. S.has_reason fault source.new) }
+    ensures head { S.head source.new ≡ S.head source.old }
+    ensures whole { result.broken ≡ false }
+    ensures roomy { IsRoomy hold.new }
+{
+    let _state = hold.state();
+    match source.read_turn(wire, out) {
+        Ok(turn) => {
+            step_all(rt, bank, hold, turn.events.as_slice(), out);
+            went_on(turn.waiting)
+        }
+        Err(fault) => close(rt, bank, hold, source_cause(fault)),
+    }
+}
+
+/// The cause that a fault of the source is.
+pub(crate) fn source_cause(fault: RelayFault) -> Cause
+    ensures { result ≡ source_cause fault }
+{
+    match fault {
+        RelayFault::NoMemory => Cause::Memory,
+        _ => Cause::Source,
+    }
 }

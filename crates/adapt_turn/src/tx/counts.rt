@@ -1,8 +1,8 @@
 //! The bytes that a transaction's wires gave and took.
 
 ghost use Rattle.std.specs.Prelude.{◌≡◌, ◌+◌, ◌-◌, ◌^◌, min};
-ghost use Rattle.adapt_turn.specs.Made.{on_held};
-ghost use Rattle.adapt_turn.specs.Moved.{AreCounts, counted};
+ghost use Rattle.adapt_turn.specs.ChosenHead.{on_held};
+ghost use Rattle.adapt_turn.specs.ByteCounts.{AreCounts, counted};
 
 use crate::ends::{EndTypes, ServiceEnd};
 use crate::tx::Tx;
@@ -39,7 +39,7 @@ fn between(before: (u64, u64), after: (u64, u64)) -> u64
 }
 
 /// The bytes that the service's wire gave, and those that it took; none where its connection isn't held.
-fn line_counts<V, W: Wire>(service: &Option<ServiceEnd<V, W>>) -> (u64, u64)
+fn service_counts<V, W: Wire>(service: &Option<ServiceEnd<V, W>>) -> (u64, u64)
     ensures { on_held service.now ((result.0 ≡ 0) × (result.1 ≡ 0)) (λ wire. AreCounts result (W.past wire)) }
 {
     match service {
@@ -60,7 +60,7 @@ impl<B: Ledgers, E: EndTypes> Tx<B, E> {
     {
         WireCounts {
             source: self.ends.source_wire.counts(),
-            service: line_counts(&self.ends.service),
+            service: service_counts(&self.ends.service),
             next: self.ends.next_wire.counts(),
         }
     }

@@ -5,7 +5,7 @@ use Rattle.http_side.specs.Heads.{RequestParts}
 use Rattle.trace_core.specs.declared.history.Seen.{Seen}
 use Rattle.http_relay.specs.declared.side.SourceHead.{SourceHead}
 use Rattle.http_relay.specs.declared.side.SourceSide.{SourceSide}
-use Rattle.adapt_turn.specs.Parts.{IsOfSide}
+use Rattle.adapt_turn.specs.Reports.{IsOfSide}
 use Rattle.proxy_rules.specs.Heads.{MakesNone, MakesNoneOf}
 use Rattle.proxy_rules.proofs.laws.a_missing_head_is_of_a_side.Goals as goal
 

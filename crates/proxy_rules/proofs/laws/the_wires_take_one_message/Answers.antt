@@ -15,12 +15,12 @@ returns-clause-took g c = λ request t s.
       adapted_read = s.heard_is;
       service_took = service_one request tx.hold s.original t.service_taken tx.ends.service c.seen.ensures.tied s.original_is s.sent_is;
       next_and_back =
-          hops_one tx.hold tx.ends.next tx.ends.back (MadeOf tx.ends.maker tx.ends.source tx.ends.service tx.ends.next) (MadeOf tx.ends.maker tx.ends.source tx.ends.service tx.ends.back)
+          hops_one tx.hold tx.ends.next tx.ends.back (MadeOf tx.ends tx.ends.next) (MadeOf tx.ends tx.ends.back)
           s.original s.adapted t.next_taken t.back_taken c.seen.ensures.tied s.original_is s.adapted_is s.hops_are;
       other =
-          other_one (shows tx.hold.history).plan.point tx.hold tx.ends.next tx.ends.back (MadeOf tx.ends.maker tx.ends.source tx.ends.service tx.ends.next) (MadeOf tx.ends.maker tx.ends.source tx.ends.service tx.ends.back)
+          other_one (shows tx.hold.history).plan.point tx.hold tx.ends.next tx.ends.back (MadeOf tx.ends tx.ends.next) (MadeOf tx.ends tx.ends.back)
           s.original s.adapted t.next_taken t.back_taken c.seen.ensures.tied s.original_is s.adapted_is s.refuses_is.1 s.refuses_is.2 s.hops_are;
       done = λ d.
-          whole_one tx.ends.next tx.ends.back (MadeOf tx.ends.maker tx.ends.source tx.ends.service tx.ends.next) (MadeOf tx.ends.maker tx.ends.source tx.ends.service tx.ends.back)
+          whole_one tx.ends.next tx.ends.back (MadeOf tx.ends tx.ends.next) (MadeOf tx.ends tx.ends.back)
           tx.refusing (shows tx.hold.history) _ t.next_taken t.back_taken (s.done_is d);
     }

@@ -1,6 +1,6 @@
 use Rattle.std.proofs.Common.{inl, inr, refl, sym, ◌∙◌, subst}
 use Rattle.adapt_hold.specs.Holding.{shows}
-use Rattle.adapt_turn.specs.Made.{MakesAt}
+use Rattle.adapt_turn.specs.ChosenHead.{MakesAt}
 use Rattle.adapt_turn.proofs.pass.hop.begin.Goals as goal
 
 pub returns-then-not-is_idle-clause-begun : goal.returns-then-not-is_idle-clause-begun

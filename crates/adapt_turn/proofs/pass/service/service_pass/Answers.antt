@@ -1,6 +1,6 @@
 use Rattle.std.proofs.Common.{inl, inr, refl, sym, ap, ◌∙◌}
-use Rattle.adapt_turn.specs.Made.{wire_of}
-use Rattle.adapt_turn.proofs.Freeing.{held_is}
+use Rattle.adapt_turn.specs.ChosenHead.{wire_of}
+use Rattle.adapt_turn.proofs.ServiceOver.{held_is}
 use Rattle.adapt_turn.proofs.pass.service.service_pass.Goals as goal
 
 pub returns-in-Some-wire-clause-passes : goal.returns-in-Some-wire-clause-passes

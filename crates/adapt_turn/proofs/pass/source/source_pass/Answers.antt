@@ -7,41 +7,41 @@ use Rattle.trace_core.specs.History.{History}
 use Rattle.trace_core.specs.Turns.{after_all}
 use Rattle.plan_rules.specs.declared.room.TheConstants.{TURN_BYTES}
 use Rattle.adapt_hold.specs.Holding.{shows}
-use Rattle.adapt_turn.specs.declared.steps.Passed.{Passed}
-use Rattle.adapt_turn.specs.declared.turned.Side.TheVariants.{Source}
-use Rattle.adapt_turn.specs.Parts.{IsOfSide, stepped, outcome_by}
-use Rattle.adapt_turn.proofs.Reasons.{part_idle, part_waits, part_blames, part_still, cause_none, source_blame}
-use Rattle.adapt_turn.proofs.Paced.{part_received, original_few, fail_received}
-use Rattle.adapt_turn.proofs.Rows.{part_took, part_acts, of_source, untouched_or, fail_advances, took_fail}
-use Rattle.adapt_turn.proofs.Stepped.{part_shows, part_over, failed_closed}
-use Rattle.adapt_turn.proofs.Told.{part_told, failed_told}
+use Rattle.adapt_turn.specs.declared.pass.PassAnswer.{PassAnswer}
+use Rattle.adapt_turn.specs.declared.turn.Side.TheVariants.{Source}
+use Rattle.adapt_turn.specs.Reports.{IsOfSide, stepped, outcome_by}
+use Rattle.adapt_turn.proofs.Reasons.{reported_idle, reported_waits, reported_blames, reported_still, cause_none, source_blame}
+use Rattle.adapt_turn.proofs.Paced.{reported_received, original_few, fail_received}
+use Rattle.adapt_turn.proofs.Rows.{reported_took, reported_acts, of_source, untouched_or, fail_advances, took_fail}
+use Rattle.adapt_turn.proofs.Stepped.{reported_shows, reported_over, failed_closed}
+use Rattle.adapt_turn.proofs.Told.{reported_told, failed_told}
 use Rattle.adapt_turn.proofs.pass.source.source_pass.Goals as goal
 
 pub returns-then-agrees_with-clause-passes : goal.returns-then-agrees_with-clause-passes
 returns-then-agrees_with-clause-passes g c =
     let h = c.args.hold.now in
-    let d = c.read_source.ensures.part in
+    let d = c.read_source.ensures.reports in
     let whole = c.read_source.ensures.whole in
     let tied = c.state-state.ensures.tied in
     let yes = subst (λ (y : History). g.S.Source.agrees (shows y) c.args.source.now) c.state-state.ensures.state (c.agrees_with.ensures.yes c.if-agrees_with.true) in
     record {
       did = inl (yes, d);
       tied = tied;
-      idle = part_idle d.part;
-      still = part_still d.part;
-      waits = part_waits d.part;
+      idle = reported_idle d.reports;
+      still = reported_still d.reports;
+      waits = reported_waits d.reports;
       framed = d.framed;
-      paced = part_received tied d.part _ d.few (original_few (shows h.history) h.claim h.limits.window);
-      took = part_took Source of_source tied d.part;
-      active = λ w. part_acts Source of_source tied d.part w whole;
-      blames = λ cause e. (λ a. part_blames d.part cause e, λ no. absurd (no yes));
+      paced = reported_received tied d.reports _ d.few (original_few (shows h.history) h.claim h.limits.window);
+      took = reported_took Source of_source tied d.reports;
+      active = λ w. reported_acts Source of_source tied d.reports w whole;
+      blames = λ cause e. (λ a. reported_blames d.reports cause e, λ no. absurd (no yes));
       reason = c.read_source.ensures.reason;
-      of_side = λ cause e. source_blame cause (d.part.blamed cause e);
-      over = part_over tied d.part;
-      ends = part_told (λ cause. refl) tied c.requires.running d.part;
-      sound = λ n. d.part.sound n whole;
+      of_side = λ cause e. source_blame cause (d.reports.blamed cause e);
+      over = reported_over tied d.reports;
+      ends = reported_told (λ cause. refl) tied c.requires.running d.reports;
+      sound = λ n. d.reports.sound n whole;
       told = λ n v.
-          ap (λ (x : Seen). x.ended) (part_shows tied d.part)
+          ap (λ (x : Seen). x.ended) (reported_shows tied d.reports)
           ∙ ap (λ (failed : Option Cause). (after_all (shows h.history) (stepped failed d.reported)).ended) n ∙ d.told n v;
       whole = whole;
       head = c.read_source.ensures.head;
@@ -55,8 +55,8 @@ returns-else-agrees_with-clause-passes g c =
     let is = c.close.ensures.moved in
     let same = c.close.ensures.passed in
     let no : g.S.Source.agrees (shows h.history) c.args.source.now → ⊥ = λ a. c.agrees_with.ensures.no c.if-agrees_with.false (subst (λ (y : History). g.S.Source.agrees (shows y) c.args.source.now) (sym c.state-state.ensures.state) a) in
-    let waits : c.close.result.waiting ≡ true → ⊥ = λ e. false≢true (sym (ap (λ (z : Passed). z.waiting) same) ∙ e) in
-    let failed : Some causes.Source ≡ c.close.result.failed = sym (ap (λ (z : Passed). z.failed) same) in
+    let waits : c.close.result.waiting ≡ true → ⊥ = λ e. false≢true (sym (ap (λ (z : PassAnswer). z.waiting) same) ∙ e) in
+    let failed : Some causes.Source ≡ c.close.result.failed = sym (ap (λ (z : PassAnswer). z.failed) same) in
     let unfailed : c.close.result.failed ≡ None → ⊥ = λ n. (let d : Some causes.Source ≡ None = failed ∙ n in cc) in
     record {
       did = inr (record { no = no; failed = is; side = refl; wire = refl; passed_is = same });
@@ -75,6 +75,6 @@ returns-else-agrees_with-clause-passes g c =
       ends = ap outcome_by (sym failed) ∙ failed_told h k causes.Source is;
       sound = λ n. absurd (unfailed n);
       told = λ n v. absurd (unfailed n);
-      whole = ap (λ (z : Passed). z.broken) same;
+      whole = ap (λ (z : PassAnswer). z.broken) same;
       head = refl;
     }

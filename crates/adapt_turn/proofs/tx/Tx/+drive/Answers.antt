@@ -6,7 +6,7 @@ use Rattle.adapt_turn.proofs.Together.{goes_none, goes_then}
 use Rattle.std.proofs.lemmas.Bool.{false≢true}
 use Rattle.adapt_turn.proofs.Refusals.{by_closed}
 use Rattle.adapt_turn.proofs.Faultless.{open_where}
-use Rattle.adapt_turn.proofs.ByTurn.{drives_none, drives_more}
+use Rattle.adapt_turn.proofs.TurnAnswers.{drives_none, drives_more}
 use Rattle.adapt_turn.proofs.tx.Tx.+drive.Goals as goal
 
 pub returns-in-empty-clause-goes : goal.returns-in-empty-clause-goes

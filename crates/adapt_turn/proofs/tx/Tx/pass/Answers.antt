@@ -1,13 +1,13 @@
 use Rattle.std.proofs.Common.{◌∙◌, inl, inr, Some, refl, sym, subst}
 use Rattle.std.proofs.lemmas.Bool.{false≢true}
 use Rattle.adapt_hold.specs.Holding.{shows}
-use Rattle.adapt_turn.specs.Made.{IsMade, adapted_of, response_of}
-use Rattle.adapt_turn.specs.Parts.{lending}
+use Rattle.adapt_turn.specs.ChosenHead.{IsMade, adapted_of, response_of}
+use Rattle.adapt_turn.specs.Reports.{lending}
 use Rattle.adapt_turn.specs.Passes.{choice_of, writers}
 use Rattle.adapt_turn.proofs.Giving.{answers_reqmod}
 use Rattle.adapt_turn.proofs.Writers.{next_passes_go}
-use Rattle.adapt_turn.proofs.Made.{made_by, made_now, made_on, heads_then, source_heads, line_heads}
-use Rattle.adapt_turn.proofs.Lines.{line_told}
+use Rattle.adapt_turn.proofs.ChosenHead.{made_by, made_now, made_on, heads_then, source_heads, line_heads}
+use Rattle.adapt_turn.proofs.ServiceEnds.{line_told}
 use Rattle.adapt_turn.proofs.Refusals.{none_due}
 use Rattle.adapt_turn.proofs.Together.{views_by, others_by, past_on, source_passes_go, line_passes_go}
 use Rattle.adapt_turn.proofs.tx.Tx.pass.Goals as goal

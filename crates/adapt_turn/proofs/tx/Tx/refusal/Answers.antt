@@ -1,5 +1,5 @@
 use Rattle.std.proofs.Common.{sym, ◌∙◌}
-use Rattle.adapt_turn.specs.Parts.{lending}
+use Rattle.adapt_turn.specs.Reports.{lending}
 use Rattle.adapt_turn.proofs.Together.{views_by}
 use Rattle.adapt_turn.proofs.Giving.{next_refusal_goes, back_refusal_goes}
 use Rattle.adapt_turn.proofs.tx.Tx.refusal.Goals as goal

@@ -1,6 +1,6 @@
 use Rattle.std.proofs.Common.{sym, ◌∙◌}
 use Rattle.adapt_turn.proofs.Told.{failed_undone}
-use Rattle.adapt_turn.proofs.Made.{made_by}
+use Rattle.adapt_turn.proofs.ChosenHead.{made_by}
 use Rattle.adapt_turn.proofs.Together.{views_by}
 use Rattle.adapt_turn.proofs.Giving.{next_refuse_goes, back_refuse_goes}
 use Rattle.adapt_turn.proofs.tx.Tx.refuse.Goals as goal

@@ -1,6 +1,6 @@
 use Rattle.std.proofs.Common.{Some}
 use Rattle.adapt_hold.specs.Holding.{shows}
-use Rattle.adapt_turn.proofs.Made.{made_by, heads_then, line_heads, none_modified_before}
+use Rattle.adapt_turn.proofs.ChosenHead.{made_by, heads_then, line_heads, none_modified_before}
 use Rattle.adapt_turn.proofs.Together.{views_by, others_by, line_again, none_again}
 use Rattle.adapt_turn.proofs.tx.Tx.retry.Goals as goal
 

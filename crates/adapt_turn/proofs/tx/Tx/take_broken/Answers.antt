@@ -1,4 +1,4 @@
-use Rattle.adapt_turn.proofs.Freeing.{freed}
+use Rattle.adapt_turn.proofs.ServiceOver.{freed}
 use Rattle.adapt_turn.proofs.tx.Tx.take_broken.Goals as goal
 
 pub returns-clause-stands : goal.returns-clause-stands

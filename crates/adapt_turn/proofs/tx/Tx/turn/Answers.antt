@@ -4,8 +4,8 @@ use Rattle.trace_core.specs.declared.history.Cause.TheVariants.{Deadline, Stoppi
 use Rattle.plan_rules.specs.Room.{original_room, adapted_room}
 use Rattle.adapt_hold.specs.Holding.{Holding, shows}
 use Rattle.adapt_turn.proofs.Reasons.{waits_kept, both_kept, blamed_kept, line_blamed_kept, writer_kept, fails_kept, breaks_kept, cause_kept, outcome_fails, not_failed}
-use Rattle.adapt_turn.proofs.Moved.{moves_of, moves_none, none_over, waiting_not, some_line}
-use Rattle.adapt_turn.specs.declared.turned.Outcome.TheVariants as outcomes
+use Rattle.adapt_turn.proofs.ByteCounts.{moves_of, moves_none, none_over, waiting_not, some_line}
+use Rattle.adapt_turn.specs.declared.turn.Outcome.TheVariants as outcomes
 use Rattle.adapt_turn.proofs.Told.{done_told, failed_over}
 use Rattle.std.proofs.lemmas.Bool.{false≢true}
 use Rattle.adapt_turn.specs.Rows.{may_step, TookBy, Advances}
@@ -14,16 +14,16 @@ use Rattle.adapt_turn.proofs.Rows.{by_side, fail_advances, took_fail}
 use Rattle.trace_core.specs.declared.history.Cause.{Cause}
 use Rattle.adapt_turn.specs.Refusals.{refusal_status, user_view, HasRefusal}
 use Rattle.adapt_turn.proofs.Refusals.{by_point}
-use Rattle.adapt_turn.proofs.ByTurn.{unfailed, by_answer, answer_on, not_broken, paces_still, for_side, of_either, of_one, idle_no_message}
-use Rattle.adapt_turn.specs.declared.turned.Turned.TheVariants as answers
-use Rattle.adapt_turn.specs.Made.{side_of, response_of, answers_user}
+use Rattle.adapt_turn.proofs.TurnAnswers.{unfailed, by_answer, answer_on, not_broken, paces_still, for_side, of_either, of_one, idle_no_message}
+use Rattle.adapt_turn.specs.declared.turn.TurnAnswer.TheVariants as answers
+use Rattle.adapt_turn.specs.ChosenHead.{side_of, response_of, answers_user}
 use Rattle.std.specs.Prelude.{MatchOption, ⊤}
 use Rattle.adapt_turn.proofs.Paced.{paced_kept}
-use Rattle.adapt_turn.specs.Parts.{fault_of, lending}
+use Rattle.adapt_turn.specs.Reports.{fault_of, lending}
 use Rattle.adapt_turn.specs.declared.ends.ServiceEnd.{ServiceEnd}
 use Rattle.adapt_turn.proofs.Faultless.{unmarked_before, unmarked_now}
-use Rattle.adapt_turn.specs.declared.pace.Pace.{Pace}
-use Rattle.adapt_turn.proofs.Lines.{line_told}
+use Rattle.plan_rules.specs.declared.pace.Pace.{Pace}
+use Rattle.adapt_turn.proofs.ServiceEnds.{line_told}
 use Rattle.adapt_turn.proofs.tx.Tx.turn.Goals as goal
 
 none_some : {A : Type 0} {a : A} → None ≡ Some a → ⊥
@@ -40,9 +40,6 @@ moved_not_broken d = cc
 
 moved_same : {n m : ℕ} → answers.Moved n ≡ answers.Moved m → n ≡ m
 moved_same d = cc
-
-due_at : (last_moved deadline now : ℕ) → last_moved ≤ now → deadline ≤ now - last_moved → last_moved + deadline ≤ now
-due_at last_moved deadline now after past = omega arith
 
 at_most : (n more : ℕ) → n ≤ n + more
 at_most n more = omega arith
@@ -122,8 +119,8 @@ returns-then-is_closed-clause-answers g c =
     (λ b. absurd b)
     (λ outcome f. record { closed = over; ended = f.0; refusal = f.1; done = λ d. done_told c.args.self.now.hold c.closed_turn.new.self.hold c.args.self.now.outcome c.args.self.now.told kept.0 over (sym d ∙ f.0) })
 
-pub returns-then-now-self-2-clause-answers : goal.returns-then-now-self-2-clause-answers
-returns-then-now-self-2-clause-answers g c = record {
+pub returns-then-is_late-clause-answers : goal.returns-then-is_late-clause-answers
+returns-then-is_late-clause-answers g c = record {
   bytes = moves_none g.E.SourceWire.Wire.past g.E.ServiceWire.Wire.past g.E.NextWire.Wire.past c.args.self.now.ends.source_wire c.fail_by.new.self.ends.source_wire
       c.args.self.now.ends.service c.fail_by.new.self.ends.service c.args.self.now.ends.next_wire c.fail_by.new.self.ends.next_wire _ _ _ 0
       c.counts-before.ensures.source c.counts-before.ensures.service c.counts-before.ensures.next c.fail_by.ensures.kept.0 c.fail_by.ensures.kept.1 c.fail_by.ensures.kept.2 refl;
@@ -172,11 +169,11 @@ returns-then-is_broken-clause-fails g c = λ o.
     let never : (cause : Cause) → c.args.self.now.outcome ≡ outcomes.Fail cause → ⊥ = λ cause e. false≢true (sym o ∙ failed_over c.args.self.now.hold.history c.args.self.now.outcome cause c.args.self.now.told e) in
     record { fails = λ cause e. absurd (never cause e); refuses = λ cause e. absurd (never cause e); timely = λ e. absurd (never Deadline e); unstopped = λ e. absurd (never Stopping e) }
 
-pub returns-then-now-self-2-clause-fails : goal.returns-then-now-self-2-clause-fails
-returns-then-now-self-2-clause-fails g c = λ o.
+pub returns-then-is_late-clause-fails : goal.returns-then-is_late-clause-fails
+returns-then-is_late-clause-fails g c = λ o.
     let n = c.fail_by.new.self in
     let p = n.hold.history.plan.point in
-    let due : c.args.self.now.pace.last_moved + c.args.self.now.pace.deadline ≤ c.args.now = due_at c.args.self.now.pace.last_moved c.args.self.now.pace.deadline c.args.now c.if-now-self.true c.if-now-self-2.true in
+    let due : c.args.self.now.pace.last_moved + c.args.self.now.pace.deadline ≤ c.args.now = c.is_late.ensures.0 c.if-is_late.true in
     let of_it : (cause : Cause) → c.fail_by.new.self.outcome ≡ outcomes.Fail cause → Deadline ≡ cause = λ cause e. same_cause (sym c.fail_by.ensures.outcome ∙ e) in
     record {
       fails = λ cause e. inl (record { timely = sym (of_it cause e); late = due });
@@ -228,8 +225,8 @@ returns-then-is_closed-clause-paces g c =
 pub returns-then-is_closed-clause-closed : goal.returns-then-is_closed-clause-closed
 returns-then-is_closed-clause-closed g c = λ k. let e = c.closed_turn.ensures in record { hold = e.kept.0; outcome = e.kept.1; refusing = e.kept.2; finishes = e.finished; refuses = e.refuses }
 
-pub returns-then-now-self-2-clause-paces : goal.returns-then-now-self-2-clause-paces
-returns-then-now-self-2-clause-paces g c = paces_still _ _ _ _ _ (answers.Moved 0) c.fail_by.ensures.pace (λ b. absurd (moved_not_broken b)) (λ o. (
+pub returns-then-is_late-clause-paces : goal.returns-then-is_late-clause-paces
+returns-then-is_late-clause-paces g c = paces_still _ _ _ _ _ (answers.Moved 0) c.fail_by.ensures.pace (λ b. absurd (moved_not_broken b)) (λ o. (
   moves_none g.E.SourceWire.Wire.past g.E.ServiceWire.Wire.past g.E.NextWire.Wire.past c.args.self.now.ends.source_wire c.fail_by.new.self.ends.source_wire
       c.args.self.now.ends.service c.fail_by.new.self.ends.service c.args.self.now.ends.next_wire c.fail_by.new.self.ends.next_wire _ _ _ 0
       c.counts-before.ensures.source c.counts-before.ensures.service c.counts-before.ensures.next c.fail_by.ensures.kept.0 c.fail_by.ensures.kept.1 c.fail_by.ensures.kept.2 refl,
@@ -292,8 +289,8 @@ returns-then-is_closed-clause-keeps g c =
       closed = λ k. record { source = a.0; service = a.1; source_wire = a.2; next_wire = a.3 };
     }
 
-pub returns-then-now-self-2-clause-keeps : goal.returns-then-now-self-2-clause-keeps
-returns-then-now-self-2-clause-keeps g c =
+pub returns-then-is_late-clause-keeps : goal.returns-then-is_late-clause-keeps
+returns-then-is_late-clause-keeps g c =
     let k = c.fail_by.ensures.kept in
     let failed : HasNotFailed c.fail_by.new.self.outcome → ⊥ = λ n. n Deadline c.fail_by.ensures.outcome in
     record {
@@ -350,8 +347,8 @@ returns-then-is_closed-clause-faultless g c = λ o f. absurd (false≢true (sym 
 pub returns-then-is_broken-clause-faultless : goal.returns-then-is_broken-clause-faultless
 returns-then-is_broken-clause-faultless g c = λ o f. f
 
-pub returns-then-now-self-2-clause-faultless : goal.returns-then-now-self-2-clause-faultless
-returns-then-now-self-2-clause-faultless g c = λ o f. absurd (false≢true (sym o ∙ c.fail_by.ensures.over))
+pub returns-then-is_late-clause-faultless : goal.returns-then-is_late-clause-faultless
+returns-then-is_late-clause-faultless g c = λ o f. absurd (false≢true (sym o ∙ c.fail_by.ensures.over))
 
 pub returns-clause-told : goal.returns-clause-told
 returns-clause-told g c = λ o s b n v.
@@ -361,8 +358,8 @@ returns-clause-told g c = λ o s b n v.
 pub returns-then-is_closed-clause-told : goal.returns-then-is_closed-clause-told
 returns-then-is_closed-clause-told g c = λ o s b n v. absurd (false≢true (sym o ∙ (sym c.is_closed.ensures ∙ c.if-is_closed.true)))
 
-pub returns-then-now-self-2-clause-told : goal.returns-then-now-self-2-clause-told
-returns-then-now-self-2-clause-told g c = λ o s b n v. absurd (n Deadline c.fail_by.ensures.outcome)
+pub returns-then-is_late-clause-told : goal.returns-then-is_late-clause-told
+returns-then-is_late-clause-told g c = λ o s b n v. absurd (n Deadline c.fail_by.ensures.outcome)
 
 pub returns-then-is_broken-clause-told : goal.returns-then-is_broken-clause-told
 returns-then-is_broken-clause-told g c = λ o s b n v. absurd (b refl)

@@ -15,6 +15,6 @@ invariant_of-self g c =
         stands_is = e.stands r.request r.texts r.stands_is;
         faultless_is = λ going. e.faultless (r.faultless_is (sym same ∙ going));
         refused_is = λ over cause ended.
-            refuses_by cause _ _ _ _ _ _ _ _ e.kept.0 e.kept.2 e.kept.5 e.kept.7 (r.refused_is (sym same ∙ over) cause (sym e.kept.1 ∙ ended));
+            refuses_by cause _ _ _ _ _ _ _ _ e.kept.0 e.kept.2 (ap (λ z. z.next) e.apart) (ap (λ z. z.back) e.apart) (r.refused_is (sym same ∙ over) cause (sym e.kept.1 ∙ ended));
       });
     }

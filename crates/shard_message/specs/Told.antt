@@ -1,0 +1,19 @@
+-- What a transaction of the proxy's own sides says to the exchange that it belongs to.
+use Rattle.std.specs.Prelude.{Bool, false, not, Option, None, Some}
+use Rattle.trace_core.specs.declared.history.Point.{Point}
+use Rattle.adapt_turn.specs.declared.ends.ServiceEnd.{ServiceEnd}
+use Rattle.adapt_turn.specs.Refusals.{user_untouched}
+use Rattle.icap_client.specs.Turns.{is_reusable}
+use Rattle.proxy_rules.specs.Running.{OwnEnds}
+
+-- the connection to the service may carry another request: there is a service, and its exchange was whole
+abbrev pub reusable_by : {V W : Type 0} → (V → Bool) → Option (ServiceEnd V W) → Bool
+reusable_by reusable None = false
+reusable_by reusable (Some service) = reusable service.side
+
+abbrev pub may_serve_again : {E A W C H G : Type 0} → OwnEnds E A W C H G → Bool
+may_serve_again ends = reusable_by is_reusable ends.service
+
+-- a byte of an answer went to the user
+abbrev pub has_answered : {E A W C H G : Type 0} → Point → OwnEnds E A W C H G → Bool
+has_answered point ends = not (user_untouched point (not ends.next.touched) (not ends.back.touched))
