@@ -6,6 +6,7 @@
 
 mod claims;
 mod configurations;
+mod courses;
 mod events;
 mod histories;
 mod marks;
@@ -35,6 +36,7 @@ impl Driver for Decisions {
         worlds::put_answer(alloc, call, row, out)?;
         configurations::put_answer(alloc, call, row, out)?;
         reports::put_answer(alloc, call, row, out)?;
+        courses::put_answer(call, row, out)?;
         random::put_answer(call, row, out)
     }
 }

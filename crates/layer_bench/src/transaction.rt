@@ -320,15 +320,8 @@ fn undo<B: Ledgers, W: proxy_rules::Wires>(
 )
     requires { (beginning.stake.held ≡ 0) × (beginning.stake.pages ≡ 0) }
 {
-    let Beginning {
-        offer: _,
-        limits: _,
-        stake,
-        message: _,
-        way: _,
-        pace: _,
-        last: _,
-    } = beginning;
+    let (stake, way) = beginning.into_remains();
+    drop(way);
     bank.close(rt, stake, Pages::none());
 }
 

@@ -32,6 +32,24 @@ pub struct Beginning<B: Ledgers, W: Wires> {
     pub last: bool,
 }
 
+impl<B: Ledgers, W: Wires> Beginning<B, W> {
+    /// What is left of it where no transaction began: the reservation and the wires.
+    pub fn into_remains(self) -> (Stake<B>, Way<W>)
+        ensures { result ≡ (self.stake, self.way) }
+    {
+        let Beginning {
+            offer: _,
+            limits: _,
+            stake,
+            message: _,
+            way,
+            pace: _,
+            last: _,
+        } = self;
+        (stake, way)
+    }
+}
+
 /// Whether a transaction may begin: the offer is of a message of this kind, which may begin at its source by that plan, and a
 /// connection to the service is there exactly where the message is offered.
 fn may_begin(message: &Incoming, offer: &Offer, is_connected: bool) -> bool

@@ -1,5 +1,5 @@
 //! Judges what transactions share or hold by rows of plain text: budgets and pools, one call after another, tapes on a bank's store,
-//! and budgets and pools shared by threads. Each file that an argument names is a table. An argument that is a number has the program make
+//! budgets and pools shared by threads, and the lending of connections. Each file that an argument names is a table. An argument that is a number has the program make
 //! that number of allocations, and give each back.
 //!
 //! It ends with status 0 once all rows are judged, whatever their answers: its output says which failed.
@@ -10,6 +10,7 @@ mod budget_states;
 mod budget_threads;
 mod budgets;
 mod calls;
+mod lines;
 mod pools;
 mod reserved;
 mod sharing;
@@ -43,6 +44,8 @@ fn put_answer<R: Threads + Wait + Sync>(
         states::put_state(alloc, row, out)
     } else if says(call, b"budget state") {
         budget_states::put_state(alloc, row, out)
+    } else if says(call, b"play") {
+        lines::put_play(rt, alloc, row, out)
     } else if says(call, b"texts") {
         words::put_texts(alloc, out)
     } else {

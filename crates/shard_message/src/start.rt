@@ -1,7 +1,5 @@
 //! The start of a message's transaction.
 
-ghost use Rattle.std.specs.Prelude.{◌≡◌};
-
 use crate::room::{Room, room_of};
 use crate::taken::left_of;
 use exchange_core::Course;
@@ -18,22 +16,6 @@ use std::sync::Wait;
 pub fn pace_of<P, O: Outside<P>>(at: &P, out: &O, course: Course) -> Pace {
     let deadline = out.config().deadline.saturating_add(1);
     Pace::new(deadline, out.now(at), course.connection.is_reused())
-}
-
-/// What a transaction would have stood over that didn't begin.
-fn unbegun<B: Ledgers, W: Wires>(beginning: Beginning<B, W>) -> (Room<B>, Way<W>)
-    requires { (beginning.stake.held ≡ 0) × (beginning.stake.pages ≡ 0) }
-{
-    let Beginning {
-        offer: _,
-        limits,
-        stake,
-        message: _,
-        way,
-        pace: _,
-        last: _,
-    } = beginning;
-    (room_of(stake, limits), way)
 }
 
 /// Has the transaction of a message begin, on the heap. An answer may be the last one of its user's connection. Where it can't begin, or
@@ -71,6 +53,9 @@ pub(crate) fn set_out<B: Ledgers, W: Wires, R: Wait>(
             Ok(running) => Ok(running),
             Err(AllocFailed { value }) => Err(left_of(rt, bank, value.into_tx(), limits)),
         },
-        Err(beginning) => Err(unbegun(beginning)),
+        Err(beginning) => {
+            let (stake, way) = beginning.into_remains();
+            Err((room_of(stake, limits), way))
+        }
     }
 }

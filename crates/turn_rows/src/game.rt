@@ -238,14 +238,7 @@ where
 pub fn undo<B: Ledgers, W: Wires, R: Wait>(rt: &R, bank: &Bank<B>, beginning: Beginning<B, W>)
     requires { (beginning.stake.held ≡ 0) × (beginning.stake.pages ≡ 0) }
 {
-    let Beginning {
-        offer: _,
-        limits: _,
-        stake,
-        message: _,
-        way: _,
-        pace: _,
-        last: _,
-    } = beginning;
+    let (stake, way) = beginning.into_remains();
+    drop(way);
     bank.close(rt, stake, Pages::none());
 }

@@ -1,5 +1,7 @@
 //! The course of a user's connection: each line of `want` is an event, and what is due after it; or a question.
-use crate::words::{WORDS, read_event};
+mod words;
+
+use self::words::{WORDS, read_event};
 use exchange_core::{Course, Event, Exchange};
 use test_rows::{NoMemory, Row, put_all, put_line, put_shown, says};
 
@@ -73,8 +75,11 @@ fn put_due(out: &mut Vec<u8>, exchange: &mut Exchange, event: Event) -> Result<(
     }
 }
 
-/// Adds the answer to a row of a course.
-pub fn put_answer(row: &Row<'_>, out: &mut Vec<u8>) -> Result<(), NoMemory> {
+/// Adds the answer to a row of a course. For another call it adds nothing.
+pub fn put_answer(call: &[u8], row: &Row<'_>, out: &mut Vec<u8>) -> Result<(), NoMemory> {
+    if !says(call, b"course") {
+        return Ok(());
+    }
     let mut exchange = Exchange::begin();
     for line in row.get(b"want").split(|byte| *byte == b'\n') {
         let question = asked(line);

@@ -1,5 +1,5 @@
 use Rattle.std.specs.Prelude.{length}
-use Rattle.line_rows.proofs.steps.Play.close_all.Given as goal
+use Rattle.resource_rows.proofs.lines.steps.Play.close_all.Given as goal
 
 abbrev pub decreases-loop-connection : goal.decreases-loop-connection
 decreases-loop-connection g l = length l.self.held.items

@@ -1,4 +1,4 @@
-use Rattle.line_rows.proofs.play.put_play.Given as goal
+use Rattle.resource_rows.proofs.lines.play.put_play.Given as goal
 
 abbrev pub ghosts-put_on_pools-Q-Ledger : goal.ghosts-put_on_pools-Q-Ledger
 ghosts-put_on_pools-Q-Ledger g a = record { name = a.blanks.0.name; parts = a.blanks.0.parts }

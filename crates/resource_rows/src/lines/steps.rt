@@ -2,8 +2,8 @@
 
 ghost use Rattle.std.specs.Prelude.{◌≡◌, []};
 
-use crate::stage::{Hand, Memory, Stage, bit_of};
-use crate::words::{fault_name, first_number, first_word, put_lent, put_numbers, put_woken};
+use crate::lines::stage::{Hand, Memory, Stage, bit_of};
+use crate::lines::words::{fault_name, first_number, first_word, put_lent, put_numbers, put_woken};
 use adapt_bytes::MAX_CONNECTIONS;
 use service_lines::{LeasedConnection, LendFault, Pools};
 use std::alloc::Global;

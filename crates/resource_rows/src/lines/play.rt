@@ -1,9 +1,9 @@
 //! A row: pools of its own, its steps, and what they answer.
 ghost use Rattle.std.specs.Prelude.{◌≡◌};
 
-use crate::stage::{Idle, Memory, Stage};
-use crate::steps::Play;
-use crate::words::asked;
+use crate::lines::stage::{Idle, Memory, Stage};
+use crate::lines::steps::Play;
+use crate::lines::words::asked;
 use adapt_bytes::MAX_CONNECTIONS;
 use service_lines::{Pools, Queues, Waiting};
 use service_pool::{LEDGER_PARTS, Pool};
