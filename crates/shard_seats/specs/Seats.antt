@@ -1,5 +1,5 @@
 -- When the connections of an exchange last moved.
-use Rattle.std.specs.Prelude.{ℕ, ◌-◌, Bool, true, nat_lt, Option, Some, None}
+use Rattle.std.specs.Prelude.{◌≡◌, ◌≢◌, ℕ, ◌-◌, Bool, true, nat_lt, Option, Some, None, IsSomeAnd}
 use Rattle.slab.specs.Slab.{get}
 use Rattle.shard_seats.specs.declared.seats.Seat.{Seat}
 use Rattle.shard_seats.specs.declared.seats.Seats.{Seats}
@@ -12,3 +12,17 @@ rests_long (Some seat) now seconds = nat_lt seconds (now - seat.moved)
 -- so for the seat under a key
 abbrev pub is_late : Seats → (key now seconds : ℕ) → Bool
 is_late seats key now seconds = rests_long (get seats.all key) now seconds
+
+-- the same seat, where a byte moved at this moment
+abbrev pub moved_at : (now : ℕ) → Option Seat → Option Seat
+moved_at now None = None
+moved_at now (Some seat) = Some (record seat { moved = now })
+
+-- the seat under a key was taken at this moment
+pub record IsTaken (old new : Seats) (key now : ℕ) : Type 0 where
+  -- nobody had it
+  pub free : get old.all key ≡ None
+  -- its seconds count from now on
+  pub moved : IsSomeAnd (get new.all key) (λ seat. seat.moved ≡ now)
+  -- all other seats stay
+  pub others : (other : ℕ) → other ≢ key → get new.all other ≡ get old.all other

@@ -1,6 +1,6 @@
 //! Users' connections by their keys: their readiness, when they last moved, and which can best be spared.
 
-ghost use Rattle.std.specs.Prelude.{◌≡◌};
+ghost use Rattle.std.specs.Prelude.{◌≡◌, ◌/◌, IfSome};
 
 use crate::sparing::{Spared, Stay, spared_of};
 use event_loop::{Told, UserPermit};
@@ -66,7 +66,8 @@ pub struct Seats {
 }
 
 impl Seats {
-    ghost use Rattle.shard_seats.specs.Seats.{is_late};
+    ghost use Rattle.shard_seats.specs.Seats.{is_late, moved_at, IsTaken};
+    ghost use Rattle.slab.specs.Slab.{get, Updates};
 
     /// No seat is taken, and at most `most` users may be served at once. `Err` if no memory was found for their seats.
     pub fn new(alloc: Global, most: usize) -> Result<Seats, AllocError> {
@@ -130,12 +131,9 @@ impl Seats {
 
     /// Takes a seat for a user's connection of this number at this moment, in milliseconds, and says what it is for. `None` if no
     /// seat is free.
-    pub fn take(
-        &mut self,
-        number: u64,
-        permit: UserPermit,
-        millis: u64,
-    ) -> Option<(usize, Purpose)> {
+    pub fn take(&mut self, number: u64, permit: UserPermit, millis: u64) -> Option<(usize, Purpose)>
+        ensures taken { IfSome result (λ taken. IsTaken self.old self.new taken.0 (millis / SECOND)) }
+    {
         let purpose = self.next_purpose()?;
         let since = self.next_stay();
         if self.all.reserve(1).is_err() || self.all.vacant_key() >= self.bound() {
@@ -182,7 +180,9 @@ impl Seats {
     }
 
     /// The number of the next stay.
-    fn next_stay(&mut self) -> u64 {
+    fn next_stay(&mut self) -> u64
+        ensures { self.new ≡ record self.old { stays = self.new.stays } }
+    {
         self.stays = self.stays.saturating_add(1);
         self.stays
     }
@@ -257,7 +257,9 @@ impl Seats {
     }
 
     /// A byte moved, or the exchange went on.
-    pub fn touch(&mut self, key: usize, now: u64) {
+    pub fn touch(&mut self, key: usize, now: u64)
+        ensures { Updates self.old.all self.new.all key (moved_at now (get self.old.all key)) }
+    {
         if let Some(seat) = self.all.get_mut(key) {
             seat.moved = now;
         }
