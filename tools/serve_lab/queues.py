@@ -89,10 +89,10 @@ def two_connections_serve_sixty_four_users_in_turn(bench):
     same("audit", proxy.stop(), IDLE)
 
 
-def one_held(bench, text, sizes=None, moves=False):
+def one_held(bench, text, sizes=None, moves=False, point="respmod", origin=None):
     """A proxy with one connection to its service, which a first user holds until `held` is set. Where it `moves`, the service
     answers a byte at a time meanwhile, so that no deadline of the first user passes."""
-    origin = bench.origin()
+    origin = origin or bench.origin()
     held = threading.Event()
 
     def reply(conn, reader, head, count):
@@ -107,7 +107,7 @@ def one_held(bench, text, sizes=None, moves=False):
             sizes.append(len(body))
         conn.sendall(Icap.NO_MODIFICATION[sent:])
     service = bench.icap(reply, [b"Max-Connections: 1"])
-    proxy = bench.proxy(origin, text, [("respmod", service.port, "/respmod/x", 1)])
+    proxy = bench.proxy(origin, text, [(point, service.port, "/%s/x" % point, 1)])
     first = User(proxy.port)
     first.send(get("/bytes/3"))
     while not service.requests:
@@ -137,6 +137,43 @@ def exchanges_wait_in_the_order_of_arrival(bench):
     same("connections", service.count, 1)
     same("book", settled(proxy)[:24], "rows 0 held 0 claimed 0 ")
     same("audit", proxy.stop(), IDLE)
+
+
+@case
+def users_that_close_leave_the_queue(bench):
+    """Also where only their sending half is closed, before they wait or while they do. Who closes it while its message moves is answered."""
+    for point, wanted in (("reqmod", [0, 2, 4, 5, 0]), ("respmod", [3, 2, 4, 5, 3])):
+        sizes, origin = [], bench.origin()
+        _service, proxy, first, held = one_held(bench, "wait = 30\nshards = 4", sizes, point=point, origin=origin)
+        users = []
+        for number in range(1, 7):
+            user = User(proxy.port)
+            user.send(post("/echo", body_of(number)))
+            users.append(user)
+            wait_for(proxy, number)
+        users[0].close()
+        users[2].sock.shutdown(socket.SHUT_WR)
+        users[5].close()
+        wait_for(proxy, 3)
+        same("half closed", users[2].is_ended(), True)
+        early = User(proxy.port)
+        early.send(post("/echo", body_of(7)))
+        early.sock.shutdown(socket.SHUT_WR)
+        same("half closed before it waits", early.is_ended(), True)
+        wait_for(proxy, 3)
+        first.sock.shutdown(socket.SHUT_WR)
+        held.set()
+        same("the first user", first.answer().body, body_of(3))
+        for number in (1, 3, 4):
+            same("user %d" % number, users[number].answer().body, body_of(number + 1))
+        last = User(proxy.port)
+        last.send(get("/bytes/3"))
+        last.sock.shutdown(socket.SHUT_WR)
+        same("half closed where nobody waits", last.answer().body, body_of(3))
+        same("what the service got", sizes, wanted)
+        same("what the origin was asked", len(origin.heads), 5 if point == "reqmod" else 9)
+        same("book", settled(proxy)[:24], "rows 0 held 0 claimed 0 ")
+        same("audit", proxy.stop(), IDLE)
 
 
 @case

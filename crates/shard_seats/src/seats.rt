@@ -227,6 +227,19 @@ impl Seats {
         }
     }
 
+    /// Whether the user has ended its bytes, or its connection is gone both ways.
+    pub fn has_ended(&self, key: usize) -> bool {
+        match self.all.get(key) {
+            Some(
+                Seat {
+                    user: Some(user),
+                    ..
+                },
+            ) => user.is_closed(),
+            _ => false,
+        }
+    }
+
     /// A message waits for a connection to its service. One that waited before has waited since then.
     pub fn begin_wait(&mut self, key: usize, now: u64) {
         if let Some(seat) = self.all.get_mut(key)

@@ -7,7 +7,7 @@ use event_loop::Driven;
 use exchange_core::Phase;
 use shard_desk::Spot;
 use shard_exchange::{Step, Task};
-use shard_seats::Stay;
+use shard_seats::{Seats, Stay};
 use socket_wire::Dial;
 use std::sync::Wait;
 use std::time::Clock;
@@ -72,7 +72,13 @@ fn take_step<D: Exchanges, R: Wait + Dial + Clock, G: Gate>(
     step
 }
 
-/// Drives an exchange until each of its connections waits, or others should get their turn. One whose user is gone ends.
+/// Whether the user of an exchange in this phase is lost: it is gone, or has ended its bytes in the queue for a service's connection,
+/// where it would keep those that still wait from their turn.
+fn is_lost(seats: &Seats, key: usize, phase: Phase) -> bool {
+    seats.is_gone(key) || matches!(phase, Phase::InQueue { .. }) && seats.has_ended(key)
+}
+
+/// Drives an exchange until each of its connections waits, or others should get their turn. One whose user is lost ends.
 pub(crate) fn drive_on<D: Exchanges, R: Wait + Dial + Clock, G: Gate>(
     desk: &mut D,
     at: &Spot<'_, R, G>,
@@ -82,11 +88,12 @@ pub(crate) fn drive_on<D: Exchanges, R: Wait + Dial + Clock, G: Gate>(
 {
     let mut rounds = 0u32;
     for _ in 0..STEPS {
-        if desk.seats().is_gone(at.key) {
+        let phase = exchange.phase();
+        if is_lost(desk.seats(), at.key, phase) {
             desk.act(at, exchange, Task::Lose);
             return Driven::Over;
         }
-        if is_round(exchange.phase()) {
+        if is_round(phase) {
             if rounds >= ROUNDS {
                 return Driven::CutShort;
             }
