@@ -13,7 +13,7 @@ use std::boxed::Box;
 use std::sync::Wait;
 
 /// What a user's connection begins with: its first request, or the refusal where there is no room for it, or no memory.
-pub(crate) fn first_of<O: Kinds>(
+pub(crate) fn begin<O: Kinds>(
     alloc: Global,
     user: O::User,
     purpose: Purpose,

@@ -3,7 +3,7 @@
 ghost use Rattle.std.specs.Prelude.{◌≡◌, Bool, true};
 ghost use Rattle.exchange_core.specs.Dues.{is_over};
 
-use crate::acting::{act_on, first_of, unheard};
+use crate::acting::{act_on, begin, unheard};
 use event_loop::USER;
 use exchange_core::Phase;
 use mio::net::TcpStream;
@@ -73,7 +73,7 @@ pub trait Exchanges {
     fn report<R: Wait + Clock>(&mut self, rt: &R, key: usize);
 
     /// What a user's connection begins with: its first request, or the refusal where there is no room for it, or no memory.
-    fn first(&self, user: UserWire, purpose: Purpose) -> Self::Exchange;
+    fn begin(&self, user: UserWire, purpose: Purpose) -> Self::Exchange;
 
     /// Has an exchange do a task.
     fn act<R: Wait + Dial + Clock, G: Gate>(
@@ -126,8 +126,8 @@ impl<S: Shares> Exchanges for Desk<S> {
         Desk::report(self, rt, key);
     }
 
-    fn first(&self, user: UserWire, purpose: Purpose) -> Exchange<Holdings<Desk<S>>> {
-        first_of(self.alloc, user, purpose)
+    fn begin(&self, user: UserWire, purpose: Purpose) -> Exchange<Holdings<Desk<S>>> {
+        begin(self.alloc, user, purpose)
     }
 
     fn act<R: Wait + Dial + Clock, G: Gate>(

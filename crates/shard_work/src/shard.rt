@@ -21,7 +21,7 @@ use wire_kit::Gate;
 
 /// How far the loop's users are served.
 #[derive(Clone, Copy, Debug, PartialEq, Eq)]
-enum Service {
+enum Serving {
     /// All of their requests.
     Full,
     /// Each exchange is the last one of its connection.
@@ -36,7 +36,7 @@ pub struct Shard<'a, D: Exchanges, G> {
     desk: D,
     slots: Slots<D::Exchange>,
     gate: &'a G,
-    service: Service,
+    serving: Serving,
 }
 
 /// Says to a user for whom there isn't even a seat to spare that it be back later, where that costs nothing. It has no wire, and no line
@@ -54,7 +54,7 @@ impl<'a, D: Exchanges + Drop, G: Gate> Shard<'a, D, G> {
             desk,
             slots,
             gate,
-            service: Service::Full,
+            serving: Serving::Full,
         })
     }
 
@@ -65,7 +65,7 @@ impl<'a, D: Exchanges + Drop, G: Gate> Shard<'a, D, G> {
             desk,
             slots,
             gate: _,
-            service: _,
+            serving: _,
         } = self;
         let mut desk = desk;
         for key in 0..slots.count() {
@@ -94,7 +94,7 @@ impl<'a, D: Exchanges + Drop, G: Gate> Shard<'a, D, G> {
             return Driven::Over;
         };
         let mut exchange = exchange;
-        if self.service == Service::Draining {
+        if self.serving == Serving::Draining {
             exchange.drain();
         }
         match drive_on(&mut self.desk, at, &mut exchange) {
@@ -229,7 +229,7 @@ impl<'a, D: Exchanges + Drop, G: Gate> Work for Shard<'a, D, G> {
             Ok(user) => {
                 let gate = self.gate;
                 let now = millis / SECOND;
-                let exchange = self.desk.first(user, purpose);
+                let exchange = self.desk.begin(user, purpose);
                 self.keep(
                     &Spot {
                         rt,
@@ -282,9 +282,9 @@ impl<'a, D: Exchanges + Drop, G: Gate> Work for Shard<'a, D, G> {
             key,
             now,
         };
-        match self.service {
-            Service::Full | Service::Draining => self.drive_slot(&at),
-            Service::Stopped => self.take_leave(&at),
+        match self.serving {
+            Serving::Full | Serving::Draining => self.drive_slot(&at),
+            Serving::Stopped => self.take_leave(&at),
         }
     }
 
@@ -321,11 +321,11 @@ impl<'a, D: Exchanges + Drop, G: Gate> Work for Shard<'a, D, G> {
     fn turn_over<R: Wait>(&mut self, _rt: &R) {}
 
     fn drain(&mut self) {
-        self.service = Service::Draining;
+        self.serving = Serving::Draining;
     }
 
     fn halt<R: Wait + Dial + Clock>(&mut self, rt: &R, registry: &Registry, now: u64) {
-        self.service = Service::Stopped;
+        self.serving = Serving::Stopped;
         for key in 0..self.slots.count() {
             let gate = self.gate;
             self.halt_slot(&Spot {
