@@ -1,7 +1,7 @@
 //! What the services said, as one thread knows it.
 
-ghost use Rattle.std.specs.Prelude.{◌≡◌, ◌↔◌, IsTrue, Some, None, ◌⊎◌, MatchOption, option_map};
-ghost use Rattle.options_book.specs.Options.{IsFresh};
+ghost use Rattle.std.specs.Prelude.{◌≡◌, ◌↔◌, IsTrue, Some, None, ◌⊎◌, option_copied, option_map};
+ghost use Rattle.service_lines.specs.Books.{Serves};
 
 use options_book::Record;
 use std::alloc::Global;
@@ -25,7 +25,9 @@ impl PointBook {
     }
 
     /// The record.
-    pub fn record(&self) -> Option<&Record> {
+    pub fn record(&self) -> Option<&Record>
+        ensures { option_copied result ≡ self.now.said }
+    {
         match &self.said {
             Some(record) => Some(record),
             None => None,
@@ -42,7 +44,7 @@ impl PointBook {
 
     /// Whether there is a record that serves at this moment.
     pub fn is_fresh(&self, now: u64) -> bool
-        ensures { IsTrue result ↔ MatchOption self.now.said ⊥ (λ said. IsFresh said now (option_map (λ tag. tag.items) self.now.tag)) }
+        ensures { IsTrue result ↔ Serves self.now now }
     {
         let tag = match &self.tag {
             Some(tag) => Some(tag.as_slice()),
@@ -56,7 +58,8 @@ impl PointBook {
 
     /// Takes note of the tag of an answer. Where no memory is found for it the record goes.
     pub fn note_tag(&mut self, alloc: Global, tag: &[u8])
-        ensures { ((option_map (λ tag. tag.items) self.new.tag ≡ Some tag.now) × (self.new.said ≡ self.old.said)) ⊎ (self.new.said ≡ None) }
+        ensures noted { ((option_map (λ tag. tag.items) self.new.tag ≡ Some tag.now) × (self.new.said ≡ self.old.said)) ⊎ ((self.new.said ≡ None) × (self.new.tag ≡ self.old.tag)) }
+        ensures known { option_map (λ tag. tag.items) self.old.tag ≡ Some tag.now → self.new ≡ self.old }
     {
         let known = match &self.tag {
             Some(old) => old.as_slice() == tag,
