@@ -16,7 +16,7 @@ mod users;
 pub use heads::{fault_of, turn_on};
 pub use options::{begin_asking, hear_turn, is_reusable, keep};
 pub use outside::{Kinds, MessageEnd, Outside};
-pub use planning::{Planned, keep_plan};
+pub use planning::{Planned, keep_plan, service_of};
 pub use refusal_causes::refusal_cause_after;
 pub use saying::say_to;
 pub use slots::{clear, lay, put_in, take_out};

@@ -1,6 +1,9 @@
 //! What an exchange asks of its surroundings: connections, the budget, the clock, and what is noted of it.
 
-ghost use Rattle.std.specs.Prelude.{◌≡◌, Bool, IfOk};
+ghost use Rattle.std.specs.Prelude.{◌≡◌, ℕ, Bool, IfOk, ⊤};
+ghost use Rattle.plan_rules.specs.declared.limits.Limits.{Limits as AnyLimits};
+ghost use Rattle.proxy_config.specs.declared.config.Config.{Config as AnyConfig};
+ghost use Rattle.service_lines.specs.declared.book.PointBook.{PointBook as AnyBook};
 ghost use Rattle.trace_core.specs.declared.history.Point.{Point as AnyPoint};
 
 use adapt_sides::ClientFault;
@@ -58,16 +61,28 @@ pub trait Outside<P>: Kinds {
     // the point whose service the lease is of
     ghost point_of: { Self.Lease → AnyPoint };
 
+    // what messages are planned by, where the surroundings say what that is
+    ghost config_is: { Self → AnyConfig → Type 0 } = { λ _ _. ⊤ };
+
+    ghost limits_are: { Self → AnyLimits → Type 0 } = { λ _ _. ⊤ };
+
+    ghost book_is: { Self → AnyPoint → AnyBook → Type 0 } = { λ _ _ _. ⊤ };
+
+    ghost now_is: { Self → P → ℕ → Type 0 } = { λ _ _ _. ⊤ };
+
     fn alloc(&self) -> Global;
 
-    fn config(&self) -> &Config;
+    fn config(&self) -> &Config
+        ensures { config_is self.now result.now };
 
-    fn limits(&self) -> Limits;
+    fn limits(&self) -> Limits
+        ensures { limits_are self.now result };
 
     fn bank(&self) -> &Bank<Self::Ledgers>;
 
     /// The moment, in seconds.
-    fn now(&self, at: &P) -> u64;
+    fn now(&self, at: &P) -> u64
+        ensures { now_is self.now at.now result };
 
     /// Whether no byte moved for longer than the deadline.
     fn is_late(&self, at: &P) -> bool
@@ -80,7 +95,8 @@ pub trait Outside<P>: Kinds {
     fn has_waited(&self, at: &P) -> bool;
 
     /// What the service of a point said last.
-    fn book(&self, point: Point) -> &PointBook;
+    fn book(&self, point: Point) -> &PointBook
+        ensures { book_is self.now point result.now };
 
     /// Keeps what a service said, with the most connections that it allows. `Err` where no memory was found: then nothing has changed.
     fn keep(&mut self, at: &P, point: Point, record: Record) -> Result<(), AllocError>;

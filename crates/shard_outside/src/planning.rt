@@ -1,5 +1,14 @@
 //! What a message is offered to, by what its service said of its options.
 
+ghost use Rattle.std.specs.Prelude.{◌≡◌, ◌⊎◌, ◌↔◌, ℕ, None, Some, Err, is_some, IsTrue, IfSome, IfOk, IfErr, option_copied};
+ghost use Rattle.plan_rules.specs.declared.limits.Limits.{Limits as AnyLimits};
+ghost use Rattle.proxy_config.specs.declared.config.Config.{Config as AnyConfig};
+ghost use Rattle.proxy_rules.specs.Arrivals.{point_of};
+ghost use Rattle.refusal_reasons.specs.declared.reason.Reason.TheVariants.{NoMemory};
+ghost use Rattle.service_lines.specs.declared.book.PointBook.{PointBook as AnyBook};
+ghost use Rattle.shard_effects.specs.declared.answers.Unplanned.TheVariants.{Refused};
+ghost use Rattle.shard_outside.specs.Planning.{missing, grounds, heads_of, service_of, waits, GoesTo, GoesNowhere, IsOfferBy, IsStale, IsPlan, HasNoPlan, Plans};
+
 use crate::outside::Outside;
 use crate::slots::lay;
 use options_book::Record;
@@ -7,6 +16,7 @@ use plan_rules::Limits;
 use proxy_config::{Config, ServicePoint};
 use proxy_rules::{Incoming, Offer, awaits_continue, origin_address};
 use refusal_reasons::Reason;
+use service_lines::PointBook;
 use shard_effects::{Marks, Unplanned};
 use std::alloc::{AllocError, Global};
 use std::boxed::Box;
@@ -22,7 +32,9 @@ pub struct Planned {
 }
 
 /// The service of a point.
-pub(crate) fn service_of(config: &Config, point: Point) -> Option<&ServicePoint> {
+pub fn service_of(config: &Config, point: Point) -> Option<&ServicePoint>
+    ensures { option_copied result ≡ service_of config.now point }
+{
     let service = match point {
         Point::Reqmod => &config.reqmod,
         Point::Respmod => &config.respmod,
@@ -34,16 +46,20 @@ pub(crate) fn service_of(config: &Config, point: Point) -> Option<&ServicePoint>
 }
 
 /// Where a message goes: a request to its origin. A response goes to its user.
-fn address_of(config: &Config, message: &Incoming) -> Result<Option<SocketAddrV4>, Reason> {
-    match message.point() {
-        Point::Reqmod => match message.user_head() {
-            Some(head) => match origin_address(config, head) {
-                Some(address) => Ok(Some(address)),
-                None => Err(Reason::UnknownHost),
-            },
-            None => Err(Reason::NoOrigin),
+fn address_of(config: &Config, message: &Incoming) -> Result<Option<SocketAddrV4>, Reason>
+    ensures goes { IfOk result (GoesTo config.now (heads_of message.now)) }
+    ensures nowhere { IfErr result (GoesNowhere config.now (heads_of message.now)) }
+{
+    let Some(user) = message.user_head() else {
+        return Err(Reason::NoOrigin);
+    };
+    match (message.point(), message.response_head()) {
+        (Point::Reqmod, _) => match origin_address(config, user) {
+            Some(address) => Ok(Some(address)),
+            None => Err(Reason::UnknownHost),
         },
-        Point::Respmod => Ok(None),
+        (Point::Respmod, Some(_)) => Ok(None),
+        (Point::Respmod, None) => Err(Reason::NoOrigin),
     }
 }
 
@@ -51,17 +67,23 @@ fn address_of(config: &Config, message: &Incoming) -> Result<Option<SocketAddrV4
 fn offer_of(
     alloc: Global,
     service: Option<&ServicePoint>,
-    record: Option<&Record>,
+    said: Option<&Record>,
     limits: &Limits,
     message: &Incoming,
-) -> Result<Offer, Reason> {
+) -> Result<Offer, Reason>
+    ensures offer { IfOk result (IsOfferBy (option_copied service.entry) (option_copied said.entry) limits.now (heads_of message.now)) }
+    ensures refused { IfErr result (λ reason. (reason ≡ Reason.NoMemory) ⊎ (heads_of message.now ≡ missing)) }
+{
     let Some(user) = message.user_head() else {
         return Err(Reason::NoOrigin);
     };
+    if service.is_some() && said.is_none() {
+        return Err(Reason::NoMemory);
+    }
     let offer = match (message.point(), message.response_head()) {
-        (Point::Reqmod, _) => Offer::of_request(alloc, service, record, limits, user),
+        (Point::Reqmod, _) => Offer::of_request(alloc, service, said, limits, user),
         (Point::Respmod, Some(response)) => {
-            Offer::of_response(alloc, service, record, limits, user, response)
+            Offer::of_response(alloc, service, said, limits, user, response)
         }
         (Point::Respmod, None) => return Err(Reason::NoOrigin),
     };
@@ -76,7 +98,9 @@ fn placed(
     alloc: Global,
     offer: Offer,
     address: Option<SocketAddrV4>,
-) -> Result<Box<Planned>, AllocError> {
+) -> Result<Box<Planned>, AllocError>
+    ensures { IfOk result (λ planned. (planned.value.offer.value ≡ offer) × (planned.value.address ≡ address)) }
+{
     let Ok(offer) = Box::new(alloc, offer) else {
         return Err(AllocError);
     };
@@ -86,27 +110,37 @@ fn placed(
     }
 }
 
-/// Plans a message. What its service said when it was asked for this very message serves, whatever its time.
-fn make_plan<P, O: Outside<P>>(
-    at: &P,
-    out: &O,
-    message: &Incoming,
+/// Whether a service is to be asked for its options before a message is planned. What it said when it was asked for this very message
+/// serves, whatever its time.
+fn is_stale(service: Option<&ServicePoint>, book: &PointBook, now: u64, asked: bool) -> bool
+    ensures { IsTrue result ↔ IsStale (option_copied service.entry) book.now now asked }
+{
+    service.is_some() && !asked && !book.is_fresh(now)
+}
+
+/// Plans a message by what its service said.
+fn make_plan(
+    alloc: Global,
+    config: &Config,
+    limits: &Limits,
+    book: &PointBook,
+    now: u64,
     asked: bool,
-) -> Result<Box<Planned>, Unplanned> {
-    let address = match address_of(out.config(), message) {
+    message: &Incoming,
+) -> Result<Box<Planned>, Unplanned>
+    ensures planned { IfOk result (λ planned. IsPlan (grounds config.now limits.now book.now now asked) message.now planned.value) }
+    ensures unplanned { IfErr result (HasNoPlan (grounds config.now limits.now book.now now asked) message.now) }
+{
+    let address = match address_of(config, message) {
         Ok(address) => address,
         Err(reason) => return Err(Unplanned::Refused(reason)),
     };
-    let point = message.point();
-    let service = service_of(out.config(), point);
-    let book = out.book(point);
-    match (service, book.record()) {
-        (Some(_), _) if !asked && !book.is_fresh(out.now(at)) => return Err(Unplanned::Stale),
-        (Some(_), None) => return Err(Unplanned::Refused(Reason::NoMemory)),
-        _ => {}
+    let service = service_of(config, message.point());
+    if is_stale(service, book, now, asked) {
+        return Err(Unplanned::Stale);
     }
-    match offer_of(out.alloc(), service, book.record(), &out.limits(), message) {
-        Ok(offer) => match placed(out.alloc(), offer, address) {
+    match offer_of(alloc, service, book.record(), limits, message) {
+        Ok(offer) => match placed(alloc, offer, address) {
             Ok(planned) => Ok(planned),
             Err(AllocError) => Err(Unplanned::Refused(Reason::NoMemory)),
         },
@@ -115,31 +149,58 @@ fn make_plan<P, O: Outside<P>>(
 }
 
 /// Whether the user of a message waits to be told to send its body.
-fn waits(message: &Incoming) -> bool {
+fn waits(message: &Incoming) -> bool
+    ensures { result ≡ waits (heads_of message.now) }
+{
     match message.user_head() {
         Some(head) => message.point() == Point::Reqmod && awaits_continue(head),
         None => false,
     }
 }
 
-/// Plans a message, and keeps its plan.
+/// Keeps the plan of a message, and says what it is.
+fn keep_planned(message: &Incoming, planned: Box<Planned>, plan: &mut Option<Box<Planned>>) -> Marks
+    ensures kept { plan.new ≡ Some planned }
+    ensures offered { result.offered ≡ is_some planned.value.offer.value.side }
+    ensures waits { result.waits ≡ waits (heads_of message.now) }
+{
+    let offered = planned.offer.is_offered();
+    let waits = waits(message);
+    lay(plan, planned);
+    Marks { offered, waits }
+}
+
+/// Plans a message by what its surroundings say, and keeps its plan.
 pub fn keep_plan<P, O: Outside<P>>(
     at: &P,
     out: &O,
     message: &Option<Box<Incoming>>,
     asked: bool,
     plan: &mut Option<Box<Planned>>,
-) -> Result<Marks, Unplanned> {
+) -> Result<Marks, Unplanned>
+    ensures planned { IfSome message.now (λ m. (config : AnyConfig) × O.config_is out.now config
+        × (limits : AnyLimits) × O.limits_are out.now limits
+        × (book : AnyBook) × O.book_is out.now (point_of m.value.user) book
+        × (now : ℕ) × O.now_is out.now at.now now
+        × Plans (grounds config limits book now asked) m.value plan.old plan.new result) }
+    ensures none { message.now ≡ None → (result ≡ Err (Refused NoMemory)) × (plan.new ≡ plan.old) }
+{
     let Some(message) = message else {
         return Err(Unplanned::Refused(Reason::NoMemory));
     };
-    match make_plan(at, out, message, asked) {
-        Ok(planned) => {
-            let offered = planned.offer.is_offered();
-            let waits = waits(message);
-            lay(plan, planned);
-            Ok(Marks { offered, waits })
-        }
+    let limits = out.limits();
+    let book = out.book(message.point());
+    let now = out.now(at);
+    match make_plan(
+        out.alloc(),
+        out.config(),
+        &limits,
+        book,
+        now,
+        asked,
+        message,
+    ) {
+        Ok(planned) => Ok(keep_planned(message, planned, plan)),
         Err(unplanned) => Err(unplanned),
     }
 }
