@@ -2,6 +2,8 @@
 
 ghost use Rattle.std.specs.Prelude.{◌≡◌, Bool, IsTrue, Some, is_ok, true, false};
 ghost use Rattle.exchange_core.specs.Dues.{due_of, is_for_telling, refusal_due};
+ghost use Rattle.exchange_core.specs.Log.{is_silent};
+ghost use Rattle.exchange_core.specs.May.{is_gone};
 ghost use Rattle.http_side.specs.Refusals.{is_own_status};
 ghost use Rattle.shard_effects.specs.Hand.{Hand, IsEmpty, Keeps, KeepsButLease, KeepsButRoom, KeepsButOrigin, SetsOut, ComesBack};
 ghost use Rattle.shard_effects.specs.Ends.{EndsBy};
@@ -28,8 +30,12 @@ pub trait Holder: InHand {
     /// The surroundings of the exchanges of a thread.
     type Outside;
 
+    // a byte of the head came that is read
+    ghost has_begun: { Self → Bool };
+
     /// Whether a byte of the head came that is read.
-    fn has_begun(&self) -> bool;
+    fn has_begun(&self) -> bool
+        ensures { result ≡ has_begun self.now };
 
     /// What is at fault in the head that is read.
     fn head_fault(&self) -> Option<HttpFault>;
@@ -65,9 +71,10 @@ pub trait Holder: InHand {
     /// Whether the user was told that nothing more comes.
     fn is_finished(&self) -> bool;
 
-    /// Closes the user's connection.
-    fn lose_user(&mut self)
-        ensures { Keeps (Self.hand self.old) (Self.hand self.new) };
+    /// Closes the user's connection. At this course the user is gone.
+    fn lose_user(&mut self, course: &Exchange)
+        requires gone { is_gone course.now.phase ≡ true }
+        ensures kept { Keeps (Self.hand self.old) (Self.hand self.new) };
 
     /// Closes the origin's connection.
     fn hang_up(&mut self)
@@ -203,13 +210,15 @@ pub trait Effects<P>: Holder {
         ensures released { (Self.hand self.new).room ≡ false }
         ensures kept { KeepsButRoom (Self.hand self.old) (Self.hand self.new) };
 
-    /// Says to the user that nothing more comes.
-    fn close(&mut self, at: &P)
-        ensures { Keeps (Self.hand self.old) (Self.hand self.new) };
+    /// Says to the user that nothing more comes. At this course all is said to it, also the refusal.
+    fn close(&mut self, at: &P, course: &Exchange)
+        requires silent { is_silent course.now.phase ≡ true }
+        ensures kept { Keeps (Self.hand self.old) (Self.hand self.new) };
 
-    /// Drops what the user still sends.
-    fn linger(&mut self, at: &P, out: &mut Self::Outside) -> Lingered
-        ensures { Keeps (Self.hand self.old) (Self.hand self.new) };
+    /// Drops what the user still sends. At this course all is said to it.
+    fn linger(&mut self, at: &P, out: &mut Self::Outside, course: &Exchange) -> Lingered
+        requires silent { is_silent course.now.phase ≡ true }
+        ensures kept { Keeps (Self.hand self.old) (Self.hand self.new) };
 
     /// The head of a request was read. Its user was told nothing yet.
     fn note_request(&mut self, at: &P, out: &mut Self::Outside)

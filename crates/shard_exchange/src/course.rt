@@ -5,11 +5,11 @@ ghost use Rattle.exchange_core.specs.declared.event.RefusalCause.{RefusalCause a
 ghost use Rattle.exchange_core.specs.Course.{after, is_mid_text};
 ghost use Rattle.exchange_core.specs.Dues.{due_of, status_of};
 ghost use Rattle.exchange_core.specs.declared.due.Due.TheVariants as dues;
-ghost use Rattle.exchange_core.specs.declared.event.Event.TheVariants.{Failed, Stop};
+ghost use Rattle.exchange_core.specs.declared.event.Event.TheVariants.{Failed, Begun, Stop};
 ghost use Rattle.exchange_core.specs.declared.event.RefusalCause.TheVariants.{Elsewhere};
 ghost use Rattle.exchange_core.specs.May.{may_come, is_gone, is_head, is_idle, is_refusing};
 ghost use Rattle.exchange_core.specs.Log.{Goes};
-ghost use Rattle.shard_exchange.specs.Ends.{moves, ends_message, Stays, Leaves, IsOwed, is_stopped};
+ghost use Rattle.shard_exchange.specs.Ends.{moves, ends_message, Stays, Leaves, IsOwed, Halts};
 
 use exchange_core::{Event, Exchange, Phase, RefusalCause};
 use shard_effects::{End, Report};
@@ -41,6 +41,7 @@ fn tell_begun(course: &mut Exchange, has_answered: bool) -> bool
     ensures begun { result ≡ true → has_answered ≡ true → course.new.begun ≡ true }
     ensures same { has_answered ≡ false → (result ≡ true) × (course.new ≡ course.old) }
     ensures lost { result ≡ false → Leaves course.old course.new × (is_gone course.new.phase ≡ true) }
+    ensures none { result ≡ false → may_come course.old Begun ≡ false }
 {
     if !has_answered || course.course().begun {
         return true;
@@ -57,7 +58,7 @@ fn tell_end(course: &mut Exchange, end: End)
     ensures goes { Goes course.old course.new }
     ensures leaves { Leaves course.old course.new }
     ensures lost { end ≡ End.Lost → is_gone course.new.phase ≡ true }
-    ensures stops { end ≡ End.Stopped → is_stopped course.new ≡ true }
+    ensures stops { end ≡ End.Stopped → course.new ≡ after course.old Stop }
     ensures owed { (why : AnyCause) → end ≡ End.Failed why → IsOwed course.old course.new (status_of why) }
     ensures alone { course.old.begun ≡ true → is_refusing course.new.phase ≡ false }
     ensures keeps { is_idle course.new.phase ≡ true → end ≡ End.Answered true }
@@ -97,7 +98,7 @@ fn tell_cut(course: &mut Exchange, cuts: bool)
     ensures goes { Goes course.old course.new }
     ensures leaves { Leaves course.old course.new }
     ensures gone { is_gone course.old.phase ≡ true → is_gone course.new.phase ≡ true }
-    ensures stops { is_stopped course.old ≡ true → is_stopped course.new ≡ true }
+    ensures stops { course.old.stopping ≡ true → course.new ≡ course.old }
     ensures same { cuts ≡ false → course.new ≡ course.old }
     ensures phase { (course.new.phase ≡ course.old.phase) ⊎ (is_gone course.new.phase ≡ true) }
 {
@@ -107,15 +108,16 @@ fn tell_cut(course: &mut Exchange, cuts: bool)
 }
 
 /// Tells the course of a transaction that is over. A user to whom a byte of an answer went gets no refusal after it. One to whom none
-/// went gets the refusal of the cause by which its message failed. A further request is read only after an answer that keeps its
-/// connection.
+/// went gets the refusal of the cause by which its message failed, or of the stop. A further request is read only after an answer that
+/// keeps its connection.
 pub(crate) fn tell(course: &mut Exchange, report: Report)
     requires moves { moves course.old ≡ true }
     requires runs { course.old.stopping ≡ false }
     ensures goes { Goes course.old course.new }
     ensures leaves { Leaves course.old course.new }
     ensures lost { report.end ≡ End.Lost → is_gone course.new.phase ≡ true }
-    ensures stops { report.end ≡ End.Stopped → is_stopped course.new ≡ true }
+    ensures stops { report.end ≡ End.Stopped → Halts course.old course.new false }
+    ensures stopped { report.end ≡ End.Stopped → report.has_answered ≡ false → IsOwed course.old course.new 503 }
     ensures owed { (why : AnyCause) → report.end ≡ End.Failed why → report.has_answered ≡ false → report.cuts ≡ false
         → IsOwed course.old course.new (status_of why) }
     ensures alone { report.has_answered ≡ true → is_refusing course.new.phase ≡ false }
@@ -147,7 +149,7 @@ pub(crate) fn take_stop(course: &mut Exchange, is_in_head: bool)
     requires may { may_come course.old Stop ≡ true }
     ensures goes { Goes course.old course.new }
     ensures leaves { Leaves course.old course.new }
-    ensures stops { is_stopped course.new ≡ true }
+    ensures stops { Halts course.old course.new is_in_head }
 {
     if is_in_head && course.may(Event::Failed(RefusalCause::Stopping)) {
         course.take(Event::Failed(RefusalCause::Stopping));

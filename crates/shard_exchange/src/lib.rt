@@ -4,19 +4,19 @@
 //! value to it, which holds just what the course counts. It has no sockets, no clock and no threads.
 #![tactic(auto)]
 
+mod continue_text;
 mod course;
-mod ending;
 mod exchange;
-mod freeing;
-mod gathering;
 mod heads;
 mod leasing;
+mod loss;
 mod moving;
+mod needs;
 mod options;
 mod refusing;
-mod stepping;
-mod stopping;
-mod telling;
+mod returning;
+mod step;
+mod stop;
 
 pub use exchange::Exchange;
 pub use shard_effects::{Effects, Holder, InHand, Step, Task};

@@ -14,7 +14,7 @@ impl<H: Holder> Exchange<H> {
     ghost use Rattle.exchange_core.specs.Log.{Goes};
     ghost use Rattle.exchange_core.specs.May.{is_gone};
     ghost use Rattle.exchange_core.specs.declared.due.Due.TheVariants as dues;
-    ghost use Rattle.shard_exchange.specs.Ends.{moves, is_stopped};
+    ghost use Rattle.shard_exchange.specs.Ends.{moves, Halts};
     ghost use Rattle.shard_exchange.specs.Steps.{Heeds};
 
     /// Starts the transaction of a message that has all that it needs. Where it can't begin, the message fails.
@@ -142,7 +142,7 @@ impl<H: Holder> Exchange<H> {
         ensures goes { Goes self.old.course self.new.course }
         ensures over { moves self.new.course ≡ false }
         ensures lost { by ≡ EndedBy.User → is_gone self.new.course.phase ≡ true }
-        ensures stops { by ≡ EndedBy.Stop → is_stopped self.new.course ≡ true }
+        ensures stops { by ≡ EndedBy.Stop → Halts self.old.course self.new.course false }
     {
         let report = self.holdings.settle(rt, at, out, by);
         tell(&mut self.course, report);

@@ -39,8 +39,8 @@ impl<H: Holder> Exchange<H> {
         ensures goes { Goes self.old.course self.new.course }
         ensures on { result ≡ Step.On }
     {
-        self.holdings.lose_user();
         self.course.lost();
+        self.holdings.lose_user(&self.course);
         Step::On
     }
 
@@ -110,7 +110,7 @@ impl<H: Holder> Exchange<H> {
         if self.holdings.is_finished() {
             return self.drop_rest(at, out);
         }
-        self.holdings.close(at);
+        self.holdings.close(at, &self.course);
         Step::On
     }
 
@@ -122,7 +122,7 @@ impl<H: Holder> Exchange<H> {
         ensures goes { Goes self.old.course self.new.course }
         ensures heeds { Heeds (H.is_late out.new at.now) self.new.course result }
     {
-        let lingered = self.holdings.linger(at, out);
+        let lingered = self.holdings.linger(at, out, &self.course);
         if lingered == Lingered::Over {
             self.course.done(Event::UserClosed);
             return Step::On;

@@ -203,12 +203,12 @@ impl<P, O: Outside<P>> Effects<P> for Holdings<O> {
         out.bank().close(rt, room.into_stake(), Pages::none());
     }
 
-    fn close(&mut self, _at: &P) {
+    fn close(&mut self, _at: &P, _course: &Exchange) {
         finish_user::<P, O>(&self.user);
         self.is_finished = true;
     }
 
-    fn linger(&mut self, _at: &P, out: &mut O) -> Lingered {
+    fn linger(&mut self, _at: &P, out: &mut O, _course: &Exchange) -> Lingered {
         linger_on::<P, O>(&mut self.user, out)
     }
 

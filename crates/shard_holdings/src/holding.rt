@@ -2,6 +2,7 @@
 
 ghost use Rattle.std.specs.Prelude.{is_some};
 ghost use Rattle.shard_effects.specs.Hand.{hand_of};
+ghost use Rattle.shard_holdings.specs.Message.{has_come};
 
 use crate::holdings::Holdings;
 use adapt_turn::FreedConnection;
@@ -18,6 +19,8 @@ impl<O: Kinds> InHand for Holdings<O> {
 
 impl<O: Kinds> Holder for Holdings<O> {
     type Outside = O;
+
+    ghost has_begun = { λ held. has_come held.message };
 
     fn has_begun(&self) -> bool {
         match &self.message {
@@ -62,7 +65,7 @@ impl<O: Kinds> Holder for Holdings<O> {
         self.is_finished
     }
 
-    fn lose_user(&mut self) {
+    fn lose_user(&mut self, _course: &Exchange) {
         clear(&mut self.user);
     }
 

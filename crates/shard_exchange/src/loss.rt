@@ -12,6 +12,7 @@ impl<H: Holder> Exchange<H> {
     ghost use Rattle.exchange_core.specs.May.{is_free, is_gone};
     ghost use Rattle.exchange_core.specs.Dues.{is_over};
     ghost use Rattle.exchange_core.specs.Log.{Goes};
+    ghost use Rattle.shard_exchange.specs.Ends.{Frees};
 
     /// Puts the service's connection back of a user's connection that is over.
     fn free_connection<P>(&mut self, at: &P, out: &mut H::Outside)
@@ -19,7 +20,7 @@ impl<H: Holder> Exchange<H> {
         H: Effects<P>,
         requires { is_gone self.old.course.phase ≡ true }
         ensures goes { Goes self.old.course self.new.course }
-        ensures gone { is_gone self.new.course.phase ≡ true }
+        ensures frees { Frees self.old.course self.new.course }
         ensures free { is_leased self.new.course.connection ≡ false }
     {
         if self.course.due() == Due::GiveBack {
@@ -34,7 +35,7 @@ impl<H: Holder> Exchange<H> {
         requires gone { is_gone self.old.course.phase ≡ true }
         requires free { is_leased self.old.course.connection ≡ false }
         ensures goes { Goes self.old.course self.new.course }
-        ensures gone { is_gone self.new.course.phase ≡ true }
+        ensures frees { Frees self.old.course self.new.course }
         ensures free { is_free self.new.course ≡ true }
     {
         if self.course.course().stake {
@@ -47,6 +48,7 @@ impl<H: Holder> Exchange<H> {
         requires gone { is_gone self.old.course.phase ≡ true }
         requires free { is_free self.old.course ≡ true }
         ensures goes { Goes self.old.course self.new.course }
+        ensures frees { Frees self.old.course self.new.course }
         ensures over { is_over self.new.course ≡ true }
     {
         if self.course.due() == Due::HangUp {
@@ -60,6 +62,7 @@ impl<H: Holder> Exchange<H> {
         H: Effects<P>,
         requires { is_gone self.old.course.phase ≡ true }
         ensures goes { Goes self.old.course self.new.course }
+        ensures frees { Frees self.old.course self.new.course }
         ensures over { is_over self.new.course ≡ true }
     {
         self.free_connection(at, out);
@@ -95,7 +98,7 @@ impl<H: Holder> Exchange<H> {
         ensures over { is_over self.new.course ≡ true }
     {
         self.lose_message(rt, at, out);
-        self.holdings.lose_user();
+        self.holdings.lose_user(&self.course);
         self.free(rt, at, out);
     }
 }

@@ -1,12 +1,12 @@
 //! The end of the proxy: exchanges stop, and their users get their refusals.
 
-ghost use Rattle.std.specs.Prelude.{◌≡◌, Some, true, false};
+ghost use Rattle.std.specs.Prelude.{◌≡◌, ◌&&◌, ◌||◌, Some, None, true, false};
 ghost use Rattle.exchange_core.specs.declared.event.Event.TheVariants.{Stop};
 ghost use Rattle.exchange_core.specs.declared.due.Due.TheVariants as dues;
-ghost use Rattle.exchange_core.specs.May.{may_come, is_gone};
+ghost use Rattle.exchange_core.specs.May.{may_come, is_gone, is_head, is_idle};
 ghost use Rattle.exchange_core.specs.Dues.{due_of, is_over};
 ghost use Rattle.exchange_core.specs.Log.{Goes};
-ghost use Rattle.shard_exchange.specs.Ends.{moves, is_stopped};
+ghost use Rattle.shard_exchange.specs.Ends.{moves, Frees, Halts, is_stopped};
 
 use crate::course::take_stop;
 use crate::exchange::Exchange;
@@ -28,7 +28,7 @@ impl<H: Holder> Exchange<H> {
     fn leave_origin(&mut self)
         requires { moves self.old.course ≡ false }
         ensures goes { Goes self.old.course self.new.course }
-        ensures stops { is_stopped self.old.course ≡ true → is_stopped self.new.course ≡ true }
+        ensures frees { Frees self.old.course self.new.course }
     {
         if self.course.may(Event::HungUp) {
             self.holdings.hang_up();
@@ -43,7 +43,7 @@ impl<H: Holder> Exchange<H> {
         requires moves { moves self.old.course ≡ true }
         requires may { may_come self.old.course Stop ≡ true }
         ensures goes { Goes self.old.course self.new.course }
-        ensures stops { is_stopped self.new.course ≡ true }
+        ensures stops { Halts self.old.course self.new.course false }
     {
         self.settle(rt, at, out, EndedBy::Stop);
         H::note_stop(at, out, &self.course);
@@ -51,7 +51,9 @@ impl<H: Holder> Exchange<H> {
     }
 
     /// Whether a part of a request's head came, and not all of it.
-    fn is_in_head(&self) -> bool {
+    fn is_in_head(&self) -> bool
+        ensures { result ≡ ((is_idle self.now.course.phase || is_head self.now.course.phase) && H.has_begun self.now.holdings) }
+    {
         matches!(self.course.course().phase, Phase::Idle | Phase::Head) && self.holdings.has_begun()
     }
 
@@ -73,7 +75,7 @@ impl<H: Holder> Exchange<H> {
         requires still { moves self.old.course ≡ false }
         requires may { may_come self.old.course Stop ≡ true }
         ensures goes { Goes self.old.course self.new.course }
-        ensures stops { is_stopped self.new.course ≡ true }
+        ensures stops { Halts self.old.course self.new.course (H.has_begun self.old.holdings) }
     {
         let is_in_head = self.is_in_head();
         self.note_refusal(at, out, is_in_head);
@@ -88,8 +90,9 @@ impl<H: Holder> Exchange<H> {
     where
         H: Effects<P>,
         ensures goes { Goes self.old.course self.new.course }
-        ensures stops { is_stopped self.new.course ≡ true }
+        ensures stops { Halts self.old.course self.new.course (H.has_begun self.old.holdings) }
     {
+        let _ = self.course.course();
         if !self.course.may(Event::Stop) {
             return;
         }
@@ -105,7 +108,7 @@ impl<H: Holder> Exchange<H> {
     where
         H: Effects<P>,
         ensures goes { Goes self.old.course self.new.course }
-        ensures stops { is_stopped self.old.course ≡ true → is_stopped self.new.course ≡ true }
+        ensures frees { Frees self.old.course self.new.course }
         ensures over { is_gone self.new.course.phase ≡ true → is_over self.new.course ≡ true }
     {
         if self.course.course().phase == Phase::Gone {
@@ -118,7 +121,7 @@ impl<H: Holder> Exchange<H> {
     where
         H: Effects<P>,
         ensures goes { Goes self.old.course self.new.course }
-        ensures stops { is_stopped self.new.course ≡ true }
+        ensures stops { Halts self.old.course self.new.course (H.has_begun self.old.holdings) }
         ensures gone { is_gone self.new.course.phase ≡ true → is_over self.new.course ≡ true }
         ensures over { result ≡ Step.Over → is_over self.new.course ≡ true }
     {
@@ -144,11 +147,12 @@ impl<H: Holder> Exchange<H> {
         requires { due_of self.old.course ≡ dues.TryRefusal status }
         ensures goes { Goes self.old.course self.new.course }
         ensures over { result ≡ Said.Whole → is_over self.new.course ≡ true }
+        ensures broken { result ≡ Said.Broken → is_over self.new.course ≡ true }
     {
         let said = self.holdings.refuse(&self.course, status);
         if matches!(said, Said::Whole | Said::Broken) {
-            self.holdings.close(at);
             self.course.done(Event::Tried);
+            self.holdings.close(at, &self.course);
             self.free(rt, at, out);
         }
         said
@@ -158,9 +162,12 @@ impl<H: Holder> Exchange<H> {
     fn take_refusal<P, R: Wait>(&mut self, rt: &R, at: &P, out: &mut H::Outside) -> Option<Step>
     where
         H: Effects<P>,
+        requires stopped { is_stopped self.old.course ≡ true }
         ensures goes { Goes self.old.course self.new.course }
         ensures on { result ≡ Some Step.Over → ⊥ }
+        ensures gone { result ≡ None → is_gone self.new.course.phase ≡ true }
     {
+        let _ = self.course.course();
         let Due::TryRefusal(status) = self.course.due() else {
             return None;
         };
@@ -175,13 +182,14 @@ impl<H: Holder> Exchange<H> {
     fn linger_on<P, R: Wait>(&mut self, rt: &R, at: &P, out: &mut H::Outside) -> Step
     where
         H: Effects<P>,
+        requires gone { is_gone self.old.course.phase ≡ true }
         ensures goes { Goes self.old.course self.new.course }
         ensures over { result ≡ Step.Over → is_over self.new.course ≡ true }
     {
         if !self.holdings.is_finished() {
-            self.holdings.close(at);
+            self.holdings.close(at, &self.course);
         }
-        match self.holdings.linger(at, out) {
+        match self.holdings.linger(at, out, &self.course) {
             Lingered::Waiting => Step::Waits,
             Lingered::CutShort => Step::On,
             Lingered::Over => {
@@ -195,6 +203,7 @@ impl<H: Holder> Exchange<H> {
     pub(crate) fn take_leave<P, R: Wait>(&mut self, rt: &R, at: &P, out: &mut H::Outside) -> Step
     where
         H: Effects<P>,
+        requires stopped { is_stopped self.old.course ≡ true }
         ensures goes { Goes self.old.course self.new.course }
         ensures over { result ≡ Step.Over → is_over self.new.course ≡ true }
     {

@@ -1,10 +1,10 @@
 //! The steps of an exchange: what is due is done.
 
 ghost use Rattle.std.specs.Prelude.{◌≡◌, ◌↔◌, true, false};
-ghost use Rattle.shard_exchange.specs.Ends.{is_closing, is_stopped};
+ghost use Rattle.shard_exchange.specs.Ends.{is_closing, is_stopped, Halts};
 
 use crate::exchange::Exchange;
-use exchange_core::{Due, Phase};
+use exchange_core::{Course, Due, Phase};
 use shard_effects::{Effects, Holder, Step, Task};
 use std::sync::Wait;
 
@@ -13,6 +13,13 @@ fn is_closing(phase: Phase) -> bool
     ensures { result ≡ is_closing phase }
 {
     matches!(phase, Phase::Closing)
+}
+
+/// Whether nothing is due for the user any more, but for a refusal.
+fn is_stopped(course: Course) -> bool
+    ensures { result ≡ is_stopped course }
+{
+    course.stopping || course.phase == Phase::Gone
 }
 
 impl<H: Holder> Exchange<H> {
@@ -30,17 +37,18 @@ impl<H: Holder> Exchange<H> {
         ensures waits { task ≡ Task.Step → result ≡ Step.Waits → is_wait (due_of self.new.course) ≡ true }
         ensures over { result ≡ Step.Over → is_over self.new.course ≡ true }
         ensures lost { task ≡ Task.Lose → is_over self.new.course ≡ true }
-        ensures stops { task ≡ Task.Halt → is_closing self.old.course.phase ≡ false → is_stopped self.new.course ≡ true }
+        ensures stops { task ≡ Task.Halt → is_closing self.old.course.phase ≡ false
+            → Halts self.old.course self.new.course (H.has_begun self.old.holdings) }
     {
-        let closes = is_closing(self.course.course().phase);
+        let course = self.course.course();
         match task {
             Task::Lose => {
                 self.lose(rt, at, out);
                 Step::Over
             }
-            Task::Halt if closes => Step::On,
+            Task::Halt if is_closing(course.phase) => Step::On,
             Task::Halt => self.halt(rt, at, out),
-            Task::TakeLeave if !closes => self.take_leave(rt, at, out),
+            Task::TakeLeave if is_stopped(course) => self.take_leave(rt, at, out),
             Task::Step | Task::TakeLeave => self.step(rt, at, out),
         }
     }
