@@ -1,6 +1,6 @@
 //! What an exchange asks of what it holds.
 
-ghost use Rattle.std.specs.Prelude.{◌≡◌, Bool, IsTrue, Some, is_ok, true, false};
+ghost use Rattle.std.specs.Prelude.{◌≡◌, Bool, IsTrue, Some, is_ok, true, false, IfSome};
 ghost use Rattle.exchange_core.specs.Dues.{due_of, is_for_telling, refusal_due};
 ghost use Rattle.exchange_core.specs.Log.{is_silent};
 ghost use Rattle.exchange_core.specs.May.{is_gone};
@@ -27,6 +27,12 @@ pub trait InHand {
 
 /// What an exchange holds beside its course: the connections, the message, its plan, its reservation and its transaction.
 pub trait Holder: InHand {
+    // a byte of an answer of the message that moves went to its user
+    ghost answered: { Self → Bool };
+
+    // the connection to its service may carry another request
+    ghost reusable: { Self → Bool };
+
     /// The surroundings of the exchanges of a thread.
     type Outside;
 
@@ -83,12 +89,14 @@ pub trait Holder: InHand {
 
     /// Whether a byte of an answer went to the user.
     fn has_answered(&self) -> bool
-        requires { (Self.hand self.now).moving ≡ true };
+        requires { (Self.hand self.now).moving ≡ true }
+        ensures { result ≡ answered self.now };
 
     /// Takes the service's connection back from the transaction once the service has said all: whether it may carry another request.
     fn free_service(&mut self) -> Option<bool>
         requires { (Self.hand self.old).moving ≡ true }
-        ensures { Keeps (Self.hand self.old) (Self.hand self.new) };
+        ensures kept { Keeps (Self.hand self.old) (Self.hand self.new) }
+        ensures served { IfSome result (λ usable. usable ≡ reusable self.old) };
 
     /// Lets all go of an exchange that is over.
     fn finish(self)
@@ -194,7 +202,9 @@ pub trait Effects<P>: Holder {
     fn settle<R: Wait>(&mut self, rt: &R, at: &P, out: &mut Self::Outside, by: EndedBy) -> Report
         requires { (Self.hand self.old).moving ≡ true }
         ensures back { ComesBack (Self.hand self.old) (Self.hand self.new) }
-        ensures ends { EndsBy by result.end };
+        ensures ends { EndsBy by result.end }
+        ensures answered { result.has_answered ≡ Self.answered self.old }
+        ensures served { IfSome result.served (λ usable. usable ≡ Self.reusable self.old) };
 
     /// Puts the service's connection back where it is ready to serve again. Else it is closed, and its lease given up. Says whether
     /// it was put back.

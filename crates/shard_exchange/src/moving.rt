@@ -12,7 +12,7 @@ use std::sync::Wait;
 impl<H: Holder> Exchange<H> {
     ghost use Rattle.exchange_core.specs.Dues.{due_of};
     ghost use Rattle.exchange_core.specs.Log.{Goes};
-    ghost use Rattle.exchange_core.specs.May.{is_gone};
+    ghost use Rattle.exchange_core.specs.May.{is_gone, is_refusing};
     ghost use Rattle.exchange_core.specs.declared.due.Due.TheVariants as dues;
     ghost use Rattle.shard_exchange.specs.Ends.{moves, Halts};
     ghost use Rattle.shard_exchange.specs.Steps.{Heeds};
@@ -133,7 +133,8 @@ impl<H: Holder> Exchange<H> {
         begins || frees
     }
 
-    /// Takes the transaction apart of a message that is over, or ends by this. What it stood over comes back.
+    /// Takes the transaction apart of a message that is over, or ends by this. What it stood over comes back. A user to whom a byte of an
+    /// answer went isn't refused after it.
     pub(crate) fn settle<P, R: Wait>(&mut self, rt: &R, at: &P, out: &mut H::Outside, by: EndedBy)
     where
         H: Effects<P>,
@@ -143,6 +144,7 @@ impl<H: Holder> Exchange<H> {
         ensures over { moves self.new.course ≡ false }
         ensures lost { by ≡ EndedBy.User → is_gone self.new.course.phase ≡ true }
         ensures stops { by ≡ EndedBy.Stop → Halts self.old.course self.new.course false }
+        ensures alone { H.answered self.old.holdings ≡ true → is_refusing self.new.course.phase ≡ false }
     {
         let report = self.holdings.settle(rt, at, out, by);
         tell(&mut self.course, report);

@@ -1,6 +1,6 @@
 //! What is done over what is held alone.
 
-ghost use Rattle.std.specs.Prelude.{is_some};
+ghost use Rattle.std.specs.Prelude.{is_some, false, None, Some};
 ghost use Rattle.shard_effects.specs.Hand.{hand_of};
 ghost use Rattle.shard_holdings.specs.Message.{has_come};
 
@@ -10,7 +10,7 @@ use exchange_core::Exchange;
 use http_side::{HttpFault, own_refusal};
 use proxy_rules::interim_continue;
 use shard_effects::{HeadTurn, Holder, InHand, OptionsTurn, Said};
-use shard_message::{hear_on, lay_wire};
+use shard_message::{Moving, OnItsWay, hear_on, lay_wire};
 use shard_outside::{Kinds, clear, fault_of, say_to, turn_on};
 
 impl<O: Kinds> InHand for Holdings<O> {
@@ -19,6 +19,16 @@ impl<O: Kinds> InHand for Holdings<O> {
 
 impl<O: Kinds> Holder for Holdings<O> {
     type Outside = O;
+
+    ghost answered = { λ held. elim held.tx [
+      | None ↦ false
+      | Some tx ↦ ⟦<Moving<O> as OnItsWay>⟧.answered tx
+    ] };
+
+    ghost reusable = { λ held. elim held.tx [
+      | None ↦ false
+      | Some tx ↦ ⟦<Moving<O> as OnItsWay>⟧.reusable tx
+    ] };
 
     ghost has_begun = { λ held. has_come held.message };
 
