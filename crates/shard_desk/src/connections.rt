@@ -9,10 +9,11 @@ use crate::shared::Shares;
 use crate::spot::Spot;
 use event_loop::Room;
 use options_book::Record;
-use proxy_config::{Config, ServicePoint};
+use proxy_config::Config;
 use proxy_rules::pool_maximum;
 use refusal_reasons::Reason;
 use service_lines::{Leased, LeasedConnection, LendFault, PointBook};
+use shard_outside::service_of;
 use shard_seats::Seats;
 use socket_wire::{Dial, OriginWire, ServiceWire};
 use std::alloc::{AllocError, Global};
@@ -34,18 +35,6 @@ fn lent_of<Q: Ledger, A: Ledger>(
     match lent {
         Ok(LeasedConnection { wire, lease }) => Ok((wire, lease)),
         Err(fault) => Err(fault),
-    }
-}
-
-/// The service of a point.
-fn service_of(config: &Config, point: Point) -> Option<&ServicePoint> {
-    let service = match point {
-        Point::Reqmod => &config.reqmod,
-        Point::Respmod => &config.respmod,
-    };
-    match service {
-        Some(service) => Some(service),
-        None => None,
     }
 }
 

@@ -3,6 +3,7 @@
 ghost use Rattle.std.specs.Prelude.{◌≡◌};
 ghost use Rattle.shard_seats.specs.Seats.{is_late};
 ghost use Rattle.service_lines.specs.Lending.{point_of};
+ghost use Rattle.shard_desk.specs.Books.{book_at};
 
 use crate::connections::{
     keep_record, lend_anew, lend_now, lend_waiting, open_origin, put_back, waiter_of,
@@ -50,6 +51,14 @@ impl<'r, S: Shares, R: Wait + Dial + Clock, G: Gate> Outside<Spot<'r, R, G>> for
     ghost is_late = { λ desk at. is_late desk.seats at.key at.now desk.deadline };
 
     ghost point_of = { λ lease. point_of lease };
+
+    ghost config_is = { λ desk config. S.config_is desk.shared config };
+
+    ghost limits_are = { λ desk limits. limits ≡ desk.limits };
+
+    ghost book_is = { λ desk point book. book ≡ book_at desk.request_book desk.response_book point };
+
+    ghost now_is = { λ desk at now. now ≡ at.now };
 
     fn alloc(&self) -> Global {
         self.alloc

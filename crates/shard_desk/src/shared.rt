@@ -1,5 +1,8 @@
 //! What all threads share.
 
+ghost use Rattle.std.specs.Prelude.{◌≡◌, ⊤};
+ghost use Rattle.proxy_config.specs.declared.config.Config.{Config as AnyConfig};
+
 use crate::pools::Spare;
 use event_loop::{Inbox, Room};
 use proxy_config::Config;
@@ -21,7 +24,11 @@ pub trait Shares {
     /// The ledger of the leases of the service of responses.
     type Responses: Ledger;
 
-    fn config(&self) -> &Config;
+    // the configuration, where this says what it is
+    ghost config_is: { Self → AnyConfig → Type 0 } = { λ _ _. ⊤ };
+
+    fn config(&self) -> &Config
+        ensures { config_is self.now result.now };
 
     fn bank(&self) -> &Bank<Self::Ledgers>;
 
@@ -72,6 +79,8 @@ impl<'a, B: Ledgers, Q: Ledger, A: Ledger> Shares for Shared<'a, B, Q, A> {
     type Requests = Q;
 
     type Responses = A;
+
+    ghost config_is = { λ shared config. config ≡ shared.config.now };
 
     fn config(&self) -> &Config {
         self.config
