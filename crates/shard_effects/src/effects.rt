@@ -204,6 +204,7 @@ pub trait Effects<P>: Holder {
         ensures back { ComesBack (Self.hand self.old) (Self.hand self.new) }
         ensures ends { EndsBy by result.end }
         ensures answered { result.has_answered ≡ Self.answered self.old }
+        ensures cuts { result.has_answered ≡ false → result.cuts ≡ false }
         ensures served { IfSome result.served (λ usable. usable ≡ Self.reusable self.old) };
 
     /// Puts the service's connection back where it is ready to serve again. Else it is closed, and its lease given up. Says whether

@@ -14,7 +14,7 @@ impl<H: Holder> Exchange<H> {
     ghost use Rattle.exchange_core.specs.Log.{Goes};
     ghost use Rattle.exchange_core.specs.May.{is_gone, is_refusing};
     ghost use Rattle.exchange_core.specs.declared.due.Due.TheVariants as dues;
-    ghost use Rattle.shard_exchange.specs.Ends.{moves, Halts};
+    ghost use Rattle.shard_exchange.specs.Ends.{moves, Halts, IsOwed};
     ghost use Rattle.shard_exchange.specs.Steps.{Heeds};
 
     /// Starts the transaction of a message that has all that it needs. Where it can't begin, the message fails.
@@ -145,6 +145,8 @@ impl<H: Holder> Exchange<H> {
         ensures lost { by ≡ EndedBy.User → is_gone self.new.course.phase ≡ true }
         ensures stops { by ≡ EndedBy.Stop → Halts self.old.course self.new.course false }
         ensures alone { H.answered self.old.holdings ≡ true → is_refusing self.new.course.phase ≡ false }
+        ensures stopped { by ≡ EndedBy.Stop → H.answered self.old.holdings ≡ false → IsOwed self.old.course self.new.course 503 }
+        ensures late { by ≡ EndedBy.Deadline → H.answered self.old.holdings ≡ false → IsOwed self.old.course self.new.course 504 }
     {
         let report = self.holdings.settle(rt, at, out, by);
         tell(&mut self.course, report);

@@ -1,6 +1,6 @@
 //! How messages end.
 
-ghost use Rattle.std.specs.Prelude.{◌≡◌, IfSome};
+ghost use Rattle.std.specs.Prelude.{◌≡◌, false, IfSome};
 ghost use Rattle.shard_effects.specs.Ends.{EndsBy};
 
 use adapt_turn::Outcome;
@@ -72,6 +72,7 @@ pub(crate) fn report_of<M>(
 ) -> Report
     ensures ends { EndsBy by result.end }
     ensures answered { result.has_answered ≡ has_answered }
+    ensures cuts { has_answered ≡ false → result.cuts ≡ false }
     ensures served { IfSome result.served (λ usable. usable ≡ is_reusable) }
 {
     let (is_whole, is_old) = match sequel {

@@ -230,6 +230,7 @@ impl<O: Kinds> Moving<O> {
         O: Outside<P>,
         ensures ends { EndsBy by result.report.end }
         ensures answered { result.report.has_answered ≡ ⟦<Self as OnItsWay>⟧.answered self }
+        ensures cuts { result.report.has_answered ≡ false → result.report.cuts ≡ false }
         ensures served { IfSome result.report.served (λ usable. usable ≡ ⟦<Self as OnItsWay>⟧.reusable self) }
     {
         match self {

@@ -1,6 +1,6 @@
 //! Transactions taken apart: what they stood over, and what comes of their messages.
 
-ghost use Rattle.std.specs.Prelude.{◌≡◌, IfSome, not};
+ghost use Rattle.std.specs.Prelude.{◌≡◌, false, IfSome, not};
 ghost use Rattle.shard_effects.specs.Ends.{EndsBy};
 ghost use Rattle.adapt_turn.specs.Refusals.{user_untouched};
 ghost use Rattle.shard_message.specs.Told.{reusable_by};
@@ -179,6 +179,7 @@ fn settle_taken<P, O: Outside<P>, V: Served, M: Drop>(
 ) -> Settled<O, M>
     ensures ends { EndsBy by result.report.end }
     ensures answered { result.report.has_answered ≡ account.has_answered }
+    ensures cuts { account.has_answered ≡ false → result.report.cuts ≡ false }
     ensures served { IfSome result.report.served (λ usable. usable ≡ reusable_by V.reusable taken.service) }
 {
     let Taken {
@@ -225,6 +226,7 @@ where
     E::Maker: MadeHead<E::Reader>,
     ensures ends { EndsBy by result.report.end }
     ensures answered { result.report.has_answered ≡ not (user_untouched tx.hold.history.plan.point (E.Writer.untouched tx.ends.next) (E.Writer.untouched tx.ends.back)) }
+    ensures cuts { result.report.has_answered ≡ false → result.report.cuts ≡ false }
     ensures served { IfSome result.report.served (λ usable. usable ≡ reusable_by E.Client.reusable tx.ends.service) }
 {
     let has_answered = tx.has_answered();
@@ -283,6 +285,7 @@ where
     E::Maker: MadeHead<E::Reader>,
     ensures ends { EndsBy by result.report.end }
     ensures answered { result.report.has_answered ≡ not (user_untouched tx.hold.history.plan.point (E.Writer.untouched tx.ends.next) (E.Writer.untouched tx.ends.back)) }
+    ensures cuts { result.report.has_answered ≡ false → result.report.cuts ≡ false }
     ensures served { IfSome result.report.served (λ usable. usable ≡ reusable_by E.Client.reusable tx.ends.service) }
 {
     let has_answered = tx.has_answered();
