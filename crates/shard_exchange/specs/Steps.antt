@@ -2,7 +2,7 @@
 use Rattle.std.specs.Prelude.{◌≡◌, Bool, true, false, ⊤}
 use Rattle.exchange_core.specs.declared.course.Course.{Course}
 use Rattle.exchange_core.specs.declared.due.Due.{Due}
-use Rattle.exchange_core.specs.declared.due.Due.TheVariants.{AskGate, Turn}
+use Rattle.exchange_core.specs.declared.due.Due.TheVariants.{Plan, Lend, Ask, Reserve, Dial, Start, AskGate, Turn, GiveBack, Release, HangUp}
 use Rattle.exchange_core.specs.Dues.{due_of, is_wait}
 use Rattle.shard_effects.specs.declared.tasks.Step.{Step}
 use Rattle.shard_effects.specs.declared.tasks.Step.TheVariants.{On, Waits, Over}
@@ -18,3 +18,21 @@ abbrev pub is_moved : Due → Bool
 is_moved AskGate = true
 is_moved Turn = true
 is_moved _ = false
+
+-- it waits for nobody
+abbrev pub is_at_once : Due → Bool
+is_at_once Plan = true
+is_at_once Lend = true
+is_at_once Ask = true
+is_at_once Reserve = true
+is_at_once Dial = true
+is_at_once Start = true
+is_at_once AskGate = true
+is_at_once GiveBack = true
+is_at_once Release = true
+is_at_once HangUp = true
+is_at_once _ = false
+
+-- what waits for nobody is due no more
+abbrev pub IsDone : (old new : Course) → Type 0
+IsDone old new = is_at_once (due_of old) ≡ true → due_of new ≡ due_of old → ⊥

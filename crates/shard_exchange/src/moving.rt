@@ -15,7 +15,7 @@ impl<H: Holder> Exchange<H> {
     ghost use Rattle.exchange_core.specs.May.{is_gone, is_refusing};
     ghost use Rattle.exchange_core.specs.declared.due.Due.TheVariants as dues;
     ghost use Rattle.shard_exchange.specs.Ends.{moves, Halts, IsOwed};
-    ghost use Rattle.shard_exchange.specs.Steps.{Heeds};
+    ghost use Rattle.shard_exchange.specs.Steps.{Heeds, IsDone};
 
     /// Starts the transaction of a message that has all that it needs. Where it can't begin, the message fails.
     pub(crate) fn start<P, R: Wait>(&mut self, rt: &R, at: &P, out: &mut H::Outside) -> Step
@@ -24,6 +24,7 @@ impl<H: Holder> Exchange<H> {
         requires due { due_of self.old.course ≡ dues.Start }
         requires held { (self.old.course.stake ≡ true) × (self.old.course.origin ≡ true) }
         ensures goes { Goes self.old.course self.new.course }
+        ensures done { IsDone self.old.course self.new.course }
         ensures on { result ≡ Step.On }
     {
         match self.holdings.start(rt, at, out, self.course.course()) {
@@ -43,6 +44,7 @@ impl<H: Holder> Exchange<H> {
         requires due { due_of self.old.course ≡ dues.AskGate }
         requires runs { self.old.course.stopping ≡ false }
         ensures goes { Goes self.old.course self.new.course }
+        ensures done { IsDone self.old.course self.new.course }
         ensures on { result ≡ Step.On }
     {
         if H::may_pass(at, out) {

@@ -24,6 +24,7 @@ impl<H: Holder> Exchange<H> {
         requires message { is_for_message (due_of self.old.course) ≡ true }
         requires still { is_moved (due_of self.old.course) ≡ false }
         ensures goes { Goes self.old.course self.new.course }
+        ensures left { is_for_message (due_of self.new.course) ≡ false }
         ensures owed { IsOwed self.old.course self.new.course (reasons.status_of reason) }
         ensures on { result ≡ Step.On }
     {
@@ -37,6 +38,7 @@ impl<H: Holder> Exchange<H> {
         requires user { is_for_user (due_of self.old.course) ≡ true }
         requires still { is_moved (due_of self.old.course) ≡ false }
         ensures goes { Goes self.old.course self.new.course }
+        ensures left { is_for_message (due_of self.new.course) ≡ false }
         ensures on { result ≡ Step.On }
     {
         self.course.lost();

@@ -13,6 +13,7 @@ impl<H: Holder> Exchange<H> {
     ghost use Rattle.exchange_core.specs.Dues.{due_of};
     ghost use Rattle.exchange_core.specs.Log.{Goes};
     ghost use Rattle.exchange_core.specs.declared.due.Due.TheVariants as dues;
+    ghost use Rattle.shard_exchange.specs.Steps.{IsDone};
 
     /// Puts the service's connection back where it may serve again. Else it is closed, and its lease given up.
     pub(crate) fn give_back<P>(&mut self, at: &P, out: &mut H::Outside) -> Step
@@ -21,6 +22,7 @@ impl<H: Holder> Exchange<H> {
         requires due { due_of self.old.course ≡ dues.GiveBack }
         ensures course { self.new.course ≡ after self.old.course (Returned false) }
         ensures goes { Goes self.old.course self.new.course }
+        ensures done { IsDone self.old.course self.new.course }
         ensures on { result ≡ Step.On }
     {
         let is_ready = self.course.course().connection.is_ready();
@@ -36,6 +38,7 @@ impl<H: Holder> Exchange<H> {
         requires due { due_of self.old.course ≡ dues.Release }
         ensures course { self.new.course ≡ after self.old.course Released }
         ensures goes { Goes self.old.course self.new.course }
+        ensures done { IsDone self.old.course self.new.course }
         ensures on { result ≡ Step.On }
     {
         self.holdings.release(rt, at, out);
@@ -48,6 +51,7 @@ impl<H: Holder> Exchange<H> {
         requires due { due_of self.old.course ≡ dues.HangUp }
         ensures course { self.new.course ≡ after self.old.course HungUp }
         ensures goes { Goes self.old.course self.new.course }
+        ensures done { IsDone self.old.course self.new.course }
         ensures on { result ≡ Step.On }
     {
         self.holdings.hang_up();

@@ -25,7 +25,7 @@ fn is_stopped(course: Course) -> bool
 impl<H: Holder> Exchange<H> {
     ghost use Rattle.exchange_core.specs.Dues.{due_of, is_over, is_wait};
     ghost use Rattle.exchange_core.specs.Log.{Goes};
-    ghost use Rattle.shard_exchange.specs.Steps.{Heeds};
+    ghost use Rattle.shard_exchange.specs.Steps.{Heeds, IsDone};
 
     /// Does a task, and says how far that came. An exchange that only closes isn't stopped: it goes on with that.
     pub fn act<P, R: Wait>(&mut self, rt: &R, at: &P, out: &mut H::Outside, task: Task) -> Step
@@ -34,6 +34,7 @@ impl<H: Holder> Exchange<H> {
         // Each task takes the course along events that may come.
         ensures goes { Goes self.old.course self.new.course }
         ensures late { task ≡ Task.Step → result ≡ Step.Waits → H.is_late out.new at.now ≡ false }
+        ensures done { task ≡ Task.Step → IsDone self.old.course self.new.course }
         ensures waits { task ≡ Task.Step → result ≡ Step.Waits → is_wait (due_of self.new.course) ≡ true }
         ensures over { result ≡ Step.Over → is_over self.new.course ≡ true }
         ensures lost { task ≡ Task.Lose → is_over self.new.course ≡ true }
@@ -58,6 +59,7 @@ impl<H: Holder> Exchange<H> {
     where
         H: Effects<P>,
         ensures goes { Goes self.old.course self.new.course }
+        ensures done { IsDone self.old.course self.new.course }
         ensures late { result ≡ Step.Waits → H.is_late out.new at.now ≡ false }
         ensures waits { result ≡ Step.Waits → is_wait (due_of self.new.course) ≡ true }
         ensures over { result ≡ Step.Over ↔ is_over self.new.course ≡ true }
@@ -75,6 +77,7 @@ impl<H: Holder> Exchange<H> {
     where
         H: Effects<P>,
         ensures goes { Goes self.old.course self.new.course }
+        ensures done { IsDone self.old.course self.new.course }
         ensures heeds { Heeds (H.is_late out.new at.now) self.new.course result }
     {
         match self.course.due() {
