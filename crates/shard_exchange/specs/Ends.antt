@@ -1,5 +1,5 @@
 -- How the course of an exchange leaves a message, and what its user is owed then.
-use Rattle.std.specs.Prelude.{◌≡◌, ℕ, Bool, true, false, not, ◌||◌, if◌then◌else◌}
+use Rattle.std.specs.Prelude.{◌≡◌, ℕ, Bool, true, false, not, ◌||◌, if◌then◌else◌, ⊤}
 use Rattle.exchange_core.specs.declared.event.Event.{Event}
 use Rattle.exchange_core.specs.declared.event.Event.TheVariants.{Sent, Begun, Answered, UserLost, Stop, Failed}
 use Rattle.exchange_core.specs.declared.phase.Phase.{Phase}
@@ -8,6 +8,8 @@ use Rattle.exchange_core.specs.declared.course.Course.{Course}
 use Rattle.exchange_core.specs.Course.{is_leased, is_mid_text}
 use Rattle.exchange_core.specs.May.{may_come, is_at_gate, is_moving, is_refusing, is_gone}
 use Rattle.exchange_core.specs.Dues.{status_of}
+use Rattle.shard_effects.specs.declared.ends.EndedBy.{EndedBy}
+use Rattle.shard_effects.specs.declared.ends.EndedBy.TheVariants as ended
 
 -- its transaction stands
 abbrev pub moves : Course → Bool
@@ -42,6 +44,12 @@ refusal_at _ = 0
 -- a refusal of this status follows, unless a part of another text is out
 abbrev pub IsOwed : (old new : Course) → (status : ℕ) → Type 0
 IsOwed old new status = is_mid_text old ≡ false → (is_refusing new.phase ≡ true) × (refusal_at new.phase ≡ status)
+
+-- what the user of a message is owed that this ended, where no byte of an answer went to it
+abbrev pub IsOwedBy : EndedBy → (old new : Course) → Type 0
+IsOwedBy ended.Deadline old new = IsOwed old new 504
+IsOwedBy ended.Stop old new = IsOwed old new 503
+IsOwedBy _ old new = ⊤
 
 -- nothing is due for the user any more, but for a refusal
 abbrev pub is_stopped : Course → Bool

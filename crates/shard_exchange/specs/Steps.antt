@@ -4,6 +4,7 @@ use Rattle.exchange_core.specs.declared.course.Course.{Course}
 use Rattle.exchange_core.specs.declared.due.Due.{Due}
 use Rattle.exchange_core.specs.declared.due.Due.TheVariants.{Plan, Lend, Ask, Reserve, Dial, Start, AskGate, Turn, GiveBack, Release, HangUp}
 use Rattle.exchange_core.specs.Dues.{due_of, is_wait}
+use Rattle.exchange_core.specs.Log.{Goes}
 use Rattle.shard_effects.specs.declared.tasks.Step.{Step}
 use Rattle.shard_effects.specs.declared.tasks.Step.TheVariants.{On, Waits, Over}
 
@@ -36,3 +37,7 @@ is_at_once _ = false
 -- what waits for nobody is due no more
 abbrev pub IsDone : (old new : Course) → Type 0
 IsDone old new = is_at_once (due_of old) ≡ true → due_of new ≡ due_of old → ⊥
+
+-- events that may come lead on, and what waits for nobody is due no more
+abbrev pub GoesOn : (old new : Course) → Type 0
+GoesOn old new = Goes old new × IsDone old new

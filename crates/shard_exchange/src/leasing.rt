@@ -17,15 +17,14 @@ impl<H: Holder> Exchange<H> {
     ghost use Rattle.exchange_core.specs.Dues.{due_of};
     ghost use Rattle.exchange_core.specs.Log.{Goes};
     ghost use Rattle.exchange_core.specs.declared.due.Due.TheVariants as dues;
-    ghost use Rattle.shard_exchange.specs.Steps.{Heeds, IsDone};
+    ghost use Rattle.shard_exchange.specs.Steps.{Heeds, GoesOn};
 
     /// Leases a connection of the service, or has the message wait for one where all are leased.
     pub(crate) fn lend<P>(&mut self, at: &P, out: &mut H::Outside) -> Step
     where
         H: Effects<P>,
         requires due { due_of self.old.course ≡ dues.Lend }
-        ensures goes { Goes self.old.course self.new.course }
-        ensures done { IsDone self.old.course self.new.course }
+        ensures goes { GoesOn self.old.course self.new.course }
         ensures on { result ≡ Step.On }
     {
         let point = self.phase().point();
@@ -44,8 +43,7 @@ impl<H: Holder> Exchange<H> {
     where
         H: Effects<P>,
         requires due { due_of self.old.course ≡ dues.Lend }
-        ensures goes { Goes self.old.course self.new.course }
-        ensures done { IsDone self.old.course self.new.course }
+        ensures goes { GoesOn self.old.course self.new.course }
         ensures on { result ≡ Step.On }
     {
         if self.course.may(Event::Queued) && H::join_queue(at, out, point) {

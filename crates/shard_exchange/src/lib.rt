@@ -4,7 +4,6 @@
 //! value to it, which holds just what the course counts. It has no sockets, no clock and no threads.
 #![tactic(auto)]
 
-mod continue_text;
 mod course;
 mod exchange;
 mod heads;
@@ -13,7 +12,7 @@ mod loss;
 mod moving;
 mod needs;
 mod options;
-mod refusing;
+mod own_texts;
 mod returning;
 mod step;
 mod stop;

@@ -14,8 +14,8 @@ impl<H: Holder> Exchange<H> {
     ghost use Rattle.exchange_core.specs.Log.{Goes};
     ghost use Rattle.exchange_core.specs.May.{is_gone, is_refusing};
     ghost use Rattle.exchange_core.specs.declared.due.Due.TheVariants as dues;
-    ghost use Rattle.shard_exchange.specs.Ends.{moves, Halts, IsOwed};
-    ghost use Rattle.shard_exchange.specs.Steps.{Heeds, IsDone};
+    ghost use Rattle.shard_exchange.specs.Ends.{moves, Halts, IsOwedBy};
+    ghost use Rattle.shard_exchange.specs.Steps.{Heeds, GoesOn};
 
     /// Starts the transaction of a message that has all that it needs. Where it can't begin, the message fails.
     pub(crate) fn start<P, R: Wait>(&mut self, rt: &R, at: &P, out: &mut H::Outside) -> Step
@@ -23,8 +23,7 @@ impl<H: Holder> Exchange<H> {
         H: Effects<P>,
         requires due { due_of self.old.course ≡ dues.Start }
         requires held { (self.old.course.stake ≡ true) × (self.old.course.origin ≡ true) }
-        ensures goes { Goes self.old.course self.new.course }
-        ensures done { IsDone self.old.course self.new.course }
+        ensures goes { GoesOn self.old.course self.new.course }
         ensures on { result ≡ Step.On }
     {
         match self.holdings.start(rt, at, out, self.course.course()) {
@@ -43,8 +42,7 @@ impl<H: Holder> Exchange<H> {
         H: Effects<P>,
         requires due { due_of self.old.course ≡ dues.AskGate }
         requires runs { self.old.course.stopping ≡ false }
-        ensures goes { Goes self.old.course self.new.course }
-        ensures done { IsDone self.old.course self.new.course }
+        ensures goes { GoesOn self.old.course self.new.course }
         ensures on { result ≡ Step.On }
     {
         if H::may_pass(at, out) {
@@ -136,7 +134,7 @@ impl<H: Holder> Exchange<H> {
     }
 
     /// Takes the transaction apart of a message that is over, or ends by this. What it stood over comes back. A user to whom a byte of an
-    /// answer went isn't refused after it.
+    /// answer went isn't refused after it; one to whom none went is refused for the deadline or the stop that ended it.
     pub(crate) fn settle<P, R: Wait>(&mut self, rt: &R, at: &P, out: &mut H::Outside, by: EndedBy)
     where
         H: Effects<P>,
@@ -147,8 +145,7 @@ impl<H: Holder> Exchange<H> {
         ensures lost { by ≡ EndedBy.User → is_gone self.new.course.phase ≡ true }
         ensures stops { by ≡ EndedBy.Stop → Halts self.old.course self.new.course false }
         ensures alone { H.answered self.old.holdings ≡ true → is_refusing self.new.course.phase ≡ false }
-        ensures stopped { by ≡ EndedBy.Stop → H.answered self.old.holdings ≡ false → IsOwed self.old.course self.new.course 503 }
-        ensures late { by ≡ EndedBy.Deadline → H.answered self.old.holdings ≡ false → IsOwed self.old.course self.new.course 504 }
+        ensures owed { H.answered self.old.holdings ≡ false → IsOwedBy by self.old.course self.new.course }
     {
         let report = self.holdings.settle(rt, at, out, by);
         tell(&mut self.course, report);

@@ -10,17 +10,15 @@ use trace_core::Point;
 
 impl<H: Holder> Exchange<H> {
     ghost use Rattle.exchange_core.specs.Dues.{due_of};
-    ghost use Rattle.exchange_core.specs.Log.{Goes};
     ghost use Rattle.exchange_core.specs.declared.due.Due.TheVariants as dues;
-    ghost use Rattle.shard_exchange.specs.Steps.{IsDone};
+    ghost use Rattle.shard_exchange.specs.Steps.{GoesOn};
 
     /// Plans the message, or finds that its service is to be asked for its options first.
     pub(crate) fn plan<P>(&mut self, at: &P, out: &mut H::Outside) -> Step
     where
         H: Effects<P>,
         requires due { due_of self.old.course ≡ dues.Plan }
-        ensures goes { Goes self.old.course self.new.course }
-        ensures done { IsDone self.old.course self.new.course }
+        ensures goes { GoesOn self.old.course self.new.course }
         ensures on { result ≡ Step.On }
     {
         let course = self.course.course();
@@ -43,8 +41,7 @@ impl<H: Holder> Exchange<H> {
     where
         H: Effects<P>,
         requires due { due_of self.old.course ≡ dues.Reserve }
-        ensures goes { Goes self.old.course self.new.course }
-        ensures done { IsDone self.old.course self.new.course }
+        ensures goes { GoesOn self.old.course self.new.course }
         ensures on { result ≡ Step.On }
     {
         match self.holdings.reserve(rt, at, out) {
@@ -61,8 +58,7 @@ impl<H: Holder> Exchange<H> {
     where
         H: Effects<P>,
         requires due { due_of self.old.course ≡ dues.Dial }
-        ensures goes { Goes self.old.course self.new.course }
-        ensures done { IsDone self.old.course self.new.course }
+        ensures goes { GoesOn self.old.course self.new.course }
         ensures on { result ≡ Step.On }
     {
         match self.holdings.dial(at, out) {

@@ -15,15 +15,14 @@ impl<H: Holder> Exchange<H> {
     ghost use Rattle.exchange_core.specs.May.{may_come};
     ghost use Rattle.exchange_core.specs.declared.event.Event.TheVariants.{Renewed};
     ghost use Rattle.exchange_core.specs.declared.due.Due.TheVariants as dues;
-    ghost use Rattle.shard_exchange.specs.Steps.{Heeds, IsDone};
+    ghost use Rattle.shard_exchange.specs.Steps.{Heeds, GoesOn};
 
     /// Begins to ask the service for its options.
     pub(crate) fn ask<P>(&mut self, at: &P, out: &mut H::Outside) -> Step
     where
         H: Effects<P>,
         requires due { due_of self.old.course ≡ dues.Ask }
-        ensures goes { Goes self.old.course self.new.course }
-        ensures done { IsDone self.old.course self.new.course }
+        ensures goes { GoesOn self.old.course self.new.course }
         ensures on { result ≡ Step.On }
     {
         let point = self.phase().point();

@@ -11,9 +11,8 @@ impl<H: Holder> Exchange<H> {
     ghost use Rattle.exchange_core.specs.declared.event.Event.TheVariants.{Returned, Released, HungUp};
     ghost use Rattle.exchange_core.specs.Course.{after};
     ghost use Rattle.exchange_core.specs.Dues.{due_of};
-    ghost use Rattle.exchange_core.specs.Log.{Goes};
     ghost use Rattle.exchange_core.specs.declared.due.Due.TheVariants as dues;
-    ghost use Rattle.shard_exchange.specs.Steps.{IsDone};
+    ghost use Rattle.shard_exchange.specs.Steps.{GoesOn};
 
     /// Puts the service's connection back where it may serve again. Else it is closed, and its lease given up.
     pub(crate) fn give_back<P>(&mut self, at: &P, out: &mut H::Outside) -> Step
@@ -21,8 +20,7 @@ impl<H: Holder> Exchange<H> {
         H: Effects<P>,
         requires due { due_of self.old.course ≡ dues.GiveBack }
         ensures course { self.new.course ≡ after self.old.course (Returned false) }
-        ensures goes { Goes self.old.course self.new.course }
-        ensures done { IsDone self.old.course self.new.course }
+        ensures goes { GoesOn self.old.course self.new.course }
         ensures on { result ≡ Step.On }
     {
         let is_ready = self.course.course().connection.is_ready();
@@ -37,8 +35,7 @@ impl<H: Holder> Exchange<H> {
         H: Effects<P>,
         requires due { due_of self.old.course ≡ dues.Release }
         ensures course { self.new.course ≡ after self.old.course Released }
-        ensures goes { Goes self.old.course self.new.course }
-        ensures done { IsDone self.old.course self.new.course }
+        ensures goes { GoesOn self.old.course self.new.course }
         ensures on { result ≡ Step.On }
     {
         self.holdings.release(rt, at, out);
@@ -50,8 +47,7 @@ impl<H: Holder> Exchange<H> {
     pub(crate) fn hang_up(&mut self) -> Step
         requires due { due_of self.old.course ≡ dues.HangUp }
         ensures course { self.new.course ≡ after self.old.course HungUp }
-        ensures goes { Goes self.old.course self.new.course }
-        ensures done { IsDone self.old.course self.new.course }
+        ensures goes { GoesOn self.old.course self.new.course }
         ensures on { result ≡ Step.On }
     {
         self.holdings.hang_up();

@@ -1,31 +1,17 @@
 //! The steps of an exchange: what is due is done.
 
 ghost use Rattle.std.specs.Prelude.{◌≡◌, ◌↔◌, true, false};
-ghost use Rattle.shard_exchange.specs.Ends.{is_closing, is_stopped, Halts};
+ghost use Rattle.shard_exchange.specs.Ends.{is_closing, Halts};
 
 use crate::exchange::Exchange;
-use exchange_core::{Course, Due, Phase};
+use exchange_core::{Due, Phase};
 use shard_effects::{Effects, Holder, Step, Task};
 use std::sync::Wait;
-
-/// Whether nothing is left to do but to close the user's connection.
-fn is_closing(phase: Phase) -> bool
-    ensures { result ≡ is_closing phase }
-{
-    matches!(phase, Phase::Closing)
-}
-
-/// Whether nothing is due for the user any more, but for a refusal.
-fn is_stopped(course: Course) -> bool
-    ensures { result ≡ is_stopped course }
-{
-    course.stopping || course.phase == Phase::Gone
-}
 
 impl<H: Holder> Exchange<H> {
     ghost use Rattle.exchange_core.specs.Dues.{due_of, is_over, is_wait};
     ghost use Rattle.exchange_core.specs.Log.{Goes};
-    ghost use Rattle.shard_exchange.specs.Steps.{Heeds, IsDone};
+    ghost use Rattle.shard_exchange.specs.Steps.{Heeds, IsDone, GoesOn};
 
     /// Does a task, and says how far that came. An exchange that only closes isn't stopped: it goes on with that.
     pub fn act<P, R: Wait>(&mut self, rt: &R, at: &P, out: &mut H::Outside, task: Task) -> Step
@@ -33,23 +19,23 @@ impl<H: Holder> Exchange<H> {
         H: Effects<P>,
         // Each task takes the course along events that may come.
         ensures goes { Goes self.old.course self.new.course }
-        ensures late { task ≡ Task.Step → result ≡ Step.Waits → H.is_late out.new at.now ≡ false }
         ensures done { task ≡ Task.Step → IsDone self.old.course self.new.course }
+        ensures late { task ≡ Task.Step → result ≡ Step.Waits → H.is_late out.new at.now ≡ false }
         ensures waits { task ≡ Task.Step → result ≡ Step.Waits → is_wait (due_of self.new.course) ≡ true }
         ensures over { result ≡ Step.Over → is_over self.new.course ≡ true }
         ensures lost { task ≡ Task.Lose → is_over self.new.course ≡ true }
-        ensures stops { task ≡ Task.Halt → is_closing self.old.course.phase ≡ false
-            → Halts self.old.course self.new.course (H.has_begun self.old.holdings) }
+        ensures stops { task ≡ Task.Halt → is_closing self.old.course.phase ≡ false → Halts self.old.course self.new.course (H.has_begun self.old.holdings) }
     {
         let course = self.course.course();
+        let is_stopped = course.stopping || course.phase == Phase::Gone;
         match task {
             Task::Lose => {
                 self.lose(rt, at, out);
                 Step::Over
             }
-            Task::Halt if is_closing(course.phase) => Step::On,
+            Task::Halt if course.phase == Phase::Closing => Step::On,
             Task::Halt => self.halt(rt, at, out),
-            Task::TakeLeave if is_stopped(course) => self.take_leave(rt, at, out),
+            Task::TakeLeave if is_stopped => self.take_leave(rt, at, out),
             Task::Step | Task::TakeLeave => self.step(rt, at, out),
         }
     }
@@ -58,8 +44,7 @@ impl<H: Holder> Exchange<H> {
     fn step<P, R: Wait>(&mut self, rt: &R, at: &P, out: &mut H::Outside) -> Step
     where
         H: Effects<P>,
-        ensures goes { Goes self.old.course self.new.course }
-        ensures done { IsDone self.old.course self.new.course }
+        ensures goes { GoesOn self.old.course self.new.course }
         ensures late { result ≡ Step.Waits → H.is_late out.new at.now ≡ false }
         ensures waits { result ≡ Step.Waits → is_wait (due_of self.new.course) ≡ true }
         ensures over { result ≡ Step.Over ↔ is_over self.new.course ≡ true }
@@ -76,8 +61,7 @@ impl<H: Holder> Exchange<H> {
     fn do_due<P, R: Wait>(&mut self, rt: &R, at: &P, out: &mut H::Outside) -> Step
     where
         H: Effects<P>,
-        ensures goes { Goes self.old.course self.new.course }
-        ensures done { IsDone self.old.course self.new.course }
+        ensures goes { GoesOn self.old.course self.new.course }
         ensures heeds { Heeds (H.is_late out.new at.now) self.new.course result }
     {
         match self.course.due() {
