@@ -6,7 +6,6 @@ ghost use Rattle.service_lines.specs.Lending.{point_of, IsOf};
 
 use crate::pools::{Berth, Port, dial, pools_of};
 use crate::shared::Shares;
-use crate::spot::Spot;
 use event_loop::Room;
 use options_book::Record;
 use proxy_config::Config;
@@ -14,7 +13,7 @@ use proxy_rules::pool_maximum;
 use refusal_reasons::Reason;
 use service_lines::{Leased, LeasedConnection, LendFault, PointBook};
 use shard_outside::service_of;
-use shard_seats::Seats;
+use shard_seats::{Seats, Spot};
 use socket_wire::{Dial, OriginWire, ServiceWire};
 use std::alloc::{AllocError, Global};
 use std::net::SocketAddrV4;

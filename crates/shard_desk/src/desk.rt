@@ -1,5 +1,6 @@
 //! What the exchanges of one thread have in common.
 
+use crate::reporter::Reporter;
 use crate::shared::Shares;
 use adapt_sides::MAX_READ;
 use mio::net::TcpStream;
@@ -7,7 +8,6 @@ use plan_rules::Limits;
 use proxy_rules::limits_of;
 use service_lines::PointBook;
 use shard_report::Count;
-use shard_reporter::Reporter;
 use shard_seats::{Purpose, Seats};
 use std::alloc::{AllocError, Global};
 use std::sync::Wait;

@@ -7,10 +7,10 @@ mod connections;
 mod desk;
 mod outside;
 mod pools;
+mod reporter;
 mod shared;
-mod spot;
+mod words;
 
 pub use desk::Desk;
 pub use pools::{Loops, Pools, Spare, pools_of};
 pub use shared::{Shared, Shares};
-pub use spot::Spot;

@@ -11,7 +11,7 @@ use crate::connections::{
 use crate::desk::Desk;
 use crate::pools::pools_of;
 use crate::shared::Shares;
-use crate::spot::Spot;
+use crate::words::asked_word;
 use adapt_sides::ClientFault;
 use event_loop::{Closing, close_turn};
 use options_book::Record;
@@ -22,7 +22,7 @@ use refusal_reasons::Reason;
 use service_lines::{Leased, LendFault, PointBook};
 use shard_effects::Lingered;
 use shard_outside::{Kinds, MessageEnd, Outside};
-use shard_reporter::asked_word;
+use shard_seats::Spot;
 use socket_wire::{Dial, OriginWire, ServiceWire, UserWire};
 use span_bank::Bank;
 use std::alloc::{AllocError, Global};

@@ -2,9 +2,11 @@
 
 ghost use Rattle.std.specs.Prelude.{◌≡◌, ◌&&◌, is_some, None, true, false};
 ghost use Rattle.std.specs.Option.{ForSome};
+ghost use Rattle.shard_effects.specs.Hand.{IsEmpty};
 
 use icap_client::OptionsSide;
 use proxy_rules::Incoming;
+use shard_effects::InHand;
 use shard_message::{Connection, Moving, Remains, Room};
 use shard_outside::{Kinds, Planned, put_in};
 use span_bank::{Bank, Stake};
@@ -75,6 +77,29 @@ impl<O: Kinds> Holdings<O> {
         match &self.user {
             Some(user) => Some(user),
             None => None,
+        }
+    }
+
+    /// The user's connection, where nothing is held of what a course counts. All else goes.
+    pub fn into_user(self) -> Option<O::User>
+        requires { IsEmpty (⟦<Self as InHand>⟧.hand self) }
+    {
+        let Holdings {
+            user,
+            message: _,
+            planned: _,
+            asking: _,
+            told: _,
+            refused: _,
+            is_finished: _,
+            connection,
+            room,
+            origin: _,
+            tx,
+        } = self;
+        match (connection, room, tx) {
+            (None, None, None) => user,
+            _ => unreachable!(),
         }
     }
 

@@ -3,6 +3,7 @@
 ghost use Rattle.std.specs.Prelude.{◌≡◌};
 
 use crate::board::{BothPools, Common, PoolPair, board_of};
+use crate::exchanges::DeskExchanges;
 use crate::left::Left;
 use crate::office::Office;
 use event_loop::{
@@ -12,12 +13,13 @@ use mio::net::TcpListener;
 use proxy_config::{Config, MAX_SHARDS};
 use service_lines::Waiting;
 use service_pool::Pool;
-use shard_desk::{Desk, Loops, Pools, Shared, Shares, Spare};
+use shard_desk::{Loops, Pools, Shared, Shares, Spare};
 use shard_report::{Append, ServeFault};
 use shard_work::{Exchanges, Shard};
 use socket_wire::Dial;
 use span_bank::{Bank, Ledgers};
 use std::alloc::{AllocError, Global};
+use std::boxed::Box;
 use std::fs::File;
 use std::net::Net;
 use std::sync::ledger::Ledger;
@@ -340,7 +342,7 @@ fn run_desk<D: Exchanges + Drop, G: Gate, R: Wait + Dial + Clock>(
     number: usize,
     base: Base,
     inboxes: &[Inbox],
-) -> (Vec<Option<D::Exchange>>, Option<ServeFault>) {
+) -> (Vec<Option<Box<D::Exchange>>>, Option<ServeFault>) {
     let Ok(desk) = desk else {
         stop_all(inboxes);
         return (Vec::new(alloc), Some(ServeFault::NoMemory));
@@ -379,8 +381,8 @@ fn run_base<
 ) {
     name_thread(number);
     let rows = shared.config().rows as usize;
-    let desk = Desk::new(alloc, shared, rows);
-    let (slots, fault) = run_desk(rt, alloc, desk, gate, number, base, inboxes);
+    let exchanges = DeskExchanges::new(alloc, shared, rows);
+    let (slots, fault) = run_desk(rt, alloc, exchanges, gate, number, base, inboxes);
     let mut left = left.lock(rt);
     if let Some(fault) = fault {
         left.fail(fault);

@@ -13,6 +13,7 @@ use shard_outside::Kinds;
 use shard_report::{ServeFault, StopAudit, Stopped};
 use span_bank::{Audit, Bank, Ledgers, Pages, Stake};
 use std::alloc::Global;
+use std::boxed::Box;
 use std::sync::Wait;
 use std::sync::ledger::Ledger;
 
@@ -149,12 +150,12 @@ impl<B: Ledgers, Q: Ledger, A: Ledger> Left<B, Q, A> {
         rt: &R,
         bank: &Bank<B>,
         pools: Pools<'_, Q, A>,
-        slots: Vec<Option<Exchange<Holdings<O>>>>,
+        slots: Vec<Option<Box<Exchange<Holdings<O>>>>>,
     ) {
         let mut slots = slots;
         while let Some(slot) = slots.pop() {
             if let Some(exchange) = slot {
-                self.take(rt, bank, &pools, exchange);
+                self.take(rt, bank, &pools, Box::into_inner(exchange));
             }
         }
         slots.destroy_empty();

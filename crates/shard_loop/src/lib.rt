@@ -1,11 +1,12 @@
 //! The proxy: its threads, the administrator's loop, and what is left once all have ended.
 //!
 //! A thread's loop is one of `event_loop`, whose work is a `Shard` of `shard_work`: exchanges of `shard_exchange` in slots. What they
-//! stand on is a `Desk` of `shard_desk`.
+//! stand on is a `Desk` of `shard_desk`, which `DeskExchanges` gives them.
 #![tactic(auto)]
 
 mod board;
 mod crew;
+mod exchanges;
 mod left;
 mod office;
 mod running;

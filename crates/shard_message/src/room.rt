@@ -6,12 +6,10 @@ ghost use Rattle.span_bank.specs.declared.limits.TheConstants.{MAX_CAPACITY};
 ghost use Rattle.plan_rules.specs.Claims.{claim_of};
 
 use plan_rules::{Limits, claim};
-use proxy_rules::Offer;
 use refusal_reasons::{Reason, open_reason};
 use shard_outside::{Outside, Planned};
 use span_bank::{Bank, Ledgers, Stake};
 use std::boxed::Box;
-use std::net::SocketAddrV4;
 use std::sync::Wait;
 
 /// A reservation of which nothing is held, and the message that it was made for: it is just what that may need.
@@ -19,12 +17,10 @@ use std::sync::Wait;
 pub struct Room<B: Ledgers> {
     pub stake: Stake<B>,
     /// None once the message moves, or is gone.
-    pub offer: Option<Box<Offer>>,
+    pub planned: Option<Box<Planned>>,
     pub limits: Limits,
-    /// Where a request goes.
-    pub address: Option<SocketAddrV4>,
     pub ghost empty: { (stake.held ≡ 0) × (stake.pages ≡ 0) },
-    pub ghost claim: { ForSome offer (λ offer. (stake.claim ≡ claim_of offer.value.plan limits.window) × (stake.claim ≤ MAX_CAPACITY)) },
+    pub ghost claim: { ForSome planned (λ planned. (stake.claim ≡ claim_of planned.value.offer.plan limits.window) × (stake.claim ≤ MAX_CAPACITY)) },
 }
 
 impl<B: Ledgers> Room<B> {
@@ -34,9 +30,8 @@ impl<B: Ledgers> Room<B> {
     {
         let Room {
             stake,
-            offer: _,
+            planned: _,
             limits: _,
-            address: _,
         } = self;
         stake
     }
@@ -48,9 +43,8 @@ pub(crate) fn room_of<B: Ledgers>(stake: Stake<B>, limits: Limits) -> Room<B>
 {
     Room {
         stake,
-        offer: None,
+        planned: None,
         limits,
-        address: None,
     }
 }
 
@@ -64,17 +58,15 @@ pub fn make_room<B: Ledgers, R: Wait>(
     let Some(planned) = planned.take() else {
         return Err(Reason::NoMemory);
     };
-    let Planned { offer, address } = Box::into_inner(planned);
-    let bytes = claim(offer.plan(), &limits);
+    let bytes = claim(planned.offer.plan(), &limits);
     if bytes == 0 {
         return Err(Reason::Full);
     }
     match bank.open(rt, bytes) {
         Ok(stake) => Ok(Room {
             stake,
-            offer: Some(offer),
+            planned: Some(planned),
             limits,
-            address,
         }),
         Err(fault) => Err(open_reason(fault)),
     }
@@ -87,8 +79,13 @@ pub fn dial_for<P, O: Outside<P>>(
     room: &Option<Room<O::Ledgers>>,
 ) -> Result<O::Origin, Reason> {
     let address = match room {
-        Some(room) => room.address,
-        None => None,
+        Some(
+            Room {
+                planned: Some(planned),
+                ..
+            },
+        ) => planned.address,
+        _ => None,
     };
     let Some(address) = address else {
         return Err(Reason::UnknownHost);

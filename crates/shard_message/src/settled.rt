@@ -12,6 +12,7 @@ use crate::sides::{Asked, MadeHead, Served};
 use crate::taken::{parts_of, wire_of};
 use adapt_sides::{ClientFault, Hop};
 use adapt_turn::{EndTypes, Ends, Outcome, ServiceEnd, Tx, TxParts};
+use plan_rules::Limits;
 use refusal_reasons::Reason;
 use shard_effects::{End, EndedBy, Report};
 use shard_outside::{Kinds, MessageEnd, Outside};
@@ -159,46 +160,46 @@ fn warn<P, O: Outside<P>>(at: &P, out: &mut O, user: &O::User, report: Report) {
     }
 }
 
-/// What was taken out of a transaction: its reservation, which holds nothing, and its connections.
-struct Taken<O: Kinds, V> {
-    stake: Stake<O::Ledgers>,
-    user: O::User,
-    service: Option<ServiceEnd<V, O::Service>>,
-    origin: O::Origin,
-    ghost empty: { (stake.held ≡ 0) × (stake.pages ≡ 0) },
-}
-
-/// Gives account of a message, and says what is left of it.
-fn settle_taken<P, O: Outside<P>, V: Served, M: Drop>(
+/// Gives account of a message, and says what its course is told.
+fn report_on<P, O: Outside<P>, V: Served, M>(
     at: &P,
     out: &mut O,
-    taken: Taken<O, V>,
+    user: &O::User,
+    service: &Option<ServiceEnd<V, O::Service>>,
     account: Account,
-    sequel: Sequel<M>,
+    sequel: &Sequel<M>,
     by: EndedBy,
-) -> Settled<O, M>
-    ensures ends { EndsBy by result.report.end }
-    ensures answered { result.report.has_answered ≡ account.has_answered }
-    ensures cuts { account.has_answered ≡ false → result.report.cuts ≡ false }
-    ensures served { IfSome result.report.served (λ usable. usable ≡ reusable_by V.reusable taken.service) }
+) -> Report
+    ensures ends { EndsBy by result.end }
+    ensures answered { result.has_answered ≡ account.has_answered }
+    ensures cuts { account.has_answered ≡ false → result.cuts ≡ false }
+    ensures served { IfSome result.served (λ usable. usable ≡ reusable_by V.reusable service.now) }
 {
-    let Taken {
-        stake,
-        user,
-        service,
-        origin,
-    } = taken;
-    give_account(at, out, &user, &service, account);
+    give_account(at, out, user, service, account);
     let point = account.seen.plan.point;
-    let is_reusable = is_reusable(&service);
-    let report = report_of(by, point, account.has_answered, is_reusable, &sequel);
-    warn(at, out, &user, report);
-    let connections = Connections {
-        user,
-        service: wire_of(service),
-        origin,
-    };
-    let room = room_of(stake, out.limits());
+    let report = report_of(
+        by,
+        point,
+        account.has_answered,
+        is_reusable(service),
+        sequel,
+    );
+    warn(at, out, user, report);
+    report
+}
+
+/// What is left of a message whose transaction stood over these.
+fn settled_of<O: Kinds, M: Drop>(
+    stake: Stake<O::Ledgers>,
+    limits: Limits,
+    connections: Connections<O>,
+    sequel: Sequel<M>,
+    report: Report,
+) -> Settled<O, M>
+    requires { (stake.held ≡ 0) × (stake.pages ≡ 0) }
+    ensures { result.report ≡ report }
+{
+    let room = room_of(stake, limits);
     Settled {
         remains: Remains { room, connections },
         message: message_of(sequel),
@@ -256,13 +257,13 @@ where
     } else {
         answered(out.alloc(), source, outcome, maker.closes())
     };
-    let taken = Taken {
-        stake,
+    let report = report_on(at, out, &user, &service, account, &sequel, by);
+    let connections = Connections {
         user,
-        service,
+        service: wire_of(service),
         origin,
     };
-    settle_taken(at, out, taken, account, sequel, by)
+    settled_of(stake, out.limits(), connections, sequel, report)
 }
 
 /// Takes a response's transaction apart: the user has got an answer.
@@ -315,11 +316,11 @@ where
         Some(request) => answered(out.alloc(), request, outcome, closes),
         None => unasked(outcome),
     };
-    let taken = Taken {
-        stake,
+    let report = report_on(at, out, &user, &service, account, &sequel, by);
+    let connections = Connections {
         user,
-        service,
+        service: wire_of(service),
         origin,
     };
-    settle_taken(at, out, taken, account, sequel, by)
+    settled_of(stake, out.limits(), connections, sequel, report)
 }

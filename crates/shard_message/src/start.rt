@@ -5,7 +5,7 @@ use crate::taken::left_of;
 use exchange_core::Course;
 use plan_rules::Pace;
 use proxy_rules::{Beginning, Incoming, Running, Way, Wires, begin};
-use shard_outside::Outside;
+use shard_outside::{Outside, Planned};
 use span_bank::{Bank, Ledgers};
 use std::alloc::{AllocFailed, Global};
 use std::boxed::Box;
@@ -32,15 +32,15 @@ pub(crate) fn set_out<B: Ledgers, W: Wires, R: Wait>(
 ) -> Result<Box<Running<B, W>>, (Room<B>, Way<W>)> {
     let Room {
         stake,
-        offer,
+        planned,
         limits,
-        address: _,
     } = room;
-    let Some(offer) = offer else {
+    let Some(planned) = planned else {
         return Err((room_of(stake, limits), way));
     };
+    let Planned { offer, address: _ } = Box::into_inner(planned);
     let beginning = Beginning {
-        offer: Box::into_inner(offer),
+        offer,
         limits,
         stake,
         message: Box::into_inner(message),

@@ -108,7 +108,7 @@ pub record IsOfferBy (service : Option ServicePoint) (said : Option Options) (li
 
 -- the plan of a message
 pub record IsPlan (by : Grounds) (m : Arrival) (planned : Planned) : Type 0 where
-  pub offer : IsOfferBy (service_of by.config (point_of m.user)) by.book.said by.limits (heads_of m) planned.offer.value
+  pub offer : IsOfferBy (service_of by.config (point_of m.user)) by.book.said by.limits (heads_of m) planned.offer
   pub goes : GoesTo by.config (heads_of m) planned.address
   pub current : IsAskedFirst by m → ⊥
 
@@ -128,7 +128,7 @@ pub record IsKept (by : Grounds) (m : Arrival) (kept : Option (Box Planned Globa
   pub planned : Box Planned Global
   pub kept_is : kept ≡ Some planned
   pub plan : IsPlan by m planned.value
-  pub offered : marks.offered ≡ is_some planned.value.offer.value.side
+  pub offered : marks.offered ≡ is_some planned.value.offer.side
   pub waits_is : marks.waits ≡ waits (heads_of m)
 
 -- a message is planned: its plan is kept; or it has none, and what was kept before stays

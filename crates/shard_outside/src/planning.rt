@@ -26,7 +26,7 @@ use trace_core::Point;
 /// What a message was planned to be.
 #[derive(Drop)]
 pub struct Planned {
-    pub offer: Box<Offer>,
+    pub offer: Offer,
     /// Where a request goes.
     pub address: Option<SocketAddrV4>,
 }
@@ -99,11 +99,8 @@ fn placed(
     offer: Offer,
     address: Option<SocketAddrV4>,
 ) -> Result<Box<Planned>, AllocError>
-    ensures { IfOk result (λ planned. (planned.value.offer.value ≡ offer) × (planned.value.address ≡ address)) }
+    ensures { IfOk result (λ planned. (planned.value.offer ≡ offer) × (planned.value.address ≡ address)) }
 {
-    let Ok(offer) = Box::new(alloc, offer) else {
-        return Err(AllocError);
-    };
     match Box::new(alloc, Planned { offer, address }) {
         Ok(planned) => Ok(planned),
         Err(_) => Err(AllocError),
@@ -161,7 +158,7 @@ fn waits(message: &Incoming) -> bool
 /// Keeps the plan of a message, and says what it is.
 fn keep_planned(message: &Incoming, planned: Box<Planned>, plan: &mut Option<Box<Planned>>) -> Marks
     ensures kept { plan.new ≡ Some planned }
-    ensures offered { result.offered ≡ is_some planned.value.offer.value.side }
+    ensures offered { result.offered ≡ is_some planned.value.offer.side }
     ensures waits { result.waits ≡ waits (heads_of message.now) }
 {
     let offered = planned.offer.is_offered();

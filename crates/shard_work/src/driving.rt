@@ -5,9 +5,8 @@ ghost use Rattle.std.specs.Prelude.{◌≡◌, true};
 use crate::exchanges::{Exchanges, Slotted};
 use event_loop::Driven;
 use exchange_core::Phase;
-use shard_desk::Spot;
 use shard_exchange::{Step, Task};
-use shard_seats::{Seats, Stay};
+use shard_seats::{Seats, Spot, Stay};
 use socket_wire::Dial;
 use std::sync::Wait;
 use std::time::Clock;
@@ -42,33 +41,49 @@ fn is_round(phase: Phase) -> bool {
     )
 }
 
-/// Whether no message is under way: no request was read, or its answer is over.
-fn is_between(phase: Phase) -> bool {
-    matches!(
-        phase,
-        Phase::Idle | Phase::Head | Phase::Closing | Phase::Gone
-    )
+/// What was noted of an exchange's seat while it is driven.
+#[derive(Clone, Copy)]
+struct Noted {
+    /// What its user's connection is in the midst of.
+    stay: Option<Stay>,
+    /// Whether the exchange went on: its seat was touched at this moment.
+    went_on: bool,
 }
 
-/// A step of an exchange. Its seat is touched where it went on; but what the proxy itself says at the end is written, and the connection
-/// closed after it, within one deadline.
+/// Takes note of where a step led. Where no message is under way any more, it is reported: no request was read, or its answer is over.
+fn note_stay<D: Exchanges, R: Wait + Clock, G>(
+    desk: &mut D,
+    at: &Spot<'_, R, G>,
+    phase: Phase,
+    noted: &mut Noted,
+) {
+    let stay = stay_of(phase);
+    if noted.stay != Some(stay) {
+        noted.stay = Some(stay);
+        desk.seats_mut().begin_stay(at.key, stay);
+        if stay != Stay::Exchange {
+            desk.report(at.rt, at.key);
+        }
+    }
+}
+
+/// A step of an exchange in this phase. Its seat is touched where it went on; but what the proxy itself says at the end is written, and
+/// the connection closed after it, within one deadline.
 fn take_step<D: Exchanges, R: Wait + Dial + Clock, G: Gate>(
     desk: &mut D,
     at: &Spot<'_, R, G>,
     exchange: &mut D::Exchange,
+    phase: Phase,
+    noted: &mut Noted,
 ) -> Step
     ensures { result ≡ Step.Over → D.Exchange.is_over exchange.new ≡ true }
 {
-    let was_ending = is_ending(exchange.phase());
     let step = desk.act(at, exchange, Task::Step);
-    let phase = exchange.phase();
-    if step == Step::On && !was_ending {
+    if step == Step::On && !noted.went_on && !is_ending(phase) {
+        noted.went_on = true;
         desk.seats_mut().touch(at.key, at.now);
     }
-    desk.seats_mut().begin_stay(at.key, stay_of(phase));
-    if is_between(phase) {
-        desk.report(at.rt, at.key);
-    }
+    note_stay(desk, at, exchange.phase(), noted);
     step
 }
 
@@ -78,7 +93,8 @@ fn is_lost(seats: &Seats, key: usize, phase: Phase) -> bool {
     seats.is_gone(key) || matches!(phase, Phase::InQueue { .. }) && seats.has_ended(key)
 }
 
-/// Drives an exchange until each of its connections waits, or others should get their turn. One whose user is lost ends.
+/// Drives an exchange until each of its connections waits, or others should get their turn. One whose user is lost ends, before the next
+/// step at a connection.
 pub(crate) fn drive_on<D: Exchanges, R: Wait + Dial + Clock, G: Gate>(
     desk: &mut D,
     at: &Spot<'_, R, G>,
@@ -87,19 +103,23 @@ pub(crate) fn drive_on<D: Exchanges, R: Wait + Dial + Clock, G: Gate>(
     ensures { result ≡ Driven.Over → D.Exchange.is_over exchange.new ≡ true }
 {
     let mut rounds = 0u32;
+    let mut noted = Noted {
+        stay: None,
+        went_on: false,
+    };
     for _ in 0..STEPS {
         let phase = exchange.phase();
-        if is_lost(desk.seats(), at.key, phase) {
-            desk.act(at, exchange, Task::Lose);
-            return Driven::Over;
-        }
         if is_round(phase) {
+            if is_lost(desk.seats(), at.key, phase) {
+                desk.act(at, exchange, Task::Lose);
+                return Driven::Over;
+            }
             if rounds >= ROUNDS {
                 return Driven::CutShort;
             }
             rounds = rounds.saturating_add(1);
         }
-        match take_step(desk, at, exchange) {
+        match take_step(desk, at, exchange, phase, &mut noted) {
             Step::On => {}
             Step::Waits => return Driven::Waiting,
             Step::Over => return Driven::Over,

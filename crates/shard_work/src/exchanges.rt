@@ -3,17 +3,13 @@
 ghost use Rattle.std.specs.Prelude.{◌≡◌, Bool, true};
 ghost use Rattle.exchange_core.specs.Dues.{is_over};
 
-use crate::acting::{act_on, begin, unheard};
-use event_loop::USER;
 use exchange_core::Phase;
 use mio::net::TcpStream;
-use service_lines::{Edge, POINTS};
-use shard_desk::{Desk, Shares, Spot, pools_of};
 use shard_exchange::{Exchange, Holder, Step, Task};
-use shard_holdings::Holdings;
-use shard_seats::{Purpose, Seats};
-use socket_wire::{Dial, Unread, UserWire};
+use shard_seats::{Purpose, Seats, Spot};
+use socket_wire::{Dial, UserWire};
 use std::alloc::Global;
+use std::boxed::Box;
 use std::sync::Wait;
 use std::time::Clock;
 use wire_kit::Gate;
@@ -72,8 +68,9 @@ pub trait Exchanges {
     /// The message under this key is over, if one was open: it is counted, and its line added to the log.
     fn report<R: Wait + Clock>(&mut self, rt: &R, key: usize);
 
-    /// What a user's connection begins with: its first request, or the refusal where there is no room for it, or no memory.
-    fn begin(&self, user: UserWire, purpose: Purpose) -> Self::Exchange;
+    /// What a user's connection begins with: its first request, or the refusal where there is no room for it. `None` where no memory
+    /// was found: then the user is turned away.
+    fn begin(&self, user: UserWire, purpose: Purpose) -> Option<Box<Self::Exchange>>;
 
     /// Has an exchange do a task.
     fn act<R: Wait + Dial + Clock, G: Gate>(
@@ -97,71 +94,4 @@ pub trait Exchanges {
 
     /// The key of the exchange that is first in a queue, where it is one of these.
     fn first_of<R: Wait>(&self, rt: &R, queue: usize) -> Option<usize>;
-}
-
-impl<S: Shares> Exchanges for Desk<S> {
-    type Exchange = Exchange<Holdings<Desk<S>>>;
-
-    fn alloc(&self) -> Global {
-        self.alloc
-    }
-
-    fn seats(&self) -> &Seats {
-        &self.seats
-    }
-
-    fn seats_mut(&mut self) -> &mut Seats {
-        &mut self.seats
-    }
-
-    fn enter(&mut self, key: usize, purpose: Purpose, stream: &TcpStream) {
-        Desk::enter(self, key, purpose, stream);
-    }
-
-    fn leave<R: Wait + Clock>(&mut self, rt: &R, key: usize) {
-        Desk::leave(self, rt, key);
-    }
-
-    fn report<R: Wait + Clock>(&mut self, rt: &R, key: usize) {
-        Desk::report(self, rt, key);
-    }
-
-    fn begin(&self, user: UserWire, purpose: Purpose) -> Exchange<Holdings<Desk<S>>> {
-        begin(self.alloc, user, purpose)
-    }
-
-    fn act<R: Wait + Dial + Clock, G: Gate>(
-        &mut self,
-        at: &Spot<'_, R, G>,
-        exchange: &mut Exchange<Holdings<Desk<S>>>,
-        task: Task,
-    ) -> Step {
-        act_on(at.rt, at, self, exchange, task)
-    }
-
-    fn is_wanted(exchange: &Exchange<Holdings<Desk<S>>>) -> bool {
-        match unheard(exchange) {
-            Some(user) => user.unread() == Unread::Bytes,
-            None => false,
-        }
-    }
-
-    fn close_idle<R: Wait>(&mut self, rt: &R) -> Option<bool> {
-        let pools = pools_of(&self.shared);
-        if pools.waiting.edge.is_crowded() {
-            Some(pools.make_room(rt, USER))
-        } else {
-            None
-        }
-    }
-
-    fn queues(&self) -> usize {
-        POINTS.len()
-    }
-
-    fn first_of<R: Wait>(&self, rt: &R, queue: usize) -> Option<usize> {
-        let point = *POINTS.get(queue)?;
-        let number = self.shared.number();
-        pools_of(&self.shared).waiting.first_of(rt, point, number)
-    }
 }

@@ -9,11 +9,11 @@ use event_loop::{Driven, Handed, Request, Slots, Told, Work};
 use http_side::own_refusal;
 use mio::Registry;
 use mio::net::TcpStream;
-use shard_desk::Spot;
 use shard_exchange::{Step, Task};
-use shard_seats::SECOND;
+use shard_seats::{SECOND, Spot};
 use socket_wire::{Dial, Peer, Readiness};
 use std::alloc::{AllocError, Global};
+use std::boxed::Box;
 use std::io::Write;
 use std::sync::Wait;
 use std::time::Clock;
@@ -34,14 +34,14 @@ enum Serving {
 /// no `Drop`, and nothing is lost.
 pub struct Shard<'a, D: Exchanges, G> {
     desk: D,
-    slots: Slots<D::Exchange>,
+    slots: Slots<Box<D::Exchange>>,
     gate: &'a G,
     serving: Serving,
 }
 
-/// Says to a user for whom there isn't even a seat to spare that it be back later, where that costs nothing. It has no wire, and no line
-/// of the log.
-fn turn_away(stream: TcpStream) {
+/// Says to a user for whom there isn't even a seat to spare, or no memory, that it be back later, where that costs nothing. It has no
+/// line of the log.
+pub fn turn_away(stream: TcpStream) {
     let mut stream = stream;
     let _ = stream.write(own_refusal(503));
 }
@@ -60,7 +60,7 @@ impl<'a, D: Exchanges + Drop, G: Gate> Shard<'a, D, G> {
 
     /// The slots, once the exchanges that are still open are reported: those whose users haven't taken
     /// their refusal at the stop, or whose connections are still being closed. All else goes.
-    pub fn into_slots<R: Wait + Clock>(self, rt: &R) -> Vec<Option<D::Exchange>> {
+    pub fn into_slots<R: Wait + Clock>(self, rt: &R) -> Vec<Option<Box<D::Exchange>>> {
         let Shard {
             desk,
             slots,
@@ -75,13 +75,13 @@ impl<'a, D: Exchanges + Drop, G: Gate> Shard<'a, D, G> {
     }
 
     /// Puts an exchange into the slot of its key, from which it was taken. What comes back, which is nothing, ends.
-    fn keep<R: Wait + Dial + Clock>(&mut self, at: &Spot<'_, R, G>, exchange: D::Exchange)
+    fn keep<R: Wait + Dial + Clock>(&mut self, at: &Spot<'_, R, G>, exchange: Box<D::Exchange>)
         ensures { ChangesOnly at.entry.now.key self.old.slots.all.items self.new.slots.all.items }
     {
         if let Some(old) = self.slots.place(at.key, exchange) {
             let mut old = old;
             self.desk.act(at, &mut old, Task::Lose);
-            old.finish();
+            Box::into_inner(old).finish();
         }
     }
 
@@ -99,7 +99,7 @@ impl<'a, D: Exchanges + Drop, G: Gate> Shard<'a, D, G> {
         }
         match drive_on(&mut self.desk, at, &mut exchange) {
             Driven::Over => {
-                exchange.finish();
+                Box::into_inner(exchange).finish();
                 self.desk.leave(at.rt, at.key);
                 Driven::Over
             }
@@ -115,7 +115,7 @@ impl<'a, D: Exchanges + Drop, G: Gate> Shard<'a, D, G> {
         if let Some(exchange) = self.slots.take(at.key) {
             let mut exchange = exchange;
             self.desk.act(at, &mut exchange, Task::Lose);
-            exchange.finish();
+            Box::into_inner(exchange).finish();
         }
         self.desk.leave(at.rt, at.key);
     }
@@ -128,7 +128,7 @@ impl<'a, D: Exchanges + Drop, G: Gate> Shard<'a, D, G> {
         };
         let mut exchange = exchange;
         if self.desk.act(at, &mut exchange, Task::Halt) == Step::Over {
-            exchange.finish();
+            Box::into_inner(exchange).finish();
             self.desk.leave(at.rt, at.key);
         } else {
             self.keep(at, exchange);
@@ -143,7 +143,7 @@ impl<'a, D: Exchanges + Drop, G: Gate> Shard<'a, D, G> {
         let mut exchange = exchange;
         match leave_on(&mut self.desk, at, &mut exchange) {
             Driven::Over => {
-                exchange.finish();
+                Box::into_inner(exchange).finish();
                 self.desk.leave(at.rt, at.key);
                 Driven::Over
             }
@@ -225,29 +225,30 @@ impl<'a, D: Exchanges + Drop, G: Gate> Work for Shard<'a, D, G> {
         };
         self.desk.enter(key, purpose, &stream);
         let ready = Readiness::new();
-        match self.desk.seats_mut().wire(registry, key, ready, stream) {
-            Ok(user) => {
-                let gate = self.gate;
-                let now = millis / SECOND;
-                let exchange = self.desk.begin(user, purpose);
-                self.keep(
-                    &Spot {
-                        rt,
-                        registry,
-                        gate,
-                        key,
-                        now,
-                    },
-                    exchange,
-                );
-                Some(key)
-            }
+        let begun = match self.desk.seats_mut().wire(registry, key, ready, stream) {
+            Ok(user) => self.desk.begin(user, purpose),
             Err(stream) => {
-                self.desk.leave(rt, key);
                 turn_away(stream);
                 None
             }
-        }
+        };
+        let Some(exchange) = begun else {
+            self.desk.leave(rt, key);
+            return None;
+        };
+        let gate = self.gate;
+        let now = millis / SECOND;
+        self.keep(
+            &Spot {
+                rt,
+                registry,
+                gate,
+                key,
+                now,
+            },
+            exchange,
+        );
+        Some(key)
     }
 
     /// Idle connections to services go first, where they keep the user out.

@@ -76,7 +76,7 @@ fn is_closed<B: Ledgers>(hold: &Hold<B>) -> bool
     ensures closed { result ≡ (shows hold.now.history).closed }
     ensures tied { IsTied hold.now }
 {
-    hold.state().seen().closed
+    hold.state().is_closed()
 }
 
 /// Reads what the service answered.

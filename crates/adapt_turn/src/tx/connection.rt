@@ -49,7 +49,7 @@ impl<B: Ledgers, E: EndTypes> Tx<B, E> {
         ensures yes { result ≡ true → MayFree (shows self.now.hold.history) }
         ensures no { result ≡ false → MayFree (shows self.now.hold.history) → ⊥ }
     {
-        self.hold.state().seen().is_service_over()
+        self.hold.state().is_service_over()
     }
 
     /// Gives up the connection to the service, and says whether it may carry another request. `None` if no connection is held, or

@@ -23,7 +23,7 @@ impl<B: Ledgers, E: EndTypes> Tx<B, E> {
     pub(crate) fn is_closed(&self) -> bool
         ensures { result ≡ (shows self.now.hold.history).closed }
     {
-        self.hold.state().seen().closed
+        self.hold.state().is_closed()
     }
 
     /// A pass of one side.

@@ -93,7 +93,7 @@ impl<B: Ledgers, E: EndTypes> Tx<B, E> {
     fn point(&self) -> Point
         ensures { result ≡ (shows self.now.hold.history).plan.point }
     {
-        self.hold.state().seen().plan.point
+        self.hold.state().point()
     }
 
     /// Whether a byte of an answer has gone out to the user, of a message or of the proxy's own refusal.

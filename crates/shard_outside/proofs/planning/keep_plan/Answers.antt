@@ -14,7 +14,7 @@ of_found F found x e holds = subst (λ z. IfSome z F) (sym e) holds
 -- a plan is kept of a message that was lent as these
 kept_of : (by : Grounds) → (m lent again : Arrival) → (planned : Box Planned Global) → (kept : Option (Box Planned Global)) → (marks : Marks)
     → lent ≡ m → again ≡ m → IsPlan by lent planned.value → kept ≡ Some planned
-    → marks.offered ≡ is_some planned.value.offer.value.side → marks.waits ≡ waits (heads_of again) → IsKept by m kept marks
+    → marks.offered ≡ is_some planned.value.offer.side → marks.waits ≡ waits (heads_of again) → IsKept by m kept marks
 kept_of by m lent again planned kept marks e e' plan k o w = record {
   planned = planned;
   kept_is = k;

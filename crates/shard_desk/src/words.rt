@@ -43,7 +43,7 @@ pub(crate) fn service_word(fault: Option<ClientFault>, is_fresh: bool) -> Why {
 }
 
 /// Why a service that was asked for its options can't serve. `None`: it said something that doesn't serve.
-pub fn asked_word(fault: Option<ClientFault>, is_fresh: bool) -> Why {
+pub(crate) fn asked_word(fault: Option<ClientFault>, is_fresh: bool) -> Why {
     match fault {
         None => Why::ServiceStatus,
         fault => service_word(fault, is_fresh),

@@ -20,7 +20,7 @@ use trace_core::{Point, Seen};
 
 /// What is noted of a thread's exchanges. They are counted in its tally, and their lines added to the log.
 #[derive(Drop)]
-pub struct Reporter {
+pub(crate) struct Reporter {
     notes: Notes,
 }
 

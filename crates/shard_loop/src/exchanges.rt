@@ -1,0 +1,165 @@
+//! The exchanges of a thread, at its desk: what becomes of each is done with the desk as its surroundings.
+
+ghost use Rattle.std.specs.Prelude.{◌≡◌, true};
+ghost use Rattle.exchange_core.specs.Dues.{is_over};
+ghost use Rattle.shard_effects.specs.Hand.{IsEmpty};
+
+use event_loop::USER;
+use mio::net::TcpStream;
+use proxy_rules::Incoming;
+use service_lines::{Edge, POINTS};
+use shard_desk::{Desk, Shares, pools_of};
+use shard_exchange::{Exchange, Holder, InHand, Step, Task};
+use shard_holdings::Holdings;
+use shard_outside::{Kinds, Outside};
+use shard_seats::{Purpose, Seats, Spot};
+use shard_work::{Exchanges, turn_away};
+use socket_wire::{Dial, Unread, UserWire};
+use std::alloc::{AllocError, AllocFailed, Global};
+use std::boxed::Box;
+use std::sync::Wait;
+use std::time::Clock;
+use wire_kit::Gate;
+
+/// What a user's connection begins with: its first request, or the refusal where there is no room for it, or no memory.
+fn first<O: Kinds>(alloc: Global, user: O::User, purpose: Purpose) -> Exchange<Holdings<O>>
+    ensures { IsEmpty (⟦<Holdings<O> as InHand>⟧.hand result.holdings) }
+{
+    match purpose {
+        Purpose::Requests => match Box::new(alloc, Incoming::request(alloc)) {
+            Ok(message) => Exchange::begin(Holdings::new(user, Some(message))),
+            Err(_) => Exchange::turn_away(Holdings::new(user, None)),
+        },
+        Purpose::Refusal => Exchange::turn_away(Holdings::new(user, None)),
+    }
+}
+
+/// A user's connection, on the heap for as long as it lives. Where no memory is found for that, the user's wire comes back.
+fn begin<O: Kinds>(
+    alloc: Global,
+    user: O::User,
+    purpose: Purpose,
+) -> Result<Box<Exchange<Holdings<O>>>, Option<O::User>> {
+    match Box::new(alloc, first(alloc, user, purpose)) {
+        Ok(exchange) => Ok(exchange),
+        Err(AllocFailed { value }) => Err(value.into_holdings().into_user()),
+    }
+}
+
+/// Has an exchange do a task.
+fn act_on<P, O: Outside<P>, R: Wait>(
+    rt: &R,
+    at: &P,
+    outside: &mut O,
+    exchange: &mut Exchange<Holdings<O>>,
+    task: Task,
+) -> Step
+    ensures over { result ≡ Step.Over → is_over exchange.new.course ≡ true }
+    ensures lost { task ≡ Task.Lose → is_over exchange.new.course ≡ true }
+{
+    exchange.act(rt, at, outside, task)
+}
+
+/// The user's connection, where no byte of a request was read.
+fn unheard<O: Kinds>(exchange: &Exchange<Holdings<O>>) -> Option<&O::User> {
+    if exchange.holdings().has_begun() {
+        None
+    } else {
+        exchange.holdings().user()
+    }
+}
+
+/// The exchanges of a thread, at its desk.
+#[derive(Drop)]
+pub(crate) struct DeskExchanges<S> {
+    desk: Desk<S>,
+}
+
+impl<S: Shares + Drop> DeskExchanges<S> {
+    /// A thread's exchanges before the first user; `rows` users may be served at once. `Err` if no memory was found.
+    pub(crate) fn new(
+        alloc: Global,
+        shared: S,
+        rows: usize,
+    ) -> Result<DeskExchanges<S>, AllocError> {
+        let desk = Desk::new(alloc, shared, rows)?;
+        Ok(DeskExchanges { desk })
+    }
+}
+
+impl<S: Shares> Exchanges for DeskExchanges<S> {
+    type Exchange = Exchange<Holdings<Desk<S>>>;
+
+    fn alloc(&self) -> Global {
+        self.desk.alloc
+    }
+
+    fn seats(&self) -> &Seats {
+        &self.desk.seats
+    }
+
+    fn seats_mut(&mut self) -> &mut Seats {
+        &mut self.desk.seats
+    }
+
+    fn enter(&mut self, key: usize, purpose: Purpose, stream: &TcpStream) {
+        self.desk.enter(key, purpose, stream);
+    }
+
+    fn leave<R: Wait + Clock>(&mut self, rt: &R, key: usize) {
+        self.desk.leave(rt, key);
+    }
+
+    fn report<R: Wait + Clock>(&mut self, rt: &R, key: usize) {
+        self.desk.report(rt, key);
+    }
+
+    fn begin(&self, user: UserWire, purpose: Purpose) -> Option<Box<Exchange<Holdings<Desk<S>>>>> {
+        match begin(self.desk.alloc, user, purpose) {
+            Ok(exchange) => Some(exchange),
+            Err(user) => {
+                if let Some(user) = user {
+                    turn_away(user.into_stream());
+                }
+                None
+            }
+        }
+    }
+
+    fn act<R: Wait + Dial + Clock, G: Gate>(
+        &mut self,
+        at: &Spot<'_, R, G>,
+        exchange: &mut Exchange<Holdings<Desk<S>>>,
+        task: Task,
+    ) -> Step {
+        act_on(at.rt, at, &mut self.desk, exchange, task)
+    }
+
+    fn is_wanted(exchange: &Exchange<Holdings<Desk<S>>>) -> bool {
+        match unheard(exchange) {
+            Some(user) => user.unread() == Unread::Bytes,
+            None => false,
+        }
+    }
+
+    fn close_idle<R: Wait>(&mut self, rt: &R) -> Option<bool> {
+        let pools = pools_of(&self.desk.shared);
+        if pools.waiting.edge.is_crowded() {
+            Some(pools.make_room(rt, USER))
+        } else {
+            None
+        }
+    }
+
+    fn queues(&self) -> usize {
+        POINTS.len()
+    }
+
+    fn first_of<R: Wait>(&self, rt: &R, queue: usize) -> Option<usize> {
+        let point = *POINTS.get(queue)?;
+        let number = self.desk.shared.number();
+        pools_of(&self.desk.shared)
+            .waiting
+            .first_of(rt, point, number)
+    }
+}
