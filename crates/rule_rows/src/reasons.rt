@@ -2,7 +2,7 @@
 use adapt_sides::{ClientFault, RelayFault};
 use http_side::{HttpFault, own_refusal};
 use options_book::OptFault;
-use refusal_reasons::{
+use shard_effects::{
     Reason, open_reason, options_reason, origin_head_reason, record_reason, user_head_reason,
 };
 use span_bank::OpenFault;

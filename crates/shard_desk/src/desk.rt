@@ -1,14 +1,16 @@
 //! What the exchanges of one thread have in common.
 
+use crate::pools::pools_of;
 use crate::reporter::Reporter;
 use crate::shared::Shares;
 use adapt_sides::MAX_READ;
+use event_loop::USER;
 use mio::net::TcpStream;
 use plan_rules::Limits;
 use proxy_rules::limits_of;
-use service_lines::PointBook;
+use service_lines::{Edge, POINTS, PointBook};
 use shard_report::Count;
-use shard_seats::{Purpose, Seats};
+use shard_work::{Purpose, Seating, Seats};
 use std::alloc::{AllocError, Global};
 use std::sync::Wait;
 use std::time::Clock;
@@ -60,9 +62,18 @@ impl<S: Shares> Desk<S> {
             Point::Respmod => &mut self.response_book,
         }
     }
+}
 
-    /// A user comes to the seat of this key.
-    pub fn enter(&mut self, key: usize, purpose: Purpose, stream: &TcpStream) {
+impl<S: Shares> Seating for Desk<S> {
+    fn seats(&self) -> &Seats {
+        &self.seats
+    }
+
+    fn seats_mut(&mut self) -> &mut Seats {
+        &mut self.seats
+    }
+
+    fn enter(&mut self, key: usize, purpose: Purpose, stream: &TcpStream) {
         self.reporter.enter(self.shared.log(), key, stream);
         self.shared.tally().add(Count::Users, 1);
         if purpose == Purpose::Refusal {
@@ -70,15 +81,13 @@ impl<S: Shares> Desk<S> {
         }
     }
 
-    /// The user under this key has left: the seat is free.
-    pub fn leave<R: Wait + Clock>(&mut self, rt: &R, key: usize) {
+    fn leave<R: Wait + Clock>(&mut self, rt: &R, key: usize) {
         self.report(rt, key);
         self.seats.leave(key);
         self.shared.tally().take(Count::Users, 1);
     }
 
-    /// The message under this key is over, if one was open: it is counted, and its line added to the log.
-    pub fn report<R: Wait + Clock>(&mut self, rt: &R, key: usize) {
+    fn report<R: Wait + Clock>(&mut self, rt: &R, key: usize) {
         let taken = self.seats.taken(key);
         let number = self.shared.number();
         self.reporter.report(
@@ -89,5 +98,24 @@ impl<S: Shares> Desk<S> {
             key,
             taken,
         );
+    }
+
+    fn close_idle<R: Wait>(&mut self, rt: &R) -> Option<bool> {
+        let pools = pools_of(&self.shared);
+        if pools.waiting.edge.is_crowded() {
+            Some(pools.make_room(rt, USER))
+        } else {
+            None
+        }
+    }
+
+    fn queues(&self) -> usize {
+        POINTS.len()
+    }
+
+    fn first_of<R: Wait>(&self, rt: &R, queue: usize) -> Option<usize> {
+        let point = *POINTS.get(queue)?;
+        let number = self.shared.number();
+        pools_of(&self.shared).waiting.first_of(rt, point, number)
     }
 }

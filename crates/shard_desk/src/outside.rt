@@ -1,7 +1,7 @@
 //! The surroundings of an exchange over sockets.
 
 ghost use Rattle.std.specs.Prelude.{◌≡◌};
-ghost use Rattle.shard_seats.specs.Seats.{is_late};
+ghost use Rattle.shard_work.specs.Seats.{is_late};
 ghost use Rattle.service_lines.specs.Lending.{point_of};
 ghost use Rattle.shard_desk.specs.Books.{book_at};
 
@@ -18,11 +18,10 @@ use options_book::Record;
 use plan_rules::Limits;
 use proxy_config::Config;
 use proxy_rules::Incoming;
-use refusal_reasons::Reason;
 use service_lines::{Leased, LendFault, PointBook};
-use shard_effects::Lingered;
+use shard_effects::{Lingered, Reason};
 use shard_outside::{Kinds, MessageEnd, Outside};
-use shard_seats::Spot;
+use shard_work::Spot;
 use socket_wire::{Dial, OriginWire, ServiceWire, UserWire};
 use span_bank::Bank;
 use std::alloc::{AllocError, Global};

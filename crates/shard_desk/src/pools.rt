@@ -6,7 +6,7 @@ use crate::shared::Shares;
 use event_loop::{IdlePermit, Inbox, Room};
 use mio::Registry;
 use service_lines::{Connector, Edge, Keeper, LendFault, Waiting};
-use shard_seats::Seats;
+use shard_work::Seats;
 use socket_wire::{Dial, Readiness, Role, ServiceWire, SocketWire, Unread};
 use std::io;
 use std::net::{SocketAddr, SocketAddrV4};

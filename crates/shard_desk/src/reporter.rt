@@ -6,7 +6,7 @@ use exchange_report::Why;
 use http_side::Values;
 use mio::net::TcpStream;
 use proxy_rules::Incoming;
-use refusal_reasons::Reason;
+use shard_effects::Reason;
 use shard_outside::MessageEnd;
 use shard_report::{
     Class, Count, Evidence, Log, Notes, Tally, address_of, failed_status, failed_word, kind_in,

@@ -3,7 +3,7 @@
 use adapt_sides::ClientFault;
 use exchange_report::Why;
 use http_side::HttpFault;
-use refusal_reasons::Reason;
+use shard_effects::Reason;
 use shard_report::status_in;
 
 /// The word for the reason of a refusal. `is_asking`: its service was asked for its options, or a connection to it was waited for.

@@ -1,8 +1,8 @@
 //! What is answered to an exchange that asks for a thing.
 
+use crate::reason::Reason;
 use adapt_sides::{ClientFault, RelayFault};
 use icap_head::IcapResponse;
-use refusal_reasons::Reason;
 
 /// What a turn at a head brought.
 #[derive(Clone, Copy, Debug, PartialEq, Eq)]

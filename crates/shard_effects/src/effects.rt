@@ -10,11 +10,11 @@ ghost use Rattle.shard_effects.specs.Ends.{EndsBy};
 
 use crate::answers::{HeadTurn, Lingered, Marks, OptionsTurn, Round, Said, Started, Unplanned};
 use crate::ends::{EndedBy, Report};
+use crate::reason::Reason;
 use adapt_sides::ClientFault;
 use exchange_core::{Course, Exchange};
 use http_side::HttpFault;
 use icap_head::IcapResponse;
-use refusal_reasons::Reason;
 use service_lines::LendFault;
 use std::sync::Wait;
 use trace_core::Point;

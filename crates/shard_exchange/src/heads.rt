@@ -5,8 +5,9 @@ ghost use Rattle.std.specs.Prelude.{◌≡◌};
 use crate::course::begin_head;
 use crate::exchange::Exchange;
 use exchange_core::Event;
-use refusal_reasons::{Reason, origin_head_reason, user_head_reason};
-use shard_effects::{Effects, HeadTurn, Holder, Step};
+use shard_effects::{
+    Effects, HeadTurn, Holder, Reason, Step, origin_head_reason, user_head_reason,
+};
 
 impl<H: Holder> Exchange<H> {
     ghost use Rattle.exchange_core.specs.Dues.{due_of};

@@ -4,15 +4,14 @@ ghost use Rattle.std.specs.Prelude.{◌≡◌, true, false};
 
 use crate::exchange::Exchange;
 use exchange_core::Event;
-use refusal_reasons::{Reason, lend_reason};
 use service_lines::LendFault;
-use shard_effects::{Effects, Holder, Step};
+use shard_effects::{Effects, Holder, Reason, Step, lend_reason};
 use trace_core::Point;
 
 impl<H: Holder> Exchange<H> {
     ghost use Rattle.exchange_core.specs.Course.{is_leased, is_mid_text};
     ghost use Rattle.exchange_core.specs.May.{is_refusing};
-    ghost use Rattle.refusal_reasons.specs.Reasons.{status_of};
+    ghost use Rattle.shard_effects.specs.Reasons.{status_of};
     ghost use Rattle.shard_exchange.specs.Ends.{IsOwed};
     ghost use Rattle.exchange_core.specs.Dues.{due_of};
     ghost use Rattle.exchange_core.specs.Log.{Goes};

@@ -5,8 +5,7 @@ ghost use Rattle.std.specs.Prelude.{◌≡◌, true, false};
 use crate::course::tell;
 use crate::exchange::Exchange;
 use exchange_core::Event;
-use refusal_reasons::Reason;
-use shard_effects::{Effects, EndedBy, Holder, Round, Started, Step};
+use shard_effects::{Effects, EndedBy, Holder, Reason, Round, Started, Step};
 use std::sync::Wait;
 
 impl<H: Holder> Exchange<H> {

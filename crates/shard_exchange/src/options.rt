@@ -6,8 +6,7 @@ use crate::exchange::Exchange;
 use adapt_sides::ClientFault;
 use exchange_core::Event;
 use icap_head::IcapResponse;
-use refusal_reasons::{Reason, options_reason};
-use shard_effects::{Effects, Holder, OptionsTurn, Step};
+use shard_effects::{Effects, Holder, OptionsTurn, Reason, Step, options_reason};
 
 impl<H: Holder> Exchange<H> {
     ghost use Rattle.exchange_core.specs.Dues.{due_of};

@@ -1,12 +1,11 @@
 //! What the proxy itself says to a user: `100 Continue` (RFC 9110, section 10.1.1), and the refusal of a message that goes no further.
 
 ghost use Rattle.std.specs.Prelude.{◌≡◌, true, false};
-ghost use Rattle.refusal_reasons.specs.Reasons as reasons;
+ghost use Rattle.shard_effects.specs.Reasons as reasons;
 
 use crate::exchange::Exchange;
 use exchange_core::Event;
-use refusal_reasons::{Reason, refusal_cause_of};
-use shard_effects::{Effects, Holder, Lingered, Said, Step};
+use shard_effects::{Effects, Holder, Lingered, Reason, Said, Step, refusal_cause_of};
 
 impl<H: Holder> Exchange<H> {
     ghost use Rattle.exchange_core.specs.Course.{after};

@@ -11,8 +11,7 @@ ghost use Rattle.shard_exchange.specs.Ends.{moves, Frees, Halts, is_stopped};
 use crate::course::take_stop;
 use crate::exchange::Exchange;
 use exchange_core::{Due, Event, Phase};
-use refusal_reasons::Reason;
-use shard_effects::{Effects, EndedBy, Holder, Lingered, Said, Step};
+use shard_effects::{Effects, EndedBy, Holder, Lingered, Reason, Said, Step};
 use std::sync::Wait;
 
 /// Whether a message is under way whose head was read.

@@ -6,9 +6,8 @@ use crate::holdings::Holdings;
 use adapt_sides::ClientFault;
 use exchange_core::{Course, Exchange};
 use icap_head::IcapResponse;
-use refusal_reasons::Reason;
 use service_lines::LendFault;
-use shard_effects::{Effects, EndedBy, Lingered, Marks, Report, Round, Started, Unplanned};
+use shard_effects::{Effects, EndedBy, Lingered, Marks, Reason, Report, Round, Started, Unplanned};
 use shard_message::{
     Connection, Moving, Settled, begin_anew, dial_for, is_fresh, make_room, pace_of,
     take_connections,

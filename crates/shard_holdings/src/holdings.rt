@@ -83,6 +83,7 @@ impl<O: Kinds> Holdings<O> {
     /// The user's connection, where nothing is held of what a course counts. All else goes.
     pub fn into_user(self) -> Option<O::User>
         requires { IsEmpty (⟦<Self as InHand>⟧.hand self) }
+        ensures { result ≡ self.user }
     {
         let Holdings {
             user,

@@ -334,20 +334,20 @@ fn run_office<K: Work + Drop, B: Ledgers, Q: Ledger, A: Ledger, R: Wait + Dial +
 
 /// Makes a thread's work of its exchanges, and runs its loop over it. If either fails, all others have to stop. What is left in the
 /// slots comes back, and why the loop failed, if it did.
-fn run_desk<D: Exchanges + Drop, G: Gate, R: Wait + Dial + Clock>(
+fn run_exchanges<E: Exchanges + Drop, G: Gate, R: Wait + Dial + Clock>(
     rt: &R,
     alloc: Global,
-    desk: Result<D, AllocError>,
+    exchanges: Result<E, AllocError>,
     gate: &G,
     number: usize,
     base: Base,
     inboxes: &[Inbox],
-) -> (Vec<Option<Box<D::Exchange>>>, Option<ServeFault>) {
-    let Ok(desk) = desk else {
+) -> (Vec<Option<Box<E::Exchange>>>, Option<ServeFault>) {
+    let Ok(exchanges) = exchanges else {
         stop_all(inboxes);
         return (Vec::new(alloc), Some(ServeFault::NoMemory));
     };
-    let Ok(shard) = Shard::new(alloc, desk, gate) else {
+    let Ok(shard) = Shard::new(alloc, exchanges, gate) else {
         stop_all(inboxes);
         return (Vec::new(alloc), Some(ServeFault::NoMemory));
     };
@@ -382,7 +382,7 @@ fn run_base<
     name_thread(number);
     let rows = shared.config().rows as usize;
     let exchanges = DeskExchanges::new(alloc, shared, rows);
-    let (slots, fault) = run_desk(rt, alloc, exchanges, gate, number, base, inboxes);
+    let (slots, fault) = run_exchanges(rt, alloc, exchanges, gate, number, base, inboxes);
     let mut left = left.lock(rt);
     if let Some(fault) = fault {
         left.fail(fault);

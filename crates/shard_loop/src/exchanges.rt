@@ -4,16 +4,12 @@ ghost use Rattle.std.specs.Prelude.{◌≡◌, true};
 ghost use Rattle.exchange_core.specs.Dues.{is_over};
 ghost use Rattle.shard_effects.specs.Hand.{IsEmpty};
 
-use event_loop::USER;
-use mio::net::TcpStream;
 use proxy_rules::Incoming;
-use service_lines::{Edge, POINTS};
-use shard_desk::{Desk, Shares, pools_of};
+use shard_desk::{Desk, Shares};
 use shard_exchange::{Exchange, Holder, InHand, Step, Task};
 use shard_holdings::Holdings;
 use shard_outside::{Kinds, Outside};
-use shard_seats::{Purpose, Seats, Spot};
-use shard_work::{Exchanges, turn_away};
+use shard_work::{Exchanges, Purpose, Spot, turn_away};
 use socket_wire::{Dial, Unread, UserWire};
 use std::alloc::{AllocError, AllocFailed, Global};
 use std::boxed::Box;
@@ -90,28 +86,14 @@ impl<S: Shares + Drop> DeskExchanges<S> {
 impl<S: Shares> Exchanges for DeskExchanges<S> {
     type Exchange = Exchange<Holdings<Desk<S>>>;
 
-    fn alloc(&self) -> Global {
-        self.desk.alloc
+    type Seating = Desk<S>;
+
+    fn users(&self) -> &Desk<S> {
+        &self.desk
     }
 
-    fn seats(&self) -> &Seats {
-        &self.desk.seats
-    }
-
-    fn seats_mut(&mut self) -> &mut Seats {
-        &mut self.desk.seats
-    }
-
-    fn enter(&mut self, key: usize, purpose: Purpose, stream: &TcpStream) {
-        self.desk.enter(key, purpose, stream);
-    }
-
-    fn leave<R: Wait + Clock>(&mut self, rt: &R, key: usize) {
-        self.desk.leave(rt, key);
-    }
-
-    fn report<R: Wait + Clock>(&mut self, rt: &R, key: usize) {
-        self.desk.report(rt, key);
+    fn users_mut(&mut self) -> &mut Desk<S> {
+        &mut self.desk
     }
 
     fn begin(&self, user: UserWire, purpose: Purpose) -> Option<Box<Exchange<Holdings<Desk<S>>>>> {
@@ -140,26 +122,5 @@ impl<S: Shares> Exchanges for DeskExchanges<S> {
             Some(user) => user.unread() == Unread::Bytes,
             None => false,
         }
-    }
-
-    fn close_idle<R: Wait>(&mut self, rt: &R) -> Option<bool> {
-        let pools = pools_of(&self.desk.shared);
-        if pools.waiting.edge.is_crowded() {
-            Some(pools.make_room(rt, USER))
-        } else {
-            None
-        }
-    }
-
-    fn queues(&self) -> usize {
-        POINTS.len()
-    }
-
-    fn first_of<R: Wait>(&self, rt: &R, queue: usize) -> Option<usize> {
-        let point = *POINTS.get(queue)?;
-        let number = self.desk.shared.number();
-        pools_of(&self.desk.shared)
-            .waiting
-            .first_of(rt, point, number)
     }
 }

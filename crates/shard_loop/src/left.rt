@@ -26,6 +26,16 @@ pub struct Left<B: Ledgers, Q: Ledger, A: Ledger> {
     ghost idle: { All HoldsNothing stakes.items },
 }
 
+/// Keeps a lease where there is room for it. Else it comes back.
+fn keep<L: Ledger>(leases: &mut Vec<Lease<L>>, lease: Lease<L>) -> Option<Lease<L>> {
+    if leases.len() < leases.capacity() {
+        leases.push_reserved(lease);
+        None
+    } else {
+        Some(lease)
+    }
+}
+
 /// Gives leases up.
 fn end_leases<L: Ledger, R: Wait>(rt: &R, pool: &Pool<Spare, L>, leases: Vec<Lease<L>>) {
     let mut leases = leases;
@@ -116,15 +126,17 @@ impl<B: Ledgers, Q: Ledger, A: Ledger> Left<B, Q, A> {
 
     /// Keeps a lease that is still out.
     pub fn keep_lease<R: Wait>(&mut self, rt: &R, pools: &Pools<'_, Q, A>, lease: Leased<Q, A>) {
-        match lease {
-            Leased::Request(lease) if self.requests.len() < self.requests.capacity() => {
-                self.requests.push_reserved(lease);
-            }
-            Leased::Response(lease) if self.responses.len() < self.responses.capacity() => {
-                self.responses.push_reserved(lease);
-            }
-            lease => pools.give_up(rt, lease),
-        }
+        let beyond = match lease {
+            Leased::Request(lease) => match keep(&mut self.requests, lease) {
+                Some(lease) => Leased::Request(lease),
+                None => return,
+            },
+            Leased::Response(lease) => match keep(&mut self.responses, lease) {
+                Some(lease) => Leased::Response(lease),
+                None => return,
+            },
+        };
+        pools.give_up(rt, beyond);
     }
 
     /// Takes what is held for an exchange.

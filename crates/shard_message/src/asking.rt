@@ -4,8 +4,7 @@ ghost use Rattle.std.specs.Prelude.{◌≡◌, is_some};
 
 use crate::connection::{Connection, lay_wire};
 use icap_client::OptionsSide;
-use refusal_reasons::{Reason, lend_reason};
-use shard_effects::OptionsTurn;
+use shard_effects::{OptionsTurn, Reason, lend_reason};
 use shard_outside::{Kinds, Outside, begin_asking, hear_turn};
 use std::boxed::Box;
 use trace_core::Point;

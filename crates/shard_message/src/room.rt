@@ -6,7 +6,7 @@ ghost use Rattle.span_bank.specs.declared.limits.TheConstants.{MAX_CAPACITY};
 ghost use Rattle.plan_rules.specs.Claims.{claim_of};
 
 use plan_rules::{Limits, claim};
-use refusal_reasons::{Reason, open_reason};
+use shard_effects::{Reason, open_reason};
 use shard_outside::{Outside, Planned};
 use span_bank::{Bank, Ledgers, Stake};
 use std::boxed::Box;

@@ -18,8 +18,8 @@ use Rattle.proxy_rules.specs.Origins.{bare_path}
 use Rattle.proxy_rules.specs.Plans.{IsPlanned, known_length}
 use Rattle.proxy_rules.specs.Routes.{IsOriginAt, IsOwn}
 use Rattle.proxy_rules.specs.Users.{awaits_continue}
-use Rattle.refusal_reasons.specs.declared.reason.Reason.{Reason}
-use Rattle.refusal_reasons.specs.declared.reason.Reason.TheVariants.{UnknownHost, NoOrigin, NoMemory}
+use Rattle.shard_effects.specs.declared.reason.Reason.{Reason}
+use Rattle.shard_effects.specs.declared.reason.Reason.TheVariants.{UnknownHost, NoOrigin, NoMemory}
 use Rattle.service_lines.specs.declared.book.PointBook.{PointBook}
 use Rattle.service_lines.specs.Books.{Serves}
 use Rattle.shard_effects.specs.declared.answers.Marks.{Marks}

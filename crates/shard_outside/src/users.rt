@@ -2,8 +2,7 @@
 
 use crate::outside::Outside;
 use exchange_core::{Exchange, Phase};
-use refusal_reasons::Reason;
-use shard_effects::Lingered;
+use shard_effects::{Lingered, Reason};
 
 /// Takes note of a refusal, where one goes out.
 pub fn note_refused<P, O: Outside<P>>(

@@ -3,10 +3,13 @@
 ghost use Rattle.std.specs.Prelude.{◌≡◌, true};
 
 use crate::exchanges::{Exchanges, Slotted};
+use crate::seating::Seating;
+use crate::seats::Seats;
+use crate::sparing::Stay;
+use crate::spot::Spot;
 use event_loop::Driven;
 use exchange_core::Phase;
 use shard_exchange::{Step, Task};
-use shard_seats::{Seats, Spot, Stay};
 use socket_wire::Dial;
 use std::sync::Wait;
 use std::time::Clock;
@@ -51,8 +54,8 @@ struct Noted {
 }
 
 /// Takes note of where a step led. Where no message is under way any more, it is reported: no request was read, or its answer is over.
-fn note_stay<D: Exchanges, R: Wait + Clock, G>(
-    desk: &mut D,
+fn note_stay<S: Seating, R: Wait + Clock, G>(
+    users: &mut S,
     at: &Spot<'_, R, G>,
     phase: Phase,
     noted: &mut Noted,
@@ -60,30 +63,30 @@ fn note_stay<D: Exchanges, R: Wait + Clock, G>(
     let stay = stay_of(phase);
     if noted.stay != Some(stay) {
         noted.stay = Some(stay);
-        desk.seats_mut().begin_stay(at.key, stay);
+        users.seats_mut().begin_stay(at.key, stay);
         if stay != Stay::Exchange {
-            desk.report(at.rt, at.key);
+            users.report(at.rt, at.key);
         }
     }
 }
 
 /// A step of an exchange in this phase. Its seat is touched where it went on; but what the proxy itself says at the end is written, and
 /// the connection closed after it, within one deadline.
-fn take_step<D: Exchanges, R: Wait + Dial + Clock, G: Gate>(
-    desk: &mut D,
+fn take_step<E: Exchanges, R: Wait + Dial + Clock, G: Gate>(
+    exchanges: &mut E,
     at: &Spot<'_, R, G>,
-    exchange: &mut D::Exchange,
+    exchange: &mut E::Exchange,
     phase: Phase,
     noted: &mut Noted,
 ) -> Step
-    ensures { result ≡ Step.Over → D.Exchange.is_over exchange.new ≡ true }
+    ensures { result ≡ Step.Over → E.Exchange.is_over exchange.new ≡ true }
 {
-    let step = desk.act(at, exchange, Task::Step);
+    let step = exchanges.act(at, exchange, Task::Step);
     if step == Step::On && !noted.went_on && !is_ending(phase) {
         noted.went_on = true;
-        desk.seats_mut().touch(at.key, at.now);
+        exchanges.users_mut().seats_mut().touch(at.key, at.now);
     }
-    note_stay(desk, at, exchange.phase(), noted);
+    note_stay(exchanges.users_mut(), at, exchange.phase(), noted);
     step
 }
 
@@ -95,12 +98,12 @@ fn is_lost(seats: &Seats, key: usize, phase: Phase) -> bool {
 
 /// Drives an exchange until each of its connections waits, or others should get their turn. One whose user is lost ends, before the next
 /// step at a connection.
-pub(crate) fn drive_on<D: Exchanges, R: Wait + Dial + Clock, G: Gate>(
-    desk: &mut D,
+pub(crate) fn drive_on<E: Exchanges, R: Wait + Dial + Clock, G: Gate>(
+    exchanges: &mut E,
     at: &Spot<'_, R, G>,
-    exchange: &mut D::Exchange,
+    exchange: &mut E::Exchange,
 ) -> Driven
-    ensures { result ≡ Driven.Over → D.Exchange.is_over exchange.new ≡ true }
+    ensures { result ≡ Driven.Over → E.Exchange.is_over exchange.new ≡ true }
 {
     let mut rounds = 0u32;
     let mut noted = Noted {
@@ -110,8 +113,8 @@ pub(crate) fn drive_on<D: Exchanges, R: Wait + Dial + Clock, G: Gate>(
     for _ in 0..STEPS {
         let phase = exchange.phase();
         if is_round(phase) {
-            if is_lost(desk.seats(), at.key, phase) {
-                desk.act(at, exchange, Task::Lose);
+            if is_lost(exchanges.users().seats(), at.key, phase) {
+                exchanges.act(at, exchange, Task::Lose);
                 return Driven::Over;
             }
             if rounds >= ROUNDS {
@@ -119,7 +122,7 @@ pub(crate) fn drive_on<D: Exchanges, R: Wait + Dial + Clock, G: Gate>(
             }
             rounds = rounds.saturating_add(1);
         }
-        match take_step(desk, at, exchange, phase, &mut noted) {
+        match take_step(exchanges, at, exchange, phase, &mut noted) {
             Step::On => {}
             Step::Waits => return Driven::Waiting,
             Step::Over => return Driven::Over,
@@ -130,18 +133,18 @@ pub(crate) fn drive_on<D: Exchanges, R: Wait + Dial + Clock, G: Gate>(
 
 /// Has the user of an exchange take its refusal at a stop, and drops what it still sends. `Over` where it is gone, or sends no more: then
 /// nothing is held.
-pub(crate) fn leave_on<D: Exchanges, R: Wait + Dial + Clock, G: Gate>(
-    desk: &mut D,
+pub(crate) fn leave_on<E: Exchanges, R: Wait + Dial + Clock, G: Gate>(
+    exchanges: &mut E,
     at: &Spot<'_, R, G>,
-    exchange: &mut D::Exchange,
+    exchange: &mut E::Exchange,
 ) -> Driven
-    ensures { result ≡ Driven.Over → D.Exchange.is_over exchange.new ≡ true }
+    ensures { result ≡ Driven.Over → E.Exchange.is_over exchange.new ≡ true }
 {
-    if desk.seats().is_gone(at.key) {
-        desk.act(at, exchange, Task::Lose);
+    if exchanges.users().seats().is_gone(at.key) {
+        exchanges.act(at, exchange, Task::Lose);
         return Driven::Over;
     }
-    match desk.act(at, exchange, Task::TakeLeave) {
+    match exchanges.act(at, exchange, Task::TakeLeave) {
         Step::Over => Driven::Over,
         Step::Waits => Driven::Waiting,
         Step::On => Driven::CutShort,

@@ -3,12 +3,12 @@
 ghost use Rattle.std.specs.Prelude.{◌≡◌, Bool, true};
 ghost use Rattle.exchange_core.specs.Dues.{is_over};
 
+use crate::seating::Seating;
+use crate::seats::Purpose;
+use crate::spot::Spot;
 use exchange_core::Phase;
-use mio::net::TcpStream;
 use shard_exchange::{Exchange, Holder, Step, Task};
-use shard_seats::{Purpose, Seats, Spot};
 use socket_wire::{Dial, UserWire};
-use std::alloc::Global;
 use std::boxed::Box;
 use std::sync::Wait;
 use std::time::Clock;
@@ -48,25 +48,17 @@ impl<H: Holder> Slotted for Exchange<H> {
     }
 }
 
-/// The exchanges of a thread: what they have in common, and what becomes of each.
+/// The exchanges of a thread: where their users sit, and what becomes of each.
 pub trait Exchanges {
     /// A user's connection, with what is held for it.
     type Exchange: Slotted;
 
-    fn alloc(&self) -> Global;
+    /// Where the users sit.
+    type Seating: Seating;
 
-    fn seats(&self) -> &Seats;
+    fn users(&self) -> &Self::Seating;
 
-    fn seats_mut(&mut self) -> &mut Seats;
-
-    /// A user comes to the seat of this key.
-    fn enter(&mut self, key: usize, purpose: Purpose, stream: &TcpStream);
-
-    /// The user under this key has left: the seat is free.
-    fn leave<R: Wait + Clock>(&mut self, rt: &R, key: usize);
-
-    /// The message under this key is over, if one was open: it is counted, and its line added to the log.
-    fn report<R: Wait + Clock>(&mut self, rt: &R, key: usize);
+    fn users_mut(&mut self) -> &mut Self::Seating;
 
     /// What a user's connection begins with: its first request, or the refusal where there is no room for it. `None` where no memory
     /// was found: then the user is turned away.
@@ -84,14 +76,4 @@ pub trait Exchanges {
 
     /// Whether no byte of a request was read, but some have come that no event has reported yet.
     fn is_wanted(exchange: &Self::Exchange) -> bool;
-
-    /// Closes idle connections to services, where they keep the next user out, and says whether it has room then. `None` where they
-    /// don't.
-    fn close_idle<R: Wait>(&mut self, rt: &R) -> Option<bool>;
-
-    /// How many queues there are for connections to services.
-    fn queues(&self) -> usize;
-
-    /// The key of the exchange that is first in a queue, where it is one of these.
-    fn first_of<R: Wait>(&self, rt: &R, queue: usize) -> Option<usize>;
 }

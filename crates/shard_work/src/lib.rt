@@ -1,9 +1,20 @@
-//! The work of a thread's loop: its users' exchanges, each in a slot, and how they are driven, drained and ended.
+//! The work of a thread's loop: its users' seats, their exchanges, each in a slot, and how these are driven, drained and ended.
+//!
+//! A seat has what is known of a user's connections: their readiness, when they last moved, and whether the user is spared for another
+//! one. A `Spot` is where an exchange stands in the loop of its thread. What an exchange holds isn't seen here.
 #![tactic(auto)]
 
 mod driving;
 mod exchanges;
+mod seating;
+mod seats;
 mod shard;
+mod sparing;
+mod spot;
 
 pub use exchanges::{Exchanges, Slotted};
+pub use seating::Seating;
+pub use seats::{Purpose, SECOND, Seats};
 pub use shard::{Shard, turn_away};
+pub use sparing::{Spared, Stay};
+pub use spot::Spot;

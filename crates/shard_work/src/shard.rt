@@ -5,12 +5,14 @@ ghost use Rattle.shard_work.specs.Slots.{ChangesOnly};
 
 use crate::driving::{drive_on, leave_on};
 use crate::exchanges::{Exchanges, Slotted};
+use crate::seating::Seating;
+use crate::seats::SECOND;
+use crate::spot::Spot;
 use event_loop::{Driven, Handed, Request, Slots, Told, Work};
 use http_side::own_refusal;
 use mio::Registry;
 use mio::net::TcpStream;
 use shard_exchange::{Step, Task};
-use shard_seats::{SECOND, Spot};
 use socket_wire::{Dial, Peer, Readiness};
 use std::alloc::{AllocError, Global};
 use std::boxed::Box;
@@ -32,9 +34,10 @@ enum Serving {
 
 /// The exchanges of one thread, each in the slot of its key. What is in a slot may have a reservation or a lease, so it has
 /// no `Drop`, and nothing is lost.
-pub struct Shard<'a, D: Exchanges, G> {
-    desk: D,
-    slots: Slots<Box<D::Exchange>>,
+pub struct Shard<'a, E: Exchanges, G> {
+    alloc: Global,
+    exchanges: E,
+    slots: Slots<Box<E::Exchange>>,
     gate: &'a G,
     serving: Serving,
 }
@@ -46,12 +49,13 @@ pub fn turn_away(stream: TcpStream) {
     let _ = stream.write(own_refusal(503));
 }
 
-impl<'a, D: Exchanges + Drop, G: Gate> Shard<'a, D, G> {
+impl<'a, E: Exchanges + Drop, G: Gate> Shard<'a, E, G> {
     /// A thread's work before the first user. `Err` where no memory was found.
-    pub fn new(alloc: Global, desk: D, gate: &'a G) -> Result<Shard<'a, D, G>, AllocError> {
-        let slots = Slots::new(alloc, desk.seats().bound())?;
+    pub fn new(alloc: Global, exchanges: E, gate: &'a G) -> Result<Shard<'a, E, G>, AllocError> {
+        let slots = Slots::new(alloc, exchanges.users().seats().bound())?;
         Ok(Shard {
-            desk,
+            alloc,
+            exchanges,
             slots,
             gate,
             serving: Serving::Full,
@@ -60,27 +64,28 @@ impl<'a, D: Exchanges + Drop, G: Gate> Shard<'a, D, G> {
 
     /// The slots, once the exchanges that are still open are reported: those whose users haven't taken
     /// their refusal at the stop, or whose connections are still being closed. All else goes.
-    pub fn into_slots<R: Wait + Clock>(self, rt: &R) -> Vec<Option<Box<D::Exchange>>> {
+    pub fn into_slots<R: Wait + Clock>(self, rt: &R) -> Vec<Option<Box<E::Exchange>>> {
         let Shard {
-            desk,
+            alloc: _,
+            exchanges,
             slots,
             gate: _,
             serving: _,
         } = self;
-        let mut desk = desk;
+        let mut exchanges = exchanges;
         for key in 0..slots.count() {
-            desk.report(rt, key);
+            exchanges.users_mut().report(rt, key);
         }
         slots.into_all()
     }
 
     /// Puts an exchange into the slot of its key, from which it was taken. What comes back, which is nothing, ends.
-    fn keep<R: Wait + Dial + Clock>(&mut self, at: &Spot<'_, R, G>, exchange: Box<D::Exchange>)
+    fn keep<R: Wait + Dial + Clock>(&mut self, at: &Spot<'_, R, G>, exchange: Box<E::Exchange>)
         ensures { ChangesOnly at.entry.now.key self.old.slots.all.items self.new.slots.all.items }
     {
         if let Some(old) = self.slots.place(at.key, exchange) {
             let mut old = old;
-            self.desk.act(at, &mut old, Task::Lose);
+            self.exchanges.act(at, &mut old, Task::Lose);
             Box::into_inner(old).finish();
         }
     }
@@ -97,10 +102,10 @@ impl<'a, D: Exchanges + Drop, G: Gate> Shard<'a, D, G> {
         if self.serving == Serving::Draining {
             exchange.drain();
         }
-        match drive_on(&mut self.desk, at, &mut exchange) {
+        match drive_on(&mut self.exchanges, at, &mut exchange) {
             Driven::Over => {
                 Box::into_inner(exchange).finish();
-                self.desk.leave(at.rt, at.key);
+                self.exchanges.users_mut().leave(at.rt, at.key);
                 Driven::Over
             }
             driven => {
@@ -114,10 +119,10 @@ impl<'a, D: Exchanges + Drop, G: Gate> Shard<'a, D, G> {
     fn end_slot<R: Wait + Dial + Clock>(&mut self, at: &Spot<'_, R, G>) {
         if let Some(exchange) = self.slots.take(at.key) {
             let mut exchange = exchange;
-            self.desk.act(at, &mut exchange, Task::Lose);
+            self.exchanges.act(at, &mut exchange, Task::Lose);
             Box::into_inner(exchange).finish();
         }
-        self.desk.leave(at.rt, at.key);
+        self.exchanges.users_mut().leave(at.rt, at.key);
     }
 
     /// Ends the exchange under this key, because the proxy stops. It stays where its user is still to be refused, or has got all and
@@ -127,9 +132,9 @@ impl<'a, D: Exchanges + Drop, G: Gate> Shard<'a, D, G> {
             return;
         };
         let mut exchange = exchange;
-        if self.desk.act(at, &mut exchange, Task::Halt) == Step::Over {
+        if self.exchanges.act(at, &mut exchange, Task::Halt) == Step::Over {
             Box::into_inner(exchange).finish();
-            self.desk.leave(at.rt, at.key);
+            self.exchanges.users_mut().leave(at.rt, at.key);
         } else {
             self.keep(at, exchange);
         }
@@ -141,10 +146,10 @@ impl<'a, D: Exchanges + Drop, G: Gate> Shard<'a, D, G> {
             return Driven::Over;
         };
         let mut exchange = exchange;
-        match leave_on(&mut self.desk, at, &mut exchange) {
+        match leave_on(&mut self.exchanges, at, &mut exchange) {
             Driven::Over => {
                 Box::into_inner(exchange).finish();
-                self.desk.leave(at.rt, at.key);
+                self.exchanges.users_mut().leave(at.rt, at.key);
                 Driven::Over
             }
             driven => {
@@ -158,9 +163,9 @@ impl<'a, D: Exchanges + Drop, G: Gate> Shard<'a, D, G> {
     fn best_spared(&mut self, millis: u64) -> Option<usize> {
         let mut best = None;
         for key in 0..self.slots.count() {
-            if let Some(better) = self.desk.seats().better(key, millis, best) {
+            if let Some(better) = self.exchanges.users().seats().better(key, millis, best) {
                 if self.is_wanted(key) {
-                    self.desk.seats_mut().await_head(key);
+                    self.exchanges.users_mut().seats_mut().await_head(key);
                 } else {
                     best = Some(better);
                 }
@@ -197,13 +202,13 @@ impl<'a, D: Exchanges + Drop, G: Gate> Shard<'a, D, G> {
     /// Whether no byte of a request was read on the connection under this key, but some have come that no event has reported yet.
     fn is_wanted(&self, key: usize) -> bool {
         match self.slots.get(key) {
-            Some(exchange) => D::is_wanted(exchange),
+            Some(exchange) => E::is_wanted(exchange),
             None => false,
         }
     }
 }
 
-impl<'a, D: Exchanges + Drop, G: Gate> Work for Shard<'a, D, G> {
+impl<'a, E: Exchanges + Drop, G: Gate> Work for Shard<'a, E, G> {
     fn admit<R: Wait + Dial + Clock>(
         &mut self,
         rt: &R,
@@ -216,24 +221,34 @@ impl<'a, D: Exchanges + Drop, G: Gate> Work for Shard<'a, D, G> {
             number,
             permit,
         } = user;
-        if !self.desk.seats().has_room() {
+        if !self.exchanges.users().seats().has_room() {
             let _ = self.spare_user(rt, registry, millis);
         }
-        let Some((key, purpose)) = self.desk.seats_mut().take(number, permit, millis) else {
+        let Some((key, purpose)) = self
+            .exchanges
+            .users_mut()
+            .seats_mut()
+            .take(number, permit, millis)
+        else {
             turn_away(stream);
             return None;
         };
-        self.desk.enter(key, purpose, &stream);
+        self.exchanges.users_mut().enter(key, purpose, &stream);
         let ready = Readiness::new();
-        let begun = match self.desk.seats_mut().wire(registry, key, ready, stream) {
-            Ok(user) => self.desk.begin(user, purpose),
+        let begun = match self
+            .exchanges
+            .users_mut()
+            .seats_mut()
+            .wire(registry, key, ready, stream)
+        {
+            Ok(user) => self.exchanges.begin(user, purpose),
             Err(stream) => {
                 turn_away(stream);
                 None
             }
         };
         let Some(exchange) = begun else {
-            self.desk.leave(rt, key);
+            self.exchanges.users_mut().leave(rt, key);
             return None;
         };
         let gate = self.gate;
@@ -258,14 +273,14 @@ impl<'a, D: Exchanges + Drop, G: Gate> Work for Shard<'a, D, G> {
         registry: &Registry,
         millis: u64,
     ) -> bool {
-        match self.desk.close_idle(rt) {
+        match self.exchanges.users_mut().close_idle(rt) {
             Some(has_room) => has_room,
             None => self.spare_user(rt, registry, millis),
         }
     }
 
     fn note(&mut self, key: usize, peer: Peer, told: Told) -> bool {
-        self.desk.seats().note(key, peer, told)
+        self.exchanges.users().seats().note(key, peer, told)
     }
 
     fn drive<R: Wait + Dial + Clock>(
@@ -290,11 +305,11 @@ impl<'a, D: Exchanges + Drop, G: Gate> Work for Shard<'a, D, G> {
     }
 
     fn queues(&self) -> usize {
-        self.desk.queues()
+        self.exchanges.users().queues()
     }
 
     fn first_of<R: Wait>(&self, rt: &R, queue: usize) -> Option<usize> {
-        self.desk.first_of(rt, queue)
+        self.exchanges.users().first_of(rt, queue)
     }
 
     fn bound(&self) -> usize {
@@ -302,7 +317,7 @@ impl<'a, D: Exchanges + Drop, G: Gate> Work for Shard<'a, D, G> {
     }
 
     fn is_idle(&self) -> bool {
-        self.desk.seats().is_empty()
+        self.exchanges.users().seats().is_empty()
     }
 
     /// None comes here: the administrator has a loop of its own.
@@ -312,7 +327,7 @@ impl<'a, D: Exchanges + Drop, G: Gate> Work for Shard<'a, D, G> {
         _request: Request,
         _now: u64,
     ) -> Result<Vec<u8>, AllocError> {
-        b"bad\n".to_vec(self.desk.alloc())
+        b"bad\n".to_vec(self.alloc)
     }
 
     fn patience(&self) -> Option<u64> {

@@ -10,8 +10,8 @@ use Rattle.options_book.specs.declared.faults.OptFault.{OptFault}
 use Rattle.options_book.specs.declared.faults.OptFault.TheVariants as record_faults
 use Rattle.span_bank.specs.declared.step.OpenFault.{OpenFault}
 use Rattle.span_bank.specs.declared.step.OpenFault.TheVariants as open_faults
-use Rattle.refusal_reasons.specs.declared.reason.Reason.{Reason}
-use Rattle.refusal_reasons.specs.declared.reason.Reason.TheVariants.{Request, UnknownHost, NoOrigin, OriginHead, Service, Busy, Full, NoRow, NoMemory, Deadline, Stopping}
+use Rattle.shard_effects.specs.declared.reason.Reason.{Reason}
+use Rattle.shard_effects.specs.declared.reason.Reason.TheVariants.{Request, UnknownHost, NoOrigin, OriginHead, Service, Busy, Full, NoRow, NoMemory, Deadline, Stopping}
 
 -- a request that is understood but not served is 501, any other faulty one 400
 abbrev pub request_status : HttpFault → ℕ

@@ -1,8 +1,8 @@
 -- When the connections of an exchange last moved.
 use Rattle.std.specs.Prelude.{◌≡◌, ◌≢◌, ℕ, ◌-◌, Bool, true, nat_lt, Option, Some, None, IsSomeAnd}
 use Rattle.slab.specs.Slab.{get}
-use Rattle.shard_seats.specs.declared.seats.Seat.{Seat}
-use Rattle.shard_seats.specs.declared.seats.Seats.{Seats}
+use Rattle.shard_work.specs.declared.seats.Seat.{Seat}
+use Rattle.shard_work.specs.declared.seats.Seats.{Seats}
 
 -- at this moment, more than this number of seconds have passed since a byte moved; where there is no seat, nothing moves
 abbrev pub rests_long : Option Seat → (now seconds : ℕ) → Bool

@@ -66,7 +66,7 @@ pub struct Seats {
 }
 
 impl Seats {
-    ghost use Rattle.shard_seats.specs.Seats.{is_late, moved_at, IsTaken};
+    ghost use Rattle.shard_work.specs.Seats.{is_late, moved_at, IsTaken};
     ghost use Rattle.slab.specs.Slab.{get, Updates};
 
     /// No seat is taken, and at most `most` users may be served at once. `Err` if no memory was found for their seats.

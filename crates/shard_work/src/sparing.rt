@@ -1,7 +1,7 @@
 //! Which users' connections are closed so that others are served.
 
 ghost use Rattle.std.specs.Prelude.{◌≡◌, ◌↔◌, ℕ, true, None, IfSome};
-ghost use Rattle.shard_seats.specs.Sparing.{IsRank, ComesBefore};
+ghost use Rattle.shard_work.specs.Sparing.{IsRank, ComesBefore};
 
 /// What a user's connection is in the midst of, as far as it may be spared for another one.
 #[derive(Clone, Copy, Debug, PartialEq, Eq)]

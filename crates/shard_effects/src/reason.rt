@@ -2,7 +2,7 @@
 
 ghost use Rattle.std.specs.Prelude.{◌≡◌, IsTrue};
 ghost use Rattle.http_side.specs.Refusals.{is_own_status};
-ghost use Rattle.refusal_reasons.specs.Reasons.{request_status, status_of, user_head_reason, origin_head_reason, options_reason, record_reason, open_reason};
+ghost use Rattle.shard_effects.specs.Reasons.{request_status, status_of, user_head_reason, origin_head_reason, options_reason, record_reason, open_reason};
 
 use adapt_sides::{ClientFault, RelayFault};
 use http_side::HttpFault;

@@ -2,7 +2,7 @@
 
 ghost use Rattle.std.specs.Prelude.{◌≡◌};
 ghost use Rattle.exchange_core.specs.Dues as dues;
-ghost use Rattle.refusal_reasons.specs.Reasons as reasons;
+ghost use Rattle.shard_effects.specs.Reasons as reasons;
 
 use crate::reason::Reason;
 use exchange_core::RefusalCause;

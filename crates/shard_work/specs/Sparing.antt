@@ -1,9 +1,9 @@
 -- Which users' connections are closed so that others are served.
 use Rattle.std.specs.Prelude.{◌≡◌, ℕ, ◌<◌, ◌≤◌, ◌⊎◌}
-use Rattle.shard_seats.specs.declared.sparing.Stay.{Stay}
-use Rattle.shard_seats.specs.declared.sparing.Stay.TheVariants.{Exchange, Idle, Head, End}
-use Rattle.shard_seats.specs.declared.sparing.Spared.{Spared}
-use Rattle.shard_seats.specs.declared.sparing.TheConstants.{YOUNG}
+use Rattle.shard_work.specs.declared.sparing.Stay.{Stay}
+use Rattle.shard_work.specs.declared.sparing.Stay.TheVariants.{Exchange, Idle, Head, End}
+use Rattle.shard_work.specs.declared.sparing.Spared.{Spared}
+use Rattle.shard_work.specs.declared.sparing.TheConstants.{YOUNG}
 
 -- a connection whose stay is this, and whose user came this number of milliseconds ago, has this rank: idle ones come first, then those whose
 -- head isn't whole, and last those at their end; an exchange, and a user that has just come, has none

@@ -1,2 +1,0 @@
-pub mod Sparing
-pub mod Seats

@@ -1,0 +1,32 @@
+//! What a thread's users have in common, beside their exchanges.
+
+use crate::seats::{Purpose, Seats};
+use mio::net::TcpStream;
+use std::sync::Wait;
+use std::time::Clock;
+
+/// Where the users of a thread sit: what is noted of them, and who of them waits for a connection to a service.
+pub trait Seating {
+    fn seats(&self) -> &Seats;
+
+    fn seats_mut(&mut self) -> &mut Seats;
+
+    /// A user comes to the seat of this key.
+    fn enter(&mut self, key: usize, purpose: Purpose, stream: &TcpStream);
+
+    /// The user under this key has left: the seat is free.
+    fn leave<R: Wait + Clock>(&mut self, rt: &R, key: usize);
+
+    /// The message under this key is over, if one was open: it is counted, and its line added to the log.
+    fn report<R: Wait + Clock>(&mut self, rt: &R, key: usize);
+
+    /// Closes idle connections to services, where they keep the next user out, and says whether it has room then. `None` where they
+    /// don't.
+    fn close_idle<R: Wait>(&mut self, rt: &R) -> Option<bool>;
+
+    /// How many queues there are for connections to services.
+    fn queues(&self) -> usize;
+
+    /// The key of the exchange that is first in a queue, where it is one of these.
+    fn first_of<R: Wait>(&self, rt: &R, queue: usize) -> Option<usize>;
+}
