@@ -8,7 +8,7 @@ use crate::offsets::Layout;
 use crate::parts::{BodyPart, Part};
 
 /// The parts that a list has named so far, while they are in order.
-#[derive(Clone, Copy, Debug, PartialEq, Eq)]
+#[derive(Clone, Copy, PartialEq, Eq)]
 pub(crate) struct Seen {
     req_hdr: Option<u64>,
     res_hdr: Option<u64>,
@@ -16,7 +16,7 @@ pub(crate) struct Seen {
 }
 
 /// A row of the RFC's table: heads, each of which may be missing, and a body, which may be null-body.
-#[derive(Clone, Copy, Debug, PartialEq, Eq)]
+#[derive(Clone, Copy, PartialEq, Eq)]
 pub(crate) struct Row {
     pub(crate) req_hdr: bool,
     pub(crate) res_hdr: bool,

@@ -10,7 +10,7 @@ use arrayvec::ArrayVec;
 use std::cmp::Ordering;
 
 /// A field's name and its place.
-#[derive(Clone, Copy, Debug, Default)]
+#[derive(Clone, Copy, Default)]
 pub(crate) struct PlacedName<'a> {
     pub name: &'a [u8],
     pub place: u8,

@@ -69,7 +69,7 @@ pub fn read_cut(alloc: Global, text: &[u8], sizes: &[usize]) -> Result<Reading, 
 }
 
 /// A reader with the body that it has found, up to an offset of a text.
-#[derive(Debug, Drop)]
+#[derive(Drop)]
 pub(crate) struct Collector {
     reader: ChunkReader,
     body: Vec<u8>,

@@ -9,7 +9,7 @@ use crate::field_lines::is_value_byte;
 use adapt_bytes::{MAX_HEAD, is_token};
 
 /// Where a field line, or the empty one, is before its LF (RFC 9112, section 5).
-#[derive(Clone, Copy, Debug)]
+#[derive(Clone, Copy)]
 enum LinePart {
     Start,
     Name,

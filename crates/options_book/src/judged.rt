@@ -21,7 +21,7 @@ use trace_core::Point;
 const MAX_ACCEPTED_TAG: usize = 256;
 
 /// The numbers of a response: bytes of a preview, connections, seconds.
-#[derive(Clone, Copy, Debug)]
+#[derive(Clone, Copy)]
 pub(crate) struct Numbers {
     preview: Option<u64>,
     connections: Option<u64>,
@@ -29,7 +29,7 @@ pub(crate) struct Numbers {
 }
 
 /// What a valid response says, except for its lists.
-#[derive(Clone, Copy, Debug)]
+#[derive(Clone, Copy)]
 pub(crate) struct Verified<'a> {
     tag: &'a [u8],
     numbers: Numbers,

@@ -26,7 +26,7 @@ pub struct Headed {
 }
 
 /// The user whose request is served, and whether its connection may carry a further one.
-#[derive(Clone, Copy, Debug)]
+#[derive(Clone, Copy)]
 pub(crate) struct Asked<'a> {
     pub user: &'a HttpRequest,
     pub carries_on: bool,

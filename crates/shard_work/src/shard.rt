@@ -22,7 +22,7 @@ use std::time::Clock;
 use wire_kit::Gate;
 
 /// How far the loop's users are served.
-#[derive(Clone, Copy, Debug, PartialEq, Eq)]
+#[derive(Clone, Copy, PartialEq, Eq)]
 enum Serving {
     /// All of their requests.
     Full,
