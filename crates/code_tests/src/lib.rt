@@ -1,5 +1,5 @@
 //! Tests that rows can't hold: they need sockets, or would have to abort. A socket's wire, loops that echo, the connections of `icapd`,
-//! and audits that lack something.
+//! `adaptproxy serve` scene by scene, and audits that lack something.
 #![tactic(auto)]
 
 #[cfg(test)]
@@ -8,5 +8,7 @@ mod audits;
 mod connections;
 #[cfg(test)]
 mod echoes;
+#[cfg(test)]
+mod serving;
 #[cfg(test)]
 mod sockets;

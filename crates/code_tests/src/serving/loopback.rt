@@ -1,8 +1,8 @@
 //! `serve` over loopback: users, an origin, a service and the administrator in one thread, the proxy in threads of its own.
 
-use crate::apart::three_apart;
-use crate::player::{Stage, Step, gets, take_all};
-use crate::shards::{many_users, one_connection};
+use super::apart::three_apart;
+use super::player::{Stage, Step, gets, take_all};
+use super::shards::{many_users, one_connection};
 use mio::net::TcpListener as Listener;
 use proxy_commands::read_configuration;
 use proxy_config::Config;

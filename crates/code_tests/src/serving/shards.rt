@@ -1,10 +1,10 @@
 //! What users of several shards get: one budget and one pool for all of them.
 
-use crate::loopback::{Others, Ports};
-use crate::player::Peer::{Origin, Service, User};
-use crate::player::{TRIES, does_all, gets, hears, meet, say, until};
-use crate::scenes::{ADAPTS, ANSWERS, ASKS, IS_REFUSED, SAYS_ONE_CONNECTION};
-use crate::texts::{ADAPTED, FORWARDED, HEAD_END, REQUEST, RESPONSE, UNAVAILABLE};
+use super::loopback::{Others, Ports};
+use super::player::Peer::{Origin, Service, User};
+use super::player::{TRIES, does_all, gets, hears, meet, say, until};
+use super::scenes::{ADAPTS, ANSWERS, ASKS, IS_REFUSED, SAYS_ONE_CONNECTION};
+use super::texts::{ADAPTED, FORWARDED, HEAD_END, REQUEST, RESPONSE, UNAVAILABLE};
 use std::alloc::Global;
 use std::io;
 use std::net::TcpStream;

@@ -1,11 +1,11 @@
 //! What users, an origin, a service and the administrator do, in this order, and what they get.
 
-use crate::loopback::Scene;
-use crate::player::Deed::{Ends, Gets, GetsOffer, HearsEnd, HearsNothing, Passes, Says};
-use crate::player::Peer::{Origin, Service, User};
-use crate::player::Step::{Admin, Awaits, Closes, New, On, Releases, Stops};
-use crate::player::{Deed, Step};
-use crate::texts::{
+use super::loopback::Scene;
+use super::player::Deed::{Ends, Gets, GetsOffer, HearsEnd, HearsNothing, Passes, Says};
+use super::player::Peer::{Origin, Service, User};
+use super::player::Step::{Admin, Awaits, Closes, New, On, Releases, Stops};
+use super::player::{Deed, Step};
+use super::texts::{
     ADAPTED, ALMOST_A_REQUEST, BAD_GATEWAY, BAD_REQUEST, BEHIND, BY_EXTENSION, CHANGED,
     CHANGED_TO_ORIGIN, CLOSED, CONTINUE, FINAL, FORWARDED, GO_AHEAD, HEAD_END, NO_CONNECTIONS,
     OFFERED, ONE_CONNECTION, ONE_REQUEST, POST, POST_TO_ORIGIN, POSTED, PREVIEWS, REQUEST,

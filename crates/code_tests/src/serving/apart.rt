@@ -1,11 +1,11 @@
 //! The worked exchange, with a user, an origin and a service in a thread each.
 
-use crate::loopback::{Others, Ports};
-use crate::player::Deed::{Gets, Says};
-use crate::player::Peer::{Origin, Service, User};
-use crate::player::{Deed, Peer, does_all, meet};
-use crate::scenes::{ADAPTS, ANSWERS, SAYS_PREVIEWS};
-use crate::texts::{ADAPTED, REQUEST};
+use super::loopback::{Others, Ports};
+use super::player::Deed::{Gets, Says};
+use super::player::Peer::{Origin, Service, User};
+use super::player::{Deed, Peer, does_all, meet};
+use super::scenes::{ADAPTS, ANSWERS, SAYS_PREVIEWS};
+use super::texts::{ADAPTED, REQUEST};
 use std::alloc::Global;
 use std::io;
 use std::thread::{self, Threads};

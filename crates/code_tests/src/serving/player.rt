@@ -1,7 +1,7 @@
 //! Scenes are tables of steps, and one player takes them: users, an origin, a service and the administrator in one thread.
 
-use crate::loopback::{Others, Ports, admin, stop};
-use crate::texts::{OFFERED, REQUEST, RESPONSE_HEAD};
+use super::loopback::{Others, Ports, admin, stop};
+use super::texts::{OFFERED, REQUEST, RESPONSE_HEAD};
 use std::alloc::Global;
 use std::io::{self, ErrorKind, Read, Write};
 use std::net::{Shutdown, TcpStream};
