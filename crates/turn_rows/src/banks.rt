@@ -2,9 +2,9 @@
 ghost use Rattle.std.specs.Prelude.{◌≡◌};
 
 use crate::beside::put_beside;
-use crate::game::{Game, Remains};
+use crate::case::Case;
 use crate::game_budget::{GameBudget, OnBank};
-use crate::steps::put_steps;
+use crate::steps::{first_turns, put_steps};
 use crate::told::put_ended;
 use span_bank::{Bank, Blanks, Ledgers};
 use std::alloc::Global;
@@ -12,28 +12,43 @@ use std::marker::Brand;
 use std::sync::Wait;
 use std::sync::ledger::Ledger;
 use test_rows::{NoMemory, put_line};
-use trace_core::Plan;
+use turn_stage::{Game, Remains};
 use wire_rows::{Scene, Values, plan_of};
 
 /// The most bytes of a transaction beside its pages.
 const MOST: usize = 8192;
 
-/// Adds what the row's transaction reports.
-fn put_transaction<P: GameBudget>(
-    alloc: Global,
-    budget: &P,
-    plan: Plan,
-    scene: Scene<'_>,
-    values: Values,
+/// A run of a row.
+#[derive(Clone, Copy)]
+pub struct Run<'a, R> {
+    pub rt: &'a R,
+    pub alloc: Global,
+    pub scene: Scene<'a>,
+    pub values: Values,
+}
+
+/// Plays a transaction by the row's steps, and adds what it reports.
+fn put_played<G: Game>(game: G, case: &Case<'_>, out: &mut Vec<u8>) -> Result<(), NoMemory> {
+    let mut game = game;
+    let told = put_steps(&mut game, case, out);
+    let ended = game.end();
+    match told {
+        Ok(()) => put_ended(&ended.told(), case, out),
+        Err(NoMemory) => Err(NoMemory),
+    }
+}
+
+/// Adds what the row's transaction reports, where it began.
+fn put_transaction<G: Game>(
+    begun: Result<Option<G>, NoMemory>,
+    case: &Case<'_>,
     out: &mut Vec<u8>,
 ) -> Result<(), NoMemory> {
-    let Some(mut game) = budget.begun(alloc, plan, scene, values)? else {
-        return put_line(out, b"it doesn't begin");
-    };
-    let told = put_steps(alloc, &mut game, scene, values, out);
-    let ended = game.end();
-    told?;
-    put_ended(&ended.told(), scene, values, out)
+    match begun {
+        Ok(Some(game)) => put_played(game, case, out),
+        Ok(None) => put_line(out, b"it doesn't begin"),
+        Err(NoMemory) => Err(NoMemory),
+    }
 }
 
 /// A word for how large a transaction is.
@@ -46,23 +61,35 @@ fn size_word(size: usize) -> &'static [u8] {
 }
 
 /// Adds what the row's transaction reports, or what two transactions report, or how large one is.
-fn put_row<P: GameBudget>(
-    alloc: Global,
-    budget: &P,
-    scene: Scene<'_>,
-    values: Values,
-    out: &mut Vec<u8>,
-) -> Result<(), NoMemory> {
-    let Some(plan) = plan_of(scene.get(b"plan")) else {
-        return put_line(out, b"no plan");
-    };
-    if scene.has(b"size") {
+fn put_row<P: GameBudget>(budget: &P, case: &Case<'_>, out: &mut Vec<u8>) -> Result<(), NoMemory> {
+    if case.has(b"size") {
         return put_line(out, size_word(budget.game_size()));
     }
-    if scene.has(b"beside") {
-        return put_beside(alloc, budget, plan, scene, values, out);
+    if case.has(b"beside") {
+        return put_beside(budget, case, out);
     }
-    put_transaction(alloc, budget, plan, scene, values, out)
+    put_transaction(budget.begun(case), case, out)
+}
+
+/// Adds what a run of the row reports on this budget.
+fn put_scene<'a, B: Ledgers, R: Wait>(
+    rt: &'a R,
+    run: &Run<'_, R>,
+    bank: &'a Bank<B>,
+    out: &mut Vec<u8>,
+) -> Result<(), NoMemory> {
+    let Some(plan) = plan_of(run.scene.get(b"plan")) else {
+        return put_line(out, b"no plan");
+    };
+    let first = first_turns(run.alloc, run.scene)?;
+    let case = Case {
+        alloc: run.alloc,
+        plan,
+        first: &first,
+        scene: run.scene,
+        values: run.values,
+    };
+    put_row(&OnBank { rt, bank }, &case, out)
 }
 
 /// Whether no reservation is left of a budget.
@@ -76,13 +103,24 @@ pub fn is_empty<B: Ledgers>(alloc: Global, bank: Bank<B>) -> bool {
     }
 }
 
-/// Plays the row on a new budget, which has to be empty after it.
+/// Plays the run on a new budget, which has to be empty after it.
+fn put_on_new<B: Ledgers, R: Wait>(
+    run: &Run<'_, R>,
+    bank: Bank<B>,
+    out: &mut Vec<u8>,
+) -> Result<(), NoMemory> {
+    let told = put_scene(run.rt, run, &bank, out);
+    if is_empty(run.alloc, bank) {
+        return told;
+    }
+    told?;
+    put_line(out, b"something is left of the budget")
+}
+
+/// Plays the run on a new budget of these ledgers.
 fn put_on_bank<H: Ledger, F: Ledger, S: Ledger, P: Ledger, R: Wait>(
-    rt: &R,
-    alloc: Global,
+    run: &Run<'_, R>,
     blanks: Blanks,
-    scene: Scene<'_>,
-    values: Values,
     out: &mut Vec<u8>,
 ) -> Result<(), NoMemory>
     requires held { (blanks.held.name ≡ H.name) × (blanks.held.parts ≡ H.parts) × (blanks.held.parts ≡ 3) }
@@ -90,24 +128,11 @@ fn put_on_bank<H: Ledger, F: Ledger, S: Ledger, P: Ledger, R: Wait>(
     requires slack { (blanks.slack.name ≡ S.name) × (blanks.slack.parts ≡ S.parts) × (blanks.slack.parts ≡ 3) }
     requires pages { (blanks.pages.name ≡ P.name) × (blanks.pages.parts ≡ P.parts) × (blanks.pages.parts ≡ 3) }
 {
-    let bank: Bank<(H, F, S, P)> = Bank::new(alloc, blanks, 65536, 2, 16)?;
-    let told = put_row(alloc, &OnBank { rt, bank: &bank }, scene, values, out);
-    let is_empty = is_empty(alloc, bank);
-    told?;
-    if is_empty {
-        Ok(())
-    } else {
-        put_line(out, b"something is left of the budget")
-    }
+    let bank: Bank<(H, F, S, P)> = Bank::new(run.alloc, blanks, 65536, 2, 16)?;
+    put_on_new(run, bank, out)
 }
 
 /// Adds what a run of the row reports.
-pub fn put_turns<R: Wait>(
-    rt: &R,
-    alloc: Global,
-    scene: Scene<'_>,
-    values: Values,
-    out: &mut Vec<u8>,
-) -> Result<(), NoMemory> {
-    put_on_bank::<Brand, Brand, Brand, Brand, R>(rt, alloc, Blanks::new(3), scene, values, out)
+pub fn put_turns<R: Wait>(run: &Run<'_, R>, out: &mut Vec<u8>) -> Result<(), NoMemory> {
+    put_on_bank::<Brand, Brand, Brand, Brand, R>(run, Blanks::new(3), out)
 }

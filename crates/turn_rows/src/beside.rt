@@ -1,15 +1,13 @@
 //! A message that isn't offered to a service, beside one that is, on one budget.
 
-use crate::game::{Game, Remains};
+use crate::case::Case;
 use crate::game_budget::GameBudget;
-use crate::scenes::BEGIN;
 use crate::steps::ROUND;
 use crate::told::put_ended;
 use adapt_turn::{Side, TurnAnswer};
-use std::alloc::Global;
 use test_rows::{NoMemory, put_line};
-use trace_core::Plan;
-use wire_rows::{Scene, Values, plan_of, put_flag};
+use turn_stage::{BEGIN, Game, Remains, Told};
+use wire_rows::{plan_of, put_flag};
 
 /// Rounds enough for a byte a turn.
 const ROUNDS: usize = 500;
@@ -36,31 +34,64 @@ fn play<G: Game>(offered: &mut G, plain: &mut G) -> bool {
     rested
 }
 
-/// Adds what two transactions over wires of one kind report: one of this plan, and then that of the plan `beside`.
-pub fn put_beside<P: GameBudget>(
-    alloc: Global,
+/// Begins the row's transaction by its plan, and then the one of the other case. `None` where the first can't begin; where the second
+/// can't it is an error, and the first has ended.
+fn begin_both<P: GameBudget>(
     budget: &P,
-    plan: Plan,
-    scene: Scene<'_>,
-    values: Values,
+    case: &Case<'_>,
+    other: &Case<'_>,
+) -> Result<Option<(P::Game, P::Game)>, NoMemory> {
+    let Some(offered) = budget.begun(case)? else {
+        return Ok(None);
+    };
+    match budget.begun(other) {
+        Ok(Some(plain)) => Ok(Some((offered, plain))),
+        _ => {
+            let _ = offered.end();
+            Err(NoMemory)
+        }
+    }
+}
+
+/// Adds what both report once they have ended, and whether the service's side rested.
+fn put_both_ended(
+    offered: &Told<'_>,
+    plain: &Told<'_>,
+    rested: bool,
+    case: &Case<'_>,
     out: &mut Vec<u8>,
 ) -> Result<(), NoMemory> {
-    let Some(other) = plan_of(scene.get(b"beside")) else {
-        return put_line(out, b"no plan beside it");
-    };
-    let offered = budget.begun(alloc, plan, scene, values)?;
-    let Some(mut offered) = offered else {
-        return put_line(out, b"it doesn't begin");
-    };
-    let plain = budget.begun(alloc, other, scene, values);
-    let Ok(Some(mut plain)) = plain else {
-        let _ = offered.end();
-        return Err(NoMemory);
-    };
+    put_ended(offered, case, out)?;
+    put_ended(plain, case, out)?;
+    put_flag(out, b"the service's side rests", rested)
+}
+
+/// Plays both, and adds what they report.
+fn put_both<G: Game>(
+    offered: G,
+    plain: G,
+    case: &Case<'_>,
+    out: &mut Vec<u8>,
+) -> Result<(), NoMemory> {
+    let mut offered = offered;
+    let mut plain = plain;
     let rested = play(&mut offered, &mut plain);
     let offered = offered.end();
     let plain = plain.end();
-    put_ended(&offered.told(), scene, values, out)?;
-    put_ended(&plain.told(), scene, values, out)?;
-    put_flag(out, b"the service's side rests", rested)
+    put_both_ended(&offered.told(), &plain.told(), rested, case, out)
+}
+
+/// Adds what two transactions over wires of one kind report: one of the row's plan, and then that of the plan `beside`.
+pub fn put_beside<P: GameBudget>(
+    budget: &P,
+    case: &Case<'_>,
+    out: &mut Vec<u8>,
+) -> Result<(), NoMemory> {
+    let Some(other) = plan_of(case.get(b"beside")) else {
+        return put_line(out, b"no plan beside it");
+    };
+    match begin_both(budget, case, &case.by(other))? {
+        Some((offered, plain)) => put_both(offered, plain, case, out),
+        None => put_line(out, b"it doesn't begin"),
+    }
 }

@@ -1,174 +1,143 @@
 //! Sixty-four transactions in four threads on one budget, which has room for one of them at a time.
 
-use crate::game::{Game, Remains};
-use crate::game_budget::{GameBudget, OnBank};
+use crate::case::Case;
+use crate::game_budget::{GameBudget, SharedBudget};
 use crate::threads::drive_to_end;
 use adapt_turn::Outcome;
-use span_bank::{Bank, Ledgers};
-use std::alloc::Global;
-use std::sync::Wait;
-use std::thread;
 use std::thread::Threads;
 use test_rows::{NoMemory, put_number};
-use trace_core::Plan;
-use wire_rows::{Scene, Values, put_flag};
+use turn_stage::{Four, Game, Remains, Task, Told, four};
+use wire_rows::put_flag;
 
 /// How often a thread begins two transactions, the second one while the first one is open.
 const TIMES: usize = 8;
 
 /// What became of transactions: how many users got the whole message, how many transactions the budget refused, and the others.
 #[derive(Clone, Copy)]
-struct Tally {
-    whole: u64,
-    refused: u64,
-    other: u64,
+pub struct Tally {
+    pub whole: u64,
+    pub refused: u64,
+    pub other: u64,
 }
 
-/// What becomes of a transaction.
-#[derive(Clone, Copy)]
-enum Fate {
-    Whole,
-    Refused,
-    Other,
-}
-
-/// The fate of a transaction, which is driven to its end.
-fn fate_of<G: Game>(begun: Option<G>, scene: Scene<'_>) -> Fate {
-    let Some(mut game) = begun else {
-        return Fate::Refused;
-    };
-    drive_to_end(&mut game);
-    let ended = game.end();
-    let told = ended.told();
-    if told.outcome == Outcome::Done
-        && told.of_service().taken == scene.get(b"to_service")
-        && told.next_hop.taken == scene.get(b"to_user")
-    {
-        Fate::Whole
-    } else {
-        Fate::Other
-    }
-}
-
-/// Counts what became of a transaction.
-fn count(tally: &mut Tally, fate: Fate) {
-    let number = match fate {
-        Fate::Whole => &mut tally.whole,
-        Fate::Refused => &mut tally.refused,
-        Fate::Other => &mut tally.other,
-    };
-    *number = number.saturating_add(1);
-}
-
-/// Begins two transactions, and ends both.
-fn play_two<P: GameBudget>(
-    alloc: Global,
-    budget: &P,
-    plan: Plan,
-    scene: Scene<'_>,
-    values: Values,
-    tally: &mut Tally,
-) -> Result<(), NoMemory> {
-    let first = budget.begun(alloc, plan, scene, values)?;
-    let second = budget.begun(alloc, plan, scene, values);
-    count(tally, fate_of(first, scene));
-    count(tally, fate_of(second?, scene));
-    Ok(())
-}
-
-/// What becomes of the transactions of a thread.
-fn play_all<P: GameBudget>(
-    alloc: Global,
-    budget: &P,
-    plan: Plan,
-    scene: Scene<'_>,
-    values: Values,
-) -> Result<Tally, NoMemory> {
-    let mut tally = Tally {
+impl Tally {
+    /// No transaction.
+    const NONE: Tally = Tally {
         whole: 0,
         refused: 0,
         other: 0,
     };
-    for _ in 0..TIMES {
-        play_two(alloc, budget, plan, scene, values, &mut tally)?;
+
+    /// One whose user got the whole message.
+    const WHOLE: Tally = Tally {
+        whole: 1,
+        ..Tally::NONE
+    };
+
+    /// One that the budget refused.
+    const REFUSED: Tally = Tally {
+        refused: 1,
+        ..Tally::NONE
+    };
+
+    /// Another one.
+    const OTHER: Tally = Tally {
+        other: 1,
+        ..Tally::NONE
+    };
+
+    /// These and further ones.
+    fn and(self, further: Tally) -> Tally {
+        Tally {
+            whole: self.whole.saturating_add(further.whole),
+            refused: self.refused.saturating_add(further.refused),
+            other: self.other.saturating_add(further.other),
+        }
     }
-    Ok(tally)
 }
 
-/// What becomes of the transactions of a thread on this budget.
-fn play_on<B: Ledgers, R: Wait>(
-    rt: &R,
-    alloc: Global,
-    bank: &Bank<B>,
-    plan: Plan,
-    scene: Scene<'_>,
-    values: Values,
+/// What became of a transaction by what is told of it.
+fn tally_of(told: &Told<'_>, case: &Case<'_>) -> Tally {
+    if told.outcome == Outcome::Done
+        && told.of_service().taken == case.get(b"to_service")
+        && told.next_hop.taken == case.get(b"to_user")
+    {
+        Tally::WHOLE
+    } else {
+        Tally::OTHER
+    }
+}
+
+/// What becomes of a transaction, which is driven to its end.
+fn driven<G: Game>(game: G, case: &Case<'_>) -> Tally {
+    let mut game = game;
+    drive_to_end(&mut game);
+    let ended = game.end();
+    tally_of(&ended.told(), case)
+}
+
+/// What becomes of a transaction, where it began.
+fn fate_of<G: Game>(
+    begun: Result<Option<G>, NoMemory>,
+    case: &Case<'_>,
 ) -> Result<Tally, NoMemory> {
-    play_all(alloc, &OnBank { rt, bank }, plan, scene, values)
+    match begun {
+        Ok(Some(game)) => Ok(driven(game, case)),
+        Ok(None) => Ok(Tally::REFUSED),
+        Err(NoMemory) => Err(NoMemory),
+    }
 }
 
-/// What becomes of the transactions of two threads.
-type Both = (Result<Tally, NoMemory>, Result<Tally, NoMemory>);
+/// What became of both.
+fn sum(first: Result<Tally, NoMemory>, second: Result<Tally, NoMemory>) -> Result<Tally, NoMemory> {
+    Ok(first?.and(second?))
+}
 
-/// The transactions of two threads.
-fn play_in_two<B: Ledgers + Send + Sync, R: Threads + Wait + Sync>(
-    rt: &R,
-    alloc: Global,
-    bank: &Bank<B>,
-    plan: Plan,
-    scene: Scene<'_>,
-    values: Values,
-) -> Both
-where
-    B::Held: Send + Sync,
-    B::Free: Send + Sync,
-    B::Slack: Send + Sync,
-    B::Pages: Send + Sync,
-{
-    thread::join(
-        rt,
-        move || play_on(rt, alloc, bank, plan, scene, values),
-        move || play_on(rt, alloc, bank, plan, scene, values),
-    )
+/// Begins two transactions, and ends both.
+pub fn play_two<P: GameBudget>(budget: &P, case: &Case<'_>) -> Result<Tally, NoMemory> {
+    let first = budget.begun(case);
+    let second = budget.begun(case);
+    sum(fate_of(first, case), fate_of(second, case))
+}
+
+/// The transactions of a thread.
+#[derive(Drop)]
+struct Crowd<'a, P> {
+    budget: &'a P,
+    case: &'a Case<'a>,
+}
+
+impl<'a, P: SharedBudget> Task for Crowd<'a, P> {
+    type Kept = Result<Tally, NoMemory>;
+
+    fn run(&self) -> Result<Tally, NoMemory> {
+        let mut tally = Tally::NONE;
+        for _ in 0..TIMES {
+            tally = tally.and(self.budget.play_two(self.case)?);
+        }
+        Ok(tally)
+    }
 }
 
 /// Adds what became of the row's transactions in four threads.
-pub fn put_four<B: Ledgers + Send + Sync, R: Threads + Wait + Sync>(
+pub fn put_four<P: SharedBudget + Sync, R: Threads + Sync>(
     rt: &R,
-    alloc: Global,
-    bank: &Bank<B>,
-    plan: Plan,
-    scene: Scene<'_>,
-    values: Values,
+    budget: &P,
+    case: &Case<'_>,
     out: &mut Vec<u8>,
-) -> Result<(), NoMemory>
-where
-    B::Held: Send + Sync,
-    B::Free: Send + Sync,
-    B::Slack: Send + Sync,
-    B::Pages: Send + Sync,
-{
-    let tallies = thread::join(
-        rt,
-        move || play_in_two(rt, alloc, bank, plan, scene, values),
-        move || play_in_two(rt, alloc, bank, plan, scene, values),
-    );
-    put_tallies(tallies, out)
+) -> Result<(), NoMemory> {
+    put_tallies(four(rt, &Crowd { budget, case }), out)
 }
 
 /// Adds what became of the transactions of four threads.
-fn put_tallies(tallies: (Both, Both), out: &mut Vec<u8>) -> Result<(), NoMemory> {
+fn put_tallies(tallies: Four<Result<Tally, NoMemory>>, out: &mut Vec<u8>) -> Result<(), NoMemory> {
     let (front, back) = tallies;
-    let (mut served, mut settled, mut other) = (0u64, 0u64, 0u64);
-    for found in [front.0, front.1, back.0, back.1] {
-        let tally = found?;
-        served = served.saturating_add(tally.whole);
-        settled = settled
-            .saturating_add(tally.whole)
-            .saturating_add(tally.refused);
-        other = other.saturating_add(tally.other);
-    }
-    put_number(out, b"whole or refused", settled)?;
-    put_number(out, b"otherwise", other)?;
-    put_flag(out, b"some whole", served > 0)
+    let all = sum(sum(front.0, front.1), sum(back.0, back.1))?;
+    put_number(
+        out,
+        b"whole or refused",
+        all.whole.saturating_add(all.refused),
+    )?;
+    put_number(out, b"otherwise", all.other)?;
+    put_flag(out, b"some whole", all.whole > 0)
 }

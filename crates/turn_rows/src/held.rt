@@ -1,7 +1,7 @@
 //! A wire that is held back by a gate.
 
-use crate::told::{Recorded, WireRecord};
 use std::time::Clock;
+use turn_stage::{Recorded, WireRecord};
 use wire_kit::{Calls, Gate, Got, HoldGate, Put, SharedWire, Wire};
 
 /// A wire that gives its first read at once, and the next one only once the gate is open: till then that read doesn't

@@ -6,18 +6,17 @@
 
 mod banks;
 mod beside;
+mod case;
 mod crowds;
-mod game;
 mod game_budget;
 mod held;
-mod scenes;
 mod shared;
-mod sides;
 mod steps;
 mod threads;
 mod told;
+mod wires;
 
-use banks::put_turns;
+use banks::{Run, put_turns};
 use shared::put_threads;
 use std::alloc::Global;
 use std::io::Write;
@@ -26,6 +25,7 @@ use std::thread::Threads;
 use std::time::Clock;
 use std::{env, fs, io};
 use test_rows::{NoMemory, Report, number, read_table};
+use wire_kit::Answer;
 use wire_rows::{Player, Scene, Values, put_runs};
 
 /// What plays a row.
@@ -37,7 +37,13 @@ struct Turns<'a, R> {
 
 impl<'a, R: Wait> Player for Turns<'a, R> {
     fn put_run(&self, scene: Scene<'_>, values: Values, out: &mut Vec<u8>) -> Result<(), NoMemory> {
-        put_turns(self.rt, self.alloc, scene, values, out)
+        let run = Run {
+            rt: self.rt,
+            alloc: self.alloc,
+            scene,
+            values,
+        };
+        put_turns(&run, out)
     }
 }
 
@@ -47,6 +53,14 @@ const OF_TWO: u64 = 32_768;
 /// Of these bytes each transaction of a crowd claims 16,384.
 const OF_CROWD: u64 = 20_000;
 
+/// The letters of a row that names no letters.
+const NO_LETTERS: Values = Values {
+    n: 0,
+    m: 0,
+    s: 0,
+    e: Answer::Wait,
+};
+
 /// Adds the answer to a row.
 fn put_answer<R: Threads + Wait + Clock + Sync>(
     rt: &R,
@@ -54,11 +68,17 @@ fn put_answer<R: Threads + Wait + Clock + Sync>(
     scene: Scene<'_>,
     out: &mut Vec<u8>,
 ) -> Result<(), NoMemory> {
+    let run = Run {
+        rt,
+        alloc,
+        scene,
+        values: NO_LETTERS,
+    };
     if scene.is(b"call", b"threads") {
-        return put_threads(rt, alloc, OF_TWO, 2, scene, out);
+        return put_threads(&run, OF_TWO, 2, out);
     }
     if scene.is(b"call", b"crowd") {
-        return put_threads(rt, alloc, OF_CROWD, 4, scene, out);
+        return put_threads(&run, OF_CROWD, 4, out);
     }
     put_runs(alloc, &Turns { rt, alloc }, scene, out)
 }

@@ -2,34 +2,40 @@
 ghost use Rattle.std.specs.Prelude.{◌≡◌, ◌≤◌, ◌+◌};
 ghost use Rattle.span_bank.specs.declared.limits.TheConstants.{MAX_CAPACITY, MAX_ROWS};
 
-use crate::banks::is_empty;
+use crate::banks::{Run, is_empty};
+use crate::case::Case;
 use crate::crowds::put_four;
+use crate::game_budget::{OnBank, SharedBudget};
+use crate::steps::first_turns;
 use crate::threads::put_both;
 use span_bank::{Bank, Blanks, Ledgers};
-use std::alloc::Global;
 use std::marker::Brand;
 use std::sync::Wait;
 use std::sync::ledger::Ledger;
 use std::thread::Threads;
 use std::time::Clock;
 use test_rows::{NoMemory, put_line};
-use wire_kit::Answer;
-use wire_rows::{Scene, Values, plan_of, put_flag};
+use wire_rows::{plan_of, put_flag};
 
-/// The letters of a row that names no letters.
-const NO_LETTERS: Values = Values {
-    n: 0,
-    m: 0,
-    s: 0,
-    e: Answer::Wait,
-};
-
-/// Adds what the row's transactions report on this budget.
-fn put_scene<B: Ledgers + Send + Sync, R: Threads + Wait + Clock + Sync>(
+/// Adds what two threads report, or four.
+fn put_row<P: SharedBudget + Sync, R: Threads + Sync>(
     rt: &R,
-    alloc: Global,
-    bank: &Bank<B>,
-    scene: Scene<'_>,
+    budget: &P,
+    case: &Case<'_>,
+    out: &mut Vec<u8>,
+) -> Result<(), NoMemory> {
+    if case.get(b"call") == b"threads".as_slice() {
+        put_both(rt, budget, case, out)
+    } else {
+        put_four(rt, budget, case, out)
+    }
+}
+
+/// Adds what the run's transactions report on this budget.
+fn put_scene<'a, B: Ledgers + Send + Sync, R: Threads + Wait + Clock + Sync>(
+    rt: &'a R,
+    run: &Run<'_, R>,
+    bank: &'a Bank<B>,
     out: &mut Vec<u8>,
 ) -> Result<(), NoMemory>
 where
@@ -38,17 +44,39 @@ where
     B::Slack: Send + Sync,
     B::Pages: Send + Sync,
 {
-    let Some(plan) = plan_of(scene.get(b"plan")) else {
+    let Some(plan) = plan_of(run.scene.get(b"plan")) else {
         return put_line(out, b"no plan");
     };
-    if scene.is(b"call", b"threads") {
-        put_both(rt, alloc, bank, plan, scene, NO_LETTERS, out)
-    } else {
-        put_four(rt, alloc, bank, plan, scene, NO_LETTERS, out)
-    }
+    let first = first_turns(run.alloc, run.scene)?;
+    let case = Case {
+        alloc: run.alloc,
+        plan,
+        first: &first,
+        scene: run.scene,
+        values: run.values,
+    };
+    put_row(rt, &OnBank { rt, bank }, &case, out)
 }
 
-/// Adds what the row's transactions report on a new budget of these bytes for so many reservations, and whether it is empty after them.
+/// Adds what the run's transactions report on a new budget, and whether it is empty after them.
+fn put_on_new<B: Ledgers + Send + Sync, R: Threads + Wait + Clock + Sync>(
+    run: &Run<'_, R>,
+    bank: Bank<B>,
+    out: &mut Vec<u8>,
+) -> Result<(), NoMemory>
+where
+    B::Held: Send + Sync,
+    B::Free: Send + Sync,
+    B::Slack: Send + Sync,
+    B::Pages: Send + Sync,
+{
+    let told = put_scene(run.rt, run, &bank, out);
+    let is_empty = is_empty(run.alloc, bank);
+    told?;
+    put_flag(out, b"budget empty", is_empty)
+}
+
+/// Adds what the run's transactions report on a new budget of these ledgers, of these bytes for so many reservations.
 fn put_on_bank<
     H: Ledger + Send + Sync,
     F: Ledger + Send + Sync,
@@ -56,12 +84,10 @@ fn put_on_bank<
     P: Ledger + Send + Sync,
     R: Threads + Wait + Clock + Sync,
 >(
-    rt: &R,
-    alloc: Global,
+    run: &Run<'_, R>,
     blanks: Blanks,
     capacity: u64,
     rows: u64,
-    scene: Scene<'_>,
     out: &mut Vec<u8>,
 ) -> Result<(), NoMemory>
     requires held { (blanks.held.name ≡ H.name) × (blanks.held.parts ≡ H.parts) × (blanks.held.parts ≡ rows + 1) }
@@ -71,32 +97,20 @@ fn put_on_bank<
     requires capacity { (1 ≤ capacity) × (capacity ≤ MAX_CAPACITY) }
     requires rows { (1 ≤ rows) × (rows ≤ MAX_ROWS) }
 {
-    let bank: Bank<(H, F, S, P)> = Bank::new(alloc, blanks, capacity, rows, 16)?;
-    let told = put_scene(rt, alloc, &bank, scene, out);
-    let is_empty = is_empty(alloc, bank);
-    told?;
-    put_flag(out, b"budget empty", is_empty)
+    let bank: Bank<(H, F, S, P)> = Bank::new(run.alloc, blanks, capacity, rows, 16)?;
+    put_on_new(run, bank, out)
 }
 
-/// Adds what the row's transactions in several threads report on a new budget of these bytes for so many reservations.
+/// Adds what the run's transactions in several threads report on a new budget of these bytes for so many reservations.
 pub fn put_threads<R: Threads + Wait + Clock + Sync>(
-    rt: &R,
-    alloc: Global,
+    run: &Run<'_, R>,
     capacity: u64,
     rows: u64,
-    scene: Scene<'_>,
     out: &mut Vec<u8>,
 ) -> Result<(), NoMemory>
     requires capacity { (1 ≤ capacity) × (capacity ≤ MAX_CAPACITY) }
     requires rows { (1 ≤ rows) × (rows ≤ MAX_ROWS) }
 {
-    put_on_bank::<Brand, Brand, Brand, Brand, R>(
-        rt,
-        alloc,
-        Blanks::new(rows + 1),
-        capacity,
-        rows,
-        scene,
-        out,
-    )
+    let blanks = Blanks::new(rows + 1);
+    put_on_bank::<Brand, Brand, Brand, Brand, R>(run, blanks, capacity, rows, out)
 }

@@ -1,9 +1,10 @@
 //! The steps of a row, in words.
 
-use crate::game::Game;
+use crate::case::Case;
 use adapt_turn::{Side, TurnAnswer};
 use std::alloc::Global;
 use test_rows::{NoMemory, put_line, put_number, put_shown};
+use turn_stage::Game;
 use wire_rows::{Scene, Values, index_of, number, parts};
 
 /// Turns of each side.
@@ -99,9 +100,9 @@ fn count_turns<G: Game>(game: &mut G, order: &[Side], count: usize) -> Counted {
     counted
 }
 
-/// Adds what was counted.
-fn put_tally(tally: Counted, values: Values, out: &mut Vec<u8>) -> Result<(), NoMemory> {
-    if tally.moved == values.n {
+/// Adds what was counted, where there are this many places.
+fn put_tally(tally: Counted, places: usize, out: &mut Vec<u8>) -> Result<(), NoMemory> {
+    if tally.moved == places {
         put_line(out, b"moved a byte n times")?;
     } else {
         put_number(out, b"moved a byte", tally.moved as u64)?;
@@ -147,13 +148,13 @@ fn put_freed(freed: Option<bool>, out: &mut Vec<u8>) -> Result<(), NoMemory> {
 /// Plays a step: `rounds=500`, `tally=80`, `until-over`, `halt`, `free`, or turns whose answers are added, as `source@190` and `each@189`.
 fn put_step<G: Game>(
     game: &mut G,
-    orders: Orders<'_>,
-    values: Values,
+    orders: &Orders<'_>,
+    values: &Values,
     word: &[u8],
     out: &mut Vec<u8>,
 ) -> Result<(), NoMemory> {
     if let Some((sides, moment)) = parts(word, b'@') {
-        let now = number(moment, values).unwrap_or(0);
+        let now = number(moment, *values).unwrap_or(0);
         return match index_of(b"source service hop", sides) {
             Some(0) => put_turns(game, &[Side::Source], now, out),
             Some(1) => put_turns(game, &[Side::Service], now, out),
@@ -162,7 +163,7 @@ fn put_step<G: Game>(
         };
     }
     let (name, count) = parts(word, b'=').unwrap_or((word, b"0"));
-    let count = number(count, values).unwrap_or(0);
+    let count = number(count, *values).unwrap_or(0);
     match index_of(b"rounds until-over halt free", name) {
         Some(0) => match orders.at {
             Some(now) => play_rounds_at(game, orders.order, now, count),
@@ -171,31 +172,36 @@ fn put_step<G: Game>(
         Some(1) => play_until_over(game, orders.order),
         Some(2) => game.stop(),
         Some(3) => return put_freed(game.free(), out),
-        _ => {
-            let tally = count_turns(game, orders.tally, count);
-            return put_tally(tally, values, out);
-        }
+        _ => return put_tally(count_turns(game, orders.tally, count), values.n, out),
+    }
+    Ok(())
+}
+
+/// Plays the row's steps by these orders, and adds what they answer.
+fn put_all_steps<G: Game>(
+    game: &mut G,
+    orders: &Orders<'_>,
+    case: &Case<'_>,
+    out: &mut Vec<u8>,
+) -> Result<(), NoMemory> {
+    for word in case.get(b"steps").split(|byte| *byte == b' ') {
+        put_step(game, orders, &case.values, word, out)?;
     }
     Ok(())
 }
 
 /// Plays the row's steps, and adds what they answer.
 pub fn put_steps<G: Game>(
-    alloc: Global,
     game: &mut G,
-    scene: Scene<'_>,
-    values: Values,
+    case: &Case<'_>,
     out: &mut Vec<u8>,
 ) -> Result<(), NoMemory> {
-    let order = order_of(alloc, scene.get(b"order"))?;
-    let tally = order_of(alloc, scene.get(b"tally"))?;
+    let order = order_of(case.alloc, case.get(b"order"))?;
+    let tally = order_of(case.alloc, case.get(b"tally"))?;
     let orders = Orders {
         order: &order,
         tally: &tally,
-        at: number(scene.get(b"at"), values),
+        at: number(case.get(b"at"), case.values),
     };
-    for word in scene.get(b"steps").split(|byte| *byte == b' ') {
-        put_step(game, orders, values, word, out)?;
-    }
-    Ok(())
+    put_all_steps(game, &orders, case, out)
 }

@@ -1,35 +1,26 @@
 //! Two transactions in two threads on one budget, which has room for just the two. The body of the first doesn't come before the
 //! second is finished.
 
-use crate::game::{Game, Remains};
-use crate::game_budget::{GameBudget, OnBank};
+use crate::case::Case;
+use crate::game_budget::{GameBudget, SharedBudget};
 use crate::held::HeldWire;
-use crate::scenes::BEGIN;
 use crate::steps::ROUND;
-use crate::told::{Told, wants_memory};
+use crate::told::put_outcome;
 use adapt_turn::{Side, TurnAnswer};
-use span_bank::{Bank, Ledgers};
-use std::alloc::Global;
-use std::sync::Wait;
-use std::thread;
 use std::thread::Threads;
 use std::time::Clock;
-use test_rows::{NoMemory, put_shown};
-use trace_core::Plan;
+use test_rows::NoMemory;
+use turn_stage::{BEGIN, Game, Remains, Task, two};
 use wire_kit::{Answer, Answers, HoldGate, SharedWire};
-use wire_rows::{Scene, Values, put_text};
 
 /// The rounds of a transaction in which each text goes at once.
 const ROUNDS: usize = 6;
 
 /// What the origin's wire of the first transaction answers: its head, a failure, its body.
-fn held_answers(alloc: Global, scene: Scene<'_>) -> Result<Answers, NoMemory> {
-    let list = vec![in alloc;
-        Answer::Moved(scene.get(b"head").len()),
-        Answer::Fault,
-        Answer::Moved(64),
-    ]?;
-    Ok(Answers::new(list))
+fn held_answers(case: &Case<'_>) -> Result<Answers, NoMemory> {
+    let head = case.get(b"head").len();
+    let list = [Answer::Moved(head), Answer::Fault, Answer::Moved(64)];
+    Ok(Answers::new(list.to_vec(case.alloc)?))
 }
 
 /// Drives a transaction until it has answered that it is finished.
@@ -40,55 +31,48 @@ pub fn drive_to_end<G: Game>(game: &mut G) -> bool {
     matches!(game.take_turn(Side::Source, BEGIN), TurnAnswer::Finished(_))
 }
 
-/// What a row's answer says of a transaction that ended.
-fn text_of(
-    alloc: Global,
-    told: &Told<'_>,
-    scene: Scene<'_>,
-    values: Values,
-) -> Result<Vec<u8>, NoMemory> {
-    let user = told.next_hop.taken;
-    if wants_memory(told.outcome, user, scene) {
-        return Err(NoMemory);
-    }
-    let mut out = Vec::new(alloc);
-    put_shown(&mut out, b"outcome", &told.outcome)?;
-    put_text(&mut out, scene, b"service", told.of_service().taken, values)?;
-    put_text(&mut out, scene, b"hop", user, values)?;
-    Ok(out)
-}
-
 /// What a transaction reports, which is driven to its end, and then opens the gate.
-pub fn report<G: Game>(
-    alloc: Global,
-    begun: Option<G>,
+fn driven<G: Game>(
+    game: G,
     gate: Option<&HoldGate>,
-    scene: Scene<'_>,
-    values: Values,
-) -> Result<Vec<u8>, NoMemory> {
-    let Some(mut game) = begun else {
-        return Ok(Vec::new(alloc));
-    };
+    case: &Case<'_>,
+    out: &mut Vec<u8>,
+) -> Result<(), NoMemory> {
+    let mut game = game;
     if drive_to_end(&mut game)
         && let Some(gate) = gate
     {
         gate.answered();
     }
     let ended = game.end();
-    text_of(alloc, &ended.told(), scene, values)
+    put_outcome(&ended.told(), case, out)
+}
+
+/// What a transaction reports, where it began: it is driven to its end, and then opens the gate.
+pub fn report<G: Game>(
+    begun: Result<Option<G>, NoMemory>,
+    gate: Option<&HoldGate>,
+    case: &Case<'_>,
+) -> Result<Vec<u8>, NoMemory> {
+    let mut out = Vec::new(case.alloc);
+    match begun {
+        Ok(Some(game)) => driven(game, gate, case, &mut out)?,
+        Ok(None) => {}
+        Err(NoMemory) => return Err(NoMemory),
+    }
+    Ok(out)
 }
 
 /// The origin's wire of the first transaction, which answers by this list.
 fn held_wire<'a, R: Clock>(
     rt: &'a R,
-    alloc: Global,
     gate: &'a HoldGate,
     answers: &'a Answers,
-    scene: Scene<'_>,
+    case: &Case<'_>,
 ) -> Result<HeldWire<'a, R>, NoMemory> {
-    let input = scene.get(b"source").to_vec(alloc)?;
-    let wire = SharedWire::new(alloc, answers, input, 0)?;
-    let other = SharedWire::new(alloc, answers, Vec::new(alloc), 0)?;
+    let input = case.get(b"source").to_vec(case.alloc)?;
+    let wire = SharedWire::new(case.alloc, answers, input, 0)?;
+    let other = SharedWire::new(case.alloc, answers, Vec::new(case.alloc), 0)?;
     Ok(HeldWire {
         rt,
         gate,
@@ -99,77 +83,60 @@ fn held_wire<'a, R: Clock>(
 }
 
 /// What the first transaction reports, whose origin's wire is held back by the gate.
-fn first<P: GameBudget, R: Clock>(
+pub fn report_held<P: GameBudget, R: Clock>(
     rt: &R,
-    alloc: Global,
     budget: &P,
     gate: &HoldGate,
-    plan: Plan,
-    scene: Scene<'_>,
-    values: Values,
+    case: &Case<'_>,
 ) -> Result<Vec<u8>, NoMemory> {
-    let answers = held_answers(alloc, scene)?;
-    let source = held_wire(rt, alloc, gate, &answers, scene)?;
-    budget.reported_over(alloc, source, plan, scene, values)
+    let answers = held_answers(case)?;
+    let source = held_wire(rt, gate, &answers, case)?;
+    budget.reported_over(source, case)
 }
 
-/// What the other one reports, which opens the gate once it is finished.
-fn second<P: GameBudget>(
-    alloc: Global,
-    budget: &P,
-    gate: &HoldGate,
-    plan: Plan,
-    scene: Scene<'_>,
-    values: Values,
-) -> Result<Vec<u8>, NoMemory> {
-    let begun = budget.begun(alloc, plan, scene, values)?;
-    report(alloc, begun, Some(gate), scene, values)
+/// One of the two transactions.
+#[derive(Drop)]
+struct OneOfTwo<'a, P> {
+    budget: &'a P,
+    gate: &'a HoldGate,
+    case: &'a Case<'a>,
+    /// Whether its origin's wire is held back by the gate; it opens the gate otherwise, once it is finished.
+    is_held: bool,
 }
 
-/// What each reports.
-type Both = (Result<Vec<u8>, NoMemory>, Result<Vec<u8>, NoMemory>);
+impl<'a, P: SharedBudget> Task for OneOfTwo<'a, P> {
+    type Kept = Result<Vec<u8>, NoMemory>;
 
-/// Both, each in a thread of its own.
-fn run_both<B: Ledgers + Send + Sync, R: Threads + Wait + Clock + Sync>(
-    rt: &R,
-    alloc: Global,
-    bank: &Bank<B>,
-    gate: &HoldGate,
-    plan: Plan,
-    scene: Scene<'_>,
-    values: Values,
-) -> Both
-where
-    B::Held: Send + Sync,
-    B::Free: Send + Sync,
-    B::Slack: Send + Sync,
-    B::Pages: Send + Sync,
-{
-    thread::join(
-        rt,
-        move || first(rt, alloc, &OnBank { rt, bank }, gate, plan, scene, values),
-        move || second(alloc, &OnBank { rt, bank }, gate, plan, scene, values),
-    )
+    fn run(&self) -> Result<Vec<u8>, NoMemory> {
+        if self.is_held {
+            self.budget.report_held(self.gate, self.case)
+        } else {
+            self.budget.report_opening(self.gate, self.case)
+        }
+    }
 }
 
 /// Adds what both report.
-pub fn put_both<B: Ledgers + Send + Sync, R: Threads + Wait + Clock + Sync>(
+pub fn put_both<P: SharedBudget + Sync, R: Threads + Sync>(
     rt: &R,
-    alloc: Global,
-    bank: &Bank<B>,
-    plan: Plan,
-    scene: Scene<'_>,
-    values: Values,
+    budget: &P,
+    case: &Case<'_>,
     out: &mut Vec<u8>,
-) -> Result<(), NoMemory>
-where
-    B::Held: Send + Sync,
-    B::Free: Send + Sync,
-    B::Slack: Send + Sync,
-    B::Pages: Send + Sync,
-{
+) -> Result<(), NoMemory> {
     let gate = HoldGate::new();
-    let (first, second) = run_both(rt, alloc, bank, &gate, plan, scene, values);
+    let first = OneOfTwo {
+        budget,
+        gate: &gate,
+        case,
+        is_held: true,
+    };
+    let second = OneOfTwo {
+        budget,
+        gate: &gate,
+        case,
+        is_held: false,
+    };
+    let (first, second) = two(rt, &first, &second);
     out.extend_from_slice(&first?)?;
     out.extend_from_slice(&second?)
 }

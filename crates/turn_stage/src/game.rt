@@ -12,7 +12,7 @@ use wire_kit::Wire;
 
 /// The connections of a service beside the one in use.
 #[derive(Drop)]
-pub struct Lines<C> {
+pub(crate) struct Lines<C> {
     /// One that comes in the place of a broken one.
     pub fresh: Option<C>,
     /// The broken one.
@@ -25,7 +25,7 @@ pub struct Lines<C> {
 
 impl<C> Lines<C> {
     /// One that comes in the place of a broken one, and no other.
-    pub fn with(fresh: Option<C>) -> Lines<C> {
+    pub(crate) fn with(fresh: Option<C>) -> Lines<C> {
         Lines {
             fresh,
             broken: None,
@@ -71,10 +71,10 @@ pub trait Game {
 
 /// A transaction of the proxy's own sides on a budget, with the service's other connections.
 pub struct Played<'a, B: Ledgers, W: Wires, R> {
-    pub rt: &'a R,
-    pub bank: &'a Bank<B>,
-    pub running: Running<B, W>,
-    pub lines: Lines<W::ServiceWire>,
+    pub(crate) rt: &'a R,
+    pub(crate) bank: &'a Bank<B>,
+    pub(crate) running: Running<B, W>,
+    pub(crate) lines: Lines<W::ServiceWire>,
 }
 
 impl<'a, B: Ledgers, A: Wire + Drop + Recorded, C: Wire + Drop + Recorded, R: Wait> Game
@@ -235,7 +235,11 @@ where
 }
 
 /// Takes apart what no transaction began with.
-pub fn undo<B: Ledgers, W: Wires, R: Wait>(rt: &R, bank: &Bank<B>, beginning: Beginning<B, W>)
+pub(crate) fn undo<B: Ledgers, W: Wires, R: Wait>(
+    rt: &R,
+    bank: &Bank<B>,
+    beginning: Beginning<B, W>,
+)
     requires { (beginning.stake.held ≡ 0) × (beginning.stake.pages ≡ 0) }
 {
     let (stake, way) = beginning.into_remains();

@@ -5,12 +5,14 @@ ghost use Rattle.span_bank.specs.declared.limits.TheConstants.{MAX_CAPACITY};
 ghost use Rattle.plan_rules.specs.Claims.{claim_of};
 
 use crate::game::{Lines, Played, undo};
-use crate::sides::{Sides, Wires};
+use crate::sides::{Sides, Subject, Wires, make_sides};
+use crate::told::Counted;
 use adapt_turn::Side;
 use plan_rules::{Limits, Pace, claim};
-use proxy_rules::{Beginning, Incoming, Offer, Way, laws};
+use proxy_rules::{Beginning, Incoming, Offer, Running, Way, laws};
 use span_bank::{Bank, Ledgers, Stake};
-use std::alloc::Global;
+use std::alloc::{AllocError, Global};
+use std::mem;
 use std::sync::Wait;
 use trace_core::Plan;
 use wire_kit::Wire;
@@ -54,8 +56,43 @@ fn reserve<B: Ledgers, R: Wait>(rt: &R, bank: &Bank<B>, plan: Plan) -> Option<Re
     }
 }
 
-/// Begins a transaction on a reservation of its own, and takes these turns. `None` where it can't begin.
+/// A reservation for a transaction of this plan, and what else it begins with. `None` where it can't begin.
+fn reserve_for<B: Ledgers, T: Drop, R: Wait>(
+    rt: &R,
+    bank: &Bank<B>,
+    plan: Plan,
+    rest: T,
+) -> Option<(Reserved<B>, T)>
+    ensures empty { IfSome result (λ r. (r.0.stake.held ≡ 0) × (r.0.stake.pages ≡ 0)) }
+    ensures claim { IfSome result (λ r. r.0.stake.claim ≡ claim_of plan r.0.limits.window) }
+    ensures small { IfSome result (λ r. r.0.stake.claim ≤ MAX_CAPACITY) }
+    ensures rest { IfSome result (λ r. r.1 ≡ rest) }
+{
+    match reserve(rt, bank, plan) {
+        Some(reserved) => Some((reserved, rest)),
+        None => None,
+    }
+}
+
+/// Begins a transaction over these wires, on a reservation of its own, and takes these turns, each of a side at a moment. `None` where it
+/// can't begin. An error if no memory is found for its sides.
 pub fn begin<'a, B: Ledgers, A: Wire + Drop, C: Wire + Drop, R: Wait>(
+    rt: &'a R,
+    alloc: Global,
+    bank: &'a Bank<B>,
+    subject: &Subject<'_>,
+    wires: Wires<A, C>,
+    first: &[(Side, u64)],
+) -> Result<Option<Played<'a, B, (A, C, C), R>>, AllocError> {
+    let mut wires = wires;
+    match make_sides(alloc, subject, &mut wires.source)? {
+        Some(sides) => Ok(begin_reserved(rt, alloc, bank, sides, wires, first)),
+        None => Ok(None),
+    }
+}
+
+/// Begins a transaction of these sides on a reservation of its own, and takes these turns. `None` where it can't begin.
+fn begin_reserved<'a, B: Ledgers, A: Wire + Drop, C: Wire + Drop, R: Wait>(
     rt: &'a R,
     alloc: Global,
     bank: &'a Bank<B>,
@@ -63,15 +100,16 @@ pub fn begin<'a, B: Ledgers, A: Wire + Drop, C: Wire + Drop, R: Wait>(
     wires: Wires<A, C>,
     first: &[(Side, u64)],
 ) -> Option<Played<'a, B, (A, C, C), R>> {
-    match reserve(rt, bank, *sides.offer.plan()) {
-        Some(Reserved { limits, stake }) => {
+    let plan = *sides.offer.plan();
+    match reserve_for(rt, bank, plan, (sides, wires)) {
+        Some((Reserved { limits, stake }, (sides, wires))) => {
             start(rt, alloc, bank, limits, stake, sides, wires, first)
         }
         None => None,
     }
 }
 
-/// Begins a transaction of this plan on this reservation, and takes these turns.
+/// Begins a transaction of these sides on this reservation, and takes these turns.
 fn start<'a, B: Ledgers, A: Wire + Drop, C: Wire + Drop, R: Wait>(
     rt: &'a R,
     alloc: Global,
@@ -126,4 +164,9 @@ fn start<'a, B: Ledgers, A: Wire + Drop, C: Wire + Drop, R: Wait>(
             None
         }
     }
+}
+
+/// How large a transaction over wires in memory is, in bytes, on a budget as this one.
+pub fn game_size<B: Ledgers>(_bank: &Bank<B>) -> usize {
+    mem::size_of::<Running<B, (Counted, Counted, Counted)>>()
 }
