@@ -5,15 +5,14 @@ ghost use Rattle.adapt_bytes.specs.declared.limits.TheConstants.{COUNT_LIMIT};
 ghost use Rattle.span_bank.specs.declared.limits.TheConstants.{MAX_CAPACITY};
 ghost use Rattle.span_tape.specs.Tape.{end_of};
 
-use crate::game_budget::{GameBudget, OnBank};
+use crate::bench_budget::BenchBudget;
 use crate::nanos_each;
-use crate::threads::rounds_of_two;
+use crate::threads::rounds_of_four;
 use anyhow::Result;
-use span_bank::{Bank, Ledgers, OpenFault, Pages, Stake};
+use span_bank::{Bank, Ledgers, Pages, Stake};
 use span_tape::SpanTape;
 use std::alloc::Global;
 use std::sync::Wait;
-use std::thread;
 use std::thread::Threads;
 use std::time::{Clock, Duration, Instant};
 
@@ -147,7 +146,7 @@ fn put_each<R: Eprint>(rt: &R, name: &str, took: Duration, rounds: u32) -> Resul
 }
 
 /// Prints what one thread takes.
-fn time_one<P: GameBudget, R: Clock + Eprint>(
+fn time_one<P: BenchBudget, R: Clock + Eprint>(
     rt: &R,
     alloc: Global,
     budget: &P,
@@ -173,40 +172,14 @@ fn time_one<P: GameBudget, R: Clock + Eprint>(
     put_each(rt, long, budget.time_tape(rounds, 256)?, rounds)
 }
 
-/// The rounds of four threads.
-fn rounds_of_four<B: Ledgers + Send + Sync, R: Threads + Wait + Sync>(
-    rt: &R,
-    bank: &Bank<B>,
-    rounds: u32,
-) -> Result<(), OpenFault>
-where
-    B::Held: Send + Sync,
-    B::Free: Send + Sync,
-    B::Slack: Send + Sync,
-    B::Pages: Send + Sync,
-{
-    let ((first, second), (third, fourth)) = thread::join(
-        rt,
-        move || rounds_of_two(rt, bank, rounds),
-        move || rounds_of_two(rt, bank, rounds),
-    );
-    first.and(second).and(third).and(fourth)
-}
-
 /// Prints what four threads take.
-fn time_four<B: Ledgers + Send + Sync, R: Threads + Wait + Clock + Eprint + Sync>(
+fn time_four<P: BenchBudget + Sync, R: Threads + Clock + Eprint + Sync>(
     rt: &R,
-    bank: &Bank<B>,
+    budget: &P,
     rounds: u32,
-) -> Result<()>
-where
-    B::Held: Send + Sync,
-    B::Free: Send + Sync,
-    B::Slack: Send + Sync,
-    B::Pages: Send + Sync,
-{
+) -> Result<()> {
     let start = Instant::now(rt)?;
-    let all = rounds_of_four(rt, bank, rounds);
+    let all = rounds_of_four(rt, budget, rounds);
     let step = nanos_each(start.elapsed(rt)?, rounds) / 16;
     all?;
     eprintln!(rt;
@@ -216,20 +189,14 @@ where
 }
 
 /// Prints what a round takes.
-pub fn time_budget<B: Ledgers + Send + Sync, R: Threads + Wait + Clock + Print + Eprint + Sync>(
+pub fn time_budget<P: BenchBudget + Sync, R: Threads + Clock + Print + Eprint + Sync>(
     rt: &R,
     alloc: Global,
-    bank: &Bank<B>,
+    budget: &P,
     rounds: u32,
-) -> Result<()>
-where
-    B::Held: Send + Sync,
-    B::Free: Send + Sync,
-    B::Slack: Send + Sync,
-    B::Pages: Send + Sync,
-{
-    time_one(rt, alloc, &OnBank { rt, bank }, rounds)?;
-    time_four(rt, bank, rounds)?;
+) -> Result<()> {
+    time_one(rt, alloc, budget, rounds)?;
+    time_four(rt, budget, rounds)?;
     println!(rt; "bank: {rounds} rounds")?;
     Ok(())
 }

@@ -7,22 +7,21 @@
 ghost use Rattle.std.specs.Prelude.{◌≡◌};
 
 mod answers;
+mod bench_budget;
 mod budget;
 mod chunks;
 mod exchange;
-mod game_budget;
 mod heads;
 mod hostile;
 mod offered;
 mod requests;
 mod task;
 mod threads;
-mod transaction;
 mod turns;
 
+use crate::bench_budget::{BenchBudget, OnBank};
 use crate::budget::time_budget;
 use crate::chunks::time_chunks;
-use crate::game_budget::{GameBudget, OnBank};
 use crate::heads::time_heads;
 use crate::task::{Layer, Task, read_tasks};
 use crate::turns::time_turns;
@@ -44,8 +43,8 @@ pub fn nanos_each(took: Duration, times: u32) -> u128 {
     took.as_nanos() / u128::from(times.max(1))
 }
 
-/// Measures a layer in one thread.
-fn measure_alone<P: GameBudget, R: Clock + Print + Eprint>(
+/// Measures a layer.
+fn measure<P: BenchBudget + Sync, R: Threads + Clock + Print + Eprint + Sync>(
     rt: &R,
     alloc: Global,
     budget: &P,
@@ -56,16 +55,16 @@ fn measure_alone<P: GameBudget, R: Clock + Print + Eprint>(
         Layer::Heads => time_heads(rt, alloc, task.times),
         Layer::Exchange => budget.time_exchanges(alloc, task.times),
         Layer::Turns => time_turns(rt, alloc, budget, task.times),
-        Layer::Bank => Ok(()),
+        Layer::Bank => time_budget(rt, alloc, budget, task.times),
     }
 }
 
-/// Measures a layer.
-fn measure<B: Ledgers + Send + Sync, R: Threads + Wait + Clock + Print + Eprint + Sync>(
-    rt: &R,
+/// Measures layers.
+fn measure_all<'a, B: Ledgers + Send + Sync, R: Threads + Wait + Clock + Print + Eprint + Sync>(
+    rt: &'a R,
     alloc: Global,
-    bank: &Bank<B>,
-    task: Task,
+    bank: &'a Bank<B>,
+    tasks: &[Task],
 ) -> Result<()>
 where
     B::Held: Send + Sync,
@@ -73,10 +72,10 @@ where
     B::Slack: Send + Sync,
     B::Pages: Send + Sync,
 {
-    match task.layer {
-        Layer::Bank => time_budget(rt, alloc, bank, task.times),
-        _ => measure_alone(rt, alloc, &OnBank { rt, bank }, task),
+    for task in tasks {
+        measure(rt, alloc, &OnBank { rt, bank }, *task)?;
     }
+    Ok(())
 }
 
 /// Whether no reservation is left of a budget.
@@ -104,9 +103,7 @@ fn run<
     requires pages { (blanks.pages.name ≡ P.name) × (blanks.pages.parts ≡ P.parts) × (blanks.pages.parts ≡ 5) }
 {
     let bank: Bank<(H, F, S, P)> = Bank::new(alloc, blanks, CAPACITY, 4, 64)?;
-    for task in tasks {
-        measure(rt, alloc, &bank, *task)?;
-    }
+    measure_all(rt, alloc, &bank, tasks)?;
     if is_empty(alloc, bank) {
         Ok(())
     } else {

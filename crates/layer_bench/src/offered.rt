@@ -1,11 +1,11 @@
 //! An answer of six bytes that is offered to a service, which makes its letters capital (RFC 3507, section 4.5).
 use icap_client::ServiceSide;
-use proxy_rules::Offer;
 use std::alloc::{AllocError, Global};
 use trace_core::{Kind, Plan, Point};
+use turn_stage::Subject;
 
 /// What the user asks for.
-pub const REQUEST: &[u8] = b"GET http://o.test/a.txt HTTP/1.1\r\nHost: o.test\r\n\r\n";
+const REQUEST: &[u8] = b"GET http://o.test/a.txt HTTP/1.1\r\nHost: o.test\r\n\r\n";
 
 /// The head of the origin's answer.
 pub const RESPONSE: &[u8] = b"HTTP/1.1 200 OK\r\nContent-Length: 6\r\n\r\n";
@@ -49,7 +49,12 @@ pub fn service_side(alloc: Global) -> Result<ServiceSide, AllocError> {
     ServiceSide::new(alloc, &the_plan(), HOST, PORT, PATH, REQUEST, RESPONSE)
 }
 
-/// The offer of a transaction, with a copy of the heads. `None` if the plan makes none.
-pub fn offer(alloc: Global) -> Result<Option<Offer>, AllocError> {
-    Offer::new(alloc, the_plan(), HOST, PORT, PATH, REQUEST, RESPONSE)
+/// What a transaction of it is of.
+pub fn subject() -> Subject<'static> {
+    Subject {
+        plan: the_plan(),
+        request: REQUEST,
+        head: RESPONSE,
+        path: PATH,
+    }
 }

@@ -1,15 +1,48 @@
 //! Whole exchanges by a transaction's turns over wires in memory: the time of the turns, and the calls of the wires.
-use crate::game_budget::GameBudget;
+use crate::bench_budget::BenchBudget;
 use crate::offered::{BODY, GO_ON, RESPONSE, replies};
-use crate::transaction::{Counted, Exchanged, Game, Wires};
+use adapt_turn::{Outcome, Side};
 use anyhow::{Result, bail};
 use std::alloc::{AllocError, Global};
 use std::io;
 use std::time::{Clock, Duration, Instant};
+use turn_stage::{Counted, Game, Remains, Told, Wires};
 use wire_kit::{Calls, CountedWire, MemoryWire, ReadAnswer, WriteAnswer};
+
+/// All that the user gets.
+const TO_USER: &[u8] = b"HTTP/1.1 200 OK\r\nContent-Length: 6\r\nVia: 1.1 adaptproxy\r\n\r\nABCDEF";
+
+/// A turn of each side.
+const ROUND: [Side; 3] = [Side::Source, Side::Service, Side::NextHop];
 
 /// The most rounds that an exchange takes if each wire moves all that it is offered.
 const ROUNDS: usize = 6;
+
+/// How an exchange ended, and how often each of its wires was called.
+#[derive(Clone, Copy)]
+pub struct Exchanged {
+    /// Whether the transaction is done and the user got the whole message.
+    is_whole: bool,
+    source: Calls,
+    service: Calls,
+    next_hop: Calls,
+}
+
+/// How an exchange ended by what is told of it.
+fn exchange_of(told: &Told<'_>) -> Exchanged {
+    Exchanged {
+        is_whole: matches!(told.outcome, Outcome::Done) && told.next_hop.taken == TO_USER,
+        source: told.source.calls,
+        service: told.of_service().calls,
+        next_hop: told.next_hop.calls,
+    }
+}
+
+/// Ends an exchange.
+fn end<G: Game>(game: G) -> Exchanged {
+    let ended = game.end();
+    exchange_of(&ended.told())
+}
 
 /// What was measured.
 #[derive(Clone, Copy)]
@@ -50,7 +83,7 @@ impl WireCalls {
 
 /// What was measured of one exchange.
 #[derive(Clone, Copy)]
-struct Taken {
+pub struct Taken {
     time: Duration,
     exchanged: Exchanged,
 }
@@ -91,34 +124,35 @@ fn all_wires<C: Drop>(
     source: Result<C, AllocError>,
     service: Result<C, AllocError>,
     next_hop: Result<C, AllocError>,
-) -> Result<Wires<C>, AllocError> {
+) -> Result<Wires<C, C>, AllocError> {
     Ok(Wires {
         source: source?,
         service: service?,
+        fresh: None,
         next_hop: next_hop?,
     })
 }
 
 /// The wires of an exchange in which each text goes at once, and which answer no more often than that.
-pub fn wires(alloc: Global) -> Result<Wires<Counted>, AllocError> {
+pub fn wires(alloc: Global) -> Result<Wires<Counted, Counted>, AllocError> {
     all_wires(origin(alloc), service(alloc), user(alloc))
 }
 
-/// What the turns of one exchange take. `None` if it can't begin. An error if no memory is found.
-fn one<P: GameBudget, R: Clock>(rt: &R, alloc: Global, budget: &P) -> io::Result<Option<Taken>> {
-    let Some(mut game) = budget.begun(alloc)? else {
+/// What the turns of an exchange take. `None` if it can't begin.
+pub fn one<G: Game, R: Clock>(rt: &R, begun: Option<G>) -> io::Result<Option<Taken>> {
+    let Some(mut game) = begun else {
         return Ok(None);
     };
     let start = Instant::now(rt);
     for _ in 0..ROUNDS {
-        game.play();
+        game.take_turns(&ROUND);
     }
     // A reservation can't be lost, so a clock that fails waits until it has ended.
     let took = match start {
         Ok(start) => start.elapsed(rt),
         Err(error) => Err(error),
     };
-    let exchanged = game.end();
+    let exchanged = end(game);
     Ok(Some(Taken {
         time: took?,
         exchanged,
@@ -126,19 +160,14 @@ fn one<P: GameBudget, R: Clock>(rt: &R, alloc: Global, budget: &P) -> io::Result
 }
 
 /// Runs the exchanges, one after the other.
-fn measure<P: GameBudget, R: Clock>(
-    rt: &R,
-    alloc: Global,
-    budget: &P,
-    times: u32,
-) -> io::Result<Measured> {
+fn measure<P: BenchBudget>(alloc: Global, budget: &P, times: u32) -> io::Result<Measured> {
     let mut all = Measured {
         whole: 0,
         nanos: 0,
         calls: WireCalls::NONE,
     };
     for _ in 0..times {
-        if let Some(taken) = one(rt, alloc, budget)? {
+        if let Some(taken) = budget.one(alloc)? {
             all.nanos = all.nanos.saturating_add(taken.time.as_nanos());
             all.calls = all.calls.and(taken.exchanged);
             all.whole = all
@@ -150,7 +179,7 @@ fn measure<P: GameBudget, R: Clock>(
 }
 
 /// Prints what an exchange takes.
-pub fn time_turns<P: GameBudget, R: Clock + Print + Eprint>(
+pub fn time_turns<P: BenchBudget, R: Print + Eprint>(
     rt: &R,
     alloc: Global,
     budget: &P,
@@ -160,7 +189,7 @@ pub fn time_turns<P: GameBudget, R: Clock + Print + Eprint>(
         whole,
         nanos,
         calls,
-    } = measure(rt, alloc, budget, times)?;
+    } = measure(alloc, budget, times)?;
     if whole != u64::from(times) {
         bail!("a transaction was not whole");
     }

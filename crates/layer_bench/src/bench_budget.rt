@@ -1,24 +1,23 @@
-//! A budget on which exchanges begin, and what else is measured on it.
+//! A budget, and what is measured on it.
 ghost use Rattle.std.specs.Prelude.{◌≤◌};
 
 use crate::budget::{time_pairs, time_tape};
 use crate::exchange::time_exchanges;
-use crate::transaction::{Counted, Game, Moving, Played, begin};
-use crate::turns::wires;
+use crate::offered::subject;
+use crate::threads::rounds_of_one;
+use crate::turns::{Taken, one, wires};
 use anyhow::Result;
-use span_bank::{Bank, Ledgers};
-use std::alloc::{AllocError, Global};
-use std::mem;
+use span_bank::{Bank, Ledgers, OpenFault};
+use std::alloc::Global;
+use std::io;
 use std::sync::Wait;
 use std::time::{Clock, Duration};
+use turn_stage::{begin, game_size};
 
-/// A budget on which exchanges begin, and what else is measured on it. What measures doesn't see its ledgers.
-pub trait GameBudget {
-    /// An exchange by a transaction's turns.
-    type Game: Game;
-
-    /// Begins an exchange. `None` if it can't begin.
-    fn begun(&self, alloc: Global) -> Result<Option<Self::Game>, AllocError>;
+/// A budget, and what is measured on it. What measures doesn't see its ledgers.
+pub trait BenchBudget {
+    /// What the turns of an exchange take. `None` if it can't begin. An error if no memory is found.
+    fn one(&self, alloc: Global) -> io::Result<Option<Taken>>;
 
     /// How large its transaction is, in bytes.
     fn game_size(&self) -> usize;
@@ -32,6 +31,9 @@ pub trait GameBudget {
     /// How long whole turns took on a tape that keeps this number of pieces.
     fn time_tape(&self, rounds: u32, kept: u64) -> Result<Duration>
         requires { kept ≤ 256 };
+
+    /// Makes and ends a reservation, again and again.
+    fn rounds_of_one(&self, rounds: u32) -> Result<(), OpenFault>;
 }
 
 /// A bank as such a budget.
@@ -41,15 +43,14 @@ pub struct OnBank<'a, B: Ledgers, R> {
     pub bank: &'a Bank<B>,
 }
 
-impl<'a, B: Ledgers, R: Wait + Clock + Print + Eprint> GameBudget for OnBank<'a, B, R> {
-    type Game = Played<'a, B, Counted, R>;
-
-    fn begun(&self, alloc: Global) -> Result<Option<Self::Game>, AllocError> {
-        begin(self.rt, alloc, self.bank, wires(alloc)?)
+impl<'a, B: Ledgers, R: Wait + Clock + Print + Eprint> BenchBudget for OnBank<'a, B, R> {
+    fn one(&self, alloc: Global) -> io::Result<Option<Taken>> {
+        let begun = begin(self.rt, alloc, self.bank, &subject(), wires(alloc)?, &[]);
+        one(self.rt, begun?)
     }
 
     fn game_size(&self) -> usize {
-        mem::size_of::<Moving<B, Counted>>()
+        game_size(self.bank)
     }
 
     fn time_exchanges(&self, alloc: Global, times: u32) -> Result<()> {
@@ -62,5 +63,9 @@ impl<'a, B: Ledgers, R: Wait + Clock + Print + Eprint> GameBudget for OnBank<'a,
 
     fn time_tape(&self, rounds: u32, kept: u64) -> Result<Duration> {
         time_tape(self.rt, self.bank, rounds, kept)
+    }
+
+    fn rounds_of_one(&self, rounds: u32) -> Result<(), OpenFault> {
+        rounds_of_one(self.rt, self.bank, rounds)
     }
 }
