@@ -22,7 +22,7 @@ pub(crate) struct Framed {
 }
 
 /// A source's body, as far as it was read and reported.
-#[derive(Clone, Copy, Debug, PartialEq, Eq)]
+#[derive(Clone, Copy)]
 pub(crate) struct SourceBody {
     framing: Framing,
     reader: BodyReader,

@@ -14,7 +14,7 @@ use http_side::{HttpFault, read_request, read_response};
 use wire_kit::Wire;
 
 /// What judging the raw bytes gave.
-#[derive(Clone, Copy, Debug, PartialEq, Eq)]
+#[derive(Clone, Copy)]
 pub(crate) enum HeadProgress {
     /// A head isn't there yet.
     More,
