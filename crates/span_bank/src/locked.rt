@@ -168,11 +168,6 @@ impl<B: Ledgers> Locked<B> {
         ensures sound { IsKept self.new.state }
     {
         let old = stake.claim();
-        // Shows that the state is sound, also where the claim stays.
-        let _numbers = self.state.numbers();
-        if claim == old {
-            return;
-        }
         stake.reclaim(&mut self.books, claim);
         apply_fitting(&mut self.state, BankStep::Reclaim(old, claim));
     }
