@@ -7,7 +7,7 @@ ghost use Rattle.proxy_commands.specs.Command.{IsPieceSize, IsCommand};
 use crate::reading::number;
 
 /// What the program is asked to do.
-#[derive(Clone, Copy, Debug, PartialEq, Eq)]
+#[derive(Clone, Copy)]
 pub enum Command {
     /// `trace`: answers a script of events.
     Trace,

@@ -16,7 +16,7 @@ use std::alloc::{AllocError as NoMemory, Global};
 use trace_core::{Event, Plan};
 
 /// A line of a script, after its plan.
-#[derive(Clone, Copy, Debug, PartialEq, Eq)]
+#[derive(Clone, Copy)]
 pub enum Line {
     /// An event that may happen next.
     Step(Event),
@@ -25,7 +25,7 @@ pub enum Line {
 }
 
 /// A plan, and what is asked of a transaction with that plan, in order.
-#[derive(Debug, Drop)]
+#[derive(Drop)]
 pub struct Script {
     pub plan: Plan,
     pub lines: Vec<Line>,
