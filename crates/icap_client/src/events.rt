@@ -11,7 +11,7 @@ use icap_head::HeadFault;
 use trace_core::{Event, Payload, State};
 
 /// What was framed of a head in the offered bytes: how many of the first ones, and the event that they are.
-#[derive(Clone, Copy, Debug, PartialEq, Eq)]
+#[derive(Clone, Copy)]
 pub(crate) struct FramedHead {
     pub(crate) used: usize,
     pub(crate) event: Option<Event>,

@@ -334,7 +334,7 @@ impl OptionsSide {
 }
 
 /// What was read of a body that is dropped.
-#[derive(Clone, Copy, Debug, PartialEq, Eq)]
+#[derive(Clone, Copy)]
 struct Skipped {
     /// How many bytes were read.
     used: usize,

@@ -13,7 +13,7 @@ use icap_head::IcapResponse;
 use trace_core::{Event, Point, State};
 
 /// A response, as its ICAP head says it.
-#[derive(Clone, Copy, Debug, PartialEq, Eq)]
+#[derive(Clone, Copy)]
 pub(crate) enum Reply {
     /// 100
     Continue,
