@@ -93,10 +93,6 @@ response-coding fields = kept-no_coding (record { expect = false; length = both_
 
 -- ---- the length of a head is the first value's
 
-one_ok : (o : Option ℕ) (n : ℕ) → with_length None o ≡ Ok (Some n) → o ≡ Some n
-one_ok None n e = absurd (let x : Err Lengths ≡ Ok (Some n) = e in cc)
-one_ok (Some m) n e = let x : Ok (Some m) ≡ Ok (Some n) = e in cc
-
 fold_err : (fault : HttpFault) (values : List (List ℕ)) → fold agreed (Err fault) values ≡ Err fault
 fold_err fault [] = refl
 fold_err fault (v ∷ values) = fold_err fault values

@@ -1,6 +1,6 @@
 -- What one more field adds to the values of a name.
-use Rattle.std.proofs.Common.{◌≡◌, ℕ, ◌+◌, ◌<◌, true, false, List, [], ◌∷◌, ◌++◌, length, map, take, drop, refl, sym, ap, ◌∙◌, arith, length-append}
-use Rattle.std.proofs.lemmas.List.{map-append, take-append-drop, append-nil}
+use Rattle.std.proofs.Common.{◌≡◌, ℕ, ◌+◌, ◌<◌, true, List, [], ◌∷◌, ◌++◌, length, map, take, drop, refl, sym, ap, ◌∙◌, arith, length-append}
+use Rattle.std.proofs.lemmas.List.{map-append, take-append-drop}
 use Rattle.std.proofs.lemmas.List.Elements.{filter-append, filter_more}
 use Rattle.std.specs.Str.{str_eq_ignore_ascii_case}
 use Rattle.adapt_bytes.specs.Fields.{values_of, name_at, value_at}
@@ -13,12 +13,6 @@ pub values-more : (name : List ℕ) (fields : List (List ℕ × List ℕ)) (i : 
     → values_of name (take (i + 1) fields) ≡ values_of name (take i fields) ++ value_at fields i ∷ []
 values-more name fields i l e =
     ap (map (λ f. f.1)) (filter_more (λ f. str_eq_ignore_ascii_case f.0 name) fields i ([], []) l) ∙ rw e (map-append (λ f. f.1) _ _)
-
--- with one more of another
-pub values-same : (name : List ℕ) (fields : List (List ℕ × List ℕ)) (i : ℕ) → i < length fields → str_eq_ignore_ascii_case (name_at fields i) name ≡ false
-    → values_of name (take (i + 1) fields) ≡ values_of name (take i fields)
-values-same name fields i l e =
-    ap (map (λ f. f.1)) (filter_more (λ f. str_eq_ignore_ascii_case f.0 name) fields i ([], []) l) ∙ rw e (ap (map (λ f. f.1)) (append-nil _))
 
 -- the values of a front come first
 pub values-front : (name : List ℕ) (fields : List (List ℕ × List ℕ)) (i : ℕ) → values_of name fields ≡ values_of name (take i fields) ++ values_of name (drop i fields)

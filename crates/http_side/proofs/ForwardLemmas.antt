@@ -2,7 +2,7 @@
 use Rattle.std.proofs.Common.{◌≡◌, ℕ, ◌+◌, ◌<◌, Bool, true, false, not, ◌||◌, ◌&&◌, List, [], ◌∷◌, ◌++◌, ◌≤◌, Option, get_or, length, map, take, drop, None, refl, sym, ap, ◌∙◌, append_assoc}
 use Rattle.std.specs.Prelude.{codes, if◌then◌else◌}
 use Rattle.std.specs.List.{list_any, filter, flat_map}
-use Rattle.std.proofs.lemmas.List.{map-append, append-nil}
+use Rattle.std.proofs.lemmas.List.{append-nil}
 use Rattle.std.proofs.lemmas.List.Elements.{filter_more}
 use Rattle.std.proofs.lemmas.List.Concat.{flat_map-append}
 use Rattle.std.proofs.lemmas.List.Folds.{length-flat_map-take}
@@ -11,7 +11,7 @@ use Rattle.adapt_bytes.specs.Fields.{values_of, field_at, name_at, value_at}
 use Rattle.adapt_bytes.specs.Text.{has_item}
 use Rattle.http_side.specs.Forward.{is_named_by, stays, is_length, once, hosted, sent_fields, field_line, field_lines}
 use Rattle.http_side.specs.declared.writing.Beside.{Beside}
-use Rattle.http_side.proofs.FieldLemmas.{values-more, values-same, values-front}
+use Rattle.http_side.proofs.FieldLemmas.{values-more, values-front}
 
 any-append : {X : Type 0} (p : X → Bool) (xs ys : List X) → list_any p (xs ++ ys) ≡ (list_any p xs || list_any p ys)
 any-append p [] ys = refl
@@ -41,16 +41,6 @@ named_here fields name i l e n =
     ∙ ap (λ vs. list_any (names name) vs || list_any (names name) (values_of (codes "connection") (drop (i + 1) fields))) (values-more (codes "connection") fields i l e)
     ∙ ap (λ b. b || list_any (names name) (values_of (codes "connection") (drop (i + 1) fields)))
     (any-append (names name) (values_of (codes "connection") (take i fields)) (value_at fields i ∷ []) ∙ ap (λ b. list_any (names name) (values_of (codes "connection") (take i fields)) || (b || false)) n ∙ or_true _)
-
-pub named-more : (fields : List (List ℕ × List ℕ)) (name : List ℕ) (i : ℕ) → i < length fields → str_eq_ignore_ascii_case (name_at fields i) (codes "connection") ≡ true
-    → has_item name (value_at fields i) ≡ false → is_named_by (take i fields) name ≡ false → is_named_by (take (i + 1) fields) name ≡ false
-named-more fields name i l e n before =
-    ap (list_any (names name)) (values-more (codes "connection") fields i l e)
-    ∙ any-append (names name) (values_of (codes "connection") (take i fields)) (value_at fields i ∷ []) ∙ rw (before, n) refl
-
-pub named-same : (fields : List (List ℕ × List ℕ)) (name : List ℕ) (i : ℕ) → i < length fields → str_eq_ignore_ascii_case (name_at fields i) (codes "connection") ≡ false
-    → is_named_by (take i fields) name ≡ false → is_named_by (take (i + 1) fields) name ≡ false
-named-same fields name i l e before = ap (list_any (names name)) (values-same (codes "connection") fields i l e) ∙ before
 
 -- one field behind those that go on
 pub once-more : (seen : Bool) (xs : List (List ℕ × List ℕ)) (f : List ℕ × List ℕ)
@@ -106,12 +96,6 @@ module _ (beside : Beside) (fields : List (List ℕ × List ℕ)) (i : ℕ) (l :
         ∙ ap (λ b. list_any is_length (filter (stays beside fields) (take i fields)) || b) (or_false (is_length (field_at fields i))),
   )
 
--- the lines with one more
-pub lines-more : (change : List ℕ × List ℕ → List ℕ × List ℕ) (xs : List (List ℕ × List ℕ)) (f : List ℕ × List ℕ)
-    → field_lines (map change (xs ++ f ∷ [])) ≡ field_lines (map change xs) ++ field_line (change f)
-lines-more change xs f =
-    ap field_lines (map-append change xs (f ∷ [])) ∙ flat_map-append field_line (map change xs) (change f ∷ []) ∙ ap (λ t. field_lines (map change xs) ++ t) (append-nil (field_line (change f)))
-
 pub not_removed : {removed : Bool} → removed ≡ false → not removed ≡ true
 not_removed e = rw e refl
 
@@ -124,10 +108,6 @@ no_length n old new e g = (rw e refl, rw (e, g) (or_false old))
 
 pub lines-append : (xs ys : List (List ℕ × List ℕ)) → field_lines (xs ++ ys) ≡ field_lines xs ++ field_lines ys
 lines-append xs ys = flat_map-append field_line xs ys
-
-pub four_lines : (out : List ℕ) (a b c d : List (List ℕ × List ℕ))
-    → (((out ++ field_lines a) ++ field_lines b) ++ field_lines c) ++ field_lines d ≡ out ++ field_lines (((a ++ b) ++ c) ++ d)
-four_lines out a b c d = simp (lines-append, append_assoc) refl
 
 -- the parts of a head, one behind the other
 pub head_parts : (first : List ℕ) (a b c : List (List ℕ × List ℕ)) (last : List ℕ)

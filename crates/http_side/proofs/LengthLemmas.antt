@@ -1,5 +1,5 @@
 -- A length as it is read, and the lengths of a head's fields.
-use Rattle.std.proofs.Common.{◌≡◌, ℕ, ◌+◌, ◌<◌, ◌≤◌, ◌^◌, Bool, true, false, List, [], ◌∷◌, length, take, drop, Some, None, Ok, Err, refl, sym, ap, ◌∙◌, arith, lt-ltb, ltb-true, le-ltb}
+use Rattle.std.proofs.Common.{◌≡◌, ℕ, ◌+◌, ◌<◌, ◌^◌, Bool, true, false, List, [], ◌∷◌, length, take, drop, Some, None, Ok, Err, refl, sym, ap, ◌∙◌, arith, lt-ltb, ltb-true}
 use Rattle.std.specs.Prelude.{fold, nat_lt, ◌&&◌, codes}
 use Rattle.std.specs.List.{list_all}
 use Rattle.std.proofs.lemmas.List.Sums.{fold-append}
@@ -11,7 +11,7 @@ use Rattle.adapt_bytes.specs.declared.limits.TheConstants.{COUNT_LIMIT}
 use Rattle.adapt_bytes.specs.Fields.{name_at, value_at, values_of}
 use Rattle.http_side.specs.declared.fault.HttpFault.{HttpFault}
 use Rattle.http_side.specs.Lengths.{is_digit, is_numeral, length_value, agreed, content_length}
-use Rattle.http_side.proofs.FieldLemmas.{values-more, values-same, values-front}
+use Rattle.http_side.proofs.FieldLemmas.{values-more, values-front}
 
 pub digits_all : (bs : List ℕ) → AllDigits 10 bs → list_all is_digit bs ≡ true
 digits_all [] h = refl
@@ -32,11 +32,6 @@ pub length_some : (value : List ℕ) (n : ℕ) → Writes 10 value n → n < COU
 length_some value n w l =
     let small : digits_value 10 value < COUNT_LIMIT = omega (arith, w.value) in
     rw (numeral_is value n w, lt-ltb (digits_value 10 value) COUNT_LIMIT small) (ap Some (sym w.value))
-
-pub length_big : (value : List ℕ) (n : ℕ) → Writes 10 value n → COUNT_LIMIT ≤ n → None ≡ length_value value
-length_big value n w l =
-    let big : COUNT_LIMIT ≤ digits_value 10 value = omega (arith, w.value) in
-    rw (numeral_is value n w, le-ltb (digits_value 10 value) COUNT_LIMIT big) refl
 
 pub length_none : (value : List ℕ) → ((n : ℕ) → n < 2 ^ 64 → Writes 10 value n → ⊥) → None ≡ length_value value
 length_none value none = by_test (is_numeral value && nat_lt (digits_value 10 value) COUNT_LIMIT) refl
@@ -60,10 +55,6 @@ length_none value none = by_test (is_numeral value && nat_lt (digits_value 10 va
 pub length-more : (fields : List (List ℕ × List ℕ)) (i : ℕ) → i < length fields → str_eq_ignore_ascii_case (name_at fields i) (codes "content-length") ≡ true
     → content_length (take (i + 1) fields) ≡ agreed (content_length (take i fields)) (value_at fields i)
 length-more fields i l e = ap (fold agreed (Ok None)) (values-more (codes "content-length") fields i l e) ∙ fold-append agreed (Ok None) (values_of (codes "content-length") (take i fields)) (value_at fields i ∷ [])
-
-pub length-same : (fields : List (List ℕ × List ℕ)) (i : ℕ) → i < length fields → str_eq_ignore_ascii_case (name_at fields i) (codes "content-length") ≡ false
-    → content_length (take (i + 1) fields) ≡ content_length (take i fields)
-length-same fields i l e = ap (fold agreed (Ok None)) (values-same (codes "content-length") fields i l e)
 
 fold_refused : (fault : HttpFault) (values : List (List ℕ)) → fold agreed (Err fault) values ≡ Err fault
 fold_refused fault [] = refl

@@ -76,10 +76,6 @@ off_right : (b : Bool) → (b && false) ≡ false
 off_right true = refl
 off_right false = refl
 
-stays_same : (b : Bool) → (b || false) ≡ b
-stays_same true = refl
-stays_same false = refl
-
 -- of the lengths the first is left, or none where one was seen
 pub once-seen : (xs : List (List ℕ × List ℕ)) → values_of LENGTH (once true xs) ≡ []
 once-seen [] = refl
