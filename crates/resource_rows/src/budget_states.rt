@@ -2,7 +2,7 @@
 ghost use Rattle.std.specs.Prelude.{◌≡◌, ◌+◌, ◌≤◌, true};
 ghost use Rattle.span_bank.specs.State.{MaySum};
 
-use crate::steps::{Stage, put_steps};
+use crate::steps::{Stage, put_whole};
 use crate::words::{number_after, pair_after, put_book};
 use span_bank::{
     BankState, BankStep, Journal, MAX_CAPACITY, MAX_ROWS, Numbers, RebasingJournal, Window,
@@ -102,8 +102,8 @@ fn put_on<J: Journal>(alloc: Global, row: &Row<'_>, out: &mut Vec<u8>) -> Result
         .min(MAX_CAPACITY);
     let rows = row.number(b"rows").unwrap_or(1).max(1).min(MAX_ROWS);
     let journal = row.number(b"steps").unwrap_or(16).max(1).min(16) as usize;
-    let mut state: BankState<J> = BankState::new(alloc, capacity, rows, journal)?;
-    put_steps(&mut state, row.get(b"want"), out)
+    let state: BankState<J> = BankState::new(alloc, capacity, rows, journal)?;
+    put_whole(state, row.get(b"want"), out)
 }
 
 /// Adds what the row's steps answer with the row's journal.

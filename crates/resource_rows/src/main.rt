@@ -1,6 +1,6 @@
 //! Judges what transactions share or hold by rows of plain text: budgets and pools, one call after another, tapes on a bank's store,
-//! budgets and pools shared by threads, and the lending of connections. Each file that an argument names is a table. An argument that is a number has the program make
-//! that number of allocations, and give each back.
+//! budgets and pools shared by threads, and the lending of connections. Each file that an argument names is a table. An argument
+//! that is a number has the program make that number of allocations, and give each back.
 //!
 //! It ends with status 0 once all rows are judged, whatever their answers: its output says which failed.
 #![tactic(auto)]
@@ -27,7 +27,7 @@ use std::rt::{Env, Files};
 use std::sync::Wait;
 use std::thread::Threads;
 use std::{env, fs, io};
-use test_rows::{NoMemory, Report, Row, call_of, number, read_table, says};
+use test_rows::{NoMemory, Report, Row, Table, call_of, number, read_table, says};
 
 /// Adds the answer to a row of a table with this head. For a call that there isn't it adds nothing.
 fn put_answer<R: Threads + Wait + Sync>(
@@ -53,6 +53,21 @@ fn put_answer<R: Threads + Wait + Sync>(
     }
 }
 
+/// Judges the row at a place of a table.
+fn judge_row<R: Threads + Wait + Sync>(
+    rt: &R,
+    alloc: Global,
+    table: &Table,
+    at: usize,
+    report: &mut Report,
+) -> Result<(), NoMemory> {
+    let head = table.head();
+    let row = table.row(at);
+    let mut answer = Vec::new(alloc);
+    put_answer(rt, alloc, &head, &row, &mut answer)?;
+    report.judge(&head, &row, &answer)
+}
+
 /// The report on a file's rows.
 fn judged<R: Threads + Wait + Sync>(
     rt: &R,
@@ -60,15 +75,11 @@ fn judged<R: Threads + Wait + Sync>(
     text: &[u8],
 ) -> Result<Report, NoMemory> {
     let table = read_table(alloc, text)?;
-    let head = table.head();
     let mut report = Report::new(alloc);
     for at in 1..table.len() {
-        let row = table.row(at);
-        let mut answer = Vec::new(alloc);
-        put_answer(rt, alloc, &head, &row, &mut answer)?;
-        report.judge(&head, &row, &answer)?;
+        judge_row(rt, alloc, &table, at, &mut report)?;
     }
-    report.finish(&head)?;
+    report.finish(&table.head())?;
     Ok(report)
 }
 
@@ -80,6 +91,17 @@ fn allocate(alloc: Global, count: u64) -> Result<(), NoMemory> {
     Ok(())
 }
 
+/// Prints the report on a file.
+fn judge_file<R: Files + AllocGlobal + Threads + Wait + Sync>(
+    rt: &R,
+    path: &str,
+    output: &mut impl Write,
+) -> io::Result<()> {
+    let text = fs::read(rt, path)?;
+    let report = judged(rt, rt.alloc(), &text)?;
+    output.write_all(report.lines())
+}
+
 /// Prints the report on each file that an argument names.
 fn judge_all<R: Env + Files + AllocGlobal + Threads + Wait + Sync>(
     rt: &R,
@@ -88,11 +110,7 @@ fn judge_all<R: Env + Files + AllocGlobal + Threads + Wait + Sync>(
     for path in env::args(rt)?.skip(1) {
         match number(path.as_bytes()) {
             Some(count) => allocate(rt.alloc(), count)?,
-            None => {
-                let text = fs::read(rt, path.as_str())?;
-                let report = judged(rt, rt.alloc(), &text)?;
-                output.write_all(report.lines())?;
-            }
+            None => judge_file(rt, path.as_str(), output)?,
         }
     }
     Ok(())

@@ -1,5 +1,5 @@
 //! One step a call, on both forms of the journal, and how a full one makes room.
-use crate::steps::{Stage, put_steps};
+use crate::steps::{Stage, put_whole};
 use crate::words::{number_after, put_back, put_closed, put_numbers};
 use adapt_bytes::MAX_CONNECTIONS;
 use service_pool::{Journal, PoolState, RebasingJournal, Window};
@@ -67,8 +67,8 @@ impl<J: Journal> Stage for PoolState<u32, J> {
 fn put_on<J: Journal>(alloc: Global, row: &Row<'_>, out: &mut Vec<u8>) -> Result<(), NoMemory> {
     let maximum = row.number(b"maximum").unwrap_or(0).min(MAX_CONNECTIONS);
     let journal = row.number(b"steps").unwrap_or(16).max(1).min(16) as usize;
-    let mut state: PoolState<u32, J> = PoolState::new(alloc, maximum, journal)?;
-    put_steps(&mut state, row.get(b"want"), out)
+    let state: PoolState<u32, J> = PoolState::new(alloc, maximum, journal)?;
+    put_whole(state, row.get(b"want"), out)
 }
 
 /// Adds what the row's steps answer with the row's journal.

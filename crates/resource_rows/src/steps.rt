@@ -21,6 +21,16 @@ pub fn put_steps<S: Stage>(stage: &mut S, lines: &[u8], out: &mut Vec<u8>) -> Re
     Ok(())
 }
 
+/// Adds each step of the wanted lines with what a stage answers that ends with them.
+pub fn put_whole<S: Stage + Drop>(
+    stage: S,
+    lines: &[u8],
+    out: &mut Vec<u8>,
+) -> Result<(), NoMemory> {
+    let mut stage = stage;
+    put_steps(&mut stage, lines, out)
+}
+
 /// What lends things that have to go back to it.
 pub trait Lender {
     /// What it lends.

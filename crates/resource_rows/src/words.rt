@@ -13,10 +13,28 @@ pub fn number_after(text: &[u8], word: &[u8]) -> Option<u64> {
 /// The two numbers after a word, as in `grow 100 1`.
 pub fn pair_after(text: &[u8], word: &[u8]) -> Option<(u64, u64)> {
     let numbers = text.strip_prefix(word)?.strip_prefix(b" ")?;
-    for at in 0..numbers.len() {
-        if numbers[at] == b' ' {
-            return Some((number(&numbers[..at])?, number(&numbers[at + 1..])?));
+    let (first, second) = parts(numbers)?;
+    Some((number(first)?, number(second)?))
+}
+
+/// What stands before the first space of a text, and what comes after it.
+pub fn parts(text: &[u8]) -> Option<(&[u8], &[u8])> {
+    for at in 0..text.len() {
+        if text[at] == b' ' {
+            return Some((&text[..at], &text[at + 1..]));
         }
+    }
+    None
+}
+
+/// The place of a word among these.
+pub fn index_of(words: &[u8], word: &[u8]) -> Option<usize> {
+    let mut place: usize = 0;
+    for other in words.split(|byte| *byte == b' ') {
+        if other == word {
+            return Some(place);
+        }
+        place = place.saturating_add(1);
     }
     None
 }

@@ -3,7 +3,7 @@ ghost use Rattle.std.specs.Prelude.{◌≡◌};
 
 use crate::lines::stage::{Idle, Memory, Stage};
 use crate::lines::steps::Play;
-use crate::lines::words::asked;
+use crate::steps::put_steps;
 use adapt_bytes::MAX_CONNECTIONS;
 use service_lines::{Pools, Queues, Waiting};
 use service_pool::{LEDGER_PARTS, Pool};
@@ -16,27 +16,9 @@ use test_rows::{NoMemory, Row};
 /// The most connections that a row has lent.
 const HELD: usize = 16;
 
-/// Adds each step of the wanted lines with what it answers.
-fn put_steps<'a, 's, Q: Ledger, A: Ledger, R: Wait>(
-    rt: &R,
-    play: &mut Play<'a, 's, Q, A>,
-    lines: &[u8],
-    out: &mut Vec<u8>,
-) -> Result<(), NoMemory> {
-    for line in lines.split(|byte| *byte == b'\n') {
-        let step = asked(line);
-        if step.len() < line.len() {
-            out.extend_from_slice(step)?;
-            out.extend_from_slice(b" = ")?;
-            play.put_step(rt, step, out)?;
-        }
-    }
-    Ok(())
-}
-
 /// Adds what the row's steps answer on these pools. What is lent at last is closed.
 fn put_on<'a, 's, Q: Ledger, A: Ledger, R: Wait>(
-    rt: &R,
+    rt: &'a R,
     alloc: Global,
     stage: &'s Stage,
     pools: Pools<'a, Memory<'s>, Q, A>,
@@ -44,14 +26,16 @@ fn put_on<'a, 's, Q: Ledger, A: Ledger, R: Wait>(
     out: &mut Vec<u8>,
 ) -> Result<(), NoMemory> {
     let mut play = Play {
+        rt,
         alloc,
         stage,
         pools,
         held: Vec::with_capacity(alloc, HELD)?,
     };
-    let told = put_steps(rt, &mut play, lines, out);
-    play.close_all(rt);
+    let told = put_steps(&mut play, lines, out);
+    play.close_all();
     let Play {
+        rt: _,
         alloc: _,
         stage: _,
         pools: _,

@@ -3,9 +3,11 @@
 ghost use Rattle.std.specs.Prelude.{◌≡◌, []};
 
 use crate::lines::stage::{Hand, Memory, Stage, bit_of};
-use crate::lines::words::{fault_name, first_number, first_word, put_lent, put_numbers, put_woken};
+use crate::lines::words::{fault_name, first_number, first_word, put_lent, put_woken};
+use crate::steps;
+use crate::words::{index_of, put_numbers};
 use adapt_bytes::MAX_CONNECTIONS;
-use service_lines::{LeasedConnection, LendFault, Pools};
+use service_lines::{Edge, LeasedConnection, LendFault, Pools, Waiting};
 use std::alloc::Global;
 use std::sync::Wait;
 use std::sync::ledger::Ledger;
@@ -13,11 +15,18 @@ use test_rows::{NoMemory, put_line, put_number, put_truth, says};
 use trace_core::Point;
 use wait_queue::Waiter;
 
+/// The steps that threads take, in the order of `put_step`.
+const STEPS: &[u8] = b"woken lend turn put close renew join leave first room maximum numbers";
+
+/// The steps from outside, in the order of `put_outside`.
+const OUTSIDE: &[u8] = b"end say read refuse short serve";
+
 /// The connections that are lent. None has a `Drop`.
 pub type Held<Q, A> = Vec<LeasedConnection<u64, Q, A>>;
 
 /// A row in play.
-pub struct Play<'a, 's, Q: Ledger, A: Ledger> {
+pub struct Play<'a, 's, Q: Ledger, A: Ledger, R> {
+    pub rt: &'a R,
     pub alloc: Global,
     pub stage: &'s Stage,
     pub pools: Pools<'a, Memory<'s>, Q, A>,
@@ -44,14 +53,86 @@ fn waiter_of(text: &[u8]) -> Waiter {
     }
 }
 
-impl<'a, 's, Q: Ledger, A: Ledger> Play<'a, 's, Q, A> {
+/// Adds the numbers of a point's pool.
+fn put_counts<E: Edge, Q: Ledger, A: Ledger, R: Wait>(
+    rt: &R,
+    pools: &Pools<'_, E, Q, A>,
+    point: Point,
+    out: &mut Vec<u8>,
+) -> Result<(), NoMemory> {
+    let numbers = match point {
+        Point::Reqmod => pools.request.numbers(rt),
+        Point::Respmod => pools.response.numbers(rt),
+    };
+    put_numbers(out, numbers)
+}
+
+/// A step of those who wait.
+fn put_waiting<E: Edge, R: Wait>(
+    rt: &R,
+    waiting: &Waiting<'_, E>,
+    word: &[u8],
+    text: &[u8],
+    out: &mut Vec<u8>,
+) -> Result<(), NoMemory> {
+    let (point, rest) = point_of(text);
+    let waiter = waiter_of(rest);
+    match index_of(b"join leave", word) {
+        Some(0) => put_truth(out, waiting.join(rt, point, waiter)),
+        Some(1) => {
+            waiting.leave(rt, point, waiter);
+            put_number(out, b"waiting", waiting.len(rt, point))
+        }
+        _ => match waiting.first_of(rt, point, waiter.thread) {
+            Some(key) => put_number(out, b"key", key as u64),
+            None => put_line(out, b"none"),
+        },
+    }
+}
+
+/// A step at the pools as a whole.
+fn put_pools<E: Edge, Q: Ledger, A: Ledger, R: Wait>(
+    rt: &R,
+    alloc: Global,
+    pools: &Pools<'_, E, Q, A>,
+    word: &[u8],
+    text: &[u8],
+    out: &mut Vec<u8>,
+) -> Result<(), NoMemory> {
+    let (point, rest) = point_of(text);
+    let (number, _) = first_number(rest);
+    if says(word, b"room") {
+        return put_truth(out, pools.make_room(rt, 3));
+    }
+    if says(word, b"maximum") {
+        pools.set_max(rt, alloc, point, number.min(MAX_CONNECTIONS))?;
+    }
+    put_counts(rt, pools, point, out)
+}
+
+/// A step from outside: a service ends a connection or speaks on it, or the system refuses.
+fn put_outside(stage: &Stage, word: &[u8], text: &[u8], out: &mut Vec<u8>) -> Result<(), NoMemory> {
+    let (number, _) = first_number(text);
+    match index_of(OUTSIDE, word) {
+        Some(0) => stage.ended.set(stage.ended.get() | bit_of(number)),
+        Some(1) => stage.unread.set(stage.unread.get() | bit_of(number)),
+        Some(2) => stage.unread.set(stage.unread.get() & !bit_of(number)),
+        Some(3) => stage.fault.set(Some(LendFault::Unreached)),
+        Some(4) => stage.fault.set(Some(LendFault::NoMemory)),
+        Some(5) => stage.fault.set(None),
+        _ => return put_line(out, b"no step"),
+    }
+    put_line(out, b"so")
+}
+
+impl<'a, 's, Q: Ledger, A: Ledger, R: Wait> Play<'a, 's, Q, A, R> {
     /// Closes the connections that are lent.
-    pub fn close_all<R: Wait>(&mut self, rt: &R)
+    pub fn close_all(&mut self)
         ensures { self.new.held.items ≡ [] }
     {
         while let Some(connection) = self.held.pop() {
             let LeasedConnection { wire: _, lease } = connection;
-            self.pools.give_up(rt, lease);
+            self.pools.give_up(self.rt, lease);
         }
     }
 
@@ -66,9 +147,8 @@ impl<'a, 's, Q: Ledger, A: Ledger> Play<'a, 's, Q, A> {
     }
 
     /// Keeps what was lent, and says what it is.
-    fn keep<R: Wait>(
+    fn keep(
         &mut self,
-        rt: &R,
         lent: Result<LeasedConnection<u64, Q, A>, LendFault>,
         out: &mut Vec<u8>,
     ) -> Result<(), NoMemory> {
@@ -82,7 +162,7 @@ impl<'a, 's, Q: Ledger, A: Ledger> Play<'a, 's, Q, A> {
                         stage: self.stage,
                         out,
                     };
-                    self.pools.close(rt, &mut hand, connection);
+                    self.pools.close(self.rt, &mut hand, connection);
                 }
                 told
             }
@@ -91,9 +171,8 @@ impl<'a, 's, Q: Ledger, A: Ledger> Play<'a, 's, Q, A> {
     }
 
     /// Lends a connection: to one who comes now, or to one who waits.
-    fn lend<R: Wait>(
+    fn lend(
         &mut self,
-        rt: &R,
         point: Point,
         waiter: Option<Waiter>,
         out: &mut Vec<u8>,
@@ -103,21 +182,21 @@ impl<'a, 's, Q: Ledger, A: Ledger> Play<'a, 's, Q, A> {
             out,
         };
         let lent = match waiter {
-            Some(waiter) => self.pools.lend_in_turn(rt, &mut hand, point, waiter),
-            None => self.pools.lend(rt, &mut hand, point),
+            Some(waiter) => self.pools.lend_in_turn(self.rt, &mut hand, point, waiter),
+            None => self.pools.lend(self.rt, &mut hand, point),
         };
         let Hand { stage: _, out } = hand;
-        self.keep(rt, lent, out)
+        self.keep(lent, out)
+    }
+
+    /// Lends a connection to the one who waits that a step names.
+    fn lend_in_turn(&mut self, text: &[u8], out: &mut Vec<u8>) -> Result<(), NoMemory> {
+        let (point, rest) = point_of(text);
+        self.lend(point, Some(waiter_of(rest)), out)
     }
 
     /// Puts a connection back, closes it, or renews it.
-    fn give<R: Wait>(
-        &mut self,
-        rt: &R,
-        word: &[u8],
-        number: u64,
-        out: &mut Vec<u8>,
-    ) -> Result<(), NoMemory> {
+    fn give(&mut self, word: &[u8], number: u64, out: &mut Vec<u8>) -> Result<(), NoMemory> {
         let Some(connection) = self.take_held(number) else {
             return put_line(out, b"not lent");
         };
@@ -126,137 +205,36 @@ impl<'a, 's, Q: Ledger, A: Ledger> Play<'a, 's, Q, A> {
             out,
         };
         if says(word, b"renew") {
-            let lent = self.pools.renew(rt, &mut hand, connection);
+            let lent = self.pools.renew(self.rt, &mut hand, connection);
             let Hand { stage: _, out } = hand;
-            return self.keep(rt, lent, out);
+            return self.keep(lent, out);
         }
         if says(word, b"put") {
-            self.pools.put(rt, &mut hand, connection);
+            self.pools.put(self.rt, &mut hand, connection);
         } else {
-            self.pools.close(rt, &mut hand, connection);
+            self.pools.close(self.rt, &mut hand, connection);
         }
         let Hand { stage: _, out } = hand;
-        self.put_counts(rt, Point::Reqmod, out)
-    }
-
-    /// Adds the numbers of a point's pool.
-    fn put_counts<R: Wait>(&self, rt: &R, point: Point, out: &mut Vec<u8>) -> Result<(), NoMemory> {
-        let numbers = match point {
-            Point::Reqmod => self.pools.request.numbers(rt),
-            Point::Respmod => self.pools.response.numbers(rt),
-        };
-        put_numbers(out, numbers)
-    }
-
-    /// A step that has to do with those who wait.
-    fn put_waiting<R: Wait>(
-        &mut self,
-        rt: &R,
-        word: &[u8],
-        text: &[u8],
-        out: &mut Vec<u8>,
-    ) -> Result<(), NoMemory> {
-        let (point, rest) = point_of(text);
-        let waiter = waiter_of(rest);
-        if says(word, b"turn") {
-            self.lend(rt, point, Some(waiter), out)
-        } else if says(word, b"join") {
-            put_truth(out, self.pools.waiting.join(rt, point, waiter))
-        } else if says(word, b"leave") {
-            self.pools.waiting.leave(rt, point, waiter);
-            put_number(out, b"waiting", self.pools.waiting.len(rt, point))
-        } else if says(word, b"first") {
-            match self.pools.waiting.first_of(rt, point, waiter.thread) {
-                Some(key) => put_number(out, b"key", key as u64),
-                None => put_line(out, b"none"),
-            }
-        } else {
-            put_line(out, b"no step")
-        }
-    }
-
-    /// A step from outside: a service ends a connection or speaks on it, or the system refuses.
-    fn put_outside(&mut self, word: &[u8], text: &[u8], out: &mut Vec<u8>) -> Result<(), NoMemory> {
-        let (number, _) = first_number(text);
-        let stage = self.stage;
-        if says(word, b"end") {
-            stage.ended.set(stage.ended.get() | bit_of(number));
-        } else if says(word, b"say") {
-            stage.unread.set(stage.unread.get() | bit_of(number));
-        } else if says(word, b"read") {
-            stage.unread.set(stage.unread.get() & !bit_of(number));
-        } else if says(word, b"refuse") {
-            stage.fault.set(Some(LendFault::Unreached));
-        } else if says(word, b"short") {
-            stage.fault.set(Some(LendFault::NoMemory));
-        } else if says(word, b"serve") {
-            stage.fault.set(None);
-        } else {
-            return put_line(out, b"no step");
-        }
-        put_line(out, b"so")
-    }
-
-    /// A step at the pools as a whole.
-    fn put_pools<R: Wait>(
-        &mut self,
-        rt: &R,
-        word: &[u8],
-        text: &[u8],
-        out: &mut Vec<u8>,
-    ) -> Result<(), NoMemory> {
-        let (point, rest) = point_of(text);
-        let (number, _) = first_number(rest);
-        if says(word, b"maximum") {
-            self.pools
-                .set_max(rt, self.alloc, point, number.min(MAX_CONNECTIONS))?;
-            self.put_counts(rt, point, out)
-        } else if says(word, b"room") {
-            self.stage.wanted.set(number);
-            put_truth(out, self.pools.make_room(rt, 3))
-        } else if says(word, b"numbers") {
-            self.put_counts(rt, point, out)
-        } else {
-            put_line(out, b"no step")
-        }
-    }
-
-    /// Adds what a step answers, and which threads it woke.
-    pub fn put_step<R: Wait>(
-        &mut self,
-        rt: &R,
-        step: &[u8],
-        out: &mut Vec<u8>,
-    ) -> Result<(), NoMemory> {
-        let (word, text) = first_word(step);
-        if says(word, b"woken") {
-            let woken = self.stage.woken.replace(0);
-            return put_woken(out, woken);
-        }
-        if says(word, b"lend") {
-            let (point, _) = point_of(text);
-            return self.lend(rt, point, None, out);
-        }
-        if is_one(word, &[b"put", b"close", b"renew"]) {
-            let (number, _) = first_number(text);
-            return self.give(rt, word, number, out);
-        }
-        if is_one(word, &[b"turn", b"join", b"leave", b"first"]) {
-            return self.put_waiting(rt, word, text, out);
-        }
-        if is_one(word, &[b"maximum", b"room", b"numbers"]) {
-            return self.put_pools(rt, word, text, out);
-        }
-        self.put_outside(word, text, out)
+        put_counts(self.rt, &self.pools, Point::Reqmod, out)
     }
 }
 
-/// Whether a word is one of these.
-fn is_one(word: &[u8], words: &[&[u8]]) -> bool {
-    for other in words {
-        if says(word, *other) {
-            return true;
+impl<'a, 's, Q: Ledger, A: Ledger, R: Wait> steps::Stage for Play<'a, 's, Q, A, R> {
+    /// Adds what a step answers, or which threads were woken.
+    fn put_step(&mut self, step: &[u8], out: &mut Vec<u8>) -> Result<(), NoMemory> {
+        let (word, text) = first_word(step);
+        match index_of(STEPS, word) {
+            Some(0) => put_woken(out, self.stage.woken.replace(0)),
+            Some(1) => self.lend(point_of(text).0, None, out),
+            Some(2) => self.lend_in_turn(text, out),
+            Some(3..=5) => self.give(word, first_number(text).0, out),
+            Some(6..=8) => put_waiting(self.rt, &self.pools.waiting, word, text, out),
+            Some(9) => {
+                self.stage.wanted.set(first_number(text).0);
+                put_pools(self.rt, self.alloc, &self.pools, word, text, out)
+            }
+            Some(10 | 11) => put_pools(self.rt, self.alloc, &self.pools, word, text, out),
+            _ => put_outside(self.stage, word, text, out),
         }
     }
-    false
 }

@@ -1,27 +1,12 @@
 //! Words of steps and of answers.
 
+use crate::words::parts;
 use service_lines::LendFault;
-use service_pool::Numbers;
 use test_rows::{NoMemory, number, put_decimal, put_line, put_number};
-
-/// What a line of the wanted answers asks: what stands before ` = `.
-pub fn asked(line: &[u8]) -> &[u8] {
-    for at in 0..line.len() {
-        if line[at..].starts_with(b" = ") {
-            return &line[..at];
-        }
-    }
-    line
-}
 
 /// The first word of a text, and what comes after it.
 pub fn first_word(text: &[u8]) -> (&[u8], &[u8]) {
-    for at in 0..text.len() {
-        if text[at] == b' ' {
-            return (&text[..at], &text[at + 1..]);
-        }
-    }
-    (text, &[])
+    parts(text).unwrap_or((text, &[]))
 }
 
 /// The number that a text begins with, or 0, and what comes after it.
@@ -46,15 +31,6 @@ pub fn fault_name(fault: LendFault) -> &'static [u8] {
 pub fn put_lent(out: &mut Vec<u8>, used: u64, reused: bool) -> Result<(), NoMemory> {
     let word: &[u8] = if reused { b"reused" } else { b"fresh" };
     put_number(out, word, used)
-}
-
-/// Adds the numbers of a pool.
-pub fn put_numbers(out: &mut Vec<u8>, numbers: Numbers) -> Result<(), NoMemory> {
-    out.extend_from_slice(b"idle ")?;
-    put_decimal(out, numbers.idle)?;
-    out.extend_from_slice(b" leased ")?;
-    put_decimal(out, numbers.leased)?;
-    put_number(out, b" maximum", numbers.maximum)
 }
 
 /// Adds the threads that were woken, in their order.
