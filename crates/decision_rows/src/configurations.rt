@@ -1,8 +1,9 @@
 //! Configurations: the first key that is wrong, the defaults, and where hosts are.
-use crate::events::{asked, cut};
+use crate::listed::{index_of, put_counted};
+use crate::questions::{Subject, cut, put_lines};
 use proxy_config::{Config, ConfigFault, Hosts, ServicePoint, read_config};
 use std::alloc::Global;
-use test_rows::{NoMemory, Row, number, put_all, put_line, put_number, put_shown, says};
+use test_rows::{NoMemory, Row, number, put_all, put_count, put_line, put_number, put_shown};
 
 /// The keys that have no default.
 const ADDRESSES: &[u8] = b"listen = \"127.0.0.1:3128\"\nadmin = \"127.0.0.1:3129\"\n";
@@ -40,18 +41,31 @@ fn put_log(out: &mut Vec<u8>, log: &Option<String>) -> Result<(), NoMemory> {
     }
 }
 
+/// The names of the numbers, in the order of `put_numbers`.
+const NUMBERS: &[u8] =
+    b"listen |\nadmin |\nshards |\ncapacity |\nrows |\njournal |\ndeadline |\npreview_limit |\nallow_limit |\nwindow ";
+
+/// Adds each number but the last.
+fn put_numbers(out: &mut Vec<u8>, config: &Config) -> Result<(), NoMemory> {
+    let numbers = [
+        u64::from(config.listen.port()),
+        u64::from(config.admin.port()),
+        config.shards,
+        config.capacity,
+        config.rows,
+        config.journal,
+        config.deadline,
+        config.preview_limit,
+        config.allow_limit,
+        config.window,
+    ];
+    put_counted(out, NUMBERS, &numbers)?;
+    put_line(out, b"")
+}
+
 /// Adds each value.
 fn put_values(out: &mut Vec<u8>, config: &Config) -> Result<(), NoMemory> {
-    put_number(out, b"listen", u64::from(config.listen.port()))?;
-    put_number(out, b"admin", u64::from(config.admin.port()))?;
-    put_number(out, b"shards", config.shards)?;
-    put_number(out, b"capacity", config.capacity)?;
-    put_number(out, b"rows", config.rows)?;
-    put_number(out, b"journal", config.journal)?;
-    put_number(out, b"deadline", config.deadline)?;
-    put_number(out, b"preview_limit", config.preview_limit)?;
-    put_number(out, b"allow_limit", config.allow_limit)?;
-    put_number(out, b"window", config.window)?;
+    put_numbers(out, config)?;
     put_shown(out, b"retry", &config.retry)?;
     put_number(out, b"wait", config.wait)?;
     put_log(out, &config.log)?;
@@ -59,28 +73,23 @@ fn put_values(out: &mut Vec<u8>, config: &Config) -> Result<(), NoMemory> {
     put_service(out, &config.respmod)
 }
 
-/// Adds where a host is, with the port after its name, if there is one.
-fn put_host(out: &mut Vec<u8>, hosts: &Hosts, asked: &[u8]) -> Result<(), NoMemory> {
-    let (name, digits) = cut(asked, b" ");
-    let port = match number(digits) {
-        Some(port) if port < 65536 => Some(port as u16),
-        _ => None,
-    };
-    out.extend_from_slice(asked)?;
-    match hosts.resolve(name, port) {
-        Some(address) => put_number(out, b" =", u64::from(address.port())),
-        None => put_line(out, b" = unknown"),
-    }
-}
+/// Where hosts are.
+#[derive(Drop)]
+struct Book<'a>(&'a Hosts);
 
-/// Adds each wanted line's host with where it is.
-fn put_hosts(out: &mut Vec<u8>, hosts: &Hosts, lines: &[u8]) -> Result<(), NoMemory> {
-    for line in lines.split(|byte| *byte == b'\n') {
-        if !line.is_empty() {
-            put_host(out, hosts, asked(line))?;
+impl<'a> Subject for Book<'a> {
+    /// Adds where a host is, with the port after its name, if there is one.
+    fn put_said(&mut self, question: &[u8], out: &mut Vec<u8>) -> Result<(), NoMemory> {
+        let (name, digits) = cut(question, b" ");
+        let port = match number(digits) {
+            Some(port) if port < 65536 => Some(port as u16),
+            _ => None,
+        };
+        match self.0.resolve(name, port) {
+            Some(address) => put_count(out, u64::from(address.port())),
+            None => put_line(out, b"unknown"),
         }
     }
-    Ok(())
 }
 
 /// The text of a row, after the two addresses if it isn't whole.
@@ -91,43 +100,30 @@ fn text_of(alloc: Global, row: &Row<'_>) -> Result<Vec<u8>, NoMemory> {
     Ok(text)
 }
 
+/// Adds the values, or where hosts are, as the call asks; else that the configuration is good.
 fn put_good(
     out: &mut Vec<u8>,
     call: &[u8],
     config: &Config,
     row: &Row<'_>,
 ) -> Result<(), NoMemory> {
-    if says(call, b"values") {
-        put_values(out, config)
-    } else if says(call, b"hosts") {
-        put_hosts(out, &config.hosts, row.get(b"want"))
-    } else {
-        put_line(out, b"good")
+    match index_of(b"values|hosts", call) {
+        Some(0) => put_values(out, config),
+        Some(1) => put_lines(&mut Book(&config.hosts), row.get(b"want"), out),
+        _ => put_line(out, b"good"),
     }
 }
 
-fn put_config(
+/// Adds what is said of the row's configuration, or its fault.
+pub fn put_config(
     alloc: Global,
     call: &[u8],
-    out: &mut Vec<u8>,
     row: &Row<'_>,
+    out: &mut Vec<u8>,
 ) -> Result<(), NoMemory> {
     let text = text_of(alloc, row)?;
     match read_config(alloc, &text) {
         Ok(config) => put_good(out, call, &config, row),
         Err(fault) => put_config_fault(out, &fault),
-    }
-}
-
-pub fn put_answer(
-    alloc: Global,
-    call: &[u8],
-    row: &Row<'_>,
-    out: &mut Vec<u8>,
-) -> Result<(), NoMemory> {
-    if row.has(b"text") {
-        put_config(alloc, call, out, row)
-    } else {
-        Ok(())
     }
 }

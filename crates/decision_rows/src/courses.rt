@@ -1,48 +1,39 @@
 //! The course of a user's connection: each line of `want` is an event, and what is due after it; or a question.
 mod words;
 
-use self::words::{WORDS, read_event};
+use self::words::{EVENTS, WORDS, read_event};
+use crate::listed::put_standing;
+use crate::questions::asked;
 use exchange_core::{Course, Event, Exchange};
-use test_rows::{NoMemory, Row, put_all, put_line, put_shown, says};
+use test_rows::{NoMemory, Row, put_line, put_shown, says};
 
-/// What a line of the wanted answers asks: what stands before ` = `.
-fn asked(line: &[u8]) -> &[u8] {
-    for at in 0..line.len() {
-        if line[at..].starts_with(b" = ") {
-            return &line[..at];
-        }
-    }
-    line
-}
-
-/// Adds a word where a mark is set.
-fn put_mark(out: &mut Vec<u8>, is_set: bool, word: &[u8]) -> Result<(), NoMemory> {
-    if is_set {
-        put_all(out, &[b" ", word])?;
-    }
-    Ok(())
-}
+/// The marks of a course, in the order of `put_marks`.
+const MARKS: &[u8] = b"stake|origin|asked|told|half_told|begun|closes|draining|stopping";
 
 /// Adds the marks that are set.
 fn put_marks(out: &mut Vec<u8>, course: &Course) -> Result<(), NoMemory> {
-    put_mark(out, course.stake, b"stake")?;
-    put_mark(out, course.origin, b"origin")?;
-    put_mark(out, course.asked, b"asked")?;
-    put_mark(out, course.told, b"told")?;
-    put_mark(out, course.half_told, b"half_told")?;
-    put_mark(out, course.begun, b"begun")?;
-    put_mark(out, course.closes, b"closes")?;
-    put_mark(out, course.draining, b"draining")?;
-    put_mark(out, course.stopping, b"stopping")?;
+    let stand = [
+        course.stake,
+        course.origin,
+        course.asked,
+        course.told,
+        course.half_told,
+        course.begun,
+        course.closes,
+        course.draining,
+        course.stopping,
+    ];
+    put_standing(out, b" ", MARKS, &stand)?;
     put_line(out, b"")
 }
 
 /// Adds the words of all events that may come next.
 fn put_next(out: &mut Vec<u8>, exchange: &Exchange) -> Result<(), NoMemory> {
     let mut before: &[u8] = b" ";
-    for word in &WORDS {
-        if exchange.may(word.event) {
-            put_all(out, &[before, word.word])?;
+    for (event, word) in EVENTS.iter().zip(WORDS.split(|byte| *byte == b'|')) {
+        if exchange.may(*event) {
+            out.extend_from_slice(before)?;
+            out.extend_from_slice(word)?;
             before = b", ";
         }
     }
@@ -75,20 +66,27 @@ fn put_due(out: &mut Vec<u8>, exchange: &mut Exchange, event: Event) -> Result<(
     }
 }
 
-/// Adds the answer to a row of a course. For another call it adds nothing.
-pub fn put_answer(call: &[u8], row: &Row<'_>, out: &mut Vec<u8>) -> Result<(), NoMemory> {
-    if !says(call, b"course") {
-        return Ok(());
+/// Adds what a line asks, and the answer.
+fn put_answered(
+    out: &mut Vec<u8>,
+    exchange: &mut Exchange,
+    question: &[u8],
+) -> Result<(), NoMemory> {
+    out.extend_from_slice(question)?;
+    out.extend_from_slice(b" =")?;
+    match read_event(question) {
+        Some(event) => put_due(out, exchange, event),
+        None => put_told(out, question, exchange),
     }
+}
+
+/// Adds what is due after each event of a row.
+pub fn put_course(row: &Row<'_>, out: &mut Vec<u8>) -> Result<(), NoMemory> {
     let mut exchange = Exchange::begin();
     for line in row.get(b"want").split(|byte| *byte == b'\n') {
         let question = asked(line);
         if !question.is_empty() {
-            put_all(out, &[question, b" ="])?;
-            match read_event(question) {
-                Some(event) => put_due(out, &mut exchange, event)?,
-                None => put_told(out, question, &exchange)?,
-            }
+            put_answered(out, &mut exchange, question)?;
         }
     }
     Ok(())

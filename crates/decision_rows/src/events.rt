@@ -1,22 +1,9 @@
 //! The words of plans and events, those of `adaptproxy trace`.
+use crate::listed::index_of;
+use crate::questions::cut;
 use need_witness::{Script, Tape};
 use test_rows::{NoMemory, number, put_decimal, says};
 use trace_core::{Answer, Cause, Event, Kind, Payload, Plan, Point, State};
-
-/// What stands before this mark, or all if there is no mark, and what stands after it.
-pub fn cut<'a>(text: &'a [u8], mark: &[u8]) -> (&'a [u8], &'a [u8]) {
-    for at in 0..text.len() {
-        if let Some(rest) = text[at..].strip_prefix(mark) {
-            return (&text[..at], rest);
-        }
-    }
-    (text, b"")
-}
-
-/// What a line of the wanted answers asks: what stands before ` = `.
-pub fn asked(line: &[u8]) -> &[u8] {
-    cut(line, b" = ").0
-}
 
 fn cause(number: u64) -> Option<Cause> {
     match number {
@@ -30,54 +17,31 @@ fn cause(number: u64) -> Option<Cause> {
     }
 }
 
-/// An event of the source or of the request that is a word alone.
-fn read_asking(text: &[u8]) -> Option<Event> {
-    if says(text, b"end") {
-        Some(Event::End)
-    } else if says(text, b"stop") {
-        Some(Event::Stop)
-    } else if says(text, b"retry") {
-        Some(Event::Retry)
-    } else if says(text, b"adend") {
-        Some(Event::AdEnd)
-    } else if says(text, b"done") {
-        Some(Event::Done)
-    } else {
-        None
-    }
-}
+/// The events that are words alone.
+const WORDS: &[u8] = b"end|stop|retry|adend|done|heard|100|204|200|200 null";
 
-/// An event of the response that is a word alone.
-fn read_response(text: &[u8]) -> Option<Event> {
-    if says(text, b"heard") {
-        Some(Event::Heard)
-    } else if says(text, b"100") {
-        Some(Event::Continue)
-    } else if says(text, b"204") {
-        Some(Event::NoMod)
-    } else if says(text, b"200") {
-        Some(Event::Mod(Payload::Body))
-    } else if says(text, b"200 null") {
-        Some(Event::Mod(Payload::NullBody))
-    } else {
-        None
-    }
-}
+/// What these words mean.
+const EVENTS: [Event; 10] = [
+    Event::End,
+    Event::Stop,
+    Event::Retry,
+    Event::AdEnd,
+    Event::Done,
+    Event::Heard,
+    Event::Continue,
+    Event::NoMod,
+    Event::Mod(Payload::Body),
+    Event::Mod(Payload::NullBody),
+];
 
 /// An event of a word and a number.
 fn read_counted(word: &[u8], count: u64) -> Option<Event> {
-    if says(word, b"in") {
-        Some(Event::In(count))
-    } else if says(word, b"svc") {
-        Some(Event::Svc(count))
-    } else if says(word, b"ad") {
-        Some(Event::Ad(count))
-    } else if says(word, b"usr") {
-        Some(Event::Usr(count))
-    } else if says(word, b"fail") {
-        Some(Event::Fail(cause(count)?))
-    } else {
-        None
+    match index_of(b"in|svc|ad|usr|fail", word)? {
+        0 => Some(Event::In(count)),
+        1 => Some(Event::Svc(count)),
+        2 => Some(Event::Ad(count)),
+        3 => Some(Event::Usr(count)),
+        _ => Some(Event::Fail(cause(count)?)),
     }
 }
 
@@ -87,10 +51,7 @@ pub fn read_event(text: &[u8]) -> Option<Event> {
     if let Some(count) = number(digits) {
         return read_counted(word, count);
     }
-    match read_asking(text) {
-        Some(event) => Some(event),
-        None => read_response(text),
-    }
+    EVENTS.get(index_of(WORDS, text)?).copied()
 }
 
 fn event_word(event: Event) -> &'static [u8] {
@@ -113,20 +74,24 @@ fn event_word(event: Event) -> &'static [u8] {
     }
 }
 
+/// Adds the number of an event, if it has one.
+fn put_count_of(out: &mut Vec<u8>, event: Event) -> Result<(), NoMemory> {
+    match event {
+        Event::In(count) | Event::Svc(count) | Event::Ad(count) | Event::Usr(count) => {
+            out.extend_from_slice(b" ")?;
+            put_decimal(out, count)
+        }
+        _ => Ok(()),
+    }
+}
+
 /// Adds events, a comma between each two, and an LF.
 pub fn put_events(out: &mut Vec<u8>, events: &[Event]) -> Result<(), NoMemory> {
     let mut before: &[u8] = b"";
     for event in events {
         out.extend_from_slice(before)?;
         out.extend_from_slice(event_word(*event))?;
-        if let Event::In(count)
-        | Event::Svc(count)
-        | Event::Ad(count)
-        | Event::Usr(count) = *event
-        {
-            out.extend_from_slice(b" ")?;
-            put_decimal(out, count)?;
-        }
+        put_count_of(out, *event)?;
         before = b", ";
     }
     out.extend_from_slice(b"\n")

@@ -1,10 +1,11 @@
 //! Histories of one transaction: each line of `want` is an event or a question, and what is said of it.
 use crate::claims::put_claim;
-use crate::events::{answered, asked, read_event, read_part, read_plan};
+use crate::events::{answered, read_event, read_part, read_plan};
 use crate::marks::put_mark;
+use crate::questions::{Subject, asked, put_lines};
 use crate::scripts::put_script;
 use std::alloc::Global;
-use test_rows::{NoMemory, Row, put_decimal, put_line, says};
+use test_rows::{NoMemory, Row, put_decimal, put_line};
 use trace_core::{Answer, Event, Plan, State, StepFault, run};
 
 fn put_range(out: &mut Vec<u8>, word: &[u8], range: (u64, u64)) -> Result<(), NoMemory> {
@@ -33,20 +34,23 @@ fn put_held(out: &mut Vec<u8>, answer: Answer) -> Result<(), NoMemory> {
     }
 }
 
-fn put_said(
-    out: &mut Vec<u8>,
-    state: &mut State,
-    asked: &[u8],
-    row: &Row<'_>,
-) -> Result<(), NoMemory> {
-    out.extend_from_slice(asked)?;
-    out.extend_from_slice(b" = ")?;
-    if let Some(event) = read_event(asked) {
-        return put_held(out, answered(state, event));
+/// A history, with the limits that its row says.
+#[derive(Drop)]
+struct Told<'a> {
+    state: &'a mut State,
+    row: Row<'a>,
+}
+
+impl<'a> Subject for Told<'a> {
+    /// Adds what is said of an event or of a question.
+    fn put_said(&mut self, question: &[u8], out: &mut Vec<u8>) -> Result<(), NoMemory> {
+        if let Some(event) = read_event(question) {
+            return put_held(out, answered(self.state, event));
+        }
+        put_mark(out, self.state, question)?;
+        put_script(out, self.state, question)?;
+        put_claim(out, self.state, question, &self.row)
     }
-    put_mark(out, state, asked)?;
-    put_script(out, state, asked)?;
-    put_claim(out, state, asked, row)
 }
 
 /// The events among the wanted lines.
@@ -90,17 +94,8 @@ fn are_taken(state: &mut State, events: &[u8]) -> bool {
     true
 }
 
-/// Adds what is said of each wanted line.
-fn put_lines(out: &mut Vec<u8>, state: &mut State, row: &Row<'_>) -> Result<(), NoMemory> {
-    for line in row.get(b"want").split(|byte| *byte == b'\n') {
-        if !line.is_empty() {
-            put_said(out, state, asked(line), row)?;
-        }
-    }
-    Ok(())
-}
-
-fn put_history(alloc: Global, out: &mut Vec<u8>, row: &Row<'_>) -> Result<(), NoMemory> {
+/// Adds what is said of a row's history.
+pub fn put_history(alloc: Global, row: &Row<'_>, out: &mut Vec<u8>) -> Result<(), NoMemory> {
     let Some(plan) = read_plan(row.get(b"plan")) else {
         return put_line(out, b"no plan");
     };
@@ -109,7 +104,11 @@ fn put_history(alloc: Global, out: &mut Vec<u8>, row: &Row<'_>) -> Result<(), No
     if !are_taken(&mut state, row.get(b"after")) {
         return put_line(out, b"an event is refused");
     }
-    put_lines(out, &mut state, row)?;
+    let mut told = Told {
+        state: &mut state,
+        row: *row,
+    };
+    put_lines(&mut told, lines, out)?;
     if row.has(b"after") || is_run_so(alloc, plan, lines)? {
         Ok(())
     } else {
@@ -117,24 +116,10 @@ fn put_history(alloc: Global, out: &mut Vec<u8>, row: &Row<'_>) -> Result<(), No
     }
 }
 
-fn put_plan(out: &mut Vec<u8>, row: &Row<'_>) -> Result<(), NoMemory> {
+/// Adds whether there is such a plan.
+pub fn put_plan(row: &Row<'_>, out: &mut Vec<u8>) -> Result<(), NoMemory> {
     match read_plan(row.get(b"plan")) {
         Some(_) => put_line(out, b"a plan"),
         None => put_line(out, b"no plan"),
-    }
-}
-
-pub fn put_answer(
-    alloc: Global,
-    call: &[u8],
-    row: &Row<'_>,
-    out: &mut Vec<u8>,
-) -> Result<(), NoMemory> {
-    if says(call, b"history") {
-        put_history(alloc, out, row)
-    } else if says(call, b"plan in range") {
-        put_plan(out, row)
-    } else {
-        Ok(())
     }
 }

@@ -9,17 +9,25 @@ mod configurations;
 mod courses;
 mod events;
 mod histories;
+mod listed;
 mod marks;
 mod options;
 mod plans;
+mod questions;
 mod random;
 mod reports;
 mod scripts;
 mod worlds;
 
+use crate::listed::index_of;
 use std::alloc::Global;
 use std::io;
 use test_rows::{Driver, NoMemory, Row, call_of, judge_files};
+
+/// The calls of rows, in the order of `put_answer`.
+const CALLS: &[u8] =
+    b"history|plan in range|options|texts of faults|extension|plan of a message|limits in range|least claim|\
+world|read configuration|values|hosts|write_line|metrics_text|course|random histories";
 
 /// What runs the calls of the rows.
 #[derive(Drop)]
@@ -30,14 +38,23 @@ struct Decisions {
 impl Driver for Decisions {
     fn put_answer(&self, head: &Row<'_>, row: &Row<'_>, out: &mut Vec<u8>) -> Result<(), NoMemory> {
         let (alloc, call) = (self.alloc, call_of(head, row));
-        histories::put_answer(alloc, call, row, out)?;
-        options::put_answer(alloc, call, row, out)?;
-        plans::put_answer(alloc, call, row, out)?;
-        worlds::put_answer(alloc, call, row, out)?;
-        configurations::put_answer(alloc, call, row, out)?;
-        reports::put_answer(alloc, call, row, out)?;
-        courses::put_answer(call, row, out)?;
-        random::put_answer(call, row, out)
+        match index_of(CALLS, call) {
+            Some(0) => histories::put_history(alloc, row, out),
+            Some(1) => histories::put_plan(row, out),
+            Some(2) => options::put_options(alloc, row, out),
+            Some(3) => options::put_texts(alloc, out),
+            Some(4) => options::put_extension(row, out),
+            Some(5) => plans::put_plan(alloc, row, out),
+            Some(6) => plans::put_limits(row, out),
+            Some(7) => plans::put_least(row, out),
+            Some(8) => worlds::put_world(alloc, row, out),
+            Some(9..=11) => configurations::put_config(alloc, call, row, out),
+            Some(12) => reports::put_entry(row, out),
+            Some(13) => reports::put_metrics(alloc, row, out),
+            Some(14) => courses::put_course(row, out),
+            Some(15) => random::put_histories(row, out),
+            _ => Ok(()),
+        }
     }
 }
 

@@ -1,6 +1,7 @@
 //! What a state shows, and what may follow.
 use crate::events::{put_events, read_event};
-use test_rows::{NoMemory, number, put_decimal, put_fault, put_line, put_truth, says};
+use crate::listed::{index_of, put_counted, put_standing};
+use test_rows::{NoMemory, number, put_fault, put_line, put_truth};
 use trace_core::{Seen, Sendable, State, StepFault};
 
 fn put_fault_of(out: &mut Vec<u8>, fault: Option<StepFault>) -> Result<(), NoMemory> {
@@ -10,51 +11,47 @@ fn put_fault_of(out: &mut Vec<u8>, fault: Option<StepFault>) -> Result<(), NoMem
     }
 }
 
-fn put_part(out: &mut Vec<u8>, word: &[u8], count: u64) -> Result<(), NoMemory> {
-    out.extend_from_slice(word)?;
-    put_decimal(out, count)
-}
-
 fn put_sendable(out: &mut Vec<u8>, sendable: Sendable) -> Result<(), NoMemory> {
-    put_part(out, b"svc ", sendable.svc)?;
-    put_part(out, b", usr ", sendable.usr)?;
-    if sendable.stop {
-        out.extend_from_slice(b", stop")?;
-    }
-    if sendable.done {
-        out.extend_from_slice(b", done")?;
-    }
+    put_counted(out, b"svc |, usr ", &[sendable.svc, sendable.usr])?;
+    put_standing(out, b", ", b"stop|done", &[sendable.stop, sendable.done])?;
     put_line(out, b"")
 }
 
-/// The counts of a history, and the marks that stand in it.
-fn put_seen(out: &mut Vec<u8>, seen: &Seen) -> Result<(), NoMemory> {
-    put_part(out, b"in ", seen.received)?;
-    put_part(out, b", svc ", seen.sent)?;
-    put_part(out, b", ad ", seen.adapted_received)?;
-    put_part(out, b", usr ", seen.original_delivered)?;
-    put_part(out, b" and ", seen.adapted_delivered)?;
-    let marks: [(bool, &[u8]); 13] = [
-        (seen.ended, b"ended"),
-        (seen.stopped, b"stopped"),
-        (seen.ieof, b"ieof"),
-        (seen.last_stop, b"last stop"),
-        (seen.continued, b"100"),
-        (seen.no_mod, b"204"),
-        (seen.modified, b"200"),
-        (seen.has_body, b"body"),
-        (seen.mod_in_preview, b"200 in preview"),
-        (seen.adapted_over, b"adapted over"),
-        (seen.heard, b"heard"),
-        (seen.retried, b"retried"),
-        (seen.closed, b"closed"),
+/// The marks of a history, in the order of `put_marks`.
+const MARKS: &[u8] =
+    b"ended|stopped|ieof|last stop|100|204|200|body|200 in preview|adapted over|heard|retried|closed";
+
+/// Adds the marks that stand.
+fn put_marks(out: &mut Vec<u8>, seen: &Seen) -> Result<(), NoMemory> {
+    let stand = [
+        seen.ended,
+        seen.stopped,
+        seen.ieof,
+        seen.last_stop,
+        seen.continued,
+        seen.no_mod,
+        seen.modified,
+        seen.has_body,
+        seen.mod_in_preview,
+        seen.adapted_over,
+        seen.heard,
+        seen.retried,
+        seen.closed,
     ];
-    for (stands, mark) in marks {
-        if stands {
-            out.extend_from_slice(b", ")?;
-            out.extend_from_slice(mark)?;
-        }
-    }
+    put_standing(out, b", ", MARKS, &stand)
+}
+
+/// Adds the counts of a history, and the marks that stand in it.
+fn put_seen(out: &mut Vec<u8>, seen: &Seen) -> Result<(), NoMemory> {
+    let counts = [
+        seen.received,
+        seen.sent,
+        seen.adapted_received,
+        seen.original_delivered,
+        seen.adapted_delivered,
+    ];
+    put_counted(out, b"in |, svc |, ad |, usr | and ", &counts)?;
+    put_marks(out, seen)?;
     put_line(out, b"")
 }
 
@@ -79,17 +76,15 @@ pub fn put_mark(out: &mut Vec<u8>, state: &State, asked: &[u8]) -> Result<(), No
     if let Some(digits) = asked.strip_prefix(b"stop after ") {
         return put_truth(out, state.may_stop_after(number(digits).unwrap_or(0)));
     }
-    if says(asked, b"keeps original") {
-        put_truth(out, state.keeps_original())
-    } else if says(asked, b"chooses original") {
-        put_truth(out, state.chooses_original())
-    } else if says(asked, b"sendable") {
-        put_sendable(out, state.sendable())
-    } else if says(asked, b"seen") {
-        put_seen(out, &state.seen())
-    } else if says(asked, b"trace") {
-        put_events(out, state.trace().events())
-    } else {
-        put_of_event(out, state, asked)
+    match index_of(
+        b"keeps original|chooses original|sendable|seen|trace",
+        asked,
+    ) {
+        Some(0) => put_truth(out, state.keeps_original()),
+        Some(1) => put_truth(out, state.chooses_original()),
+        Some(2) => put_sendable(out, state.sendable()),
+        Some(3) => put_seen(out, &state.seen()),
+        Some(4) => put_events(out, state.trace().events()),
+        _ => put_of_event(out, state, asked),
     }
 }

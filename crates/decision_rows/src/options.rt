@@ -1,10 +1,11 @@
 //! Responses to OPTIONS (RFC 3507, section 4.10.2), and the records that are made of them.
-use crate::events::{asked, cut};
+use crate::listed::index_of;
+use crate::questions::{Subject, cut, put_lines};
 use icap_head::{Fields, IcapResponse};
 use options_book::laws::{has_a_reading, reads_one_way};
 use options_book::{OptFault, Record, Treat, extension, read_record};
 use std::alloc::Global;
-use test_rows::{NoMemory, Row, number, put_count, put_fault, put_line, put_truth, says};
+use test_rows::{NoMemory, Row, number, put_count, put_fault, put_line, put_truth};
 use trace_core::Point;
 
 /// The fields of these lines.
@@ -52,49 +53,36 @@ fn put_treat(out: &mut Vec<u8>, treat: Treat) -> Result<(), NoMemory> {
     }
 }
 
-fn put_said(out: &mut Vec<u8>, record: &Record, asked: &[u8]) -> Result<(), NoMemory> {
-    if let Some(text) = asked.strip_prefix(b"fresh at ") {
-        return put_fresh(out, record, text);
-    }
-    if let Some(path) = asked.strip_prefix(b"path ") {
-        return put_treat(out, record.treat(extension(path)));
-    }
-    if let Some(word) = asked.strip_prefix(b"extension ") {
-        return put_treat(out, record.treat(Some(word)));
-    }
-    if says(asked, b"record") {
-        put_line(out, b"good")
-    } else if says(asked, b"preview") {
-        put_number(out, record.preview())
-    } else if says(asked, b"connections") {
-        put_number(out, record.max())
-    } else if says(asked, b"no extension") {
-        put_treat(out, record.treat(None))
-    } else {
-        Ok(())
-    }
-}
-
-/// Adds each wanted line's question with what is said of it.
-fn put_record(out: &mut Vec<u8>, record: &Record, lines: &[u8]) -> Result<(), NoMemory> {
-    for line in lines.split(|byte| *byte == b'\n') {
-        if !line.is_empty() {
-            let asked = asked(line);
-            out.extend_from_slice(asked)?;
-            out.extend_from_slice(b" = ")?;
-            put_said(out, record, asked)?;
+impl Subject for Record {
+    /// Adds what is said of a record.
+    fn put_said(&mut self, question: &[u8], out: &mut Vec<u8>) -> Result<(), NoMemory> {
+        if let Some(text) = question.strip_prefix(b"fresh at ") {
+            return put_fresh(out, self, text);
+        }
+        if let Some(path) = question.strip_prefix(b"path ") {
+            return put_treat(out, self.treat(extension(path)));
+        }
+        if let Some(word) = question.strip_prefix(b"extension ") {
+            return put_treat(out, self.treat(Some(word)));
+        }
+        match index_of(b"record|preview|connections|no extension", question) {
+            Some(0) => put_line(out, b"good"),
+            Some(1) => put_number(out, self.preview()),
+            Some(2) => put_number(out, self.max()),
+            Some(3) => put_treat(out, self.treat(None)),
+            _ => Ok(()),
         }
     }
-    Ok(())
 }
 
-fn put_options(alloc: Global, out: &mut Vec<u8>, row: &Row<'_>) -> Result<(), NoMemory> {
+/// Adds what is said of a response.
+pub fn put_options(alloc: Global, row: &Row<'_>, out: &mut Vec<u8>) -> Result<(), NoMemory> {
     let response = response_of(alloc, row)?;
     reads_one_way();
     has_a_reading(&response, Point::Respmod);
     let read_at = row.number(b"read-at").unwrap_or(1000);
     match read_record(alloc, &response, Point::Respmod, read_at) {
-        Ok(record) => put_record(out, &record, row.get(b"want")),
+        Ok(mut record) => put_lines(&mut record, row.get(b"want"), out),
         Err(OptFault::NoMemory) => Err(NoMemory),
         Err(fault) => put_fault(out, fault.number(), &fault),
     }
@@ -110,7 +98,7 @@ const FAULTS: [OptFault; 6] = [
 ];
 
 /// What a programmer is told of each fault.
-fn put_texts(alloc: Global, out: &mut Vec<u8>) -> Result<(), NoMemory> {
+pub fn put_texts(alloc: Global, out: &mut Vec<u8>) -> Result<(), NoMemory> {
     for fault in FAULTS {
         let text = format!(in alloc; "{} {fault}", fault.number())?;
         put_line(out, text.as_bytes())?;
@@ -118,29 +106,13 @@ fn put_texts(alloc: Global, out: &mut Vec<u8>) -> Result<(), NoMemory> {
     Ok(())
 }
 
-fn put_extension(out: &mut Vec<u8>, path: &[u8]) -> Result<(), NoMemory> {
-    match extension(path) {
+/// Adds the extension of a path.
+pub fn put_extension(row: &Row<'_>, out: &mut Vec<u8>) -> Result<(), NoMemory> {
+    match extension(row.get(b"path")) {
         Some(word) => {
             out.extend_from_slice(b"extension ")?;
             put_line(out, word)
         }
         None => put_line(out, b"none"),
-    }
-}
-
-pub fn put_answer(
-    alloc: Global,
-    call: &[u8],
-    row: &Row<'_>,
-    out: &mut Vec<u8>,
-) -> Result<(), NoMemory> {
-    if says(call, b"options") {
-        put_options(alloc, out, row)
-    } else if says(call, b"texts of faults") {
-        put_texts(alloc, out)
-    } else if says(call, b"extension") {
-        put_extension(out, row.get(b"path"))
-    } else {
-        Ok(())
     }
 }

@@ -6,7 +6,7 @@ use adapt_bytes::COUNT_LIMIT;
 use options_book::{Record, extension, read_record};
 use plan_rules::{Limits, claim, least_claim, plan};
 use std::alloc::Global;
-use test_rows::{NoMemory, Row, put_fault, put_line, put_number, put_shown, says};
+use test_rows::{NoMemory, Row, put_fault, put_line, put_number, put_shown};
 use trace_core::Point;
 
 fn put_planned(
@@ -31,7 +31,8 @@ fn put_planned(
     put_number(out, b"claim", claim(&planned, limits))
 }
 
-fn put_plan(alloc: Global, out: &mut Vec<u8>, row: &Row<'_>) -> Result<(), NoMemory> {
+/// Adds the plan of a message.
+pub fn put_plan(alloc: Global, row: &Row<'_>, out: &mut Vec<u8>) -> Result<(), NoMemory> {
     let Some(limits) = limits_of(row) else {
         return put_line(out, b"no limits");
     };
@@ -42,33 +43,18 @@ fn put_plan(alloc: Global, out: &mut Vec<u8>, row: &Row<'_>) -> Result<(), NoMem
     }
 }
 
-fn put_limits(out: &mut Vec<u8>, row: &Row<'_>) -> Result<(), NoMemory> {
+/// Adds whether there are such limits.
+pub fn put_limits(row: &Row<'_>, out: &mut Vec<u8>) -> Result<(), NoMemory> {
     match limits_of(row) {
         Some(_) => put_line(out, b"limits"),
         None => put_line(out, b"no limits"),
     }
 }
 
-fn put_least(out: &mut Vec<u8>, row: &Row<'_>) -> Result<(), NoMemory> {
+/// Adds the least that a plan reserves.
+pub fn put_least(row: &Row<'_>, out: &mut Vec<u8>) -> Result<(), NoMemory> {
     match read_plan(row.get(b"plan")) {
         Some(plan) => put_number(out, b"claim", least_claim(&plan)),
         None => put_line(out, b"no plan"),
-    }
-}
-
-pub fn put_answer(
-    alloc: Global,
-    call: &[u8],
-    row: &Row<'_>,
-    out: &mut Vec<u8>,
-) -> Result<(), NoMemory> {
-    if says(call, b"plan of a message") {
-        put_plan(alloc, out, row)
-    } else if says(call, b"limits in range") {
-        put_limits(out, row)
-    } else if says(call, b"least claim") {
-        put_least(out, row)
-    } else {
-        Ok(())
     }
 }

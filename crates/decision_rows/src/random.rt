@@ -1,6 +1,6 @@
 //! Random histories, from a written seed: what follows, what is held, and that each held byte has a script.
 use need_witness::{check, fits, fits_next, witness};
-use test_rows::{NoMemory, Random, Row, put_line, put_number, says};
+use test_rows::{NoMemory, Random, Row, put_line, put_number};
 use trace_core::{Cause, Event, Kind, Payload, Plan, Point, State, Tape};
 
 fn plan(random: &mut Random) -> Option<Plan> {
@@ -128,7 +128,7 @@ impl Tally {
 }
 
 /// Adds how many of some random histories were as they should be, and whether they took several events each.
-fn put_histories(out: &mut Vec<u8>, row: &Row<'_>) -> Result<(), NoMemory> {
+pub fn put_histories(row: &Row<'_>, out: &mut Vec<u8>) -> Result<(), NoMemory> {
     let mut random = Random::new(row.number(b"seed").unwrap_or(0));
     let count = row.number(b"count").unwrap_or(0);
     let mut tally = Tally { good: 0, taken: 0 };
@@ -145,12 +145,4 @@ fn put_histories(out: &mut Vec<u8>, row: &Row<'_>) -> Result<(), NoMemory> {
             b"of few events"
         },
     )
-}
-
-pub fn put_answer(call: &[u8], row: &Row<'_>, out: &mut Vec<u8>) -> Result<(), NoMemory> {
-    if says(call, b"random histories") {
-        put_histories(out, row)
-    } else {
-        Ok(())
-    }
 }

@@ -1,10 +1,11 @@
 //! The log's line of an exchange, and the text of the counters.
-use crate::events::cut;
+use crate::listed::index_of;
+use crate::questions::cut;
 use exchange_report::{
     Address, Entry, Family, Kind, Metric, Reply, Verdict, Why, metrics_text, write_line,
 };
 use std::alloc::Global;
-use test_rows::{NoMemory, Row, number, says};
+use test_rows::{NoMemory, Row, number};
 
 /// The reasons, in the order of the table that says what each is.
 const WHYS: [Why; 20] = [
@@ -43,21 +44,23 @@ fn address(text: &[u8]) -> Option<Address> {
     })
 }
 
+/// Sets what a word says of a verdict.
+fn set_word(verdict: &mut Verdict, word: &[u8]) {
+    match index_of(b"retried|continued|plain|unchanged|changed", word) {
+        Some(0) => verdict.retried = true,
+        Some(1) => verdict.continued = true,
+        Some(2) => verdict.reply = Reply::Plain,
+        Some(3) => verdict.reply = Reply::Unchanged,
+        Some(4) => verdict.reply = Reply::Changed,
+        _ => {}
+    }
+}
+
 /// The verdict of words, as `retried continued unchanged`.
 fn verdict(text: &[u8]) -> Verdict {
     let mut verdict = Verdict::none();
     for word in text.split(|byte| *byte == b' ') {
-        if says(word, b"retried") {
-            verdict.retried = true;
-        } else if says(word, b"continued") {
-            verdict.continued = true;
-        } else if says(word, b"plain") {
-            verdict.reply = Reply::Plain;
-        } else if says(word, b"unchanged") {
-            verdict.reply = Reply::Unchanged;
-        } else if says(word, b"changed") {
-            verdict.reply = Reply::Changed;
-        }
+        set_word(&mut verdict, word);
     }
     verdict
 }
@@ -97,8 +100,8 @@ const OPEN: Family = Family {
     help: b"Those that are open.",
 };
 
-/// The text of two families, of which the first has two numbers.
-fn put_metrics(alloc: Global, row: &Row<'_>, out: &mut Vec<u8>) -> Result<(), NoMemory> {
+/// Adds the text of two families, of which the first has two numbers.
+pub fn put_metrics(alloc: Global, row: &Row<'_>, out: &mut Vec<u8>) -> Result<(), NoMemory> {
     let metrics = [
         Metric::Family(SERVED),
         Metric::Sample(SERVED, b"{at=\"first\"}", row.number(b"first").unwrap_or(0)),
@@ -114,18 +117,7 @@ fn put_metrics(alloc: Global, row: &Row<'_>, out: &mut Vec<u8>) -> Result<(), No
     out.extend_from_slice(text.as_slice())
 }
 
-/// Adds the answer to a row of this table; nothing where it is another one's.
-pub fn put_answer(
-    alloc: Global,
-    call: &[u8],
-    row: &Row<'_>,
-    out: &mut Vec<u8>,
-) -> Result<(), NoMemory> {
-    if says(call, b"write_line") {
-        write_line(out, &entry_of(row))
-    } else if says(call, b"metrics_text") {
-        put_metrics(alloc, row, out)
-    } else {
-        Ok(())
-    }
+/// Adds the line of the row's exchange.
+pub fn put_entry(row: &Row<'_>, out: &mut Vec<u8>) -> Result<(), NoMemory> {
+    write_line(out, &entry_of(row))
 }

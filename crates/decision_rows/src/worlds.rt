@@ -1,7 +1,9 @@
 //! All transactions at once: each line of `want` is an event of the world, and what is said of it.
-use crate::events::{asked, cut, read_event, read_plan};
+use crate::events::{read_event, read_plan};
+use crate::listed::index_of;
+use crate::questions::{Subject, asked, cut, put_lines};
 use std::alloc::Global;
-use test_rows::{NoMemory, Row, number, put_fault, put_line, put_number, says};
+use test_rows::{NoMemory, Row, number, put_count, put_fault, put_line, says};
 use world_core::{World, WorldEvent, WorldFault};
 
 /// A number, and what follows the space after it.
@@ -24,32 +26,23 @@ fn read_open(at: u64, rest: &[u8]) -> Option<WorldEvent> {
 
 /// An event of one transaction, whose number is known.
 fn read_of(word: &[u8], at: u64, rest: &[u8]) -> Option<WorldEvent> {
-    if says(word, b"lease") {
-        Some(WorldEvent::Lease(at, place(rest)?))
-    } else if says(word, b"open") {
-        read_open(at, rest)
-    } else if says(word, b"of") {
-        Some(WorldEvent::Of(at, read_event(rest)?))
-    } else if says(word, b"back") {
-        Some(WorldEvent::Back(at, says(rest, b"kept")))
-    } else if says(word, b"reclaim") {
-        Some(WorldEvent::Reclaim(at, number(rest)?))
-    } else {
-        None
+    match index_of(b"lease|open|of|back|reclaim", word)? {
+        0 => Some(WorldEvent::Lease(at, place(rest)?)),
+        1 => read_open(at, rest),
+        2 => Some(WorldEvent::Of(at, read_event(rest)?)),
+        3 => Some(WorldEvent::Back(at, says(rest, b"kept"))),
+        _ => Some(WorldEvent::Reclaim(at, number(rest)?)),
     }
 }
 
 fn read_world_event(text: &[u8]) -> Option<WorldEvent> {
     let (word, rest) = cut(text, b" ");
     let (at, rest) = numbered(rest)?;
-    if says(word, b"close") {
-        Some(WorldEvent::Close(at))
-    } else if says(word, b"limit") {
-        Some(WorldEvent::Limit(at as usize, number(rest)?))
-    } else if says(word, b"capacity") {
-        Some(WorldEvent::Capacity(at))
-    } else {
-        read_of(word, at, rest)
+    match index_of(b"close|limit|capacity", word) {
+        Some(0) => Some(WorldEvent::Close(at)),
+        Some(1) => Some(WorldEvent::Limit(at as usize, number(rest)?)),
+        Some(2) => Some(WorldEvent::Capacity(at)),
+        _ => read_of(word, at, rest),
     }
 }
 
@@ -61,15 +54,16 @@ fn put_taken(out: &mut Vec<u8>, taken: Result<(), WorldFault>) -> Result<(), NoM
     }
 }
 
-fn put_said(out: &mut Vec<u8>, world: &mut World, asked: &[u8]) -> Result<(), NoMemory> {
-    if says(asked, b"held") {
-        return put_number(out, b"held =", world.book());
-    }
-    out.extend_from_slice(asked)?;
-    out.extend_from_slice(b" = ")?;
-    match read_world_event(asked) {
-        Some(event) => put_taken(out, world.step(&event)),
-        None => put_line(out, b"no event"),
+impl Subject for World {
+    /// Adds whether an event is taken, or how many bytes are held.
+    fn put_said(&mut self, question: &[u8], out: &mut Vec<u8>) -> Result<(), NoMemory> {
+        if says(question, b"held") {
+            return put_count(out, self.book());
+        }
+        match read_world_event(question) {
+            Some(event) => put_taken(out, self.step(&event)),
+            None => put_line(out, b"no event"),
+        }
     }
 }
 
@@ -105,16 +99,6 @@ fn held_at_end(
     Ok(world.book())
 }
 
-/// Adds what is said of each wanted line.
-fn put_lines(out: &mut Vec<u8>, world: &mut World, lines: &[u8]) -> Result<(), NoMemory> {
-    for line in lines.split(|byte| *byte == b'\n') {
-        if !line.is_empty() {
-            put_said(out, world, asked(line))?;
-        }
-    }
-    Ok(())
-}
-
 /// How many bytes are held once each event came by itself.
 fn held_one_by_one(
     alloc: Global,
@@ -124,11 +108,12 @@ fn held_one_by_one(
     lines: &[u8],
 ) -> Result<u64, NoMemory> {
     let mut world = World::new(alloc, capacity, maxima)?;
-    put_lines(out, &mut world, lines)?;
+    put_lines(&mut world, lines, out)?;
     Ok(world.book())
 }
 
-fn put_world(alloc: Global, out: &mut Vec<u8>, row: &Row<'_>) -> Result<(), NoMemory> {
+/// Adds what is said of all transactions at once.
+pub fn put_world(alloc: Global, row: &Row<'_>, out: &mut Vec<u8>) -> Result<(), NoMemory> {
     let capacity = row.number(b"capacity").unwrap_or(0);
     let maxima = maxima_of(alloc, row.get(b"maxima"))?;
     let lines = row.get(b"want");
@@ -137,18 +122,5 @@ fn put_world(alloc: Global, out: &mut Vec<u8>, row: &Row<'_>) -> Result<(), NoMe
         Ok(())
     } else {
         put_line(out, b"other bytes are held in one go")
-    }
-}
-
-pub fn put_answer(
-    alloc: Global,
-    call: &[u8],
-    row: &Row<'_>,
-    out: &mut Vec<u8>,
-) -> Result<(), NoMemory> {
-    if says(call, b"world") {
-        put_world(alloc, out, row)
-    } else {
-        Ok(())
     }
 }

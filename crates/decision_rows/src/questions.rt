@@ -1,0 +1,40 @@
+//! Lines of a row's `want`, each a question or an event with what is said of it.
+use test_rows::NoMemory;
+
+/// What stands before this mark, or all if there is no mark, and what stands after it.
+pub fn cut<'a>(text: &'a [u8], mark: &[u8]) -> (&'a [u8], &'a [u8]) {
+    for at in 0..text.len() {
+        if let Some(rest) = text[at..].strip_prefix(mark) {
+            return (&text[..at], rest);
+        }
+    }
+    (text, b"")
+}
+
+/// What a line of the wanted answers asks: what stands before ` = `.
+pub fn asked(line: &[u8]) -> &[u8] {
+    cut(line, b" = ").0
+}
+
+/// What is asked.
+pub trait Subject {
+    /// Adds what is said of a question.
+    fn put_said(&mut self, question: &[u8], out: &mut Vec<u8>) -> Result<(), NoMemory>;
+}
+
+/// Adds each wanted line's question with what is said of it.
+pub fn put_lines<S: Subject>(
+    what: &mut S,
+    lines: &[u8],
+    out: &mut Vec<u8>,
+) -> Result<(), NoMemory> {
+    for line in lines.split(|byte| *byte == b'\n') {
+        if !line.is_empty() {
+            let question = asked(line);
+            out.extend_from_slice(question)?;
+            out.extend_from_slice(b" = ")?;
+            what.put_said(question, out)?;
+        }
+    }
+    Ok(())
+}
