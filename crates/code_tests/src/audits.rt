@@ -13,7 +13,7 @@ use std::thread;
 use std::thread::Threads;
 
 // What came back from an audit without one lease of two, and what one with all leases gave.
-#[derive(Debug, Drop, PartialEq, Eq)]
+#[derive(Drop)]
 struct HandedBack {
     leases_back: usize,
     put_back: Option<u32>,
@@ -86,17 +86,26 @@ fn audit_without_one<L: Ledger, R: Wait + Abort>(
     }
 }
 
+// What isn't as it should be.
+fn wrong_lease(seen: &HandedBack) -> Option<&'static str> {
+    if seen.leases_back != 1 {
+        Some("the leases that came back")
+    } else if seen.put_back.is_some() {
+        Some("the connection that was put")
+    } else if !matches!(seen.taken, Found::Idle(5)) {
+        Some("the connection that was taken")
+    } else if seen.count != 1 {
+        Some("the count of an audit with all leases")
+    } else {
+        None
+    }
+}
+
 #[test]
 fn audit_with_a_missing_lease_hands_all_back(rt: HostRuntime) -> Result<(), Fail> {
     let blank = Blank::new(LEDGER_PARTS);
     let seen = audit_without_one::<Brand, HostRuntime>(&rt, rt.alloc(), blank)?;
-    let wanted = HandedBack {
-        leases_back: 1,
-        put_back: None,
-        taken: Found::Idle(5),
-        count: 1,
-    };
-    assert_eq!(rt; seen, wanted);
+    assert_eq!(rt; wrong_lease(&seen), None);
     Ok(())
 }
 
@@ -104,7 +113,7 @@ fn audit_with_a_missing_lease_hands_all_back(rt: HostRuntime) -> Result<(), Fail
 type Made<B> = Option<Stake<B>>;
 
 // What came back from an audit of a budget without one reservation, and the sums of one with all.
-#[derive(Clone, Copy, Debug, PartialEq, Eq)]
+#[derive(Clone, Copy)]
 struct StakesBack {
     stakes_back: usize,
     fault: span_bank::AuditFault,
@@ -290,25 +299,34 @@ fn stakes_back<R: Threads + Wait + Abort + Sync>(
     audit_without_one_of::<Brand, Brand, Brand, Brand, R>(rt, alloc, blanks, is_shared)
 }
 
-// What is wanted of an audit without one reservation, where all of them have these numbers of each.
-fn wanted_back(stakes_back: usize, rows: u64, held: u64, claimed: u64, pages: u64) -> StakesBack {
-    StakesBack {
-        stakes_back,
-        fault: span_bank::AuditFault::Missing,
-        sums: Audit {
-            rows,
-            held,
-            claimed,
-            pages,
-        },
+// The first that isn't as wanted: the reservations that came back, or a sum of all of them.
+fn wrong_stakes(seen: StakesBack, stakes_back: usize, sums: [u64; 4]) -> Option<&'static str> {
+    let [rows, held, claimed, pages] = sums;
+    if seen.stakes_back != stakes_back {
+        Some("the reservations that came back")
+    } else if !matches!(seen.fault, span_bank::AuditFault::Missing) {
+        Some("the fault")
+    } else if seen.sums.rows != rows {
+        Some("rows")
+    } else if seen.sums.held != held {
+        Some("held bytes")
+    } else if seen.sums.claimed != claimed {
+        Some("claimed bytes")
+    } else if seen.sums.pages != pages {
+        Some("pages")
+    } else {
+        None
     }
 }
 
 #[test]
 fn audit_without_a_stake_hands_all_back(rt: HostRuntime) -> Result<(), Fail> {
-    let seen = stakes_back(&rt, rt.alloc(), false)?;
-    assert_eq!(rt; seen, wanted_back(1, 2, 3, 30, 1));
-    let seen = stakes_back(&rt, rt.alloc(), true)?;
-    assert_eq!(rt; seen, wanted_back(3, 4, 100, 100, 4));
+    let of_two = stakes_back(&rt, rt.alloc(), false)?;
+    let of_four = stakes_back(&rt, rt.alloc(), true)?;
+    let wrong = [
+        wrong_stakes(of_two, 1, [2, 3, 30, 1]),
+        wrong_stakes(of_four, 3, [4, 100, 100, 4]),
+    ];
+    assert_eq!(rt; wrong, [None; 2]);
     Ok(())
 }

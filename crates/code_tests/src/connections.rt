@@ -1,14 +1,14 @@
 //! Connections of `icapd` over sockets on the loopback.
 
+use crate::streams::{gets, hears_end, say};
 use icapd_commands::{Settings, Shared, accept_one};
 use std::alloc::{AllocError, Global};
-use std::io::{self, Read, Write};
 use std::net::{Net, Shutdown, SocketAddr, TcpListener, TcpStream};
 use std::sync::{Arc, Wait};
 use std::test::Fail;
-use std::thread;
 use std::thread::Threads;
 use std::time::{Clock, Duration};
+use std::{io, thread};
 
 const REQUEST: &[u8] = b"REQMOD icap://127.0.0.1:1344/reqmod/block ICAP/1.0\r\n\
 Host: 127.0.0.1:1344\r\nEncapsulated: req-hdr=0, null-body=45\r\n\r\n\
@@ -37,24 +37,13 @@ fn connect<R: Net<Listener = TcpListener, Stream = TcpStream>>(
     bytes: &[u8],
 ) -> io::Result<TcpStream> {
     let stream = TcpStream::connect(rt, address)?;
-    let mut writer = &stream;
-    writer.write_all(bytes)?;
+    say(&stream, bytes)?;
     Ok(stream)
 }
 
 /// Whether these bytes come next on the connection, and then its end where that is asked for.
-fn receives(alloc: Global, stream: &TcpStream, want: &[u8], end: bool) -> io::Result<bool> {
-    let mut reader = stream;
-    let mut found = Vec::from_elem(alloc, 0u8, want.len())?;
-    reader.read_exact(&mut found)?;
-    if found.as_slice() != want {
-        return Ok(false);
-    }
-    if end {
-        let mut rest = Vec::new(alloc);
-        return Ok(reader.read_to_end(&mut rest)? == 0);
-    }
-    Ok(true)
+fn receives(stream: &TcpStream, want: &[u8], end: bool) -> io::Result<bool> {
+    Ok(gets(stream, want)? && (!end || hears_end(stream)?))
 }
 
 /// A server that listens here, with what its connections share.
@@ -78,10 +67,9 @@ fn serve_twice<
 >(rt: R, alloc: Global, server: &Server<'_>) -> io::Result<bool> {
     let kept = connect(&rt, server.address, REQUEST)?;
     accept_one(rt, alloc, server.listener, server.shared);
-    let first = receives(alloc, &kept, BLOCKED, false)?;
-    let mut again = &kept;
-    again.write_all(REQUEST)?;
-    Ok(first && receives(alloc, &kept, BLOCKED, false)?)
+    let first = receives(&kept, BLOCKED, false)?;
+    say(&kept, REQUEST)?;
+    Ok(first && receives(&kept, BLOCKED, false)?)
 }
 
 /// A client that writes no more is answered, and then the connection ends.
@@ -98,7 +86,7 @@ fn serve_half_closed<
     let half = connect(&rt, server.address, REQUEST)?;
     half.shutdown(Shutdown::Write)?;
     accept_one(rt, alloc, server.listener, server.shared);
-    receives(alloc, &half, BLOCKED, true)
+    receives(&half, BLOCKED, true)
 }
 
 /// A client that goes away in a request, and then one whose request is none.
@@ -116,7 +104,7 @@ fn serve_wrong_ones<
     accept_one(rt, alloc, server.listener, server.shared);
     let wrong = connect(&rt, server.address, b"x\r\nand more")?;
     accept_one(rt, alloc, server.listener, server.shared);
-    receives(alloc, &wrong, BAD_REQUEST, true)
+    receives(&wrong, BAD_REQUEST, true)
 }
 
 /// Requests on one connection, a half-closed client, clients that are gone or wrong, each alone.
@@ -146,6 +134,15 @@ where
     )
 }
 
+/// Whether a second connection waits until the first one has sent the rest of its request, and has its answer and its end.
+fn waits_its_turn(first: &TcpStream, second: &TcpStream, rest: &[u8]) -> io::Result<bool> {
+    second.set_read_timeout(Some(Duration::from_millis(600)))?;
+    let waits = receives(second, BLOCKED, false).is_err();
+    second.set_read_timeout(None)?;
+    say(first, rest)?;
+    Ok(waits && receives(first, BLOCKED, true)? && receives(second, BLOCKED, false)?)
+}
+
 /// A second connection waits while the first is within a request. Once that is answered, and waits for a further one, it
 /// is closed, and the second served.
 fn serve_one_at_a_time<R>(rt: R, alloc: Global) -> io::Result<bool>
@@ -165,25 +162,14 @@ where
     let (front, rest) = REQUEST.split_at(20);
     let first = connect(&rt, address, front)?;
     let second = connect(&rt, address, REQUEST)?;
-    second.set_read_timeout(Some(Duration::from_millis(600)))?;
     accept_one(rt, alloc, &listener, &shared);
-    let lent = &listener;
-    let given = &shared;
-    thread::scope(thread::scope_env(), &rt, |scope| {
-        if scope
-            .spawn(move || accept_one(rt, alloc, lent, given))
-            .is_err()
-        {
-            return Ok(false);
-        }
-        let waits = receives(alloc, &second, BLOCKED, false).is_err();
-        second.set_read_timeout(None)?;
-        let mut writer = &first;
-        writer.write_all(rest)?;
-        let served = receives(alloc, &first, BLOCKED, true)?;
-        let later = receives(alloc, &second, BLOCKED, false)?;
-        Ok(waits && served && later)
-    })
+    let mut right = false;
+    thread::join_mut(
+        &rt,
+        &mut || accept_one(rt, alloc, &listener, &shared),
+        &mut || right = waits_its_turn(&first, &second, rest).unwrap_or(false),
+    );
+    Ok(right)
 }
 
 /// A connection that has said nothing is closed for a further one, and one that says nothing for the deadline in any case.
@@ -205,9 +191,9 @@ where
     accept_one(rt, alloc, &listener, &shared);
     let second = connect(&rt, address, REQUEST)?;
     accept_one(rt, alloc, &listener, &shared);
-    let closed = receives(alloc, &silent, b"", true)?;
-    let served = receives(alloc, &second, BLOCKED, false)?;
-    let late = receives(alloc, &second, b"", true)?;
+    let closed = receives(&silent, b"", true)?;
+    let served = receives(&second, BLOCKED, false)?;
+    let late = receives(&second, b"", true)?;
     Ok(closed && served && late)
 }
 

@@ -1,5 +1,6 @@
 //! Loops in threads, over loopback: they echo.
 
+use crate::streams::{gets, say};
 use event_loop::{
     Base, Driven, Ended, Entrance, Handed, Inbox, Request, Room, Told, UserPermit, Work, add_loop,
     run_loop,
@@ -9,12 +10,11 @@ use mio::{Registry, Token};
 use slab::Slab;
 use socket_wire::{Dial, MAX_KEY, Peer, Readiness, SocketWire, UserWire, token_of};
 use std::alloc::{AllocError, Global};
-use std::io::{self, Read, Write};
 use std::net::{Ipv4Addr, SocketAddr, TcpStream as Client};
 use std::sync::{Arc, Mutex, Wait};
 use std::test::Fail;
-use std::thread;
 use std::time::Clock;
+use std::{io, thread};
 use wire_kit::{Got, Wire};
 
 /// A connection that echoes, and its readiness.
@@ -163,17 +163,6 @@ impl Work for Echo {
     }
 }
 
-/// Whether just this comes next.
-fn gets(client: &mut Client, want: &[u8]) -> io::Result<bool> {
-    let mut byte = [0u8; 1];
-    for wanted in want {
-        if client.read(&mut byte)? == 0 || byte[0] != *wanted {
-            return Ok(false);
-        }
-    }
-    Ok(true)
-}
-
 /// Whether a client of a port that says this gets `want` as its answer, `times` times.
 fn answers(
     rt: &HostRuntime,
@@ -182,10 +171,10 @@ fn answers(
     want: &[u8],
     times: u32,
 ) -> io::Result<bool> {
-    let mut client = Client::connect(rt, port)?;
-    client.write_all(said)?;
+    let client = Client::connect(rt, port)?;
+    say(&client, said)?;
     for _ in 0..times {
-        if !gets(&mut client, want)? {
+        if !gets(&client, want)? {
             return Ok(false);
         }
     }
@@ -263,8 +252,7 @@ fn users(rt: &HostRuntime, port: SocketAddr, admin: SocketAddr) -> io::Result<bo
     for (port, said, want, times) in &rows {
         right = right && answers(rt, *port, *said, *want, *times)?;
     }
-    let mut client = Client::connect(rt, admin)?;
-    client.write_all(b"stop\n")?;
+    say(&Client::connect(rt, admin)?, b"stop\n")?;
     Ok(right)
 }
 

@@ -12,3 +12,5 @@ mod echoes;
 mod serving;
 #[cfg(test)]
 mod sockets;
+#[cfg(test)]
+mod streams;

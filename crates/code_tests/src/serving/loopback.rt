@@ -1,8 +1,9 @@
 //! `serve` over loopback: users, an origin, a service and the administrator in one thread, the proxy in threads of its own.
 
 use super::apart::three_apart;
-use super::player::{Stage, Step, gets, take_all};
+use super::player::{Stage, Step, take_all};
 use super::shards::{many_users, one_connection};
+use crate::streams::gets;
 use mio::net::TcpListener as Listener;
 use proxy_commands::read_configuration;
 use proxy_config::Config;
@@ -156,6 +157,26 @@ fn play<R: Threads + Sync>(
     }
 }
 
+/// Runs the proxy until it is stopped, on listeners that are there once.
+fn run_proxy<
+    R: Threads
+        + Wait
+        + Net<Listener = TcpListener, Stream = TcpStream>
+        + Dial
+        + Append
+        + Clock
+        + Sync,
+>(
+    rt: &R,
+    alloc: Global,
+    config: &Config,
+    listeners: &mut Option<(Listener, Listener)>,
+    gate: &HoldGate,
+) -> Option<Stopped> {
+    let (users, admin) = listeners.take()?;
+    serve(rt, alloc, config, users, admin, None, gate).ok()
+}
+
 /// Runs the proxy with these lines of a configuration while a scene is played, and stops it. Whether all went as it should,
 /// and nothing was out at the end. Both handles are the test's own: threads are started by a bound alone.
 pub fn goes_well<
@@ -177,11 +198,7 @@ pub fn goes_well<
     let mut right = false;
     thread::join_mut(
         rt,
-        &mut || {
-            if let Some((users, admin)) = made.take() {
-                stopped = serve(rt, alloc, &config, users, admin, None, &gate).ok();
-            }
-        },
+        &mut || stopped = run_proxy(rt, alloc, &config, &mut made, &gate),
         &mut || {
             right = play(rt, host, alloc, scene, ports, &others, &gate).unwrap_or(false);
             let _ = stop(host, ports);

@@ -2,9 +2,10 @@
 
 use super::loopback::{Others, Ports};
 use super::player::Peer::{Origin, Service, User};
-use super::player::{TRIES, does_all, gets, hears, meet, say, until};
+use super::player::{Deed, Peer, TRIES, does_all, meet};
 use super::scenes::{ADAPTS, ANSWERS, ASKS, IS_REFUSED, SAYS_ONE_CONNECTION};
 use super::texts::{ADAPTED, FORWARDED, HEAD_END, REQUEST, RESPONSE, UNAVAILABLE};
+use crate::streams::{gets, hears, say, until};
 use std::alloc::Global;
 use std::io;
 use std::net::TcpStream;
@@ -26,12 +27,24 @@ fn is_offered(line: &TcpStream, user: &TcpStream) -> io::Result<bool> {
     Ok(false)
 }
 
+/// A connection of a side, on which this was done.
+fn met(
+    rt: &HostRuntime,
+    alloc: Global,
+    ports: Ports,
+    others: &Others,
+    side: Peer,
+    deeds: &[Deed],
+) -> io::Result<TcpStream> {
+    let stream = meet(rt, ports, others, side)?;
+    let _ = does_all(alloc, &stream, others, deeds)?;
+    Ok(stream)
+}
+
 /// A user that has asked, and whose request the origin has answered.
 fn asked(rt: &HostRuntime, alloc: Global, ports: Ports, others: &Others) -> io::Result<TcpStream> {
-    let user = meet(rt, ports, others, User)?;
-    let _ = does_all(alloc, &user, others, ASKS)?;
-    let origin = meet(rt, ports, others, Origin)?;
-    let _ = does_all(alloc, &origin, others, ANSWERS)?;
+    let user = met(rt, alloc, ports, others, User, ASKS)?;
+    let _ = met(rt, alloc, ports, others, Origin, ANSWERS)?;
     Ok(user)
 }
 
