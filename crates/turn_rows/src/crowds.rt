@@ -1,12 +1,13 @@
 //! Sixty-four transactions in four threads on one budget, which has room for one of them at a time.
 
 use crate::case::Case;
-use crate::game_budget::{GameBudget, SharedBudget};
+use crate::game_budget::{GameBudget, Playing, SharedBudget, Thread};
 use crate::threads::drive_to_end;
 use adapt_turn::Outcome;
 use std::thread::Threads;
+use std::time::Clock;
 use test_rows::{NoMemory, put_number};
-use turn_stage::{Four, Game, Remains, Task, Told, four};
+use turn_stage::{Four, Game, Remains, Told, four};
 use wire_rows::put_flag;
 
 /// How often a thread begins two transactions, the second one while the first one is open.
@@ -14,10 +15,10 @@ const TIMES: usize = 8;
 
 /// What became of transactions: how many users got the whole message, how many transactions the budget refused, and the others.
 #[derive(Clone, Copy)]
-pub struct Tally {
-    pub whole: u64,
-    pub refused: u64,
-    pub other: u64,
+struct Tally {
+    whole: u64,
+    refused: u64,
+    other: u64,
 }
 
 impl Tally {
@@ -94,7 +95,7 @@ fn sum(first: Result<Tally, NoMemory>, second: Result<Tally, NoMemory>) -> Resul
 }
 
 /// Begins two transactions, and ends both.
-pub fn play_two<P: GameBudget>(budget: &P, case: &Case<'_>) -> Result<Tally, NoMemory> {
+fn play_two<P: GameBudget>(budget: &P, case: &Case<'_>) -> Result<Tally, NoMemory> {
     let first = budget.begun(case);
     let second = budget.begun(case);
     sum(fate_of(first, case), fate_of(second, case))
@@ -102,18 +103,17 @@ pub fn play_two<P: GameBudget>(budget: &P, case: &Case<'_>) -> Result<Tally, NoM
 
 /// The transactions of a thread.
 #[derive(Drop)]
-struct Crowd<'a, P> {
-    budget: &'a P,
+struct Crowd<'a> {
     case: &'a Case<'a>,
 }
 
-impl<'a, P: SharedBudget> Task for Crowd<'a, P> {
+impl<'a> Playing for Crowd<'a> {
     type Kept = Result<Tally, NoMemory>;
 
-    fn run(&self) -> Result<Tally, NoMemory> {
+    fn play<P: GameBudget, R: Clock>(&self, _rt: &R, budget: &P) -> Result<Tally, NoMemory> {
         let mut tally = Tally::NONE;
         for _ in 0..TIMES {
-            tally = tally.and(self.budget.play_two(self.case)?);
+            tally = tally.and(play_two(budget, self.case)?);
         }
         Ok(tally)
     }
@@ -126,7 +126,11 @@ pub fn put_four<P: SharedBudget + Sync, R: Threads + Sync>(
     case: &Case<'_>,
     out: &mut Vec<u8>,
 ) -> Result<(), NoMemory> {
-    put_tallies(four(rt, &Crowd { budget, case }), out)
+    let thread = Thread {
+        budget,
+        playing: Crowd { case },
+    };
+    put_tallies(four(rt, &thread), out)
 }
 
 /// Adds what became of the transactions of four threads.

@@ -1,15 +1,14 @@
 //! A budget on which a row's transactions begin.
 
 use crate::case::Case;
-use crate::crowds::{Tally, play_two};
-use crate::threads::{report, report_held};
+use crate::threads::report;
 use crate::wires::{source_wire, wires_with};
 use span_bank::{Bank, Ledgers};
 use std::sync::Wait;
 use std::time::Clock;
 use test_rows::NoMemory;
-use turn_stage::{Counted, Game, Played, Recorded, begin, game_size};
-use wire_kit::{HoldGate, Wire};
+use turn_stage::{Counted, Game, Played, Recorded, Task, begin, game_size};
+use wire_kit::Wire;
 
 /// A budget on which a row's transactions begin. What plays them doesn't see its ledgers.
 pub trait GameBudget {
@@ -30,16 +29,19 @@ pub trait GameBudget {
     fn game_size(&self) -> usize;
 }
 
-/// A budget on which threads play a row's transactions.
+/// What is played on a budget.
+pub trait Playing {
+    /// What it has at the end.
+    type Kept;
+
+    /// Plays it.
+    fn play<P: GameBudget, R: Clock>(&self, rt: &R, budget: &P) -> Self::Kept;
+}
+
+/// A budget on which threads play. What starts them doesn't see the transactions.
 pub trait SharedBudget {
-    /// What the row's transaction reports, whose origin's wire is held back by the gate.
-    fn report_held(&self, gate: &HoldGate, case: &Case<'_>) -> Result<Vec<u8>, NoMemory>;
-
-    /// What it reports that opens the gate once it is finished.
-    fn report_opening(&self, gate: &HoldGate, case: &Case<'_>) -> Result<Vec<u8>, NoMemory>;
-
-    /// Begins two transactions, and ends both.
-    fn play_two(&self, case: &Case<'_>) -> Result<Tally, NoMemory>;
+    /// What a thread that plays this has at the end.
+    fn played<T: Playing>(&self, playing: &T) -> T::Kept;
 }
 
 /// A bank as both.
@@ -81,15 +83,22 @@ impl<'a, B: Ledgers, R: Wait> GameBudget for OnBank<'a, B, R> {
 }
 
 impl<'a, B: Ledgers, R: Wait + Clock> SharedBudget for OnBank<'a, B, R> {
-    fn report_held(&self, gate: &HoldGate, case: &Case<'_>) -> Result<Vec<u8>, NoMemory> {
-        report_held(self.rt, self, gate, case)
+    fn played<T: Playing>(&self, playing: &T) -> T::Kept {
+        playing.play(self.rt, self)
     }
+}
 
-    fn report_opening(&self, gate: &HoldGate, case: &Case<'_>) -> Result<Vec<u8>, NoMemory> {
-        report(self.begun(case), Some(gate), case)
-    }
+/// A thread that plays something on a budget.
+#[derive(Drop)]
+pub struct Thread<'a, P, T> {
+    pub budget: &'a P,
+    pub playing: T,
+}
 
-    fn play_two(&self, case: &Case<'_>) -> Result<Tally, NoMemory> {
-        play_two(self, case)
+impl<'a, P: SharedBudget, T: Playing> Task for Thread<'a, P, T> {
+    type Kept = T::Kept;
+
+    fn run(&self) -> T::Kept {
+        self.budget.played(&self.playing)
     }
 }

@@ -2,7 +2,7 @@
 //! second is finished.
 
 use crate::case::Case;
-use crate::game_budget::{GameBudget, SharedBudget};
+use crate::game_budget::{GameBudget, Playing, SharedBudget, Thread};
 use crate::held::HeldWire;
 use crate::steps::ROUND;
 use crate::told::put_outcome;
@@ -10,7 +10,7 @@ use adapt_turn::{Side, TurnAnswer};
 use std::thread::Threads;
 use std::time::Clock;
 use test_rows::NoMemory;
-use turn_stage::{BEGIN, Game, Remains, Task, two};
+use turn_stage::{BEGIN, Game, Remains, two};
 use wire_kit::{Answer, Answers, HoldGate, SharedWire};
 
 /// The rounds of a transaction in which each text goes at once.
@@ -82,37 +82,35 @@ fn held_wire<'a, R: Clock>(
     })
 }
 
-/// What the first transaction reports, whose origin's wire is held back by the gate.
-pub fn report_held<P: GameBudget, R: Clock>(
-    rt: &R,
-    budget: &P,
-    gate: &HoldGate,
-    case: &Case<'_>,
-) -> Result<Vec<u8>, NoMemory> {
-    let answers = held_answers(case)?;
-    let source = held_wire(rt, gate, &answers, case)?;
-    budget.reported_over(source, case)
-}
-
-/// One of the two transactions.
+/// The first transaction, whose origin's wire is held back by the gate.
 #[derive(Drop)]
-struct OneOfTwo<'a, P> {
-    budget: &'a P,
+struct Held<'a> {
     gate: &'a HoldGate,
     case: &'a Case<'a>,
-    /// Whether its origin's wire is held back by the gate; it opens the gate otherwise, once it is finished.
-    is_held: bool,
 }
 
-impl<'a, P: SharedBudget> Task for OneOfTwo<'a, P> {
+impl<'a> Playing for Held<'a> {
     type Kept = Result<Vec<u8>, NoMemory>;
 
-    fn run(&self) -> Result<Vec<u8>, NoMemory> {
-        if self.is_held {
-            self.budget.report_held(self.gate, self.case)
-        } else {
-            self.budget.report_opening(self.gate, self.case)
-        }
+    fn play<P: GameBudget, R: Clock>(&self, rt: &R, budget: &P) -> Result<Vec<u8>, NoMemory> {
+        let answers = held_answers(self.case)?;
+        let source = held_wire(rt, self.gate, &answers, self.case)?;
+        budget.reported_over(source, self.case)
+    }
+}
+
+/// The other one, which opens the gate once it is finished.
+#[derive(Drop)]
+struct Opening<'a> {
+    gate: &'a HoldGate,
+    case: &'a Case<'a>,
+}
+
+impl<'a> Playing for Opening<'a> {
+    type Kept = Result<Vec<u8>, NoMemory>;
+
+    fn play<P: GameBudget, R: Clock>(&self, _rt: &R, budget: &P) -> Result<Vec<u8>, NoMemory> {
+        report(budget.begun(self.case), Some(self.gate), self.case)
     }
 }
 
@@ -124,17 +122,13 @@ pub fn put_both<P: SharedBudget + Sync, R: Threads + Sync>(
     out: &mut Vec<u8>,
 ) -> Result<(), NoMemory> {
     let gate = HoldGate::new();
-    let first = OneOfTwo {
+    let first = Thread {
         budget,
-        gate: &gate,
-        case,
-        is_held: true,
+        playing: Held { gate: &gate, case },
     };
-    let second = OneOfTwo {
+    let second = Thread {
         budget,
-        gate: &gate,
-        case,
-        is_held: false,
+        playing: Opening { gate: &gate, case },
     };
     let (first, second) = two(rt, &first, &second);
     out.extend_from_slice(&first?)?;
