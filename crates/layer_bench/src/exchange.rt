@@ -6,7 +6,8 @@ ghost use Rattle.adapt_sides.specs.Tapes.{KeepsUnsent};
 
 use crate::budget::PIECE;
 use crate::nanos_each;
-use crate::offered::{BODY, GO_ON, replies, service_side, the_plan};
+use crate::offered::{BODY, service_side, the_plan};
+use crate::turns::service;
 use adapt_sides::Turn;
 use anyhow::{Result, bail};
 use icap_client::ServiceSide;
@@ -16,15 +17,7 @@ use std::alloc::{AllocError, Global};
 use std::sync::Wait;
 use std::time::{Clock, Instant};
 use trace_core::{Event, State};
-use wire_kit::{Calls, CountedWire, MemoryWire, ReadAnswer, Wire, WriteAnswer};
-
-/// A wire that gives the replies, in two reads.
-fn new_wire(alloc: Global) -> Result<CountedWire<MemoryWire>, AllocError> {
-    let reads = vec![in alloc; ReadAnswer::Bytes(GO_ON.len()), ReadAnswer::Bytes(4096)]?;
-    let writes = vec![in alloc; WriteAnswer::Took(4096), WriteAnswer::Took(4096)]?;
-    let wire = MemoryWire::new(alloc, replies(alloc)?, reads, writes)?;
-    Ok(CountedWire::new(wire))
-}
+use wire_kit::{Calls, Wire};
 
 /// Reads and writes together.
 fn all_of(calls: Calls) -> u64 {
@@ -33,7 +26,7 @@ fn all_of(calls: Calls) -> u64 {
 
 /// Makes a wire and a side for an exchange, and uses neither. How often the wire was called; `None` if the side has all of a request.
 fn make_end(alloc: Global) -> Result<Option<u64>, AllocError> {
-    let wire = new_wire(alloc)?;
+    let wire = service(alloc, 4096)?;
     let side = service_side(alloc)?;
     Ok(if side.request_whole() {
         None
@@ -55,7 +48,7 @@ fn make_ends(alloc: Global, times: u32) -> Result<u64, AllocError> {
 
 /// Makes an exchange, and counts the calls of its wire. `None` if it isn't whole.
 fn call_exchange(alloc: Global, body: &SpanTape) -> Result<Option<u64>, AllocError> {
-    let mut wire = new_wire(alloc)?;
+    let mut wire = service(alloc, 4096)?;
     let mut side = service_side(alloc)?;
     Ok(if run_exchange(&mut side, body, &mut wire) {
         Some(all_of(wire.calls()))

@@ -106,10 +106,10 @@ fn origin(alloc: Global) -> Result<Counted, AllocError> {
     counted(alloc, answer, given, Vec::new(alloc))
 }
 
-/// The service's wire, which reads and answers twice.
-fn service(alloc: Global) -> Result<Counted, AllocError> {
-    let heard = vec![in alloc; ReadAnswer::Bytes(GO_ON.len()), ReadAnswer::Bytes(512)]?;
-    let sent = vec![in alloc; WriteAnswer::Took(512), WriteAnswer::Took(512)]?;
+/// The service's wire, which reads and answers twice, and moves at most this many bytes each time.
+pub fn service(alloc: Global, most: usize) -> Result<Counted, AllocError> {
+    let heard = vec![in alloc; ReadAnswer::Bytes(GO_ON.len()), ReadAnswer::Bytes(most)]?;
+    let sent = vec![in alloc; WriteAnswer::Took(most), WriteAnswer::Took(most)]?;
     counted(alloc, replies(alloc)?, heard, sent)
 }
 
@@ -135,7 +135,7 @@ fn all_wires<C: Drop>(
 
 /// The wires of an exchange in which each text goes at once, and which answer no more often than that.
 pub fn wires(alloc: Global) -> Result<Wires<Counted, Counted>, AllocError> {
-    all_wires(origin(alloc), service(alloc), user(alloc))
+    all_wires(origin(alloc), service(alloc, 512), user(alloc))
 }
 
 /// What the turns of an exchange take. `None` if it can't begin.
