@@ -1,0 +1,9 @@
+//! Whole connections of users: exchanges over wires in memory.
+
+mod banks;
+mod memory;
+mod play;
+mod services;
+mod words;
+
+pub use banks::put_exchange;

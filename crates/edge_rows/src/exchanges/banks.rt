@@ -1,0 +1,162 @@
+//! A row's exchange on a budget of its own, whose ledgers are picked here, once for all.
+ghost use Rattle.std.specs.Prelude.{◌≡◌};
+
+use crate::exchanges::memory::Memory;
+use crate::exchanges::play::{Played, play_row};
+use crate::stage::{Ended, Peer, Stage, TalkWire, put_ended};
+use proxy_config::{Config, ConfigFault, read_config};
+use proxy_rules::Incoming;
+use shard_holdings::{Held, Holdings};
+use span_bank::{Bank, Blanks, Ledgers, Pages};
+use std::alloc::Global;
+use std::boxed::Box;
+use std::marker::Brand;
+use std::sync::Wait;
+use std::sync::ledger::Ledger;
+use test_rows::{NoMemory, put_line};
+use wire_rows::{Scene, Values};
+
+/// What is left of an exchange, which is over, or was stopped. Its reservation is closed.
+fn left_of<'a, B: Ledgers, R: Wait>(
+    rt: &R,
+    bank: &Bank<B>,
+    played: Played<Holdings<Memory<'a, B>>>,
+) -> Ended {
+    let Played {
+        ends: _,
+        phase,
+        holdings,
+        memory,
+    } = played;
+    let Held { lease, stake } = holdings.into_held(rt, bank);
+    let ended = Ended {
+        phase,
+        lease: lease.is_some(),
+        stake: stake.is_some(),
+    };
+    if let Some(stake) = stake {
+        bank.close(rt, stake, Pages::none());
+    }
+    memory.end(lease);
+    ended
+}
+
+/// Plays the row's exchange: whether it came to an end, and what is left.
+fn ended_of<'a, B: Ledgers, R: Wait>(
+    rt: &R,
+    alloc: Global,
+    bank: &Bank<B>,
+    stage: &'a Stage,
+    scene: Scene<'a>,
+    values: Values,
+    memory: Memory<'a, B>,
+) -> Result<(bool, Ended), NoMemory> {
+    let message = Box::new(alloc, Incoming::request(alloc))?;
+    let user = TalkWire::new(stage, scene, values, Peer::User, b"user");
+    let played = play_row(rt, stage, scene, values, user, message, memory);
+    let ends = played.ends;
+    Ok((ends, left_of(rt, bank, played)))
+}
+
+/// Adds what the row's exchange reports on this budget.
+fn put_scene<B: Ledgers, R: Wait>(
+    rt: &R,
+    alloc: Global,
+    bank: &Bank<B>,
+    config: &Config,
+    scene: Scene<'_>,
+    values: Values,
+    out: &mut Vec<u8>,
+) -> Result<(), NoMemory> {
+    let stage = Stage::new(alloc, scene);
+    let memory = Memory::new(alloc, &stage, scene, values, config, bank);
+    let (ends, ended) = ended_of(rt, alloc, bank, &stage, scene, values, memory)?;
+    put_ended(out, scene, &stage, ended)?;
+    if ends {
+        Ok(())
+    } else {
+        put_line(out, b"it goes on and on")
+    }
+}
+
+/// Adds what the row's exchange reports on this budget, of which another may hold the only slot.
+fn put_beside<B: Ledgers, R: Wait>(
+    rt: &R,
+    alloc: Global,
+    bank: &Bank<B>,
+    config: &Config,
+    scene: Scene<'_>,
+    values: Values,
+    out: &mut Vec<u8>,
+) -> Result<(), NoMemory> {
+    if scene.is(b"slot", b"taken")
+        && let Ok(other) = bank.open(rt, 1)
+    {
+        let told = put_scene(rt, alloc, bank, config, scene, values, out);
+        bank.close(rt, other, Pages::none());
+        return told;
+    }
+    put_scene(rt, alloc, bank, config, scene, values, out)
+}
+
+/// Whether no reservation is left of a budget.
+fn is_empty<B: Ledgers>(alloc: Global, bank: Bank<B>) -> bool {
+    match bank.audit(Vec::new(alloc)) {
+        Ok(audit) => audit.rows == 0 && audit.held == 0 && audit.claimed == 0 && audit.pages == 0,
+        Err((_, stakes, _)) => {
+            stakes.destroy_empty();
+            false
+        }
+    }
+}
+
+/// Plays the row on a new budget, which has to be empty after it.
+fn put_on_bank<H: Ledger, F: Ledger, S: Ledger, P: Ledger, R: Wait>(
+    rt: &R,
+    alloc: Global,
+    blanks: Blanks,
+    config: &Config,
+    scene: Scene<'_>,
+    values: Values,
+    out: &mut Vec<u8>,
+) -> Result<(), NoMemory>
+    requires held { (blanks.held.name ≡ H.name) × (blanks.held.parts ≡ H.parts) × (blanks.held.parts ≡ 2) }
+    requires free { (blanks.free.name ≡ F.name) × (blanks.free.parts ≡ F.parts) × (blanks.free.parts ≡ 2) }
+    requires slack { (blanks.slack.name ≡ S.name) × (blanks.slack.parts ≡ S.parts) × (blanks.slack.parts ≡ 2) }
+    requires pages { (blanks.pages.name ≡ P.name) × (blanks.pages.parts ≡ P.parts) × (blanks.pages.parts ≡ 2) }
+{
+    let bank: Bank<(H, F, S, P)> = Bank::new(alloc, blanks, config.capacity, 1, 16)?;
+    let told = put_beside(rt, alloc, &bank, config, scene, values, out);
+    let is_empty = is_empty(alloc, bank);
+    told?;
+    if is_empty {
+        Ok(())
+    } else {
+        put_line(out, b"something is left of the budget")
+    }
+}
+
+/// Adds what a run of the row reports.
+pub fn put_exchange<R: Wait>(
+    rt: &R,
+    alloc: Global,
+    scene: Scene<'_>,
+    values: Values,
+    out: &mut Vec<u8>,
+) -> Result<(), NoMemory> {
+    match read_config(alloc, scene.get(b"config")) {
+        Ok(config) => {
+            put_on_bank::<Brand, Brand, Brand, Brand, R>(
+                rt,
+                alloc,
+                Blanks::new(2),
+                &config,
+                scene,
+                values,
+                out,
+            )
+        }
+        Err(ConfigFault::NoMemory) => Err(NoMemory),
+        Err(_) => put_line(out, b"no configuration"),
+    }
+}
