@@ -58,7 +58,7 @@ fn is_turn_of(own: usize, number: u64, loops: usize) -> bool
 }
 
 /// What came of a user that has connected.
-#[derive(Clone, Copy, PartialEq, Eq)]
+#[derive(Clone, Copy)]
 enum Turn {
     /// It lies in the inbox of the loop that serves the port, which wasn't woken for it.
     Own,

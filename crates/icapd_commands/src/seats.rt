@@ -6,7 +6,7 @@ ghost use Rattle.icapd_commands.specs.Seats.{IsAt, IsLonger, IsLongest, IsToEnd,
 use std::alloc::{AllocError, Global};
 
 /// What the connection on a seat does.
-#[derive(Clone, Copy, Debug, PartialEq, Eq)]
+#[derive(Clone, Copy, PartialEq, Eq)]
 pub enum Doing {
     /// There is no connection: the seat is free.
     Nothing,
@@ -19,7 +19,7 @@ pub enum Doing {
 }
 
 /// The seats, and how often one of their connections began to wait.
-#[derive(Debug, Drop)]
+#[derive(Drop)]
 pub struct Seats {
     all: Vec<Doing>,
     turn: u64,

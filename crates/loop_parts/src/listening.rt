@@ -33,7 +33,7 @@ pub enum Accepted {
 }
 
 /// What a listener waits for, beside an event.
-#[derive(Clone, Copy, PartialEq, Eq)]
+#[derive(Clone, Copy)]
 enum Pause {
     /// Nothing.
     None,

@@ -21,7 +21,7 @@ use wire_kit::{Got, Wire};
 use wire_rows::{Scene, Values};
 
 /// The moment of a step.
-#[derive(Clone, Copy, Debug, Drop)]
+#[derive(Clone, Copy, Drop)]
 pub struct Moment {
     /// No byte moved for longer than the deadline.
     pub late: bool,
