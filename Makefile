@@ -9,7 +9,7 @@ PREFIX ?= /usr/local
 help: ## lists the targets
 	@grep -E '^[a-z-]+:.*##' Makefile | sed 's/:.*## /	/'
 
-build: ## proves and builds the programs, and leaves them under bin/: 33 minutes on four processors
+build: ## proves and builds the programs, and leaves them under bin/: half an hour on four processors
 	@tools/prove_programs adaptproxy icapd
 
 serve: ## starts icapd and adaptproxy with the examples' configurations, until `make stop`
