@@ -16,7 +16,7 @@ serve: ## starts icapd and adaptproxy with the examples' configurations, until `
 	@programs=$$(tools/have_programs adaptproxy icapd) && exec tools/serve_examples $$programs
 
 stop: ## stops what `make serve` started
-	@bash -c 'echo stop > /dev/tcp/127.0.0.1/3129'
+	@$$(ls -t bin/adaptproxy bin/adaptproxy.checked 2>/dev/null | head -n 1) tell stop < examples/proxy.toml
 
 install: build ## puts the programs, man pages, completions, examples, units and the launcher below PREFIX (default /usr/local)
 	@tools/install_programs "$(PREFIX)"
@@ -25,8 +25,8 @@ install: build ## puts the programs, man pages, completions, examples, units and
 deb: build ## builds a Debian package of the programs, below out/
 	@tools/make_deb
 
-try-deb: deb ## installs the package into a clean folder, removes and purges it; needs root
-	@tools/try_deb "$$(ls -t out/adaptproxy_*.deb | head -n 1)"
+try-deb: deb ## installs the package into a clean folder, or into that of a Debian system (SYSTEM=..), removes and purges it; needs root
+	@tools/try_deb "$$(ls -t out/adaptproxy_*.deb | head -n 1)" $(SYSTEM)
 
 try-scale: build ## three proxies behind HAProxy and two services behind it: each is renewed under load, where haproxy is installed
 	@tools/try_scale
@@ -51,7 +51,8 @@ trace: ## runs examples/$(SCRIPT).trace, and prints its answers
 check: ## proves every crate, over what earlier runs kept
 	rt all check
 
-ci: ## the merge gate: every proof, the must-fail edits, the tests, the programs
+ci: ## the merge gate: every proof, the must-fail edits, the tests, the programs; first, that what the pages cite as proved is there
+	@tools/check_citations
 	rt ci
 
 gate-cost: ## the gate's minutes of processor time by crate, as last measured; ANEW=1 runs the whole gate from nothing, and measures it
