@@ -1,15 +1,13 @@
 -- Two readers that were handed the same bytes, cut differently.
 use Rattle.std.proofs.Common.{◌≡◌, ℕ, ◌<◌, ◌≤◌, ◌⊎◌, inl, inr, Bool, true, false, Some, None, List, [], ◌∷◌, ◌++◌, length, take, drop, refl, ap, sym, subst, ◌∙◌, append_assoc, append-nil, arith, length-append, ◌||◌, ◌==◌}
-use Rattle.std.specs.List.{flat_map}
 use Rattle.std.proofs.lemmas.Bool.{cases_lt}
-use Rattle.std.proofs.lemmas.List.{take-append-le, drop-append-le, take-append-drop, take-take, length-take, length-take-le}
+use Rattle.std.proofs.lemmas.List.{take-append-le, drop-append-le, take-append-drop, length-take, length-take-le}
 use Rattle.std.proofs.Math.Seq.{take-length}
-use Rattle.httparse.specs.Grammar.{LineEnd, crlf, lf, print_end, print_field, print_section}
-use Rattle.icap_head.specs.Heads.{Response, HasResponse, ReadsHead, StartsResponse, RefusesIcapHead}
-use Rattle.icap_head.specs.StartLines.{StatusForm}
+use Rattle.icap_head.specs.Folds.{unfolded}
+use Rattle.icap_head.specs.Heads.{Response, HasResponse, StartsResponse, RefusesResponse}
 use Rattle.icap_head.specs.declared.reading.HeadFault.TheVariants.{More}
 use Rattle.icap_head.proofs.OneReading.{response_unique, no_response_fault}
-use Rattle.icap_head.proofs.Readings.{has_head-append}
+use Rattle.icap_head.proofs.Folding.{has_folded-append, head_ends, in_front, unfolded_length}
 use Rattle.encapsulated.specs.declared.offsets.Layout.{Layout}
 use Rattle.icap_chunks.specs.Machine.{HasRead, run, start, end_of}
 use Rattle.icap_chunks.specs.Grammar.{IsChunked}
@@ -37,22 +35,6 @@ none_some e = cc
 
 -- ---- the front of a head is no whole head
 
-end_feed : (last : LineEnd) → (front : List ℕ) × (print_end last ≡ front ++ 10 ∷ [])
-end_feed crlf = (13 ∷ [], refl)
-end_feed lf = ([], refl)
-
--- a head ends in a line feed
-ends_in_feed : (text : List ℕ) (value : Response) (size : ℕ) → HasResponse text value size → (front : List ℕ) × (take size text ≡ front ++ 10 ∷ [])
-ends_in_feed text value size h =
-    let f = h.head.first in
-    let s = h.head.section in
-    let end = end_feed s.1 in
-    let lines = flat_map print_field s.0 in (
-      f.raw ++ 10 ∷ (lines ++ end.0),
-      f.cut ∙ (ap (λ (t : List ℕ). f.raw ++ 10 ∷ t) (s.2.1 ∙ (append-nil (print_section s.0 s.1) ∙ (ap (λ (t : List ℕ). lines ++ t) end.1 ∙ sym (append_assoc lines end.0 (10 ∷ [])))))
-          ∙ sym (append_assoc f.raw (10 ∷ (lines ++ end.0)) (10 ∷ []))),
-    )
-
 or_true : (a b : Bool) → b ≡ true → (a || b) ≡ true
 or_true true b e = refl
 or_true false b e = e
@@ -62,29 +44,28 @@ has_feed [] ys = refl
 has_feed (x ∷ xs) ys = or_true (x == 10) (has_line (xs ++ 10 ∷ ys)) (has_feed xs ys)
 
 in_judged : (raw : List ℕ) (j : ℕ) (value : Response) (size : ℕ) → size ≤ j → HasResponse raw value size → HasResponse (take j raw) value size
-in_judged raw j value size l h = record {
-  inside = omega (arith, l, h.inside, length-take j raw);
-  within = h.within;
-  few = h.few;
-  head = subst (λ (t : List ℕ). ReadsHead (StartsResponse value) t value.fields []) (sym (take-take size j raw l)) h.head;
-}
+in_judged raw j value size l h = in_front (StartsResponse value) raw value.fields size j l h
+
+-- as many bytes have come
+head_inside : (text : List ℕ) (value : Response) (size : ℕ) → HasResponse text value size → size ≤ length text
+head_inside text value size h = omega (arith, h.inside, unfolded_length text)
 
 some_size : (text : List ℕ) (value : Response) (size : ℕ) → HasResponse text value size → 0 < size
 some_size text value size h =
-    let e = ends_in_feed text value size h in
-    omega (arith, h.inside, length-take size text, ap (λ (t : List ℕ). length t) e.1, length-append e.0 (10 ∷ []))
+    let e = head_ends (StartsResponse value) text value.fields size h in
+    omega (arith, head_inside text value size h, length-take size text, ap (λ (t : List ℕ). length t) e.1, length-append e.0 (10 ∷ []))
 
 behind_judged : (raw : List ℕ) (j : ℕ) (value : Response) (size : ℕ) → j < size → has_line (drop j raw) ≡ false → HasResponse raw value size → ⊥
 behind_judged raw j value size l n h =
-    let e = ends_in_feed raw value size h in
-    let long : j ≤ length e.0 = omega (arith, l, length-take-le size raw h.inside, ap (λ (t : List ℕ). length t) e.1, length-append e.0 (10 ∷ [])) in
+    let e = head_ends (StartsResponse value) raw value.fields size h in
+    let long : j ≤ length e.0 = omega (arith, l, length-take-le size raw (head_inside raw value size h), ap (λ (t : List ℕ). length t) e.1, length-append e.0 (10 ∷ [])) in
     let all : raw ≡ e.0 ++ 10 ∷ drop size raw = sym (take-append-drop size raw) ∙ (ap (λ (t : List ℕ). t ++ drop size raw) e.1 ∙ append_assoc e.0 (10 ∷ []) (drop size raw)) in
     let cut : drop j raw ≡ drop j e.0 ++ 10 ∷ drop size raw = ap (λ (t : List ℕ). drop j t) all ∙ drop-append-le j e.0 (10 ∷ drop size raw) long in
     true_false (sym (has_feed (drop j e.0) (drop size raw)) ∙ (ap has_line (sym cut) ∙ n))
 
-no_head_by : (raw : List ℕ) (f : IsHeadFront raw) (value : Response) (size : ℕ) → (size ≤ f.judged) ⊎ (f.judged < size) → (f.judged ≡ 0) ⊎ RefusesIcapHead StatusForm More (take f.judged raw) → HasResponse raw value size → ⊥
+no_head_by : (raw : List ℕ) (f : IsHeadFront raw) (value : Response) (size : ℕ) → (size ≤ f.judged) ⊎ (f.judged < size) → (f.judged ≡ 0) ⊎ RefusesResponse More (take f.judged raw) → HasResponse raw value size → ⊥
 no_head_by raw f value size (inl l) (inl z) h = let some = some_size raw value size h in omega (arith, l, z, some)
-no_head_by raw f value size (inl l) (inr s) h = no_response_fault More (take f.judged raw) value size (in_judged raw f.judged value size l h) s
+no_head_by raw f value size (inl l) (inr s) h = no_response_fault More (unfolded (take f.judged raw)) value size (in_judged raw f.judged value size l h) s
 no_head_by raw f value size (inr m) k h = behind_judged raw f.judged value size m f.no_line h
 
 order : (a b : ℕ) → (a < b) ⊎ (b ≤ a) → (b ≤ a) ⊎ (a < b)
@@ -174,9 +155,9 @@ begins_one : (point : Point) (l k : Layout) (rest a b : List ℕ) → Begins poi
 begins_one point l k rest a b h i =
     let v = h.is.value in
     let w = i.is.value in
-    let fa : HasResponse rest v (length h.icap) = subst (λ (t : List ℕ). HasResponse t v (length h.icap)) (sym h.text_is) (has_head-append (StartsResponse v) h.icap a v.fields (length h.icap) h.is.head) in
-    let fb : HasResponse rest w (length i.icap) = subst (λ (t : List ℕ). HasResponse t w (length i.icap)) (sym i.text_is) (has_head-append (StartsResponse w) i.icap b w.fields (length i.icap) i.is.head) in
-    let same = response_unique rest v w (length h.icap) (length i.icap) fa fb in (
+    let fa : HasResponse rest v (length h.icap) = subst (λ (t : List ℕ). HasResponse t v (length h.icap)) (sym h.text_is) (has_folded-append (StartsResponse v) h.icap a v.fields (length h.icap) h.is.head) in
+    let fb : HasResponse rest w (length i.icap) = subst (λ (t : List ℕ). HasResponse t w (length i.icap)) (sym i.text_is) (has_folded-append (StartsResponse w) i.icap b w.fields (length i.icap) i.is.head) in
+    let same = response_unique (unfolded rest) v w (length h.icap) (length i.icap) fa fb in (
       layout_one point (lists_of w) l k (subst (λ (u : Response). HasLayout point (lists_of u) l) same.0 h.is.list) i.is.list,
       (split_one h.icap a i.icap b (sym h.text_is ∙ i.text_is) same.1).1,
     )
@@ -205,9 +186,9 @@ no_interim x xs raw r point rest (change layout last s e h k m) g = omega (arith
 interim_one : (point : Point) (c d : Bool) (before rest first other : List ℕ) → before ++ rest ≡ first ++ other → IsContinueOrNothing point c before → IsContinueOrNothing point d first → (First rest 100 → ⊥) → (First other 100 → ⊥) → (c ≡ d) × (rest ≡ other)
 interim_one point true true before rest first other e h i n m =
     let text = before ++ rest in
-    let fa : HasResponse text h.value (length before) = has_head-append (StartsResponse h.value) before rest h.value.fields (length before) h.head in
-    let fb : HasResponse text i.value (length first) = subst (λ (t : List ℕ). HasResponse t i.value (length first)) (sym e) (has_head-append (StartsResponse i.value) first other i.value.fields (length first) i.head) in
-    let same = response_unique text h.value i.value (length before) (length first) fa fb in
+    let fa : HasResponse text h.value (length before) = has_folded-append (StartsResponse h.value) before rest h.value.fields (length before) h.head in
+    let fb : HasResponse text i.value (length first) = subst (λ (t : List ℕ). HasResponse t i.value (length first)) (sym e) (has_folded-append (StartsResponse i.value) first other i.value.fields (length first) i.head) in
+    let same = response_unique (unfolded text) h.value i.value (length before) (length first) fa fb in
     (refl, (split_one before rest first other e same.1).1)
 interim_one point true false before rest first other e h i n m =
     absurd (m (subst (λ (t : List ℕ). First t 100) (e ∙ ap (λ (t : List ℕ). t ++ other) i) (first_bare point 100 before rest h)))
@@ -324,9 +305,9 @@ told_one x y xs ys raw other a b point rest (no_change last s e h n m) (in_body 
 told_one x y xs ys raw other a b point rest (no_change last s e h n m) (no_change last' t d h' o p) =
     let v = h.value in
     let w = h'.value in
-    let fa : HasResponse rest v (length last) = subst (λ (z : List ℕ). HasResponse z v (length last)) (sym e) (has_head-append (StartsResponse v) last raw v.fields (length last) h.head) in
-    let fb : HasResponse rest w (length last') = subst (λ (z : List ℕ). HasResponse z w (length last')) (sym d) (has_head-append (StartsResponse w) last' other w.fields (length last') h'.head) in
-    let same = response_unique rest v w (length last) (length last') fa fb in
+    let fa : HasResponse rest v (length last) = subst (λ (z : List ℕ). HasResponse z v (length last)) (sym e) (has_folded-append (StartsResponse v) last raw v.fields (length last) h.head) in
+    let fb : HasResponse rest w (length last') = subst (λ (z : List ℕ). HasResponse z w (length last')) (sym d) (has_folded-append (StartsResponse w) last' other w.fields (length last') h'.head) in
+    let same = response_unique (unfolded rest) v w (length last) (length last') fa fb in
     alike_by x y xs ys raw other a b true false false false false m p refl (n ∙ sym o) (s ∙ sym t) (split_one last raw last' other (sym e ∙ d) same.1).1 (unmodified x m.modified_is)
 told_one x y xs ys raw other a b point rest (no_change last s e h n m) (change layout last' t d h' k p) = absurd (other_status rest (begins_first point layout rest (b.head ++ (h'.rest ++ other)) (change_begins point layout b.head ys last' other rest d h')) (bare_first point last raw rest e h))
 told_one x y xs ys raw other a b point rest (change layout last s e h k m) (nothing t f d o p) = absurd (no_head rest 200 f (begins_first point layout rest (a.head ++ (h.rest ++ raw)) (change_begins point layout a.head xs last raw rest e h)))

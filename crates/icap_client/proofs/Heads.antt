@@ -1,8 +1,8 @@
 -- Heads of responses: why one is refused, and what the adapted message's makes of what was heard.
 use Rattle.std.proofs.Common.{◌≡◌, ◌≢◌, ℕ, ◌≤◌, ◌⊎◌, inl, inr, Bool, true, false, List, [], ◌∷◌, ◌++◌, length, take, refl, ap, sym, subst, ◌∙◌, append_assoc, append-nil, arith, Option, None, Result, Ok, Err, IfOk, IsTrue}
 use Rattle.std.proofs.lemmas.List.{take-take, length-take-le, length-take}
-use Rattle.icap_head.specs.Heads.{Response, HasResponse, RefusesIcapHead, ReadsHead, StartsResponse}
-use Rattle.icap_head.specs.StartLines.{StatusForm}
+use Rattle.icap_head.specs.Heads.{Response, HasResponse, RefusesResponse, StartsResponse}
+use Rattle.icap_head.proofs.Folding.{head_of_front, unfolded_length}
 use Rattle.icap_head.specs.declared.reading.HeadFault.{HeadFault}
 use Rattle.icap_head.specs.declared.reading.HeadFault.TheVariants as heads
 use Rattle.encapsulated.specs.declared.offsets.Layout.{Layout}
@@ -44,13 +44,13 @@ refuses_said faults.Device x point raw value size h s = absurd s
 refuses_said faults.NoMemory x point raw value size h s = absurd s
 
 -- a fault that isn't want of memory stands in the text
-pub stands_for : {A : Type 0} (fault : HeadFault) (text : List ℕ) → fault ≢ heads.NoMemory → ((fault ≡ heads.NoMemory) × A) ⊎ RefusesIcapHead StatusForm fault text → RefusesIcapHead StatusForm fault text
+pub stands_for : {A : Type 0} (fault : HeadFault) (text : List ℕ) → fault ≢ heads.NoMemory → ((fault ≡ heads.NoMemory) × A) ⊎ RefusesResponse fault text → RefusesResponse fault text
 stands_for fault text n (inl h) = absurd (n h.0)
 stands_for fault text n (inr s) = s
 
 pub refuses_head : {A : Type 0} (fault : HeadFault) (found : ClientFault) (x : Seen) (point : Point) (raw : List ℕ)
     → (((fault ≡ heads.NoMemory) × (found ≡ faults.NoMemory)) ⊎ ((found ≡ faults.Head) × (fault ≢ heads.NoMemory) × (fault ≢ heads.More)))
-    → ((fault ≡ heads.NoMemory) × A) ⊎ RefusesIcapHead StatusForm fault raw → RefusesReply found x point raw
+    → ((fault ≡ heads.NoMemory) × A) ⊎ RefusesResponse fault raw → RefusesReply found x point raw
 refuses_head fault found x point raw (inl m) s = subst (λ (f : ClientFault). RefusesReply f x point raw) (sym m.1) tt
 refuses_head fault found x point raw (inr h) s = subst (λ (f : ClientFault). RefusesReply f x point raw) (sym h.0) (fault, h.2, stands_for fault raw h.1 s)
 
@@ -143,15 +143,8 @@ hears_null x r layout head may b stage ended size = record {
 -- a head at the front of the text, as a text of its own
 pub is_head : (raw : List ℕ) (value : Response) (size : ℕ) → HasResponse raw value size → IsHead (take size raw) value
 is_head raw value size h =
-    let e : length (take size raw) ≡ size = length-take-le size raw h.inside in
-    let same : size ≤ size = omega arith in
-    let whole : take (length (take size raw)) (take size raw) ≡ take size raw = ap (λ (k : ℕ). take k (take size raw)) e ∙ take-take size size raw same in
-    record {
-      inside = omega arith;
-      within = omega (arith, e, h.within);
-      few = h.few;
-      head = subst (λ (t : List ℕ). ReadsHead (StartsResponse value) t value.fields []) (sym whole) h.head;
-    }
+    let e : length (take size raw) ≡ size = length-take-le size raw (omega (arith, h.inside, unfolded_length raw)) in
+    subst (λ (n : ℕ). HasResponse (take size raw) value n) (sym e) (head_of_front (StartsResponse value) raw value.fields size h)
 
 is_bare : (point : Point) (status : ℕ) (raw : List ℕ) (value : Response) (size : ℕ) → HasResponse raw value size → value.status ≡ status → HasNothing point (lists_of value) → IsBareReply point status (take size raw)
 is_bare point status raw value size h s l = record { value = value; head = is_head raw value size h; status_is = s; list = l }
@@ -229,7 +222,7 @@ pub passes_head : (r new : Reader) (raw : List ℕ) (value : Response) (size : �
     → (value.status ≡ 200) × HasLayout r.point (lists_of value) layout × HasAdaptedHead layout → PassesWithoutEvent r new size raw
 passes_head r new raw value size layout is h s = goes_on layout (ap (λ (r : Reader). r.stage) is) (ap (λ (r : Reader). r.point) is) (is_mod r.point raw value size layout h s)
 
-pub passes_none : (r : Reader) (raw : List ℕ) → RefusesIcapHead StatusForm heads.More raw → PassesWithoutEvent r r 0 raw
+pub passes_none : (r : Reader) (raw : List ℕ) → RefusesResponse heads.More raw → PassesWithoutEvent r r 0 raw
 passes_none r raw s = waits refl refl refl s
 
 -- what is noted before a final response is no part of what was heard

@@ -2,8 +2,7 @@
 use Rattle.std.proofs.Common.{◌≡◌, ℕ, ◌≤◌, inl, inr, Bool, true, false, not, List, ◌++◌, length, refl, sym, subst, arith, length-append}
 use Rattle.std.proofs.lemmas.List.{take-append-le}
 use Rattle.std.proofs.Math.Seq.{take-length}
-use Rattle.icap_head.specs.Heads.{RefusesIcapHead}
-use Rattle.icap_head.specs.StartLines.{StatusForm}
+use Rattle.icap_head.specs.Heads.{RefusesResponse}
 use Rattle.icap_head.specs.declared.reading.HeadFault.TheVariants.{More}
 use Rattle.wire_kit.specs.Past.{Past}
 use Rattle.icap_client.specs.HeadFront.{IsJudged}
@@ -11,8 +10,8 @@ use Rattle.adapt_sides.specs.Filling.{IsFilled}
 use Rattle.adapt_sides.specs.declared.filling.Filled.{Filled}
 use Rattle.adapt_sides.specs.declared.filling.Filled.TheVariants as filled
 
-pub all_judged : (bytes : List ℕ) → RefusesIcapHead StatusForm More bytes → IsJudged (length bytes) bytes
-all_judged bytes s = inr (subst (λ (t : List ℕ). RefusesIcapHead StatusForm More t) (sym (take-length bytes)) s)
+pub all_judged : (bytes : List ℕ) → RefusesResponse More bytes → IsJudged (length bytes) bytes
+all_judged bytes s = inr (subst (λ (t : List ℕ). RefusesResponse More t) (sym (take-length bytes)) s)
 
 pub is_false : (b : Bool) → not b ≡ true → b ≡ false
 is_false true e = cc
@@ -20,7 +19,7 @@ is_false false e = refl
 
 more_judged : (judged : ℕ) (bytes delta : List ℕ) → judged ≤ length bytes → IsJudged judged bytes → IsJudged judged (bytes ++ delta)
 more_judged judged bytes delta l (inl e) = inl e
-more_judged judged bytes delta l (inr s) = inr (subst (λ (t : List ℕ). RefusesIcapHead StatusForm More t) (sym (take-append-le judged bytes delta l)) s)
+more_judged judged bytes delta l (inr s) = inr (subst (λ (t : List ℕ). RefusesResponse More t) (sym (take-append-le judged bytes delta l)) s)
 
 same_judged : (judged : ℕ) (old new : List ℕ) → new ≡ old → judged ≤ length old → IsJudged judged old → (judged ≤ length new) × IsJudged judged new
 same_judged judged old new e l h = subst (λ (t : List ℕ). (judged ≤ length t) × IsJudged judged t) (sym e) (l, h)

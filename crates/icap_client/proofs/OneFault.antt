@@ -2,11 +2,11 @@
 use Rattle.std.proofs.Common.{◌≡◌, ◌≢◌, ℕ, ◌+◌, ◌<◌, ◌⊎◌, inl, inr, Bool, true, false, Some, None, List, [], ◌++◌, length, take, drop, refl, ap, sym, subst, ◌∙◌, append_assoc, arith, length-append}
 use Rattle.std.proofs.lemmas.List.{take-take, take-append-drop, length-take-le}
 use Rattle.std.proofs.Math.Seq.{take-length}
-use Rattle.icap_head.specs.Heads.{Response, HasResponse, StartsResponse, RefusesIcapHead}
-use Rattle.icap_head.specs.StartLines.{StatusForm}
+use Rattle.icap_head.specs.Folds.{unfolded}
+use Rattle.icap_head.specs.Heads.{Response, HasResponse, StartsResponse, RefusesResponse}
 use Rattle.icap_head.specs.declared.reading.HeadFault.{HeadFault}
 use Rattle.icap_head.proofs.OneReading.{response_unique, no_response_fault}
-use Rattle.icap_head.proofs.Readings.{has_head-append}
+use Rattle.icap_head.proofs.Folding.{has_folded-append}
 use Rattle.encapsulated.specs.declared.offsets.Layout.{Layout}
 use Rattle.icap_chunks.specs.Machine.{HasRead, run, start, body_of, end_of, fault_of, faulted_at}
 use Rattle.icap_chunks.specs.declared.positions.Position.TheVariants.{Ended}
@@ -74,7 +74,7 @@ IsOf : Point → Layout → Response → Type 0
 IsOf point layout value = (value.status ≡ 200) × HasLayout point (lists_of value) layout × HasAdaptedHead layout
 
 data ReplyReason (f : ClientFault) (x : Seen) (point : Point) (raw : List ℕ) : Type 0 where
-  no_head : f ≡ faults.Head → (e : HeadFault) → RefusesIcapHead StatusForm e raw → ReplyReason f x point raw
+  no_head : f ≡ faults.Head → (e : HeadFault) → RefusesResponse e raw → ReplyReason f x point raw
   bad_list : f ≡ faults.Layout → WithHead raw (HasBadList point) → ReplyReason f x point raw
   too_early : f ≡ faults.NotLegal → WithHead raw (IsUntimely point x) → ReplyReason f x point raw
   other : f ≡ faults.Status → WithHead raw IsOtherStatus → ReplyReason f x point raw
@@ -92,16 +92,16 @@ reply_reason faults.NoMemory x point raw n h = absurd (n refl)
 
 -- a text has one head
 with_both : (raw : List ℕ) (P Q : Response → Type 0) → WithHead raw P → WithHead raw Q → ((value : Response) → P value → Q value → ⊥) → ⊥
-with_both raw P Q h i odd = odd i.0 (subst P (response_unique raw h.0 i.0 h.1 i.1 h.2 i.2).0 h.3) i.3
+with_both raw P Q h i odd = odd i.0 (subst P (response_unique (unfolded raw) h.0 i.0 h.1 i.1 h.2 i.2).0 h.3) i.3
 
-without : (raw : List ℕ) (P : Response → Type 0) (e : HeadFault) → WithHead raw P → RefusesIcapHead StatusForm e raw → ⊥
-without raw P e h s = no_response_fault e raw h.0 h.1 h.2 s
+without : (raw : List ℕ) (P : Response → Type 0) (e : HeadFault) → WithHead raw P → RefusesResponse e raw → ⊥
+without raw P e h s = no_response_fault e (unfolded raw) h.0 h.1 h.2 s
 
 behind_is : (f : ClientFault) (x : Seen) (point : Point) (raw : List ℕ) (h : RefusesBehind f x point raw) → WithHead raw (IsOf point h.layout)
 unfolding IsOf
 behind_is f x point raw h =
     let v = h.is.value in
-    (v, length h.icap, subst (λ (t : List ℕ). HasResponse t v (length h.icap)) (sym h.raw_is) (has_head-append (StartsResponse v) h.icap h.rest v.fields (length h.icap) h.is.head), (h.is.status_is, h.is.list, h.is.adapted))
+    (v, length h.icap, subst (λ (t : List ℕ). HasResponse t v (length h.icap)) (sym h.raw_is) (has_folded-append (StartsResponse v) h.icap h.rest v.fields (length h.icap) h.is.head), (h.is.status_is, h.is.list, h.is.adapted))
 
 list_time : (point : Point) (x : Seen) (v : Response) → HasBadList point v → IsUntimely point x v → ⊥
 list_time point x v (inl b) (inl t) = b.1 t.1
@@ -139,7 +139,7 @@ unfolding IsOf behind_is
 behind_one f g x point raw n m h i =
     let a = behind_is f x point raw h in
     let b = behind_is g x point raw i in
-    let same = response_unique raw a.0 b.0 a.1 b.1 a.2 b.2 in
+    let same = response_unique (unfolded raw) a.0 b.0 a.1 b.1 a.2 b.2 in
     let layouts : h.layout ≡ i.layout = layout_one point (lists_of b.0) h.layout i.layout (subst (λ (v : Response). HasLayout point (lists_of v) h.layout) same.0 h.is.list) i.is.list in
     let rests = split_one h.icap h.rest i.icap i.rest (sym h.raw_is ∙ i.raw_is) same.1 in
     head_one f g x i.layout i.rest n m (subst (λ (t : List ℕ). RefusesHead f x i.layout t) rests.1 (subst (λ (l : Layout). RefusesHead f x l h.rest) layouts h.refuses)) i.refuses

@@ -7,8 +7,10 @@ use Rattle.std.proofs.Math.Seq.{take-length}
 use Rattle.std.proofs.Math.ListN.{drop_of_length-le}
 use Rattle.adapt_bytes.specs.Text.{has_line}
 use Rattle.icap_client.specs.HeadFront.{HasToWait}
-use Rattle.icap_head.specs.Heads.{RefusesIcapHead}
+use Rattle.icap_head.specs.Folds.{unfolded}
+use Rattle.icap_head.specs.Heads.{RefusesIcapHead, RefusesResponse}
 use Rattle.icap_head.specs.StartLines.{StatusForm}
+use Rattle.icap_head.proofs.Folding.{folded_more_is_short}
 use Rattle.icap_head.specs.FieldLines.{unended}
 use Rattle.icap_head.specs.declared.reading.HeadFault.{HeadFault}
 use Rattle.icap_head.specs.declared.reading.HeadFault.TheVariants.{More, TooLong}
@@ -61,13 +63,16 @@ unended_more : (n : ℕ) → More ≡ unended n → n < 16384
 unended_more n h = unended_by (nat_lt n 16384) n refl h
 
 -- a head that isn't whole is short
-pub more_short : (raw : List ℕ) → RefusesIcapHead StatusForm More raw → length raw < 16384
-more_short raw (inl h) = unended_more (length raw) h.0
-more_short raw (inr (line, behind, first, inl (inl h))) = absurd (differs _ refl h.0)
-more_short raw (inr (line, behind, first, inl (inr h))) = absurd (differs _ refl h.0)
-more_short raw (inr (line, behind, first, inr (form, inl h))) = absurd (differs _ refl h.0)
-more_short raw (inr (line, behind, first, inr (form, inr (inl h)))) = absurd (differs _ refl h.0)
-more_short raw (inr (line, behind, first, inr (form, inr (inr h)))) = unended_more (length raw) h.0
+plain_short : (text : List ℕ) → RefusesIcapHead StatusForm More text → length text < 16384
+plain_short text (inl h) = unended_more (length text) h.0
+plain_short text (inr (line, behind, first, inl (inl h))) = absurd (differs _ refl h.0)
+plain_short text (inr (line, behind, first, inl (inr h))) = absurd (differs _ refl h.0)
+plain_short text (inr (line, behind, first, inr (form, inl h))) = absurd (differs _ refl h.0)
+plain_short text (inr (line, behind, first, inr (form, inr (inl h)))) = absurd (differs _ refl h.0)
+plain_short text (inr (line, behind, first, inr (form, inr (inr h)))) = unended_more (length text) h.0
+
+pub more_short : (raw : List ℕ) → RefusesResponse More raw → length raw < 16384
+more_short raw h = folded_more_is_short raw (plain_short (unfolded raw) h)
 
 -- where a side has to wait with some room, there is room for raw bytes
 pub wait_short : (s : Stage) (raw : List ℕ) (room : ℕ) → KeepsLimits s → ¬ (s ≡ Over) → 0 < room → HasToWait s raw room → length raw < 16384
@@ -84,7 +89,7 @@ none_behind raw = ap has_line (drop_of_length-le raw (omega arith))
 pub has_to_wait : (s : Stage) (raw : List ℕ) (room : ℕ) → MustWait s raw room → HasToWait s raw room
 has_to_wait Replies raw room w = record {
   judged = length raw;
-  more = inr (subst (λ (t : List ℕ). RefusesIcapHead StatusForm More t) (sym (take-length raw)) w);
+  more = inr (subst (λ (t : List ℕ). RefusesResponse More t) (sym (take-length raw)) w);
   no_line = none_behind raw;
   short = more_short raw w;
 }

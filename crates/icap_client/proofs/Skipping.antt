@@ -5,9 +5,9 @@ use Rattle.std.proofs.Math.ListN.{drop_of_length-le}
 use Rattle.std.proofs.lemmas.List.{take-append-drop, length-drop, length-append, drop-drop}
 use Rattle.adapt_sides.specs.declared.fault.ClientFault.{ClientFault}
 use Rattle.adapt_sides.specs.declared.fault.ClientFault.TheVariants as faults
-use Rattle.icap_head.specs.Heads.{Response, HasResponse, RefusesIcapHead, response_parts}
+use Rattle.icap_head.specs.Folds.{unfolded}
+use Rattle.icap_head.specs.Heads.{Response, HasResponse, RefusesResponse, response_parts}
 use Rattle.icap_head.specs.declared.responses.IcapResponse.{IcapResponse}
-use Rattle.icap_head.specs.StartLines.{StatusForm}
 use Rattle.icap_head.specs.declared.reading.HeadFault.{HeadFault}
 use Rattle.icap_head.specs.declared.reading.HeadFault.TheVariants as heads
 use Rattle.icap_chunks.specs.Machine.{HasRead, start, end_of, end_at, fault_of, faulted_at}
@@ -273,13 +273,13 @@ unended_wants : (b : Bool) → heads.NoMemory ≡ (if b then heads.More else hea
 unended_wants true e = cc
 unended_wants false e = cc
 
-none_wants : (raw : List ℕ) → RefusesIcapHead StatusForm heads.NoMemory raw → ⊥
-none_wants raw (inl h) = unended_wants (nat_lt (length raw) 16384) h.0
+none_wants : (raw : List ℕ) → RefusesResponse heads.NoMemory raw → ⊥
+none_wants raw (inl h) = unended_wants (nat_lt (length (unfolded raw)) 16384) h.0
 none_wants raw (inr (line, behind, first, inl (inl h))) = let odd = h.0 in cc
 none_wants raw (inr (line, behind, first, inl (inr h))) = let odd = h.0 in cc
 none_wants raw (inr (line, behind, first, inr (form, inl h))) = let odd = h.0 in cc
 none_wants raw (inr (line, behind, first, inr (form, inr (inl h)))) = let odd = h.0 in cc
-none_wants raw (inr (line, behind, first, inr (form, inr (inr h)))) = unended_wants (nat_lt (length raw) 16384) h.0
+none_wants raw (inr (line, behind, first, inr (form, inr (inr h)))) = unended_wants (nat_lt (length (unfolded raw)) 16384) h.0
 
 -- a body's byte breaks it
 pub refuses_body : (old : Asker) (chunks : ChunkReader) (raw : List ℕ) (fault : ChunkFault) → old.stage ≡ Body chunks → raw ≡ old.raw
@@ -288,14 +288,14 @@ refuses_body old chunks raw fault s e b =
     refuses_here old (Body chunks) faults.Chunk s (fault, b.0, subst (λ (t : List ℕ). (text body : List ℕ) → HasRead text body chunks → Breaks (text ++ t) (body ++ b.0) fault) e b.1)
 
 -- what is said of the text of the raw bytes
-pub head_stands : {A : Type 0} (fault : HeadFault) (raw text : List ℕ) → text ≡ raw → (A → HasAnyHead text) → ((fault ≡ heads.NoMemory) × A) ⊎ RefusesIcapHead StatusForm fault text
-    → ((fault ≡ heads.NoMemory) × HasAnyHead raw) ⊎ RefusesIcapHead StatusForm fault raw
+pub head_stands : {A : Type 0} (fault : HeadFault) (raw text : List ℕ) → text ≡ raw → (A → HasAnyHead text) → ((fault ≡ heads.NoMemory) × A) ⊎ RefusesResponse fault text
+    → ((fault ≡ heads.NoMemory) × HasAnyHead raw) ⊎ RefusesResponse fault raw
 head_stands fault raw text e f (inl h) = inl (h.0, subst HasAnyHead e (f h.1))
-head_stands fault raw text e f (inr s) = inr (subst (λ (t : List ℕ). RefusesIcapHead StatusForm fault t) e s)
+head_stands fault raw text e f (inr s) = inr (subst (λ (t : List ℕ). RefusesResponse fault t) e s)
 
-pub more_stands : (fault : HeadFault) (raw : List ℕ) → fault ≡ heads.More → ((fault ≡ heads.NoMemory) × HasAnyHead raw) ⊎ RefusesIcapHead StatusForm fault raw → RefusesIcapHead StatusForm heads.More raw
+pub more_stands : (fault : HeadFault) (raw : List ℕ) → fault ≡ heads.More → ((fault ≡ heads.NoMemory) × HasAnyHead raw) ⊎ RefusesResponse fault raw → RefusesResponse heads.More raw
 more_stands fault raw e (inl h) = let odd : heads.More ≡ heads.NoMemory = sym e ∙ h.0 in cc
-more_stands fault raw e (inr s) = subst (λ (f : HeadFault). RefusesIcapHead StatusForm f raw) e s
+more_stands fault raw e (inr s) = subst (λ (f : HeadFault). RefusesResponse f raw) e s
 
 pub err_map : {A B : Type 0} (r : Result A B) (P Q : B → Type 0) → ((b : B) → P b → Q b) → IfErr r P → IfErr r Q
 err_map (Ok a) P Q f h = tt
@@ -303,9 +303,9 @@ err_map (Err b) P Q f h = f b h
 
 -- a head's fault
 pub refuses_head : (fault : HeadFault) (found : ClientFault) (raw : List ℕ) → (((fault ≡ heads.NoMemory) × (found ≡ faults.NoMemory)) ⊎ ((found ≡ faults.Head) × (fault ≢ heads.NoMemory) × (fault ≢ heads.More)))
-    → ((fault ≡ heads.NoMemory) × HasAnyHead raw) ⊎ RefusesIcapHead StatusForm fault raw → RefusesOptionsHead found raw
+    → ((fault ≡ heads.NoMemory) × HasAnyHead raw) ⊎ RefusesResponse fault raw → RefusesOptionsHead found raw
 refuses_head fault found raw (inl m) (inl h) = subst (λ (f : ClientFault). RefusesOptionsHead f raw) (sym m.1) h.1
-refuses_head fault found raw (inl m) (inr s) = absurd (none_wants raw (subst (λ (f : HeadFault). RefusesIcapHead StatusForm f raw) m.0 s))
+refuses_head fault found raw (inl m) (inr s) = absurd (none_wants raw (subst (λ (f : HeadFault). RefusesResponse f raw) m.0 s))
 refuses_head fault found raw (inr h) s = subst (λ (f : ClientFault). RefusesOptionsHead f raw) (sym h.0) (fault, h.2, stands_for fault raw h.1 s)
 
 pub none_left : (n : ℕ) (xs : List ℕ) → length xs ≤ n → drop n xs ≡ []

@@ -2,8 +2,7 @@
 use Rattle.std.proofs.Common.{◌≡◌, ℕ, zero, suc, ◌+◌, ◌<◌, ◌≤◌, ◌⊎◌, inl, inr, Bool, true, false, List, [], ◌++◌, length, take, drop, refl, ap, sym, subst, ◌∙◌, append_assoc, append-nil, arith, length-append, Option, Some, None, is_some}
 use Rattle.std.proofs.lemmas.List.{take-append-drop, length-take-le}
 use Rattle.std.proofs.Math.Seq.{take-add}
-use Rattle.icap_head.specs.Heads.{RefusesIcapHead}
-use Rattle.icap_head.specs.StartLines.{StatusForm}
+use Rattle.icap_head.specs.Heads.{RefusesResponse}
 use Rattle.icap_head.specs.declared.reading.HeadFault.TheVariants.{More}
 use Rattle.encapsulated.specs.declared.offsets.Layout.{Layout}
 use Rattle.icap_chunks.specs.Machine.{end_of, fault_of}
@@ -53,7 +52,7 @@ waits_head b c layout raw rest m n room stage is z same l h =
 
 pub waits_reply : (a b : Reader) (raw : List ℕ) (m room : ℕ) → PassesWithoutEvent a b m raw → a.stage ≡ Replies → ((layout : Layout) → b.stage ≡ Head layout → ⊥) → MustWait b.stage (drop m raw) room
 waits_reply a b raw m room (waits z e p s) r not =
-    subst (λ (t : Stage). MustWait t (drop m raw) room) (sym (e ∙ r)) (subst (λ (k : ℕ). RefusesIcapHead StatusForm More (drop k raw)) (sym z) s)
+    subst (λ (t : Stage). MustWait t (drop m raw) room) (sym (e ∙ r)) (subst (λ (k : ℕ). RefusesResponse More (drop k raw)) (sym z) s)
 waits_reply a b raw m room (goes_on layout e q p) r not = absurd (not layout e)
 
 pub refuses_behind : (fault : ClientFault) (x : Seen) (a b : Reader) (layout : Layout) (raw rest : List ℕ) (m : ℕ) → PassesWithoutEvent a b m raw → a.stage ≡ Replies → b.stage ≡ Head layout

@@ -1,8 +1,9 @@
 -- A service's bytes have one reading.
 use Rattle.std.proofs.Common.{◌≡◌, ℕ, Bool, true, false, List, [], ◌∷◌, ◌++◌, length, refl, ap, sym, subst, ◌∙◌, append_assoc, arith}
+use Rattle.icap_head.specs.Folds.{unfolded}
 use Rattle.icap_head.specs.Heads.{Response, HasResponse, StartsResponse}
 use Rattle.icap_head.proofs.OneReading.{response_unique}
-use Rattle.icap_head.proofs.Readings.{has_head-append}
+use Rattle.icap_head.proofs.Folding.{has_folded-append}
 use Rattle.encapsulated.specs.declared.offsets.Layout.{Layout}
 use Rattle.encapsulated.proofs.OneAnswer.{parts_unique, layout_unique}
 use Rattle.icap_chunks.proofs.Written.{one_reading}
@@ -28,10 +29,10 @@ pub record First (text : List ℕ) (status : ℕ) : Type 0 where
   pub status_is : value.status ≡ status
 
 pub first_bare : (point : Point) (status : ℕ) (text more : List ℕ) → IsBareReply point status text → First (text ++ more) status
-first_bare point status text more h = record { value = h.value; size = length text; has = has_head-append (StartsResponse h.value) text more h.value.fields (length text) h.head; status_is = h.status_is }
+first_bare point status text more h = record { value = h.value; size = length text; has = has_folded-append (StartsResponse h.value) text more h.value.fields (length text) h.head; status_is = h.status_is }
 
 pub longer : (text more : List ℕ) (status : ℕ) → First text status → First (text ++ more) status
-longer text more status h = record { value = h.value; size = h.size; has = has_head-append (StartsResponse h.value) text more h.value.fields h.size h.has; status_is = h.status_is }
+longer text more status h = record { value = h.value; size = h.size; has = has_folded-append (StartsResponse h.value) text more h.value.fields h.size h.has; status_is = h.status_is }
 
 first_itself : (point : Point) (status : ℕ) (text : List ℕ) → IsBareReply point status text → First text status
 first_itself point status text h = record { value = h.value; size = length text; has = h.head; status_is = h.status_is }
@@ -53,7 +54,7 @@ first_final point (changed layout head body) text h = first_mod point layout hea
 
 pub one_status : (text : List ℕ) (a b : ℕ) → First text a → First text b → a ≡ b
 one_status text a b f g =
-    let same = response_unique text f.value g.value f.size g.size f.has g.has in
+    let same = response_unique (unfolded text) f.value g.value f.size g.size f.has g.has in
     sym f.status_is ∙ (ap (λ (v : Response). v.status) same.0 ∙ g.status_is)
 
 pub layout_one : (point : Point) (lists : List (List ℕ)) (a b : Layout) → HasLayout point lists a → HasLayout point lists b → a ≡ b
@@ -71,9 +72,9 @@ mod_one point l k head head' body body' text h i =
     let b : text ≡ i.heads_are.icap ++ (head' ++ i.rest) = i.text_is ∙ (ap (λ (t : List ℕ). t ++ i.rest) i.heads_are.text_is ∙ append_assoc i.heads_are.icap head' i.rest) in
     let v = h.heads_are.is.value in
     let w = i.heads_are.is.value in
-    let fa : HasResponse text v (length h.heads_are.icap) = subst (λ (t : List ℕ). HasResponse t v (length h.heads_are.icap)) (sym a) (has_head-append (StartsResponse v) h.heads_are.icap (head ++ h.rest) v.fields (length h.heads_are.icap) h.heads_are.is.head) in
-    let fb : HasResponse text w (length i.heads_are.icap) = subst (λ (t : List ℕ). HasResponse t w (length i.heads_are.icap)) (sym b) (has_head-append (StartsResponse w) i.heads_are.icap (head' ++ i.rest) w.fields (length i.heads_are.icap) i.heads_are.is.head) in
-    let same = response_unique text v w (length h.heads_are.icap) (length i.heads_are.icap) fa fb in
+    let fa : HasResponse text v (length h.heads_are.icap) = subst (λ (t : List ℕ). HasResponse t v (length h.heads_are.icap)) (sym a) (has_folded-append (StartsResponse v) h.heads_are.icap (head ++ h.rest) v.fields (length h.heads_are.icap) h.heads_are.is.head) in
+    let fb : HasResponse text w (length i.heads_are.icap) = subst (λ (t : List ℕ). HasResponse t w (length i.heads_are.icap)) (sym b) (has_folded-append (StartsResponse w) i.heads_are.icap (head' ++ i.rest) w.fields (length i.heads_are.icap) i.heads_are.is.head) in
+    let same = response_unique (unfolded text) v w (length h.heads_are.icap) (length i.heads_are.icap) fa fb in
     let layouts : l ≡ k = layout_one point (lists_of w) l k (subst (λ (u : Response). HasLayout point (lists_of u) l) same.0 h.heads_are.is.list) i.heads_are.is.list in
     let cut = split_one h.heads_are.icap (head ++ h.rest) i.heads_are.icap (head' ++ i.rest) (sym a ∙ b) same.1 in
     let cut' = split_one head h.rest head' i.rest cut.1 (h.heads_are.size ∙ (ap (λ (m : Layout). m.offset) layouts ∙ sym i.heads_are.size)) in
@@ -96,9 +97,9 @@ no_100 point (changed l d b) text h i = omega (arith, one_status text 100 200 h 
 answer_by : (point : Point) (c d : Bool) (f g : Final) (text before last first rest : List ℕ) → text ≡ before ++ last → text ≡ first ++ rest → IsContinueOrNothing point c before → IsContinueOrNothing point d first
     → IsFinal point f last → IsFinal point g rest → (c ≡ d) × (f ≡ g)
 answer_by point true true f g text before last first rest a b h i m n =
-    let fa : HasResponse text h.value (length before) = subst (λ (t : List ℕ). HasResponse t h.value (length before)) (sym a) (has_head-append (StartsResponse h.value) before last h.value.fields (length before) h.head) in
-    let fb : HasResponse text i.value (length first) = subst (λ (t : List ℕ). HasResponse t i.value (length first)) (sym b) (has_head-append (StartsResponse i.value) first rest i.value.fields (length first) i.head) in
-    let same = response_unique text h.value i.value (length before) (length first) fa fb in
+    let fa : HasResponse text h.value (length before) = subst (λ (t : List ℕ). HasResponse t h.value (length before)) (sym a) (has_folded-append (StartsResponse h.value) before last h.value.fields (length before) h.head) in
+    let fb : HasResponse text i.value (length first) = subst (λ (t : List ℕ). HasResponse t i.value (length first)) (sym b) (has_folded-append (StartsResponse i.value) first rest i.value.fields (length first) i.head) in
+    let same = response_unique (unfolded text) h.value i.value (length before) (length first) fa fb in
     let cut = split_one before last first rest (sym a ∙ b) same.1 in
     (refl, final_one point f g rest (subst (λ (t : List ℕ). IsFinal point f t) cut.1 m) n)
 answer_by point true false f g text before last first rest a b h i m n =

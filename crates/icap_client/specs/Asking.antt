@@ -6,8 +6,7 @@ use Rattle.icap_chunks.specs.Machine.{HasRead, end_of, fault_of}
 use Rattle.icap_chunks.specs.Faults.{Breaks}
 use Rattle.icap_chunks.specs.declared.fault.ChunkFault.{ChunkFault}
 use Rattle.icap_chunks.specs.declared.reader.ChunkReader.{ChunkReader}
-use Rattle.icap_head.specs.Heads.{Response, RefusesIcapHead, response_parts}
-use Rattle.icap_head.specs.StartLines.{StatusForm}
+use Rattle.icap_head.specs.Heads.{Response, RefusesResponse, response_parts}
 use Rattle.icap_head.specs.declared.reading.HeadFault.{HeadFault}
 use Rattle.icap_head.specs.declared.reading.HeadFault.TheVariants as heads
 use Rattle.icap_head.specs.declared.responses.IcapResponse.{IcapResponse}
@@ -80,7 +79,7 @@ HasAnyHead raw = WithHead raw (λ value. Unit {0})
 
 -- of bytes with an ICAP head first; memory is wanted once the head is there
 abbrev pub RefusesOptionsHead : ClientFault → List ℕ → Type 0
-RefusesOptionsHead faults.Head raw = (fault : HeadFault) × (fault ≢ heads.More) × RefusesIcapHead StatusForm fault raw
+RefusesOptionsHead faults.Head raw = (fault : HeadFault) × (fault ≢ heads.More) × RefusesResponse fault raw
 RefusesOptionsHead faults.Layout raw = WithHead raw HasBadOptionsList
 RefusesOptionsHead faults.NoMemory raw = HasAnyHead raw
 RefusesOptionsHead _ raw = ⊥

@@ -2,8 +2,7 @@
 use Rattle.std.specs.Prelude.{◌≡◌, ℕ, ◌<◌, ◌⊎◌, false, List, length, take, drop}
 use Rattle.adapt_bytes.specs.declared.limits.TheConstants.{MAX_HEAD}
 use Rattle.adapt_bytes.specs.Text.{has_line}
-use Rattle.icap_head.specs.Heads.{RefusesIcapHead}
-use Rattle.icap_head.specs.StartLines.{StatusForm}
+use Rattle.icap_head.specs.Heads.{RefusesResponse}
 use Rattle.icap_head.specs.declared.reading.HeadFault.TheVariants.{More}
 use Rattle.icap_client.specs.Hearing.{MustWait}
 use Rattle.icap_client.specs.declared.stage.Stage.{Stage}
@@ -17,7 +16,7 @@ pub record Store : Type 0 where
 
 -- this many were judged to be a prefix of an ICAP head, or no byte was judged
 abbrev pub IsJudged : ℕ → List ℕ → Type 0
-IsJudged judged bytes = (judged ≡ 0) ⊎ RefusesIcapHead StatusForm More (take judged bytes)
+IsJudged judged bytes = (judged ≡ 0) ⊎ RefusesResponse More (take judged bytes)
 
 -- a prefix of a head: no line has ended after what was judged to be one, and there is room for more
 pub record IsHeadFront (bytes : List ℕ) : Type 0 where

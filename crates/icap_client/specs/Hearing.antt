@@ -1,7 +1,6 @@
 -- What framing bytes does, and when no more can be framed.
 use Rattle.std.specs.Prelude.{◌≡◌, ℕ, ◌<◌, ◌≤◌, ◌⊎◌, true, false, List, [], ◌++◌, length, take}
-use Rattle.icap_head.specs.Heads.{RefusesIcapHead}
-use Rattle.icap_head.specs.StartLines.{StatusForm}
+use Rattle.icap_head.specs.Heads.{RefusesResponse}
 use Rattle.icap_head.specs.declared.reading.HeadFault.TheVariants.{More}
 use Rattle.icap_chunks.specs.Machine.{HasRead}
 use Rattle.icap_chunks.specs.declared.reader.ChunkReader.{ChunkReader}
@@ -23,7 +22,7 @@ pub record ReaderHears (x : Seen) (old new : Reader) (events : List Event) (byte
 
 -- no event came of these bytes: they are a prefix of an ICAP head, and none was used; or the ICAP head of a 200 was used
 pub data PassesWithoutEvent (old new : Reader) (used : ℕ) (raw : List ℕ) : Type 0 where
-  waits : used ≡ 0 → new.stage ≡ old.stage → new.point ≡ old.point → RefusesIcapHead StatusForm More raw → PassesWithoutEvent old new used raw
+  waits : used ≡ 0 → new.stage ≡ old.stage → new.point ≡ old.point → RefusesResponse More raw → PassesWithoutEvent old new used raw
   goes_on : (layout : Layout) → new.stage ≡ Head layout → new.point ≡ old.point → IsModHead old.point layout (take used raw) → PassesWithoutEvent old new used raw
 
 -- there is no empty line in the text
@@ -44,7 +43,7 @@ pub record IsBodyNext (chunks : ChunkReader) (raw : List ℕ) : Type 0 where
 -- none of these bytes can be framed yet, with room for this many adapted ones: a head isn't whole, or the next byte is one of
 -- the body and there is no room; after a whole final response no byte is framed any more
 abbrev pub MustWait : Stage → List ℕ → ℕ → Type 0
-MustWait Replies raw room = RefusesIcapHead StatusForm More raw
+MustWait Replies raw room = RefusesResponse More raw
 MustWait (Head layout) raw room = (length raw < layout.offset) × HasNoEmptyLine raw
 MustWait (Body chunks) raw room = (raw ≡ []) ⊎ ((room ≡ 0) × IsBodyNext chunks raw)
 MustWait Over raw room = Unit {0}

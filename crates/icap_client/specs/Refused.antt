@@ -1,8 +1,7 @@
 -- Why the bytes after those that were framed are refused.
 use Rattle.std.specs.Prelude.{◌≡◌, ◌≢◌, ℕ, ◌<◌, ◌≤◌, ◌⊎◌, Bool, Some, List, [], ◌++◌, length, take}
 use Rattle.adapt_bytes.specs.declared.limits.TheConstants.{MAX_HEAD}
-use Rattle.icap_head.specs.Heads.{Response, HasResponse, RefusesIcapHead}
-use Rattle.icap_head.specs.StartLines.{StatusForm}
+use Rattle.icap_head.specs.Heads.{Response, HasResponse, RefusesResponse}
 use Rattle.icap_head.specs.declared.reading.HeadFault.{HeadFault}
 use Rattle.icap_head.specs.declared.reading.HeadFault.TheVariants as heads
 use Rattle.encapsulated.specs.declared.offsets.Layout.{Layout}
@@ -47,7 +46,7 @@ pub record IsOtherStatus (value : Response) : Type 0 where
 
 -- why bytes with an ICAP head first are refused
 abbrev pub RefusesReply : ClientFault → Seen → Point → List ℕ → Type 0
-RefusesReply faults.Head x point raw = (fault : HeadFault) × (fault ≢ heads.More) × RefusesIcapHead StatusForm fault raw
+RefusesReply faults.Head x point raw = (fault : HeadFault) × (fault ≢ heads.More) × RefusesResponse fault raw
 RefusesReply faults.Layout x point raw = WithHead raw (HasBadList point)
 RefusesReply faults.NotLegal x point raw = WithHead raw (IsUntimely point x)
 RefusesReply faults.Status x point raw = WithHead raw IsOtherStatus

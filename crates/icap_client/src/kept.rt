@@ -2,8 +2,7 @@
 
 ghost use Rattle.std.specs.Prelude.{◌≡◌, ◌<◌, ◌≤◌, ◌==◌, [], length, drop, true};
 ghost use Rattle.std.specs.List.{list_any};
-ghost use Rattle.icap_head.specs.Heads.{RefusesIcapHead};
-ghost use Rattle.icap_head.specs.StartLines.{StatusForm};
+ghost use Rattle.icap_head.specs.Heads.{RefusesResponse};
 ghost use Rattle.icap_head.specs.declared.reading.HeadFault.TheVariants.{More};
 ghost use Rattle.adapt_bytes.specs.declared.limits.TheConstants.{MAX_HEAD};
 ghost use Rattle.adapt_bytes.specs.Text.{has_line};
@@ -76,7 +75,7 @@ impl Kept {
     /// Lets go of the first `used` bytes, which were framed. `judged` says that the rest was judged to be a prefix of a head.
     pub(crate) fn pass(&mut self, used: usize, judged: bool)
         requires within { used ≤ length self.old.bytes }
-        requires front { judged ≡ true → RefusesIcapHead StatusForm More (drop used self.old.bytes) }
+        requires front { judged ≡ true → RefusesResponse More (drop used self.old.bytes) }
         ensures { self.new.bytes ≡ drop used self.old.bytes }
     {
         self.judged = 0;

@@ -63,8 +63,7 @@ impl Model for OptionsSide {
 
 impl OptionsSide {
     ghost use Rattle.icap_head.specs.Heads.{response_parts};
-    ghost use Rattle.icap_head.specs.Heads.{RefusesIcapHead};
-    ghost use Rattle.icap_head.specs.StartLines.{StatusForm};
+    ghost use Rattle.icap_head.specs.Heads.{RefusesResponse};
     ghost use Rattle.icap_client.specs.Asking.{options_request, LetsRoomGo, Frames, HasAnyHead, RefusesOptionsHead, RefusesRaw, HasToAsk, Asks};
 
     /// A request to the service at this host, port and path. `NoMemory` if its text finds no memory.
@@ -187,7 +186,7 @@ impl OptionsSide {
     #[tactic(auto, using(crate::proofs::Skipping::frames_kept))]
     fn refuse_head(&mut self, fault: HeadFault) -> Result<Option<IcapResponse>, ClientFault>
         requires stage { self.old.stage ≡ OptionsStage.Head }
-        requires stands { ((fault ≡ HeadFault.NoMemory) × HasAnyHead self.old.raw) ⊎ RefusesIcapHead StatusForm fault self.old.raw }
+        requires stands { ((fault ≡ HeadFault.NoMemory) × HasAnyHead self.old.raw) ⊎ RefusesResponse fault self.old.raw }
         ensures frames { IfOk result (λ found. Frames self.old self.new (option_map response_parts found)) }
         ensures waits { IfOk result (λ found. IfNone found (HasToAsk self.new.stage self.new.raw)) }
         ensures fault { self.new.fault ≡ self.old.fault }

@@ -1,8 +1,7 @@
 //! Reading a service's responses: it takes bytes, answers events, and knows no wire (RFC 3507, sections 4.4 to 4.6).
 
 ghost use Rattle.std.specs.Prelude.{◌≡◌, ℕ, ◌<◌, ◌≤◌, ◌⊎◌, List, [], length, take, drop, OnOk, OnErr, option_copied, IfOk, IfErr, IfSome, IfNone, None, true, false, ◌≢◌, IsTrue, Some, ◌↔◌, MatchOption};
-ghost use Rattle.icap_head.specs.Heads.{Response, HasResponse, response_parts, RefusesIcapHead};
-ghost use Rattle.icap_head.specs.StartLines.{StatusForm};
+ghost use Rattle.icap_head.specs.Heads.{Response, HasResponse, response_parts, RefusesResponse};
 ghost use Rattle.icap_head.specs.declared.reading.HeadFault.TheVariants as heads;
 ghost use Rattle.trace_core.specs.History.{seen, shows};
 ghost use Rattle.icap_client.specs.Events.{listed, MayCome, MayHear, MayAllFollow, ad_sum, adapted_events};
@@ -113,7 +112,7 @@ impl ReplyReader {
     ) -> Result<FramedHead, ClientFault>
         requires stage { self.old.stage ≡ Stage.Replies }
         requires limits { LimitsOf reply }
-        requires head { HasResponse raw.now (response_parts value.now) size }
+        requires head { HasResponse raw.now (response_parts value.now) size × (size ≤ length raw.now) }
         requires says { SpellsReply self.old.point (response_parts value.now) reply }
         requires said { (self.old.tag ≡ tag_in (response_parts value.now).fields) × (self.old.closes ≡ says_close (response_parts value.now).fields) }
         ensures within { IfOk result (λ framed. framed.used ≤ length raw.now) }

@@ -1,6 +1,7 @@
 pub mod Back
 pub mod FieldFaults
 pub mod Follows
+pub mod Folding
 pub mod Fronts
 pub mod Held
 pub mod Lacking

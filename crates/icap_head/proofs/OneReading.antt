@@ -5,7 +5,7 @@ use Rattle.icap_head.specs.declared.responses.IcapResponse.{IcapResponse}
 use Rattle.icap_head.specs.declared.reading.Head.{Head}
 use Rattle.icap_head.specs.declared.reading.HeadFault.{HeadFault}
 use Rattle.icap_head.specs.declared.reading.HeadFault.TheVariants.{StartLine, Version, NoMemory}
-use Rattle.icap_head.specs.Heads.{Request, Response, StartsRequest, StartsResponse, HasRequest, HasResponse, RefusesIcapHead, NeedsUri, ForWantOfMemory, request_parts, response_parts}
+use Rattle.icap_head.specs.Heads.{Request, Response, StartsRequest, StartsResponse, HasRequest, HasPlainResponse, RefusesIcapHead, NeedsUri, ForWantOfMemory, request_parts, response_parts}
 use Rattle.icap_head.specs.FieldLines.{HasFields, RefusesFields}
 use Rattle.icap_head.specs.StartLines.{RequestForm, StatusForm}
 use Rattle.icap_head.proofs.Readings.{OneVersion, head_reads, head_unique, no_fault, no_fields_fault, one_fault, one_fields_fault}
@@ -30,7 +30,7 @@ request_unique text x y n m h g =
     let words = line_unique same.0.0 x.method x.uri (codes "ICAP/1.0") y.method y.uri (codes "ICAP/1.0") same.0.1 same.0.2 in
     (same_request x y words.0 words.1 same.1, same.2)
 
-pub response_unique : (text : List ℕ) (x y : Response) (n m : ℕ) → HasResponse text x n → HasResponse text y m → (x ≡ y) × (n ≡ m)
+pub response_unique : (text : List ℕ) (x y : Response) (n m : ℕ) → HasPlainResponse text x n → HasPlainResponse text y m → (x ≡ y) × (n ≡ m)
 response_unique text x y n m h g =
     let same = head_unique (StartsResponse x) (StartsResponse y) text x.fields y.fields n m h g in
     let words = status_line_unique same.0.0 x.status y.status x.phrase y.phrase (codes "ICAP/1.0") (codes "ICAP/1.0") same.0.1 same.0.2 in
@@ -39,7 +39,7 @@ response_unique text x y n m h g =
 pub no_request_fault : (fault : HeadFault) (text : List ℕ) (value : Request) (n : ℕ) → HasRequest text value n → RefusesIcapHead RequestForm fault text → ⊥
 no_request_fault fault text value n h s = no_fault RequestForm request_version (StartsRequest value) (λ line l. (value.method, value.uri, l)) fault text value.fields n h s
 
-pub no_response_fault : (fault : HeadFault) (text : List ℕ) (value : Response) (n : ℕ) → HasResponse text value n → RefusesIcapHead StatusForm fault text → ⊥
+pub no_response_fault : (fault : HeadFault) (text : List ℕ) (value : Response) (n : ℕ) → HasPlainResponse text value n → RefusesIcapHead StatusForm fault text → ⊥
 no_response_fault fault text value n h s = no_fault StatusForm status_version (StartsResponse value) (λ line l. (value.status, value.phrase, l)) fault text value.fields n h s
 
 -- ---- what is said for want of memory
@@ -78,9 +78,9 @@ request_found text (Err fault) ok (inl err) value n h = absurd (no_request_fault
 request_found text (Err fault) ok (inr err) value n h = inl (ap Err (memory_alone fault text value n h err))
 
 pub response_found : (M : HeadFault → Type 0) (text : List ℕ) (r : Result (Head IcapResponse) HeadFault)
-    → IfOk r (λ head. HasResponse text (response_parts head.value) head.length)
+    → IfOk r (λ head. HasPlainResponse text (response_parts head.value) head.length)
     → IfErr r (λ fault. ((fault ≡ NoMemory) × M fault) ⊎ RefusesIcapHead StatusForm fault text)
-    → (value : Response) (n : ℕ) → HasResponse text value n
+    → (value : Response) (n : ℕ) → HasPlainResponse text value n
     → (r ≡ Err NoMemory) ⊎ IsOkAnd r (λ head. (response_parts head.value ≡ value) × (head.length ≡ n))
 response_found M text (Ok head) ok err value n h = inr (response_unique text (response_parts head.value) value head.length n ok h)
 response_found M text (Err fault) ok (inl err) value n h = inl (ap Err err.0)
@@ -114,8 +114,8 @@ later_fault text (Err g) ok (inl err) fault a b s = ap Err (one_fault RequestFor
 later_fault text (Err g) ok (inr err) fault a b s = ap Err (same_later g fault text a b s err)
 
 pub response_fault : (text : List ℕ) (r : Result (Head IcapResponse) HeadFault)
-    → IfOk r (λ head. HasResponse text (response_parts head.value) head.length)
-    → IfErr r (λ fault. ((fault ≡ NoMemory) × ((value : Response) × (size : ℕ) × HasResponse text value size)) ⊎ RefusesIcapHead StatusForm fault text)
+    → IfOk r (λ head. HasPlainResponse text (response_parts head.value) head.length)
+    → IfErr r (λ fault. ((fault ≡ NoMemory) × ((value : Response) × (size : ℕ) × HasPlainResponse text value size)) ⊎ RefusesIcapHead StatusForm fault text)
     → (fault : HeadFault) → RefusesIcapHead StatusForm fault text → r ≡ Err fault
 response_fault text (Ok head) ok err fault s = absurd (no_response_fault fault text (response_parts head.value) head.length ok s)
 response_fault text (Err g) ok (inl err) fault s = absurd (no_response_fault fault text err.1.0 err.1.1 err.1.2 s)

@@ -5,7 +5,7 @@ use Rattle.icap_head.specs.declared.reading.HeadFault.TheVariants.{NoMemory}
 use Rattle.adapt_bytes.specs.Fields.{FieldList}
 use Rattle.icap_head.specs.FieldLines.{ReadsFields, HasFields, RefusesFields}
 use Rattle.icap_head.specs.StartLines.{IsFirstLine, IsStatusLine, MayBeRequestLine, RequestForm, StatusForm, RefusesStartLine}
-use Rattle.icap_head.specs.Heads.{Request, Response, ForWantOfMemory, HasRequest, HasResponse, StartsRequest, StartsResponse, RefusesIcapHead}
+use Rattle.icap_head.specs.Heads.{Request, Response, ForWantOfMemory, HasRequest, HasPlainResponse, StartsRequest, StartsResponse, RefusesIcapHead}
 use Rattle.icap_head.proofs.Readings.{has_head, has_some_head}
 
 -- what a reader of requests may answer
@@ -14,7 +14,7 @@ RequestRefused fault text = RefusesIcapHead RequestForm fault text ⊎ ForWantOf
 
 -- what a reader of responses may answer
 abbrev pub ResponseRefused : HeadFault → List ℕ → Type 0
-ResponseRefused fault text = ((fault ≡ NoMemory) × ((value : Response) × (size : ℕ) × HasResponse text value size)) ⊎ RefusesIcapHead StatusForm fault text
+ResponseRefused fault text = ((fault ≡ NoMemory) × ((value : Response) × (size : ℕ) × HasPlainResponse text value size)) ⊎ RefusesIcapHead StatusForm fault text
 
 pub request_line_refused : (fault : HeadFault) (text seen line behind : List ℕ) → seen ≡ take 16384 text → IsFirstLine seen line behind
     → RefusesStartLine RequestForm fault line → RequestRefused fault text
@@ -51,7 +51,7 @@ response_fields_refused fault text seen line behind status phrase e first h (inr
     inr (inr (line, behind, subst (λ t. IsFirstLine t line behind) e first, inr ((status, phrase, h), s)))
 
 pub has_response : (value : Response) (text seen line behind : List ℕ) (n : ℕ) → seen ≡ take 16384 text → n ≤ length seen → IsFirstLine seen line behind → StartsResponse value line
-    → length value.fields ≤ 100 → ReadsFields behind value.fields (drop n seen) → HasResponse text value n
+    → length value.fields ≤ 100 → ReadsFields behind value.fields (drop n seen) → HasPlainResponse text value n
 has_response value text seen line behind n e inside first h few fields =
     has_head (StartsResponse value) text line behind value.fields n (subst (λ t. n ≤ length t) e inside) (subst (λ t. IsFirstLine t line behind) e first) h
     (subst (λ t. ReadsFields behind value.fields (drop n t)) e fields) few

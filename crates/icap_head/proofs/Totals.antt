@@ -10,7 +10,7 @@ use Rattle.icap_head.specs.declared.reading.HeadFault.{HeadFault}
 use Rattle.icap_head.specs.declared.reading.HeadFault.TheVariants.{StartLine, Version, Field, TooMany}
 use Rattle.adapt_bytes.specs.Fields.{FieldList}
 use Rattle.icap_head.specs.FieldLines.{ReadsFields, RefusesFields, HasTooMany, unended}
-use Rattle.icap_head.specs.Heads.{Request, Response, HasHead, HasRequest, HasResponse, StartsRequest, StartsResponse, RefusesIcapHead}
+use Rattle.icap_head.specs.Heads.{Request, Response, HasHead, HasRequest, HasPlainResponse, StartsRequest, StartsResponse, RefusesIcapHead}
 use Rattle.icap_head.specs.StartLines.{IsFirstLine, HasNoLine, RequestForm, StatusForm, without_cr}
 use Rattle.icap_head.proofs.Lacking.{lacks_cons, lacks_cut, lacks_nil}
 use Rattle.icap_head.proofs.Readings.{has_some_head}
@@ -150,7 +150,7 @@ some_request text = and_so (some_head RequestForm text) (λ found. elim found [
 ])
 
 -- a response's head, or why there is none
-pub some_response : (text : List ℕ) → NotNot (((value : Response) × (size : ℕ) × HasResponse text value size) ⊎ ((fault : HeadFault) × RefusesIcapHead StatusForm fault text))
+pub some_response : (text : List ℕ) → NotNot (((value : Response) × (size : ℕ) × HasPlainResponse text value size) ⊎ ((fault : HeadFault) × RefusesIcapHead StatusForm fault text))
 some_response text = and_so (some_head StatusForm text) (λ found. elim found [
   | inl (line, fields, size, (status, phrase, is), has) ↦
       let value : Response = record { status = status; phrase = phrase; fields = fields } in

@@ -4,8 +4,9 @@ use Rattle.adapt_bytes.specs.declared.limits.TheConstants.{MAX_FIELDS, MAX_HEAD}
 use Rattle.adapt_bytes.specs.Fields.{FieldList}
 use Rattle.icap_head.specs.Fields.{field_list}
 use Rattle.icap_head.specs.FieldLines.{ReadsFields, HasFields, RefusesFields, unended}
+use Rattle.icap_head.specs.Folds.{unfolded}
 use Rattle.icap_head.specs.Methods.{request_method_name}
-use Rattle.icap_head.specs.StartLines.{IsFirstLine, HasNoLine, IsRequestLine, IsStatusLine, RequestForm, RefusesStartLine, MayBeRequestLine}
+use Rattle.icap_head.specs.StartLines.{IsFirstLine, HasNoLine, IsRequestLine, IsStatusLine, RequestForm, StatusForm, RefusesStartLine, MayBeRequestLine}
 use Rattle.icap_head.specs.declared.reading.HeadFault.{HeadFault}
 use Rattle.icap_head.specs.declared.reading.HeadFault.TheVariants as Faults
 use Rattle.icap_head.specs.declared.requests.IcapRequest.{IcapRequest}
@@ -84,7 +85,7 @@ StartsResponse value line = IsStatusLine line value.status value.phrase (codes "
 abbrev pub IsRequestHead : List ℕ → Request → Type 0
 IsRequestHead text value = ReadsHead (StartsRequest value) text value.fields []
 
--- the text is the head of this response
+-- the text is the head of this response, in which nothing is folded
 abbrev pub IsResponseHead : List ℕ → Response → Type 0
 IsResponseHead text value = ReadsHead (StartsResponse value) text value.fields []
 
@@ -92,9 +93,17 @@ IsResponseHead text value = ReadsHead (StartsResponse value) text value.fields [
 abbrev pub HasRequest : List ℕ → Request → ℕ → Type 0
 HasRequest text value size = HasHead (StartsRequest value) text value.fields size
 
--- the text begins with the head of this response, of this many bytes
+-- the text begins with the head of this response, in which nothing is folded, of this many bytes
+abbrev pub HasPlainResponse : List ℕ → Response → ℕ → Type 0
+HasPlainResponse text value size = HasHead (StartsResponse value) text value.fields size
+
+-- the text begins with the head of this response, of this many bytes: with each fold written over by spaces
 abbrev pub HasResponse : List ℕ → Response → ℕ → Type 0
-HasResponse text value size = HasHead (StartsResponse value) text value.fields size
+HasResponse text value size = HasPlainResponse (unfolded text) value size
+
+-- why no head of a response is read
+abbrev pub RefusesResponse : HeadFault → List ℕ → Type 0
+RefusesResponse fault text = RefusesIcapHead StatusForm fault (unfolded text)
 
 -- what a contract sees of a request
 abbrev pub request_parts : IcapRequest → Request

@@ -1,5 +1,6 @@
 pub mod FieldLines
 pub mod Fields
+pub mod Folds
 pub mod Heads
 pub mod LineFront
 pub mod Methods

@@ -2,8 +2,9 @@
 ghost use Rattle.std.specs.Prelude.{◌≡◌, ◌≢◌, ℕ, ◌<◌, ◌≤◌, ◌↔◌, ◌++◌, List, length, take};
 ghost use Rattle.adapt_bytes.specs.declared.limits.TheConstants.{MAX_FIELDS, MAX_HEAD};
 ghost use Rattle.icap_head.specs.declared.reading.HeadFault.{HeadFault};
-ghost use Rattle.icap_head.specs.Heads.{Request, Response, HasRequest, HasResponse, IsRequestHead, IsResponseHead, RefusesIcapHead};
-ghost use Rattle.icap_head.specs.StartLines.{RequestForm, StatusForm};
+ghost use Rattle.icap_head.specs.Folds.{unfolded};
+ghost use Rattle.icap_head.specs.Heads.{Request, Response, HasRequest, HasPlainResponse, HasResponse, IsRequestHead, IsResponseHead, RefusesIcapHead, RefusesResponse};
+ghost use Rattle.icap_head.specs.StartLines.{RequestForm};
 ghost use Rattle.icap_head.specs.Written.{IsRequest, IsResponse, request_text, response_text};
 
 /// A text begins with at most one head, of one length.
@@ -19,11 +20,11 @@ pub fn one_fault()
     ensures requests { (text : List ℕ) (fault other : HeadFault)
         → RefusesIcapHead RequestForm fault text → RefusesIcapHead RequestForm other text → fault ≡ other }
     ensures responses { (text : List ℕ) (fault other : HeadFault)
-        → RefusesIcapHead StatusForm fault text → RefusesIcapHead StatusForm other text → fault ≡ other }
+        → RefusesResponse fault text → RefusesResponse other text → fault ≡ other }
     ensures no_request { (text : List ℕ) (fault : HeadFault) (value : Request) (size : ℕ)
         → RefusesIcapHead RequestForm fault text → ¬ (HasRequest text value size) }
     ensures no_response { (text : List ℕ) (fault : HeadFault) (value : Response) (size : ℕ)
-        → RefusesIcapHead StatusForm fault text → ¬ (HasResponse text value size) }
+        → RefusesResponse fault text → ¬ (HasResponse text value size) }
 {}
 
 /// Each text has an answer: it can't be that it begins with no head and no fault applies, `More` among them.
@@ -31,7 +32,7 @@ pub fn some_answer()
     ensures requests { (text : List ℕ) → ((value : Request) (size : ℕ) → ¬ (HasRequest text value size))
         → ((fault : HeadFault) → ¬ (RefusesIcapHead RequestForm fault text)) → ⊥ }
     ensures responses { (text : List ℕ) → ((value : Response) (size : ℕ) → ¬ (HasResponse text value size))
-        → ((fault : HeadFault) → ¬ (RefusesIcapHead StatusForm fault text)) → ⊥ }
+        → ((fault : HeadFault) → ¬ (RefusesResponse fault text)) → ⊥ }
 {}
 
 /// A head stays the same whatever follows.
@@ -42,12 +43,20 @@ pub fn heads_stay()
         → HasResponse text value size → HasResponse (text ++ more) value size }
 {}
 
+/// A head of a response without folds is read as it is. One with folds takes as many bytes of the text, and they read as it
+/// without what follows them.
+pub fn folds_are_spaces()
+    ensures plain { (text : List ℕ) (value : Response) (size : ℕ) → HasPlainResponse text value size → HasResponse text value size }
+    ensures alone { (text : List ℕ) (value : Response) (size : ℕ) → HasResponse text value size
+        → (unfolded (take size text) ≡ take size (unfolded text)) × (length (unfolded (take size text)) ≡ size) }
+{}
+
 /// A fault other than `More` stays the same whatever follows.
 pub fn faults_stay()
     ensures requests { (text more : List ℕ) (fault : HeadFault) → fault ≢ HeadFault.More
         → RefusesIcapHead RequestForm fault text → RefusesIcapHead RequestForm fault (text ++ more) }
     ensures responses { (text more : List ℕ) (fault : HeadFault) → fault ≢ HeadFault.More
-        → RefusesIcapHead StatusForm fault text → RefusesIcapHead StatusForm fault (text ++ more) }
+        → RefusesResponse fault text → RefusesResponse fault (text ++ more) }
 {}
 
 /// A head that was cut anywhere before its last byte is `More`.
@@ -55,7 +64,7 @@ pub fn beginnings_are_more()
     ensures requests { (text : List ℕ) (value : Request) (size cut : ℕ)
         → HasRequest text value size → cut < size → RefusesIcapHead RequestForm HeadFault.More (take cut text) }
     ensures responses { (text : List ℕ) (value : Response) (size cut : ℕ)
-        → HasResponse text value size → cut < size → RefusesIcapHead StatusForm HeadFault.More (take cut text) }
+        → HasResponse text value size → cut < size → RefusesResponse HeadFault.More (take cut text) }
 {}
 
 /// The values that can be written are those that some head holds.

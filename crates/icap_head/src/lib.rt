@@ -1,13 +1,14 @@
 //! ICAP heads, read and written (RFC 3507, section 4.3).
 //!
 //! A head is a start line, field lines and an empty line. The start line has a grammar of its own,
-//! field lines are those that `httparse` takes (RFC 9112, sections 2 and 5), and URIs are read by
+//! field lines are those that `httparse` takes (RFC 9112, sections 2 and 5), in a response once folds are written over, and URIs are read by
 //! `http_uri`. A head that is read ends within 16,384 bytes and has at most 100 fields; writing has
 //! no such limit.
 #![tactic(auto)]
 
 mod field_lines;
 mod field_list;
+mod folds;
 pub mod laws;
 mod line_front;
 mod methods;

@@ -31,7 +31,8 @@ pub enum HeadFault {
     Field = 4,
     /// The head doesn't end within the first 16,384 bytes.
     TooLong = 5,
-    /// The head has more than 100 fields: known at the end of the 101st field line.
+    /// The head has more than 100 fields: known at the end of the 101st field line, which in a response is known with the
+    /// byte after it.
     TooMany = 6,
     /// Memory ran out.
     NoMemory = 7,

@@ -1,10 +1,11 @@
 //! Heads of ICAP responses (RFC 3507, section 4.3.3).
-ghost use Rattle.std.specs.Prelude.{◌≡◌, ℕ, ◌⊎◌, ◌<◌, ◌++◌, ◌+◌, List, take, IfOk, IfErr, IsOkAnd, OnOk, IsTrue, ◌↔◌};
+ghost use Rattle.std.specs.Prelude.{◌≡◌, ℕ, ◌⊎◌, ◌<◌, ◌≤◌, ◌++◌, ◌+◌, List, length, take, IfOk, IfErr, IsOkAnd, OnOk, IsTrue, ◌↔◌};
 ghost use Rattle.icap_head.specs.StartLines.{StatusForm};
-ghost use Rattle.icap_head.specs.Heads.{Response, HasResponse, IsResponseHead, RefusesIcapHead, response_parts};
+ghost use Rattle.icap_head.specs.Heads.{Response, HasPlainResponse, HasResponse, IsResponseHead, RefusesIcapHead, RefusesResponse, response_parts};
 ghost use Rattle.icap_head.specs.Written.{IsResponse, response_text};
 
 use crate::field_lines::{are_writable, put_fields, read_fields};
+use crate::folds::unfolded;
 use crate::reading::{judged, unended};
 use crate::start_lines::{first_line, read_status_line};
 use crate::{Fields, Head, HeadFault, NoMemory};
@@ -41,9 +42,14 @@ impl IcapResponse {
 /// or a space and a phrase; field lines and an empty line (RFC 3507, section 4.3.3; RFC 9112, sections 2,
 /// 4 and 5). A line ends at its LF, and one CR before that is dropped; a phrase has any other bytes.
 ///
+/// A field may go on with lines that begin with a space or a tab: such a line's end is read as spaces (RFC 2616,
+/// section 4.2, whose fields RFC 3507 takes; RFC 9112, section 5.2). The first field begins with its name. So a line
+/// whose end came last is judged with the next byte, and a head is of the length that it has on the wire.
+///
 /// The error is the first `HeadFault` that applies. `NoMemory` comes only if the text begins with a head.
 pub fn read_response(alloc: Global, text: &[u8]) -> Result<Head<IcapResponse>, HeadFault>
     ensures ok { IfOk result (λ head. HasResponse text.now (response_parts head.value) head.length) }
+    ensures inside { IfOk result (λ head. head.length ≤ length text.now) }
     ensures writable { IfOk result (λ head. IsResponse (response_parts head.value)) }
 
     // If the text begins with a head, it is read, unless memory runs out.
@@ -53,8 +59,8 @@ pub fn read_response(alloc: Global, text: &[u8]) -> Result<Head<IcapResponse>, H
 
     // A fault is answered where it stands, and only there; memory is wanted only to keep a head.
     ensures err { IfErr result (λ fault. ((fault ≡ HeadFault.NoMemory) × ((value : Response) × (size : ℕ) × HasResponse text.now value size))
-        ⊎ RefusesIcapHead StatusForm fault text.now) }
-    ensures fault { (fault : HeadFault) → RefusesIcapHead StatusForm fault text.now → result ≡ Err fault }
+        ⊎ RefusesResponse fault text.now) }
+    ensures fault { (fault : HeadFault) → RefusesResponse fault text.now → result ≡ Err fault }
 {
     find_response(alloc, text)
 }
@@ -62,6 +68,16 @@ pub fn read_response(alloc: Global, text: &[u8]) -> Result<Head<IcapResponse>, H
 fn find_response(alloc: Global, text: &[u8]) -> Result<Head<IcapResponse>, HeadFault>
     ensures ok { IfOk result (λ head. HasResponse text.now (response_parts head.value) head.length) }
     ensures err { IfErr result (λ fault. ((fault ≡ HeadFault.NoMemory) × ((value : Response) × (size : ℕ) × HasResponse text.now value size))
+        ⊎ RefusesResponse fault text.now) }
+{
+    let plain = unfolded(text);
+    read_plain(alloc, plain.as_slice())
+}
+
+/// The same of a text in which nothing is folded.
+fn read_plain(alloc: Global, text: &[u8]) -> Result<Head<IcapResponse>, HeadFault>
+    ensures ok { IfOk result (λ head. HasPlainResponse text.now (response_parts head.value) head.length) }
+    ensures err { IfErr result (λ fault. ((fault ≡ HeadFault.NoMemory) × ((value : Response) × (size : ℕ) × HasPlainResponse text.now value size))
         ⊎ RefusesIcapHead StatusForm fault text.now) }
 {
     let seen = judged(text);

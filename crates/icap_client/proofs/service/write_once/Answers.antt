@@ -1,7 +1,7 @@
 use Rattle.std.proofs.Common.{◌≡◌, ◌+◌, ◌&&◌, ◌||◌, subst, ◌∙◌, refl, Some, None, Ok, Err, rules}
 use Rattle.trace_core.specs.declared.history.Seen.{Seen}
 use Rattle.icap_client.specs.Turns.{is_last_at}
-use Rattle.trace_core.specs.History.{seen, shows}
+use Rattle.trace_core.specs.History.{shows}
 use Rattle.trace_core.proofs.Sound.{sound}
 use Rattle.wire_kit.specs.declared.wire.Put.TheVariants as put
 use Rattle.adapt_sides.specs.declared.fault.ClientFault.TheVariants.{Device}

@@ -1,3 +1,4 @@
+use Rattle.icap_head.specs.Folds.{unfolded}
 use Rattle.icap_head.proofs.OneReading.{request_unique, response_unique}
 use Rattle.icap_head.proofs.laws.one_head.Goals as goal
 
@@ -5,4 +6,4 @@ pub returns-clause-requests : goal.returns-clause-requests
 returns-clause-requests c = request_unique
 
 pub returns-clause-responses : goal.returns-clause-responses
-returns-clause-responses c = response_unique
+returns-clause-responses c = λ text. response_unique (unfolded text)

@@ -1,6 +1,5 @@
 use Rattle.std.proofs.Common.{◌≡◌, ◌∙◌, ap, sym, subst}
-use Rattle.icap_head.specs.Heads.{RefusesIcapHead}
-use Rattle.icap_head.specs.StartLines.{StatusForm}
+use Rattle.icap_head.specs.Heads.{RefusesResponse}
 use Rattle.icap_head.specs.declared.reading.HeadFault.TheVariants.{More}
 use Rattle.icap_client.specs.HeadFront.{IsHeadFront}
 use Rattle.icap_client.specs.Asking.{Asker, HasToAsk}
@@ -12,7 +11,7 @@ use Rattle.icap_client.proofs.options.OptionsSide.refuse_head.Goals as goal
 
 pub pass-requires-clause-front : goal.pass-requires-clause-front
 pass-requires-clause-front c = λ e.
-    subst (λ (s : Asker). RefusesIcapHead StatusForm More s.raw) (sym c.self.view_is) (more_stands c.args.fault c.args.self.now.raw c.in-None.ensures.none c.requires.stands)
+    subst (λ (s : Asker). RefusesResponse More s.raw) (sym c.self.view_is) (more_stands c.args.fault c.args.self.now.raw c.in-None.ensures.none c.requires.stands)
 
 pub returns-in-None-clause-waits : goal.returns-in-None-clause-waits
 returns-in-None-clause-waits c =

@@ -1,7 +1,6 @@
 use Rattle.std.proofs.Common.{rules, take, [], ◌≡◌, subst}
 use Rattle.trace_core.specs.History.{shows}
-use Rattle.icap_head.specs.Heads.{response_parts, RefusesIcapHead}
-use Rattle.icap_head.specs.StartLines.{StatusForm}
+use Rattle.icap_head.specs.Heads.{response_parts, RefusesResponse}
 use Rattle.icap_head.specs.declared.reading.HeadFault.{HeadFault}
 use Rattle.icap_head.specs.declared.reading.HeadFault.TheVariants.{More}
 use Rattle.icap_client.specs.Heard.{Reader, noted}
@@ -20,7 +19,7 @@ returns-in-Ok-clause-refuses c =
 pub returns-clause-passes : goal.returns-clause-passes
 returns-clause-passes c = λ e.
     let more : c.in-Err.fault ≡ More = c.in-None.ensures.none in
-    passes_none c.args.self.now c.args.raw.now (subst (λ (f : HeadFault). RefusesIcapHead StatusForm f c.args.raw.now) more
+    passes_none c.args.self.now c.args.raw.now (subst (λ (f : HeadFault). RefusesResponse f c.args.raw.now) more
     (stands_for c.in-Err.fault c.args.raw.now (λ m. cc) c.in-Err.ensures.err))
 
 pub returns-in-Ok-reply_of-clause-hears : goal.returns-in-Ok-reply_of-clause-hears

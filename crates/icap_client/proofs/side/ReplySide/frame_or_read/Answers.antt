@@ -1,6 +1,6 @@
 use Rattle.std.proofs.Common.{◌≡◌, List, ℕ, [], length, take, subst, rules}
 use Rattle.trace_core.specs.declared.history.Event.{Event}
-use Rattle.trace_core.specs.History.{seen, shows}
+use Rattle.trace_core.specs.History.{shows}
 use Rattle.icap_client.specs.Events.{ad_sum}
 use Rattle.icap_client.specs.Reading.{SideHears, MayRead, ReadTurn}
 use Rattle.icap_client.proofs.ReadTurns.{turn_refused, turn_behind, turn_unheard}
