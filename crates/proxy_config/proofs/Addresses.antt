@@ -1,5 +1,6 @@
 -- A text that says no address makes a value, and a key, that have none.
-use Rattle.std.proofs.Common.{◌≡◌, ◌≢◌, ℕ, List, Option, Some, None, IfNone, sym, ◌∙◌, subst, rules}
+use Rattle.std.proofs.Common.{◌≡◌, ◌≢◌, ℕ, List, Option, Some, None, IfNone, sym, ap, ◌∙◌, subst, rules}
+use Rattle.std.proofs.NetLemmas.Theorems.{IsSocketV4Text_unique}
 use Rattle.toml.specs.Data.{Data, Members, get_member, as_str}
 use Rattle.std.specs.declared.net.socket_addr.SocketAddrV4.{SocketAddrV4}
 use Rattle.std.specs.Net.Grammar.{IsSocketV4Text}
@@ -9,7 +10,7 @@ use Rattle.proxy_config.specs.Values.{IsAddress, HasAddress}
 same_some : {A : Type 0} (x y : A) → Some x ≡ Some y → x ≡ y
 same_some x y e = search (rules, e)
 
-some_is_none : {A : Type 0} (x : A) → Some x ≡ None → ⊥
+pub some_is_none : {A : Type 0} (x : A) → Some x ≡ None → ⊥
 some_is_none x e = search (rules, e)
 
 pub no_text : (value : Data) (address : SocketAddrV4) → as_str value ≡ None → IsAddress value address → ⊥
@@ -36,3 +37,11 @@ no_key key table value some bad address h =
 pub if_none_then : {A : Type 0} {P Q : Type 0} (found : Option A) → (P → Q) → IfNone found P → IfNone found Q
 if_none_then None then_q h = then_q h
 if_none_then (Some x) then_q h = tt
+
+-- a key has one address
+pub one_address : (name : List ℕ) (names : Members) (a b : SocketAddrV4) → HasAddress name names a → HasAddress name names b → a ≡ b
+one_address name names a b h k =
+    let value : h.0 ≡ k.0 = same_some h.0 k.0 (sym h.1 ∙ k.1) in
+    let text : h.2.0 ≡ k.2.0 = same_some h.2.0 k.2.0 (sym h.2.1 ∙ ap as_str value ∙ k.2.1) in
+    let P : List ℕ → Type 0 = λ t. IsSocketV4Text t a in
+    IsSocketV4Text_unique k.2.0 a b (subst P text h.2.2) k.2.2

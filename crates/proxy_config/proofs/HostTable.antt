@@ -4,17 +4,16 @@ use Rattle.std.proofs.lemmas.Bool.{false≢true}
 use Rattle.std.proofs.lemmas.List.Elements.{All-nil, All-cons, All-contains, Contains-push, Contains-append_left, Contains-append_right}
 use Rattle.std.proofs.lemmas.List.Sorted.{Contains-permutation, IsPermutation-sym}
 use Rattle.std.proofs.lemmas.Slice.Eq.{bytes_eq-Decides}
-use Rattle.std.proofs.NetLemmas.Theorems.{IsSocketV4Text_unique}
-use Rattle.std.specs.Net.Grammar.{IsSocketV4Text}
 use Rattle.std.specs.Str.{str_eq_ignore_ascii_case, str_to_ascii_lowercase}
 use Rattle.std.specs.declared.net.socket_addr.SocketAddrV4.{SocketAddrV4}
-use Rattle.toml.specs.Data.{Members, as_str}
+use Rattle.toml.specs.Data.{Members}
 use Rattle.proxy_config.specs.declared.host.Host.{Host}
 use Rattle.proxy_config.specs.declared.host_table.Hosts.{Hosts}
 use Rattle.proxy_config.specs.Hosts.{address_of_name, found_host}
 use Rattle.proxy_config.specs.HostNames.{host_names, HasEach, IsHostAt, IsHostsOf, IsBadName}
 use Rattle.proxy_config.specs.Order.{HasKey}
 use Rattle.proxy_config.specs.Values.{HasAddress}
+use Rattle.proxy_config.proofs.Addresses.{one_address}
 use Rattle.proxy_config.proofs.TextOrder.{neither_before}
 
 -- a host of the list that has the name, and its address
@@ -46,17 +45,6 @@ others : (name : List ℕ) (hosts : List Host) → address_of_name name hosts �
 others name [] is = All-nil (λ (h : Host). str_eq_ignore_ascii_case (string_bytes h.name) name ≡ false)
 others name (host ∷ hosts) is =
     other_here (str_eq_ignore_ascii_case (string_bytes host.name) name) host hosts name refl is (others name hosts)
-
-same_some : {A : Type 0} (x y : A) → Some x ≡ Some y → x ≡ y
-same_some x y e = search (rules, e)
-
--- a name has one address
-one_address : (name : List ℕ) (names : Members) (a b : SocketAddrV4) → HasAddress name names a → HasAddress name names b → a ≡ b
-one_address name names a b h k =
-    let value : h.0 ≡ k.0 = same_some h.0 k.0 (sym h.1 ∙ k.1) in
-    let text : h.2.0 ≡ k.2.0 = same_some h.2.0 k.2.0 (sym h.2.1 ∙ ap as_str value ∙ k.2.1) in
-    let P : List ℕ → Type 0 = λ t. IsSocketV4Text t a in
-    IsSocketV4Text_unique k.2.0 a b (subst P text h.2.2) k.2.2
 
 some_key : (name : List ℕ) (names : Members) (address : SocketAddrV4) → HasAddress name names address → HasKey names name
 some_key name names address has = search (rules, has.1)

@@ -6,9 +6,11 @@ use Rattle.adapt_bytes.specs.declared.limits.TheConstants.{MAX_ALLOW_LIMIT, MAX_
 use Rattle.span_bank.specs.declared.limits.TheConstants.{MAX_CAPACITY, MAX_ROWS}
 use Rattle.proxy_config.specs.declared.limits.TheConstants.{MAX_DEADLINE, MAX_JOURNAL, MAX_SHARDS, MAX_WAIT}
 use Rattle.proxy_config.specs.declared.defaults.TheConstants.{ALLOW_LIMIT, CAPACITY, DEADLINE, JOURNAL, PREVIEW_LIMIT, ROWS, SHARDS, WAIT, WINDOW}
-use Rattle.proxy_config.specs.Values.{number_or, truth_or, HasAddress}
-use Rattle.proxy_config.specs.Order.{AddressFirst, ValueFirst, IsFirst}
+use Rattle.proxy_config.specs.Values.{number_at, truth_or, HasAddress}
+use Rattle.proxy_config.specs.Order.{AddressFirst, FirstOf, ValueFirst, IsFirst}
+use Rattle.proxy_config.specs.Ports.{IsAdmin, HasAdmin}
 use Rattle.proxy_config.specs.Log.{log_of}
+use Rattle.proxy_config.specs.Tuning.{IsTuning, HasTuning, IsTuningFault}
 use Rattle.proxy_config.specs.HostNames.{IsHostsOf, IsHostFault}
 use Rattle.proxy_config.specs.Services.{IsServiceOf, HasServiceOf, IsServiceFault}
 use Rattle.proxy_config.specs.Unknown.{IsUnknown}
@@ -16,10 +18,6 @@ use Rattle.proxy_config.specs.declared.fault.ConfigFault.{ConfigFault}
 use Rattle.proxy_config.specs.declared.fault.ConfigFault.TheVariants.{Text, Key, NoMemory}
 use Rattle.proxy_config.specs.declared.config.Config.{Config}
 use Rattle.proxy_config.specs.declared.host_table.Hosts.{Hosts}
-
--- the number of a key: the default where the key is missing, none where it is no whole number of the range
-abbrev pub number_at : List ℕ → ℕ → ℕ → ℕ → Members → Option ℕ
-number_at key low high other document = number_or low high other (get_member key document)
 
 -- each number's key, range and default
 abbrev pub shards_of : Members → Option ℕ
@@ -55,7 +53,7 @@ wait_of = number_at (codes "wait") 0 MAX_WAIT WAIT
 -- the document says these values, and has no other key
 pub record IsConfig (document : Members) (config : Config) : Type 0 where
   pub listen : HasAddress (codes "listen") document config.listen
-  pub admin : HasAddress (codes "admin") document config.admin
+  pub admin : IsAdmin document config.admin
   pub shards : shards_of document ≡ Some config.shards
   pub capacity : capacity_of document ≡ Some config.capacity
   pub rows : rows_of document ≡ Some config.rows
@@ -67,6 +65,8 @@ pub record IsConfig (document : Members) (config : Config) : Type 0 where
   pub retry : retry_of document ≡ Some config.retry
   pub wait : wait_of document ≡ Some config.wait
   pub log : log_of document ≡ Some (option_map string_bytes config.log)
+  pub tuning : IsTuning document config.log_query config.metrics config.dial config.service_idle config.options_ttl config.head_deadline
+      config.connect_deadline
   pub hosts : IsHostsOf document config.hosts
   pub reqmod : IsServiceOf (codes "reqmod") document config.reqmod
   pub respmod : IsServiceOf (codes "respmod") document config.respmod
@@ -88,7 +88,7 @@ IsFirstOfTables document key =
 abbrev pub IsFirstFault : Members → List ℕ → Type 0
 IsFirstFault document key =
     AddressFirst (codes "listen") document (
-    AddressFirst (codes "admin") document (
+    FirstOf (codes "admin") (HasAdmin document) (HasAdmin document → ⊥) (
     ValueFirst (codes "shards") (shards_of document) (
     ValueFirst (codes "capacity") (capacity_of document) (
     ValueFirst (codes "rows") (rows_of document) (
@@ -100,7 +100,8 @@ IsFirstFault document key =
     ValueFirst (codes "retry") (retry_of document) (
     ValueFirst (codes "wait") (wait_of document) (
     ValueFirst (codes "log") (log_of document) (
-    IsFirstOfTables document key) key) key) key) key) key) key) key) key) key) key) key) key) key
+    IsTuningFault document key ⊎ (HasTuning document ×
+    IsFirstOfTables document key)) key) key) key) key) key) key) key) key) key) key) key) key) key
 
 -- why a text is no configuration: it is no document, or this is the first key at fault of its document
 abbrev pub Refuses : List ℕ → ConfigFault → Type 0

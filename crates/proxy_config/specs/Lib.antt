@@ -9,3 +9,5 @@ pub mod HostNames
 pub mod Unknown
 pub mod Log
 pub mod Names
+pub mod Ports
+pub mod Tuning

@@ -2,7 +2,7 @@
 use Rattle.std.specs.Prelude.{ℕ, ◌≤◌}
 use Rattle.adapt_bytes.specs.declared.limits.TheConstants.{MAX_ALLOW_LIMIT, MAX_PREVIEW, MAX_WINDOW}
 use Rattle.span_bank.specs.declared.limits.TheConstants.{MAX_CAPACITY, MAX_ROWS}
-use Rattle.proxy_config.specs.declared.limits.TheConstants.{MAX_DEADLINE, MAX_JOURNAL, MAX_SHARDS, MAX_WAIT}
+use Rattle.proxy_config.specs.declared.limits.TheConstants.{MAX_CONNECT_DEADLINE, MAX_DEADLINE, MAX_HEAD_DEADLINE, MAX_JOURNAL, MAX_OPTIONS_TTL, MAX_SERVICE_IDLE, MAX_SHARDS, MAX_WAIT}
 
 pub record IsInRange (shards capacity rows journal deadline preview_limit allow_limit window wait : ℕ) : Type 0 where
   pub some_shard : 1 ≤ shards
@@ -20,3 +20,9 @@ pub record IsInRange (shards capacity rows journal deadline preview_limit allow_
   pub some_window : 1 ≤ window
   pub small_window : window ≤ MAX_WINDOW
   pub short_wait : wait ≤ MAX_WAIT
+
+pub record AreTimes (service_idle options_ttl head_deadline connect_deadline : ℕ) : Type 0 where
+  pub few_idle : service_idle ≤ MAX_SERVICE_IDLE
+  pub few_fresh : options_ttl ≤ MAX_OPTIONS_TTL
+  pub short_head : head_deadline ≤ MAX_HEAD_DEADLINE
+  pub short_opening : connect_deadline ≤ MAX_CONNECT_DEADLINE

@@ -13,6 +13,8 @@ abbrev pub document_keys : List (List ℕ)
 document_keys =
     codes "listen" ∷ codes "admin" ∷ codes "shards" ∷ codes "capacity" ∷ codes "rows" ∷ codes "journal" ∷ codes "deadline"
     ∷ codes "preview_limit" ∷ codes "allow_limit" ∷ codes "window" ∷ codes "retry" ∷ codes "wait" ∷ codes "log"
+    ∷ codes "log_query" ∷ codes "metrics" ∷ codes "dial" ∷ codes "service_idle" ∷ codes "options_ttl" ∷ codes "head_deadline"
+    ∷ codes "connect_deadline"
     ∷ codes "hosts" ∷ codes "reqmod" ∷ codes "respmod" ∷ []
 
 -- the keys of a service's table

@@ -20,6 +20,10 @@ abbrev pub number_or : ℕ → ℕ → ℕ → Option Data → Option ℕ
 number_or low high other None = Some other
 number_or low high other (Some value) = number_in low high value
 
+-- the number of a key: the default where the key is missing, none where it is no whole number of the range
+abbrev pub number_at : List ℕ → ℕ → ℕ → ℕ → Members → Option ℕ
+number_at key low high other document = number_or low high other (get_member key document)
+
 -- the truth value that a key has: the default where the key is missing
 abbrev pub truth_or : Bool → Option Data → Option Bool
 truth_or other None = Some other

@@ -1,7 +1,8 @@
 //! The configuration as a whole.
 
-ghost use Rattle.proxy_config.specs.Sizes.{IsInRange};
+ghost use Rattle.proxy_config.specs.Sizes.{AreTimes, IsInRange};
 
+use crate::dial::Dial;
 use crate::host_table::Hosts;
 use crate::point::ServicePoint;
 use std::net::SocketAddrV4;
@@ -44,6 +45,20 @@ pub struct Config {
     pub wait: u64,
     /// The file that a line an exchange is added to, a path of 1 to 4,096 bytes without NUL; none where no log is kept.
     pub log: Option<String>,
+    /// Whether the log has what stands after the `?` of a target, and the `?`.
+    pub log_query: bool,
+    /// Where the counters are asked for over HTTP; none where they aren't served so.
+    pub metrics: Option<SocketAddrV4>,
+    /// When the connection to an origin is opened.
+    pub dial: Dial,
+    /// Seconds after which an idle connection to a service is closed: 0 to 3,600; 0 where none is kept.
+    pub service_idle: u64,
+    /// Seconds that the options of a service hold where its answer doesn't say: 0 to `2^31`; 0 where they hold for ever.
+    pub options_ttl: u64,
+    /// Seconds from the first byte of a request's head to its last: 0 to 3,600; 0 where only silence counts.
+    pub head_deadline: u64,
+    /// Seconds in which a connection to an origin or a service is open: 0 to 3,600; 0 where `deadline` holds for it.
+    pub connect_deadline: u64,
     /// Where named hosts are.
     pub hosts: Hosts,
     /// The service of requests; none where they aren't adapted.
@@ -51,4 +66,5 @@ pub struct Config {
     /// The service of responses; none where they aren't adapted.
     pub respmod: Option<ServicePoint>,
     ghost in_range: { IsInRange shards capacity rows journal deadline preview_limit allow_limit window wait },
+    ghost times: { AreTimes service_idle options_ttl head_deadline connect_deadline },
 }

@@ -27,6 +27,18 @@ pub const WINDOW: u64 = 8_192;
 /// Seconds that an exchange waits for a connection to its service.
 pub const WAIT: u64 = 0;
 
+/// Seconds that an idle connection to a service is kept.
+pub const SERVICE_IDLE: u64 = 60;
+
+/// Seconds that options hold which don't say how long.
+pub const OPTIONS_TTL: u64 = 0;
+
+/// Seconds that a request's head may take.
+pub const HEAD_DEADLINE: u64 = 0;
+
+/// Seconds that the opening of a connection may take.
+pub const CONNECT_DEADLINE: u64 = 0;
+
 /// A service's port (RFC 3507, section 4.2).
 pub const PORT: u64 = 1_344;
 

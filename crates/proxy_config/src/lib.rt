@@ -6,6 +6,7 @@
 
 mod config;
 mod defaults;
+mod dial;
 mod fault;
 mod host;
 mod host_table;
@@ -13,12 +14,15 @@ mod hosts;
 mod limits;
 mod log;
 mod point;
+mod ports;
 mod reading;
 mod services;
+mod tuning;
 mod unknown;
 mod values;
 
 pub use config::Config;
+pub use dial::Dial;
 pub use fault::ConfigFault;
 pub use host_table::Hosts;
 pub use limits::MAX_SHARDS;

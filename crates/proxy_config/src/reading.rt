@@ -1,11 +1,11 @@
 //! Reading a configuration, key after key.
 
-ghost use Rattle.std.specs.Prelude.{◌≡◌, ◌≤◌, IfOk, IfErr, Some, None};
+ghost use Rattle.std.specs.Prelude.{◌≡◌, IfOk, IfErr, Some};
 ghost use Rattle.toml.specs.Data.{Members};
 ghost use Rattle.toml.specs.View.{table_view};
 ghost use Rattle.toml.specs.Parse.{parse_document};
-ghost use Rattle.proxy_config.specs.Config.{IsConfig, IsFirstFault, Refuses, number_at};
-ghost use Rattle.proxy_config.specs.Fault.{IsFaultAt, Names};
+ghost use Rattle.proxy_config.specs.Config.{IsConfig, IsFirstFault, Refuses};
+ghost use Rattle.proxy_config.specs.Fault.{Names};
 
 use crate::config::Config;
 use crate::defaults::{
@@ -15,9 +15,11 @@ use crate::fault::{ConfigFault, needed};
 use crate::hosts::read_hosts;
 use crate::limits::{MAX_DEADLINE, MAX_JOURNAL, MAX_SHARDS, MAX_WAIT};
 use crate::log::read_log;
+use crate::ports::admin;
 use crate::services::read_point;
+use crate::tuning::read_tuning;
 use crate::unknown::check_keys;
-use crate::values::{address, number_or, truth_or};
+use crate::values::{address, number, truth_or};
 use adapt_bytes::{MAX_ALLOW_LIMIT, MAX_PREVIEW, MAX_WINDOW};
 use span_bank::{MAX_CAPACITY, MAX_ROWS};
 use std::alloc::Global;
@@ -47,7 +49,7 @@ fn read_table(alloc: Global, table: &Table) -> Result<Config, ConfigFault>
     ensures err { IfErr result (Names (IsFirstFault (table_view table.now))) }
 {
     let listen = needed(alloc, "listen", address(table, "listen"))?;
-    let admin = needed(alloc, "admin", address(table, "admin"))?;
+    let admin = needed(alloc, "admin", admin(table, listen))?;
     let shards = number(alloc, table, "shards", 1, MAX_SHARDS, SHARDS)?;
     let capacity = number(alloc, table, "capacity", 1, MAX_CAPACITY, CAPACITY)?;
     let rows = number(alloc, table, "rows", 1, MAX_ROWS, ROWS)?;
@@ -59,6 +61,7 @@ fn read_table(alloc: Global, table: &Table) -> Result<Config, ConfigFault>
     let retry = needed(alloc, "retry", truth_or(table, "retry", true))?;
     let wait = number(alloc, table, "wait", 0, MAX_WAIT, WAIT)?;
     let log = read_log(alloc, table)?;
+    let tuning = read_tuning(alloc, table, listen, admin)?;
     let hosts = read_hosts(alloc, table)?;
     let reqmod = read_point(alloc, table, "reqmod")?;
     let respmod = read_point(alloc, table, "respmod")?;
@@ -77,28 +80,15 @@ fn read_table(alloc: Global, table: &Table) -> Result<Config, ConfigFault>
         retry,
         wait,
         log,
+        log_query: tuning.log_query,
+        metrics: tuning.metrics,
+        dial: tuning.dial,
+        service_idle: tuning.service_idle,
+        options_ttl: tuning.options_ttl,
+        head_deadline: tuning.head_deadline,
+        connect_deadline: tuning.connect_deadline,
         hosts,
         reqmod,
         respmod,
     })
-}
-
-/// The number of a key, or the fault of the key.
-fn number(
-    alloc: Global,
-    table: &Table,
-    key: &str,
-    low: u64,
-    high: u64,
-    other: u64,
-) -> Result<u64, ConfigFault>
-    requires low { low ≤ other }
-    requires high { other ≤ high }
-    ensures low { IfOk result (λ n. low ≤ n) }
-    ensures high { IfOk result (λ n. n ≤ high) }
-    ensures ok { IfOk result (λ n. number_at key.now low high other (table_view table.now) ≡ Some n) }
-    ensures none { IfErr result (λ _. number_at key.now low high other (table_view table.now) ≡ None) }
-    ensures err { IfErr result (IsFaultAt key.now) }
-{
-    needed(alloc, key, number_or(table, key, low, high, other))
 }

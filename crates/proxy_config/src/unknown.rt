@@ -13,7 +13,7 @@ use std::alloc::{AllocError, Global};
 use toml::Table;
 
 /// The keys of the document.
-const KEYS: [&str; 16] = [
+const KEYS: [&str; 23] = [
     "listen",
     "admin",
     "shards",
@@ -27,6 +27,13 @@ const KEYS: [&str; 16] = [
     "retry",
     "wait",
     "log",
+    "log_query",
+    "metrics",
+    "dial",
+    "service_idle",
+    "options_ttl",
+    "head_deadline",
+    "connect_deadline",
     "hosts",
     "reqmod",
     "respmod",

@@ -1,13 +1,16 @@
 //! Single values of a table: numbers in a range, addresses, truth values.
 
-ghost use Rattle.std.specs.Prelude.{◌≡◌, ◌≢◌, ◌≤◌, ℕ, IfSome, IfNone, option_map, option_and_then};
+ghost use Rattle.std.specs.Prelude.{◌≡◌, ◌≢◌, ◌≤◌, ℕ, IfOk, IfErr, IfSome, IfNone, Some, None, option_map, option_and_then};
 ghost use Rattle.std.specs.Net.Grammar.{IsSocketV4Text};
 ghost use Rattle.std.specs.Net.Socket.{v4_port};
 ghost use Rattle.toml.specs.View.{view, table_view};
 ghost use Rattle.toml.specs.Data.{get_member, as_table};
 ghost use Rattle.std.specs.declared.net.socket_addr.SocketAddrV4.{SocketAddrV4 as AnyAddress};
-ghost use Rattle.proxy_config.specs.Values.{number_in, number_or, truth_or, IsAddress, HasAddress};
+ghost use Rattle.proxy_config.specs.Fault.{IsFaultAt};
+ghost use Rattle.proxy_config.specs.Values.{number_at, number_in, number_or, truth_or, IsAddress, HasAddress};
 
+use crate::fault::{ConfigFault, needed};
+use std::alloc::Global;
 use std::net::SocketAddrV4;
 use toml::{Table, Value};
 
@@ -54,6 +57,26 @@ pub(crate) fn number_or(table: &Table, key: &str, low: u64, high: u64, other: u6
         Some(value) => number_in(value, low, high),
         None => Some(other),
     }
+}
+
+/// The number of a key, or the fault of the key.
+pub(crate) fn number(
+    alloc: Global,
+    table: &Table,
+    key: &str,
+    low: u64,
+    high: u64,
+    other: u64,
+) -> Result<u64, ConfigFault>
+    requires low { low ≤ other }
+    requires high { other ≤ high }
+    ensures low { IfOk result (λ n. low ≤ n) }
+    ensures high { IfOk result (λ n. n ≤ high) }
+    ensures ok { IfOk result (λ n. number_at key.now low high other (table_view table.now) ≡ Some n) }
+    ensures none { IfErr result (λ _. number_at key.now low high other (table_view table.now) ≡ None) }
+    ensures err { IfErr result (IsFaultAt key.now) }
+{
+    needed(alloc, key, number_or(table, key, low, high, other))
 }
 
 /// The truth value of a key; `other` where the key is missing.

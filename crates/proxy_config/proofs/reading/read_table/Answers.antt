@@ -8,10 +8,13 @@ use Rattle.proxy_config.specs.Fault.{IsFaultAt, Names}
 use Rattle.proxy_config.specs.Config.{HasHosts, IsFirstFault, shards_of, capacity_of, rows_of, journal_of, deadline_of, preview_limit_of, allow_limit_of, window_of, retry_of, wait_of}
 use Rattle.proxy_config.specs.HostNames.{IsHostFault}
 use Rattle.proxy_config.specs.Log.{log_of}
+use Rattle.proxy_config.specs.Ports.{HasAdmin}
+use Rattle.proxy_config.specs.Tuning.{HasTuning, IsTuningFault}
 use Rattle.proxy_config.specs.Order.{IsFirst, ValueFirst}
 use Rattle.proxy_config.specs.Services.{HasServiceOf, IsServiceFault}
 use Rattle.proxy_config.specs.Unknown.{IsUnknown}
 use Rattle.proxy_config.proofs.Refusals.{names_it, names_so, passed_on}
+use Rattle.proxy_config.proofs.Tunings.{has_tuning}
 use Rattle.proxy_config.proofs.Found.{some_at, at_none, some_is, no_ok}
 use Rattle.proxy_config.proofs.reading.read_table.Goals as goal
 
@@ -32,7 +35,7 @@ pub returns-in_err-admin-clause-err : goal.returns-in_err-admin-clause-err
 returns-in_err-admin-clause-err c =
     let document = table_view c.args.table.now in
     let listen : (address : SocketAddrV4) × HasAddress (codes "listen") document address = (c.in_ok-listen.listen, some_at _ c.in_ok-listen.ensures.ok c.address.ensures.found) in
-    let bad : (address : SocketAddrV4) → HasAddress (codes "admin") document address → ⊥ = at_none c.in_err-admin.ensures.none c.address-2.ensures.none in
+    let bad : HasAdmin document → ⊥ = λ has. at_none c.in_err-admin.ensures.none c.admin.ensures.none has.0 has.1 in
     let named : IsFaultAt (codes "admin") c.in_err-admin.field-0.0 = c.in_err-admin.ensures.err in
     let first : IsFirstFault document (codes "admin") = inr (listen, inl (bad, refl)) in
     let names : Names (IsFirstFault document) c.in_err-admin.field-0.0 = names_it (codes "admin") (IsFirstFault document) first c.in_err-admin.field-0.0 named in
@@ -42,7 +45,7 @@ pub returns-in_err-shards-clause-err : goal.returns-in_err-shards-clause-err
 returns-in_err-shards-clause-err c =
     let document = table_view c.args.table.now in
     let listen : (address : SocketAddrV4) × HasAddress (codes "listen") document address = (c.in_ok-listen.listen, some_at _ c.in_ok-listen.ensures.ok c.address.ensures.found) in
-    let admin : (address : SocketAddrV4) × HasAddress (codes "admin") document address = (c.in_ok-admin.admin, some_at _ c.in_ok-admin.ensures.ok c.address-2.ensures.found) in
+    let admin : HasAdmin document = (c.in_ok-admin.admin, some_at _ c.in_ok-admin.ensures.ok c.admin.ensures.found) in
     let bad : shards_of document ≡ None = c.in_err-shards.ensures.none in
     let named : IsFaultAt (codes "shards") c.in_err-shards.field-0.0 = c.in_err-shards.ensures.err in
     let first : IsFirstFault document (codes "shards") = inr (listen, inr (admin, inl (bad, refl))) in
@@ -53,7 +56,7 @@ pub returns-in_err-capacity-clause-err : goal.returns-in_err-capacity-clause-err
 returns-in_err-capacity-clause-err c =
     let document = table_view c.args.table.now in
     let listen : (address : SocketAddrV4) × HasAddress (codes "listen") document address = (c.in_ok-listen.listen, some_at _ c.in_ok-listen.ensures.ok c.address.ensures.found) in
-    let admin : (address : SocketAddrV4) × HasAddress (codes "admin") document address = (c.in_ok-admin.admin, some_at _ c.in_ok-admin.ensures.ok c.address-2.ensures.found) in
+    let admin : HasAdmin document = (c.in_ok-admin.admin, some_at _ c.in_ok-admin.ensures.ok c.admin.ensures.found) in
     let shards : IsSome (shards_of document) = some_is c.in_ok-shards.ensures.ok in
     let bad : capacity_of document ≡ None = c.in_err-capacity.ensures.none in
     let named : IsFaultAt (codes "capacity") c.in_err-capacity.field-0.0 = c.in_err-capacity.ensures.err in
@@ -65,7 +68,7 @@ pub returns-in_err-rows-clause-err : goal.returns-in_err-rows-clause-err
 returns-in_err-rows-clause-err c =
     let document = table_view c.args.table.now in
     let listen : (address : SocketAddrV4) × HasAddress (codes "listen") document address = (c.in_ok-listen.listen, some_at _ c.in_ok-listen.ensures.ok c.address.ensures.found) in
-    let admin : (address : SocketAddrV4) × HasAddress (codes "admin") document address = (c.in_ok-admin.admin, some_at _ c.in_ok-admin.ensures.ok c.address-2.ensures.found) in
+    let admin : HasAdmin document = (c.in_ok-admin.admin, some_at _ c.in_ok-admin.ensures.ok c.admin.ensures.found) in
     let shards : IsSome (shards_of document) = some_is c.in_ok-shards.ensures.ok in
     let capacity : IsSome (capacity_of document) = some_is c.in_ok-capacity.ensures.ok in
     let bad : rows_of document ≡ None = c.in_err-rows.ensures.none in
@@ -78,7 +81,7 @@ pub returns-in_err-journal-clause-err : goal.returns-in_err-journal-clause-err
 returns-in_err-journal-clause-err c =
     let document = table_view c.args.table.now in
     let listen : (address : SocketAddrV4) × HasAddress (codes "listen") document address = (c.in_ok-listen.listen, some_at _ c.in_ok-listen.ensures.ok c.address.ensures.found) in
-    let admin : (address : SocketAddrV4) × HasAddress (codes "admin") document address = (c.in_ok-admin.admin, some_at _ c.in_ok-admin.ensures.ok c.address-2.ensures.found) in
+    let admin : HasAdmin document = (c.in_ok-admin.admin, some_at _ c.in_ok-admin.ensures.ok c.admin.ensures.found) in
     let shards : IsSome (shards_of document) = some_is c.in_ok-shards.ensures.ok in
     let capacity : IsSome (capacity_of document) = some_is c.in_ok-capacity.ensures.ok in
     let rows : IsSome (rows_of document) = some_is c.in_ok-rows.ensures.ok in
@@ -92,7 +95,7 @@ pub returns-in_err-deadline-clause-err : goal.returns-in_err-deadline-clause-err
 returns-in_err-deadline-clause-err c =
     let document = table_view c.args.table.now in
     let listen : (address : SocketAddrV4) × HasAddress (codes "listen") document address = (c.in_ok-listen.listen, some_at _ c.in_ok-listen.ensures.ok c.address.ensures.found) in
-    let admin : (address : SocketAddrV4) × HasAddress (codes "admin") document address = (c.in_ok-admin.admin, some_at _ c.in_ok-admin.ensures.ok c.address-2.ensures.found) in
+    let admin : HasAdmin document = (c.in_ok-admin.admin, some_at _ c.in_ok-admin.ensures.ok c.admin.ensures.found) in
     let shards : IsSome (shards_of document) = some_is c.in_ok-shards.ensures.ok in
     let capacity : IsSome (capacity_of document) = some_is c.in_ok-capacity.ensures.ok in
     let rows : IsSome (rows_of document) = some_is c.in_ok-rows.ensures.ok in
@@ -107,7 +110,7 @@ pub returns-in_err-preview_limit-clause-err : goal.returns-in_err-preview_limit-
 returns-in_err-preview_limit-clause-err c =
     let document = table_view c.args.table.now in
     let listen : (address : SocketAddrV4) × HasAddress (codes "listen") document address = (c.in_ok-listen.listen, some_at _ c.in_ok-listen.ensures.ok c.address.ensures.found) in
-    let admin : (address : SocketAddrV4) × HasAddress (codes "admin") document address = (c.in_ok-admin.admin, some_at _ c.in_ok-admin.ensures.ok c.address-2.ensures.found) in
+    let admin : HasAdmin document = (c.in_ok-admin.admin, some_at _ c.in_ok-admin.ensures.ok c.admin.ensures.found) in
     let shards : IsSome (shards_of document) = some_is c.in_ok-shards.ensures.ok in
     let capacity : IsSome (capacity_of document) = some_is c.in_ok-capacity.ensures.ok in
     let rows : IsSome (rows_of document) = some_is c.in_ok-rows.ensures.ok in
@@ -123,7 +126,7 @@ pub returns-in_err-allow_limit-clause-err : goal.returns-in_err-allow_limit-clau
 returns-in_err-allow_limit-clause-err c =
     let document = table_view c.args.table.now in
     let listen : (address : SocketAddrV4) × HasAddress (codes "listen") document address = (c.in_ok-listen.listen, some_at _ c.in_ok-listen.ensures.ok c.address.ensures.found) in
-    let admin : (address : SocketAddrV4) × HasAddress (codes "admin") document address = (c.in_ok-admin.admin, some_at _ c.in_ok-admin.ensures.ok c.address-2.ensures.found) in
+    let admin : HasAdmin document = (c.in_ok-admin.admin, some_at _ c.in_ok-admin.ensures.ok c.admin.ensures.found) in
     let shards : IsSome (shards_of document) = some_is c.in_ok-shards.ensures.ok in
     let capacity : IsSome (capacity_of document) = some_is c.in_ok-capacity.ensures.ok in
     let rows : IsSome (rows_of document) = some_is c.in_ok-rows.ensures.ok in
@@ -140,7 +143,7 @@ pub returns-in_err-window-clause-err : goal.returns-in_err-window-clause-err
 returns-in_err-window-clause-err c =
     let document = table_view c.args.table.now in
     let listen : (address : SocketAddrV4) × HasAddress (codes "listen") document address = (c.in_ok-listen.listen, some_at _ c.in_ok-listen.ensures.ok c.address.ensures.found) in
-    let admin : (address : SocketAddrV4) × HasAddress (codes "admin") document address = (c.in_ok-admin.admin, some_at _ c.in_ok-admin.ensures.ok c.address-2.ensures.found) in
+    let admin : HasAdmin document = (c.in_ok-admin.admin, some_at _ c.in_ok-admin.ensures.ok c.admin.ensures.found) in
     let shards : IsSome (shards_of document) = some_is c.in_ok-shards.ensures.ok in
     let capacity : IsSome (capacity_of document) = some_is c.in_ok-capacity.ensures.ok in
     let rows : IsSome (rows_of document) = some_is c.in_ok-rows.ensures.ok in
@@ -158,7 +161,7 @@ pub returns-in_err-retry-clause-err : goal.returns-in_err-retry-clause-err
 returns-in_err-retry-clause-err c =
     let document = table_view c.args.table.now in
     let listen : (address : SocketAddrV4) × HasAddress (codes "listen") document address = (c.in_ok-listen.listen, some_at _ c.in_ok-listen.ensures.ok c.address.ensures.found) in
-    let admin : (address : SocketAddrV4) × HasAddress (codes "admin") document address = (c.in_ok-admin.admin, some_at _ c.in_ok-admin.ensures.ok c.address-2.ensures.found) in
+    let admin : HasAdmin document = (c.in_ok-admin.admin, some_at _ c.in_ok-admin.ensures.ok c.admin.ensures.found) in
     let shards : IsSome (shards_of document) = some_is c.in_ok-shards.ensures.ok in
     let capacity : IsSome (capacity_of document) = some_is c.in_ok-capacity.ensures.ok in
     let rows : IsSome (rows_of document) = some_is c.in_ok-rows.ensures.ok in
@@ -177,7 +180,7 @@ pub returns-in_err-wait-clause-err : goal.returns-in_err-wait-clause-err
 returns-in_err-wait-clause-err c =
     let document = table_view c.args.table.now in
     let listen : (address : SocketAddrV4) × HasAddress (codes "listen") document address = (c.in_ok-listen.listen, some_at _ c.in_ok-listen.ensures.ok c.address.ensures.found) in
-    let admin : (address : SocketAddrV4) × HasAddress (codes "admin") document address = (c.in_ok-admin.admin, some_at _ c.in_ok-admin.ensures.ok c.address-2.ensures.found) in
+    let admin : HasAdmin document = (c.in_ok-admin.admin, some_at _ c.in_ok-admin.ensures.ok c.admin.ensures.found) in
     let shards : IsSome (shards_of document) = some_is c.in_ok-shards.ensures.ok in
     let capacity : IsSome (capacity_of document) = some_is c.in_ok-capacity.ensures.ok in
     let rows : IsSome (rows_of document) = some_is c.in_ok-rows.ensures.ok in
@@ -197,7 +200,7 @@ pub returns-in_err-log-clause-err : goal.returns-in_err-log-clause-err
 returns-in_err-log-clause-err c =
     let document = table_view c.args.table.now in
     let listen : (address : SocketAddrV4) × HasAddress (codes "listen") document address = (c.in_ok-listen.listen, some_at _ c.in_ok-listen.ensures.ok c.address.ensures.found) in
-    let admin : (address : SocketAddrV4) × HasAddress (codes "admin") document address = (c.in_ok-admin.admin, some_at _ c.in_ok-admin.ensures.ok c.address-2.ensures.found) in
+    let admin : HasAdmin document = (c.in_ok-admin.admin, some_at _ c.in_ok-admin.ensures.ok c.admin.ensures.found) in
     let shards : IsSome (shards_of document) = some_is c.in_ok-shards.ensures.ok in
     let capacity : IsSome (capacity_of document) = some_is c.in_ok-capacity.ensures.ok in
     let rows : IsSome (rows_of document) = some_is c.in_ok-rows.ensures.ok in
@@ -212,11 +215,11 @@ returns-in_err-log-clause-err c =
     let names : Names (IsFirstFault document) c.in_err-log.field-0.0 = names_so (ValueFirst (codes "log") (log_of document) ⊥) (IsFirstFault document) says_first c.in_err-log.field-0.0 c.in_err-log.ensures.err in
     passed_on c.from_residual-in_err-log.result c.in_err-log.field-0.0 (IsFirstFault document) c.from_residual-in_err-log.ensures.1 names
 
-pub returns-in_err-hosts-clause-err : goal.returns-in_err-hosts-clause-err
-returns-in_err-hosts-clause-err c =
+pub returns-in_err-tuning-clause-err : goal.returns-in_err-tuning-clause-err
+returns-in_err-tuning-clause-err c =
     let document = table_view c.args.table.now in
     let listen : (address : SocketAddrV4) × HasAddress (codes "listen") document address = (c.in_ok-listen.listen, some_at _ c.in_ok-listen.ensures.ok c.address.ensures.found) in
-    let admin : (address : SocketAddrV4) × HasAddress (codes "admin") document address = (c.in_ok-admin.admin, some_at _ c.in_ok-admin.ensures.ok c.address-2.ensures.found) in
+    let admin : HasAdmin document = (c.in_ok-admin.admin, some_at _ c.in_ok-admin.ensures.ok c.admin.ensures.found) in
     let shards : IsSome (shards_of document) = some_is c.in_ok-shards.ensures.ok in
     let capacity : IsSome (capacity_of document) = some_is c.in_ok-capacity.ensures.ok in
     let rows : IsSome (rows_of document) = some_is c.in_ok-rows.ensures.ok in
@@ -228,7 +231,28 @@ returns-in_err-hosts-clause-err c =
     let retry : IsSome (retry_of document) = some_is (sym c.truth_or.ensures ∙ c.in_ok-retry.ensures.ok) in
     let wait : IsSome (wait_of document) = some_is c.in_ok-wait.ensures.ok in
     let log : IsSome (log_of document) = some_is c.in_ok-log.ensures.ok in
-    let says_first : (key : List ℕ) → IsHostFault document key → IsFirstFault document key = λ key says. inr (listen, inr (admin, inr (shards, inr (capacity, inr (rows, inr (journal, inr (deadline, inr (preview_limit, inr (allow_limit, inr (window, inr (retry, inr (wait, inr (log, inl says))))))))))))) in
+    let says_first : (key : List ℕ) → IsTuningFault document key → IsFirstFault document key = λ key says. inr (listen, inr (admin, inr (shards, inr (capacity, inr (rows, inr (journal, inr (deadline, inr (preview_limit, inr (allow_limit, inr (window, inr (retry, inr (wait, inr (log, inl says))))))))))))) in
+    let names : Names (IsFirstFault document) c.in_err-tuning.field-0.0 = names_so (IsTuningFault document) (IsFirstFault document) says_first c.in_err-tuning.field-0.0 c.in_err-tuning.ensures.err in
+    passed_on c.from_residual-in_err-tuning.result c.in_err-tuning.field-0.0 (IsFirstFault document) c.from_residual-in_err-tuning.ensures.1 names
+
+pub returns-in_err-hosts-clause-err : goal.returns-in_err-hosts-clause-err
+returns-in_err-hosts-clause-err c =
+    let document = table_view c.args.table.now in
+    let listen : (address : SocketAddrV4) × HasAddress (codes "listen") document address = (c.in_ok-listen.listen, some_at _ c.in_ok-listen.ensures.ok c.address.ensures.found) in
+    let admin : HasAdmin document = (c.in_ok-admin.admin, some_at _ c.in_ok-admin.ensures.ok c.admin.ensures.found) in
+    let shards : IsSome (shards_of document) = some_is c.in_ok-shards.ensures.ok in
+    let capacity : IsSome (capacity_of document) = some_is c.in_ok-capacity.ensures.ok in
+    let rows : IsSome (rows_of document) = some_is c.in_ok-rows.ensures.ok in
+    let journal : IsSome (journal_of document) = some_is c.in_ok-journal.ensures.ok in
+    let deadline : IsSome (deadline_of document) = some_is c.in_ok-deadline.ensures.ok in
+    let preview_limit : IsSome (preview_limit_of document) = some_is c.in_ok-preview_limit.ensures.ok in
+    let allow_limit : IsSome (allow_limit_of document) = some_is c.in_ok-allow_limit.ensures.ok in
+    let window : IsSome (window_of document) = some_is c.in_ok-window.ensures.ok in
+    let retry : IsSome (retry_of document) = some_is (sym c.truth_or.ensures ∙ c.in_ok-retry.ensures.ok) in
+    let wait : IsSome (wait_of document) = some_is c.in_ok-wait.ensures.ok in
+    let log : IsSome (log_of document) = some_is c.in_ok-log.ensures.ok in
+    let tuning : HasTuning document = has_tuning document _ _ _ _ _ _ _ c.in_ok-tuning.ensures.ok in
+    let says_first : (key : List ℕ) → IsHostFault document key → IsFirstFault document key = λ key says. inr (listen, inr (admin, inr (shards, inr (capacity, inr (rows, inr (journal, inr (deadline, inr (preview_limit, inr (allow_limit, inr (window, inr (retry, inr (wait, inr (log, inr (tuning, inl says)))))))))))))) in
     let names : Names (IsFirstFault document) c.in_err-hosts.field-0.0 = names_so (IsHostFault document) (IsFirstFault document) says_first c.in_err-hosts.field-0.0 c.in_err-hosts.ensures.err in
     passed_on c.from_residual-in_err-hosts.result c.in_err-hosts.field-0.0 (IsFirstFault document) c.from_residual-in_err-hosts.ensures.1 names
 
@@ -236,7 +260,7 @@ pub returns-in_err-reqmod-clause-err : goal.returns-in_err-reqmod-clause-err
 returns-in_err-reqmod-clause-err c =
     let document = table_view c.args.table.now in
     let listen : (address : SocketAddrV4) × HasAddress (codes "listen") document address = (c.in_ok-listen.listen, some_at _ c.in_ok-listen.ensures.ok c.address.ensures.found) in
-    let admin : (address : SocketAddrV4) × HasAddress (codes "admin") document address = (c.in_ok-admin.admin, some_at _ c.in_ok-admin.ensures.ok c.address-2.ensures.found) in
+    let admin : HasAdmin document = (c.in_ok-admin.admin, some_at _ c.in_ok-admin.ensures.ok c.admin.ensures.found) in
     let shards : IsSome (shards_of document) = some_is c.in_ok-shards.ensures.ok in
     let capacity : IsSome (capacity_of document) = some_is c.in_ok-capacity.ensures.ok in
     let rows : IsSome (rows_of document) = some_is c.in_ok-rows.ensures.ok in
@@ -248,8 +272,9 @@ returns-in_err-reqmod-clause-err c =
     let retry : IsSome (retry_of document) = some_is (sym c.truth_or.ensures ∙ c.in_ok-retry.ensures.ok) in
     let wait : IsSome (wait_of document) = some_is c.in_ok-wait.ensures.ok in
     let log : IsSome (log_of document) = some_is c.in_ok-log.ensures.ok in
+    let tuning : HasTuning document = has_tuning document _ _ _ _ _ _ _ c.in_ok-tuning.ensures.ok in
     let hosts : HasHosts document = (c.in_ok-hosts.hosts, c.in_ok-hosts.ensures.ok) in
-    let says_first : (key : List ℕ) → IsServiceFault (codes "reqmod") document key → IsFirstFault document key = λ key says. inr (listen, inr (admin, inr (shards, inr (capacity, inr (rows, inr (journal, inr (deadline, inr (preview_limit, inr (allow_limit, inr (window, inr (retry, inr (wait, inr (log, inr (hosts, inl says)))))))))))))) in
+    let says_first : (key : List ℕ) → IsServiceFault (codes "reqmod") document key → IsFirstFault document key = λ key says. inr (listen, inr (admin, inr (shards, inr (capacity, inr (rows, inr (journal, inr (deadline, inr (preview_limit, inr (allow_limit, inr (window, inr (retry, inr (wait, inr (log, inr (tuning, inr (hosts, inl says))))))))))))))) in
     let names : Names (IsFirstFault document) c.in_err-reqmod.field-0.0 = names_so (IsServiceFault (codes "reqmod") document) (IsFirstFault document) says_first c.in_err-reqmod.field-0.0 c.in_err-reqmod.ensures.err in
     passed_on c.from_residual-in_err-reqmod.result c.in_err-reqmod.field-0.0 (IsFirstFault document) c.from_residual-in_err-reqmod.ensures.1 names
 
@@ -257,7 +282,7 @@ pub returns-in_err-respmod-clause-err : goal.returns-in_err-respmod-clause-err
 returns-in_err-respmod-clause-err c =
     let document = table_view c.args.table.now in
     let listen : (address : SocketAddrV4) × HasAddress (codes "listen") document address = (c.in_ok-listen.listen, some_at _ c.in_ok-listen.ensures.ok c.address.ensures.found) in
-    let admin : (address : SocketAddrV4) × HasAddress (codes "admin") document address = (c.in_ok-admin.admin, some_at _ c.in_ok-admin.ensures.ok c.address-2.ensures.found) in
+    let admin : HasAdmin document = (c.in_ok-admin.admin, some_at _ c.in_ok-admin.ensures.ok c.admin.ensures.found) in
     let shards : IsSome (shards_of document) = some_is c.in_ok-shards.ensures.ok in
     let capacity : IsSome (capacity_of document) = some_is c.in_ok-capacity.ensures.ok in
     let rows : IsSome (rows_of document) = some_is c.in_ok-rows.ensures.ok in
@@ -269,9 +294,10 @@ returns-in_err-respmod-clause-err c =
     let retry : IsSome (retry_of document) = some_is (sym c.truth_or.ensures ∙ c.in_ok-retry.ensures.ok) in
     let wait : IsSome (wait_of document) = some_is c.in_ok-wait.ensures.ok in
     let log : IsSome (log_of document) = some_is c.in_ok-log.ensures.ok in
+    let tuning : HasTuning document = has_tuning document _ _ _ _ _ _ _ c.in_ok-tuning.ensures.ok in
     let hosts : HasHosts document = (c.in_ok-hosts.hosts, c.in_ok-hosts.ensures.ok) in
     let reqmod : HasServiceOf (codes "reqmod") document = (c.in_ok-reqmod.reqmod, c.in_ok-reqmod.ensures.ok) in
-    let says_first : (key : List ℕ) → IsServiceFault (codes "respmod") document key → IsFirstFault document key = λ key says. inr (listen, inr (admin, inr (shards, inr (capacity, inr (rows, inr (journal, inr (deadline, inr (preview_limit, inr (allow_limit, inr (window, inr (retry, inr (wait, inr (log, inr (hosts, inr (reqmod, inl says))))))))))))))) in
+    let says_first : (key : List ℕ) → IsServiceFault (codes "respmod") document key → IsFirstFault document key = λ key says. inr (listen, inr (admin, inr (shards, inr (capacity, inr (rows, inr (journal, inr (deadline, inr (preview_limit, inr (allow_limit, inr (window, inr (retry, inr (wait, inr (log, inr (tuning, inr (hosts, inr (reqmod, inl says)))))))))))))))) in
     let names : Names (IsFirstFault document) c.in_err-respmod.field-0.0 = names_so (IsServiceFault (codes "respmod") document) (IsFirstFault document) says_first c.in_err-respmod.field-0.0 c.in_err-respmod.ensures.err in
     passed_on c.from_residual-in_err-respmod.result c.in_err-respmod.field-0.0 (IsFirstFault document) c.from_residual-in_err-respmod.ensures.1 names
 
@@ -279,7 +305,7 @@ pub returns-in_err-check_keys-clause-err : goal.returns-in_err-check_keys-clause
 returns-in_err-check_keys-clause-err c =
     let document = table_view c.args.table.now in
     let listen : (address : SocketAddrV4) × HasAddress (codes "listen") document address = (c.in_ok-listen.listen, some_at _ c.in_ok-listen.ensures.ok c.address.ensures.found) in
-    let admin : (address : SocketAddrV4) × HasAddress (codes "admin") document address = (c.in_ok-admin.admin, some_at _ c.in_ok-admin.ensures.ok c.address-2.ensures.found) in
+    let admin : HasAdmin document = (c.in_ok-admin.admin, some_at _ c.in_ok-admin.ensures.ok c.admin.ensures.found) in
     let shards : IsSome (shards_of document) = some_is c.in_ok-shards.ensures.ok in
     let capacity : IsSome (capacity_of document) = some_is c.in_ok-capacity.ensures.ok in
     let rows : IsSome (rows_of document) = some_is c.in_ok-rows.ensures.ok in
@@ -291,10 +317,11 @@ returns-in_err-check_keys-clause-err c =
     let retry : IsSome (retry_of document) = some_is (sym c.truth_or.ensures ∙ c.in_ok-retry.ensures.ok) in
     let wait : IsSome (wait_of document) = some_is c.in_ok-wait.ensures.ok in
     let log : IsSome (log_of document) = some_is c.in_ok-log.ensures.ok in
+    let tuning : HasTuning document = has_tuning document _ _ _ _ _ _ _ c.in_ok-tuning.ensures.ok in
     let hosts : HasHosts document = (c.in_ok-hosts.hosts, c.in_ok-hosts.ensures.ok) in
     let reqmod : HasServiceOf (codes "reqmod") document = (c.in_ok-reqmod.reqmod, c.in_ok-reqmod.ensures.ok) in
     let respmod : HasServiceOf (codes "respmod") document = (c.in_ok-respmod.respmod, c.in_ok-respmod.ensures.ok) in
-    let says_first : (key : List ℕ) → IsFirst (IsUnknown document) key → IsFirstFault document key = λ key says. inr (listen, inr (admin, inr (shards, inr (capacity, inr (rows, inr (journal, inr (deadline, inr (preview_limit, inr (allow_limit, inr (window, inr (retry, inr (wait, inr (log, inr (hosts, inr (reqmod, inr (respmod, says)))))))))))))))) in
+    let says_first : (key : List ℕ) → IsFirst (IsUnknown document) key → IsFirstFault document key = λ key says. inr (listen, inr (admin, inr (shards, inr (capacity, inr (rows, inr (journal, inr (deadline, inr (preview_limit, inr (allow_limit, inr (window, inr (retry, inr (wait, inr (log, inr (tuning, inr (hosts, inr (reqmod, inr (respmod, says))))))))))))))))) in
     let names : Names (IsFirstFault document) c.in_err-check_keys.field-0.0 = names_so (IsFirst (IsUnknown document)) (IsFirstFault document) says_first c.in_err-check_keys.field-0.0 c.in_err-check_keys.ensures.err in
     passed_on c.from_residual-in_err-check_keys.result c.in_err-check_keys.field-0.0 (IsFirstFault document) c.from_residual-in_err-check_keys.ensures.1 names
 
@@ -337,6 +364,9 @@ returns-in_err-wait-clause-ok c = no_ok c.from_residual-in_err-wait.result _ _ c
 pub returns-in_err-log-clause-ok : goal.returns-in_err-log-clause-ok
 returns-in_err-log-clause-ok c = no_ok c.from_residual-in_err-log.result _ _ c.from_residual-in_err-log.ensures.1
 
+pub returns-in_err-tuning-clause-ok : goal.returns-in_err-tuning-clause-ok
+returns-in_err-tuning-clause-ok c = no_ok c.from_residual-in_err-tuning.result _ _ c.from_residual-in_err-tuning.ensures.1
+
 pub returns-in_err-hosts-clause-ok : goal.returns-in_err-hosts-clause-ok
 returns-in_err-hosts-clause-ok c = no_ok c.from_residual-in_err-hosts.result _ _ c.from_residual-in_err-hosts.ensures.1
 
@@ -352,7 +382,7 @@ returns-in_err-check_keys-clause-ok c = no_ok c.from_residual-in_err-check_keys.
 pub returns-clause-ok : goal.returns-clause-ok
 returns-clause-ok c = record {
   listen = some_at _ c.in_ok-listen.ensures.ok c.address.ensures.found;
-  admin = some_at _ c.in_ok-admin.ensures.ok c.address-2.ensures.found;
+  admin = some_at _ c.in_ok-admin.ensures.ok c.admin.ensures.found;
   shards = c.in_ok-shards.ensures.ok;
   capacity = c.in_ok-capacity.ensures.ok;
   rows = c.in_ok-rows.ensures.ok;
@@ -364,6 +394,7 @@ returns-clause-ok c = record {
   retry = sym c.truth_or.ensures ∙ c.in_ok-retry.ensures.ok;
   wait = c.in_ok-wait.ensures.ok;
   log = c.in_ok-log.ensures.ok;
+  tuning = c.in_ok-tuning.ensures.ok;
   hosts = c.in_ok-hosts.ensures.ok;
   reqmod = c.in_ok-reqmod.ensures.ok;
   respmod = c.in_ok-respmod.ensures.ok;
