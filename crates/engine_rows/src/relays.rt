@@ -4,8 +4,7 @@ ghost use Rattle.trace_core.specs.History.{shows};
 ghost use Rattle.adapt_sides.specs.Tapes.{KeepsUndelivered};
 
 use crate::kept::Kept;
-use crate::replies::MAX_IDLE;
-use http_relay::{HopWriter, RelayFault, SourceSide, Turn};
+use http_relay::{HeadProgress, HopWriter, RelayFault, SourceSide, Turn};
 use http_side::{
     BodyKind, Forward, Framing, HttpFault, HttpRequest, Message, forward_head, read_request,
 };
@@ -15,6 +14,9 @@ use test_rows::{NoMemory, put_line, put_shown};
 use trace_core::{Kind, Plan, Point, State};
 use wire_kit::{MemoryWire, Wire};
 use wire_rows::{Scene, Values, put_text, wire};
+
+/// The most turns in a row in which no byte moves: in each an interim response may be dropped, all of which came with one read.
+const MAX_STILL: usize = 40;
 
 /// How a message ended.
 #[derive(Clone, Copy, Debug, PartialEq, Eq)]
@@ -128,7 +130,8 @@ impl Ends for Wired {
         if !self.hop.is_idle() {
             return Ok(Some(self.source.read_turn(&mut self.from, out)?));
         }
-        if self.source.head_turn(&mut self.from)? && self.begin(alloc).is_err() {
+        let came = self.source.head_turn(&mut self.from)?;
+        if came == HeadProgress::Taken && self.begin(alloc).is_err() {
             return Err(RelayFault::NoMemory);
         }
         Ok(None)
@@ -205,7 +208,7 @@ impl<'a, E: Ends> Exchange<'a, E> {
             }
             let same = self.ends.counts() == before;
             idle = if same { idle.saturating_add(1) } else { 0 };
-            if idle > MAX_IDLE {
+            if idle > MAX_STILL {
                 break;
             }
         }

@@ -8,7 +8,9 @@ use Rattle.http_side.specs.Heads.{RequestParts, ResponseParts}
 use Rattle.http_side.specs.Body.{HasRead}
 use Rattle.http_side.specs.Requests.{IsRead}
 use Rattle.http_side.specs.Responses.{IsResponseRead}
-use Rattle.http_relay.specs.Reading.{AtHead, Begins, IsBefore, IsHeadText, IsInterim, IsFinal, framing_of}
+use Rattle.http_relay.specs.declared.side.head.TheConstants.{MAX_INTERIMS}
+use Rattle.http_relay.specs.Judging.{IsInterim}
+use Rattle.http_relay.specs.Reading.{AtHead, Begins, AreInterims, IsBefore, IsHeadText, IsFinal, framing_of}
 use Rattle.http_relay.specs.Reading.AreInterims.{nothing, further}
 use Rattle.http_relay.specs.declared.side.SourceSide.{SourceSide}
 use Rattle.http_relay.specs.declared.side.SourceHead.{SourceHead}
@@ -68,7 +70,7 @@ begins old new n a r h way fresh going zero read s x count going_on = (
     text_is =
         let joined : take n old.raw.items ++ new.raw.items ≡ old.raw.items = ap (λ (t : List ℕ). take n old.raw.items ++ t) r ∙ take-append-drop n old.raw.items in
         s.text_is ∙ (ap (λ (t : List ℕ). s.before ++ t) (sym joined) ∙ sym (append_assoc s.before (take n old.raw.items) new.raw.items));
-    interims = subst (λ (t : Asks). IsBefore t s.before) (sym a) s.interims;
+    interims = (old.interims, subst (λ (t : Asks). IsBefore t old.interims s.before) (sym a) s.interims);
     head = subst (λ (t : Asks). IsHeadText t new.head (take n old.raw.items)) (sym a) h;
     way = way;
     body_read = record { count = count; ended = going_on ∙ sym going; reads = fresh; whole = λ w. let odd : true ≡ false = sym w ∙ going in cc };
@@ -90,33 +92,39 @@ begins_response old new n r to_head q a d l h is last way fresh going zero =
 
 -- an interim response was dropped
 pub drops_interim : (old new : SourceSide) (n : ℕ) (r : ResponseParts) (to_head : Bool) → old.asks ≡ asks.Response to_head → new.asks ≡ old.asks → new.head ≡ old.head → new.raw.items ≡ drop n old.raw.items → n ≤ length old.raw.items → IsResponseRead to_head old.raw.items r n → IsInterim r
-    → (read : List ℕ) → AtHead read old → AtHead read new
-drops_interim old new n r to_head q a h d l is between read s = record {
+    → old.interims < MAX_INTERIMS → new.interims ≡ old.interims + 1 → (read : List ℕ) → AtHead read old → AtHead read new
+drops_interim old new n r to_head q a h d l is between few one read s = record {
   before = s.before ++ take n old.raw.items;
   text_is =
       let joined : take n old.raw.items ++ new.raw.items ≡ old.raw.items = ap (λ (t : List ℕ). take n old.raw.items ++ t) d ∙ take-append-drop n old.raw.items in
       s.text_is ∙ (ap (λ (t : List ℕ). s.before ++ t) (sym joined) ∙ sym (append_assoc s.before (take n old.raw.items) new.raw.items));
-  interims = subst (λ (t : Asks). IsBefore t (s.before ++ take n old.raw.items)) (sym (a ∙ q))
-      (further s.before (take n old.raw.items) r (subst (λ (t : Asks). IsBefore t s.before) q s.interims) (response_alone old.raw.items r n to_head is) between);
+  interims =
+      let before = subst (λ (t : Asks). IsBefore t old.interims s.before) q s.interims in
+      let text = s.before ++ take n old.raw.items in
+      let next : AreInterims to_head (old.interims + 1) text = further old.interims s.before (take n old.raw.items) r before.1 (response_alone old.raw.items r n to_head is) between in
+      subst (λ (t : Asks). IsBefore t new.interims text) (sym (a ∙ q)) (omega (arith, few, one), subst (λ (k : ℕ). AreInterims to_head k text) (sym one) next);
   unread = h ∙ s.unread;
 }
 
+pub counted : (a b : Asks) (m n : ℕ) (text : List ℕ) → b ≡ a → n ≡ m → IsBefore a m text → IsBefore b n text
+counted a b m n text same e h = subst (λ (t : Asks). IsBefore t n text) (sym same) (subst (λ (k : ℕ). IsBefore a k text) (sym e) h)
+
 -- nothing was taken
-pub still_at_head : (old new : SourceSide) → new.asks ≡ old.asks → new.head ≡ old.head → new.raw.items ≡ old.raw.items → (read : List ℕ) → AtHead read old → AtHead read new
-still_at_head old new a h r read s = record {
+pub still_at_head : (old new : SourceSide) → new.asks ≡ old.asks → new.head ≡ old.head → new.raw.items ≡ old.raw.items → new.interims ≡ old.interims → (read : List ℕ) → AtHead read old → AtHead read new
+still_at_head old new a h r n read s = record {
   before = s.before;
   text_is = s.text_is ∙ ap (λ (t : List ℕ). s.before ++ t) (sym r);
-  interims = subst (λ (t : Asks). IsBefore t s.before) (sym a) s.interims;
+  interims = counted old.asks new.asks old.interims new.interims s.before a n s.interims;
   unread = h ∙ s.unread;
 }
 
 -- before the first byte
-before_none : (a : Asks) → IsBefore a []
-before_none asks.Request = refl
-before_none (asks.Response to_head) = nothing
+before_none : (a : Asks) → IsBefore a 0 []
+before_none asks.Request = (refl, refl)
+before_none (asks.Response to_head) = (omega arith, nothing)
 
-pub fresh_at_head : (s : SourceSide) → s.head ≡ heads.Unread → AtHead s.raw.items s
-fresh_at_head s u = record { before = []; text_is = refl; interims = before_none s.asks; unread = u }
+pub fresh_at_head : (s : SourceSide) → s.head ≡ heads.Unread → s.interims ≡ 0 → AtHead s.raw.items s
+fresh_at_head s u z = record { before = []; text_is = refl; interims = counted s.asks s.asks 0 s.interims [] refl z (before_none s.asks); unread = u }
 
 short_front : (raw head rest : List ℕ) → take 16384 raw ≡ head ++ rest → length head ≤ length raw
 short_front raw head rest e = omega (arith, length-append head rest, ap (λ (t : List ℕ). length t) e, length-take 16384 raw)

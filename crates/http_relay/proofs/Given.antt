@@ -7,7 +7,6 @@ use Rattle.trace_core.specs.declared.history.Seen.{Seen}
 use Rattle.chunk_writer.specs.Cut.{IsCut, Run}
 use Rattle.chunk_writer.specs.Cut.Run.{between, inside}
 use Rattle.chunk_writer.specs.Writer.{Writer, waiting, begun, fixed, after_data}
-use Rattle.chunk_writer.specs.Behind.{WaitsBehind}
 use Rattle.chunk_writer.proofs.Rests.{waits_passed, waits_none, waits_end, waits_next, waits_last}
 use Rattle.chunk_writer.proofs.Runs.{run_begun, run_on, run_closed}
 use Rattle.chunk_writer.proofs.Moving.{fixed_next}

@@ -1,15 +1,15 @@
 -- Turns at the head, by what the wire gave.
-use Rattle.std.proofs.Common.{◌≡◌, ℕ, ◌<◌, ◌⊎◌, inl, inr, Bool, true, false, List, [], ◌++◌, length, take, drop, refl, ap, sym, subst, ◌∙◌, append_assoc, append-nil, length-append, arith, Result, Ok, Err, Option, Some, None, IfSome, IfOk}
+use Rattle.std.proofs.Common.{◌≡◌, ℕ, ◌+◌, ◌<◌, ◌⊎◌, inl, inr, false, List, [], ◌++◌, length, take, drop, refl, ap, sym, subst, ◌∙◌, append_assoc, append-nil, length-append, arith, Result, Ok, Err, Option, Some, None, IfSome, IfOk}
 use Rattle.std.proofs.lemmas.List.{take-append-le}
 use Rattle.std.proofs.Math.Seq.{take-length, drop-length}
 use Rattle.http_side.specs.declared.fault.HttpFault.{HttpFault}
 use Rattle.http_side.specs.declared.fault.HttpFault.TheVariants.{More, Bad, TooLong, TooMany, BothLengths, Lengths, Coding, Target, Connect}
 use Rattle.http_side.specs.declared.fault.HttpFault.TheVariants as http
 use Rattle.adapt_bytes.specs.Text.{has_line}
-use Rattle.http_relay.specs.Judging.{RefusesBytes, IsSwitching, IsLooking, HasNoHead, RefusesHead, LacksMemory, Scans, Looks}
+use Rattle.http_relay.specs.Judging.{RefusesBytes, IsSwitching, IsOneTooMany, IsLooking, HasNoHead, RefusesHead, LacksMemory, JudgesHead, Looks, interims_in}
 use Rattle.wire_kit.specs.Past.{Past}
 use Rattle.wire_kit.specs.declared.wire.Got.TheVariants as got
-use Rattle.http_relay.specs.Reading.{AtHead, GivesBack, Begins, SideRead, SideReads, JudgesHeadTo, ScannedTo, FitsHead, HeadTurn, IsBefore}
+use Rattle.http_relay.specs.Reading.{AtHead, GivesBack, Begins, SideRead, SideReads, JudgesHeadTo, FitsHead, HeadTurn}
 use Rattle.adapt_sides.specs.Filling.{IsFilled}
 use Rattle.http_relay.specs.Source.{Agrees}
 use Rattle.http_relay.specs.Message.{length_of}
@@ -24,34 +24,36 @@ use Rattle.http_relay.specs.declared.side.head.HeadProgress.{HeadProgress}
 use Rattle.http_relay.specs.declared.side.head.HeadProgress.TheVariants as progress
 use Rattle.adapt_sides.specs.declared.filling.Filled.TheVariants as filled
 use Rattle.http_relay.specs.declared.side.SourceSide.{SourceSide}
-use Rattle.http_relay.proofs.Beginning.{still_at_head}
+use Rattle.http_relay.proofs.Beginning.{counted, still_at_head}
 use Rattle.http_relay.proofs.Turning.{SameSide, none_read, bytes_read}
 
-filled_at_head : (old new : SourceSide) (delta : List ℕ) → SameSide old new → new.raw.items ≡ old.raw.items ++ delta → (read : List ℕ) → AtHead read old → AtHead (read ++ delta) new
-filled_at_head old new delta m r read s = record {
+-- what judging looks at
+pub record SameLook (old new : SourceSide) : Type 0 where
+  pub judged : new.judged ≡ old.judged
+  pub interims : new.interims ≡ old.interims
+  pub head_fault : new.head_fault ≡ old.head_fault
+
+filled_at_head : (old new : SourceSide) (delta : List ℕ) → SameSide old new → SameLook old new → new.raw.items ≡ old.raw.items ++ delta → (read : List ℕ) → AtHead read old → AtHead (read ++ delta) new
+filled_at_head old new delta m same r read s = record {
   before = s.before;
   text_is = ap (λ (t : List ℕ). t ++ delta) s.text_is ∙ (append_assoc s.before old.raw.items delta ∙ ap (λ (t : List ℕ). s.before ++ t) (sym r));
-  interims = subst (λ (t : Asks). IsBefore t s.before) (sym m.asks) s.interims;
+  interims = counted old.asks new.asks old.interims new.interims s.before m.asks same.interims s.interims;
   unread = m.head ∙ s.unread;
 }
 
 -- ---- what was judged
 
 -- judging refuses nothing that a turn doesn't
-scans_looks : (result : Result Bool RelayFault) (s : SourceSide) → Scans result s → Looks result s
-scans_looks (Ok true) s h = h
-scans_looks (Ok false) s h = h
-scans_looks (Err Head) s h = h
-scans_looks (Err NoMemory) s h = inl h
-scans_looks (Err Closed) s h = absurd h
-scans_looks (Err Device) s h = absurd h
-scans_looks (Err Chunk) s h = absurd h
-scans_looks (Err Length) s h = absurd h
-
--- what judging looks at
-pub record SameLook (old new : SourceSide) : Type 0 where
-  pub judged : new.judged ≡ old.judged
-  pub head_fault : new.head_fault ≡ old.head_fault
+judged_looks : (result : Result HeadProgress RelayFault) (s : SourceSide) → JudgesHead result s → Looks result s
+judged_looks (Ok progress.More) s h = h
+judged_looks (Ok progress.Interim) s h = h
+judged_looks (Ok progress.Taken) s h = h
+judged_looks (Err Head) s h = h
+judged_looks (Err NoMemory) s h = inl h
+judged_looks (Err Closed) s h = absurd h
+judged_looks (Err Device) s h = absurd h
+judged_looks (Err Chunk) s h = absurd h
+judged_looks (Err Length) s h = absurd h
 
 -- the bytes that were judged stay in front
 looks_on : (old new : SourceSide) (delta : List ℕ) → new.asks ≡ old.asks → SameLook old new → new.raw.items ≡ old.raw.items ++ delta → IsLooking old → IsLooking new
@@ -80,27 +82,34 @@ switching_on old new a r h = subst (λ (t : Asks). IsSwitching t new.raw.items) 
 bytes_on : (old new : SourceSide) (fault : HttpFault) → new.asks ≡ old.asks → new.raw.items ≡ old.raw.items → RefusesBytes old.asks old.raw.items fault → RefusesBytes new.asks new.raw.items fault
 bytes_on old new fault a r h = subst (λ (t : Asks). RefusesBytes t new.raw.items fault) (sym a) (subst (λ (t : List ℕ). RefusesBytes old.asks t fault) (sym r) h)
 
-refuses_on : (old new : SourceSide) (why : Option HttpFault) → new.asks ≡ old.asks → new.raw.items ≡ old.raw.items → RefusesHead old why → RefusesHead new why
-refuses_on old new (Some More) a r h = h
-refuses_on old new (Some Bad) a r h = bytes_on old new Bad a r h
-refuses_on old new (Some TooLong) a r h = bytes_on old new TooLong a r h
-refuses_on old new (Some TooMany) a r h = bytes_on old new TooMany a r h
-refuses_on old new (Some BothLengths) a r h = bytes_on old new BothLengths a r h
-refuses_on old new (Some Lengths) a r h = bytes_on old new Lengths a r h
-refuses_on old new (Some Coding) a r h = bytes_on old new Coding a r h
-refuses_on old new (Some Target) a r h = bytes_on old new Target a r h
-refuses_on old new (Some Connect) a r h = bytes_on old new Connect a r h
-refuses_on old new (Some http.NoMemory) a r h = h
-refuses_on old new None a r h = switching_on old new a r h
+too_many_on : (old new : SourceSide) → new.asks ≡ old.asks → new.raw.items ≡ old.raw.items → new.interims ≡ old.interims
+    → IsOneTooMany old.asks old.raw.items old.interims → IsOneTooMany new.asks new.raw.items new.interims
+too_many_on old new a r n h =
+    subst (λ (t : Asks). IsOneTooMany t new.raw.items new.interims) (sym a)
+    (subst (λ (t : List ℕ). IsOneTooMany old.asks t new.interims) (sym r) (subst (λ (k : ℕ). IsOneTooMany old.asks old.raw.items k) (sym n) h))
+
+refuses_on : (old new : SourceSide) (why : Option HttpFault) → new.asks ≡ old.asks → new.raw.items ≡ old.raw.items → new.interims ≡ old.interims → RefusesHead old why → RefusesHead new why
+refuses_on old new (Some More) a r n h = h
+refuses_on old new (Some Bad) a r n h = bytes_on old new Bad a r h
+refuses_on old new (Some TooLong) a r n h = bytes_on old new TooLong a r h
+refuses_on old new (Some TooMany) a r n h = bytes_on old new TooMany a r h
+refuses_on old new (Some BothLengths) a r n h = bytes_on old new BothLengths a r h
+refuses_on old new (Some Lengths) a r n h = bytes_on old new Lengths a r h
+refuses_on old new (Some Coding) a r n h = bytes_on old new Coding a r h
+refuses_on old new (Some Target) a r n h = bytes_on old new Target a r h
+refuses_on old new (Some Connect) a r n h = bytes_on old new Connect a r h
+refuses_on old new (Some http.NoMemory) a r n h = h
+refuses_on old new None a r n h = elim h [ inl x ↦ inl (switching_on old new a r x) | inr x ↦ inr (too_many_on old new a r n x) ]
 
 lacks_on : (old new : SourceSide) → new.asks ≡ old.asks → SameLook old new → new.raw.items ≡ old.raw.items → LacksMemory old → LacksMemory new
 lacks_on old new a m r h = record { fault = m.head_fault ∙ h.fault; cause = bytes_on old new http.NoMemory a r h.cause }
 
 -- what a turn says stays said
-pub looks_same : (old new : SourceSide) (result : Result Bool RelayFault) → new.asks ≡ old.asks → new.head ≡ old.head → SameLook old new → new.raw.items ≡ old.raw.items → Looks result old → Looks result new
-looks_same old new (Ok true) a u m r h = λ e. h (sym u ∙ e)
-looks_same old new (Ok false) a u m r h = none_on old new a m r h
-looks_same old new (Err Head) a u m r h = subst (λ (w : Option HttpFault). RefusesHead new w) (sym m.head_fault) (refuses_on old new old.head_fault a r h)
+pub looks_same : (old new : SourceSide) (result : Result HeadProgress RelayFault) → new.asks ≡ old.asks → new.head ≡ old.head → SameLook old new → new.raw.items ≡ old.raw.items → Looks result old → Looks result new
+looks_same old new (Ok progress.More) a u m r h = none_on old new a m r h
+looks_same old new (Ok progress.Interim) a u m r h = looks_on old new [] a m (r ∙ sym (append-nil old.raw.items)) h
+looks_same old new (Ok progress.Taken) a u m r h = λ e. h (sym u ∙ e)
+looks_same old new (Err Head) a u m r h = subst (λ (w : Option HttpFault). RefusesHead new w) (sym m.head_fault) (refuses_on old new old.head_fault a r m.interims h)
 looks_same old new (Err NoMemory) a u m r h = elim h [ inl x ↦ inl (lacks_on old new a m r x) | inr x ↦ inr (none_on old new a m r x) ]
 looks_same old new (Err Closed) a u m r h = none_on old new a m r h
 looks_same old new (Err Device) a u m r h = none_on old new a m r h
@@ -125,12 +134,12 @@ more_is_few asks.Request raw h = h.1
 more_is_few (asks.Response to_head) raw h = h.1
 
 -- a refusal leaves the head to come
-pub still_refused : (old new : SourceSide) (result : Result HeadProgress RelayFault) → new.asks ≡ old.asks → new.head ≡ heads.Unread → new.raw.items ≡ old.raw.items → IfOk result (λ j. (j ≡ progress.More) × (length new.raw.items < 16384))
+pub still_refused : (old new : SourceSide) (result : Result HeadProgress RelayFault) → new.asks ≡ old.asks → new.head ≡ heads.Unread → new.raw.items ≡ old.raw.items → new.interims ≡ old.interims → IfOk result (λ j. (j ≡ progress.More) × (length new.raw.items < 16384))
     → (read : List ℕ) → AtHead read old → JudgesHeadTo result read new
-still_refused old new (Ok progress.More) a u r m read s = still_at_head old new a (u ∙ sym s.unread) r read s
-still_refused old new (Ok progress.Interim) a u r m read s = still_at_head old new a (u ∙ sym s.unread) r read s
-still_refused old new (Ok progress.Taken) a u r m read s = let odd : progress.Taken ≡ progress.More = m.0 in cc
-still_refused old new (Err fault) a u r m read s = still_at_head old new a (u ∙ sym s.unread) r read s
+still_refused old new (Ok progress.More) a u r n m read s = still_at_head old new a (u ∙ sym s.unread) r n read s
+still_refused old new (Ok progress.Interim) a u r n m read s = still_at_head old new a (u ∙ sym s.unread) r n read s
+still_refused old new (Ok progress.Taken) a u r n m read s = let odd : progress.Taken ≡ progress.More = m.0 in cc
+still_refused old new (Err fault) a u r n m read s = still_at_head old new a (u ∙ sym s.unread) r n read s
 
 -- all raw bytes were judged, and more may make a head of them
 pub judged_all : (old new : SourceSide) → new.asks ≡ old.asks → new.head_fault ≡ old.head_fault → new.raw.items ≡ old.raw.items → new.judged ≡ length old.raw.items
@@ -155,90 +164,97 @@ no_wire_fault : (f : RelayFault) → (f ≡ Head) ⊎ (f ≡ NoMemory) → (f �
 no_wire_fault f (inl e) = (λ c. let odd : Closed ≡ Head = sym c ∙ e in cc, λ c. let odd : Device ≡ Head = sym c ∙ e in cc)
 no_wire_fault f (inr e) = (λ c. let odd : Closed ≡ NoMemory = sym c ∙ e in cc, λ c. let odd : Device ≡ NoMemory = sym c ∙ e in cc)
 
-none_fits : (result : Result Bool RelayFault) → (result ≡ Ok false → ⊥) → ((f : RelayFault) → result ≡ Err f → (f ≡ Head) ⊎ (f ≡ NoMemory)) → FitsHead None result
-none_fits (Ok true) not only = refl
-none_fits (Ok false) not only = absurd (not refl)
+none_fits : (result : Result HeadProgress RelayFault) → (result ≡ Ok progress.More → ⊥) → ((f : RelayFault) → result ≡ Err f → (f ≡ Head) ⊎ (f ≡ NoMemory)) → FitsHead None result
+none_fits (Ok progress.More) not only = absurd (not refl)
+none_fits (Ok progress.Interim) not only = λ e. cc
+none_fits (Ok progress.Taken) not only = λ e. cc
 none_fits (Err f) not only = no_wire_fault f (only f refl)
 
-bytes_fit : (n : ℕ) (result : Result Bool RelayFault) → ((f : RelayFault) → result ≡ Err f → (f ≡ Head) ⊎ (f ≡ NoMemory)) → FitsHead (Some (got.Bytes n)) result
-bytes_fit n (Ok found) only = tt
+bytes_fit : (n : ℕ) (result : Result HeadProgress RelayFault) → ((f : RelayFault) → result ≡ Err f → (f ≡ Head) ⊎ (f ≡ NoMemory)) → FitsHead (Some (got.Bytes n)) result
+bytes_fit n (Ok came) only = tt
 bytes_fit n (Err f) only = no_wire_fault f (only f refl)
 
 -- the raw bytes decided
-pub head_scanned : (old new : SourceSide) (P : Past → Type 0) (result : Result Bool RelayFault) → (result ≡ Ok false → ⊥) → ((f : RelayFault) → result ≡ Err f → (f ≡ Head) ⊎ (f ≡ NoMemory))
-    → ((read : List ℕ) → AtHead read old → ScannedTo result read new) → (IsLooking old → Scans result new) → HeadTurn old new P P result
-head_scanned old new P result not only h j = record {
+pub head_judged : (old new : SourceSide) (P : Past → Type 0) (result : Result HeadProgress RelayFault) → (result ≡ Ok progress.More → ⊥) → ((f : RelayFault) → result ≡ Err f → (f ≡ Head) ⊎ (f ≡ NoMemory))
+    → new.interims ≡ old.interims + interims_in result → ((read : List ℕ) → AtHead read old → JudgesHeadTo result read new) → (IsLooking old → JudgesHead result new) → HeadTurn old new P P result
+head_judged old new P result not only n h j = record {
   delta = [];
   answer = None;
   wire = none_read P;
   due = tt;
   fits = none_fits result not only;
-  heads = λ read s. subst (λ (t : List ℕ). ScannedTo result t new) (sym (append-nil read)) (h read s);
-  looks = λ l. scans_looks result new (j l);
+  count = n;
+  heads = λ read s. subst (λ (t : List ℕ). JudgesHeadTo result t new) (sym (append-nil read)) (h read s);
+  looks = λ l. judged_looks result new (j l);
 }
 
 -- they didn't, and bytes came
-pub head_bytes : (old mid more new : SourceSide) (P Q : Past → Type 0) (result : Result Bool RelayFault) → ((read : List ℕ) → AtHead read old → AtHead read mid) → SameSide mid more
-    → IsFilled P Q mid.raw.items more.raw.items filled.Bytes → ((f : RelayFault) → result ≡ Err f → (f ≡ Head) ⊎ (f ≡ NoMemory)) → ((read : List ℕ) → AtHead read more → ScannedTo result read new)
-    → SameLook mid more → (IsLooking old → HasNoHead mid) → (IsLooking more → Scans result new) → HeadTurn old new P Q result
-head_bytes old mid more new P Q result a m f only h same j on = record {
+pub head_bytes : (old mid more new : SourceSide) (P Q : Past → Type 0) (result : Result HeadProgress RelayFault) → mid.interims ≡ old.interims → new.interims ≡ more.interims + interims_in result → ((read : List ℕ) → AtHead read old → AtHead read mid) → SameSide mid more
+    → IsFilled P Q mid.raw.items more.raw.items filled.Bytes → ((f : RelayFault) → result ≡ Err f → (f ≡ Head) ⊎ (f ≡ NoMemory)) → ((read : List ℕ) → AtHead read more → JudgesHeadTo result read new)
+    → SameLook mid more → (IsLooking old → HasNoHead mid) → (IsLooking more → JudgesHead result new) → HeadTurn old new P Q result
+head_bytes old mid more new P Q result n k a m f only h same j on = record {
   delta = f.0;
   answer = Some (got.Bytes (length f.0));
   wire = bytes_read P Q f.0 f.1 f.3;
   due = (mid, a, j);
   fits = bytes_fit (length f.0) result only;
-  heads = λ read s. h (read ++ f.0) (filled_at_head mid more f.0 m f.2 read (a read s));
-  looks = λ l. scans_looks result new (on (looks_on mid more f.0 m.asks same f.2 (j l).looking));
+  count = k ∙ ap (λ (c : ℕ). c + interims_in result) (same.interims ∙ n);
+  heads = λ read s. h (read ++ f.0) (filled_at_head mid more f.0 m same f.2 read (a read s));
+  looks = λ l. judged_looks result new (on (looks_on mid more f.0 m.asks same f.2 (j l).looking));
 }
 
-stays_at_head : (old mid new : SourceSide) → ((read : List ℕ) → AtHead read old → AtHead read mid) → SameSide mid new → new.raw.items ≡ mid.raw.items → (read : List ℕ) → AtHead read old → AtHead (read ++ []) new
-stays_at_head old mid new a m r read s = filled_at_head mid new [] m (r ∙ sym (append-nil mid.raw.items)) read (a read s)
+stays_at_head : (old mid new : SourceSide) → ((read : List ℕ) → AtHead read old → AtHead read mid) → SameSide mid new → SameLook mid new → new.raw.items ≡ mid.raw.items → (read : List ℕ) → AtHead read old → AtHead (read ++ []) new
+stays_at_head old mid new a m same r read s = filled_at_head mid new [] m same (r ∙ sym (append-nil mid.raw.items)) read (a read s)
 
-pub head_waited : (old mid new : SourceSide) (P Q : Past → Type 0) → ((read : List ℕ) → AtHead read old → AtHead read mid) → SameSide mid new → IsFilled P Q mid.raw.items new.raw.items filled.Wait
-    → SameLook mid new → (IsLooking old → HasNoHead mid) → HeadTurn old new P Q (Ok false)
-head_waited old mid new P Q a m f same j = record {
+pub head_waited : (old mid new : SourceSide) (P Q : Past → Type 0) → mid.interims ≡ old.interims → ((read : List ℕ) → AtHead read old → AtHead read mid) → SameSide mid new → IsFilled P Q mid.raw.items new.raw.items filled.Wait
+    → SameLook mid new → (IsLooking old → HasNoHead mid) → HeadTurn old new P Q (Ok progress.More)
+head_waited old mid new P Q n a m f same j = record {
   delta = [];
   answer = Some got.Wait;
   wire = record { each = f.1; fits = refl };
   due = (mid, a, j);
   fits = refl;
-  heads = stays_at_head old mid new a m f.0;
+  count = omega (arith, same.interims, n);
+  heads = stays_at_head old mid new a m same f.0;
   looks = λ l. none_on mid new m.asks same f.0 (j l);
 }
 
-pub head_ended : (old mid new : SourceSide) (P Q : Past → Type 0) → ((read : List ℕ) → AtHead read old → AtHead read mid) → SameSide mid new → IsFilled P Q mid.raw.items new.raw.items filled.Ended
+pub head_ended : (old mid new : SourceSide) (P Q : Past → Type 0) → mid.interims ≡ old.interims → ((read : List ℕ) → AtHead read old → AtHead read mid) → SameSide mid new → IsFilled P Q mid.raw.items new.raw.items filled.Ended
     → SameLook mid new → (IsLooking old → HasNoHead mid) → HeadTurn old new P Q (Err Closed)
-head_ended old mid new P Q a m f same j = record {
+head_ended old mid new P Q n a m f same j = record {
   delta = [];
   answer = Some got.Ended;
   wire = record { each = f.1; fits = refl };
   due = (mid, a, j);
   fits = refl;
-  heads = stays_at_head old mid new a m f.0;
+  count = omega (arith, same.interims, n);
+  heads = stays_at_head old mid new a m same f.0;
   looks = λ l. none_on mid new m.asks same f.0 (j l);
 }
 
-pub head_failed : (old mid new : SourceSide) (P Q : Past → Type 0) → ((read : List ℕ) → AtHead read old → AtHead read mid) → SameSide mid new → IsFilled P Q mid.raw.items new.raw.items filled.Failed
+pub head_failed : (old mid new : SourceSide) (P Q : Past → Type 0) → mid.interims ≡ old.interims → ((read : List ℕ) → AtHead read old → AtHead read mid) → SameSide mid new → IsFilled P Q mid.raw.items new.raw.items filled.Failed
     → SameLook mid new → (IsLooking old → HasNoHead mid) → HeadTurn old new P Q (Err Device)
-head_failed old mid new P Q a m f same j = record {
+head_failed old mid new P Q n a m f same j = record {
   delta = [];
   answer = Some got.Fault;
   wire = record { each = f.1; fits = refl };
   due = (mid, a, j);
   fits = refl;
-  heads = stays_at_head old mid new a m f.0;
+  count = omega (arith, same.interims, n);
+  heads = stays_at_head old mid new a m same f.0;
   looks = λ l. none_on mid new m.asks same f.0 (j l);
 }
 
-pub head_full : (old mid new : SourceSide) (P Q : Past → Type 0) → ((read : List ℕ) → AtHead read old → AtHead read mid) → SameSide mid new → IsFilled P Q mid.raw.items new.raw.items filled.NoMemory
+pub head_full : (old mid new : SourceSide) (P Q : Past → Type 0) → mid.interims ≡ old.interims → ((read : List ℕ) → AtHead read old → AtHead read mid) → SameSide mid new → IsFilled P Q mid.raw.items new.raw.items filled.NoMemory
     → SameLook mid new → (IsLooking old → HasNoHead mid) → HeadTurn old new P Q (Err NoMemory)
-head_full old mid new P Q a m f same j = record {
+head_full old mid new P Q n a m f same j = record {
   delta = [];
   answer = None;
   wire = record { each = f.1; fits = refl };
   due = tt;
   fits = ((λ e. cc), (λ e. cc));
-  heads = stays_at_head old mid new a m f.0;
+  count = omega (arith, same.interims, n);
+  heads = stays_at_head old mid new a m same f.0;
   looks = λ l. inr (none_on mid new m.asks same f.0 (j l));
 }
 
@@ -250,7 +266,8 @@ head_kept old mid new P Q fault m same r t = record {
   wire = t.wire;
   due = t.due;
   fits = t.fits;
-  heads = λ read s. still_at_head mid new m.asks m.head r (read ++ t.delta) (t.heads read s);
+  count = same.interims ∙ t.count;
+  heads = λ read s. still_at_head mid new m.asks m.head r same.interims (read ++ t.delta) (t.heads read s);
   looks = λ l. looks_same mid new (Err fault) m.asks m.head same r (t.looks l);
 }
 
@@ -262,19 +279,21 @@ begins_given_back old new read b s x count going =
       λ len. subst (λ (t : SourceBody). Agrees x t) (sym b.body) (one.1 (subst (λ (t : SourceBody). IfSome x.plan.len (λ n. length_of t.framing ≡ Some n)) b.body len)),
     )
 
-scanned_given_back : (old new : SourceSide) (read : List ℕ) (result : Result Bool RelayFault) → GivesBack old new → ScannedTo result read old → ScannedTo result read new
-scanned_given_back old new read (Ok true) b s = begins_given_back old new read b s
-scanned_given_back old new read (Ok false) b s = still_at_head old new b.asks b.head b.raw read s
-scanned_given_back old new read (Err fault) b s = still_at_head old new b.asks b.head b.raw read s
+judged_given_back : (old new : SourceSide) (read : List ℕ) (result : Result HeadProgress RelayFault) → GivesBack old new → JudgesHeadTo result read old → JudgesHeadTo result read new
+judged_given_back old new read (Ok progress.More) b s = still_at_head old new b.asks b.head b.raw b.interims read s
+judged_given_back old new read (Ok progress.Interim) b s = still_at_head old new b.asks b.head b.raw b.interims read s
+judged_given_back old new read (Ok progress.Taken) b s = begins_given_back old new read b s
+judged_given_back old new read (Err fault) b s = still_at_head old new b.asks b.head b.raw b.interims read s
 
 -- room was given back
-pub head_given_back : (old mid new : SourceSide) (P Q : Past → Type 0) (result : Result Bool RelayFault) → GivesBack mid new → HeadTurn old mid P Q result → HeadTurn old new P Q result
+pub head_given_back : (old mid new : SourceSide) (P Q : Past → Type 0) (result : Result HeadProgress RelayFault) → GivesBack mid new → HeadTurn old mid P Q result → HeadTurn old new P Q result
 head_given_back old mid new P Q result b t = record {
   delta = t.delta;
   answer = t.answer;
   wire = t.wire;
   due = t.due;
   fits = t.fits;
-  heads = λ read s. scanned_given_back mid new (read ++ t.delta) result b (t.heads read s);
-  looks = λ l. looks_same mid new result b.asks b.head (record { judged = b.judged; head_fault = b.head_fault }) b.raw (t.looks l);
+  count = b.interims ∙ t.count;
+  heads = λ read s. judged_given_back mid new (read ++ t.delta) result b (t.heads read s);
+  looks = λ l. looks_same mid new result b.asks b.head (record { judged = b.judged; interims = b.interims; head_fault = b.head_fault }) b.raw (t.looks l);
 }

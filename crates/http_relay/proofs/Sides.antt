@@ -4,7 +4,7 @@ use Rattle.std.proofs.lemmas.List.{take-append-drop}
 use Rattle.trace_core.specs.declared.history.Event.{Event}
 use Rattle.trace_core.specs.declared.history.Seen.{Seen}
 use Rattle.trace_core.specs.Turns.{after_all}
-use Rattle.http_relay.specs.Source.{Agrees, BodyRead, BodyReads, IsWholeBody, MustWait}
+use Rattle.http_relay.specs.Source.{Agrees, BodyRead, BodyReads, MustWait}
 use Rattle.http_relay.specs.Reading.{SideRead, SideReads, IsBefore, IsHeadText, framing_of}
 use Rattle.http_relay.specs.declared.source_body.SourceBody.{SourceBody}
 use Rattle.http_relay.specs.declared.side.SourceSide.{SourceSide}
@@ -25,7 +25,7 @@ moved x y body part read delta framed closed after old new m s e b = record {
   head_text = s.head_text;
   framed = framed;
   text_is = e;
-  interims = subst (λ (a : Asks). IsBefore a s.before) (sym m.asks) s.interims;
+  interims = (s.interims.0, subst (λ (a : Asks). IsBefore a s.interims.0 s.before) (sym m.asks) s.interims.1);
   head = subst (λ (a : Asks). IsHeadText a new.head s.head_text) (sym m.asks) (subst (λ (h : SourceHead). IsHeadText old.asks h s.head_text) (sym m.head) s.head);
   way = m.way ∙ (s.way ∙ ap framing_of (sym m.head));
   body_read = b;

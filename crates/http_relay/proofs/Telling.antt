@@ -4,7 +4,6 @@ use Rattle.std.proofs.lemmas.List.{length-take-le}
 use Rattle.adapt_bytes.specs.declared.limits.TheConstants.{COUNT_LIMIT}
 use Rattle.http_side.specs.Body.{HasRead, is_over}
 use Rattle.http_side.specs.declared.body.Framing.{Framing}
-use Rattle.http_side.specs.declared.body.Framing.TheVariants.{None, Length, Chunked, Close}
 use Rattle.http_side.proofs.Ends.{over_is}
 use Rattle.trace_core.specs.declared.history.Plan.{Plan}
 use Rattle.trace_core.specs.declared.history.Seen.{Seen}

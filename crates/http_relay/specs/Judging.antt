@@ -1,5 +1,5 @@
 -- When a head is judged, and why one is refused.
-use Rattle.std.specs.Prelude.{◌≡◌, ℕ, ◌<◌, ◌≤◌, ◌⊎◌, Bool, true, false, List, length, take, drop, Option, Some, None, Result, Ok, Err}
+use Rattle.std.specs.Prelude.{◌≡◌, ◌≢◌, ℕ, ◌<◌, ◌≤◌, ◌⊎◌, false, List, length, take, drop, Option, Some, None, Result, Ok, Err}
 use Rattle.adapt_bytes.specs.Text.{has_line}
 use Rattle.http_side.specs.Heads.{ResponseParts}
 use Rattle.http_side.specs.Requests.{MayRefuseRequest}
@@ -13,6 +13,7 @@ use Rattle.http_relay.specs.declared.side.SourceSide.{SourceSide}
 use Rattle.http_relay.specs.declared.side.Asks.{Asks}
 use Rattle.http_relay.specs.declared.side.Asks.TheVariants as asks
 use Rattle.http_relay.specs.declared.side.SourceHead.TheVariants as heads
+use Rattle.http_relay.specs.declared.side.head.TheConstants.{MAX_INTERIMS}
 use Rattle.http_relay.specs.declared.side.head.HeadProgress.{HeadProgress}
 use Rattle.http_relay.specs.declared.side.head.HeadProgress.TheVariants as progress
 
@@ -26,6 +27,17 @@ abbrev pub IsSwitching : Asks → List ℕ → Type 0
 IsSwitching asks.Request bytes = ⊥
 IsSwitching (asks.Response to_head) bytes = (r : ResponseParts) × (len : ℕ) × IsResponseRead to_head bytes r len × (r.status ≡ 101)
 
+-- an interim response other than 101
+pub record IsInterim (r : ResponseParts) : Type 0 where
+  pub from : 100 ≤ r.status
+  pub to : r.status ≤ 199
+  pub other : r.status ≢ 101
+
+-- an interim response stands first, and as many were dropped as are read before an answer
+abbrev pub IsOneTooMany : Asks → List ℕ → (dropped : ℕ) → Type 0
+IsOneTooMany asks.Request bytes dropped = ⊥
+IsOneTooMany (asks.Response to_head) bytes dropped = (r : ResponseParts) × (len : ℕ) × IsResponseRead to_head bytes r len × IsInterim r × (MAX_INTERIMS ≤ dropped)
+
 -- before the head: the raw bytes that were judged are a prefix of a head, and nothing was refused
 pub record IsLooking (s : SourceSide) : Type 0 where
   pub within : s.judged ≤ length s.raw.items
@@ -38,12 +50,12 @@ pub record HasNoHead (s : SourceSide) : Type 0 where
   pub no_line : has_line (drop s.judged s.raw.items) ≡ false
   pub few : length s.raw.items < MAX_HEAD
 
--- the raw bytes are refused, for this fault; 101 has none
+-- the raw bytes are refused, for this fault; 101, and one interim response too many, have none
 abbrev pub RefusesHead : SourceSide → Option HttpFault → Type 0
 RefusesHead s (Some why.More) = ⊥
 RefusesHead s (Some why.NoMemory) = ⊥
 RefusesHead s (Some fault) = RefusesBytes s.asks s.raw.items fault
-RefusesHead s None = IsSwitching s.asks s.raw.items
+RefusesHead s None = IsSwitching s.asks s.raw.items ⊎ IsOneTooMany s.asks s.raw.items s.interims
 
 -- there is no memory for the head
 pub record LacksMemory (s : SourceSide) : Type 0 where
@@ -63,16 +75,17 @@ JudgesHead (Ok progress.Interim) s = IsLooking s
 JudgesHead (Ok progress.Taken) s = s.head ≡ heads.Unread → ⊥
 JudgesHead (Err fault) s = IsRefused fault s
 
-abbrev pub Scans : Result Bool RelayFault → SourceSide → Type 0
-Scans (Ok true) s = s.head ≡ heads.Unread → ⊥
-Scans (Ok false) s = HasNoHead s
-Scans (Err fault) s = IsRefused fault s
+-- judging drops one interim response, or none
+abbrev pub interims_in : Result HeadProgress RelayFault → ℕ
+interims_in (Ok progress.Interim) = 1
+interims_in _ = 0
 
 -- What a turn at the head says of the raw bytes: if they have no head, each line's end in them was judged; only then does the
 -- turn answer the wire's own faults.
-abbrev pub Looks : Result Bool RelayFault → SourceSide → Type 0
-Looks (Ok true) s = s.head ≡ heads.Unread → ⊥
-Looks (Ok false) s = HasNoHead s
+abbrev pub Looks : Result HeadProgress RelayFault → SourceSide → Type 0
+Looks (Ok progress.More) s = HasNoHead s
+Looks (Ok progress.Interim) s = IsLooking s
+Looks (Ok progress.Taken) s = s.head ≡ heads.Unread → ⊥
 Looks (Err Head) s = RefusesHead s s.head_fault
 Looks (Err NoMemory) s = LacksMemory s ⊎ HasNoHead s
 Looks (Err Closed) s = HasNoHead s

@@ -1,5 +1,5 @@
 -- A source's side over its wire.
-use Rattle.std.specs.Prelude.{◌≡◌, ◌≢◌, ℕ, ◌<◌, ◌≤◌, ◌⊎◌, ◌||◌, Bool, true, false, List, [], ◌++◌, length, take, Option, Some, None as Nothing, Result, Ok, Err, IfSome}
+use Rattle.std.specs.Prelude.{◌≡◌, ◌≢◌, ℕ, ◌+◌, ◌<◌, ◌≤◌, ◌⊎◌, ◌||◌, Bool, true, false, List, [], ◌++◌, length, take, Option, Some, None as Nothing, Result, Ok, Err, IfSome}
 use Rattle.http_side.specs.Heads.{RequestParts, ResponseParts}
 use Rattle.http_side.specs.Requests.{IsRead}
 use Rattle.http_side.specs.Responses.{IsResponseRead}
@@ -25,14 +25,9 @@ use Rattle.http_relay.specs.declared.side.SourceHead.{SourceHead}
 use Rattle.http_relay.specs.declared.side.SourceHead.TheVariants as heads
 use Rattle.http_relay.specs.declared.side.head.HeadProgress.{HeadProgress}
 use Rattle.http_relay.specs.declared.side.head.HeadProgress.TheVariants as progress
-use Rattle.http_relay.specs.Judging.{IsLooking, HasNoHead, Looks}
+use Rattle.http_relay.specs.declared.side.head.TheConstants.{MAX_INTERIMS}
+use Rattle.http_relay.specs.Judging.{IsInterim, IsLooking, HasNoHead, Looks, interims_in}
 use Rattle.adapt_sides.specs.declared.turn.Turn.{Turn}
-
--- an interim response other than 101
-pub record IsInterim (r : ResponseParts) : Type 0 where
-  pub from : 100 ≤ r.status
-  pub to : r.status ≤ 199
-  pub other : r.status ≢ 101
 
 -- a status that isn't an interim response's
 abbrev pub IsFinal : ResponseParts → Type 0
@@ -44,14 +39,15 @@ IsHeadText asks.Request (heads.Request r) text = IsRead false text r (length tex
 IsHeadText (asks.Response to_head) (heads.Response r) text = IsResponseRead to_head text r (length text) × IsFinal r
 IsHeadText _ _ text = ⊥
 
--- interim responses in a row; before a request there are none
-pub data AreInterims (to_head : Bool) : List ℕ → Type 0 where
-  nothing : AreInterims to_head []
-  further : (before text : List ℕ) (r : ResponseParts) → AreInterims to_head before → IsResponseRead to_head text r (length text) → IsInterim r → AreInterims to_head (before ++ text)
+-- this many interim responses in a row
+pub data AreInterims (to_head : Bool) : ℕ → List ℕ → Type 0 where
+  nothing : AreInterims to_head 0 []
+  further : (n : ℕ) (before text : List ℕ) (r : ResponseParts) → AreInterims to_head n before → IsResponseRead to_head text r (length text) → IsInterim r → AreInterims to_head (n + 1) (before ++ text)
 
-abbrev pub IsBefore : Asks → List ℕ → Type 0
-IsBefore asks.Request text = text ≡ []
-IsBefore (asks.Response to_head) text = AreInterims to_head text
+-- they may come before a response, if they aren't too many; before a request there are none
+abbrev pub IsBefore : Asks → ℕ → List ℕ → Type 0
+IsBefore asks.Request n text = (n ≡ 0) × (text ≡ [])
+IsBefore (asks.Response to_head) n text = (n ≤ MAX_INTERIMS) × AreInterims to_head n text
 
 -- the request's head, and the response's
 abbrev pub request_of : SourceHead → Option RequestParts
@@ -75,16 +71,16 @@ pub record SideRead (x : Seen) (body read : List ℕ) (closed : Bool) (s : Sourc
   pub head_text : List ℕ
   pub framed : List ℕ
   pub text_is : read ≡ (before ++ head_text) ++ (framed ++ s.raw.items)
-  pub interims : IsBefore s.asks before
+  pub interims : (n : ℕ) × IsBefore s.asks n before
   pub head : IsHeadText s.asks s.head head_text
   pub way : s.body.framing ≡ framing_of s.head
   pub body_read : BodyRead x body framed closed s.body
 
--- the bytes read are interim responses and the raw ones: no head was taken yet
+-- the bytes read are interim responses, which it counts, and the raw ones: no head was taken yet
 pub record AtHead (read : List ℕ) (s : SourceSide) : Type 0 where
   pub before : List ℕ
   pub text_is : read ≡ before ++ s.raw.items
-  pub interims : IsBefore s.asks before
+  pub interims : IsBefore s.asks s.interims before
   pub unread : s.head ≡ heads.Unread
 
 -- these events report what further bytes of the wire do, with these of the body, and the wire's end, if it has ended now
@@ -170,11 +166,6 @@ JudgesHeadTo (Ok progress.More) read s = AtHead read s
 JudgesHeadTo (Ok progress.Interim) read s = AtHead read s
 JudgesHeadTo (Err fault) read s = AtHead read s
 
-abbrev pub ScannedTo : Result Bool RelayFault → List ℕ → SourceSide → Type 0
-ScannedTo (Ok true) read s = Begins read s
-ScannedTo (Ok false) read s = AtHead read s
-ScannedTo (Err fault) read s = AtHead read s
-
 -- the wire is read only if no head is among the bytes that are kept
 abbrev pub ReadsForHead : SourceSide → Option Got → Type 0
 ReadsForHead old Nothing = Unit {0}
@@ -182,23 +173,24 @@ ReadsForHead old (Some answer) = (judged : SourceSide) × ((read : List ℕ) →
 
 -- What a turn at the head makes of its wire's answer. It says that more is to come after bytes, or if none are there now; it
 -- answers Closed and Device just if the wire ended or failed.
-abbrev pub FitsHead : Option Got → Result Bool RelayFault → Type 0
-FitsHead Nothing (Ok found) = found ≡ true
+abbrev pub FitsHead : Option Got → Result HeadProgress RelayFault → Type 0
+FitsHead Nothing (Ok came) = came ≢ progress.More
 FitsHead Nothing (Err fault) = (fault ≢ Closed) × (fault ≢ Device)
-FitsHead (Some (got.Bytes n)) (Ok found) = Unit {0}
+FitsHead (Some (got.Bytes n)) (Ok came) = Unit {0}
 FitsHead (Some (got.Bytes n)) (Err fault) = (fault ≢ Closed) × (fault ≢ Device)
 FitsHead (Some got.Ended) result = result ≡ Err Closed
-FitsHead (Some got.Wait) result = result ≡ Ok false
+FitsHead (Some got.Wait) result = result ≡ Ok progress.More
 FitsHead (Some got.Fault) result = result ≡ Err Device
 
--- A turn at the head, in which the wire gave these bytes. It makes one read at most.
-pub record HeadTurn (old new : SourceSide) (before after : Past → Type 0) (result : Result Bool RelayFault) : Type 0 where
+-- A turn at the head, in which the wire gave these bytes. It makes one read at most, and drops one interim response at most.
+pub record HeadTurn (old new : SourceSide) (before after : Past → Type 0) (result : Result HeadProgress RelayFault) : Type 0 where
   pub delta : List ℕ
   pub answer : Option Got
   pub wire : ReadsAtMostOnce before after delta answer
   pub due : ReadsForHead old answer
   pub fits : FitsHead answer result
-  pub heads : (read : List ℕ) → AtHead read old → ScannedTo result (read ++ delta) new
+  pub count : new.interims ≡ old.interims + interims_in result
+  pub heads : (read : List ℕ) → AtHead read old → JudgesHeadTo result (read ++ delta) new
   pub looks : IsLooking old → Looks result new
 
 -- only room for raw bytes was given back
@@ -208,6 +200,7 @@ pub record GivesBack (old new : SourceSide) : Type 0 where
   pub body : new.body ≡ old.body
   pub raw : new.raw.items ≡ old.raw.items
   pub judged : new.judged ≡ old.judged
+  pub interims : new.interims ≡ old.interims
   pub fault : new.fault ≡ old.fault
   pub head_fault : new.head_fault ≡ old.head_fault
   pub empty : new.raw.items ≡ [] → new.raw.spare ≡ 0

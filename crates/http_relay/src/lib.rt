@@ -11,4 +11,4 @@ mod source_body;
 
 pub use adapt_sides::{RelayFault, Turn};
 pub use hop::{HopWriter, Stage};
-pub use side::{Asks, SourceHead, SourceSide};
+pub use side::{Asks, HeadProgress, MAX_INTERIMS, SourceHead, SourceSide};

@@ -22,6 +22,8 @@ use wire_kit::Wire;
 
 mod head;
 
+pub use head::{HeadProgress, MAX_INTERIMS};
+
 /// Which messages come: requests, or responses, to HEAD or to another request.
 #[derive(Clone, Copy, Debug, PartialEq, Eq)]
 pub enum Asks {
@@ -44,7 +46,7 @@ pub enum SourceHead {
 /// let text = b"POST http://h/ HTTP/1.1\r\nHost: h\r\nContent-Length: 2\r\n\r\nhi";
 /// let reads = vec![in alloc; ReadAnswer::Bytes(64)]?;
 /// let mut wire = MemoryWire::new(alloc, text.to_vec(alloc)?, reads, Vec::new(alloc))?;
-/// assert_eq!(rt; source.head_turn(&mut wire), Ok(true));
+/// assert_eq!(rt; source.head_turn(&mut wire), Ok(HeadProgress::Taken));
 /// assert_eq!(rt; source.framing(), Framing::Length(2));
 /// let mut out = [0; 8];
 /// let turn = source.read_turn(&mut wire, &mut out)?;
@@ -60,6 +62,7 @@ pub struct SourceSide {
     body: SourceBody,
     raw: RawBytes,
     judged: usize,
+    interims: u32,
     fault: Option<RelayFault>,
 }
 
@@ -221,6 +224,7 @@ impl SourceSide {
             body: SourceBody::idle(),
             raw,
             judged: 0,
+            interims: 0,
             fault: None,
         }
     }
@@ -246,6 +250,7 @@ impl SourceSide {
         self.head_fault = None;
         self.body = SourceBody::idle();
         self.judged = 0;
+        self.interims = 0;
         self.fault = None;
     }
 

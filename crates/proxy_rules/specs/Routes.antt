@@ -1,5 +1,5 @@
 -- Where a request may go: to the origin that its target names, unless that is the proxy itself.
-use Rattle.std.specs.Prelude.{◌≡◌, ◌⊎◌}
+use Rattle.std.specs.Prelude.{◌≡◌, ◌⊎◌, Option, Some, None}
 use Rattle.std.specs.declared.net.ipv4_addr.Ipv4Addr.{Ipv4Addr}
 use Rattle.std.specs.declared.net.socket_addr.SocketAddrV4.{SocketAddrV4}
 use Rattle.std.specs.Net.Addr.{IsLoopbackV4, IsUnspecifiedV4}
@@ -20,9 +20,15 @@ IsSameMachine to on = (to ≡ on) ⊎ (IsUnspecifiedV4 to ⊎ (IsLoopbackV4 to �
 abbrev pub Reaches : SocketAddrV4 → SocketAddrV4 → Type 0
 Reaches to listener = (v4_port to ≡ v4_port listener) × IsSameMachine (v4_ip to) (v4_ip listener)
 
--- the users' or the administrator's port
+-- the same, where there is a listener
+abbrev pub ReachesSome : SocketAddrV4 → Option SocketAddrV4 → Type 0
+ReachesSome to None = ⊥
+ReachesSome to (Some listener) = Reaches to listener
+
+-- the users' port, the administrator's, or that of the counters
 abbrev pub IsOwn : Config → SocketAddrV4 → Type 0
-IsOwn config address = Reaches address config.listen ⊎ Reaches address config.admin
+IsOwn config address =
+    Reaches address config.listen ⊎ (Reaches address config.admin ⊎ ReachesSome address config.metrics)
 
 -- the request's host is at this address
 abbrev pub IsOriginAt : Config → RequestParts → SocketAddrV4 → Type 0

@@ -10,7 +10,7 @@ ghost use Rattle.proxy_rules.specs.Arrivals.{Arrives, point_of, is_head_in};
 use crate::expect::is_head_request;
 use crate::head_maker::HeadMaker;
 use adapt_sides::{RelayFault, Source};
-use http_relay::{Asks, SourceHead, SourceSide};
+use http_relay::{Asks, HeadProgress, SourceHead, SourceSide};
 use http_side::{HttpFault, HttpRequest, HttpResponse};
 use std::alloc::Global;
 use std::marker::Model;
@@ -96,8 +96,8 @@ impl Incoming {
         }
     }
 
-    /// Reads the message's head: true once it was read. One read of the wire at most. A fault stays.
-    pub fn head_turn<W: Wire>(&mut self, wire: &mut W) -> Result<bool, RelayFault>
+    /// Reads the message's head: Taken once it was read. One read of the wire at most, and one interim response. A fault stays.
+    pub fn head_turn<W: Wire>(&mut self, wire: &mut W) -> Result<HeadProgress, RelayFault>
         ensures turn { self.old.side.fault ≡ None → self.old.side.head ≡ SourceHead.Unread → HeadTurn self.old.side self.new.side (W.past wire.old) (W.past wire.new) result }
         ensures user { self.new.user ≡ self.old.user }
     {

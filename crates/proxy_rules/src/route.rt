@@ -2,7 +2,7 @@
 
 ghost use Rattle.std.specs.Prelude.{◌↔◌, IsTrue, IfSome, IfNone};
 ghost use Rattle.std.specs.declared.net.socket_addr.SocketAddrV4.{SocketAddrV4 as AnyAddress};
-ghost use Rattle.proxy_rules.specs.Routes.{IsOriginAt, IsOwn, IsSameMachine, Reaches};
+ghost use Rattle.proxy_rules.specs.Routes.{IsOriginAt, IsOwn, IsSameMachine, Reaches, ReachesSome};
 
 use crate::address::origin_of;
 use http_side::HttpRequest;
@@ -25,15 +25,27 @@ fn reaches(to: SocketAddrV4, listener: SocketAddrV4) -> bool
     to.port() == listener.port() && is_same_machine(*to.ip(), *listener.ip())
 }
 
-/// Whether an address is the users' or the administrator's port of the proxy itself.
+/// Whether a connection to an address comes to a listener, if there is one.
+fn reaches_some(to: SocketAddrV4, listener: Option<SocketAddrV4>) -> bool
+    ensures { IsTrue result ↔ ReachesSome to listener }
+{
+    match listener {
+        Some(listener) => reaches(to, listener),
+        None => false,
+    }
+}
+
+/// Whether an address is a port of the proxy itself: the users', the administrator's, or that of the counters.
 fn is_own(config: &Config, address: SocketAddrV4) -> bool
     ensures { IsTrue result ↔ IsOwn config.now address }
 {
-    reaches(address, config.listen) || reaches(address, config.admin)
+    reaches(address, config.listen)
+        || reaches(address, config.admin)
+        || reaches_some(address, config.metrics)
 }
 
 /// Where the origin of a request is, by the configured hosts. `None` where its host is unknown, or is the proxy itself: no
-/// request comes to the administrator's port, or back to the users', by whatever name.
+/// request comes to the administrator's port or to that of the counters, or back to the users', by whatever name.
 pub fn origin_address(config: &Config, user: &HttpRequest) -> Option<SocketAddrV4>
     ensures found { IfSome result (IsOriginAt config.now user.now) }
     ensures other { IfSome result (λ address. IsOwn config.now address → ⊥) }

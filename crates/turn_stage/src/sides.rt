@@ -1,6 +1,6 @@
 //! The sides of a transaction, and its wires.
 
-use http_relay::{RelayFault, SourceSide};
+use http_relay::{HeadProgress, RelayFault, SourceSide};
 use proxy_rules::{Incoming, Offer};
 use std::alloc::{AllocError, Global};
 use trace_core::{Plan, Point};
@@ -75,7 +75,7 @@ impl Message for Incoming {
     fn reads_head(&mut self, wire: &mut impl Wire) -> Result<bool, AllocError> {
         for _ in 0..HEAD_TURNS {
             match self.head_turn(wire) {
-                Ok(true) => return Ok(true),
+                Ok(HeadProgress::Taken) => return Ok(true),
                 Err(RelayFault::NoMemory) => return Err(AllocError),
                 _ => {}
             }

@@ -1,10 +1,10 @@
 //! The head of a source's message, and the interim responses before it (RFC 9112, sections 2 to 5; RFC 9110, section 15.2).
 
-ghost use Rattle.std.specs.Prelude.{◌≡◌, ◌<◌, ◌≤◌, ◌⊎◌, [], length, drop, IfOk, IfErr, None, true, false, List, ℕ, IfSome, Some, Ok, Err};
+ghost use Rattle.std.specs.Prelude.{◌≡◌, ◌+◌, ◌<◌, ◌≤◌, ◌⊎◌, [], length, drop, IfOk, IfErr, None, true, false, List, ℕ, IfSome, Some, Ok, Err};
 ghost use Rattle.adapt_bytes.specs.Text.{has_line};
 ghost use Rattle.adapt_bytes.specs.declared.limits.TheConstants.{MAX_HEAD};
-ghost use Rattle.http_relay.specs.Judging.{RefusesBytes, IsLooking, JudgesHead, Scans};
-ghost use Rattle.http_relay.specs.Reading.{AtHead, HeadTurn, JudgesHeadTo, ScannedTo};
+ghost use Rattle.http_relay.specs.Judging.{RefusesBytes, IsLooking, JudgesHead, interims_in};
+ghost use Rattle.http_relay.specs.Reading.{AtHead, HeadTurn, JudgesHeadTo};
 
 use crate::side::{Asks, SourceHead, SourceSide};
 use crate::source_body::SourceBody;
@@ -13,12 +13,15 @@ use adapt_sides::{Filled, RelayFault, fill};
 use http_side::{HttpFault, read_request, read_response};
 use wire_kit::Wire;
 
-/// What judging the raw bytes gave.
-#[derive(Clone, Copy)]
-pub(crate) enum HeadProgress {
-    /// A head isn't there yet.
+/// The most interim responses that are read before an answer. The next one is refused.
+pub const MAX_INTERIMS: u32 = 32;
+
+/// How far a turn at a head came.
+#[derive(Clone, Copy, Debug, PartialEq, Eq)]
+pub enum HeadProgress {
+    /// More of it is to come.
     More,
-    /// An interim response was dropped.
+    /// An interim response was dropped. There may be bytes after it that no event of the wire will report.
     Interim,
     /// The message's head was taken.
     Taken,
@@ -54,8 +57,8 @@ impl SourceSide {
         requires { self.old.head ≡ SourceHead.Unread }
         ensures heads { (read : List ℕ) → AtHead read self.old → JudgesHeadTo result read self.new }
         ensures judged { IsLooking self.old → JudgesHead result self.new }
+        ensures count { self.new.interims ≡ self.old.interims + interims_in result }
         ensures short { IfOk result (λ judged. judged ≡ HeadProgress.More → length self.new.raw.items < MAX_HEAD) }
-        ensures shrinks { IfOk result (λ judged. judged ≡ HeadProgress.Interim → length self.new.raw.items < length self.old.raw.items) }
         ensures unread { IfOk result (λ judged. (judged ≡ HeadProgress.Taken → ⊥) → self.new.head ≡ SourceHead.Unread) }
         ensures fault { self.new.fault ≡ self.old.fault }
         ensures asks { self.new.asks ≡ self.old.asks }
@@ -75,9 +78,9 @@ impl SourceSide {
         requires asks { self.old.asks ≡ Asks.Request }
         ensures heads { (read : List ℕ) → AtHead read self.old → JudgesHeadTo result read self.new }
         ensures judged { IsLooking self.old → JudgesHead result self.new }
+        ensures count { self.new.interims ≡ self.old.interims + interims_in result }
         ensures short { IfOk result (λ judged. judged ≡ HeadProgress.More → length self.new.raw.items < MAX_HEAD) }
         ensures unread { IfOk result (λ judged. (judged ≡ HeadProgress.Taken → ⊥) → self.new.head ≡ SourceHead.Unread) }
-        ensures never { IfOk result (λ judged. judged ≡ HeadProgress.Interim → ⊥) }
         ensures fault { self.new.fault ≡ self.old.fault }
         ensures asks { self.new.asks ≡ self.old.asks }
         ensures refused { IfErr result (λ fault. (fault ≡ RelayFault.Head) ⊎ (fault ≡ RelayFault.NoMemory)) }
@@ -99,8 +102,8 @@ impl SourceSide {
         requires asks { self.old.asks ≡ Asks.Response to_head }
         ensures heads { (read : List ℕ) → AtHead read self.old → JudgesHeadTo result read self.new }
         ensures judged { IsLooking self.old → JudgesHead result self.new }
+        ensures count { self.new.interims ≡ self.old.interims + interims_in result }
         ensures short { IfOk result (λ judged. judged ≡ HeadProgress.More → length self.new.raw.items < MAX_HEAD) }
-        ensures shrinks { IfOk result (λ judged. judged ≡ HeadProgress.Interim → length self.new.raw.items < length self.old.raw.items) }
         ensures unread { IfOk result (λ judged. (judged ≡ HeadProgress.Taken → ⊥) → self.new.head ≡ SourceHead.Unread) }
         ensures fault { self.new.fault ≡ self.old.fault }
         ensures asks { self.new.asks ≡ self.old.asks }
@@ -112,11 +115,17 @@ impl SourceSide {
                 if status == 101 {
                     return Err(RelayFault::Head);
                 }
-                self.raw.advance(head.length);
-                self.judged = 0;
                 if is_interim(status) {
+                    if self.interims >= MAX_INTERIMS {
+                        return Err(RelayFault::Head);
+                    }
+                    self.raw.advance(head.length);
+                    self.judged = 0;
+                    self.interims += 1;
                     return Ok(HeadProgress::Interim);
                 }
+                self.raw.advance(head.length);
+                self.judged = 0;
                 self.body = SourceBody::new(head.value.framing());
                 self.head = SourceHead::Response(head.value);
                 Ok(HeadProgress::Taken)
@@ -132,6 +141,7 @@ impl SourceSide {
         ensures judged { IsLooking self.old → JudgesHead result self.new }
         ensures more { IfOk result (λ judged. (judged ≡ HeadProgress.More) × (length self.new.raw.items < MAX_HEAD)) }
         ensures asks { self.new.asks ≡ self.old.asks }
+        ensures interims { self.new.interims ≡ self.old.interims }
         ensures raw { self.new.raw.items ≡ self.old.raw.items }
         ensures unread { self.new.head ≡ SourceHead.Unread }
         ensures fault { self.new.fault ≡ self.old.fault }
@@ -153,65 +163,45 @@ impl SourceSide {
         }
     }
 
-    /// Judges the raw bytes, and drops interim responses.
-    fn scan(&mut self) -> Result<bool, RelayFault>
-        requires { self.old.head ≡ SourceHead.Unread }
-        ensures heads { (read : List ℕ) → AtHead read self.old → ScannedTo result read self.new }
-        ensures judged { IsLooking self.old → Scans result self.new }
-        ensures short { IfOk result (λ found. found ≡ false → length self.new.raw.items < MAX_HEAD) }
-        ensures unread { IfOk result (λ found. found ≡ false → self.new.head ≡ SourceHead.Unread) }
-        ensures fault { self.new.fault ≡ self.old.fault }
-        ensures asks { self.new.asks ≡ self.old.asks }
-        ensures refused { IfErr result (λ fault. (fault ≡ RelayFault.Head) ⊎ (fault ≡ RelayFault.NoMemory)) }
-    {
-        loop {
-            match self.judge() {
-                Ok(HeadProgress::More) => return Ok(false),
-                Ok(HeadProgress::Taken) => return Ok(true),
-                Ok(HeadProgress::Interim) => {}
-                Err(fault) => return Err(fault),
-            }
-        }
-    }
-
     /// Judges the raw bytes, and reads the wire once if they have no head yet.
-    fn scan_or_read<W: Wire>(&mut self, wire: &mut W) -> Result<bool, RelayFault>
+    fn judge_or_read<W: Wire>(&mut self, wire: &mut W) -> Result<HeadProgress, RelayFault>
         requires { self.old.head ≡ SourceHead.Unread }
         ensures turn { HeadTurn self.old self.new (W.past wire.old) (W.past wire.new) result }
         ensures asks { self.new.asks ≡ self.old.asks }
     {
-        match self.scan() {
-            Ok(true) => return Ok(true),
-            Ok(false) => {}
+        match self.judge() {
+            Ok(HeadProgress::More) => {}
+            Ok(HeadProgress::Interim) => return Ok(HeadProgress::Interim),
+            Ok(HeadProgress::Taken) => return Ok(HeadProgress::Taken),
             Err(fault) => return Err(fault),
         }
         match fill(&mut self.raw, wire) {
-            Filled::Bytes => self.scan(),
-            Filled::Wait => Ok(false),
+            Filled::Bytes => self.judge(),
+            Filled::Wait => Ok(HeadProgress::More),
             Filled::Ended => Err(RelayFault::Closed),
             Filled::Failed => Err(RelayFault::Device),
             Filled::NoMemory => Err(RelayFault::NoMemory),
         }
     }
 
-    /// Runs [`SourceSide::scan_or_read`], and then keeps no empty room.
-    fn try_head<W: Wire>(&mut self, wire: &mut W) -> Result<bool, RelayFault>
+    /// Runs [`SourceSide::judge_or_read`], and then keeps no empty room.
+    fn try_head<W: Wire>(&mut self, wire: &mut W) -> Result<HeadProgress, RelayFault>
         requires { self.old.head ≡ SourceHead.Unread }
         ensures turn { HeadTurn self.old self.new (W.past wire.old) (W.past wire.new) result }
         ensures asks { self.new.asks ≡ self.old.asks }
         ensures empty { self.new.raw.items ≡ [] → self.new.raw.spare ≡ 0 }
     {
-        let result = self.scan_or_read(wire);
+        let result = self.judge_or_read(wire);
         self.free_memory();
         result
     }
 
-    /// Reads the message's head: `true` once it was read. The raw bytes come first, then the wire is read once at most.
-    /// It drops interim responses, and refuses 101. A fault stays.
-    pub fn head_turn<W: Wire>(&mut self, wire: &mut W) -> Result<bool, RelayFault>
+    /// Reads the message's head: Taken once it was read. The raw bytes come first, then the wire is read once at most.
+    /// A turn drops one interim response at most. It refuses 101, and the interim response after [`MAX_INTERIMS`]. A fault stays.
+    pub fn head_turn<W: Wire>(&mut self, wire: &mut W) -> Result<HeadProgress, RelayFault>
         ensures turn { self.old.fault ≡ None → self.old.head ≡ SourceHead.Unread → HeadTurn self.old self.new (W.past wire.old) (W.past wire.new) result }
         ensures empty { self.old.fault ≡ None → self.old.head ≡ SourceHead.Unread → self.new.raw.items ≡ [] → self.new.raw.spare ≡ 0 }
-        ensures read { self.old.fault ≡ None → (self.old.head ≡ SourceHead.Unread → ⊥) → (result ≡ Ok true) × (self.new ≡ self.old) }
+        ensures read { self.old.fault ≡ None → (self.old.head ≡ SourceHead.Unread → ⊥) → (result ≡ Ok HeadProgress.Taken) × (self.new ≡ self.old) }
         ensures stays { IfErr result (λ fault. self.new.fault ≡ Some fault) }
         ensures faulted { IfSome self.old.fault (λ fault. (result ≡ Err fault) × (self.new ≡ self.old)) }
         ensures asks { self.new.asks ≡ self.old.asks }
@@ -220,10 +210,10 @@ impl SourceSide {
             return Err(fault);
         }
         if !self.is_unread() {
-            return Ok(true);
+            return Ok(HeadProgress::Taken);
         }
         match self.try_head(wire) {
-            Ok(read) => Ok(read),
+            Ok(progress) => Ok(progress),
             Err(fault) => {
                 self.fault = Some(fault);
                 Err(fault)

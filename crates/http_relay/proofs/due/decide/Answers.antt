@@ -1,5 +1,5 @@
 use Rattle.std.proofs.Common.{◌≡◌, ◌≤◌, ◌+◌, IfSome, sym, subst, ap, ◌∙◌, arith}
-use Rattle.trace_core.specs.History.{seen, shows}
+use Rattle.trace_core.specs.History.{shows}
 use Rattle.trace_core.specs.declared.history.Seen.{Seen}
 use Rattle.http_relay.specs.Message.{length_of}
 use Rattle.adapt_sides.specs.Tapes.{chosen_received, chosen_over, chosen_delivered}

@@ -18,7 +18,7 @@ pub returns-in-Err-clause-source : goal.returns-in-Err-clause-source
 returns-in-Err-clause-source g c =
     let none : c.args.self.now.fault ≡ None = search rules in
     let mid : SourceSide = c.turn_once.new.self in
-    let new : SourceSide = record { alloc = mid.alloc; asks = mid.asks; head = mid.head; head_fault = mid.head_fault; body = mid.body; raw = mid.raw; judged = mid.judged; fault = Some c.in-Err.fault } in
+    let new : SourceSide = record { alloc = mid.alloc; asks = mid.asks; head = mid.head; head_fault = mid.head_fault; body = mid.body; raw = mid.raw; judged = mid.judged; interims = mid.interims; fault = Some c.in-Err.fault } in
     as_source (length c.args.out.now) c.args.self.now new (g.W.Wire.past c.args.wire.now) (g.W.Wire.past c.turn_once.new.wire) c.turn_once.new.out (Err c.in-Err.fault) c.turn_once.auto.out
     (record { sound = λ t e. cc; again = λ f e. (let odd : Some f ≡ None = sym e ∙ none in cc); stays = λ f e. (let is : c.in-Err.fault ≡ f = cc in ap (λ (h : RelayFault). Some h) is) })
     (turn_kept (length c.args.out.now) c.args.self.now mid new (g.W.Wire.past c.args.wire.now) (g.W.Wire.past c.turn_once.new.wire) c.turn_once.new.out (Err c.in-Err.fault) (record { asks = refl; head = refl; body = refl }) refl c.in-Err.ensures.turn)
@@ -26,5 +26,5 @@ returns-in-Err-clause-source g c =
 pub returns-in-Err-clause-turn : goal.returns-in-Err-clause-turn
 returns-in-Err-clause-turn g c = λ n.
     let mid : SourceSide = c.turn_once.new.self in
-    let new : SourceSide = record { alloc = mid.alloc; asks = mid.asks; head = mid.head; head_fault = mid.head_fault; body = mid.body; raw = mid.raw; judged = mid.judged; fault = Some c.in-Err.fault } in
+    let new : SourceSide = record { alloc = mid.alloc; asks = mid.asks; head = mid.head; head_fault = mid.head_fault; body = mid.body; raw = mid.raw; judged = mid.judged; interims = mid.interims; fault = Some c.in-Err.fault } in
     turn_kept (length c.args.out.now) c.args.self.now mid new (g.W.Wire.past c.args.wire.now) (g.W.Wire.past c.turn_once.new.wire) c.turn_once.new.out (Err c.in-Err.fault) (record { asks = refl; head = refl; body = refl }) refl c.in-Err.ensures.turn
